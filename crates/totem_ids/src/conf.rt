@@ -1,0 +1,30 @@
+ghost use Rattle.std.specs.Prelude.{◌≡◌, ◌↔◌, IsTrue};
+
+use crate::process::ProcId;
+use crate::ring::RingId;
+
+/// A configuration: the regular one of a ring, or a transitional one, by the next ring and its own least member.
+#[derive(Clone, Copy, Debug, PartialEq, Eq, PartialOrd, Ord, Hash)]
+pub enum ConfId {
+    Regular(RingId),
+    Transitional { next: RingId, least: ProcId },
+}
+
+impl ConfId {
+    /// Whether this is the other configuration: `==`, as contracts can use it.
+    pub fn is(&self, other: &ConfId) -> bool
+        ensures { IsTrue result ↔ (self.now ≡ other.now) }
+    {
+        match (self, other) {
+            (ConfId::Regular(ring), ConfId::Regular(same)) => *ring == *same,
+            (
+                ConfId::Transitional { next, least },
+                ConfId::Transitional {
+                    next: ring,
+                    least: proc,
+                },
+            ) => *next == *ring && *least == *proc,
+            _ => false,
+        }
+    }
+}

@@ -1,0 +1,44 @@
+ghost use Rattle.std.specs.Prelude.{◌≡◌, ◌<◌, MatchOption};
+
+use crate::process::ProcId;
+use crate::ring::RingId;
+use std::marker::Model;
+
+/// A message, by the ring on which it was first sent and its number there, from 1 to 4294967295.
+#[derive(Clone, Copy, Debug, PartialEq, Eq, PartialOrd, Ord, Hash)]
+pub struct MsgId {
+    pub ring: RingId,
+    pub number: u32,
+}
+
+impl Model for MsgId {
+    ghost use Rattle.std.specs.Prelude.{◌<◌};
+    ghost use Rattle.totem_ids.specs.Names.{MessageName};
+
+    ghost Value = { MessageName };
+
+    ghost view = { λ m. record { ring = m.ring; number = m.number } };
+
+    ghost invariant = { λ m. 0 < m.number };
+
+    ghost inverse = { λ n. record { ring = n.ring; number = n.number } };
+}
+
+impl MsgId {
+    /// The message of this ring and number; none has the number 0.
+    pub fn new(ring: RingId, number: u32) -> Option<MsgId>
+        ensures { MatchOption result (number ≡ 0) (λ m. (m.ring ≡ ring) × (m.number ≡ number)) }
+    {
+        if number == 0 {
+            return None;
+        }
+        Some(MsgId { ring, number })
+    }
+}
+
+/// When a message may be handed up: in its order, or only once all members hold it.
+#[derive(Clone, Copy, Debug, PartialEq, Eq, PartialOrd, Ord, Hash)]
+pub enum Service {
+    Agreed,
+    Safe,
+}

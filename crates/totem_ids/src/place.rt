@@ -1,0 +1,36 @@
+ghost use Rattle.std.specs.Prelude.{◌≡◌, ◌<◌, MatchOption};
+
+use crate::process::ProcId;
+use std::marker::Model;
+
+/// An entry of a process's log, counted from 1. Places are ordered by process, then by entry.
+#[derive(Clone, Copy, Debug, PartialEq, Eq, PartialOrd, Ord, Hash)]
+pub struct Place {
+    pub proc: ProcId,
+    pub at: u32,
+}
+
+impl Model for Place {
+    ghost use Rattle.std.specs.Prelude.{◌<◌};
+    ghost use Rattle.totem_ids.specs.Names.{PlaceName};
+
+    ghost Value = { PlaceName };
+
+    ghost view = { λ e. record { proc = e.proc; at = e.at } };
+
+    ghost invariant = { λ e. 0 < e.at };
+
+    ghost inverse = { λ n. record { proc = n.proc; at = n.at } };
+}
+
+impl Place {
+    /// The entry of this number; none has the number 0.
+    pub fn new(proc: ProcId, at: u32) -> Option<Place>
+        ensures { MatchOption result (at ≡ 0) (λ e. (e.proc ≡ proc) × (e.at ≡ at)) }
+    {
+        if at == 0 {
+            return None;
+        }
+        Some(Place { proc, at })
+    }
+}
