@@ -1,0 +1,5 @@
+pub mod Readers
+pub mod Steady
+pub mod Spelled
+pub mod Spellings
+pub mod Orderings

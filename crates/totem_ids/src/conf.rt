@@ -1,4 +1,5 @@
 ghost use Rattle.std.specs.Prelude.{◌≡◌, ◌↔◌, IsTrue};
+ghost use Rattle.totem_ids.specs.Orders.{ConfBelow};
 
 use crate::process::ProcId;
 use crate::ring::RingId;
@@ -26,5 +27,12 @@ impl ConfId {
             ) => *next == *ring && *least == *proc,
             _ => false,
         }
+    }
+
+    /// Whether this one comes before the other: `<`, as contracts can use it.
+    pub fn is_below(&self, other: &ConfId) -> bool
+        ensures { IsTrue result ↔ ConfBelow self.now other.now }
+    {
+        *self < *other
     }
 }

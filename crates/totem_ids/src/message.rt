@@ -1,4 +1,5 @@
-ghost use Rattle.std.specs.Prelude.{◌≡◌, ◌<◌, MatchOption};
+ghost use Rattle.std.specs.Prelude.{◌≡◌, ◌↔◌, ◌<◌, IsTrue, MatchOption};
+ghost use Rattle.totem_ids.specs.Orders.{MessageBelow};
 
 use crate::process::ProcId;
 use crate::ring::RingId;
@@ -33,6 +34,13 @@ impl MsgId {
             return None;
         }
         Some(MsgId { ring, number })
+    }
+
+    /// Whether this one comes before the other: `<`, as contracts can use it.
+    pub fn is_below(&self, other: &MsgId) -> bool
+        ensures { IsTrue result ↔ MessageBelow self.now other.now }
+    {
+        *self < *other
     }
 }
 

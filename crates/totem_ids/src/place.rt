@@ -1,4 +1,5 @@
-ghost use Rattle.std.specs.Prelude.{◌≡◌, ◌<◌, MatchOption};
+ghost use Rattle.std.specs.Prelude.{◌≡◌, ◌↔◌, ◌<◌, IsTrue, MatchOption};
+ghost use Rattle.totem_ids.specs.Orders.{PlaceBelow};
 
 use crate::process::ProcId;
 use std::marker::Model;
@@ -32,5 +33,12 @@ impl Place {
             return None;
         }
         Some(Place { proc, at })
+    }
+
+    /// Whether this one comes before the other: `<`, as contracts can use it.
+    pub fn is_below(&self, other: &Place) -> bool
+        ensures { IsTrue result ↔ PlaceBelow self.now other.now }
+    {
+        *self < *other
     }
 }

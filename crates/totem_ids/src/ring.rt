@@ -1,4 +1,5 @@
-ghost use Rattle.std.specs.Prelude.{◌≡◌, ◌<◌, MatchOption};
+ghost use Rattle.std.specs.Prelude.{◌≡◌, ◌↔◌, ◌<◌, IsTrue, MatchOption};
+ghost use Rattle.totem_ids.specs.Orders.{RingBelow};
 
 use crate::process::ProcId;
 use std::marker::Model;
@@ -34,5 +35,12 @@ impl RingId {
             return None;
         }
         Some(RingId { seq, rep })
+    }
+
+    /// Whether this one comes before the other: `<`, as contracts can use it.
+    pub fn is_below(&self, other: &RingId) -> bool
+        ensures { IsTrue result ↔ RingBelow self.now other.now }
+    {
+        *self < *other
     }
 }

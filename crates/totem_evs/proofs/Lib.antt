@@ -1,0 +1,17 @@
+pub mod Rises
+pub mod Each
+pub mod Standing
+pub mod Precedence
+pub mod Causal
+pub mod Ordered
+pub mod Closed
+pub mod Consistent
+pub mod ExampleSteps
+pub mod ExampleBreaks
+pub mod ExamplePlaces
+pub mod ExampleOpen
+pub mod ExampleCertified
+pub mod ExampleGood
+pub mod ExampleRuns
+pub mod ExampleTravel
+pub mod ExampleTravelGood

@@ -1,0 +1,55 @@
+-- Specifications 3 to 7: what processes owe themselves and one another (docs/SPECIFICATIONS.md, "3 Self-delivery",
+-- "4 Failure atomicity", "5 Causal delivery", "6 Total order", "7 Safe delivery").
+use Rattle.std.specs.Prelude.{◌≡◌, ◌⊎◌, ℕ, ◌<◌, List}
+use Rattle.totem_ids.specs.declared.ring.RingId.{RingId}
+use Rattle.totem_ids.specs.declared.conf.ConfId.{ConfId}
+use Rattle.totem_ids.specs.declared.conf.ConfId.TheVariants.{Regular}
+use Rattle.totem_ids.specs.declared.message.MsgId.{MsgId}
+use Rattle.totem_ids.specs.declared.place.Place.{Place}
+use Rattle.totem_evs.specs.declared.entry.Entry.{Entry}
+use Rattle.totem_evs.specs.declared.log.Log.{Log}
+use Rattle.totem_evs.specs.Events.{IsEvent, ChangesTo, Sends, Delivers, IsSafe, IsMember, log_of}
+use Rattle.totem_evs.specs.Steps.{SendsAt, Precedes, SameClass}
+use Rattle.totem_evs.specs.Following.{IsNextChange, Com, DeliversIn, HasDelivered, DeliversOrEnds}
+
+-- 3: who sends a message delivers it
+abbrev pub SelfDelivery : List Log → Type 0
+SelfDelivery run = (p i : ℕ) (m : MsgId) (c : RingId) → Sends (log_of run p) i m (Regular c) → DeliversOrEnds (log_of run p) c m
+
+-- the next change after a change to x is to d
+abbrev pub Goes : List Entry → ConfId → ConfId → Type 0
+Goes log x d = (i j : ℕ) × ChangesTo log i x × IsNextChange log i j × ChangesTo log j d
+
+-- 4: who goes from x to d together delivers the same messages in x
+abbrev pub FailureAtomicity : List Log → Type 0
+FailureAtomicity run = (p q : ℕ) (x d : ConfId) → Goes (log_of run p) x d → Goes (log_of run q) x d
+    → (i : ℕ) (m : MsgId) → Delivers (log_of run p) i m x → (j : ℕ) × Delivers (log_of run q) j m x
+
+-- 5: what was sent before a message is delivered before it
+abbrev pub CausalDelivery : List Log → Type 0
+CausalDelivery run = (c : RingId) (m n : MsgId) (e f : Place) → SendsAt run e m (Regular c) → SendsAt run f n (Regular c) → Precedes run e f
+    → (r j : ℕ) → DeliversIn (log_of run r) c n j → (i : ℕ) × (i < j) × DeliversIn (log_of run r) c m i
+
+-- a number for each event, smaller for what precedes, and one for each class
+pub record Numbers (run : List Log) (ord : Place → ℕ) : Type 0 where
+  pub rises : (e f : Place) → Precedes run e f → ord e < ord f
+  pub shared : (e f : Place) → SameClass run e f → ord e ≡ ord f
+  pub apart : (e f : Place) → IsEvent run e → IsEvent run f → ord e ≡ ord f → (e ≡ f) ⊎ SameClass run e f
+
+-- 6.1: the events can be numbered so
+abbrev pub HasTotalOrder : List Log → Type 0
+HasTotalOrder run = (ord : Place → ℕ) × Numbers run ord
+
+-- 6.3: who delivers a later message delivers the earlier one, if its sender is still there
+abbrev pub NoGaps : List Log → Type 0
+NoGaps run = (c : RingId) (m n : MsgId) (p i j q k : ℕ) (d : ConfId)
+    → DeliversIn (log_of run p) c m i → DeliversIn (log_of run p) c n j → i < j
+    → Delivers (log_of run q) k n d → Com (log_of run q) c d
+    → (s l : ℕ) (x : ConfId) → Sends (log_of run s) l m x → IsMember run d s → HasDelivered (log_of run q) c m
+
+-- 7.1, 7.2: a safe message that is delivered reaches each member
+pub record SafeDelivery (run : List Log) : Type 0 where
+  pub reaches : (c : RingId) (m : MsgId) (p i : ℕ) (d : ConfId) (q : ℕ) → IsSafe run m → Delivers (log_of run p) i m d → Com (log_of run p) c d
+      → IsMember run d q → DeliversOrEnds (log_of run q) c m
+  pub installed : (m : MsgId) (p i : ℕ) (c : RingId) (q : ℕ) → IsSafe run m → Delivers (log_of run p) i m (Regular c)
+      → IsMember run (Regular c) q → (j : ℕ) × ChangesTo (log_of run q) j (Regular c)

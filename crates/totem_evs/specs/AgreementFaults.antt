@@ -1,0 +1,81 @@
+-- What it means that events break specifications 3 to 7 (docs/SPECIFICATIONS.md, "Faults").
+use Rattle.std.specs.Prelude.{◌≡◌, ℕ, ◌<◌, List, [], ◌∷◌}
+use Rattle.totem_ids.specs.declared.ring.RingId.{RingId}
+use Rattle.totem_ids.specs.declared.conf.ConfId.{ConfId}
+use Rattle.totem_ids.specs.declared.conf.ConfId.TheVariants.{Regular}
+use Rattle.totem_ids.specs.declared.message.MsgId.{MsgId}
+use Rattle.totem_ids.specs.declared.place.Place.{Place}
+use Rattle.totem_evs.specs.declared.entry.Entry.{Entry}
+use Rattle.totem_evs.specs.declared.log.Log.{Log}
+use Rattle.totem_evs.specs.Events.{ChangesTo, Sends, Delivers, IsSafe, IsMember, log_of}
+use Rattle.totem_evs.specs.Steps.{SendsAt, Precedes}
+use Rattle.totem_evs.specs.Following.{IsNextChange, Com, DeliversIn, HasDelivered, DeliversOrEnds}
+use Rattle.totem_evs.specs.Places.{At, IsClosed, IsOrderStep}
+
+-- the entry sends what its process neither delivers, nor failed or is open where it might
+abbrev pub IsNotOwned : List Entry → ℕ → Type 0
+IsNotOwned log i = (m : MsgId) × (c : RingId) × Sends log i m (Regular c) × (DeliversOrEnds log c m → ⊥)
+
+-- 3: the send
+abbrev pub BreaksOwnDelivery : List Log → List Place → Type 0
+BreaksOwnDelivery run (e ∷ []) = At e (λ p i. IsNotOwned (log_of run p) i)
+BreaksOwnDelivery run _ = ⊥
+
+-- the change at j is to d, and is the next one after a change to x
+abbrev pub GoesAt : List Entry → ConfId → ConfId → ℕ → Type 0
+GoesAt log x d j = (i : ℕ) × ChangesTo log i x × IsNextChange log i j × ChangesTo log j d
+
+-- p and q go from one configuration to one next, and p delivered in the first what q did not
+abbrev pub IsParted : List Log → ℕ → ℕ → ℕ → ℕ → ℕ → Type 0
+IsParted run p i j q k = (m : MsgId) × (x d : ConfId) × Delivers (log_of run p) i m x × GoesAt (log_of run p) x d j × GoesAt (log_of run q) x d k
+    × ((l : ℕ) → Delivers (log_of run q) l m x → ⊥)
+
+-- 4: p's delivery, p's change to the next configuration, and q's
+abbrev pub BreaksAtomicity : List Log → List Place → Type 0
+BreaksAtomicity run (e ∷ f ∷ g ∷ []) = At e (λ p i. At f (λ r j. At g (λ q k. (p ≡ r) × IsParted run p i j q k)))
+BreaksAtomicity run _ = ⊥
+
+-- e's send precedes f's, and r delivers the later message and not the earlier one before it
+abbrev pub IsUncaused : List Log → Place → Place → ℕ → ℕ → Type 0
+IsUncaused run e f r j = (c : RingId) × (m n : MsgId) × SendsAt run e m (Regular c) × SendsAt run f n (Regular c) × Precedes run e f
+    × DeliversIn (log_of run r) c n j × ((i : ℕ) → i < j → DeliversIn (log_of run r) c m i → ⊥)
+
+-- 5: both sends, and r's delivery of the later message
+abbrev pub BreaksCausality : List Log → List Place → Type 0
+BreaksCausality run (e ∷ f ∷ g ∷ []) = At g (IsUncaused run e f)
+BreaksCausality run _ = ⊥
+
+-- 6.1: a closed list of steps, different deliveries of one message being twins
+abbrev pub BreaksOrder : List Log → List Place → Type 0
+BreaksOrder run places = IsClosed run (IsOrderStep run) places
+
+-- p delivers m before n, and q delivers n where m's sender is a member, and not m
+abbrev pub IsGap : List Log → ℕ → ℕ → ℕ → ℕ → ℕ → Type 0
+IsGap run p i j q k = (c : RingId) × (m n : MsgId) × (d x : ConfId) × (s l : ℕ)
+    × DeliversIn (log_of run p) c m i × DeliversIn (log_of run p) c n j × (i < j)
+    × Delivers (log_of run q) k n d × Com (log_of run q) c d × Sends (log_of run s) l m x × IsMember run d s × (HasDelivered (log_of run q) c m → ⊥)
+
+-- 6.3: p's deliveries of both messages, and q's of the later one
+abbrev pub BreaksGap : List Log → List Place → Type 0
+BreaksGap run (e ∷ f ∷ g ∷ []) = At e (λ p i. At f (λ r j. At g (λ q k. (p ≡ r) × IsGap run p i j q k)))
+BreaksGap run _ = ⊥
+
+-- p delivers a safe message in d, and a member of d neither delivers it, nor failed or is open where it might
+abbrev pub IsNotReached : List Log → ℕ → ℕ → Type 0
+IsNotReached run p i = (c : RingId) × (m : MsgId) × (d : ConfId) × (q : ℕ) × IsSafe run m × Delivers (log_of run p) i m d × Com (log_of run p) c d
+    × IsMember run d q × (DeliversOrEnds (log_of run q) c m → ⊥)
+
+-- 7.1: p's delivery
+abbrev pub BreaksSafety : List Log → List Place → Type 0
+BreaksSafety run (e ∷ []) = At e (IsNotReached run)
+BreaksSafety run _ = ⊥
+
+-- p delivers a safe message in a regular configuration to which one of its members never changes
+abbrev pub IsNotInstalled : List Log → ℕ → ℕ → Type 0
+IsNotInstalled run p i = (c : RingId) × (m : MsgId) × (q : ℕ) × IsSafe run m × Delivers (log_of run p) i m (Regular c)
+    × IsMember run (Regular c) q × ((j : ℕ) → ChangesTo (log_of run q) j (Regular c) → ⊥)
+
+-- 7.2: p's delivery
+abbrev pub BreaksInstalled : List Log → List Place → Type 0
+BreaksInstalled run (e ∷ []) = At e (IsNotInstalled run)
+BreaksInstalled run _ = ⊥

@@ -1,0 +1,63 @@
+-- What follows a regular configuration in a log, and who failed or is open there
+-- (docs/SPECIFICATIONS.md, "Following", "Failed and open").
+use Rattle.std.specs.Prelude.{◌≡◌, ◌⊎◌, ℕ, ◌<◌, List}
+use Rattle.totem_ids.specs.declared.ring.RingId.{RingId}
+use Rattle.totem_ids.specs.declared.conf.ConfId.{ConfId}
+use Rattle.totem_ids.specs.declared.conf.ConfId.TheVariants.{Regular}
+use Rattle.totem_ids.specs.declared.message.MsgId.{MsgId}
+use Rattle.totem_evs.specs.declared.entry.Entry.{Entry}
+use Rattle.totem_evs.specs.Events.{ChangesTo, IsChange, Delivers, Fails, IsTransitional}
+
+-- j is the next change after i
+pub record IsNextChange (log : List Entry) (i j : ℕ) : Type 0 where
+  pub change : IsChange log j
+  pub later : i < j
+  pub none_between : (k : ℕ) → i < k → k < j → IsChange log k → ⊥
+
+-- i is the first change to x
+pub record IsFirstChange (log : List Entry) (x : ConfId) (i : ℕ) : Type 0 where
+  pub change : ChangesTo log i x
+  pub none_before : (k : ℕ) → k < i → ChangesTo log k x → ⊥
+
+-- the last change is to x
+pub record LastChange (log : List Entry) (x : ConfId) : Type 0 where
+  pub index : ℕ
+  pub change : ChangesTo log index x
+  pub none_after : (k : ℕ) → index < k → IsChange log k → ⊥
+
+-- t is the configuration of the next change after the first change to c, and it is transitional
+pub record Follows (log : List Entry) (c : RingId) (t : ConfId) : Type 0 where
+  pub from : ℕ
+  pub to : ℕ
+  pub first : IsFirstChange log (Regular c) from
+  pub next : IsNextChange log from to
+  pub change : ChangesTo log to t
+  pub transitional : IsTransitional t
+
+-- d is c or what follows it
+abbrev pub Com : List Entry → RingId → ConfId → Type 0
+Com log c d = (d ≡ Regular c) ⊎ Follows log c d
+
+-- the entry at i delivers m in c or in what follows it
+abbrev pub DeliversIn : List Entry → RingId → MsgId → ℕ → Type 0
+DeliversIn log c m i = (d : ConfId) × Delivers log i m d × Com log c d
+
+-- it delivers m there
+abbrev pub HasDelivered : List Entry → RingId → MsgId → Type 0
+HasDelivered log c m = (i : ℕ) × DeliversIn log c m i
+
+-- it has no failure
+abbrev pub NeverFails : List Entry → Type 0
+NeverFails log = (i : ℕ) (x : ConfId) → Fails log i x → ⊥
+
+-- it failed in c or in what follows it
+abbrev pub FailedIn : List Entry → RingId → Type 0
+FailedIn log c = (i : ℕ) × (d : ConfId) × Fails log i d × Com log c d
+
+-- it has no failure, and its last change is to c or to what follows it
+abbrev pub OpenIn : List Entry → RingId → Type 0
+OpenIn log c = (d : ConfId) × NeverFails log × LastChange log d × Com log c d
+
+-- what a process that ought to deliver m does
+abbrev pub DeliversOrEnds : List Entry → RingId → MsgId → Type 0
+DeliversOrEnds log c m = HasDelivered log c m ⊎ FailedIn log c ⊎ OpenIn log c

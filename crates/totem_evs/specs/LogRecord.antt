@@ -1,0 +1,9 @@
+-- What contracts see of a log: its process, its entries from the first on, and how it ends.
+use Rattle.std.specs.Prelude.{ℕ, List}
+use Rattle.totem_evs.specs.declared.entry.Entry.{Entry}
+use Rattle.totem_evs.specs.declared.ending.Ending.{Ending}
+
+pub record LogRecord : Type 0 where
+  pub proc : ℕ
+  pub entries : List Entry
+  pub ending : Ending

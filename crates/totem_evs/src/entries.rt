@@ -1,0 +1,89 @@
+ghost use Rattle.std.specs.Prelude.{◌≡◌, IfOk, MatchResult, All};
+ghost use Rattle.totem_evs.specs.Lists.{Refuses, Anyhow};
+ghost use Rattle.totem_evs.specs.Runs.{IsEntry, IsEntries};
+
+use crate::entry::Entry;
+use crate::refused::{ListFault, Refused};
+use std::alloc::{AllocError, Global};
+use std::marker::Model;
+
+/// How many entries a log may have.
+const MOST: usize = 1_000_000;
+
+/// The entries of a log, from the first on: 1 to 1,000,000.
+#[derive(Debug, Drop)]
+pub struct Entries {
+    list: Vec<Entry>,
+}
+
+impl Model for Entries {
+    ghost use Rattle.std.specs.Prelude.{List};
+    ghost use Rattle.totem_evs.specs.declared.entry.Entry.{Entry};
+    ghost use Rattle.totem_evs.specs.Runs.{IsEntries};
+
+    ghost Value = { List Entry };
+
+    ghost view = { λ e. e.list.items };
+
+    ghost invariant = { λ e. IsEntries e.list.items };
+}
+
+/// Each entry keeps its own rule, so a list of entries does.
+fn keep_their_rules(list: &[Entry])
+    ensures { All IsEntry list.now }
+{
+    for entry in list {
+        entry.keeps_its_rule();
+    }
+}
+
+impl Entries {
+    /// The entries of this list; a refusal gives the list back.
+    pub fn new(list: Vec<Entry>) -> Result<Entries, Refused<Vec<Entry>>>
+        ensures { MatchResult result (λ e. (e ≡ list.items) × IsEntries list.items)
+            (λ r. (r.value.items ≡ list.items) × Refuses 1 1000000 Anyhow list.items r.fault) }
+    {
+        let fault = if list.is_empty() {
+            ListFault::Empty
+        } else if list.len() > MOST {
+            ListFault::TooMany(MOST)
+        } else {
+            keep_their_rules(&list);
+            return Ok(Entries { list });
+        };
+        Err(Refused { fault, value: list })
+    }
+
+    /// The entries of a list that is known to keep the rules.
+    pub fn of(list: Vec<Entry>) -> Entries
+        requires { IsEntries list.items }
+        ensures { result ≡ list.items }
+    {
+        Entries { list }
+    }
+
+    pub fn as_slice(&self) -> &[Entry]
+        ensures value { result.now ≡ self.now }
+        ensures entries { IsEntries self.now }
+    {
+        &self.list
+    }
+
+    /// The entries, without taking memory.
+    pub fn into_vec(self) -> Vec<Entry>
+        ensures { result.items ≡ self }
+    {
+        let Entries { list } = self;
+        list
+    }
+
+    pub fn try_clone(&self, alloc: Global) -> Result<Entries, AllocError>
+        ensures { IfOk result (λ e. e ≡ self.now) }
+    {
+        let mut list = Vec::with_capacity(alloc, self.list.len())?;
+        for entry in &self.list {
+            list.push(entry.try_clone(alloc)?)?;
+        }
+        Ok(Entries { list })
+    }
+}

@@ -1,0 +1,59 @@
+ghost use Rattle.std.specs.Prelude.{◌≡◌, ◌↔◌, IsTrue, IfOk};
+ghost use Rattle.totem_evs.specs.Runs.{IsEntry, IsFailure};
+
+use crate::members::Members;
+use std::alloc::{AllocError, Global};
+use totem_ids::{ConfId, MsgId, Service, conf_fits, message_fits};
+
+/// One event of a process, as it recorded it.
+#[derive(Debug, Drop)]
+pub enum Entry {
+    /// It changed to this configuration with these members.
+    Conf(ConfId, Members),
+    /// It sent a message in this configuration.
+    Send(MsgId, ConfId, Service),
+    /// It delivered a message in this configuration.
+    Deliver(MsgId, ConfId),
+    /// It failed in this configuration.
+    Fail(ConfId),
+}
+
+impl Entry {
+    /// Names are in range, and members rise: the types of its parts say so, and this passes it on.
+    pub(crate) fn keeps_its_rule(&self)
+        ensures { IsEntry self.now }
+    {
+        match self {
+            Entry::Conf(conf, members) => {
+                conf_fits(conf);
+                let _ = members.as_slice();
+            }
+            Entry::Send(message, conf, _) => {
+                message_fits(message);
+                conf_fits(conf);
+            }
+            Entry::Deliver(message, conf) => {
+                message_fits(message);
+                conf_fits(conf);
+            }
+            Entry::Fail(conf) => conf_fits(conf),
+        }
+    }
+
+    pub fn is_failure(&self) -> bool
+        ensures { IsTrue result ↔ IsFailure self.now }
+    {
+        matches!(self, Entry::Fail(_))
+    }
+
+    pub fn try_clone(&self, alloc: Global) -> Result<Entry, AllocError>
+        ensures { IfOk result (λ e. e ≡ self.now) }
+    {
+        Ok(match self {
+            Entry::Conf(conf, members) => Entry::Conf(*conf, members.try_clone(alloc)?),
+            Entry::Send(message, conf, service) => Entry::Send(*message, *conf, *service),
+            Entry::Deliver(message, conf) => Entry::Deliver(*message, *conf),
+            Entry::Fail(conf) => Entry::Fail(*conf),
+        })
+    }
+}

@@ -1,0 +1,69 @@
+ghost use Rattle.std.specs.Prelude.{◌≡◌, IfOk};
+
+use crate::spec::SpecNo;
+use std::alloc::{AllocError, Global};
+use std::marker::Model;
+use totem_ids::Place;
+
+/// The events that show a fault, in the order that its specification gives them.
+#[derive(Debug, Drop)]
+pub struct Places {
+    list: Vec<Place>,
+}
+
+impl Model for Places {
+    ghost use Rattle.std.specs.Prelude.{List};
+    ghost use Rattle.totem_ids.specs.declared.place.Place.{Place};
+
+    ghost Value = { List Place };
+
+    ghost view = { λ p. p.list.items };
+}
+
+impl Places {
+    pub fn new(list: Vec<Place>) -> Places
+        ensures { result ≡ list.items }
+    {
+        Places { list }
+    }
+
+    pub fn as_slice(&self) -> &[Place]
+        ensures { result.now ≡ self.now }
+    {
+        &self.list
+    }
+
+    /// The places, without taking memory.
+    pub fn into_vec(self) -> Vec<Place>
+        ensures { result.items ≡ self }
+    {
+        let Places { list } = self;
+        list
+    }
+
+    pub fn try_clone(&self, alloc: Global) -> Result<Places, AllocError>
+        ensures { IfOk result (λ p. p ≡ self.now) }
+    {
+        Ok(Places {
+            list: self.list.to_vec(alloc)?,
+        })
+    }
+}
+
+/// A specification that a run breaks, and the events that break it.
+#[derive(Debug, Drop)]
+pub struct Fault {
+    pub spec: SpecNo,
+    pub places: Places,
+}
+
+impl Fault {
+    pub fn try_clone(&self, alloc: Global) -> Result<Fault, AllocError>
+        ensures { IfOk result (λ f. f ≡ self.now) }
+    {
+        Ok(Fault {
+            spec: self.spec,
+            places: self.places.try_clone(alloc)?,
+        })
+    }
+}

@@ -1,0 +1,28 @@
+//! Laws of the specifications, each the contract of a function that does nothing.
+ghost use Rattle.totem_evs.specs.Laws.{BreaksAreBreaks, CertifiedIsOrdered, EachLogIsOrdered, EachTwinsAgree};
+ghost use Rattle.totem_evs.specs.OneHop.{ChainsAreFine};
+
+/// What breaks a specification is no part of a run that meets them all.
+pub fn breaks_are_breaks()
+    ensures { BreaksAreBreaks }
+{}
+
+/// The events of one log are ordered by place (1.2), in every run.
+pub fn each_log_is_ordered()
+    ensures { EachLogIsOrdered }
+{}
+
+/// What precedes, or is preceded by, one change to a configuration stands so to each change to it (2.5), in every run.
+pub fn twins_agree()
+    ensures { EachTwinsAgree }
+{}
+
+/// A certificate excludes cycles (1.1) and gives the events a total order (6.1).
+pub fn certified_is_ordered()
+    ensures { CertifiedIsOrdered }
+{}
+
+/// Causal delivery (5) over chains of any length follows from pairs in one log, in a certified run that meets 1.3, 1.4 and 2.2.
+pub fn chains_are_fine()
+    ensures { ChainsAreFine }
+{}

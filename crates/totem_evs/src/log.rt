@@ -1,0 +1,84 @@
+ghost use Rattle.std.specs.Prelude.{◌≡◌, ◌↔◌, IsTrue, IfOk};
+ghost use Rattle.totem_evs.specs.Runs.{EndsInFail, IsClosedBy, IsLog};
+
+use crate::ending::Ending;
+use crate::entries::Entries;
+use crate::entry::Entry;
+use crate::rising::OfProcess;
+use std::alloc::{AllocError, Global};
+use std::marker::Model;
+use totem_ids::{ProcId, process_fits};
+
+/// What one process recorded. It ends as failed exactly where its last entry is a failure.
+#[derive(Debug, Drop)]
+pub struct Log {
+    pub proc: ProcId,
+    pub entries: Entries,
+    pub ending: Ending,
+}
+
+impl Model for Log {
+    ghost use Rattle.totem_evs.specs.LogRecord.{LogRecord};
+    ghost use Rattle.totem_evs.specs.Runs.{IsClosedBy};
+
+    ghost Value = { LogRecord };
+
+    ghost view = { λ l. record { proc = l.proc; entries = l.entries; ending = l.ending } };
+
+    ghost invariant = { λ l. IsClosedBy l.entries l.ending };
+}
+
+fn ends_in_fail(entries: &[Entry]) -> bool
+    ensures { IsTrue result ↔ EndsInFail entries.now }
+{
+    match entries.last() {
+        None => false,
+        Some(entry) => entry.is_failure(),
+    }
+}
+
+impl Log {
+    /// The log of these entries; how it ends follows from the last of them.
+    pub fn new(proc: ProcId, entries: Entries) -> Log
+        ensures process { result.proc ≡ proc }
+        ensures entries { result.entries ≡ entries }
+        ensures ending { IsClosedBy result.entries result.ending }
+    {
+        let ending = if ends_in_fail(entries.as_slice()) {
+            Ending::Failed
+        } else {
+            Ending::Standing
+        };
+        Log {
+            proc,
+            entries,
+            ending,
+        }
+    }
+
+    /// What the types of its parts keep, this passes on.
+    pub(crate) fn keeps_its_rules(&self)
+        ensures { IsLog self.now }
+    {
+        process_fits(self.proc);
+        let _ = self.entries.as_slice();
+    }
+
+    pub fn try_clone(&self, alloc: Global) -> Result<Log, AllocError>
+        ensures { IfOk result (λ l. l ≡ self.now) }
+    {
+        Ok(Log {
+            proc: self.proc,
+            entries: self.entries.try_clone(alloc)?,
+            ending: self.ending,
+        })
+    }
+}
+
+impl OfProcess for Log {
+    ghost process_of = { λ l. l.proc };
+
+    fn process(&self) -> ProcId {
+        self.proc
+    }
+}

@@ -1,0 +1,90 @@
+ghost use Rattle.std.specs.Prelude.{◌≡◌, IfOk, MatchResult, All};
+ghost use Rattle.totem_evs.specs.Lists.{Refuses};
+ghost use Rattle.totem_evs.specs.Runs.{IsLog, IsRun, IsBelowLog};
+
+use crate::log::Log;
+use crate::refused::{ListFault, Refused};
+use crate::rising::first_fall;
+use std::alloc::{AllocError, Global};
+use std::marker::Model;
+
+/// How many logs a run may have.
+const MOST: usize = 32;
+
+/// The logs of one run: 0 to 32, their processes strictly rising.
+#[derive(Debug, Drop)]
+pub struct Logs {
+    list: Vec<Log>,
+}
+
+impl Model for Logs {
+    ghost use Rattle.std.specs.Prelude.{List};
+    ghost use Rattle.totem_evs.specs.LogRecord.{LogRecord};
+    ghost use Rattle.totem_evs.specs.Runs.{IsRun};
+
+    ghost Value = { List LogRecord };
+
+    ghost view = { λ l. l.list.items };
+
+    ghost invariant = { λ l. IsRun l.list.items };
+}
+
+/// Each log keeps its own rules, so a list of logs does.
+fn keep_their_rules(list: &[Log])
+    ensures { All IsLog list.now }
+{
+    for log in list {
+        log.keeps_its_rules();
+    }
+}
+
+impl Logs {
+    /// The logs of this list; a refusal gives the list back.
+    pub fn new(list: Vec<Log>) -> Result<Logs, Refused<Vec<Log>>>
+        ensures { MatchResult result (λ l. (l ≡ list.items) × IsRun list.items)
+            (λ r. (r.value.items ≡ list.items) × Refuses 0 32 IsBelowLog list.items r.fault) }
+    {
+        let fault = if list.len() > MOST {
+            ListFault::TooMany(MOST)
+        } else if let Some(at) = first_fall(&list) {
+            ListFault::NotRising(at)
+        } else {
+            keep_their_rules(&list);
+            return Ok(Logs { list });
+        };
+        Err(Refused { fault, value: list })
+    }
+
+    /// The logs of a list that is known to keep the rules.
+    pub fn of(list: Vec<Log>) -> Logs
+        requires { IsRun list.items }
+        ensures { result ≡ list.items }
+    {
+        Logs { list }
+    }
+
+    pub fn as_slice(&self) -> &[Log]
+        ensures value { result.now ≡ self.now }
+        ensures run { IsRun self.now }
+    {
+        &self.list
+    }
+
+    /// The logs, without taking memory.
+    pub fn into_vec(self) -> Vec<Log>
+        ensures { result.items ≡ self }
+    {
+        let Logs { list } = self;
+        list
+    }
+
+    pub fn try_clone(&self, alloc: Global) -> Result<Logs, AllocError>
+        ensures { IfOk result (λ l. l ≡ self.now) }
+    {
+        let mut list = Vec::with_capacity(alloc, self.list.len())?;
+        for log in &self.list {
+            list.push(log.try_clone(alloc)?)?;
+        }
+        Ok(Logs { list })
+    }
+}

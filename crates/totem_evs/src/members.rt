@@ -1,0 +1,88 @@
+ghost use Rattle.std.specs.Prelude.{◌≡◌, ◌<◌, ◌^◌, All, ◌↔◌, IsTrue, Contains, IfOk, MatchResult};
+ghost use Rattle.totem_evs.specs.Lists.{Refuses};
+ghost use Rattle.totem_evs.specs.Members.{IsMembers, IsBelow};
+
+use crate::refused::{ListFault, Refused};
+use crate::rising::first_fall;
+use std::alloc::{AllocError, Global};
+use std::marker::Model;
+use totem_ids::ProcId;
+
+/// How many members a configuration may have.
+const MOST: usize = 32;
+
+/// The members of a configuration: 1 to 32 processes, strictly rising.
+#[derive(Debug, Drop)]
+pub struct Members {
+    procs: Vec<ProcId>,
+}
+
+impl Model for Members {
+    ghost use Rattle.std.specs.Prelude.{ℕ, List};
+    ghost use Rattle.totem_evs.specs.Members.{IsMembers};
+
+    ghost Value = { List ℕ };
+
+    ghost view = { λ m. m.procs.items };
+
+    ghost invariant = { λ m. IsMembers m.procs.items };
+}
+
+impl Members {
+    /// The members that these processes are; a refusal gives the list back.
+    pub fn new(procs: Vec<ProcId>) -> Result<Members, Refused<Vec<ProcId>>>
+        ensures { MatchResult result (λ m. (m ≡ procs.items) × IsMembers procs.items)
+            (λ r. (r.value.items ≡ procs.items) × Refuses 1 32 IsBelow procs.items r.fault) }
+    {
+        let fault = if procs.is_empty() {
+            ListFault::Empty
+        } else if procs.len() > MOST {
+            ListFault::TooMany(MOST)
+        } else if let Some(at) = first_fall(&procs) {
+            ListFault::NotRising(at)
+        } else {
+            return Ok(Members { procs });
+        };
+        Err(Refused {
+            fault,
+            value: procs,
+        })
+    }
+
+    /// The members that these processes are known to be.
+    pub fn of(procs: Vec<ProcId>) -> Members
+        requires { IsMembers procs.items }
+        ensures { result ≡ procs.items }
+    {
+        Members { procs }
+    }
+
+    pub fn as_slice(&self) -> &[ProcId]
+        ensures value { result.now ≡ self.now }
+        ensures members { IsMembers self.now }
+    {
+        &self.procs
+    }
+
+    pub fn contains(&self, proc: ProcId) -> bool
+        ensures { IsTrue result ↔ Contains self.now proc }
+    {
+        self.procs.contains(&proc)
+    }
+
+    /// The processes, without taking memory.
+    pub fn into_vec(self) -> Vec<ProcId>
+        ensures { result.items ≡ self }
+    {
+        let Members { procs } = self;
+        procs
+    }
+
+    pub fn try_clone(&self, alloc: Global) -> Result<Members, AllocError>
+        ensures { IfOk result (λ m. m ≡ self.now) }
+    {
+        Ok(Members {
+            procs: self.procs.to_vec(alloc)?,
+        })
+    }
+}

@@ -1,0 +1,41 @@
+ghost use Rattle.std.specs.Prelude.{◌≡◌, IfOk, MatchResult};
+ghost use Rattle.totem_evs.specs.Lists.{Refuses};
+ghost use Rattle.totem_evs.specs.Runs.{IsRun, IsBelowLog};
+
+use crate::log::Log;
+use crate::logs::Logs;
+use crate::refused::Refused;
+use std::alloc::{AllocError, Global};
+
+/// What the processes of one run recorded.
+#[derive(Debug, Drop)]
+pub struct Run {
+    pub logs: Logs,
+}
+
+impl Run {
+    /// The run of these logs; a refusal gives the list back.
+    pub fn new(logs: Vec<Log>) -> Result<Run, Refused<Vec<Log>>>
+        ensures { MatchResult result (λ run. (run.logs ≡ logs.items) × IsRun logs.items)
+            (λ r. (r.value.items ≡ logs.items) × Refuses 0 32 IsBelowLog logs.items r.fault) }
+    {
+        let logs = Logs::new(logs)?;
+        Ok(Run { logs })
+    }
+
+    /// The logs, without taking memory.
+    pub fn into_logs(self) -> Vec<Log>
+        ensures { result.items ≡ self.logs }
+    {
+        let Run { logs } = self;
+        logs.into_vec()
+    }
+
+    pub fn try_clone(&self, alloc: Global) -> Result<Run, AllocError>
+        ensures { IfOk result (λ run. run ≡ self.now) }
+    {
+        Ok(Run {
+            logs: self.logs.try_clone(alloc)?,
+        })
+    }
+}

@@ -1,0 +1,57 @@
+use std::fmt;
+
+/// A specification that a run may break, in the order in which faults are listed.
+#[derive(Clone, Copy, Debug, PartialEq, Eq, PartialOrd, Ord, Hash)]
+pub enum SpecNo {
+    /// 1.1, an event precedes itself.
+    Cycle,
+    /// 1.3, a delivery of what was not sent there.
+    Unsent,
+    /// 1.4, a message sent or delivered twice, or sent in a transitional configuration.
+    Twice,
+    /// 2.2, an entry where it may not stand.
+    Misplaced,
+    /// 2.3, one configuration in two forms.
+    Configuration,
+    /// 2.4, configurations that do not take turns.
+    Turns,
+    /// 3, a sender that does not deliver its own message.
+    OwnDelivery,
+    /// 4, processes that go on together and delivered differently.
+    Atomicity,
+    /// 5, a message delivered without what came before it.
+    Causality,
+    /// 6.1, deliveries in different orders.
+    Order,
+    /// 6.3, a gap in the order.
+    Gap,
+    /// 7.1, a safe message that a member does not deliver.
+    Safety,
+    /// 7.2, a safe message delivered where a member never came.
+    Installed,
+}
+
+impl fmt::Display for SpecNo {
+    ghost use Rattle.std.specs.Prelude.{Some};
+    ghost use Rattle.totem_evs.specs.SpecNo.{spec_text};
+
+    ghost output = { λ s. Some (spec_text s) };
+
+    fn fmt<W: fmt::Write>(&self, f: &mut fmt::Formatter<W>) -> fmt::Result {
+        f.write_str(match self {
+            SpecNo::Cycle => "1.1",
+            SpecNo::Unsent => "1.3",
+            SpecNo::Twice => "1.4",
+            SpecNo::Misplaced => "2.2",
+            SpecNo::Configuration => "2.3",
+            SpecNo::Turns => "2.4",
+            SpecNo::OwnDelivery => "3",
+            SpecNo::Atomicity => "4",
+            SpecNo::Causality => "5",
+            SpecNo::Order => "6.1",
+            SpecNo::Gap => "6.3",
+            SpecNo::Safety => "7.1",
+            SpecNo::Installed => "7.2",
+        })
+    }
+}

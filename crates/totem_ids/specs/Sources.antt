@@ -1,0 +1,84 @@
+-- What a parser answers, and what a reader of a source answers and leaves.
+use Rattle.std.specs.Prelude.{◌≡◌, ℕ, ◌+◌, ◌%◌, ◌^◌, List, [], ◌∷◌, ◌++◌, Bool, true, false, IfSome, Result, Ok, Err}
+use Rattle.std.specs.declared.option.Option.{Option}
+use Rattle.std.specs.Io.KnownBytes.{Consumes}
+use Rattle.totem_ids.specs.declared.fault.TextFault.{TextFault}
+use Rattle.totem_ids.specs.declared.fault.TextFault.TheVariants.{Header, Word, Number, Order, Members, End, Truncated, TooMany}
+use Rattle.totem_ids.specs.declared.fault.ReadError.{ReadError}
+use Rattle.totem_ids.specs.declared.fault.ReadError.TheVariants as errors
+
+-- ---- parsers
+
+-- a value and the bytes behind it, or a fault
+abbrev pub Parsed : Type 0 → Type 0
+Parsed Y = Result (Y × List ℕ) TextFault
+
+-- one thing after the other
+infixl 10 ◌>>=◌
+abbrev pub ◌>>=◌ : {A B : Type 0} → Result A TextFault → (A → Result B TextFault) → Result B TextFault
+(Ok x) >>= f = f x
+(Err e) >>= f = Err e
+
+-- the fault of a text that is too short; each other fault is that of a byte
+abbrev pub is_short : TextFault → Bool
+is_short Header = false
+is_short Word = false
+is_short Number = false
+is_short Order = false
+is_short Members = false
+is_short End = false
+is_short Truncated = true
+is_short TooMany = false
+
+-- the answer once more bytes have come: the same value or fault, unless the text was too short
+abbrev pub Follows : {Y : Type 0} → List ℕ → Parsed Y → Parsed Y → Type 0
+Follows more (Ok x) later = later ≡ Ok (x.0, x.1 ++ more)
+Follows more (Err fault) later = is_short fault ≡ false → later ≡ Err fault
+
+-- what a parser answers does not change by what follows
+pub record Steady {Y : Type 0} (parse : List ℕ → Parsed Y) : Type 0 where
+  pub stays : (bytes more : List ℕ) → Follows more (parse bytes) (parse (bytes ++ more))
+
+-- up to a byte no rule is broken, and with it one is
+pub record FirstBreak {Y : Type 0} (parse : List ℕ → Parsed Y) (bytes : List ℕ) (fault : TextFault) : Type 0 where
+  pub front : List ℕ
+  pub byte : ℕ
+  pub rest : List ℕ
+  pub whole : bytes ≡ front ++ byte ∷ rest
+  pub before : parse front ≡ Err Truncated
+  pub at : parse (front ++ byte ∷ []) ≡ Err fault
+
+-- ---- readers
+
+-- what is known of a source: the bytes that it has left, and how often it has failed
+pub record Seen : Type 0 where
+  pub remaining : Option (List ℕ)
+  pub failures : ℕ
+
+-- what a source's members say of it
+abbrev pub seen : {S : Type 0} → (S → Option (List ℕ)) → (S → ℕ) → S → Seen
+seen remaining failures s = record { remaining = remaining s; failures = failures s }
+
+-- some bytes were taken; whatever follows them, parsing the whole comes to parsing what follows by rest
+pub record Comes {Y : Type 0} (old new : Seen) (parse rest : List ℕ → Result Y TextFault) : Type 0 where
+  pub read : List ℕ
+  pub taken : Consumes old.remaining new.remaining read
+  pub failures : new.failures ≡ old.failures
+  pub left : (more : List ℕ) → parse (read ++ more) ≡ rest more
+
+-- some bytes were taken, and parsing them gives a fault: whatever follows them, or they are all that was left
+pub record Breaks {Y : Type 0} (old new : Seen) (parse : List ℕ → Result Y TextFault) (fault : TextFault) : Type 0 where
+  pub read : List ℕ
+  pub taken : Consumes old.remaining new.remaining read
+  pub failures : new.failures ≡ old.failures
+  pub broken : parse read ≡ Err fault
+  pub stays : is_short fault ≡ false → (more : List ℕ) → parse (read ++ more) ≡ Err fault
+  pub whole : is_short fault ≡ true → IfSome old.remaining (λ bytes. bytes ≡ read)
+
+-- a reader answers what the parser answers for the bytes that it took, whatever follows them, unless the source
+-- failed in this call or memory was refused
+abbrev pub Reads : {Y : Type 0} → Seen → Seen → Result Y ReadError → (List ℕ → Parsed Y) → Type 0
+Reads old new (Ok y) parse = Comes old new parse (λ more. Ok (y, more))
+Reads old new (Err errors.Memory) parse = new.failures ≡ old.failures
+Reads old new (Err errors.Read) parse = new.failures ≡ (old.failures + 1) % 2 ^ 64
+Reads old new (Err (errors.Text fault)) parse = Breaks old new parse fault

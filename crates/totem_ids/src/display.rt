@@ -1,0 +1,77 @@
+//! The one spelling of each name.
+ghost use Rattle.std.specs.Prelude.{Some, decimal};
+ghost use Rattle.totem_ids.specs.Texts.{ring_text, conf_text, message_text, place_text, service_text};
+
+use crate::conf::ConfId;
+use crate::message::{MsgId, Service};
+use crate::place::Place;
+use crate::process::ProcId;
+use crate::ring::RingId;
+use std::fmt;
+
+/// The number, as `7`.
+impl fmt::Display for ProcId {
+    ghost output = { λ p. Some (decimal p) };
+
+    fn fmt<W: fmt::Write>(&self, f: &mut fmt::Formatter<W>) -> fmt::Result {
+        let number = self.number();
+        write!(f, "{number}")
+    }
+}
+
+/// The number and the representative, as `4.1`.
+impl fmt::Display for RingId {
+    ghost output = { λ c. Some (ring_text c) };
+
+    fn fmt<W: fmt::Write>(&self, f: &mut fmt::Formatter<W>) -> fmt::Result {
+        let seq = self.seq;
+        let rep = self.rep;
+        write!(f, "{seq}.{rep}")
+    }
+}
+
+/// The ring, as `r4.1`, or the next ring and the least member, as `t8.1/1`.
+impl fmt::Display for ConfId {
+    ghost output = { λ c. Some (conf_text c) };
+
+    fn fmt<W: fmt::Write>(&self, f: &mut fmt::Formatter<W>) -> fmt::Result {
+        match self {
+            ConfId::Regular(ring) => write!(f, "r{ring}"),
+            ConfId::Transitional { next, least } => write!(f, "t{next}/{least}"),
+        }
+    }
+}
+
+/// The ring and the number, as `4.1#7`.
+impl fmt::Display for MsgId {
+    ghost output = { λ m. Some (message_text m) };
+
+    fn fmt<W: fmt::Write>(&self, f: &mut fmt::Formatter<W>) -> fmt::Result {
+        let ring = self.ring;
+        let number = self.number;
+        write!(f, "{ring}#{number}")
+    }
+}
+
+/// The process and the entry, as `2@5`.
+impl fmt::Display for Place {
+    ghost output = { λ e. Some (place_text e) };
+
+    fn fmt<W: fmt::Write>(&self, f: &mut fmt::Formatter<W>) -> fmt::Result {
+        let proc = self.proc;
+        let at = self.at;
+        write!(f, "{proc}@{at}")
+    }
+}
+
+/// The letter `a` or `s`.
+impl fmt::Display for Service {
+    ghost output = { λ s. Some (service_text s) };
+
+    fn fmt<W: fmt::Write>(&self, f: &mut fmt::Formatter<W>) -> fmt::Result {
+        match self {
+            Service::Agreed => f.write_str("a"),
+            Service::Safe => f.write_str("s"),
+        }
+    }
+}

@@ -1,0 +1,119 @@
+//! What is spelled is what is read: for each kind of name one law, which relates its parser and its spelling. The
+//! readers answer what the parsers answer, and the displays write the spellings. Each value of a name's type has a
+//! spelling. And the orders of names are strict and total.
+ghost use Rattle.std.specs.Prelude.{◌^◌, ◌<◌, ◌≤◌, ℕ, decimal};
+ghost use Rattle.totem_ids.specs.Numbers.{number_to, proc_at};
+ghost use Rattle.totem_ids.specs.Orders.{RingBelow, ConfBelow, MessageBelow, PlaceBelow, IsStrictOrder};
+ghost use Rattle.totem_ids.specs.Parsers.{ring_at, conf_at, message_at, place_at};
+ghost use Rattle.totem_ids.specs.Spelling.{Spells};
+ghost use Rattle.totem_ids.specs.Texts.{ring_text, conf_text, message_text, place_text, IsUpTo, IsProcess, IsRing, IsConf, IsMessage, IsPlace};
+
+use crate::conf::ConfId;
+use crate::message::MsgId;
+use crate::place::Place;
+use crate::process::ProcId;
+use crate::ring::RingId;
+
+/// Numbers have one spelling: no zero in front.
+#[tactic(auto, using(crate::proofs::Spellings::number_spells))]
+pub fn number_spelling()
+    ensures { (max : ℕ) → 9 ≤ max → max < 2 ^ 32 → Spells (number_to max) decimal (IsUpTo max) }
+{}
+
+/// Processes have one spelling.
+#[tactic(auto, using(crate::proofs::Spellings::process_spells))]
+pub fn process_spelling()
+    ensures { Spells proc_at decimal IsProcess }
+{}
+
+/// Rings have one spelling.
+#[tactic(auto, using(crate::proofs::Spellings::ring_spells))]
+pub fn ring_spelling()
+    ensures { Spells ring_at ring_text IsRing }
+{}
+
+/// Configurations have one spelling.
+#[tactic(auto, using(crate::proofs::Spellings::conf_spells))]
+pub fn conf_spelling()
+    ensures { Spells conf_at conf_text IsConf }
+{}
+
+/// Messages have one spelling.
+#[tactic(auto, using(crate::proofs::Spellings::message_spells))]
+pub fn message_spelling()
+    ensures { Spells message_at message_text IsMessage }
+{}
+
+/// Places have one spelling.
+#[tactic(auto, using(crate::proofs::Spellings::place_spells))]
+pub fn place_spelling()
+    ensures { Spells place_at place_text IsPlace }
+{}
+
+/// Each process has a spelling.
+pub fn process_fits(process: ProcId)
+    ensures { IsProcess process }
+{
+    let _number = process.number();
+}
+
+/// Each ring has a spelling.
+pub fn ring_fits(ring: &RingId)
+    ensures { IsRing ring.now }
+{
+    let _number = ring.seq;
+    process_fits(ring.rep);
+}
+
+/// Each configuration has a spelling.
+pub fn conf_fits(conf: &ConfId)
+    ensures { IsConf conf.now }
+{
+    match conf {
+        ConfId::Regular(ring) => ring_fits(ring),
+        ConfId::Transitional { next, least } => {
+            ring_fits(next);
+            process_fits(*least);
+        }
+    }
+}
+
+/// Each message has a spelling.
+pub fn message_fits(message: &MsgId)
+    ensures { IsMessage message.now }
+{
+    let _number = message.number;
+    ring_fits(&message.ring);
+}
+
+/// Each place has a spelling.
+pub fn place_fits(place: &Place)
+    ensures { IsPlace place.now }
+{
+    let _entry = place.at;
+    process_fits(place.proc);
+}
+
+/// Rings are ordered strictly and totally.
+#[tactic(auto, using(crate::proofs::Orderings::ring_strict))]
+pub fn ring_order()
+    ensures { IsStrictOrder RingBelow }
+{}
+
+/// Configurations are ordered strictly and totally.
+#[tactic(auto, using(crate::proofs::Orderings::conf_strict))]
+pub fn conf_order()
+    ensures { IsStrictOrder ConfBelow }
+{}
+
+/// Messages are ordered strictly and totally.
+#[tactic(auto, using(crate::proofs::Orderings::message_strict))]
+pub fn message_order()
+    ensures { IsStrictOrder MessageBelow }
+{}
+
+/// Places are ordered strictly and totally.
+#[tactic(auto, using(crate::proofs::Orderings::place_strict))]
+pub fn place_order()
+    ensures { IsStrictOrder PlaceBelow }
+{}

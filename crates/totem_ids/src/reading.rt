@@ -1,0 +1,105 @@
+//! Readers of what all texts share: bytes, words and numbers. Each leaves what follows the bytes that it took.
+ghost use Rattle.std.specs.Prelude.{◌≡◌, ◌≢◌, ◌≤◌, ◌&&◌, ◌==◌, false, not, IfOk, IfErr};
+ghost use Rattle.totem_ids.specs.Sources.{Reads, seen, is_short};
+ghost use Rattle.totem_ids.specs.Numbers.{is_digit, byte_at, word_at, number_at, number_to, proc_at};
+ghost use Rattle.totem_ids.specs.Texts.{IsUpTo};
+
+use crate::fault::{ReadError, TextFault};
+use crate::process::ProcId;
+use crate::source::Source;
+
+/// The next byte; `Truncated` at the end.
+pub fn next<S: Source>(source: &mut S) -> Result<u8, ReadError>
+    ensures read { Reads (seen S.remaining S.failures source.old)
+        (seen S.remaining S.failures source.new) result byte_at }
+    ensures memory { IfErr result (λ e. e ≢ ReadError.Memory) }
+{
+    match source.byte() {
+        Ok(Some(byte)) => Ok(byte),
+        Ok(None) => Err(ReadError::Text(TextFault::Truncated)),
+        Err(_) => Err(ReadError::Read),
+    }
+}
+
+/// A word; `fault` at the first byte that is another.
+pub fn word<S: Source>(source: &mut S, word: &[u8], fault: TextFault) -> Result<(), ReadError>
+    requires { is_short fault ≡ false }
+    ensures read { Reads (seen S.remaining S.failures source.old)
+        (seen S.remaining S.failures source.new) result (word_at fault word.now) }
+    ensures memory { IfErr result (λ e. e ≢ ReadError.Memory) }
+{
+    for want in word {
+        let byte = next(source)?;
+        if byte != *want {
+            return Err(ReadError::Text(fault));
+        }
+    }
+    Ok(())
+}
+
+fn is_digit(byte: u8) -> bool
+    ensures { result ≡ is_digit byte }
+{
+    b'0' <= byte && byte <= b'9'
+}
+
+// A digit but 0.
+fn begins_number(byte: u8) -> bool
+    ensures { result ≡ (is_digit byte && not (byte == 48)) }
+{
+    is_digit(byte) && byte != b'0'
+}
+
+/// A number from 1 to `max` with no zero in front, and the byte behind it; `Number` at the first byte of any other.
+pub fn number<S: Source>(source: &mut S, max: u32) -> Result<(u32, u8), ReadError>
+    requires { 9 ≤ max }
+    ensures read { Reads (seen S.remaining S.failures source.old)
+        (seen S.remaining S.failures source.new) result (number_at max) }
+    ensures memory { IfErr result (λ e. e ≢ ReadError.Memory) }
+    ensures range { IfOk result (λ n. IsUpTo max n.0) }
+{
+    let first = next(source)?;
+    let fits = begins_number(first);
+    if !fits {
+        return Err(ReadError::Text(TextFault::Number));
+    }
+    let mut number = u64::from(first - b'0');
+    loop {
+        let byte = next(source)?;
+        let more = is_digit(byte);
+        if !more {
+            return Ok((number as u32, byte));
+        }
+        let larger = 10 * number + u64::from(byte - b'0');
+        if larger > u64::from(max) {
+            return Err(ReadError::Text(TextFault::Number));
+        }
+        number = larger;
+    }
+}
+
+/// A number with the byte `end` behind it; `Word` where another byte is there.
+#[tactic(auto, using(crate::proofs::Readers::called, crate::proofs::Readers::failed, crate::proofs::Readers::begins, crate::proofs::Readers::chosen, crate::proofs::Readers::passed, crate::proofs::Readers::stops), unfolding(crate::specs::Numbers::number_to))]
+pub fn number_to<S: Source>(source: &mut S, max: u32, end: u8) -> Result<u32, ReadError>
+    requires { 9 ≤ max }
+    ensures read { Reads (seen S.remaining S.failures source.old)
+        (seen S.remaining S.failures source.new) result (number_to max end) }
+    ensures memory { IfErr result (λ e. e ≢ ReadError.Memory) }
+    ensures range { IfOk result (IsUpTo max) }
+{
+    let (number, byte) = number(source, max)?;
+    if byte != end {
+        return Err(ReadError::Text(TextFault::Word));
+    }
+    Ok(number)
+}
+
+/// A process with the byte `end` behind it.
+pub fn read_proc<S: Source>(source: &mut S, end: u8) -> Result<ProcId, ReadError>
+    ensures read { Reads (seen S.remaining S.failures source.old)
+        (seen S.remaining S.failures source.new) result (proc_at end) }
+    ensures memory { IfErr result (λ e. e ≢ ReadError.Memory) }
+{
+    let number = number_to(source, 65535, end)?;
+    Ok(ProcId::of(number as u16))
+}

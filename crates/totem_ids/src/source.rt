@@ -1,0 +1,76 @@
+//! Streams of bytes that tell what they give and how often they failed.
+ghost use Rattle.std.specs.Prelude.{◌≡◌, ℕ, List, IfOk, OnErr};
+ghost use Rattle.std.specs.declared.option.Option.{Option};
+ghost use Rattle.std.specs.Io.KnownBytes.{Keeps};
+ghost use Rattle.totem_ids.specs.Streams.{Gives, failed_once};
+
+use crate::retry::read_retrying;
+use std::io::Read;
+use thiserror::Error;
+
+/// A stream failed.
+#[derive(Clone, Copy, Debug, PartialEq, Eq, Error)]
+#[error("the stream failed")]
+pub struct Failed;
+
+/// A stream of bytes to read. After a failure it may be called again.
+pub trait Source {
+    /// The bytes that it has left, where they are known.
+    ghost remaining: { Self → Option (List ℕ) };
+
+    /// How often it has failed, as a counter of 64 bits has it.
+    ghost failures: { Self → ℕ };
+
+    /// The next byte, or none at the end.
+    fn byte(&mut self) -> Result<Option<u8>, Failed>
+        ensures byte { IfOk result (λ b. Gives (remaining self.old) (remaining self.new) b) }
+        ensures err { OnErr result (Keeps (remaining self.old) (remaining self.new)) }
+        ensures failures { failures self.new ≡ failed_once result (failures self.old) };
+}
+
+/// A source over a reader, a byte in each read. A read that a signal interrupts is tried again.
+#[derive(Drop)]
+pub struct FromRead<R> {
+    inner: R,
+    failed: u64,
+}
+
+impl<R> FromRead<R> {
+    ghost use Rattle.totem_ids.specs.Wrapped.{reader_of, read_failures};
+
+    /// A source that has not failed yet.
+    pub fn new(inner: R) -> FromRead<R>
+        ensures inner { reader_of result ≡ inner }
+        ensures failures { read_failures result ≡ 0 }
+    {
+        FromRead { inner, failed: 0 }
+    }
+
+    /// The reader.
+    pub fn into_inner(self) -> R
+        ensures { result ≡ reader_of self }
+    {
+        let FromRead { inner, failed: _ } = self;
+        inner
+    }
+}
+
+impl<R: Read> Source for FromRead<R> {
+    ghost use Rattle.totem_ids.specs.Wrapped.{reader_of, read_failures};
+
+    ghost remaining = { λ s. R.remaining (reader_of s) };
+
+    ghost failures = { read_failures };
+
+    fn byte(&mut self) -> Result<Option<u8>, Failed> {
+        let mut one = [0u8; 1];
+        match read_retrying(&mut self.inner, &mut one) {
+            Ok(0) => Ok(None),
+            Ok(_) => Ok(Some(one[0])),
+            Err(_) => {
+                self.failed = self.failed.wrapping_add(1);
+                Err(Failed)
+            }
+        }
+    }
+}
