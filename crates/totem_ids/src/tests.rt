@@ -345,9 +345,10 @@ fn laws_are_called() -> Result<(), Fail> {
     message_spelling();
     place_spelling();
     let sent = message(4, 1, 7).ok_or("4.1#7")?;
-    process_fits(sent.ring.rep);
-    ring_fits(&sent.ring);
-    conf_fits(&ConfId::Regular(sent.ring));
+    let ring = sent.ring;
+    process_fits(ring.rep);
+    ring_fits(&ring);
+    conf_fits(&ConfId::Regular(ring));
     message_fits(&sent);
     place_fits(&place(2, 50).ok_or("2@50")?);
     ring_order();
