@@ -19,5 +19,7 @@ pub mod Faults
 pub mod Certificates
 pub mod OneHop
 pub mod Laws
+pub mod RunText
+pub mod WriteRun
 pub mod Examples
 pub mod ExampleClaims

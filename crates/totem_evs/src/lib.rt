@@ -17,6 +17,9 @@ mod run;
 mod spec;
 #[cfg(test)]
 mod tests;
+#[cfg(test)]
+mod write_tests;
+mod writing;
 
 pub use ending::Ending;
 pub use entries::Entries;
@@ -32,3 +35,4 @@ pub use pending::{Pending, Waiting};
 pub use refused::{ListFault, Refused};
 pub use run::Run;
 pub use spec::SpecNo;
+pub use writing::{WriteFault, write_run};

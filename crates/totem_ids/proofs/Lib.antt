@@ -3,3 +3,4 @@ pub mod Steady
 pub mod Spelled
 pub mod Spellings
 pub mod Orderings
+pub mod Writers

@@ -9,6 +9,7 @@ mod fused;
 mod laws;
 mod message;
 mod names;
+mod pieces;
 mod place;
 mod process;
 mod reading;
@@ -16,6 +17,7 @@ mod retry;
 mod ring;
 mod sink;
 mod source;
+mod writing;
 
 pub use buffered::Buffered;
 pub use conf::ConfId;
@@ -28,6 +30,7 @@ pub use laws::{
 };
 pub use message::{MsgId, Service};
 pub use names::{read_conf, read_message, read_place, read_ring};
+pub use pieces::Pieces;
 pub use place::Place;
 pub use process::ProcId;
 pub use reading::{next, number, number_to, read_proc, word};

@@ -359,3 +359,46 @@ fn laws_are_called() -> Result<(), Fail> {
     place_order();
     Ok(())
 }
+
+#[test]
+fn names_are_gathered_in_pieces(rt: HostRuntime) -> Result<(), Fail> {
+    let alloc = rt.alloc();
+    let first = ring(4, 1).ok_or("4.1")?;
+    let last = transitional(8, 1, 12).ok_or("t8.1/12")?;
+    let sent = message(4294967295, 1, 7).ok_or("4294967295.1#7")?;
+    let entry = place(65535, 50).ok_or("65535@50")?;
+    let mut sink = ToWrite::new(Vec::new(alloc));
+    let mut pieces = Pieces::new(alloc)?;
+    pieces.put_ring(&mut sink, first)?;
+    pieces.put(&mut sink, b" ")?;
+    pieces.put_conf(&mut sink, &ConfId::Regular(first))?;
+    pieces.put(&mut sink, b" ")?;
+    pieces.put_conf(&mut sink, &last)?;
+    pieces.put(&mut sink, b" ")?;
+    pieces.put_message(&mut sink, sent)?;
+    pieces.put(&mut sink, b" ")?;
+    pieces.put_place(&mut sink, entry)?;
+    pieces.put(&mut sink, b" ")?;
+    pieces.put_number(&mut sink, 10)?;
+    pieces.flush(&mut sink)?;
+    pieces.flush(&mut sink)?;
+    assert_eq!(rt;
+        sink.into_inner().as_slice(),
+        b"4.1 r4.1 t8.1/12 4294967295.1#7 65535@50 10".as_slice()
+    );
+    Ok(())
+}
+
+#[test]
+fn a_piece_goes_out_when_it_is_large(rt: HostRuntime) -> Result<(), Fail> {
+    let alloc = rt.alloc();
+    let mut sink = Fused::new(ToWrite::new(Vec::new(alloc)), 1);
+    let mut pieces = Pieces::new(alloc)?;
+    let line = [b'x'; 1024];
+    for _ in 0..65u32 {
+        pieces.put(&mut sink, &line)?;
+    }
+    assert_eq!(rt; pieces.flush(&mut sink), Err(Failed));
+    assert_eq!(rt; sink.into_inner().into_inner().len(), 65536);
+    Ok(())
+}

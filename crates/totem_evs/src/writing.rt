@@ -1,0 +1,148 @@
+//! The text of a run, written.
+ghost use Rattle.std.specs.Prelude.{◌≡◌, [], ◌∷◌, ◌++◌, codes};
+ghost use Rattle.std.specs.List.{flat_map};
+ghost use Rattle.totem_ids.specs.Writing.{Writes, held};
+ghost use Rattle.totem_ids.specs.Texts.{service_text};
+ghost use Rattle.totem_evs.specs.RunText.{line, members_text, entry_text, ending_text, log_text, run_text};
+ghost use Rattle.totem_evs.specs.WriteRun.{WritesText};
+
+use crate::ending::Ending;
+use crate::entry::Entry;
+use crate::log::Log;
+use crate::members::Members;
+use crate::run::Run;
+use std::alloc::Global;
+use thiserror::Error;
+use totem_ids::{Failed, Pieces, Service, Sink};
+
+/// Why a text was not written.
+#[derive(Clone, Copy, Debug, PartialEq, Eq, Error)]
+pub enum WriteFault {
+    /// Nothing was written.
+    #[error("out of memory")]
+    Memory,
+    /// How much went out is not known.
+    #[error("write failed")]
+    Write,
+}
+
+fn put_members<S: Sink>(pieces: &mut Pieces, sink: &mut S, members: &Members) -> Result<(), Failed>
+    ensures { Writes (held S.contents S.failures pieces.old sink.old)
+        (held S.contents S.failures pieces.new sink.new) result (members_text members.now) }
+{
+    for proc in members.as_slice() {
+        pieces.put(sink, b" ")?;
+        pieces.put_number(sink, u32::from(proc.number()))?;
+    }
+    Ok(())
+}
+
+fn put_service<S: Sink>(pieces: &mut Pieces, sink: &mut S, service: Service) -> Result<(), Failed>
+    ensures { Writes (held S.contents S.failures pieces.old sink.old)
+        (held S.contents S.failures pieces.new sink.new) result (service_text service) }
+{
+    match service {
+        Service::Agreed => pieces.put(sink, b"a"),
+        Service::Safe => pieces.put(sink, b"s"),
+    }
+}
+
+/// An entry, without the end of its line.
+#[tactic(auto, using(totem_ids::proofs::Writers::wrote_then, totem_ids::proofs::Writers::wrote_failed))]
+fn put_entry<S: Sink>(pieces: &mut Pieces, sink: &mut S, entry: &Entry) -> Result<(), Failed>
+    ensures { Writes (held S.contents S.failures pieces.old sink.old)
+        (held S.contents S.failures pieces.new sink.new) result (entry_text entry.now) }
+{
+    match entry {
+        Entry::Conf(conf, members) => {
+            pieces.put(sink, b"conf ")?;
+            pieces.put_conf(sink, conf)?;
+            put_members(pieces, sink, members)
+        }
+        Entry::Send(message, conf, service) => {
+            pieces.put(sink, b"send ")?;
+            pieces.put_conf(sink, conf)?;
+            pieces.put(sink, b" ")?;
+            put_service(pieces, sink, *service)?;
+            pieces.put(sink, b" ")?;
+            pieces.put_message(sink, *message)
+        }
+        Entry::Deliver(message, conf) => {
+            pieces.put(sink, b"dlv ")?;
+            pieces.put_conf(sink, conf)?;
+            pieces.put(sink, b" ")?;
+            pieces.put_message(sink, *message)
+        }
+        Entry::Fail(conf) => {
+            pieces.put(sink, b"fail ")?;
+            pieces.put_conf(sink, conf)
+        }
+    }
+}
+
+fn put_entries<S: Sink>(pieces: &mut Pieces, sink: &mut S, entries: &[Entry]) -> Result<(), Failed>
+    ensures { Writes (held S.contents S.failures pieces.old sink.old)
+        (held S.contents S.failures pieces.new sink.new) result (flat_map (λ entry. line (entry_text entry)) entries.now) }
+{
+    for entry in entries {
+        put_entry(pieces, sink, entry)?;
+        pieces.put(sink, b"\n")?;
+    }
+    Ok(())
+}
+
+fn put_ending<S: Sink>(pieces: &mut Pieces, sink: &mut S, ending: Ending) -> Result<(), Failed>
+    ensures { Writes (held S.contents S.failures pieces.old sink.old)
+        (held S.contents S.failures pieces.new sink.new) result (line (ending_text ending)) }
+{
+    match ending {
+        Ending::Standing => pieces.put(sink, b"open\n"),
+        Ending::Failed => pieces.put(sink, b"failed\n"),
+    }
+}
+
+#[tactic(auto, using(totem_ids::proofs::Writers::wrote_then, totem_ids::proofs::Writers::wrote_failed))]
+fn put_log<S: Sink>(pieces: &mut Pieces, sink: &mut S, log: &Log) -> Result<(), Failed>
+    ensures { Writes (held S.contents S.failures pieces.old sink.old)
+        (held S.contents S.failures pieces.new sink.new) result (log_text log.now) }
+{
+    pieces.put(sink, b"log ")?;
+    pieces.put_number(sink, u32::from(log.proc.number()))?;
+    pieces.put(sink, b"\n")?;
+    put_entries(pieces, sink, log.entries.as_slice())?;
+    put_ending(pieces, sink, log.ending)
+}
+
+fn put_logs<S: Sink>(pieces: &mut Pieces, sink: &mut S, logs: &[Log]) -> Result<(), Failed>
+    ensures { Writes (held S.contents S.failures pieces.old sink.old)
+        (held S.contents S.failures pieces.new sink.new) result (flat_map log_text logs.now) }
+{
+    for log in logs {
+        put_log(pieces, sink, log)?;
+    }
+    Ok(())
+}
+
+#[tactic(auto, using(totem_ids::proofs::Writers::wrote_then, totem_ids::proofs::Writers::wrote_failed))]
+fn put_run<S: Sink>(pieces: &mut Pieces, sink: &mut S, run: &Run) -> Result<(), Failed>
+    ensures { Writes (held S.contents S.failures pieces.old sink.old)
+        (held S.contents S.failures pieces.new sink.new) result (run_text run.now.logs) }
+{
+    pieces.put(sink, b"totem-run 1\n")?;
+    put_logs(pieces, sink, run.logs.as_slice())?;
+    pieces.put(sink, b"end\n")
+}
+
+/// Writes the text of a run, in pieces of about 64 KiB.
+pub fn write_run<S: Sink>(alloc: Global, run: &Run, sink: &mut S) -> Result<(), WriteFault>
+    ensures { WritesText (held S.contents S.failures [] sink.old)
+        (held S.contents S.failures [] sink.new) result (run_text run.now.logs) }
+{
+    let Ok(mut pieces) = Pieces::new(alloc) else {
+        return Err(WriteFault::Memory);
+    };
+    if put_run(&mut pieces, sink, run).is_err() || pieces.flush(sink).is_err() {
+        return Err(WriteFault::Write);
+    }
+    Ok(())
+}

@@ -1,0 +1,76 @@
+//! Writers of numbers and names. Each gathers the one spelling of what it is given.
+ghost use Rattle.std.specs.Prelude.{decimal};
+ghost use Rattle.totem_ids.specs.Writing.{Writes, held};
+ghost use Rattle.totem_ids.specs.Texts.{ring_text, conf_text, message_text, place_text};
+
+use crate::conf::ConfId;
+use crate::message::MsgId;
+use crate::pieces::Pieces;
+use crate::place::Place;
+use crate::ring::RingId;
+use crate::sink::Sink;
+use crate::source::Failed;
+
+impl Pieces {
+    /// A number, in decimal.
+    pub fn put_number<S: Sink>(&mut self, sink: &mut S, number: u32) -> Result<(), Failed>
+        ensures { Writes (held S.contents S.failures self.old sink.old)
+            (held S.contents S.failures self.new sink.new) result (decimal number) }
+    {
+        let mut digits = itoa::Buffer::new();
+        self.put(sink, digits.format(number).as_bytes())
+    }
+
+    /// A ring.
+    #[tactic(auto, using(crate::proofs::Writers::wrote_then, crate::proofs::Writers::wrote_failed))]
+    pub fn put_ring<S: Sink>(&mut self, sink: &mut S, ring: RingId) -> Result<(), Failed>
+        ensures { Writes (held S.contents S.failures self.old sink.old)
+            (held S.contents S.failures self.new sink.new) result (ring_text ring) }
+    {
+        self.put_number(sink, ring.seq)?;
+        self.put(sink, b".")?;
+        self.put_number(sink, u32::from(ring.rep.number()))
+    }
+
+    /// A configuration.
+    #[tactic(auto, using(crate::proofs::Writers::wrote_then, crate::proofs::Writers::wrote_failed))]
+    pub fn put_conf<S: Sink>(&mut self, sink: &mut S, conf: &ConfId) -> Result<(), Failed>
+        ensures { Writes (held S.contents S.failures self.old sink.old)
+            (held S.contents S.failures self.new sink.new) result (conf_text conf.now) }
+    {
+        match conf {
+            ConfId::Regular(ring) => {
+                self.put(sink, b"r")?;
+                self.put_ring(sink, *ring)
+            }
+            ConfId::Transitional { next, least } => {
+                self.put(sink, b"t")?;
+                self.put_ring(sink, *next)?;
+                self.put(sink, b"/")?;
+                self.put_number(sink, u32::from(least.number()))
+            }
+        }
+    }
+
+    /// A message.
+    #[tactic(auto, using(crate::proofs::Writers::wrote_then, crate::proofs::Writers::wrote_failed))]
+    pub fn put_message<S: Sink>(&mut self, sink: &mut S, message: MsgId) -> Result<(), Failed>
+        ensures { Writes (held S.contents S.failures self.old sink.old)
+            (held S.contents S.failures self.new sink.new) result (message_text message) }
+    {
+        self.put_ring(sink, message.ring)?;
+        self.put(sink, b"#")?;
+        self.put_number(sink, message.number)
+    }
+
+    /// A place.
+    #[tactic(auto, using(crate::proofs::Writers::wrote_then, crate::proofs::Writers::wrote_failed))]
+    pub fn put_place<S: Sink>(&mut self, sink: &mut S, place: Place) -> Result<(), Failed>
+        ensures { Writes (held S.contents S.failures self.old sink.old)
+            (held S.contents S.failures self.new sink.new) result (place_text place) }
+    {
+        self.put_number(sink, u32::from(place.proc.number()))?;
+        self.put(sink, b"@")?;
+        self.put_number(sink, place.at)
+    }
+}
