@@ -23,3 +23,13 @@ pub mod RunText
 pub mod WriteRun
 pub mod Examples
 pub mod ExampleClaims
+pub mod RunGrammar
+pub mod TextFronts
+pub mod Missing
+pub mod NextLines
+pub mod Parts
+pub mod RunFaults
+pub mod ReadState
+pub mod Reading
+pub mod Gathered
+pub mod PartLaws

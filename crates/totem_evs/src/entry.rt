@@ -1,9 +1,10 @@
 ghost use Rattle.std.specs.Prelude.{◌≡◌, ◌↔◌, IsTrue, IfOk};
+ghost use Rattle.totem_evs.specs.Missing.{members_of};
 ghost use Rattle.totem_evs.specs.Runs.{IsEntry, IsFailure};
 
 use crate::members::Members;
 use std::alloc::{AllocError, Global};
-use totem_ids::{ConfId, MsgId, Service, conf_fits, message_fits};
+use totem_ids::{ConfId, MsgId, ProcId, Service, conf_fits, message_fits};
 
 /// One event of a process, as it recorded it.
 #[derive(Debug, Drop)]
@@ -44,6 +45,16 @@ impl Entry {
         ensures { IsTrue result ↔ IsFailure self.now }
     {
         matches!(self, Entry::Fail(_))
+    }
+
+    /// The members that it names.
+    pub(crate) fn members(&self) -> &[ProcId]
+        ensures { result.now ≡ members_of self.now }
+    {
+        match self {
+            Entry::Conf(_, members) => members.as_slice(),
+            _ => &[],
+        }
     }
 
     pub fn try_clone(&self, alloc: Global) -> Result<Entry, AllocError>

@@ -6,17 +6,33 @@ mod entries;
 mod entry;
 pub mod examples;
 mod fault;
+mod gathered;
+mod heads;
 mod laws;
+mod line;
+mod lines;
 mod log;
 mod logs;
 mod members;
+mod next;
+mod part;
+mod part_laws;
 mod pending;
+mod read_part;
+#[cfg(test)]
+mod read_tests;
+mod reading;
 mod refused;
 mod rising;
 mod run;
+mod run_fault;
+mod run_reader;
 mod spec;
+mod stage;
 #[cfg(test)]
 mod tests;
+mod text_laws;
+mod unlogged;
 #[cfg(test)]
 mod write_tests;
 mod writing;
@@ -31,8 +47,18 @@ pub use laws::{
 pub use log::Log;
 pub use logs::Logs;
 pub use members::Members;
+pub use next::Next;
+pub use part::Part;
+pub use part_laws::{parts_make_the_run, text_is_of_parts};
 pub use pending::{Pending, Waiting};
+pub use reading::{read_end, read_run};
 pub use refused::{ListFault, Refused};
 pub use run::Run;
+pub use run_fault::RunFault;
+pub use run_reader::RunReader;
 pub use spec::SpecNo;
+pub use text_laws::{
+    a_fault_is_no_text, cut_text_goes_on, fault_byte_is_first, fault_is_first,
+    no_text_begins_another, read_is_spelled, spelled_is_read,
+};
 pub use writing::{WriteFault, write_run};

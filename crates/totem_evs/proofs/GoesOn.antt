@@ -1,0 +1,255 @@
+-- Where a parser finds its text too short, the text goes on: the steps of parsers, words, numbers and names.
+use Rattle.std.specs.Prelude.{decimal, ◌==◌, codes}
+use Rattle.std.proofs.Common.{◌≡◌, ◌≢◌, ℕ, ◌+◌, ◌-◌, ◌*◌, ◌^◌, ◌<◌, ◌≤◌, inl, inr, ◌⊎◌, List, [], ◌∷◌, ◌++◌, Ok, Err, Bool, true, false, cond, refl, sym, ◌∙◌, ap, subst, append_assoc, arith}
+use Rattle.std.proofs.lemmas.Bool.{cases_lt, eqb-true}
+use Rattle.std.proofs.lemmas.Fmt.{decimal_digit}
+use Rattle.std.proofs.lemmas.List.{append-nil}
+use Rattle.totem_ids.specs.declared.fault.TextFault.{TextFault}
+use Rattle.totem_ids.specs.declared.fault.TextFault.TheVariants.{Word, Number, Truncated}
+use Rattle.totem_ids.specs.declared.conf.ConfId.{ConfId}
+use Rattle.totem_ids.specs.declared.conf.ConfId.TheVariants.{Regular, Transitional}
+use Rattle.totem_ids.specs.Names.{RingName, MessageName}
+use Rattle.totem_ids.specs.Sources.{Parsed, is_short, ◌>>=◌}
+use Rattle.totem_ids.specs.Numbers.{is_digit, byte_at, word_at, digits_at, number_at, number_to}
+use Rattle.totem_ids.specs.Parsers.{ring_at, message_at, regular_at, transitional_at, conf_at}
+use Rattle.totem_ids.specs.Texts.{ring_text, conf_text, message_text, IsUpTo, IsRing, IsConf, IsMessage}
+use Rattle.totem_ids.proofs.Readers.{next_digit, next_over, next_other}
+use Rattle.totem_ids.proofs.Spelled.{decimal_push, byte_is, number_to_is, ring_is}
+
+-- ---- steps
+
+-- an answer that finds the bytes too short, while some text of this kind goes on from them
+pub record Cut {A : Type 0} (r : Parsed A) (Is : List ℕ → Type 0) (bytes : List ℕ) : Type 0 where
+  pub goes : r ≡ Err Truncated → (more : List ℕ) × Is (bytes ++ more)
+
+-- a text and what follows it
+pub record Splits {B : Type 0} (r : Parsed B) (Is : List ℕ → Type 0) (bytes rest : List ℕ) : Type 0 where
+  pub text : List ℕ
+  pub whole : bytes ≡ text ++ rest
+  pub next : Cut r (λ u. Is (text ++ u)) rest
+
+pub ok_cut : {A : Type 0} (x : A × List ℕ) (Is : List ℕ → Type 0) (bytes : List ℕ) → Cut {A = A} (Ok x) Is bytes
+ok_cut x Is bytes = record { goes = λ e. absurd cc }
+
+pub fault_cut : {A : Type 0} (f : TextFault) (Is : List ℕ → Type 0) (bytes : List ℕ) → is_short f ≡ false → Cut {A = A} (Err f) Is bytes
+fault_cut {A = A} f Is bytes long = record { goes = λ e. absurd (let same : f ≡ Truncated = cc in let test : is_short f ≡ is_short Truncated = ap is_short same in cc) }
+
+pub test_cut : {A : Type 0} (t : Bool) (p q : Parsed A) (Is : List ℕ → Type 0) (bytes : List ℕ) → (t ≡ true → Cut p Is bytes) → (t ≡ false → Cut q Is bytes) → Cut (cond t p q) Is bytes
+test_cut true p q Is bytes yes' no' = yes' refl
+test_cut false p q Is bytes yes' no' = no' refl
+
+-- one thing after the other: a text of the first goes on as one of both
+pub bind_cut : {A B : Type 0} (r : Parsed A) (k : A × List ℕ → Parsed B) (First Is : List ℕ → Type 0) (bytes : List ℕ)
+    → Cut r First bytes
+    → ((t : List ℕ) → First t → (u : List ℕ) × Is (t ++ u))
+    → ((a : A) (rest : List ℕ) → r ≡ Ok (a, rest) → Splits (k (a, rest)) Is bytes rest)
+    → Cut (r >>= k) Is bytes
+bind_cut {A = A} {B = B} (Ok x) k First Is bytes first some next = record { goes = λ e. go (next x.0 x.1 refl) e }
+  where
+    go : Splits (k (x.0, x.1)) Is bytes x.1 → k x ≡ Err Truncated → (more : List ℕ) × Is (bytes ++ more)
+    go s e =
+        let found = s.next.goes e in
+        (found.0, subst Is (sym (append_assoc s.text x.1 found.0) ∙ ap (λ (t : List ℕ). t ++ found.0) (sym s.whole)) found.1)
+bind_cut {A = A} {B = B} (Err f) k First Is bytes first some next = record { goes = λ e. go (same e) }
+  where
+    same : ◌≡◌ {A = Parsed B} (Err f) (Err Truncated) → f ≡ Truncated
+    same e = cc
+
+    go : f ≡ Truncated → (more : List ℕ) × Is (bytes ++ more)
+    go e =
+        let found = first.goes (ap (λ (g : TextFault). Err g) e) in
+        let more = some (bytes ++ found.0) found.1 in
+        (found.0 ++ more.0, subst Is (append_assoc bytes found.0 more.0) more.1)
+
+-- the last thing
+pub last_cut : {A B : Type 0} (r : Parsed A) (f : A × List ℕ → B × List ℕ) (First Is : List ℕ → Type 0) (bytes : List ℕ) → Cut r First bytes → ((t : List ℕ) → First t → Is t) → Cut {A = B} (r >>= λ x. Ok (f x)) Is bytes
+last_cut {A = A} {B = B} (Ok x) f First Is bytes first so = record { goes = λ e. absurd cc }
+last_cut {A = A} {B = B} (Err g) f First Is bytes first so = record { goes = λ e. go (same e) }
+  where
+    same : ◌≡◌ {A = Parsed B} (Err g) (Err Truncated) → g ≡ Truncated
+    same e = cc
+
+    go : g ≡ Truncated → (more : List ℕ) × Is (bytes ++ more)
+    go e = let found = first.goes (ap (λ (h : TextFault). Err h) e) in (found.0, so (bytes ++ found.0) found.1)
+
+-- a text of one kind is one of another
+pub cut_as : {A : Type 0} (r : Parsed A) (First Is : List ℕ → Type 0) (bytes : List ℕ) → Cut r First bytes → ((t : List ℕ) → First t → Is t) → Cut r Is bytes
+cut_as r First Is bytes first so = record { goes = λ e. let found = first.goes e in (found.0, so (bytes ++ found.0) found.1) }
+
+-- ---- bytes and words
+
+pub byte_cut : (b : ℕ) (bytes : List ℕ) → Cut (byte_at bytes) (λ t. t ≡ b ∷ []) bytes
+byte_cut b [] = record { goes = λ e. (b ∷ [], refl) }
+byte_cut b (c ∷ bytes) = record { goes = λ e. absurd cc }
+
+pub word_cut : (fault : TextFault) (word bytes : List ℕ) → is_short fault ≡ false → Cut (word_at fault word bytes) (λ t. t ≡ word) bytes
+unfolding word_at
+word_cut fault [] bytes long = ok_cut (tt, bytes) (λ t. t ≡ []) bytes
+word_cut fault (w ∷ word) bytes long =
+    bind_cut (byte_at bytes) (λ b. cond (b.0 == w) (word_at fault word b.1) (Err fault)) (λ t. t ≡ w ∷ []) (λ t. t ≡ w ∷ word) bytes (byte_cut w bytes) (λ t e. (word, rw e refl)) (λ b rest e. record {
+      text = b ∷ [];
+      whole = byte_is bytes b rest e;
+      next = test_cut (b == w) (word_at fault word rest) (Err fault) (λ u. b ∷ u ≡ w ∷ word) rest
+          (λ h. let same : b ≡ w = eqb-true b w h in cut_as (word_at fault word rest) (λ t. t ≡ word) (λ u. b ∷ u ≡ w ∷ word) rest (word_cut fault word rest long) (λ t k. rw (same, k) refl))
+          (λ h. fault_cut fault (λ u. b ∷ u ≡ w ∷ word) rest long);
+    })
+
+-- ---- numbers
+
+digit_low : (b : ℕ) → is_digit b ≡ true → (48 ≤ b) × (b ≤ 57)
+digit_low b h = (grind arith, grind arith)
+
+-- the digits so far are those of a number in range
+digits_cut : (max n : ℕ) (bytes : List ℕ) → max < 2 ^ 32 → 0 < n → n ≤ max → digits_at max n bytes ≡ Err Truncated → (m : ℕ) × IsUpTo max m × (decimal n ++ bytes ≡ decimal m)
+unfolding digits_at
+digits_cut max n [] fits pos small e = (n, record { positive = pos; small = small }, append-nil (decimal n))
+digits_cut max n (b ∷ bytes) fits pos small e = go (is_digit b) refl (λ d pos' small' k. digits_cut max (10 * n + d) bytes fits pos' small' k) e
+  where
+    go : (t : Bool) → is_digit b ≡ t
+        → ((d : ℕ) → 0 < 10 * n + d → 10 * n + d ≤ max → digits_at max (10 * n + d) bytes ≡ Err Truncated → (m : ℕ) × IsUpTo max m × (decimal (10 * n + d) ++ bytes ≡ decimal m))
+        → digits_at max n (b ∷ bytes) ≡ Err Truncated → (m : ℕ) × IsUpTo max m × (decimal n ++ b ∷ bytes ≡ decimal m)
+    go true digit again k =
+        let bounds = digit_low b digit in
+        elim (cases_lt max (10 * n + (b - 48))) [
+          | inl over ↦ absurd (let e = next_over max n b (b - 48) digit refl over bytes in cc)
+          | inr within ↦
+              let e = next_digit max n b (b - 48) digit refl within bytes in
+              let found = again (b - 48) (omega arith) within (sym e ∙ k) in
+              let code : 48 + (b - 48) ≡ b = omega arith in
+              let text : decimal (10 * n + (b - 48)) ≡ decimal n ++ b ∷ [] = rw code at (decimal_push n (b - 48) pos (omega arith) (omega arith)) in
+              (found.0, found.1, sym (append_assoc (decimal n) (b ∷ []) bytes) ∙ ap (λ (t : List ℕ). t ++ bytes) (sym text) ∙ found.2)
+        ]
+    go false other again k = absurd (let e = next_other max n b other bytes in cc)
+
+-- nothing, or the digits of a number in range
+pub number_cut : (max : ℕ) (bytes : List ℕ) → 9 ≤ max → max < 2 ^ 32 → number_at max bytes ≡ Err Truncated → (bytes ≡ []) ⊎ ((n : ℕ) × IsUpTo max n × (bytes ≡ decimal n))
+unfolding number_at
+number_cut max [] nine fits e = inl refl
+number_cut max (b ∷ bytes) nine fits e = inr (go (is_digit b) (b == 48) refl refl e)
+  where
+    go : (t u : Bool) → is_digit b ≡ t → (b == 48) ≡ u → cond t (cond u (Err Number) (digits_at max (b - 48) bytes)) (Err Number) ≡ Err Truncated → (n : ℕ) × IsUpTo max n × (b ∷ bytes ≡ decimal n)
+    go true true digit zero' k = absurd cc
+    go true false digit other k =
+        let bounds = digit_low b digit in
+        let differs : b ≢ 48 = λ e. absurd (let f : (48 == 48) ≡ false = rw e at other in cc) in
+        let found = digits_cut max (b - 48) bytes fits (omega (arith, bounds.0, differs)) (omega arith) k in
+        let code : 48 + (b - 48) ≡ b = omega arith in
+        let text : decimal (b - 48) ≡ b ∷ [] = rw code at (decimal_digit (b - 48) (omega arith)) in
+        (found.0, found.1, ap (λ (t : List ℕ). t ++ bytes) (sym text) ∙ found.2)
+    go false u digit zero' k = absurd cc
+
+-- a number in range, and a byte behind it
+abbrev pub NumberTo : ℕ → ℕ → List ℕ → Type 0
+NumberTo max end t = (n : ℕ) × IsUpTo max n × (t ≡ decimal n ++ end ∷ [])
+
+pub number_to_cut : (max end : ℕ) (bytes : List ℕ) → 9 ≤ max → max < 2 ^ 32 → Cut (number_to max end bytes) (NumberTo max end) bytes
+unfolding number_to
+number_to_cut max end bytes nine fits =
+    record { goes = λ e. go (number_at max bytes) refl e }
+  where
+    ends : (bytes ≡ []) ⊎ ((n : ℕ) × IsUpTo max n × (bytes ≡ decimal n)) → (more : List ℕ) × NumberTo max end (bytes ++ more)
+    ends (inl none) = (decimal 1 ++ end ∷ [], (1, record { positive = omega arith; small = omega arith }, rw none refl))
+    ends (inr x) = (end ∷ [], (x.0, x.1, ap (λ (t : List ℕ). t ++ end ∷ []) x.2))
+
+    behind : (ℕ × ℕ) × List ℕ → Parsed ℕ
+    behind n = cond (n.0.1 == end) (Ok (n.0.0, n.1)) (Err Word)
+
+    never : (t : Bool) (x : ℕ × List ℕ) → ◌≡◌ {A = Parsed ℕ} (cond t (Ok x) (Err Word)) (Err Truncated) → ⊥
+    never true x e = absurd cc
+    never false x e = absurd cc
+
+    go : (r : Parsed (ℕ × ℕ)) → number_at max bytes ≡ r → (r >>= behind) ≡ Err Truncated → (more : List ℕ) × NumberTo max end (bytes ++ more)
+    go (Ok x) same e = absurd (never (x.0.1 == end) (x.0.0, x.1) e)
+    go (Err f) same e = let short : f ≡ Truncated = cc in ends (number_cut max bytes nine fits (same ∙ ap (λ (g : TextFault). Err g) short))
+
+-- ---- names
+
+abbrev pub RingTo : ℕ → List ℕ → Type 0
+RingTo end t = (c : RingName) × IsRing c × (t ≡ ring_text c ++ end ∷ [])
+
+one_is : (max : ℕ) → 9 ≤ max → IsUpTo max 1
+one_is max nine = record { positive = omega arith; small = omega arith }
+
+ring_parts : (s r rest : List ℕ) (end : ℕ) → (s ++ 46 ∷ []) ++ (r ++ end ∷ rest) ≡ (s ++ codes "." ++ r) ++ end ∷ rest
+ring_parts s r rest end = simp append_assoc
+
+pub ring_cut : (end : ℕ) (bytes : List ℕ) → Cut (ring_at end bytes) (RingTo end) bytes
+unfolding ring_at
+ring_cut end bytes =
+    bind_cut (number_to 4294967295 46 bytes) (λ seq. number_to 65535 end seq.1 >>= λ rep. Ok (record { seq = seq.0; rep = rep.0 }, rep.1)) (NumberTo 4294967295 46) (RingTo end) bytes (number_to_cut 4294967295 46 bytes (omega arith) (omega arith))
+    (λ t x. (decimal 1 ++ end ∷ [], (record { seq = x.0; rep = 1 }, record { seq_fits = x.1; rep_fits = one_is 65535 (omega arith) }, ap (λ (k : List ℕ). k ++ (decimal 1 ++ end ∷ [])) x.2 ∙ ring_parts (decimal x.0) (decimal 1) [] end)))
+    (λ seq rest e.
+    let y = number_to_is 4294967295 46 seq bytes rest (omega arith) (omega arith) e in
+    record {
+      text = decimal seq ++ 46 ∷ [];
+      whole = y.spelled ∙ sym (append_assoc (decimal seq) (46 ∷ []) rest);
+      next = last_cut (number_to 65535 end rest) (λ rep. (record { seq = seq; rep = rep.0 }, rep.1)) (NumberTo 65535 end) (λ u. RingTo end ((decimal seq ++ 46 ∷ []) ++ u)) rest (number_to_cut 65535 end rest (omega arith) (omega arith))
+          (λ t x. (record { seq = seq; rep = x.0 }, record { seq_fits = record { positive = y.positive; small = y.small }; rep_fits = x.1 }, ap (λ (k : List ℕ). (decimal seq ++ 46 ∷ []) ++ k) x.2 ∙ ring_parts (decimal seq) (decimal x.0) [] end));
+    })
+
+-- the first ring
+abbrev pub first_ring : RingName
+first_ring = record { seq = 1; rep = 1 }
+
+pub first_ring_is : IsRing first_ring
+first_ring_is = record { seq_fits = one_is 4294967295 (omega arith); rep_fits = one_is 65535 (omega arith) }
+
+abbrev pub MessageTo : ℕ → List ℕ → Type 0
+MessageTo end t = (m : MessageName) × IsMessage m × (t ≡ message_text m ++ end ∷ [])
+
+message_parts : (c n : List ℕ) (end : ℕ) → (c ++ 35 ∷ []) ++ (n ++ end ∷ []) ≡ (c ++ codes "#" ++ n) ++ end ∷ []
+message_parts c n end = simp append_assoc
+
+pub message_cut : (end : ℕ) (bytes : List ℕ) → Cut (message_at end bytes) (MessageTo end) bytes
+unfolding message_at
+message_cut end bytes =
+    bind_cut (ring_at 35 bytes) (λ ring. number_to 4294967295 end ring.1 >>= λ number. Ok (record { ring = ring.0; number = number.0 }, number.1)) (RingTo 35) (MessageTo end) bytes (ring_cut 35 bytes)
+    (λ t x. (decimal 1 ++ end ∷ [], (record { ring = x.0; number = 1 }, record { ring_fits = x.1; number_fits = one_is 4294967295 (omega arith) }, ap (λ (k : List ℕ). k ++ (decimal 1 ++ end ∷ [])) x.2 ∙ message_parts (ring_text x.0) (decimal 1) end)))
+    (λ ring rest e.
+    let y = ring_is 35 ring bytes rest e in
+    record {
+      text = ring_text ring ++ 35 ∷ [];
+      whole = y.1 ∙ sym (append_assoc (ring_text ring) (35 ∷ []) rest);
+      next = last_cut (number_to 4294967295 end rest) (λ number. (record { ring = ring; number = number.0 }, number.1)) (NumberTo 4294967295 end) (λ u. MessageTo end ((ring_text ring ++ 35 ∷ []) ++ u)) rest (number_to_cut 4294967295 end rest (omega arith) (omega arith))
+          (λ t x. (record { ring = ring; number = x.0 }, record { ring_fits = y.0; number_fits = x.1 }, ap (λ (k : List ℕ). (ring_text ring ++ 35 ∷ []) ++ k) x.2 ∙ message_parts (ring_text ring) (decimal x.0) end));
+    })
+
+abbrev pub ConfTo : ℕ → List ℕ → Type 0
+ConfTo end t = (x : ConfId) × IsConf x × (t ≡ conf_text x ++ end ∷ [])
+
+regular_cut : (end : ℕ) (bytes : List ℕ) → Cut (regular_at end bytes) (λ u. ConfTo end (114 ∷ u)) bytes
+unfolding regular_at
+regular_cut end bytes =
+    last_cut (ring_at end bytes) (λ ring. (Regular ring.0, ring.1)) (RingTo end) (λ u. ConfTo end (114 ∷ u)) bytes (ring_cut end bytes) (λ t x. (Regular x.0, x.1, ap (λ (k : List ℕ). 114 ∷ k) x.2))
+
+transitional_parts : (c n : List ℕ) (end : ℕ) → 116 ∷ ((c ++ 47 ∷ []) ++ (n ++ end ∷ [])) ≡ (codes "t" ++ c ++ codes "/" ++ n) ++ end ∷ []
+transitional_parts c n end = simp append_assoc
+
+transitional_cut : (end : ℕ) (bytes : List ℕ) → Cut (transitional_at end bytes) (λ u. ConfTo end (116 ∷ u)) bytes
+unfolding transitional_at
+transitional_cut end bytes =
+    bind_cut (ring_at 47 bytes) (λ next. number_to 65535 end next.1 >>= λ least. Ok (Transitional next.0 least.0, least.1)) (RingTo 47) (λ u. ConfTo end (116 ∷ u)) bytes (ring_cut 47 bytes)
+    (λ t x. (decimal 1 ++ end ∷ [], (Transitional x.0 1, (x.1, one_is 65535 (omega arith)), ap (λ (k : List ℕ). 116 ∷ (k ++ (decimal 1 ++ end ∷ []))) x.2 ∙ transitional_parts (ring_text x.0) (decimal 1) end)))
+    (λ next rest e.
+    let y = ring_is 47 next bytes rest e in
+    record {
+      text = ring_text next ++ 47 ∷ [];
+      whole = y.1 ∙ sym (append_assoc (ring_text next) (47 ∷ []) rest);
+      next = last_cut (number_to 65535 end rest) (λ least. (Transitional next least.0, least.1)) (NumberTo 65535 end) (λ u. ConfTo end (116 ∷ ((ring_text next ++ 47 ∷ []) ++ u))) rest (number_to_cut 65535 end rest (omega arith) (omega arith))
+          (λ t x. (Transitional next x.0, (y.0, x.1), ap (λ (k : List ℕ). 116 ∷ ((ring_text next ++ 47 ∷ []) ++ k)) x.2 ∙ transitional_parts (ring_text next) (decimal x.0) end));
+    })
+
+pub conf_cut : (end : ℕ) (bytes : List ℕ) → Cut (conf_at end bytes) (ConfTo end) bytes
+unfolding conf_at
+conf_cut end bytes =
+    bind_cut (byte_at bytes) (λ kind. cond (kind.0 == 114) (regular_at end kind.1) (cond (kind.0 == 116) (transitional_at end kind.1) (Err Word))) (λ t. t ≡ 114 ∷ []) (ConfTo end) bytes (byte_cut 114 bytes)
+    (λ t e. (ring_text first_ring ++ end ∷ [], (Regular first_ring, first_ring_is, ap (λ (k : List ℕ). k ++ (ring_text first_ring ++ end ∷ [])) e)))
+    (λ kind rest e. record {
+      text = kind ∷ [];
+      whole = byte_is bytes kind rest e;
+      next = test_cut (kind == 114) (regular_at end rest) (cond (kind == 116) (transitional_at end rest) (Err Word)) (λ u. ConfTo end (kind ∷ u)) rest
+          (λ h. let same : kind ≡ 114 = eqb-true kind 114 h in rw same (regular_cut end rest))
+          (λ h. test_cut (kind == 116) (transitional_at end rest) (Err Word) (λ u. ConfTo end (kind ∷ u)) rest
+          (λ h. let same : kind ≡ 116 = eqb-true kind 116 h in rw same (transitional_cut end rest))
+          (λ h. fault_cut Word (λ u. ConfTo end (kind ∷ u)) rest refl));
+    })

@@ -1,0 +1,12 @@
+use Rattle.totem_ids.specs.Sources.{seen}
+use Rattle.totem_evs.proofs.FoldedRun.{Folded}
+use Rattle.totem_evs.proofs.Gathers.{parts_left}
+use Rattle.totem_evs.proofs.reading.read_run.Given as goal
+
+abbrev pub invariant-parts : goal.invariant-parts
+invariant-parts g l =
+    let known = seen g.S.Source.remaining g.S.Source.failures in
+    Folded (known l.fn.source) (known l.source) l.reader l.logs
+
+abbrev pub decreases-parts : goal.decreases-parts
+decreases-parts g l = parts_left l.reader.stage

@@ -1,0 +1,17 @@
+-- Which lines may come next (docs/SPECIFICATIONS.md, "Run text").
+use Rattle.std.specs.Prelude.{◌≡◌, ℕ, ◌<◌, Option, Some, None, Bool, true, false}
+use Rattle.totem_evs.specs.declared.ending.Ending.TheVariants.{Standing, Failed}
+use Rattle.totem_evs.specs.declared.line.Line.{Line}
+use Rattle.totem_evs.specs.declared.line.Line.TheVariants as lines
+
+-- in a log that is full or not and has some entries, the last a failure or not: an entry while it is not full, `open`
+-- behind an entry that is no failure, and `failed` behind a failure
+abbrev pub MayFollow : Bool → Bool → Bool → Line → Type 0
+MayFollow full some failed (lines.Entry e) = full ≡ false
+MayFollow full some failed (lines.Close Standing) = (some ≡ true) × (failed ≡ false)
+MayFollow full some failed (lines.Close Failed) = failed ≡ true
+
+-- in a run that is full or not: the last line, or while it is not full a log whose process is above the last one
+abbrev pub MayBegin : Bool → ℕ → Option ℕ → Type 0
+MayBegin full last None = Unit {0}
+MayBegin full last (Some p) = (full ≡ false) × (last < p)

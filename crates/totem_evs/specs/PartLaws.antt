@@ -1,0 +1,22 @@
+-- Laws of the parts of a run (docs/SPECIFICATIONS.md, "Run text").
+use Rattle.std.specs.Prelude.{◌≡◌, List, ℕ, [], ◌∷◌, ◌++◌, Some, None, Ok, codes}
+use Rattle.std.specs.List.{flat_map}
+use Rattle.totem_evs.specs.declared.log.Log.{Log}
+use Rattle.totem_evs.specs.declared.part.Part.{Part}
+use Rattle.totem_evs.specs.declared.stage.Stage.{Stage}
+use Rattle.totem_evs.specs.RunText.{line, run_text}
+use Rattle.totem_evs.specs.RunGrammar.{run_at}
+use Rattle.totem_evs.specs.Parts.{header_at, part_at, first_stage, next_stage, part_text, run_parts}
+
+-- from a stage on the bytes are read as these parts, one after the other, and the last line; the rest is left
+abbrev pub ReadsParts : Stage → List ℕ → List Part → List ℕ → Type 0
+ReadsParts stage bytes [] rest = part_at stage bytes ≡ Ok (None, rest)
+ReadsParts stage bytes (part ∷ parts) rest = (mid : List ℕ) × (part_at stage bytes ≡ Ok (Some part, mid)) × ReadsParts (next_stage stage part) mid parts rest
+
+-- what is read part by part is a run that is read at once, and they are its parts
+abbrev pub PartsMakeTheRun : Type 0
+PartsMakeTheRun = (bytes mid rest : List ℕ) (parts : List Part) → header_at bytes ≡ Ok (tt, mid) → ReadsParts first_stage mid parts rest → (run : List Log) × (run_at bytes ≡ Ok (run, rest)) × (run_parts run ≡ parts)
+
+-- a run's text is its first line, the lines of its parts, and its last line
+abbrev pub TextIsOfParts : Type 0
+TextIsOfParts = (run : List Log) → run_text run ≡ line (codes "totem-run 1") ++ flat_map part_text (run_parts run) ++ line (codes "end")

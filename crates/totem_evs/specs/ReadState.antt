@@ -1,0 +1,79 @@
+-- How far the reading of a run has come, and what a next part does to that (docs/SPECIFICATIONS.md, "Run text").
+use Rattle.std.specs.Prelude.{◌≡◌, ℕ, ◌<◌, ◌≤◌, ◌==◌, ◌++◌, ◌↔◌, ◌⊎◌, List, [], ◌∷◌, length, Contains, Option, Some, None, Bool, true, false, nat_lt}
+use Rattle.std.specs.Option.{ForSome}
+use Rattle.totem_evs.specs.declared.ending.Ending.TheVariants.{Standing, Failed}
+use Rattle.totem_evs.specs.declared.part.Part.{Part}
+use Rattle.totem_evs.specs.declared.part.Part.TheVariants as parts
+use Rattle.totem_evs.specs.declared.stage.Stage.{Stage}
+use Rattle.totem_evs.specs.declared.stage.OpenLog.{OpenLog}
+use Rattle.totem_ids.specs.Texts.{IsProcess}
+use Rattle.totem_evs.specs.Runs.{IsEntry}
+use Rattle.totem_evs.specs.Missing.{members_of}
+use Rattle.totem_evs.specs.Parts.{first_stage, next_stage}
+
+-- how far reading has come in the text, the processes whose logs have begun, and the members that wait for a log
+pub record ReadState : Type 0 where
+  pub stage : Stage
+  pub begun : List ℕ
+  pub waiting : List ℕ
+
+-- the limits of a run are kept, and who has a log waits for none
+pub record IsReadState (s : ReadState) : Type 0 where
+  pub few_logs : s.stage.logs ≤ 32
+  pub few_entries : ForSome s.stage.log (λ log. log.entries ≤ 1000000)
+  pub count : length s.begun ≡ s.stage.logs
+  pub apart : (q : ℕ) → Contains s.waiting q → Contains s.begun q → ⊥
+
+-- nothing but the first line has come
+pub record IsFirst (s : ReadState) : Type 0 where
+  pub stage : s.stage ≡ first_stage
+  pub begun : s.begun ≡ []
+  pub waiting : s.waiting ≡ []
+
+-- the process whose log begins
+abbrev pub begun_by : Part → List ℕ
+begun_by (parts.Log p) = p ∷ []
+begun_by (parts.Entry e) = []
+begun_by (parts.Close ending) = []
+
+-- the members that are named
+abbrev pub named_by : Part → List ℕ
+named_by (parts.Log p) = []
+named_by (parts.Entry e) = members_of e
+named_by (parts.Close ending) = []
+
+-- the state with one part more: those wait who waited or are named now, and whose logs have not begun
+pub record Goes (old : ReadState) (part : Part) (new : ReadState) : Type 0 where
+  pub stage : new.stage ≡ next_stage old.stage part
+  pub begun : new.begun ≡ old.begun ++ begun_by part
+  pub waiting : (q : ℕ) → Contains new.waiting q ↔ ((Contains old.waiting q ⊎ Contains (named_by part) q) × (Contains new.begun q → ⊥))
+
+-- its names are in range
+abbrev pub IsPart : Part → Type 0
+IsPart (parts.Log p) = IsProcess p
+IsPart (parts.Entry e) = IsEntry e
+IsPart (parts.Close ending) = Unit {0}
+
+-- between logs: a log above the last one while there are fewer than 32, or the end
+abbrev pub ComesBetween : ℕ → ℕ → Option Part → Type 0
+ComesBetween logs last None = Unit {0}
+ComesBetween logs last (Some (parts.Log p)) = ((logs == 32) ≡ false) × (last < p)
+ComesBetween logs last (Some (parts.Entry e)) = ⊥
+ComesBetween logs last (Some (parts.Close ending)) = ⊥
+
+-- in a log: an entry while there are fewer than 1,000,000, or its end as the last entry asks
+abbrev pub ComesWithin : ℕ → Bool → Option Part → Type 0
+ComesWithin entries failed None = ⊥
+ComesWithin entries failed (Some (parts.Log p)) = ⊥
+ComesWithin entries failed (Some (parts.Entry e)) = (entries == 1000000) ≡ false
+ComesWithin entries failed (Some (parts.Close Standing)) = (nat_lt 0 entries ≡ true) × (failed ≡ false)
+ComesWithin entries failed (Some (parts.Close Failed)) = failed ≡ true
+
+-- what may come next, by whether a log is open
+abbrev pub ComesIn : ℕ → ℕ → Option OpenLog → Option Part → Type 0
+ComesIn logs last None part = ComesBetween logs last part
+ComesIn logs last (Some log) part = ComesWithin log.entries log.failed part
+
+-- what may come next, which is a part or the end
+abbrev pub MayCome : Stage → Option Part → Type 0
+MayCome stage part = ComesIn stage.logs stage.last stage.log part

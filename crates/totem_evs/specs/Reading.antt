@@ -1,0 +1,97 @@
+-- What the readers of runs answer, and what they leave (docs/SPECIFICATIONS.md, "Run text").
+use Rattle.std.specs.Prelude.{◌≡◌, ℕ, ◌+◌, ◌%◌, ◌^◌, ◌≤◌, List, ◌∷◌, [], Contains, Some, None, Result, Ok, Err}
+use Rattle.std.specs.Io.KnownBytes.{Consumes, IsAtEnd, Keeps}
+use Rattle.totem_ids.specs.declared.fault.TextFault.TheVariants as text
+use Rattle.totem_ids.specs.Sources.{Seen, Parsed, Comes, Breaks}
+use Rattle.totem_evs.specs.declared.log.Log.{Log}
+use Rattle.totem_evs.specs.declared.run.Run.{Run}
+use Rattle.totem_evs.specs.declared.run_fault.RunFault.{RunFault}
+use Rattle.totem_evs.specs.declared.run_fault.RunFault.TheVariants as faults
+use Rattle.totem_evs.specs.declared.part.Part.{Part}
+use Rattle.totem_evs.specs.declared.next.Next.{Next}
+use Rattle.totem_evs.specs.declared.next.Next.TheVariants as next
+use Rattle.totem_evs.specs.Runs.{IsRun}
+use Rattle.totem_evs.specs.RunText.{run_text}
+use Rattle.totem_evs.specs.RunGrammar.{run_at}
+use Rattle.totem_evs.specs.Missing.{EachHasLog, IsLeastMissing, all_members}
+use Rattle.totem_evs.specs.Parts.{header_at, part_at}
+use Rattle.totem_evs.specs.ReadState.{ReadState, IsFirst, IsPart, Goes, MayCome}
+
+-- the answer fits; a log is missing; the text is faulty as the grammar says, whatever follows the bytes that were
+-- taken; the source failed in this call; or memory was refused
+abbrev pub ReadsAs : {X Y : Type 0} → Seen → Seen → (List ℕ → Parsed X) → (Y → Type 0) → (ℕ → Type 0) → Result Y RunFault → Type 0
+ReadsAs old new parse Fits Lacks (Ok y) = Fits y
+ReadsAs old new parse Fits Lacks (Err faults.Header) = Breaks old new parse text.Header
+ReadsAs old new parse Fits Lacks (Err faults.Word) = Breaks old new parse text.Word
+ReadsAs old new parse Fits Lacks (Err faults.Number) = Breaks old new parse text.Number
+ReadsAs old new parse Fits Lacks (Err faults.Order) = Breaks old new parse text.Order
+ReadsAs old new parse Fits Lacks (Err faults.Members) = Breaks old new parse text.Members
+ReadsAs old new parse Fits Lacks (Err faults.End) = Breaks old new parse text.End
+ReadsAs old new parse Fits Lacks (Err faults.Truncated) = Breaks old new parse text.Truncated
+ReadsAs old new parse Fits Lacks (Err faults.TooMany) = Breaks old new parse text.TooMany
+ReadsAs old new parse Fits Lacks (Err (faults.MissingLog p)) = Lacks p
+ReadsAs old new parse Fits Lacks (Err faults.Read) = new.failures ≡ (old.failures + 1) % 2 ^ 64
+ReadsAs old new parse Fits Lacks (Err faults.Memory) = new.failures ≡ old.failures
+
+-- ---- part by part
+
+-- the first line was taken
+pub record HasBegun (old new : Seen) (s : ReadState) : Type 0 where
+  pub taken : Comes old new header_at (λ more. Ok (tt, more))
+  pub first : IsFirst s
+
+-- what beginning a run answers
+abbrev pub BeginsRun : Seen → Seen → Result ReadState RunFault → Type 0
+BeginsRun old new = ReadsAs old new header_at (HasBegun old new) (λ p. ⊥)
+
+-- a part was taken that may come here, and it leads to that state
+pub record HasPart (old new : Seen) (s : ReadState) (part : Part) (t : ReadState) : Type 0 where
+  pub taken : Comes old new (part_at s.stage) (λ more. Ok (Some part, more))
+  pub comes : MayCome s.stage (Some part)
+  pub is : IsPart part
+  pub goes : Goes s part t
+
+-- the last line was taken
+pub record HasEnded (old new : Seen) (s : ReadState) : Type 0 where
+  pub taken : Comes old new (part_at s.stage) (λ more. Ok (None, more))
+  pub comes : MayCome s.stage None
+
+-- a part with the state behind it, or the end, where no member waits
+abbrev pub FitsNext : Seen → Seen → ReadState → Next → Type 0
+FitsNext old new s (next.Part part t) = HasPart old new s part t
+FitsNext old new s next.End = HasEnded old new s × ((q : ℕ) → Contains s.waiting q → ⊥)
+
+-- the end, where p is the least member that waits
+abbrev pub LacksLog : Seen → Seen → ReadState → ℕ → Type 0
+LacksLog old new s p = HasEnded old new s × Contains s.waiting p × ((q : ℕ) → Contains s.waiting q → p ≤ q)
+
+-- what reading the next part answers
+abbrev pub ReadsNext : Seen → Seen → ReadState → Result Next RunFault → Type 0
+ReadsNext old new s = ReadsAs old new (part_at s.stage) (FitsNext old new s) (LacksLog old new s)
+
+-- ---- the whole run
+
+-- the bytes that were taken are the text of these logs, and are read as them, whatever follows
+pub record IsRead (old new : Seen) (logs : List Log) : Type 0 where
+  pub is : IsRun logs
+  pub taken : Comes old new run_at (λ more. Ok (logs, more))
+  pub text : Consumes old.remaining new.remaining (run_text logs)
+
+-- a run was read, and each of its members has a log
+abbrev pub FitsRun : Seen → Seen → Run → Type 0
+FitsRun old new run = IsRead old new run.logs × EachHasLog run.logs (all_members run.logs)
+
+-- a run was read, and p is its least member without a log
+abbrev pub LacksRun : Seen → Seen → ℕ → Type 0
+LacksRun old new p = (logs : List Log) × IsRead old new logs × IsLeastMissing logs (all_members logs) p
+
+-- what reading a run answers
+abbrev pub ReadsRun : Seen → Seen → Result Run RunFault → Type 0
+ReadsRun old new = ReadsAs old new run_at (FitsRun old new) (LacksRun old new)
+
+-- what reading the end answers: it is there; a byte is there, which was taken; or the source failed in this call
+abbrev pub ReadsEnd : Seen → Seen → Result (Unit {0}) RunFault → Type 0
+ReadsEnd old new (Ok u) = IsAtEnd old.remaining × Keeps old.remaining new.remaining × (new.failures ≡ old.failures)
+ReadsEnd old new (Err faults.End) = (b : ℕ) × Consumes old.remaining new.remaining (b ∷ []) × (new.failures ≡ old.failures)
+ReadsEnd old new (Err faults.Read) = Keeps old.remaining new.remaining × (new.failures ≡ (old.failures + 1) % 2 ^ 64)
+ReadsEnd old new (Err other) = ⊥

@@ -1,0 +1,169 @@
+-- The grammar of a run's text, from left to right, with the fault of the first byte that breaks a rule
+-- (docs/SPECIFICATIONS.md, "Run text").
+use Rattle.std.specs.Prelude.{ℕ, zero, suc, List, [], ◌∷◌, codes, Option, Some, None, Ok, Err, Bool, true, false, not, ◌&&◌, nat_le, ◌==◌, if◌then◌else◌}
+use Rattle.totem_ids.specs.declared.message.Service.{Service}
+use Rattle.totem_ids.specs.declared.message.Service.TheVariants.{Agreed, Safe}
+use Rattle.totem_ids.specs.declared.fault.TextFault.TheVariants as faults
+use Rattle.totem_ids.specs.Sources.{Parsed, ◌>>=◌}
+use Rattle.totem_ids.specs.Numbers.{byte_at, word_at, number_at}
+use Rattle.totem_ids.specs.Parsers.{message_at, conf_at}
+use Rattle.totem_evs.specs.declared.entry.Entry.{Entry}
+use Rattle.totem_evs.specs.declared.entry.Entry.TheVariants.{Conf, Send, Deliver, Fail}
+use Rattle.totem_evs.specs.declared.ending.Ending.{Ending}
+use Rattle.totem_evs.specs.declared.ending.Ending.TheVariants.{Standing, Failed}
+use Rattle.totem_evs.specs.declared.line.Line.{Line}
+use Rattle.totem_evs.specs.declared.line.Line.TheVariants as lines
+use Rattle.totem_evs.specs.declared.log.Log.{Log}
+use Rattle.totem_evs.specs.RunText.{line}
+
+-- a failure
+abbrev pub is_failure : Entry → Bool
+is_failure (Conf x members) = false
+is_failure (Send m x service) = false
+is_failure (Deliver m x) = false
+is_failure (Fail x) = true
+
+-- members above `last`, and the line end behind them; at most room of them
+unfoldable pub members_at : ℕ → ℕ → List ℕ → Parsed (List ℕ)
+members_at zero last bytes = Err faults.TooMany
+members_at (suc room) last bytes = do
+  p ← number_at 65535 bytes
+  if nat_le p.0.0 last then Err faults.Members
+      else if p.0.1 == 10 then Ok (p.0.0 ∷ [], p.1)
+      else if p.0.1 == 32 then (members_at room p.0.0 p.1 >>= λ others. Ok (p.0.0 ∷ others.0, others.1))
+      else Err faults.Word
+
+-- ---- the lines of a log, behind their first letters; full: no further entry is allowed
+
+-- a change
+unfoldable pub change_at : Bool → List ℕ → Parsed Line
+change_at full bytes = if full then Err faults.TooMany else do
+  w ← word_at faults.Word (codes "onf ") bytes
+  x ← conf_at 32 w.1
+  members ← members_at 32 0 x.1
+  Ok (lines.Entry (Conf x.0 members.0), members.1)
+
+-- a service
+unfoldable pub service_at : List ℕ → Parsed Service
+service_at bytes = do
+  b ← byte_at bytes
+  if b.0 == 97 then Ok (Agreed, b.1) else if b.0 == 115 then Ok (Safe, b.1) else Err faults.Word
+
+-- a send
+unfoldable pub send_at : Bool → List ℕ → Parsed Line
+send_at full bytes = if full then Err faults.TooMany else do
+  w ← word_at faults.Word (codes "end ") bytes
+  x ← conf_at 32 w.1
+  service ← service_at x.1
+  space ← word_at faults.Word (codes " ") service.1
+  m ← message_at 10 space.1
+  Ok (lines.Entry (Send m.0 x.0 service.0), m.1)
+
+-- a delivery
+unfoldable pub delivery_at : Bool → List ℕ → Parsed Line
+delivery_at full bytes = if full then Err faults.TooMany else do
+  w ← word_at faults.Word (codes "lv ") bytes
+  x ← conf_at 32 w.1
+  m ← message_at 10 x.1
+  Ok (lines.Entry (Deliver m.0 x.0), m.1)
+
+-- the closing word of a log that has entries, the last of them no failure
+unfoldable pub open_at : Bool → Bool → List ℕ → Parsed Line
+open_at some failed bytes = if some && not failed then (do
+  w ← word_at faults.Word (line (codes "pen")) bytes
+  Ok (lines.Close Standing, w.1)) else Err faults.End
+
+-- the closing word of a log whose last entry is a failure
+unfoldable pub failed_at : Bool → List ℕ → Parsed Line
+failed_at failed bytes = if failed then (do
+  w ← word_at faults.Word (line (codes "d")) bytes
+  Ok (lines.Close Failed, w.1)) else Err faults.End
+
+-- a failure
+unfoldable pub fail_at : Bool → List ℕ → Parsed Line
+fail_at full bytes = if full then Err faults.TooMany else do
+  x ← conf_at 10 bytes
+  Ok (lines.Entry (Fail x.0), x.1)
+
+-- a failure, or the closing word of a log that ends in one
+unfoldable pub ail_at : Bool → Bool → List ℕ → Parsed Line
+ail_at full failed bytes = do
+  w ← word_at faults.Word (codes "ail") bytes
+  b ← byte_at w.1
+  if b.0 == 101 then failed_at failed b.1 else if b.0 == 32 then fail_at full b.1 else Err faults.Word
+
+-- what begins with the letter of both
+unfoldable pub failure_at : Bool → Bool → List ℕ → Parsed Line
+failure_at full failed bytes = if full && not failed then Err faults.TooMany else ail_at full failed bytes
+
+-- the next line of a log that has some entries, the last of which is a failure, and may have more or is full
+unfoldable pub line_at : Bool → Bool → Bool → List ℕ → Parsed Line
+line_at full some failed bytes = do
+  b ← byte_at bytes
+  if b.0 == 99 then change_at full b.1
+      else if b.0 == 115 then send_at full b.1
+      else if b.0 == 100 then delivery_at full b.1
+      else if b.0 == 102 then failure_at full failed b.1
+      else if b.0 == 111 then open_at some failed b.1
+      else Err faults.Word
+
+-- one for a closing word, another for an entry
+abbrev pub by_line : {Y : Type 0} → Line → (Ending → Y) → (Entry → Y) → Y
+by_line (lines.Close ending) close entry = close ending
+by_line (lines.Entry e) close entry = entry e
+
+-- the further lines of a log, one less than room of them entries
+unfoldable pub lines_at : ℕ → Bool → Bool → List ℕ → Parsed (List Entry × Ending)
+lines_at zero some failed bytes = Err faults.TooMany
+lines_at (suc room) some failed bytes = do
+  l ← line_at (room == 0) some failed bytes
+  by_line l.0 (λ ending. Ok (([], ending), l.1)) (λ e. lines_at room true (is_failure e) l.1 >>= λ others. Ok ((e ∷ others.0.0, others.0.1), others.1))
+
+-- the log of p, behind its first line
+unfoldable pub log_at : ℕ → List ℕ → Parsed Log
+log_at p bytes = do
+  body ← lines_at 1000001 false false bytes
+  Ok (record { proc = p; entries = body.0.0; ending = body.0.1 }, body.1)
+
+-- the process of a log, above `last`
+unfoldable pub log_proc_at : ℕ → List ℕ → Parsed ℕ
+log_proc_at last bytes = do
+  w ← word_at faults.Word (codes "og ") bytes
+  p ← number_at 65535 w.1
+  if nat_le p.0.0 last then Err faults.Order else if p.0.1 == 10 then Ok (p.0.0, p.1) else Err faults.Word
+
+-- the first line of a log; full: no further log is allowed
+unfoldable pub begin_at : Bool → ℕ → List ℕ → Parsed (Option ℕ)
+begin_at full last bytes = if full then Err faults.TooMany else do
+  p ← log_proc_at last bytes
+  Ok (Some p.0, p.1)
+
+-- the last line
+unfoldable pub end_at : List ℕ → Parsed (Option ℕ)
+end_at bytes = do
+  w ← word_at faults.Word (line (codes "nd")) bytes
+  Ok (None, w.1)
+
+-- the first line of the next log, or the last line
+unfoldable pub head_at : Bool → ℕ → List ℕ → Parsed (Option ℕ)
+head_at full last bytes = do
+  b ← byte_at bytes
+  if b.0 == 108 then begin_at full last b.1 else if b.0 == 101 then end_at b.1 else Err faults.Word
+
+-- one for the last line, another for a log
+abbrev pub by_head : {Y : Type 0} → Option ℕ → Y → (ℕ → Y) → Y
+by_head None ends begins = ends
+by_head (Some p) ends begins = begins p
+
+-- the further logs, one less than room of them, and the last line
+unfoldable pub logs_at : ℕ → ℕ → List ℕ → Parsed (List Log)
+logs_at zero last bytes = Err faults.TooMany
+logs_at (suc room) last bytes = do
+  head ← head_at (room == 0) last bytes
+  by_head head.0 (Ok ([], head.1)) (λ p. log_at p head.1 >>= λ log. logs_at room p log.1 >>= λ others. Ok (log.0 ∷ others.0, others.1))
+
+-- the text of a run
+unfoldable pub run_at : List ℕ → Parsed (List Log)
+run_at bytes = do
+  w ← word_at faults.Header (line (codes "totem-run 1")) bytes
+  logs_at 33 0 w.1

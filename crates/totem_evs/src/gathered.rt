@@ -1,0 +1,100 @@
+//! The logs that the parts of a run give.
+ghost use Rattle.std.specs.Prelude.{◌≡◌, IfOk};
+ghost use Rattle.totem_evs.specs.Gathered.{none_gathered, gathered, MayGather};
+ghost use Rattle.totem_evs.specs.Runs.{IsRun};
+
+use crate::entries::Entries;
+use crate::entry::Entry;
+use crate::log::Log;
+use crate::logs::Logs;
+use crate::part::Part;
+use crate::run::Run;
+use std::alloc::{AllocError, Global};
+use std::marker::Model;
+use totem_ids::ProcId;
+
+/// The logs that have ended, and of the one that has not its process and its entries.
+#[derive(Drop)]
+pub struct Gathered {
+    logs: Vec<Log>,
+    proc: Option<ProcId>,
+    entries: Vec<Entry>,
+}
+
+impl Model for Gathered {
+    ghost use Rattle.totem_evs.specs.Gathered.{GatheredLogs};
+
+    ghost Value = { GatheredLogs };
+
+    ghost view = { λ g. record { logs = g.logs.items; proc = g.proc; entries = g.entries.items } };
+}
+
+impl Gathered {
+    /// No part has come.
+    pub fn new(alloc: Global) -> Gathered
+        ensures { result ≡ none_gathered }
+    {
+        Gathered {
+            logs: Vec::new(alloc),
+            proc: None,
+            entries: Vec::new(alloc),
+        }
+    }
+
+    /// A part has come.
+    pub fn with(self, alloc: Global, part: Part) -> Result<Gathered, AllocError>
+        requires { MayGather self part }
+        ensures { IfOk result (λ g. g ≡ gathered self part) }
+    {
+        let Gathered {
+            mut logs,
+            proc,
+            mut entries,
+        } = self;
+        match part {
+            Part::Log(proc) => Ok(Gathered {
+                logs,
+                proc: Some(proc),
+                entries: Vec::new(alloc),
+            }),
+            Part::Entry(entry) => {
+                entries.push(entry)?;
+                Ok(Gathered {
+                    logs,
+                    proc,
+                    entries,
+                })
+            }
+            Part::Close(ending) => {
+                if let Some(proc) = proc {
+                    let entries = Entries::of(entries);
+                    logs.push(Log {
+                        proc,
+                        entries,
+                        ending,
+                    })?;
+                }
+                Ok(Gathered {
+                    logs,
+                    proc: None,
+                    entries: Vec::new(alloc),
+                })
+            }
+        }
+    }
+
+    /// The run of the logs.
+    pub fn into_run(self) -> Run
+        requires { IsRun self.logs }
+        ensures { result.logs ≡ self.logs }
+    {
+        let Gathered {
+            logs,
+            proc: _,
+            entries: _,
+        } = self;
+        Run {
+            logs: Logs::of(logs),
+        }
+    }
+}

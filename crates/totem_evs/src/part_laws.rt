@@ -1,0 +1,13 @@
+//! Laws of the parts of a run, each the contract of a function that does nothing.
+ghost use Rattle.totem_evs.specs.PartLaws.{PartsMakeTheRun, TextIsOfParts};
+
+/// What is read part by part, from the first line to the last one, is the run that is read at once, and these are its
+/// parts.
+pub fn parts_make_the_run()
+    ensures { PartsMakeTheRun }
+{}
+
+/// A run's text is its first line, the lines of its parts, and its last line.
+pub fn text_is_of_parts()
+    ensures { TextIsOfParts }
+{}

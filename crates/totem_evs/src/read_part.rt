@@ -1,0 +1,68 @@
+//! Readers of the parts of a run.
+ghost use Rattle.std.specs.Prelude.{IfOk};
+ghost use Rattle.totem_ids.specs.Sources.{Reads, seen};
+ghost use Rattle.totem_evs.specs.Parts.{begun_at, within_at, part_at};
+ghost use Rattle.totem_evs.specs.ReadState.{ComesBetween, ComesWithin, MayCome};
+
+use crate::heads::read_head;
+use crate::line::Line;
+use crate::lines::read_line;
+use crate::part::Part;
+use crate::stage::{OpenLog, Stage};
+use std::alloc::Global;
+use totem_ids::{ReadError, Source};
+
+/// How many logs a run may have.
+const MOST_LOGS: u32 = 32;
+
+/// How many entries a log may have.
+const MOST_ENTRIES: u32 = 1_000_000;
+
+// Where no log is open: a log begins, or the run ends.
+#[tactic(auto, using(crate::proofs::ReaderSteps::reader_steps), unfolding(crate::specs::Parts::begun_at))]
+fn read_between<S: Source>(source: &mut S, logs: u32, last: u16) -> Result<Option<Part>, ReadError>
+    ensures read { Reads (seen S.remaining S.failures source.old)
+        (seen S.remaining S.failures source.new) result (begun_at logs last) }
+    ensures comes { IfOk result (ComesBetween logs last) }
+{
+    let head = read_head(source, logs == MOST_LOGS, last)?;
+    match head {
+        None => Ok(None),
+        Some(proc) => Ok(Some(Part::Log(proc))),
+    }
+}
+
+// In a log: an entry, or its end.
+#[tactic(auto, using(crate::proofs::ReaderSteps::reader_steps), unfolding(crate::specs::Parts::within_at))]
+fn read_within<S: Source>(
+    alloc: Global,
+    source: &mut S,
+    log: OpenLog,
+) -> Result<Option<Part>, ReadError>
+    ensures read { Reads (seen S.remaining S.failures source.old)
+        (seen S.remaining S.failures source.new) result (within_at log.entries log.failed) }
+    ensures comes { IfOk result (ComesWithin log.entries log.failed) }
+{
+    let full = log.entries == MOST_ENTRIES;
+    let line = read_line(alloc, source, full, log.entries > 0, log.failed)?;
+    match line {
+        Line::Close(ending) => Ok(Some(Part::Close(ending))),
+        Line::Entry(entry) => Ok(Some(Part::Entry(entry))),
+    }
+}
+
+/// The next part, or none at the last line.
+pub fn read_part<S: Source>(
+    alloc: Global,
+    source: &mut S,
+    stage: Stage,
+) -> Result<Option<Part>, ReadError>
+    ensures read { Reads (seen S.remaining S.failures source.old)
+        (seen S.remaining S.failures source.new) result (part_at stage) }
+    ensures comes { IfOk result (MayCome stage) }
+{
+    match stage.log {
+        None => read_between(source, stage.logs, stage.last),
+        Some(log) => read_within(alloc, source, log),
+    }
+}

@@ -1,0 +1,41 @@
+//! Readers of whole runs.
+ghost use Rattle.totem_ids.specs.Sources.{seen};
+ghost use Rattle.totem_evs.specs.Reading.{ReadsRun, ReadsEnd};
+
+use crate::gathered::Gathered;
+use crate::next::Next;
+use crate::run::Run;
+use crate::run_fault::RunFault;
+use crate::run_reader::RunReader;
+use std::alloc::Global;
+use totem_ids::Source;
+
+/// Reads a run, from the first byte to the line `end`, and leaves what follows unread. Each of its members has a log.
+pub fn read_run<S: Source>(alloc: Global, source: &mut S) -> Result<Run, RunFault>
+    ensures { ReadsRun (seen S.remaining S.failures source.old)
+        (seen S.remaining S.failures source.new) result }
+{
+    let mut reader = RunReader::begin(alloc, source)?;
+    let mut logs = Gathered::new(alloc);
+    'parts: loop {
+        match reader.next(source)? {
+            Next::End => return Ok(logs.into_run()),
+            Next::Part(part, later) => {
+                logs = logs.with(alloc, part)?;
+                reader = later;
+            }
+        }
+    }
+}
+
+/// Reads the end of the input: `End` where a byte is there, which is taken.
+pub fn read_end<S: Source>(source: &mut S) -> Result<(), RunFault>
+    ensures { ReadsEnd (seen S.remaining S.failures source.old)
+        (seen S.remaining S.failures source.new) result }
+{
+    match source.byte() {
+        Ok(None) => Ok(()),
+        Ok(Some(_)) => Err(RunFault::End),
+        Err(_) => Err(RunFault::Read),
+    }
+}

@@ -1,0 +1,88 @@
+//! How far the reading of a run has come.
+ghost use Rattle.std.specs.Prelude.{◌≡◌, ◌≤◌};
+
+use crate::entry::Entry;
+use totem_ids::ProcId;
+
+/// How far the reading of a run has come, as far as the text that follows depends on it.
+#[derive(Clone, Copy, Debug, PartialEq, Eq)]
+pub struct Stage {
+    /// How many logs have begun.
+    pub logs: u32,
+    /// The process of the last of them, or 0.
+    pub last: u16,
+    /// The log that has begun and has no end yet.
+    pub log: Option<OpenLog>,
+}
+
+/// A log that has no end yet.
+#[derive(Clone, Copy, Debug, PartialEq, Eq)]
+pub struct OpenLog {
+    /// How many entries it has.
+    pub entries: u32,
+    /// Whether the last of them is a failure.
+    pub failed: bool,
+}
+
+impl Stage {
+    ghost use Rattle.std.specs.Option.{ForSome};
+    ghost use Rattle.totem_evs.specs.declared.ending.Ending.{Ending};
+    ghost use Rattle.totem_evs.specs.declared.part.Part.TheVariants as parts;
+    ghost use Rattle.totem_evs.specs.Parts.{first_stage, next_stage};
+
+    /// Nothing but the first line has come.
+    pub fn first() -> Stage
+        ensures { result ≡ first_stage }
+    {
+        Stage {
+            logs: 0,
+            last: 0,
+            log: None,
+        }
+    }
+
+    /// A log has begun.
+    pub fn with_log(self, proc: ProcId) -> Stage
+        requires { self.logs ≤ 32 }
+        ensures { result ≡ next_stage self (parts.Log proc) }
+    {
+        Stage {
+            logs: self.logs + 1,
+            last: proc.number(),
+            log: Some(OpenLog {
+                entries: 0,
+                failed: false,
+            }),
+        }
+    }
+
+    /// An entry has come.
+    pub fn with_entry(self, entry: &Entry) -> Stage
+        requires { ForSome self.log (λ log. log.entries ≤ 1000000) }
+        ensures { result ≡ next_stage self (parts.Entry entry.now) }
+    {
+        let log = match self.log {
+            None => None,
+            Some(log) => Some(OpenLog {
+                entries: log.entries + 1,
+                failed: entry.is_failure(),
+            }),
+        };
+        Stage {
+            logs: self.logs,
+            last: self.last,
+            log,
+        }
+    }
+
+    /// The log has ended.
+    pub fn without_log(self) -> Stage
+        ensures { (ending : Ending) → result ≡ next_stage self (parts.Close ending) }
+    {
+        Stage {
+            logs: self.logs,
+            last: self.last,
+            log: None,
+        }
+    }
+}

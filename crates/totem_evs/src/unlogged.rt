@@ -1,0 +1,57 @@
+//! Members that wait for their log.
+ghost use Rattle.std.specs.Prelude.{◌≡◌, ◌≢◌, ℕ, ◌≤◌, ◌↔◌, ◌⊎◌, [], Contains, OnOk, OnErr, IfSome, IfNone};
+
+use std::alloc::{AllocError, Global};
+use std::collections::BTreeSet;
+use std::marker::Model;
+use totem_ids::ProcId;
+
+/// Members that were named and have no log so far.
+#[derive(Debug, Drop)]
+pub struct Unlogged {
+    procs: BTreeSet<ProcId>,
+}
+
+impl Model for Unlogged {
+    ghost use Rattle.std.specs.Prelude.{ℕ, List};
+
+    ghost Value = { List ℕ };
+
+    ghost view = { λ u. u.procs.keys };
+}
+
+impl Unlogged {
+    /// None.
+    pub fn new(alloc: Global) -> Unlogged
+        ensures { result ≡ [] }
+    {
+        Unlogged {
+            procs: BTreeSet::new(alloc),
+        }
+    }
+
+    /// One more waits; it may wait already.
+    pub fn add(&mut self, proc: ProcId) -> Result<(), AllocError>
+        ensures { OnOk result ((q : ℕ) →
+            Contains self.new q ↔ (Contains self.old q ⊎ (q ≡ proc))) }
+    {
+        self.procs.insert(proc)?;
+        Ok(())
+    }
+
+    /// This one waits no more.
+    pub fn remove(&mut self, proc: ProcId)
+        ensures { (q : ℕ) → Contains self.new q ↔ (Contains self.old q × (q ≢ proc)) }
+    {
+        self.procs.remove(&proc);
+    }
+
+    /// The least that waits.
+    pub fn least(&self) -> Option<ProcId>
+        ensures some { IfSome result (λ p. Contains self.now p) }
+        ensures least { IfSome result (λ p. (q : ℕ) → Contains self.now q → p ≤ q) }
+        ensures none { IfNone result (self.now ≡ []) }
+    {
+        self.procs.first().copied()
+    }
+}
