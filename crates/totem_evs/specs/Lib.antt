@@ -33,3 +33,4 @@ pub mod ReadState
 pub mod Reading
 pub mod Gathered
 pub mod PartLaws
+pub mod Answers

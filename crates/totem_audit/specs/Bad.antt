@@ -1,0 +1,30 @@
+-- What is bad of one entry, and of two (docs/SPECIFICATIONS.md, "Faults").
+use Rattle.std.specs.Prelude.{◌≡◌, ◌≢◌, ◌⊎◌, ℕ, Contains}
+use Rattle.totem_evs.specs.declared.entry.Entry.{Entry}
+use Rattle.totem_evs.specs.declared.entry.Entry.TheVariants.{Conf, Send, Deliver, Fail}
+use Rattle.totem_evs.specs.Events.{IsTransitional}
+
+-- a change by p, which it does not list
+abbrev pub IsForeignChange : ℕ → ℕ → Entry → Type 0
+IsForeignChange p i (Conf x ms) = Contains ms p → ⊥
+IsForeignChange p i (Send m x service) = ⊥
+IsForeignChange p i (Deliver m x) = ⊥
+IsForeignChange p i (Fail x) = ⊥
+
+-- two changes to one configuration, in one log or with different members
+abbrev pub AreTwoForms : ℕ → ℕ → Entry → ℕ → ℕ → Entry → Type 0
+AreTwoForms p i (Conf x ms) q j (Conf y ns) = (x ≡ y) × (((p ≡ q) × (i ≢ j)) ⊎ (ms ≢ ns))
+AreTwoForms p i _ q j _ = ⊥
+
+-- a send in a transitional configuration
+abbrev pub IsSendBetween : ℕ → ℕ → Entry → Type 0
+IsSendBetween p i (Conf x ms) = ⊥
+IsSendBetween p i (Send m x service) = IsTransitional x
+IsSendBetween p i (Deliver m x) = ⊥
+IsSendBetween p i (Fail x) = ⊥
+
+-- two sends of one message, or two deliveries of one message in one log
+abbrev pub AreTwice : ℕ → ℕ → Entry → ℕ → ℕ → Entry → Type 0
+AreTwice p i (Send m x service) q j (Send n y other) = (m ≡ n) × ((p ≢ q) ⊎ (i ≢ j))
+AreTwice p i (Deliver m x) q j (Deliver n y) = (m ≡ n) × (p ≡ q) × (i ≢ j)
+AreTwice p i _ q j _ = ⊥

@@ -1,0 +1,68 @@
+-- What the first passes of an audit answer (docs/SPECIFICATIONS.md, "Faults", "Passes").
+use Rattle.std.specs.Prelude.{◌≡◌, ◌≢◌, ◌⊎◌, ℕ, List, [], ◌∷◌, Option, Some, None}
+use Rattle.totem_ids.specs.Orders.{PlaceBelow}
+use Rattle.totem_ids.specs.declared.place.Place.{Place}
+use Rattle.totem_evs.specs.declared.log.Log.{Log}
+use Rattle.totem_evs.specs.declared.fault.Fault.{Fault}
+use Rattle.totem_evs.specs.declared.spec.SpecNo.{SpecNo}
+use Rattle.totem_evs.specs.declared.spec.SpecNo.TheVariants as spec
+use Rattle.totem_evs.specs.Events.{log_of}
+use Rattle.totem_evs.specs.Delivery.{DeliversWhatWasSent, DeliversOnce}
+use Rattle.totem_evs.specs.Changes.{StaysInPlace, IsOneConfiguration, TakesTurns, HasOneOrigin}
+use Rattle.totem_evs.specs.Faults.{Breaks}
+
+-- a list of places is another, or comes before it: place by place, a list before those that go on from it
+abbrev pub ComesFirst : List Place → List Place → Type 0
+ComesFirst [] fs = Unit {0}
+ComesFirst (e ∷ es) [] = ⊥
+ComesFirst (e ∷ es) (f ∷ fs) = PlaceBelow e f ⊎ ((e ≡ f) × ComesFirst es fs)
+
+-- of the lists of which a fact holds, this one comes first
+pub record IsLeast (Holds : List Place → Type 0) (places : List Place) : Type 0 where
+  pub holds : Holds places
+  pub first : (others : List Place) → Holds others → ComesFirst places others
+
+-- these places break the specification, and each list that breaks it is this one or comes after it
+abbrev pub IsLeastBreak : List Log → SpecNo → List Place → Type 0
+IsLeastBreak run k places = IsLeast (Breaks run k) places
+
+-- 2.4: each log takes turns, and no two come to one configuration from two
+pub record TakeTurns (run : List Log) : Type 0 where
+  pub each : (p : ℕ) → TakesTurns (log_of run p)
+  pub origin : HasOneOrigin run
+
+-- the run meets a specification of the passes A and B
+abbrev pub Meets : List Log → SpecNo → Type 0
+Meets run spec.Unsent = DeliversWhatWasSent run
+Meets run spec.Twice = DeliversOnce run
+Meets run spec.Misplaced = (p : ℕ) → StaysInPlace (log_of run p)
+Meets run spec.Configuration = IsOneConfiguration run
+Meets run spec.Turns = TakeTurns run
+Meets run _ = ⊥
+
+-- the places found for a specification: none if the run meets it, else the least that break it
+abbrev pub Finds : List Log → SpecNo → Option (List Place) → Type 0
+Finds run k None = Meets run k
+Finds run k (Some places) = IsLeastBreak run k places
+
+-- the faults are those of these specifications, in their order, one for each that is broken
+abbrev pub Lists : List Log → List SpecNo → List Fault → Type 0
+Lists run [] faults = faults ≡ []
+Lists run (k ∷ ks) faults =
+    (Meets run k × Lists run ks faults)
+    ⊎ ((places : List Place) × (rest : List Fault) × (faults ≡ record { spec = k; places = places } ∷ rest)
+    × IsLeastBreak run k places × Lists run ks rest)
+
+-- pass A: 1.4, 2.2, 2.3, 2.4
+abbrev pub pass_a : List SpecNo
+pass_a = spec.Twice ∷ spec.Misplaced ∷ spec.Configuration ∷ spec.Turns ∷ []
+
+-- pass B: 1.3
+abbrev pub pass_b : List SpecNo
+pass_b = spec.Unsent ∷ []
+
+-- the faults of the first pass that has one, or none
+abbrev pub IsAnswered : List Log → List Fault → Type 0
+IsAnswered run faults =
+    ((faults ≢ []) × Lists run pass_a faults)
+    ⊎ (Lists run pass_a [] × Lists run pass_b faults)
