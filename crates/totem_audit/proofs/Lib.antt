@@ -1,12 +1,1 @@
-pub mod LogOf
-pub mod Searching
-pub mod Walk
-pub mod Placed
-pub mod Starting
-pub mod Decisions
-pub mod Bad
-pub mod Turning
-pub mod TurnFaults
-pub mod Sent
-pub mod SentOrNot
-pub mod Passes
+pub mod Soundness

@@ -1,21 +1,12 @@
-//! The audit of a run: passes over its logs, each of which finds the least events that break a specification.
+//! The audit of a run: the verdict of its passes.
 #![tactic(auto)]
 
 mod auditor;
-mod configuration;
-mod follow;
-mod kinds;
-mod misplaced;
-mod pairs;
-mod pass;
-mod search;
 #[cfg(test)]
 mod tests;
-mod turn;
-mod turns;
-mod twice;
-mod unsent;
 mod verdict;
+mod workers;
 
 pub use auditor::audit;
 pub use verdict::Verdict;
+pub use workers::Workers;

@@ -1,7 +1,7 @@
 //! The audit of small runs, with the faults that docs/SPECIFICATIONS.md gives for them.
 ghost use Rattle.std.specs.Prelude.{◌<◌};
 
-use crate::{Verdict, audit};
+use crate::{Verdict, Workers, audit};
 use std::alloc::{AllocError, Global};
 use std::test::Fail;
 use totem_evs::{Entries, Entry, Log, Members, Run};
@@ -101,10 +101,33 @@ fn a_good_run_gets_a_yes(rt: HostRuntime) -> Result<(), Fail> {
     ]?;
     let second = vec![in alloc;
         change(alloc, regular(4), &[1, 2])?,
-        deliver(1),
         change(alloc, transitional(8), &[1, 2])?,
+        Entry::Deliver(message(1), transitional(8)),
     ]?;
     assert_eq!(rt; report(alloc, first, second)?.as_str(), "yes");
+    Ok(())
+}
+
+#[test]
+fn deliveries_on_both_sides_of_a_change_break_6_1(rt: HostRuntime) -> Result<(), Fail> {
+    let alloc = rt.alloc();
+    let first = vec![in alloc;
+        change(alloc, regular(4), &[1, 2])?,
+        send(1),
+        deliver(1),
+        change(alloc, transitional(8), &[1, 2])?,
+        change(alloc, regular(8), &[1, 2])?,
+    ]?;
+    let second = vec![in alloc;
+        change(alloc, regular(4), &[1, 2])?,
+        change(alloc, transitional(8), &[1, 2])?,
+        Entry::Deliver(message(1), transitional(8)),
+        change(alloc, regular(8), &[1, 2])?,
+    ]?;
+    assert_eq!(rt;
+        report(alloc, first, second)?.as_str(),
+        "no; 6.1 1@3 1@4 2@2 2@3"
+    );
     Ok(())
 }
 
@@ -243,4 +266,12 @@ fn a_pass_lists_each_specification_in_order(rt: HostRuntime) -> Result<(), Fail>
         "no; 1.4 1@3 1@4; 2.2 1@3; 2.3 1@1; 2.4 1@1 1@5"
     );
     Ok(())
+}
+
+#[test]
+fn workers_are_1_to_64(rt: HostRuntime) {
+    assert!(rt; Workers::new(0).is_none());
+    assert!(rt; Workers::new(65).is_none());
+    assert_eq!(rt; Workers::new(1), Some(Workers::one()));
+    assert_eq!(rt; Workers::new(64).map(|workers| workers.count()), Some(64));
 }

@@ -34,3 +34,5 @@ pub mod Folding
 pub mod Gathers
 pub mod FoldedRun
 pub mod PartRuns
+pub mod Judged
+pub mod LogOf

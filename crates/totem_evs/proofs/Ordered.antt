@@ -10,7 +10,7 @@ use Rattle.totem_evs.specs.Laws.{CertifiedIsOrdered}
 use Rattle.totem_evs.proofs.Causal.{precedes_rises, no_cycle}
 
 -- a line has as many numbers as the log of its process has entries
-same_length : (run : List Log) (lines : List Numbering) (p : ℕ) → Matches run lines → length (log_of run p) ≡ length (numbers_of lines p)
+pub same_length : (run : List Log) (lines : List Numbering) (p : ℕ) → Matches run lines → length (log_of run p) ≡ length (numbers_of lines p)
 same_length [] [] p h = refl
 same_length [] (line ∷ lines) p h = absurd cc
 same_length (log ∷ logs) [] p h = absurd cc
@@ -25,7 +25,7 @@ same_length (log ∷ logs) (line ∷ lines) p h =
     go true e procs lens rest = rw (procs, e) lens
     go false e procs lens rest = rw (procs, e) rest
 
-has_number : (run : List Log) (lines : List Numbering) (e : Place) → Matches run lines → IsEvent run e → (n : ℕ) × (number_at lines e ≡ Some n)
+pub has_number : (run : List Log) (lines : List Numbering) (e : Place) → Matches run lines → IsEvent run e → (n : ℕ) × (number_at lines e ≡ Some n)
 has_number run lines e matches (x, at) = go e.at at
   where
     go : (a : ℕ) → at_place (log_of run e.proc) a ≡ Some x → (n : ℕ) × (number_in (numbers_of lines e.proc) a ≡ Some n)

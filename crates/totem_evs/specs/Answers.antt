@@ -1,4 +1,4 @@
--- What the first passes of an audit answer (docs/SPECIFICATIONS.md, "Faults", "Passes").
+-- What the passes of an audit answer (docs/SPECIFICATIONS.md, "Faults", "Passes").
 use Rattle.std.specs.Prelude.{◌≡◌, ◌≢◌, ◌⊎◌, ℕ, List, [], ◌∷◌, Option, Some, None}
 use Rattle.totem_ids.specs.Orders.{PlaceBelow}
 use Rattle.totem_ids.specs.declared.place.Place.{Place}
@@ -7,9 +7,13 @@ use Rattle.totem_evs.specs.declared.fault.Fault.{Fault}
 use Rattle.totem_evs.specs.declared.spec.SpecNo.{SpecNo}
 use Rattle.totem_evs.specs.declared.spec.SpecNo.TheVariants as spec
 use Rattle.totem_evs.specs.Events.{log_of}
-use Rattle.totem_evs.specs.Delivery.{DeliversWhatWasSent, DeliversOnce}
-use Rattle.totem_evs.specs.Changes.{StaysInPlace, IsOneConfiguration, TakesTurns, HasOneOrigin}
+use Rattle.totem_evs.specs.Delivery.{BasicDelivery, DeliversWhatWasSent, DeliversOnce}
+use Rattle.totem_evs.specs.Changes.{StaysInPlace, IsOneConfiguration, TakesTurns, HasOneOrigin, ConfigurationChanges}
+use Rattle.totem_evs.specs.Agreement.{HasTotalOrder}
 use Rattle.totem_evs.specs.Faults.{Breaks}
+use Rattle.totem_evs.specs.Certificates.{Numbering}
+use Rattle.totem_evs.specs.Positions.{IsPositions}
+use Rattle.totem_evs.specs.ClosedLists.{IsCycle}
 
 -- a list of places is another, or comes before it: place by place, a list before those that go on from it
 abbrev pub ComesFirst : List Place → List Place → Type 0
@@ -31,7 +35,7 @@ pub record TakeTurns (run : List Log) : Type 0 where
   pub each : (p : ℕ) → TakesTurns (log_of run p)
   pub origin : HasOneOrigin run
 
--- the run meets a specification of the passes A and B
+-- the run meets a specification of the passes A and B; of no other is it said here
 abbrev pub Meets : List Log → SpecNo → Type 0
 Meets run spec.Unsent = DeliversWhatWasSent run
 Meets run spec.Twice = DeliversOnce run
@@ -39,6 +43,20 @@ Meets run spec.Misplaced = (p : ℕ) → StaysInPlace (log_of run p)
 Meets run spec.Configuration = IsOneConfiguration run
 Meets run spec.Turns = TakeTurns run
 Meets run _ = ⊥
+
+-- the run meets the specifications of the passes A and B
+pub record MeetsPasses (run : List Log) : Type 0 where
+  pub sent : Meets run spec.Unsent
+  pub once : Meets run spec.Twice
+  pub placed : Meets run spec.Misplaced
+  pub one : Meets run spec.Configuration
+  pub turns : Meets run spec.Turns
+
+-- what is judged so far: the run meets specifications 1 and 2 whole, and its events have a total order (6.1)
+pub record MeetsJudged (run : List Log) : Type 0 where
+  pub basic : BasicDelivery run
+  pub changes : ConfigurationChanges run
+  pub order : HasTotalOrder run
 
 -- the places found for a specification: none if the run meets it, else the least that break it
 abbrev pub Finds : List Log → SpecNo → Option (List Place) → Type 0
@@ -61,8 +79,19 @@ pass_a = spec.Twice ∷ spec.Misplaced ∷ spec.Configuration ∷ spec.Turns ∷
 abbrev pub pass_b : List SpecNo
 pass_b = spec.Unsent ∷ []
 
--- the faults of the first pass that has one, or none
-abbrev pub IsAnswered : List Log → List Fault → Type 0
-IsAnswered run faults =
-    ((faults ≢ []) × Lists run pass_a faults)
+-- pass C: the fault of the closed list
+abbrev pub ListsCycle : List Log → List Fault → Type 0
+ListsCycle run faults = (fault : Fault) × (faults ≡ fault ∷ []) × IsCycle run fault
+
+-- what is answered of a run: a certificate, or faults
+pub data Answer : Type 0 where
+  Yes : List Numbering → Answer
+  No : List Fault → Answer
+
+-- the written answer: the faults of the first pass that has one, or where none has the certificate
+abbrev pub IsAnswered : List Log → Answer → Type 0
+IsAnswered run (Yes lines) = Lists run pass_a [] × Lists run pass_b [] × IsPositions run lines
+IsAnswered run (No faults) = (faults ≢ []) × (
+    Lists run pass_a faults
     ⊎ (Lists run pass_a [] × Lists run pass_b faults)
+    ⊎ (Lists run pass_a [] × Lists run pass_b [] × ListsCycle run faults))

@@ -34,3 +34,6 @@ pub mod Reading
 pub mod Gathered
 pub mod PartLaws
 pub mod Answers
+pub mod Classes
+pub mod Positions
+pub mod ClosedLists

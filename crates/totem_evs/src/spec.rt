@@ -1,3 +1,6 @@
+ghost use Rattle.std.specs.Prelude.{◌≡◌};
+ghost use Rattle.totem_evs.specs.SpecNo.{spec_text};
+
 use std::fmt;
 
 /// A specification that a run may break, in the order in which faults are listed.
@@ -31,14 +34,12 @@ pub enum SpecNo {
     Installed,
 }
 
-impl fmt::Display for SpecNo {
-    ghost use Rattle.std.specs.Prelude.{Some};
-    ghost use Rattle.totem_evs.specs.SpecNo.{spec_text};
-
-    ghost output = { λ s. Some (spec_text s) };
-
-    fn fmt<W: fmt::Write>(&self, f: &mut fmt::Formatter<W>) -> fmt::Result {
-        f.write_str(match self {
+impl SpecNo {
+    /// Its number, as `1.4`.
+    pub fn number(self) -> &'static str
+        ensures { result.now ≡ spec_text self }
+    {
+        match self {
             SpecNo::Cycle => "1.1",
             SpecNo::Unsent => "1.3",
             SpecNo::Twice => "1.4",
@@ -52,6 +53,16 @@ impl fmt::Display for SpecNo {
             SpecNo::Gap => "6.3",
             SpecNo::Safety => "7.1",
             SpecNo::Installed => "7.2",
-        })
+        }
+    }
+}
+
+impl fmt::Display for SpecNo {
+    ghost use Rattle.std.specs.Prelude.{Some};
+
+    ghost output = { λ s. Some (spec_text s) };
+
+    fn fmt<W: fmt::Write>(&self, f: &mut fmt::Formatter<W>) -> fmt::Result {
+        f.write_str(self.number())
     }
 }

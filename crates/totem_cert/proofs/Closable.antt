@@ -1,0 +1,60 @@
+-- Lines in which each entry has a number are those of a certificate.
+use Rattle.std.proofs.Common.{◌≡◌, ℕ, ◌<◌, ◌≤◌, ◌⊎◌, inl, inr, List, length, get_or, slice_get, Some, None, arith}
+use Rattle.std.specs.Prelude.{All}
+use Rattle.std.proofs.lemmas.Option.{slice_get_within, slice_get-get_or, slice_get_cases, get_or_from_slice_get}
+use Rattle.totem_evs.specs.declared.log.Log.{Log}
+use Rattle.totem_evs.specs.Runs.{IsRun, IsLog}
+use Rattle.totem_evs.specs.Certificates.{Numbering, number_at}
+use Rattle.totem_cert.specs.Search.{place}
+use Rattle.totem_cert.specs.Keeping.{IsLine, IsCertificate}
+use Rattle.totem_cert.specs.Progress.{IsSound, IsFull}
+use Rattle.totem_evs.proofs.LogOf.{in_order}
+use Rattle.totem_cert.proofs.LineFacts.{stands_at}
+
+module _ (run : List Log) (lines : List Numbering) (is_run : IsRun run) (sound : IsSound run lines) (full : IsFull run lines) where
+  log_at : (k : ℕ) → k < length lines → (log : Log) × (slice_get run k ≡ Some log)
+  log_at k lt = go (slice_get_cases run k).1
+    where
+      go : ((log : Log) × (k < length run) × (slice_get run k ≡ Some log) × (get_or run k log ≡ log)) ⊎ ((length run ≤ k) × (slice_get run k ≡ None)) → (log : Log) × (slice_get run k ≡ Some log)
+      go (inl (log, within, at, same)) = (log, at)
+      go (inr (le, none)) = absurd (let c = sound.fits.count in omega arith)
+
+  line_is : (k : ℕ) (log : Log) (line : Numbering) → slice_get run k ≡ Some log → slice_get lines k ≡ Some line → IsLine line
+  line_is k log line at_l at_n =
+      let h = is_run.each k log (slice_get_within run k log at_l) in
+      let l : IsLog log = rw (get_or_from_slice_get run k log log at_l) at h in
+      let proc = sound.fits.proc k log line at_l at_n in
+      let short = sound.fits.short k log line at_l at_n in
+      let long = full.full k log line at_l at_n in
+      let some = l.entries.some in
+      let few = l.entries.few in
+      let s = stands_at run lines k log line is_run.rising sound.fits at_l at_n in
+      record {
+        process = rw proc l.process;
+        numbers = record {
+          some = omega arith;
+          few = omega arith;
+          each = λ i d lt. (
+              let given : number_at lines (place log.proc i) ≡ Some (get_or line.numbers i d) = rw s.line_is (slice_get-get_or line.numbers i d lt) in
+              let most = sound.sound.few (place log.proc i) (get_or line.numbers i d) given in
+              let small = sound.small in
+              record { positive = sound.sound.positive (place log.proc i) (get_or line.numbers i d) given; small = omega arith }
+              );
+        };
+      }
+
+  pub each_line : All IsLine lines
+  each_line = λ k d lt. (let l = log_at k lt in line_is k l.0 (get_or lines k d) l.1 (slice_get-get_or lines k d lt))
+
+  pub closable : IsCertificate lines
+  closable = record {
+    few = (let c = sound.fits.count in let f = is_run.few in omega arith);
+    rising = λ i j d lt below. (
+        let a = log_at i (omega arith) in
+        let b = log_at j below in
+        let p = sound.fits.proc i a.0 (get_or lines i d) a.1 (slice_get-get_or lines i d (omega arith)) in
+        let q = sound.fits.proc j b.0 (get_or lines j d) b.1 (slice_get-get_or lines j d below) in
+        rw (p, q) (in_order run i j a.0 b.0 is_run.rising a.1 b.1 lt)
+        );
+    each = each_line;
+  }

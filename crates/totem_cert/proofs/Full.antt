@@ -1,0 +1,84 @@
+-- Where each entry has a number, the lines are the run's certificate.
+use Rattle.std.proofs.Common.{◌≡◌, ℕ, suc, ◌<◌, ◌≤◌, ◌⊎◌, inl, inr, List, [], ◌∷◌, length, get_or, slice_get, Some, None, refl, sym, ◌∙◌, arith}
+use Rattle.std.specs.Prelude.{All}
+use Rattle.std.proofs.lemmas.Option.{slice_get_within, slice_get-get_or, slice_get_cases}
+use Rattle.totem_ids.specs.declared.place.Place.{Place}
+use Rattle.totem_evs.specs.declared.entry.Entry.{Entry}
+use Rattle.totem_evs.specs.declared.entry.Entry.TheVariants.{Deliver}
+use Rattle.totem_evs.specs.declared.log.Log.{Log}
+use Rattle.totem_evs.specs.Events.{IsEvent, log_of}
+use Rattle.totem_evs.specs.Steps.{SameClass}
+use Rattle.totem_evs.specs.Certificates.{Numbering, number_at, numbers_of, IsBelow, Matches}
+use Rattle.totem_evs.proofs.LogOf.{Rising}
+use Rattle.totem_cert.specs.Search.{place}
+use Rattle.totem_evs.specs.Classes.{WaitsFor}
+use Rattle.totem_evs.specs.Positions.{IsPositions}
+use Rattle.totem_cert.specs.Progress.{Fits, IsSound, IsFull, IsNumbered}
+use Rattle.totem_cert.proofs.LineFacts.{Stands, where_is, stands_at, index_of, within_numbered, fits_tail}
+
+full_tail : (log : Log) (logs : List Log) (line : Numbering) (lines : List Numbering) → IsFull (log ∷ logs) (line ∷ lines) → IsFull logs lines
+full_tail log logs line lines full = record { full = λ j l n at_l at_n. full.full (suc j) l n at_l at_n }
+
+matches : (run : List Log) (lines : List Numbering) → Fits run lines → IsFull run lines → Matches run lines
+matches [] [] fits full = refl
+matches [] (line ∷ lines) fits full = absurd (let h = fits.count in omega arith)
+matches (log ∷ logs) [] fits full = absurd (let h = fits.count in omega arith)
+matches (log ∷ logs) (line ∷ lines) fits full =
+    let rest = matches logs lines (fits_tail log logs line lines fits) (full_tail log logs line lines full) in
+    let proc : line.proc ≡ log.proc = fits.proc 0 log line refl refl in
+    let le = fits.short 0 log line refl refl in
+    let ge = full.full 0 log line refl refl in
+    let len : length line.numbers ≡ length log.entries = omega arith in
+    rw (proc, len, rest) refl
+
+module _ (run : List Log) (lines : List Numbering) (rising : Rising run) (sound : IsSound run lines) (full : IsFull run lines) where
+  numbered : (e : Place) → IsEvent run e → IsNumbered lines e
+  numbered e (x, at) = go (index_of run e x at) (where_is run lines e.proc sound.fits)
+    where
+      go : (i : ℕ) × (e ≡ place e.proc i) × (slice_get (log_of run e.proc) i ≡ Some x)
+          → ((log_of run e.proc ≡ []) × (numbers_of lines e.proc ≡ [])) ⊎ ((k : ℕ) × (log : Log) × (line : Numbering) × Stands run lines e.proc k log line) → IsNumbered lines e
+      go (i, is, at_i) (inl (none, nothing)) = absurd (let h : slice_get {X = Entry} [] i ≡ Some x = rw none at at_i in cc)
+      go (i, is, at_i) (inr (k, log, line, s)) =
+          let ge = full.full k log line s.log_at s.line_at in
+          let at_l : slice_get log.entries i ≡ Some x = rw s.log_is at at_i in
+          let lt = slice_get_within log.entries i x at_l in
+          let lt' : i < length (numbers_of lines e.proc) = rw s.line_is (omega arith) in
+          rw is (within_numbered lines e.proc i lt')
+
+  below : (e f : Place) → IsEvent run f → WaitsFor run f e → IsBelow lines e f
+  below e f event waits =
+      let n = numbered f event in
+      let b = (sound.sound.waits f n.number n.given).each e waits in
+      (b.number, n.number, b.given, n.given, b.below)
+
+  positive : All (λ line. All (λ n. 0 < n) line.numbers) lines
+  positive = λ k d lt i e lt'. in_line k (get_or lines k d) (slice_get-get_or lines k d lt) i e lt' (slice_get_cases run k).1
+    where
+      in_line : (k : ℕ) (line : Numbering) → slice_get lines k ≡ Some line → (i e : ℕ) → i < length line.numbers
+          → ((log : Log) × (k < length run) × (slice_get run k ≡ Some log) × (get_or run k log ≡ log)) ⊎ ((length run ≤ k) × (slice_get run k ≡ None)) → 0 < get_or line.numbers i e
+      in_line k line at i e lt (inl (log, within, at_l, _)) =
+          let s = stands_at run lines k log line rising sound.fits at_l at in
+          let given : number_at lines (place log.proc i) ≡ Some (get_or line.numbers i e) = rw s.line_is (slice_get-get_or line.numbers i e lt) in
+          sound.sound.positive (place log.proc i) (get_or line.numbers i e) given
+      in_line k line at i e lt (inr (le, _)) = absurd (let c = sound.fits.count in let w = slice_get_within lines k line at in omega arith)
+
+  pub full_positions : IsPositions run lines
+  full_positions = record {
+    certified = record {
+      matches = matches run lines sound.fits full;
+      positive = positive;
+      rises = λ e f is_e is_f before. below e f is_f (record { member = f; shares = inl (is_f, refl); step = inl (is_e, is_f, before) });
+      sent = λ e f m x sends delivers. (let is_f : IsEvent run f = (Deliver m delivers.0, delivers.1) in below e f is_f (record { member = f; shares = inl (is_f, refl); step = inr (m, x, sends, delivers) }));
+      shared = λ e f same. shared e f same (event e f same);
+      apart = λ e f is_e is_f same. (let n = numbered e is_e in let in_class = sound.sound.apart e f n.number n.given (sym same ∙ n.given) in elim in_class [ inl (_, is) ↦ inl is | inr s ↦ inr s ]);
+    };
+    dense = λ e j k at pos le. (let most = sound.sound.few e k at in sound.sound.dense j pos (omega arith));
+    least = λ e f k l at_e at_f lt waits. sound.sound.least e f k at_e (sound.sound.only f l at_f) waits (record { none = λ m at_m. (let same : l ≡ m = cc in omega arith) });
+  }
+    where
+      event : (e f : Place) → SameClass run e f → IsEvent run e
+      event e f (inl (x, (ms, a), b)) = (_, a)
+      event e f (inr (m, (x, a), b)) = (_, a)
+
+      shared : (e f : Place) → SameClass run e f → IsEvent run e → number_at lines e ≡ number_at lines f
+      shared e f same is_e = let n = numbered e is_e in n.given ∙ sym (sound.sound.shared e f n.number n.given (inr same))

@@ -1,0 +1,45 @@
+-- Numbers and rising lines that grow at their end.
+use Rattle.std.specs.Prelude.{All, AllPairs}
+use Rattle.std.proofs.Common.{ℕ, ◌<◌, ◌≤◌, List, [], ◌∷◌, ◌++◌, length, arith}
+use Rattle.std.proofs.lemmas.List.Quantifiers.{all_pairs_push}
+use Rattle.std.proofs.lemmas.List.Elements.{All-push}
+use Rattle.totem_evs.specs.Certificates.{Numbering}
+use Rattle.totem_cert.specs.Keeping.{IsNumber, IsNumbers, IsLine, IsBelowLine, IsCertificate}
+
+-- each is the number of an entry
+pub record Numbered (numbers : List ℕ) : Type 0 where
+  pub each : All IsNumber numbers
+
+pub numbered_none : Numbered []
+numbered_none = record { each = λ k d within. absurd (omega arith) }
+
+pub numbered_more : (numbers : List ℕ) (n : ℕ) → Numbered numbers → IsNumber n → Numbered (numbers ++ n ∷ [])
+numbered_more numbers n h is = record { each = All-push IsNumber numbers n h.each is }
+
+-- these are the numbers of a line
+pub are_numbered : (numbers : List ℕ) → Numbered numbers → 0 < length numbers → length numbers ≤ 1000000 → IsNumbers numbers
+are_numbered numbers h some few = record { some = some; few = few; each = h.each }
+
+-- lines that rise up to the last one
+pub record RisingLines (lines : List Numbering) (last : ℕ) : Type 0 where
+  pub below : All (λ l. l.proc ≤ last) lines
+  pub rising : AllPairs IsBelowLine lines
+  pub each : All IsLine lines
+
+pub rising_none : (last : ℕ) → RisingLines [] last
+rising_none last = record {
+  below = λ k d within. absurd (omega arith);
+  rising = λ i j d lt within. absurd (omega arith);
+  each = λ k d within. absurd (omega arith);
+}
+
+pub rising_more : (lines : List Numbering) (last : ℕ) (l : Numbering) → RisingLines lines last → last < l.proc → IsLine l → RisingLines (lines ++ l ∷ []) l.proc
+rising_more lines last l h lt is = record {
+  below = All-push (λ b. b.proc ≤ l.proc) lines l (λ k d within. omega (arith, h.below k d within)) (omega arith);
+  rising = all_pairs_push IsBelowLine lines l h.rising (λ k d within. omega (arith, h.below k d within));
+  each = All-push IsLine lines l h.each is;
+}
+
+-- these are the lines of a certificate
+pub rising_certificate : (lines : List Numbering) (last : ℕ) → RisingLines lines last → length lines ≤ 32 → IsCertificate lines
+rising_certificate lines last h few = record { few = few; rising = h.rising; each = h.each }

@@ -1,0 +1,70 @@
+-- The steps of a walk, by the events to which they led.
+use Rattle.std.proofs.Common.{◌≡◌, ℕ, ◌<◌, ◌⊎◌, inl, inr, List, [], ◌∷◌, ◌++◌, length, slice_get, Some, None, Bool, true, false, refl, sym, ◌∙◌, ap, nat_cmp}
+use Rattle.std.specs.Ordering.{is_eq, ordering_then}
+use Rattle.std.specs.declared.cmp.Ordering.{Ordering}
+use Rattle.std.specs.declared.cmp.Ordering.TheVariants.{Less, Equal, Greater}
+use Rattle.std.specs.BTreeMap.{BTreeMap, get, Updates}
+use Rattle.std.proofs.lemmas.Cmp.{ranked}
+use Rattle.std.proofs.lemmas.Option.{slice_get_within}
+use Rattle.totem_ids.specs.declared.place.Place.{Place}
+use Rattle.totem_evs.specs.ClosedLists.{Visit}
+use Rattle.totem_cert.specs.Progress.{IsVisitedAt, IsNotVisited}
+use Rattle.totem_cert.specs.Visited.{place_order, IsNoted}
+use Rattle.totem_cert.proofs.Walking.{push_at, push_below, push_cases}
+
+same_number : (a b : ℕ) → nat_cmp a b ≡ Equal → a ≡ b
+same_number a b e = rw e at (ranked a b (nat_cmp a b) refl)
+
+both : (a b : Ordering) → ordering_then a b ≡ Equal → (a ≡ Equal) × (b ≡ Equal)
+both Less b h = absurd cc
+both Equal b h = (refl, h)
+both Greater b h = absurd cc
+
+same_place : (e f : Place) → place_order e f ≡ Equal → e ≡ f
+same_place e f h =
+    let parts = both (nat_cmp e.proc f.proc) (nat_cmp e.at f.at) h in
+    ap (λ (r : ℕ). let g : Place = record { proc = r; at = e.at } in g) (same_number e.proc f.proc parts.0) ∙ ap (λ (i : ℕ). let g : Place = record { proc = f.proc; at = i } in g) (same_number e.at f.at parts.1)
+
+equal_if : (o : Ordering) → is_eq o ≡ true → o ≡ Equal
+equal_if Less h = absurd cc
+equal_if Equal h = refl
+equal_if Greater h = absurd cc
+
+bool_cases : (b : Bool) → (b ≡ true) ⊎ (b ≡ false)
+bool_cases true = inl refl
+bool_cases false = inr refl
+
+-- the same place, or one that is told apart
+apart_or_same : (e f : Place) → (e ≡ f) ⊎ (is_eq (place_order e f) ≡ false)
+apart_or_same e f = elim (bool_cases (is_eq (place_order e f))) [ inl h ↦ inl (same_place e f (equal_if (place_order e f) h)) | inr h ↦ inr h ]
+
+pub noted_yet : (seen : BTreeMap Place ℕ) (visits : List Visit) → seen.entries ≡ [] → visits ≡ [] → IsNoted seen visits
+noted_yet seen visits empty is = record {
+  each = λ i v at. absurd (let h : slice_get {X = Visit} [] i ≡ Some v = rw is at at in cc);
+  only = λ e i at. absurd (let h : get place_order seen e ≡ None = rw empty refl in cc);
+}
+
+pub not_visited : (seen : BTreeMap Place ℕ) (visits : List Visit) (e : Place) → IsNoted seen visits → None ≡ get place_order seen e → IsNotVisited visits e (length visits)
+not_visited seen visits e noted none = record { none = λ j v lt at same. (let h = noted.each j v at in let k : get place_order seen e ≡ Some j = rw same at h in cc) }
+
+pub noted_more : (seen new : BTreeMap Place ℕ) (visits : List Visit) (next : Visit) → IsNoted seen visits → IsNotVisited visits next.to (length visits) → Updates place_order seen new next.to (Some (length visits)) → IsNoted new (visits ++ next ∷ [])
+noted_more seen new visits next noted fresh updates = record {
+  each = λ i v at. elim (push_cases visits next v i at) [
+    | inl (lt, h) ↦ kept i v lt h (apart_or_same next.to v.to)
+    | inr (e, same) ↦ rw (e, ← same) updates.1
+  ];
+  only = λ e i at. found e i at (apart_or_same next.to e);
+}
+  where
+    kept : (i : ℕ) (v : Visit) → i < length visits → slice_get visits i ≡ Some v → (next.to ≡ v.to) ⊎ (is_eq (place_order next.to v.to) ≡ false) → get place_order new v.to ≡ Some i
+    kept i v lt at (inl same) = absurd (fresh.none i v lt at (sym same))
+    kept i v lt at (inr apart) = updates.2 v.to apart ∙ noted.each i v at
+
+    found : (e : Place) (i : ℕ) → get place_order new e ≡ Some i → (next.to ≡ e) ⊎ (is_eq (place_order next.to e) ≡ false) → IsVisitedAt (visits ++ next ∷ []) e i
+    found e i at (inl same) =
+        let there : get place_order new e ≡ Some (length visits) = rw same at updates.1 in
+        let is : i ≡ length visits = cc in
+        record { visit = next; at = push_at visits next i is; same = same }
+    found e i at (inr apart) =
+        let h = noted.only e i (sym (updates.2 e apart) ∙ at) in
+        record { visit = h.visit; at = push_below visits next i (slice_get_within visits i h.visit h.at) ∙ h.at; same = h.same }

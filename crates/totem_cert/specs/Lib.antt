@@ -1,0 +1,13 @@
+pub mod Keeping
+pub mod CertText
+pub mod CertGrammar
+pub mod CertFronts
+pub mod CertFaults
+pub mod Reading
+pub mod Search
+pub mod Progress
+pub mod Answer
+pub mod Visited
+pub mod Laws
+pub mod Keys
+pub mod Keepers

@@ -1,0 +1,220 @@
+-- How far the numbering has come, and the walk to a closed list.
+use Rattle.std.specs.Prelude.{◌≡◌, ◌⊎◌, ℕ, ◌+◌, ◌-◌, ◌<◌, ◌≤◌, List, [], ◌∷◌, ◌++◌, length, drop, slice_get, unwrap_or, Bool, IsTrue, Option, Some, None}
+use Rattle.totem_ids.specs.declared.place.Place.{Place}
+use Rattle.totem_evs.specs.declared.entry.Entry.{Entry}
+use Rattle.totem_evs.specs.declared.entry.Entry.TheVariants.{Conf, Send, Deliver, Fail}
+use Rattle.totem_evs.specs.declared.log.Log.{Log}
+use Rattle.totem_evs.specs.Events.{IsEvent, log_of}
+use Rattle.totem_ids.specs.declared.message.MsgId.{MsgId}
+use Rattle.totem_evs.specs.Steps.{DeliversAt}
+use Rattle.totem_evs.specs.Classes.{IsAtMost}
+use Rattle.totem_evs.specs.Certificates.{Numbering, number_at, numbers_of}
+use Rattle.totem_cert.specs.Search.{place}
+use Rattle.totem_evs.specs.Classes.{InClass, WaitsFor, ClassAtMost}
+use Rattle.totem_evs.specs.Positions.{IsReadyAt}
+use Rattle.totem_evs.specs.ClosedLists.{Visit}
+use Rattle.totem_evs.specs.ClosedLists.{Placed, IsStepOf, IsWalk, ComesBack, forward, AreTwinDeliveries}
+
+-- e has a number
+pub record IsNumbered (lines : List Numbering) (e : Place) : Type 0 where
+  pub number : ℕ
+  pub given : number_at lines e ≡ Some number
+
+-- e has no number below k
+pub record NotBelow (lines : List Numbering) (e : Place) (k : ℕ) : Type 0 where
+  pub none : (l : ℕ) → number_at lines e ≡ Some l → k ≤ l
+
+-- the classes numbered so far, n of them
+pub record Sound (run : List Log) (lines : List Numbering) (n : ℕ) : Type 0 where
+  pub only : (e : Place) (k : ℕ) → number_at lines e ≡ Some k → IsEvent run e
+  pub positive : (e : Place) (k : ℕ) → number_at lines e ≡ Some k → 0 < k
+  pub few : (e : Place) (k : ℕ) → number_at lines e ≡ Some k → k ≤ n
+  pub dense : (j : ℕ) → 0 < j → j ≤ n → (f : Place) × (number_at lines f ≡ Some j)
+  pub waits : (e : Place) (k : ℕ) → number_at lines e ≡ Some k → IsReadyAt run lines e k
+  pub shared : (e f : Place) (k : ℕ) → number_at lines e ≡ Some k → InClass run e f → number_at lines f ≡ Some k
+  pub apart : (e f : Place) (k : ℕ) → number_at lines e ≡ Some k → number_at lines f ≡ Some k → InClass run e f
+  pub least : (e f : Place) (k : ℕ) → number_at lines e ≡ Some k → IsEvent run f → IsReadyAt run lines f k → NotBelow lines f k → ClassAtMost run e f
+  pub placed : (e : Place) (k : ℕ) → number_at lines e ≡ Some k → Placed run e
+
+-- e's class may get the next number
+pub record IsReady (run : List Log) (lines : List Numbering) (e : Place) : Type 0 where
+  pub event : IsEvent run e
+  pub unnumbered : number_at lines e ≡ None
+  pub waits : (g : Place) → WaitsFor run e g → IsNumbered lines g
+
+-- e's class is the next one
+pub record IsNext (run : List Log) (lines : List Numbering) (e : Place) : Type 0 where
+  pub ready : IsReady run lines e
+  pub least : (f : Place) → IsReady run lines f → ClassAtMost run e f
+
+-- the numbers where e's class got number n too
+pub record Gives (run : List Log) (old new : List Numbering) (e : Place) (n : ℕ) : Type 0 where
+  pub each : (x : Place) → (InClass run e x × (number_at new x ≡ Some n)) ⊎ ((InClass run e x → ⊥) × (number_at new x ≡ number_at old x))
+
+-- a line for each log, not longer than it
+pub record Fits (run : List Log) (lines : List Numbering) : Type 0 where
+  pub count : length lines ≡ length run
+  pub proc : (k : ℕ) (log : Log) (line : Numbering) → slice_get run k ≡ Some log → slice_get lines k ≡ Some line → line.proc ≡ log.proc
+  pub short : (k : ℕ) (log : Log) (line : Numbering) → slice_get run k ≡ Some log → slice_get lines k ≡ Some line → length line.numbers ≤ length log.entries
+
+-- how many entries have no number
+abbrev pub entries_left : List Log → List Numbering → ℕ
+entries_left [] lines = 0
+entries_left (log ∷ logs) [] = 0
+entries_left (log ∷ logs) (line ∷ lines) = (length log.entries - length line.numbers) + entries_left logs lines
+
+-- two entries of one class, wherever they stand
+abbrev pub AreAlike : Entry → Entry → Type 0
+AreAlike (Conf x ms) (Conf y ns) = x ≡ y
+AreAlike (Deliver m x) (Deliver n y) = m ≡ n
+AreAlike _ _ = ⊥
+
+-- the first sends the message that the second delivers
+abbrev pub Feeds : Entry → Entry → Type 0
+Feeds (Send m x s) (Deliver n y) = m ≡ n
+Feeds _ _ = ⊥
+
+-- the event at i of q's log is in the class of the entry at j of p's
+abbrev pub IsMate : ℕ → ℕ → Entry → ℕ → ℕ → Entry → Type 0
+IsMate p j x q i y = ((p ≡ q) × (j ≡ i)) ⊎ AreAlike x y
+
+-- the event at i of q's log keeps the class of the entry x at j of p's log from being ready
+abbrev pub KeepsBack : List Log → List Numbering → ℕ → ℕ → Entry → ℕ → ℕ → Type 0
+KeepsBack run lines p j x q i = (y : Entry) × (slice_get (log_of run q) i ≡ Some y)
+    × ((IsMate p j x q i y × (length (numbers_of lines q) < i)) ⊎ (Feeds y x × (length (numbers_of lines q) ≤ i)))
+
+-- the head of the k-th log is the next event to be numbered
+pub record IsNextHead (run : List Log) (lines : List Numbering) (k : ℕ) : Type 0 where
+  pub log : Log
+  pub line : Numbering
+  pub log_at : slice_get run k ≡ Some log
+  pub line_at : slice_get lines k ≡ Some line
+  pub next : IsNext run lines (place log.proc (length line.numbers))
+
+-- nothing is ready
+pub record NoneReady (run : List Log) (lines : List Numbering) : Type 0 where
+  pub none : (e : Place) → IsReady run lines e → ⊥
+
+-- no head of a log before the k-th is ready
+pub record NoneReadyBefore (run : List Log) (lines : List Numbering) (k : ℕ) : Type 0 where
+  pub none : (j : ℕ) (log : Log) (line : Numbering) → j < k → slice_get run j ≡ Some log → slice_get lines j ≡ Some line → IsReady run lines (place log.proc (length line.numbers)) → ⊥
+
+-- some classes are numbered, and each as it should be
+pub record IsSound (run : List Log) (lines : List Numbering) : Type 0 where
+  pub fits : Fits run lines
+  pub number : ℕ
+  pub small : number ≤ 32000000
+  pub sound : Sound run lines number
+
+-- the first entry of a log without a number is in the class of the entry x at j of p's log
+abbrev pub HeadIsMate : ℕ → ℕ → Entry → Log → Numbering → Type 0
+HeadIsMate p j x log line = (y : Entry) × (slice_get log.entries (length line.numbers) ≡ Some y) × IsMate p j x log.proc (length line.numbers) y
+
+-- a line, and that line where the class of the entry x at j of p's log got number n
+abbrev pub LineGiven : ℕ → ℕ → Entry → ℕ → Log → Numbering → Numbering → Type 0
+LineGiven p j x n log was now =
+    (HeadIsMate p j x log was × (now ≡ record was { numbers = was.numbers ++ n ∷ [] }))
+    ⊎ ((HeadIsMate p j x log was → ⊥) × (now ≡ was))
+
+-- the lines of the first i logs got it
+pub record GivenUpTo (run : List Log) (old new : List Numbering) (p j : ℕ) (x : Entry) (n i : ℕ) : Type 0 where
+  pub count : length new ≡ length old
+  pub before : (k : ℕ) (log : Log) (was now : Numbering) → k < i → slice_get run k ≡ Some log → slice_get old k ≡ Some was → slice_get new k ≡ Some now → LineGiven p j x n log was now
+  pub after : (k : ℕ) → i ≤ k → slice_get new k ≡ slice_get old k
+
+abbrev pub empty_line : Log → Numbering
+empty_line log = record { proc = log.proc; numbers = [] }
+
+-- n classes are numbered, and there is room for the others
+pub record IsNumberedSoFar (run : List Log) (lines : List Numbering) (n : ℕ) : Type 0 where
+  pub fits : Fits run lines
+  pub sound : Sound run lines n
+  pub room : n + entries_left run lines ≤ 32000000
+
+-- each entry of the logs before the k-th has a number
+pub record IsFullBefore (run : List Log) (lines : List Numbering) (k : ℕ) : Type 0 where
+  pub full : (j : ℕ) (log : Log) (line : Numbering) → j < k → slice_get run j ≡ Some log → slice_get lines j ≡ Some line → length log.entries ≤ length line.numbers
+
+-- each entry has a number
+pub record IsFull (run : List Log) (lines : List Numbering) : Type 0 where
+  pub full : (j : ℕ) (log : Log) (line : Numbering) → slice_get run j ≡ Some log → slice_get lines j ≡ Some line → length log.entries ≤ length line.numbers
+
+-- the k-th log is the first that has an entry without a number
+pub record IsFirstLeft (run : List Log) (lines : List Numbering) (k : ℕ) : Type 0 where
+  pub log : Log
+  pub line : Numbering
+  pub log_at : slice_get run k ≡ Some log
+  pub line_at : slice_get lines k ≡ Some line
+  pub more : length line.numbers < length log.entries
+  pub before : IsFullBefore run lines k
+
+-- the event at i of q's log sends the message that the entry x delivers, and has no number
+abbrev pub IsOpenSend : List Log → List Numbering → Entry → ℕ → ℕ → Type 0
+IsOpenSend run lines x q i = (y : Entry) × (slice_get (log_of run q) i ≡ Some y) × Feeds y x × (length (numbers_of lines q) ≤ i)
+
+-- the event at i of q's log is in the class of the entry x at j of p's log, and that class waits for a send, or the entry before has no number
+abbrev pub IsHeldMate : List Log → List Numbering → ℕ → ℕ → Entry → Bool → ℕ → ℕ → Type 0
+IsHeldMate run lines p j x waits q i = (y : Entry) × (slice_get (log_of run q) i ≡ Some y) × IsMate p j x q i y × (IsTrue waits ⊎ (length (numbers_of lines q) < i))
+
+-- from holds to up: the entry before, where it has no number, or else the send
+abbrev pub IsHeldBy : List Numbering → Option Place → Place → Place → Type 0
+IsHeldBy lines send to from =
+    ((length (numbers_of lines to.proc) + 1 < to.at) × (from.proc ≡ to.proc) × (from.at + 1 ≡ to.at))
+    ⊎ ((to.at ≤ length (numbers_of lines to.proc) + 1) × (from ≡ unwrap_or send to))
+
+-- the step at i leads to that event
+pub record IsVisitedAt (visits : List Visit) (to : Place) (i : ℕ) : Type 0 where
+  pub visit : Visit
+  pub at : slice_get visits i ≡ Some visit
+  pub same : visit.to ≡ to
+
+-- no step before the i-th leads to that event
+pub record IsNotVisited (visits : List Visit) (to : Place) (i : ℕ) : Type 0 where
+  pub none : (j : ℕ) (visit : Visit) → j < i → slice_get visits j ≡ Some visit → visit.to ≡ to → ⊥
+
+-- a walk, and the step that comes next
+pub record IsWalking (run : List Log) (start : Place) (visits : List Visit) (next : Visit) : Type 0 where
+  pub walk : IsWalk run start visits
+  pub first : length visits ≡ 0 → IsStepOf run start next
+  pub later : (i : ℕ) (visit : Visit) → slice_get visits i ≡ Some visit → length visits ≡ i + 1 → IsStepOf run visit.from next
+
+-- the walk of these steps came back to the class of the step at `again`
+pub record IsRound (run : List Log) (start : Place) (visits : List Visit) (again : ℕ) : Type 0 where
+  pub last : Visit
+  pub back : ComesBack run start visits again last
+
+-- p is what the step at i comes after in forward order's end: the event from which the step before it leads, or the last step's for the first
+abbrev pub StandsBefore : List Visit → ℕ → ℕ → Place → Type 0
+StandsBefore visits again i p =
+    ((again < i) × (v : Visit) × (slice_get visits (i - 1) ≡ Some v) × (p ≡ v.from))
+    ⊎ ((i ≡ again) × (v : Visit) × (slice_get visits (length visits - 1) ≡ Some v) × (p ≡ v.from))
+
+-- the steps from the i-th on, in forward order
+pub record IsForwardFrom (visits : List Visit) (again i : ℕ) (places : List Place) : Type 0 where
+  pub each : (p : Place) → StandsBefore visits again i p → places ≡ forward p (drop i visits)
+
+-- no event before the i-th is below that at k
+pub record IsLeastUpTo (places : List Place) (k i : ℕ) : Type 0 where
+  pub least : (j : ℕ) (e f : Place) → j < i → slice_get places k ≡ Some e → slice_get places j ≡ Some f → IsAtMost e f
+
+-- the message that an entry delivers
+abbrev pub message_of : Entry → Option MsgId
+message_of (Conf x ms) = None
+message_of (Send m x s) = None
+message_of (Deliver m x) = Some m
+message_of (Fail x) = None
+
+pub record NeverDelivers (run : List Log) (e : Place) : Type 0 where
+  pub never : (m : MsgId) → DeliversAt run e m → ⊥
+
+-- f follows the event at i of a closed list
+abbrev pub StandsNext : List Place → ℕ → Place → Type 0
+StandsNext places i f = (slice_get places (i + 1) ≡ Some f) ⊎ ((length places ≡ i + 1) × (slice_get places 0 ≡ Some f))
+
+-- no event of a closed list before the i-th is a delivery of the message that the next one delivers too
+pub record NoTwinsBefore (run : List Log) (places : List Place) (i : ℕ) : Type 0 where
+  pub none : (j : ℕ) (e f : Place) → j < i → slice_get places j ≡ Some e → StandsNext places j f → AreTwinDeliveries run e f → ⊥
+
+abbrev pub BothAre : Option MsgId → Option MsgId → Type 0
+BothAre (Some m) (Some n) = m ≡ n
+BothAre _ _ = ⊥

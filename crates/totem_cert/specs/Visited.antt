@@ -1,0 +1,16 @@
+-- Which step of a walk led to which event.
+use Rattle.std.specs.Prelude.{◌≡◌, ℕ, List, slice_get, Some}
+use Rattle.std.specs.BTreeMap.{BTreeMap, get}
+use Rattle.std.specs.declared.cmp.Ordering.{Ordering}
+use Rattle.totem_ids.specs.declared.place.Place.{Place}
+use Rattle.totem_evs.specs.ClosedLists.{Visit}
+use Rattle.totem_cert.specs.Progress.{IsVisitedAt}
+
+-- the order of places
+abbrev pub place_order : Place → Place → Ordering
+place_order = (Rattle.totem_ids.specs.contracts.place.PlaceOrd.TheImpl.cmp-value).it
+
+-- the map has for each event to which a step led the number of that step
+pub record IsNoted (seen : BTreeMap Place ℕ) (visits : List Visit) : Type 0 where
+  pub each : (i : ℕ) (v : Visit) → slice_get visits i ≡ Some v → get place_order seen v.to ≡ Some i
+  pub only : (e : Place) (i : ℕ) → get place_order seen e ≡ Some i → IsVisitedAt visits e i

@@ -1,0 +1,80 @@
+ghost use Rattle.std.specs.Prelude.{◌≡◌, ◌<◌, ◌≤◌, ◌↔◌, ◌∷◌, ◌++◌, IsTrue, IfOk, OnOk, length};
+ghost use Rattle.totem_evs.specs.Classes.{IsAtMost};
+ghost use Rattle.totem_evs.specs.ClosedLists.{unless, IsTurned, BeginsLeast};
+ghost use Rattle.totem_cert.specs.Progress.{StandsBefore, IsForwardFrom, IsLeastUpTo};
+
+use crate::visit::Visit;
+use std::alloc::{AllocError, Global};
+use totem_ids::Place;
+
+/// What stands behind a step in forward order.
+fn before(visits: &[Visit], again: usize, i: usize) -> Place
+    requires from { again ≤ i }
+    requires within { i < length visits.now }
+    ensures { StandsBefore visits.now again i result }
+{
+    let behind = if i == again { visits.len() } else { i };
+    let visit = visits[behind - 1];
+    visit.from
+}
+
+/// Writes a step, its second event only where another one stands behind it.
+fn write_step(places: &mut Vec<Place>, visit: &Visit, before: &Place) -> Result<(), AllocError>
+    ensures { OnOk result (places.new.items ≡ places.old.items ++ (visit.now.from ∷ unless visit.now.to before.now)) }
+{
+    places.push(visit.from)?;
+    if visit.to != *before {
+        places.push(visit.to)?;
+    }
+    Ok(())
+}
+
+/// The steps of a round in forward order.
+pub fn forward(alloc: Global, visits: &[Visit], again: usize) -> Result<Vec<Place>, AllocError>
+    requires { again < length visits.now }
+    ensures { IfOk result (λ places. IsForwardFrom visits.now again again places.items) }
+{
+    let mut places = Vec::new(alloc);
+    let mut i = visits.len();
+    while again < i {
+        i -= 1;
+        let before = before(visits, again, i);
+        write_step(&mut places, &visits[i], &before)?;
+    }
+    Ok(places)
+}
+
+fn is_at_most(e: &Place, f: &Place) -> bool
+    ensures { IsTrue result ↔ IsAtMost e.now f.now }
+{
+    let p = e.proc.number();
+    let q = f.proc.number();
+    p < q || (p == q && e.at <= f.at)
+}
+
+/// Where the least place stands.
+fn least_of(places: &[Place]) -> usize
+    requires { 0 < length places.now }
+    ensures within { result < length places.now }
+    ensures least { IsLeastUpTo places.now result (length places.now) }
+{
+    let mut least = 0;
+    for (i, place) in places.iter().enumerate() {
+        if !is_at_most(&places[least], place) {
+            least = i;
+        }
+    }
+    least
+}
+
+/// The same list, begun at its least place.
+pub fn turned(alloc: Global, places: &[Place]) -> Result<Vec<Place>, AllocError>
+    requires { 0 < length places.now }
+    ensures turned { IfOk result (λ list. IsTurned places.now list.items) }
+    ensures least { IfOk result (λ list. BeginsLeast list.items) }
+{
+    let least = least_of(places);
+    let mut list = Vec::from_slice(alloc, &places[least..])?;
+    list.extend_from_slice(&places[..least])?;
+    Ok(list)
+}

@@ -1,0 +1,65 @@
+ghost use Rattle.std.specs.Prelude.{IfOk, ◌≡◌};
+ghost use Rattle.totem_evs.specs.ClosedLists.{IsLeastLeft, IsBrokenBy};
+ghost use Rattle.totem_evs.specs.Runs.{IsRun};
+ghost use Rattle.totem_evs.specs.ClosedLists.{IsCycle};
+ghost use Rattle.totem_cert.specs.Keys.{IsIndex};
+ghost use Rattle.totem_cert.specs.Progress.{IsSound, NoneReady, IsFirstLeft};
+
+use crate::closed::{forward, turned};
+use crate::index::Index;
+use crate::open_line::OpenLine;
+use crate::twins::has_twins;
+use crate::walk::walk_round;
+use std::alloc::{AllocError, Global};
+use totem_evs::{Fault, Places, Run, SpecNo};
+use totem_ids::Place;
+
+/// The least event that is left.
+fn least_left(run: &Run, lines: &[OpenLine], k: usize) -> Place
+    requires sound { IsSound run.now.logs lines.now }
+    requires none { NoneReady run.now.logs lines.now }
+    requires left { IsFirstLeft run.now.logs lines.now k }
+    ensures { IsLeastLeft run.now.logs result }
+{
+    let log = &run.logs.as_slice()[k];
+    Place {
+        proc: log.proc,
+        at: (lines[k].numbers().len() + 1) as u32,
+    }
+}
+
+/// The specification that a closed list breaks.
+fn broken_by(run: &Run, places: &[Place]) -> SpecNo
+    ensures { IsBrokenBy run.now.logs result places.now }
+{
+    if has_twins(run, places) {
+        SpecNo::Order
+    } else {
+        SpecNo::Cycle
+    }
+}
+
+/// The closed list where nothing is ready and the k-th log is the first that isn't numbered to its end.
+pub fn closed_list(
+    alloc: Global,
+    run: &Run,
+    index: &Index,
+    lines: &[OpenLine],
+    k: usize,
+) -> Result<Fault, AllocError>
+    requires run { IsRun run.now.logs }
+    requires index { IsIndex run.now.logs index.now.members.items }
+    requires sound { IsSound run.now.logs lines.now }
+    requires none { NoneReady run.now.logs lines.now }
+    requires left { IsFirstLeft run.now.logs lines.now k }
+    ensures { IfOk result (λ fault. IsCycle run.now.logs fault) }
+{
+    let start = least_left(run, lines, k);
+    let round = walk_round(alloc, run, index, lines, &start)?;
+    let written = forward(alloc, &round.visits, round.again)?;
+    let places = turned(alloc, &written)?;
+    Ok(Fault {
+        spec: broken_by(run, &places),
+        places: Places::new(places),
+    })
+}

@@ -1,0 +1,68 @@
+ghost use Rattle.std.specs.Prelude.{◌≡◌, ◌+◌, ◌<◌, ◌≤◌, ◌↔◌, IsTrue, Some, OnOk, slice_get};
+ghost use Rattle.totem_evs.specs.Events.{log_of};
+ghost use Rattle.totem_cert.specs.Search.{place};
+ghost use Rattle.totem_cert.specs.Progress.{IsSound, Sound, IsNext, IsNextHead, Fits, Gives, HeadIsMate, entries_left};
+
+use crate::class::is_mate;
+use crate::open_line::OpenLine;
+use std::alloc::AllocError;
+use totem_evs::{Entry, Log, Run};
+use totem_ids::ProcId;
+
+/// Whether the head of a log is in the class of the entry at an index of the process's log.
+fn is_head_mate(proc: ProcId, at: usize, entry: &Entry, log: &Log, line: &OpenLine) -> bool
+    ensures { IsTrue result ↔ HeadIsMate proc at entry.now log.now line.now }
+{
+    let entries = log.entries.as_slice();
+    let head = line.numbers().len();
+    if head < entries.len() {
+        is_mate(proc, at, entry, log.proc, head, &entries[head])
+    } else {
+        false
+    }
+}
+
+/// Gives each entry of a class its number, where the class is the next one.
+pub fn give(
+    run: &Run,
+    lines: &mut Vec<OpenLine>,
+    proc: ProcId,
+    at: usize,
+    entry: &Entry,
+    number: u32,
+) -> Result<(), AllocError>
+    requires sound { IsSound run.now.logs lines.old.items }
+    requires entry { slice_get (log_of run.now.logs proc) at ≡ Some entry.now }
+    requires next { IsNext run.now.logs lines.old.items (place proc at) }
+    ensures fits { OnOk result (Fits run.now.logs lines.new.items) }
+    ensures gives { OnOk result (Gives run.now.logs lines.old.items lines.new.items (place proc at) number) }
+    ensures left { OnOk result (entries_left run.now.logs lines.new.items < entries_left run.now.logs lines.old.items) }
+{
+    for (k, log) in run.logs.as_slice().iter().enumerate() {
+        if is_head_mate(proc, at, entry, log, &lines[k]) {
+            lines[k].push(number)?;
+        }
+    }
+    Ok(())
+}
+
+/// Gives the class of a log's head the next number.
+pub fn give_next(
+    run: &Run,
+    lines: &mut Vec<OpenLine>,
+    k: usize,
+    number: u32,
+) -> Result<(), AllocError>
+    requires fits { Fits run.now.logs lines.old.items }
+    requires sound { Sound run.now.logs lines.old.items number }
+    requires next { IsNextHead run.now.logs lines.old.items k }
+    requires room { number ≤ 32000000 }
+    ensures fits { OnOk result (Fits run.now.logs lines.new.items) }
+    ensures sound { OnOk result (Sound run.now.logs lines.new.items (number + 1)) }
+    ensures left { OnOk result (entries_left run.now.logs lines.new.items < entries_left run.now.logs lines.old.items) }
+{
+    let log = &run.logs.as_slice()[k];
+    let entries = log.entries.as_slice();
+    let at = lines[k].numbers().len();
+    give(run, lines, log.proc, at, &entries[at], number + 1)
+}

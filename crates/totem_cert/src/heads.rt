@@ -1,0 +1,67 @@
+//! Readers of lines up to their numbers, and of the last line.
+ghost use Rattle.std.specs.Prelude.{ℕ, ◌<◌, IfOk, Bool};
+ghost use Rattle.totem_ids.specs.Sources.{Reads, seen};
+ghost use Rattle.totem_evs.specs.NextLines.{MayBegin};
+ghost use Rattle.totem_cert.specs.CertGrammar.{line_proc_at, begin_at, end_at, head_at};
+
+use totem_ids::{ProcId, ReadError, Source, TextFault, next, number, word};
+
+#[tactic(auto, using(totem_evs::proofs::ReaderSteps::reader_steps), unfolding(crate::specs::CertGrammar::line_proc_at))]
+fn read_line_proc<S: Source>(source: &mut S, last: u16) -> Result<ProcId, ReadError>
+    ensures read { Reads (seen S.remaining S.failures source.old)
+        (seen S.remaining S.failures source.new) result (line_proc_at last) }
+    ensures above { IfOk result (λ p. last < p) }
+{
+    word(source, b"os ", TextFault::Word)?;
+    let (proc, byte) = number(source, 65535)?;
+    if proc <= last as u32 {
+        return Err(ReadError::Text(TextFault::Order));
+    }
+    if byte != b' ' {
+        return Err(ReadError::Text(TextFault::Word));
+    }
+    Ok(ProcId::of(proc as u16))
+}
+
+#[tactic(auto, using(totem_evs::proofs::ReaderSteps::reader_steps), unfolding(crate::specs::CertGrammar::begin_at))]
+fn read_begin<S: Source>(source: &mut S, full: bool, last: u16) -> Result<Option<ProcId>, ReadError>
+    ensures read { Reads (seen S.remaining S.failures source.old)
+        (seen S.remaining S.failures source.new) result (begin_at full last) }
+    ensures begins { IfOk result (MayBegin full last) }
+{
+    if full {
+        return Err(ReadError::Text(TextFault::TooMany));
+    }
+    let proc = read_line_proc(source, last)?;
+    Ok(Some(proc))
+}
+
+#[tactic(auto, using(totem_evs::proofs::ReaderSteps::reader_steps), unfolding(crate::specs::CertGrammar::end_at))]
+fn read_last<S: Source>(source: &mut S) -> Result<Option<ProcId>, ReadError>
+    ensures read { Reads (seen S.remaining S.failures source.old)
+        (seen S.remaining S.failures source.new) result end_at }
+    ensures begins { (full : Bool) (above : ℕ) → IfOk result (MayBegin full above) }
+{
+    word(source, b"nd\n", TextFault::Word)?;
+    Ok(None)
+}
+
+/// The next line up to its numbers, whose process is above `last`, or the last line; none where the certificate is
+/// `full`.
+#[tactic(auto, using(totem_evs::proofs::ReaderSteps::reader_steps), unfolding(crate::specs::CertGrammar::head_at))]
+pub fn read_head<S: Source>(
+    source: &mut S,
+    full: bool,
+    last: u16,
+) -> Result<Option<ProcId>, ReadError>
+    ensures read { Reads (seen S.remaining S.failures source.old)
+        (seen S.remaining S.failures source.new) result (head_at full last) }
+    ensures begins { IfOk result (MayBegin full last) }
+{
+    let letter = next(source)?;
+    match letter {
+        b'p' => read_begin(source, full, last),
+        b'e' => read_last(source),
+        _ => Err(ReadError::Text(TextFault::Word)),
+    }
+}

@@ -1,0 +1,88 @@
+//! What keeps a class from being ready, found among the entries with its key.
+ghost use Rattle.std.specs.Prelude.{◌≡◌, ◌↔◌, IsTrue, IfSome, IfNone};
+ghost use Rattle.totem_cert.specs.Keys.{KeysRise};
+ghost use Rattle.totem_cert.specs.Keepers.{given_at, StandsBehind, MemberKeeps, KeepsAt, NoneKeepsFrom, IsEnd};
+
+use crate::index::Index;
+use crate::key::{Key, Member};
+use crate::open_line::OpenLine;
+
+/// How many entries of a log have a number.
+pub fn given_at(lines: &[OpenLine], log: usize) -> usize
+    ensures { result ≡ given_at lines.now log }
+{
+    match lines.get(log) {
+        Some(line) => line.numbers().len(),
+        None => 0,
+    }
+}
+
+fn stands_behind(shares: bool, given: usize, at: usize) -> bool
+    ensures { IsTrue result ↔ StandsBehind shares given at }
+{
+    if shares { given < at } else { given <= at }
+}
+
+/// Whether an entry keeps the class of a key from being ready.
+fn keeps(lines: &[OpenLine], key: &Key, member: &Member) -> bool
+    ensures { IsTrue result ↔ MemberKeeps lines.now key.now member.now }
+{
+    let given = given_at(lines, member.log);
+    member.key.is(key) && stands_behind(member.shares, given, member.at)
+}
+
+/// Where the members may end that have the key of an entry.
+fn noted_end(index: &Index, log: usize, at: usize) -> usize {
+    match index.ends.get(log) {
+        Some(row) => match row.get(at) {
+            Some(end) => *end,
+            None => 0,
+        },
+        None => 0,
+    }
+}
+
+/// Where the members end that have a key, which the entry at this index of this log has.
+#[tactic(auto, using(crate::proofs::Scanning::end_here, crate::proofs::Scanning::end_of_all))]
+pub fn end_of(index: &Index, key: &Key, log: usize, at: usize) -> usize
+    requires { KeysRise index.now.members.items }
+    ensures { IsEnd index.now.members.items key.now result }
+{
+    let end = noted_end(index, log, at);
+    if end < index.members.len() && key.is_below(&index.members[end].key) {
+        end
+    } else {
+        index.members.len()
+    }
+}
+
+/// An entry that keeps the class of a key from being ready; the one that did so last is asked first.
+#[tactic(auto, using(crate::proofs::Scanning::keeps_here, crate::proofs::Scanning::none_yet, crate::proofs::Scanning::none_more, crate::proofs::Scanning::none_below))]
+pub fn keeper(
+    index: &Index,
+    lines: &[OpenLine],
+    key: &Key,
+    log: usize,
+    at: usize,
+    last: usize,
+) -> Option<usize>
+    requires { KeysRise index.now.members.items }
+    ensures found { IfSome result (KeepsAt lines.now index.now.members.items key.now) }
+    ensures none { IfNone result (NoneKeepsFrom lines.now index.now.members.items key.now 0) }
+{
+    if last < index.members.len() && keeps(lines, key, &index.members[last]) {
+        return Some(last);
+    }
+    let mut s = end_of(index, key, log, at);
+    while 0 < s {
+        s -= 1;
+        let member = index.members[s];
+        if keeps(lines, key, &member) {
+            return Some(s);
+        }
+        if member.key.is_below(key) {
+            return None;
+        }
+    }
+    None
+}

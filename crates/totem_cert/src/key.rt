@@ -1,0 +1,72 @@
+ghost use Rattle.std.specs.Prelude.{◌≡◌, ◌↔◌, IsTrue};
+ghost use Rattle.totem_cert.specs.Keys.{KeyBelow, key_of, class_key, shares};
+
+use totem_evs::Entry;
+use totem_ids::{ConfId, MsgId};
+
+/// What the entries of a class have in common: the message that they deliver, or the configuration to which they change.
+#[derive(Clone, Copy, Debug, PartialEq, Eq, PartialOrd, Ord)]
+pub enum Key {
+    Message(MsgId),
+    Conf(ConfId),
+}
+
+impl Key {
+    /// Whether this is the other key: `==`, as contracts can use it.
+    pub fn is(&self, other: &Key) -> bool
+        ensures { IsTrue result ↔ (self.now ≡ other.now) }
+    {
+        match (self, other) {
+            (Key::Message(message), Key::Message(same)) => *message == *same,
+            (Key::Conf(conf), Key::Conf(same)) => conf.is(same),
+            _ => false,
+        }
+    }
+
+    /// Whether this one comes before the other: `<`, as contracts can use it.
+    pub fn is_below(&self, other: &Key) -> bool
+        ensures { IsTrue result ↔ KeyBelow self.now other.now }
+    {
+        *self < *other
+    }
+
+    /// The message or the configuration that an entry names.
+    pub fn of(entry: &Entry) -> Option<Key>
+        ensures { result ≡ key_of entry.now }
+    {
+        match entry {
+            Entry::Conf(conf, _) => Some(Key::Conf(*conf)),
+            Entry::Send(message, _, _) => Some(Key::Message(*message)),
+            Entry::Deliver(message, _) => Some(Key::Message(*message)),
+            Entry::Fail(_) => None,
+        }
+    }
+
+    /// The key of an entry's class; none where the entry is alone in its class.
+    pub fn of_class(entry: &Entry) -> Option<Key>
+        ensures { result ≡ class_key entry.now }
+    {
+        match entry {
+            Entry::Conf(conf, _) => Some(Key::Conf(*conf)),
+            Entry::Deliver(message, _) => Some(Key::Message(*message)),
+            _ => None,
+        }
+    }
+}
+
+/// An entry with a key, by its log and its index there.
+#[derive(Clone, Copy, Debug, PartialEq, Eq, PartialOrd, Ord)]
+pub struct Member {
+    pub key: Key,
+    /// Whether the entry is in the class of its key; else it sends the message.
+    pub shares: bool,
+    pub log: usize,
+    pub at: usize,
+}
+
+/// Whether an entry is in the class of its key.
+pub fn shares(entry: &Entry) -> bool
+    ensures { result ≡ shares entry.now }
+{
+    matches!(entry, Entry::Conf(_, _) | Entry::Deliver(_, _))
+}

@@ -1,0 +1,49 @@
+//! Certificates: numbers for the events of a run, given, read and written.
+#![tactic(auto)]
+
+mod cert_fault;
+mod certificate;
+mod class;
+mod closed;
+mod closed_list;
+mod give;
+mod heads;
+mod index;
+mod keeper;
+mod key;
+mod laws;
+mod line;
+mod lines;
+mod numbering;
+mod numbers;
+mod open_line;
+mod order;
+#[cfg(test)]
+mod position_tests;
+mod reading;
+mod ready;
+mod step;
+#[cfg(test)]
+mod tests;
+mod text_laws;
+#[cfg(test)]
+mod text_tests;
+mod twins;
+mod visit;
+mod walk;
+mod wanted;
+mod writing;
+
+pub use cert_fault::CertFault;
+pub use certificate::Certificate;
+pub use laws::{closed_lists_are_one, closed_lists_exclude_certificates, positions_are_one};
+pub use line::Line;
+pub use lines::Lines;
+pub use numbers::{Numbers, NumbersFault, RefusedNumbers};
+pub use order::{Order, positions};
+pub use reading::read_cert;
+pub use text_laws::{
+    a_fault_is_no_text, cut_text_goes_on, fault_byte_is_first, fault_is_first, faults_are_its_own,
+    no_text_begins_another, read_is_spelled, spelled_is_read,
+};
+pub use writing::{put_cert, write_cert};

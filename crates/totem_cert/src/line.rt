@@ -1,0 +1,41 @@
+ghost use Rattle.std.specs.Prelude.{◌≡◌, IfOk};
+ghost use Rattle.totem_cert.specs.Keeping.{IsLine};
+
+use crate::numbers::Numbers;
+use std::alloc::{AllocError, Global};
+use std::marker::Model;
+use totem_ids::{ProcId, process_fits};
+
+/// A line of a certificate: a process, and a number for each entry of its log.
+#[derive(Debug, Drop)]
+pub struct Line {
+    pub proc: ProcId,
+    pub numbers: Numbers,
+}
+
+impl Model for Line {
+    ghost use Rattle.totem_evs.specs.Certificates.{Numbering};
+
+    ghost Value = { Numbering };
+
+    ghost view = { λ l. record { proc = l.proc; numbers = l.numbers } };
+}
+
+impl Line {
+    /// What the types of its parts keep, this passes on.
+    pub(crate) fn keeps_its_rules(&self)
+        ensures { IsLine self.now }
+    {
+        process_fits(self.proc);
+        let _ = self.numbers.as_slice();
+    }
+
+    pub fn try_clone(&self, alloc: Global) -> Result<Line, AllocError>
+        ensures { IfOk result (λ l. l ≡ self.now) }
+    {
+        Ok(Line {
+            proc: self.proc,
+            numbers: self.numbers.try_clone(alloc)?,
+        })
+    }
+}

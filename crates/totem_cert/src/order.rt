@@ -1,0 +1,57 @@
+ghost use Rattle.std.specs.Prelude.{◌≡◌, IfOk};
+ghost use Rattle.totem_cert.specs.Answer.{IsOrder};
+ghost use Rattle.totem_cert.specs.Progress.{IsSound, IsFull};
+
+use crate::certificate::Certificate;
+use crate::closed_list::closed_list;
+use crate::index::Index;
+use crate::line::Line;
+use crate::numbering::{first_left, number_all};
+use crate::open_line::OpenLine;
+use std::alloc::{AllocError, Global};
+use totem_evs::{Fault, Run};
+
+/// The positions of a run's events, or why they have none.
+#[derive(Debug, Drop)]
+pub enum Order {
+    Positions(Certificate),
+    Cycle(Fault),
+}
+
+impl Order {
+    pub fn try_clone(&self, alloc: Global) -> Result<Order, AllocError>
+        ensures { IfOk result (λ order. order ≡ self.now) }
+    {
+        match self {
+            Order::Positions(certificate) => Ok(Order::Positions(certificate.try_clone(alloc)?)),
+            Order::Cycle(fault) => Ok(Order::Cycle(fault.try_clone(alloc)?)),
+        }
+    }
+}
+
+/// The certificate of lines to which nothing is to be added.
+fn certificate(alloc: Global, run: &Run, lines: Vec<OpenLine>) -> Result<Certificate, AllocError>
+    requires sound { IsSound run.now.logs lines.items }
+    requires full { IsFull run.now.logs lines.items }
+    ensures { IfOk result (λ c. c ≡ lines.items) }
+{
+    let _ = run.logs.as_slice();
+    let mut list: Vec<Line> = Vec::with_capacity(alloc, lines.len())?;
+    for line in lines {
+        list.push(line.close())?;
+    }
+    Ok(Certificate::of(list))
+}
+
+/// A number for each event: again and again the ready class that holds the least place gets the next one
+/// (docs/SPECIFICATIONS.md, "Positions"). Where classes are left and none is ready, a closed list of steps.
+pub fn positions(alloc: Global, run: &Run) -> Result<Order, AllocError>
+    ensures { IfOk result (λ order. IsOrder run.now.logs order) }
+{
+    let index = Index::of(alloc, run)?;
+    let lines = number_all(alloc, run, &index)?;
+    match first_left(run, &lines) {
+        None => Ok(Order::Positions(certificate(alloc, run, lines)?)),
+        Some(k) => Ok(Order::Cycle(closed_list(alloc, run, &index, &lines, k)?)),
+    }
+}

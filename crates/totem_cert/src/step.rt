@@ -1,0 +1,193 @@
+ghost use Rattle.std.specs.Prelude.{◌≡◌, ◌⊎◌, ◌+◌, ◌<◌, ◌≤◌, ◌↔◌, IsTrue, IfSome, IfNone, Some, slice_get, length};
+ghost use Rattle.std.specs.Option.{option_copied};
+ghost use Rattle.totem_evs.specs.Events.{log_of};
+ghost use Rattle.totem_cert.specs.Search.{place, IsLeast, NoneOf};
+ghost use Rattle.totem_evs.specs.Certificates.{numbers_of};
+ghost use Rattle.totem_evs.specs.ClosedLists.{IsLeft, IsStepOf};
+ghost use Rattle.totem_evs.specs.Runs.{IsRun};
+ghost use Rattle.totem_cert.specs.Keys.{IsIndex};
+ghost use Rattle.totem_cert.specs.Progress.{Fits, IsSound, NoneReady, IsOpenSend, IsHeldMate, IsHeldBy};
+
+use crate::index::Index;
+use crate::key::Key;
+use crate::open_line::OpenLine;
+use crate::visit::Visit;
+use crate::wanted::{Wanted, first_place};
+use totem_evs::{Entry, Run};
+use totem_ids::{Place, ProcId};
+
+/// An entry, with the process and the index at which it stands.
+#[derive(Clone, Copy)]
+struct Standing<'a> {
+    proc: ProcId,
+    at: usize,
+    entry: &'a Entry,
+}
+
+/// How many entries of a process have a number.
+#[tactic(auto, using(crate::proofs::Given::numbers_of_here, crate::proofs::Given::numbers_of_more, crate::proofs::Given::numbers_of_end))]
+pub fn given(lines: &[OpenLine], proc: ProcId) -> usize
+    ensures { result ≡ length (numbers_of lines.now proc) }
+{
+    for line in lines {
+        if line.proc() == proc {
+            return line.numbers().len();
+        }
+    }
+    0
+}
+
+/// What stands at an index of a process's log.
+pub fn entry_at(run: &Run, proc: ProcId, at: usize) -> Option<&Entry>
+    ensures { option_copied result ≡ slice_get (log_of run.now.logs proc) at }
+{
+    for log in run.logs.as_slice() {
+        if log.proc == proc {
+            let entries = log.entries.as_slice();
+            return if at < entries.len() {
+                Some(&entries[at])
+            } else {
+                None
+            };
+        }
+    }
+    None
+}
+
+/// Where a process's log stands among the logs; any number where it has none.
+fn log_index(run: &Run, proc: ProcId) -> usize {
+    for (k, log) in run.logs.as_slice().iter().enumerate() {
+        if log.proc == proc {
+            return k;
+        }
+    }
+    0
+}
+
+/// The least send without a number of the message that an entry delivers; the entry stands at an index of the k-th log.
+fn open_send(
+    run: &Run,
+    index: &Index,
+    lines: &[OpenLine],
+    k: usize,
+    at: usize,
+    entry: &Entry,
+) -> Option<Place>
+    requires run { IsRun run.now.logs }
+    requires index { IsIndex run.now.logs index.now.members.items }
+    requires fits { Fits run.now.logs lines.now }
+    ensures found { IfSome result (λ e. IsLeast run.now.logs (IsOpenSend run.now.logs lines.now entry.now) e) }
+    ensures none { IfNone result (NoneOf run.now.logs (IsOpenSend run.now.logs lines.now entry.now)) }
+{
+    match Key::of_class(entry) {
+        None => None,
+        Some(key) => first_place(run, index, lines, &key, Wanted::Sends, k, at),
+    }
+}
+
+/// An entry that is alone in its class, where it is held up.
+fn held_alone(lines: &[OpenLine], proc: ProcId, at: usize, waits: bool) -> Option<Place>
+    requires { at < 1000000 }
+    ensures found { IfSome result (λ e. (e ≡ place proc at) × (IsTrue waits ⊎ (length (numbers_of lines.now proc) < at))) }
+    ensures none { IfNone result (IsTrue waits ⊎ (length (numbers_of lines.now proc) < at) → ⊥) }
+{
+    if waits || given(lines, proc) < at {
+        Some(Place {
+            proc,
+            at: (at + 1) as u32,
+        })
+    } else {
+        None
+    }
+}
+
+/// The least event of a class that is held up, `waits` saying whether the class waits for a send; an entry of the class
+/// stands at an index of the k-th log, which is the process's.
+fn held_mate(
+    run: &Run,
+    index: &Index,
+    lines: &[OpenLine],
+    k: usize,
+    left: &Standing,
+    waits: bool,
+) -> Option<Place>
+    requires run { IsRun run.now.logs }
+    requires index { IsIndex run.now.logs index.now.members.items }
+    requires fits { Fits run.now.logs lines.now }
+    requires entry { slice_get (log_of run.now.logs left.now.proc) left.now.at ≡ Some left.now.entry.now }
+    requires few { left.now.at < 1000000 }
+    ensures found { IfSome result (λ e. IsLeast run.now.logs (IsHeldMate run.now.logs lines.now left.now.proc left.now.at left.now.entry.now waits) e) }
+    ensures none { IfNone result (NoneOf run.now.logs (IsHeldMate run.now.logs lines.now left.now.proc left.now.at left.now.entry.now waits)) }
+{
+    match Key::of_class(left.entry) {
+        None => held_alone(lines, left.proc, left.at, waits),
+        Some(key) => first_place(run, index, lines, &key, Wanted::Mates { waits }, k, left.at),
+    }
+}
+
+/// The step to the least event of its class that is held up.
+fn step_to(lines: &[OpenLine], send: Option<Place>, to: &Place) -> Visit
+    requires { 0 < to.now.at }
+    ensures to { result.to ≡ to.now }
+    ensures from { IsHeldBy lines.now send to.now result.from }
+{
+    let before = to.at - 1;
+    if given(lines, to.proc) < before as usize {
+        Visit {
+            from: Place {
+                proc: to.proc,
+                at: before,
+            },
+            to: *to,
+        }
+    } else {
+        Visit {
+            from: send.unwrap_or(*to),
+            to: *to,
+        }
+    }
+}
+
+/// The step at the class of an entry that is left.
+fn step_at(run: &Run, index: &Index, lines: &[OpenLine], left: &Place, standing: &Standing) -> Visit
+    requires run { IsRun run.now.logs }
+    requires index { IsIndex run.now.logs index.now.members.items }
+    requires sound { IsSound run.now.logs lines.now }
+    requires none { NoneReady run.now.logs lines.now }
+    requires left { IsLeft run.now.logs left.now }
+    requires proc { left.now.proc ≡ standing.now.proc }
+    requires at { left.now.at ≡ standing.now.at + 1 }
+    requires few { standing.now.at < 1000000 }
+    requires entry { slice_get (log_of run.now.logs standing.now.proc) standing.now.at ≡ Some standing.now.entry.now }
+    ensures { IsStepOf run.now.logs left.now result }
+{
+    let k = log_index(run, standing.proc);
+    let send = open_send(run, index, lines, k, standing.at, standing.entry);
+    match held_mate(run, index, lines, k, standing, send.is_some()) {
+        None => Visit {
+            from: *left,
+            to: *left,
+        },
+        Some(to) => step_to(lines, send, &to),
+    }
+}
+
+/// The step at the class of an event that is left.
+pub fn step_of(run: &Run, index: &Index, lines: &[OpenLine], left: &Place) -> Visit
+    requires run { IsRun run.now.logs }
+    requires index { IsIndex run.now.logs index.now.members.items }
+    requires sound { IsSound run.now.logs lines.now }
+    requires none { NoneReady run.now.logs lines.now }
+    requires left { IsLeft run.now.logs left.now }
+    ensures { IsStepOf run.now.logs left.now result }
+{
+    let at = left.at as usize - 1;
+    let proc = left.proc;
+    match entry_at(run, proc, at) {
+        Some(entry) => step_at(run, index, lines, left, &Standing { proc, at, entry }),
+        None => Visit {
+            from: *left,
+            to: *left,
+        },
+    }
+}

@@ -1,0 +1,85 @@
+ghost use Rattle.std.specs.Prelude.{◌≡◌, ◌↔◌, ◌<◌, IsTrue, IfSome, IfNone, length};
+ghost use Rattle.totem_evs.specs.Steps.{DeliversAt};
+ghost use Rattle.totem_evs.specs.ClosedLists.{AreTwinDeliveries, HasTwinDeliveries};
+ghost use Rattle.totem_cert.specs.Progress.{NeverDelivers, StandsNext, BothAre, message_of};
+
+use crate::step::entry_at;
+use totem_evs::{Entry, Run};
+use totem_ids::{MsgId, Place};
+
+fn message_of(entry: &Entry) -> Option<MsgId>
+    ensures { result ≡ message_of entry.now }
+{
+    match entry {
+        Entry::Deliver(m, _) => Some(*m),
+        _ => None,
+    }
+}
+
+/// The message that an event delivers.
+fn delivered(run: &Run, e: &Place) -> Option<MsgId>
+    ensures found { IfSome result (λ m. DeliversAt run.now.logs e.now m) }
+    ensures none { IfNone result (NeverDelivers run.now.logs e.now) }
+{
+    let at = e.at as usize;
+    match entry_at(run, e.proc, at - 1) {
+        Some(entry) => message_of(entry),
+        None => None,
+    }
+}
+
+fn both_are(m: Option<MsgId>, n: Option<MsgId>) -> bool
+    ensures { IsTrue result ↔ BothAre m n }
+{
+    match (m, n) {
+        (Some(m), Some(n)) => m == n,
+        _ => false,
+    }
+}
+
+fn and_not(a: bool, b: bool) -> bool
+    ensures { IsTrue result ↔ (IsTrue a × (IsTrue b → ⊥)) }
+{
+    a && !b
+}
+
+fn is_same(e: &Place, f: &Place) -> bool
+    ensures { IsTrue result ↔ (e.now ≡ f.now) }
+{
+    *e == *f
+}
+
+/// Whether two events are different deliveries of one message.
+fn are_twins(run: &Run, e: &Place, f: &Place) -> bool
+    ensures { IsTrue result ↔ AreTwinDeliveries run.now.logs e.now f.now }
+{
+    let m = delivered(run, e);
+    let n = delivered(run, f);
+    let same = both_are(m, n);
+    let one = is_same(e, f);
+    and_not(same, one)
+}
+
+/// What follows in a closed list.
+fn next_of(places: &[Place], i: usize) -> Place
+    requires { i < length places.now }
+    ensures { StandsNext places.now i result }
+{
+    if i + 1 < places.len() {
+        places[i + 1]
+    } else {
+        places[0]
+    }
+}
+
+/// Whether two neighbours of a closed list are different deliveries of one message.
+pub fn has_twins(run: &Run, places: &[Place]) -> bool
+    ensures { IsTrue result ↔ HasTwinDeliveries run.now.logs places.now }
+{
+    for (i, place) in places.iter().enumerate() {
+        if are_twins(run, place, &next_of(places, i)) {
+            return true;
+        }
+    }
+    false
+}

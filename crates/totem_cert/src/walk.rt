@@ -1,0 +1,65 @@
+ghost use Rattle.std.specs.Prelude.{◌≡◌, IfOk, OnOk};
+ghost use Rattle.std.specs.BTreeMap.{get, Updates};
+ghost use Rattle.totem_evs.specs.Runs.{IsRun};
+ghost use Rattle.totem_evs.specs.ClosedLists.{IsLeft};
+ghost use Rattle.totem_cert.specs.Keys.{IsIndex};
+ghost use Rattle.totem_cert.specs.Progress.{IsSound, NoneReady, IsRound};
+ghost use Rattle.totem_cert.specs.Visited.{place_order};
+
+use crate::index::Index;
+use crate::open_line::OpenLine;
+use crate::step::step_of;
+use crate::visit::Visit;
+use std::alloc::{AllocError, Global};
+use std::collections::BTreeMap;
+use totem_evs::Run;
+use totem_ids::Place;
+
+/// Steps from class to class, and the one to whose class they came back.
+#[derive(Debug, Drop)]
+pub struct Round {
+    pub visits: Vec<Visit>,
+    pub again: usize,
+}
+
+/// Which step led to an event.
+fn visited(seen: &BTreeMap<Place, usize>, to: &Place) -> Option<usize>
+    ensures { result ≡ get place_order seen.now to.now }
+{
+    seen.get(to).copied()
+}
+
+fn note(seen: &mut BTreeMap<Place, usize>, to: Place, step: usize) -> Result<(), AllocError>
+    ensures { OnOk result (Updates place_order seen.old seen.new to (Some step)) }
+{
+    seen.insert(to, step)?;
+    Ok(())
+}
+
+/// Goes from class to class, beginning at that of an event that is left, until a class comes twice.
+pub fn walk_round(
+    alloc: Global,
+    run: &Run,
+    index: &Index,
+    lines: &[OpenLine],
+    start: &Place,
+) -> Result<Round, AllocError>
+    requires run { IsRun run.now.logs }
+    requires index { IsIndex run.now.logs index.now.members.items }
+    requires sound { IsSound run.now.logs lines.now }
+    requires none { NoneReady run.now.logs lines.now }
+    requires left { IsLeft run.now.logs start.now }
+    ensures { IfOk result (λ w. IsRound run.now.logs start.now w.visits.items w.again) }
+{
+    let mut visits = Vec::new(alloc);
+    let mut seen = BTreeMap::new(alloc);
+    let mut next = step_of(run, index, lines, start);
+    'steps: loop {
+        if let Some(again) = visited(&seen, &next.to) {
+            return Ok(Round { visits, again });
+        }
+        note(&mut seen, next.to, visits.len())?;
+        visits.push(next)?;
+        next = step_of(run, index, lines, &next.from);
+    }
+}

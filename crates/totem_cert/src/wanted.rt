@@ -1,0 +1,134 @@
+//! The first by its place of the entries with a key that are wanted.
+ghost use Rattle.std.specs.Prelude.{◌≡◌, ◌↔◌, ◌<◌, IsTrue, length};
+ghost use Rattle.totem_evs.specs.Runs.{IsRun};
+ghost use Rattle.totem_cert.specs.Keys.{KeysRise, IsIndex};
+ghost use Rattle.totem_cert.specs.Keepers.{IsWanted, Wants, IsNoLater, IsEarlier, IsBestWith, IsBestFrom, IsPlaceOf, IsFirstPlace};
+
+use crate::index::Index;
+use crate::keeper::{end_of, given_at};
+use crate::key::{Key, Member};
+use crate::open_line::OpenLine;
+use totem_evs::Run;
+use totem_ids::Place;
+
+/// What is sought among the entries with a key.
+#[derive(Clone, Copy, Debug)]
+pub enum Wanted {
+    /// Sends without a number.
+    Sends,
+    /// Entries of the class that are held up: each, where the class waits for a send, else those whose entry before has
+    /// no number.
+    Mates { waits: bool },
+}
+
+fn is_wanted(wanted: Wanted, given: usize, member: &Member) -> bool
+    ensures { IsTrue result ↔ IsWanted wanted given member.now }
+{
+    match wanted {
+        Wanted::Sends => !member.shares && given <= member.at,
+        Wanted::Mates { waits } => member.shares && (waits || given < member.at),
+    }
+}
+
+fn wants(lines: &[OpenLine], key: &Key, wanted: Wanted, member: &Member) -> bool
+    ensures { IsTrue result ↔ Wants lines.now key.now wanted member.now }
+{
+    let given = given_at(lines, member.log);
+    member.key.is(key) && is_wanted(wanted, given, member)
+}
+
+fn is_no_later(first: &Member, second: &Member) -> bool
+    ensures { IsTrue result ↔ IsNoLater first.now second.now }
+{
+    first.log < second.log || (first.log == second.log && first.at <= second.at)
+}
+
+fn earlier(best: Option<Member>, member: &Member) -> Member
+    ensures { IsEarlier best member.now result }
+{
+    match best {
+        None => *member,
+        Some(best) => {
+            if is_no_later(&best, member) {
+                best
+            } else {
+                *member
+            }
+        }
+    }
+}
+
+fn best_with(
+    lines: &[OpenLine],
+    key: &Key,
+    wanted: Wanted,
+    best: Option<Member>,
+    member: &Member,
+) -> Option<Member>
+    ensures { IsBestWith lines.now key.now wanted best member.now result }
+{
+    if wants(lines, key, wanted, member) {
+        Some(earlier(best, member))
+    } else {
+        best
+    }
+}
+
+/// The first by its place of the entries that are wanted of those with a key, which the entry at this index of this log has.
+#[tactic(auto, using(crate::proofs::Wanting::best_yet, crate::proofs::Wanting::best_more, crate::proofs::Wanting::best_below))]
+fn first_wanted(
+    index: &Index,
+    lines: &[OpenLine],
+    key: &Key,
+    wanted: Wanted,
+    log: usize,
+    at: usize,
+) -> Option<Member>
+    requires { KeysRise index.now.members.items }
+    ensures { IsBestFrom lines.now index.now.members.items key.now wanted 0 result }
+{
+    let mut best = None;
+    let mut s = end_of(index, key, log, at);
+    while 0 < s {
+        s -= 1;
+        let member = index.members[s];
+        if member.key.is_below(key) {
+            return best;
+        }
+        best = best_with(lines, key, wanted, best, &member);
+    }
+    best
+}
+
+/// The place of an entry of the run.
+fn place_of(run: &Run, member: &Member) -> Place
+    requires log { member.now.log < length run.now.logs }
+    requires few { member.now.at < 1000000 }
+    ensures { IsPlaceOf run.now.logs member.now result }
+{
+    let log = &run.logs.as_slice()[member.log];
+    Place {
+        proc: log.proc,
+        at: (member.at + 1) as u32,
+    }
+}
+
+/// The place of the first entry that is wanted of those with a key, which the entry at this index of this log has.
+pub fn first_place(
+    run: &Run,
+    index: &Index,
+    lines: &[OpenLine],
+    key: &Key,
+    wanted: Wanted,
+    log: usize,
+    at: usize,
+) -> Option<Place>
+    requires run { IsRun run.now.logs }
+    requires index { IsIndex run.now.logs index.now.members.items }
+    ensures { IsFirstPlace run.now.logs lines.now index.now.members.items key.now wanted result }
+{
+    match first_wanted(index, lines, key, wanted, log, at) {
+        None => None,
+        Some(member) => Some(place_of(run, &member)),
+    }
+}

@@ -1,0 +1,78 @@
+//! The text of a certificate, written.
+ghost use Rattle.std.specs.Prelude.{◌≡◌, []};
+ghost use Rattle.std.specs.List.{flat_map};
+ghost use Rattle.totem_ids.specs.Writing.{Writes, held};
+ghost use Rattle.totem_evs.specs.WriteRun.{WritesText};
+ghost use Rattle.totem_cert.specs.CertText.{numbers_text, line_text, cert_text};
+
+use crate::certificate::Certificate;
+use crate::line::Line;
+use crate::numbers::Numbers;
+use std::alloc::Global;
+use totem_evs::WriteFault;
+use totem_ids::{Failed, Pieces, Sink};
+
+fn put_numbers<S: Sink>(pieces: &mut Pieces, sink: &mut S, numbers: &Numbers) -> Result<(), Failed>
+    ensures { Writes (held S.contents S.failures pieces.old sink.old)
+        (held S.contents S.failures pieces.new sink.new) result (numbers_text numbers.now) }
+{
+    for number in numbers.as_slice() {
+        pieces.put(sink, b" ")?;
+        pieces.put_number(sink, *number)?;
+    }
+    Ok(())
+}
+
+#[tactic(auto, using(totem_ids::proofs::Writers::wrote_then, totem_ids::proofs::Writers::wrote_failed))]
+fn put_line<S: Sink>(pieces: &mut Pieces, sink: &mut S, line: &Line) -> Result<(), Failed>
+    ensures { Writes (held S.contents S.failures pieces.old sink.old)
+        (held S.contents S.failures pieces.new sink.new) result (line_text line.now) }
+{
+    pieces.put(sink, b"pos ")?;
+    pieces.put_number(sink, u32::from(line.proc.number()))?;
+    put_numbers(pieces, sink, &line.numbers)?;
+    pieces.put(sink, b"\n")
+}
+
+fn put_lines<S: Sink>(pieces: &mut Pieces, sink: &mut S, lines: &[Line]) -> Result<(), Failed>
+    ensures { Writes (held S.contents S.failures pieces.old sink.old)
+        (held S.contents S.failures pieces.new sink.new) result (flat_map line_text lines.now) }
+{
+    for line in lines {
+        put_line(pieces, sink, line)?;
+    }
+    Ok(())
+}
+
+/// Gathers the text of a certificate.
+#[tactic(auto, using(totem_ids::proofs::Writers::wrote_then, totem_ids::proofs::Writers::wrote_failed))]
+pub fn put_cert<S: Sink>(
+    pieces: &mut Pieces,
+    sink: &mut S,
+    certificate: &Certificate,
+) -> Result<(), Failed>
+    ensures { Writes (held S.contents S.failures pieces.old sink.old)
+        (held S.contents S.failures pieces.new sink.new) result (cert_text certificate.now) }
+{
+    pieces.put(sink, b"totem-cert 1\n")?;
+    put_lines(pieces, sink, certificate.as_slice())?;
+    pieces.put(sink, b"end\n")
+}
+
+/// Writes the text of a certificate, in pieces of about 64 KiB.
+pub fn write_cert<S: Sink>(
+    alloc: Global,
+    certificate: &Certificate,
+    sink: &mut S,
+) -> Result<(), WriteFault>
+    ensures { WritesText (held S.contents S.failures [] sink.old)
+        (held S.contents S.failures [] sink.new) result (cert_text certificate.now) }
+{
+    let Ok(mut pieces) = Pieces::new(alloc) else {
+        return Err(WriteFault::Memory);
+    };
+    if put_cert(&mut pieces, sink, certificate).is_err() || pieces.flush(sink).is_err() {
+        return Err(WriteFault::Write);
+    }
+    Ok(())
+}

@@ -1,0 +1,37 @@
+-- What two entries have to do with each other, and what their numbers owe to it (docs/SPECIFICATIONS.md, "Certificates").
+use Rattle.std.specs.Prelude.{◌≡◌, ◌≢◌, ◌⊎◌, ℕ, ◌<◌}
+use Rattle.totem_ids.specs.declared.place.Place.{Place}
+use Rattle.totem_evs.specs.declared.entry.Entry.{Entry}
+use Rattle.totem_evs.specs.declared.entry.Entry.TheVariants.{Conf, Send, Deliver}
+
+-- changes to one configuration, or deliveries of one message
+abbrev pub AreOfOneClass : Entry → Entry → Type 0
+AreOfOneClass (Conf x ms) (Conf y ns) = x ≡ y
+AreOfOneClass (Deliver m x) (Deliver n y) = m ≡ n
+AreOfOneClass _ _ = ⊥
+
+-- a send and a delivery of its message
+abbrev pub AreSendAndDelivery : Entry → Entry → Type 0
+AreSendAndDelivery (Send m x service) (Deliver n y) = m ≡ n
+AreSendAndDelivery _ _ = ⊥
+
+-- a send is numbered below a delivery of its message
+abbrev pub SendIsBelow : Place → Entry → ℕ → Place → Entry → ℕ → Type 0
+SendIsBelow e x n f y m = AreSendAndDelivery x y → n < m
+
+abbrev pub SendIsNotBelow : Place → Entry → ℕ → Place → Entry → ℕ → Type 0
+SendIsNotBelow e x n f y m = AreSendAndDelivery x y × (n < m → ⊥)
+
+-- entries of one class have one number
+abbrev pub ClassIsOne : Place → Entry → ℕ → Place → Entry → ℕ → Type 0
+ClassIsOne e x n f y m = AreOfOneClass x y → n ≡ m
+
+abbrev pub ClassIsSplit : Place → Entry → ℕ → Place → Entry → ℕ → Type 0
+ClassIsSplit e x n f y m = AreOfOneClass x y × (n ≢ m)
+
+-- entries of no class do not share a number
+abbrev pub NumberIsOwn : Place → Entry → ℕ → Place → Entry → ℕ → Type 0
+NumberIsOwn e x n f y m = n ≡ m → (e ≡ f) ⊎ AreOfOneClass x y
+
+abbrev pub NumberIsShared : Place → Entry → ℕ → Place → Entry → ℕ → Type 0
+NumberIsShared e x n f y m = (n ≡ m) × (e ≢ f) × (AreOfOneClass x y → ⊥)

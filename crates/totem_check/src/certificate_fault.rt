@@ -1,0 +1,16 @@
+use thiserror::Error;
+
+/// Why lines of numbers do not certify a run. Each is looked for in the whole run before the next one is.
+#[derive(Clone, Copy, Debug, PartialEq, Eq, Error)]
+pub enum CertificateFault {
+    #[error("the lines do not match the logs and their entries")]
+    Count,
+    #[error("the numbers of a log do not rise")]
+    NotRising,
+    #[error("the number of a send is not below that of a delivery of its message")]
+    SendNotBefore,
+    #[error("two entries of one class have different numbers")]
+    TwinsDiffer,
+    #[error("two entries of different classes share a number")]
+    SharedPosition,
+}

@@ -1,0 +1,50 @@
+-- A run and a certificate behind it, and reports that were not written.
+use Rattle.std.proofs.Common.{◌≡◌, ℕ, List, ◌++◌, Option, Some, None, Err, sym, ap, ◌∙◌, IfSome, append_assoc}
+use Rattle.std.specs.Io.KnownBytes.{Consumes}
+use Rattle.totem_ids.specs.Sources.{Seen}
+use Rattle.totem_ids.specs.Writing.{Held}
+use Rattle.totem_evs.specs.declared.log.Log.{Log}
+use Rattle.totem_evs.specs.declared.run.Run.{Run}
+use Rattle.totem_evs.specs.declared.writing.WriteFault.{WriteFault}
+use Rattle.totem_evs.specs.declared.writing.WriteFault.TheVariants as write_faults
+use Rattle.totem_evs.specs.RunText.{run_text}
+use Rattle.totem_evs.specs.WriteRun.{WritesText}
+use Rattle.totem_evs.specs.Reading.{FitsRun}
+use Rattle.totem_evs.specs.Certificates.{Numbering}
+use Rattle.totem_cert.specs.CertText.{cert_text}
+use Rattle.totem_cluster.specs.IoFaults.{write_io_fault}
+use Rattle.totem_cluster.specs.AuditIo.{IsWhole, Audits}
+use Rattle.totem_cluster.specs.CheckIo.{IsLast, IsWholePair, ChecksText}
+
+both_texts : (a b : Option (List ℕ)) (x y : List ℕ) → Consumes a b x → IfSome b (λ bytes. bytes ≡ y) → IfSome a (λ bytes. bytes ≡ x ++ y)
+both_texts None b x y p q = tt
+both_texts (Some s) None x y p q = absurd p
+both_texts (Some s) (Some t) x y p q = p ∙ ap (λ (ws : List ℕ). x ++ ws) q
+
+both_taken : (a b c : Option (List ℕ)) (x y : List ℕ) → Consumes a b x → Consumes b c y → Consumes a c (x ++ y)
+both_taken None b c x y p q = tt
+both_taken (Some s) None c x y p q = absurd p
+both_taken (Some s) (Some t) None x y p q = absurd q
+both_taken (Some s) (Some t) (Some u) x y p q = p ∙ ap (λ (ws : List ℕ). x ++ ws) q ∙ sym (append_assoc x y u)
+
+-- a run was read, and then a certificate to the end
+pub whole_pair : (a b c : Seen) (run : Run) (lines : List Numbering) → FitsRun a b run → IsLast b c lines → IsWholePair a c run.logs lines
+whole_pair a b c run lines fits last = record {
+  run = fits.0.is;
+  logged = fits.1;
+  certificate = last.certificate;
+  text = both_texts a.remaining b.remaining (run_text run.logs) (cert_text lines) fits.0.text last.text;
+  taken = both_taken a.remaining b.remaining c.remaining (run_text run.logs) (cert_text lines) fits.0.text last.taken;
+  failures = last.failures ∙ fits.0.taken.failures;
+}
+
+-- the report was not written
+pub report_failed : (a c : Seen) (was is : Held) (logs : List Log) (lines : List Numbering) (text : List ℕ) (e : WriteFault)
+    → IsWholePair a c logs lines → WritesText {A = Unit {0}} was is (Err e) text → ChecksText a c was is (Err (write_io_fault e))
+report_failed a c was is logs lines text write_faults.Memory whole h = (h, whole.failures)
+report_failed a c was is logs lines text write_faults.Write whole h = (h, (logs, lines, whole))
+
+pub audit_failed : (a c : Seen) (was is : Held) (logs : List Log) (text : List ℕ) (e : WriteFault)
+    → IsWhole a c logs → WritesText {A = Unit {0}} was is (Err e) text → Audits a c was is (Err (write_io_fault e))
+audit_failed a c was is logs text write_faults.Memory whole h = (h, whole.failures)
+audit_failed a c was is logs text write_faults.Write whole h = (h, (logs, whole))

@@ -1,0 +1,8 @@
+use Rattle.totem_ids.proofs.Writers.{wrote_then}
+use Rattle.totem_cluster.proofs.report.put_report.Goals as goal
+
+pub returns-in_ok-put-in-Yes : goal.returns-in_ok-put-in-Yes
+returns-in_ok-put-in-Yes g c = rw c.in-Yes.is (wrote_then _ _ _ _ _ _ c.in_ok-put-in-Yes.ensures c.put_cert.ensures)
+
+pub returns-in-No : goal.returns-in-No
+returns-in-No g c = rw (c.in-No.is, ← c.deref.ensures.value) c.put_no.ensures

@@ -1,0 +1,19 @@
+use Rattle.std.proofs.Common.{refl}
+use Rattle.totem_cluster.specs.Endings.{judged, failed, checked, unchecked, explained}
+use Rattle.totem_cluster.proofs.shell.program.Goals as goal
+
+pub returns-in-Err : goal.returns-in-Err
+returns-in-Err g c = explained _ _ refl c.explain.ensures
+
+pub returns-in-Ok : goal.returns-in-Ok
+returns-in-Ok g c = rw c.status.ensures (checked _ c.in-Ok.ensures refl)
+
+pub returns-in-Err-check_io : goal.returns-in-Err-check_io
+returns-in-Err-check_io g c = rw c.tell_fault.ensures.status (unchecked _ c.in-Err-check_io.ensures c.tell_fault.ensures.line)
+
+pub returns-in-Ok-audit_io : goal.returns-in-Ok-audit_io
+returns-in-Ok-audit_io g c = rw c.status-in-Ok-audit_io.ensures (judged _ c.in-Ok-audit_io.ensures refl)
+
+pub returns-in-Err-audit_io : goal.returns-in-Err-audit_io
+returns-in-Err-audit_io g c =
+    rw c.tell_fault-in-Err-audit_io.ensures.status (failed _ c.in-Err-audit_io.ensures c.tell_fault-in-Err-audit_io.ensures.line)

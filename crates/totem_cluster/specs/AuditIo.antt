@@ -1,0 +1,64 @@
+-- What auditing a stream answers, and what it leaves (docs/SPECIFICATIONS.md, "Report text").
+use Rattle.std.specs.Prelude.{◌≡◌, ◌≢◌, ◌⊎◌, ◌+◌, ◌%◌, ◌^◌, List, IfSome, Result, Ok, Err}
+use Rattle.std.specs.Io.KnownBytes.{Consumes}
+use Rattle.totem_ids.specs.Sources.{Seen}
+use Rattle.totem_ids.specs.Writing.{Held, Wrote}
+use Rattle.totem_evs.specs.declared.log.Log.{Log}
+use Rattle.totem_evs.specs.declared.run.Run.{Run}
+use Rattle.totem_evs.specs.declared.run_fault.RunFault.{RunFault}
+use Rattle.totem_evs.specs.declared.run_fault.RunFault.TheVariants as run_faults
+use Rattle.totem_evs.specs.Runs.{IsRun}
+use Rattle.totem_evs.specs.RunText.{run_text}
+use Rattle.totem_evs.specs.Missing.{EachHasLog, all_members}
+use Rattle.totem_evs.specs.Reading.{ReadsRun, ReadsEnd, FitsRun}
+use Rattle.totem_evs.specs.Answers.{Answer, Yes, No, IsAnswered}
+use Rattle.totem_audit.specs.Verdicts.{IsSound}
+use Rattle.totem_cluster.specs.Report.{report_text}
+use Rattle.totem_cluster.specs.declared.outcome.Outcome.{Outcome}
+use Rattle.totem_cluster.specs.declared.outcome.Outcome.TheVariants as outcomes
+use Rattle.totem_cluster.specs.declared.io_fault.IoFault.{IoFault}
+use Rattle.totem_cluster.specs.declared.io_fault.IoFault.TheVariants as faults
+
+-- the outcome says what the answer says
+abbrev pub Says : Answer → Outcome → Type 0
+Says (Yes lines) outcomes.Yes = Unit {0}
+Says (Yes lines) outcomes.No = ⊥
+Says (No faults) outcomes.Yes = ⊥
+Says (No faults) outcomes.No = Unit {0}
+
+-- all that was left is the text of a run in which each member has a log, and nothing is left now
+pub record IsWhole (old new : Seen) (logs : List Log) : Type 0 where
+  pub run : IsRun logs
+  pub logged : EachHasLog logs (all_members logs)
+  pub text : IfSome old.remaining (λ bytes. bytes ≡ run_text logs)
+  pub taken : Consumes old.remaining new.remaining (run_text logs)
+  pub failures : new.failures ≡ old.failures
+
+-- a whole run was read, and the report of its answer was written and nothing else; the outcome is the answer's
+pub record IsAudited (old new : Seen) (was is : Held) (outcome : Outcome) : Type 0 where
+  pub logs : List Log
+  pub whole : IsWhole old new logs
+  pub answer : Answer
+  pub written : IsAnswered logs answer
+  pub sound : IsSound logs answer
+  pub report : Wrote was is (report_text answer)
+  pub says : Says answer outcome
+
+-- reading the run answers this fault, or the run was read and this is what comes in place of the end
+abbrev pub IsRefused : Seen → Seen → RunFault → Type 0
+IsRefused old new fault = ReadsRun old new (Err fault) ⊎ ((between : Seen) × (run : Run) × FitsRun old between run × ReadsEnd between new (Err fault))
+
+-- what reading a whole run answers
+abbrev pub ReadsWhole : Seen → Seen → Result Run RunFault → Type 0
+ReadsWhole old new (Ok run) = IsWhole old new run.logs
+ReadsWhole old new (Err fault) = IsRefused old new fault
+
+-- the report was written; or nothing was: the input was refused or failed, or memory was refused; or the sink failed
+-- in this call, behind a whole run
+abbrev pub Audits : Seen → Seen → Held → Held → Result Outcome IoFault → Type 0
+Audits old new was is (Ok outcome) = IsAudited old new was is outcome
+Audits old new was is (Err (faults.Run fault)) = (is ≡ was) × (fault ≢ run_faults.Memory) × IsRefused old new fault
+Audits old new was is (Err (faults.Cert fault)) = ⊥
+Audits old new was is (Err (faults.Refused fault)) = ⊥
+Audits old new was is (Err faults.Memory) = (is ≡ was) × (new.failures ≡ old.failures)
+Audits old new was is (Err faults.Write) = (is.failures ≡ (was.failures + 1) % 2 ^ 64) × ((logs : List Log) × IsWhole old new logs)

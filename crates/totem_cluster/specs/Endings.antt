@@ -1,0 +1,114 @@
+-- How the program ends: its status, and what it tells (docs/SPECIFICATIONS.md, "The program").
+use Rattle.std.specs.Prelude.{◌≡◌, ◌⊎◌, ℕ, ◌+◌, ◌%◌, ◌^◌, List, [], ◌++◌, codes, decimal, Ok, Err}
+use Rattle.std.specs.declared.option.Option.{Option}
+use Rattle.clap.specs.declared.error.kind.ErrorKind.{ErrorKind}
+use Rattle.clap.specs.declared.error.kind.ErrorKind.TheVariants as kinds
+use Rattle.totem_ids.specs.Sources.{Seen}
+use Rattle.totem_ids.specs.Writing.{Held, Wrote}
+use Rattle.totem_evs.specs.declared.run_fault.RunFault.{RunFault}
+use Rattle.totem_evs.specs.declared.run_fault.RunFault.TheVariants as run_faults
+use Rattle.totem_evs.specs.RunText.{line}
+use Rattle.totem_evs.specs.RunFaults.{fault_number, fault_name}
+use Rattle.totem_cert.specs.declared.cert_fault.CertFault.{CertFault}
+use Rattle.totem_cert.specs.declared.cert_fault.CertFault.TheVariants as cert_faults
+use Rattle.totem_cert.specs.CertFaults.{fault_number as cert_fault_number, fault_name as cert_fault_name}
+use Rattle.totem_check.specs.CheckFaults.{fault_number as check_fault_number, fault_name as check_fault_name}
+use Rattle.totem_cluster.specs.declared.outcome.Outcome.{Outcome}
+use Rattle.totem_cluster.specs.declared.outcome.Outcome.TheVariants as outcomes
+use Rattle.totem_cluster.specs.declared.io_fault.IoFault.{IoFault}
+use Rattle.totem_cluster.specs.declared.io_fault.IoFault.TheVariants as faults
+use Rattle.totem_cluster.specs.AuditIo.{Audits}
+use Rattle.totem_cluster.specs.CheckIo.{ChecksText}
+
+-- what a sink's members say of it, with nothing gathered for it
+abbrev pub bare : {S : Type 0} → (S → Option (List ℕ)) → (S → ℕ) → S → Held
+bare contents failures s = record { contents = contents s; failures = failures s }
+
+-- the text went to the stream, or it failed in this call
+abbrev pub Tells : Held → Held → List ℕ → Type 0
+Tells old new text = Wrote old new text ⊎ (new.failures ≡ (old.failures + 1) % 2 ^ 64)
+
+-- ---- outcomes and faults
+
+-- the status of an outcome
+abbrev pub outcome_status : Outcome → ℕ
+outcome_status outcomes.Yes = 0
+outcome_status outcomes.No = 1
+
+-- what tells a refusal: what was refused, the number and the name of the fault
+abbrev pub refusal_text : List ℕ → ℕ → List ℕ → List ℕ
+refusal_text front number name = front ++ decimal number ++ codes " " ++ name
+
+-- the process of a run's fault, where it has one
+abbrev pub process_text : RunFault → List ℕ
+process_text (run_faults.MissingLog p) = codes " " ++ decimal p
+process_text fault = []
+
+abbrev pub run_line : RunFault → List ℕ
+run_line run_faults.Read = line (codes "totem: read failed")
+run_line fault = line (refusal_text (codes "totem: run refused: ") (fault_number fault) (fault_name fault) ++ process_text fault)
+
+abbrev pub cert_line : CertFault → List ℕ
+cert_line cert_faults.Read = line (codes "totem: read failed")
+cert_line fault = line (refusal_text (codes "totem: certificate unreadable: ") (cert_fault_number fault) (cert_fault_name fault))
+
+-- the line that tells a fault
+abbrev pub fault_line : IoFault → List ℕ
+fault_line (faults.Run fault) = run_line fault
+fault_line (faults.Cert fault) = cert_line fault
+fault_line (faults.Refused fault) = line (refusal_text (codes "totem: certificate refused: ") (check_fault_number fault) (check_fault_name fault))
+fault_line faults.Memory = line (codes "totem: out of memory")
+fault_line faults.Write = line (codes "totem: write failed")
+
+abbrev pub run_status : RunFault → ℕ
+run_status run_faults.Read = 4
+run_status fault = 2
+
+abbrev pub cert_status : CertFault → ℕ
+cert_status cert_faults.Read = 4
+cert_status fault = 2
+
+-- the status of a fault
+abbrev pub fault_status : IoFault → ℕ
+fault_status (faults.Run fault) = run_status fault
+fault_status (faults.Cert fault) = cert_status fault
+fault_status (faults.Refused fault) = 2
+fault_status faults.Memory = 3
+fault_status faults.Write = 4
+
+-- ---- the program
+
+-- help or the version is asked for
+abbrev pub IsAsked : ErrorKind → Type 0
+IsAsked kind = (kind ≡ kinds.DisplayHelp) ⊎ (kind ≡ kinds.DisplayVersion)
+
+-- what the output and the errors got of a text that was asked for, and the status
+pub data Shows (was is quiet said : Held) (text : List ℕ) : ℕ → Type 0 where
+  -- it is written
+  shown : Wrote was is text → said ≡ quiet → Shows was is quiet said text 0
+  -- memory was refused, and nothing written
+  unmade : is ≡ was → Tells quiet said (fault_line faults.Memory) → Shows was is quiet said text 3
+  -- the output failed
+  unshown : is.failures ≡ (was.failures + 1) % 2 ^ 64 → Tells quiet said (fault_line faults.Write) → Shows was is quiet said text 4
+
+-- what is told of words that ask for no audit and no check, and the status
+pub data Explains (kind : ErrorKind) (was is quiet said : Held) : ℕ → Type 0 where
+  -- help or the version was asked for
+  helped : (text : List ℕ) (status : ℕ) → IsAsked kind → Shows was is quiet said text status → Explains kind was is quiet said status
+  -- the words ask for nothing that there is, and are told
+  misused : (text : List ℕ) → (IsAsked kind → ⊥) → is ≡ was → Tells quiet said text → Explains kind was is quiet said 64
+  -- memory was refused
+  starved : is ≡ was → Tells quiet said (fault_line faults.Memory) → Explains kind was is quiet said 3
+
+-- what was read, what the output and the errors got, and the status
+pub data Ends (old new : Seen) (was is quiet said : Held) : ℕ → Type 0 where
+  -- a run was judged
+  judged : (outcome : Outcome) → Audits old new was is (Ok outcome) → said ≡ quiet → Ends old new was is quiet said (outcome_status outcome)
+  -- it was not, and the fault is told
+  failed : (fault : IoFault) → Audits old new was is (Err fault) → Tells quiet said (fault_line fault) → Ends old new was is quiet said (fault_status fault)
+  -- a run was checked with its certificate
+  checked : (outcome : Outcome) → ChecksText old new was is (Ok outcome) → said ≡ quiet → Ends old new was is quiet said (outcome_status outcome)
+  -- it was not, and the fault is told
+  unchecked : (fault : IoFault) → ChecksText old new was is (Err fault) → Tells quiet said (fault_line fault) → Ends old new was is quiet said (fault_status fault)
+  -- nothing was read, and the words are answered; what the text is, and for which words, is not said here
+  explained : (kind : ErrorKind) (status : ℕ) → new ≡ old → Explains kind was is quiet said status → Ends old new was is quiet said status

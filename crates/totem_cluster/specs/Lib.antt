@@ -1,0 +1,5 @@
+pub mod Report
+pub mod IoFaults
+pub mod AuditIo
+pub mod CheckIo
+pub mod Endings

@@ -1,0 +1,31 @@
+-- The text of a report (docs/SPECIFICATIONS.md, "Report text").
+use Rattle.std.specs.Prelude.{ℕ, List, ◌++◌, codes}
+use Rattle.std.specs.List.{flat_map}
+use Rattle.totem_ids.specs.declared.place.Place.{Place}
+use Rattle.totem_ids.specs.Texts.{place_text}
+use Rattle.totem_evs.specs.declared.fault.Fault.{Fault}
+use Rattle.totem_evs.specs.SpecNo.{spec_text}
+use Rattle.totem_evs.specs.RunText.{line}
+use Rattle.totem_evs.specs.Answers.{Answer, Yes, No}
+use Rattle.totem_cert.specs.CertText.{cert_text}
+
+-- places, a space before each
+abbrev pub places_text : List Place → List ℕ
+places_text places = flat_map (λ e. codes " " ++ place_text e) places
+
+-- a fault: the specification, and the places that break it
+abbrev pub fault_text : Fault → List ℕ
+fault_text fault = codes "fault " ++ spec_text fault.spec ++ places_text fault.places
+
+-- a no: a line for each fault
+abbrev pub no_text : List Fault → List ℕ
+no_text faults = line (codes "verdict no") ++ flat_map (λ fault. line (fault_text fault)) faults ++ line (codes "end")
+
+-- the report of an audit: a yes is followed by the certificate
+abbrev pub report_text : Answer → List ℕ
+report_text (Yes lines) = line (codes "verdict yes") ++ cert_text lines
+report_text (No faults) = no_text faults
+
+-- the checker's yes
+abbrev pub accepted_text : List ℕ
+accepted_text = line (codes "verdict yes") ++ line (codes "end")

@@ -1,0 +1,59 @@
+ghost use Rattle.std.specs.Prelude.{◌≡◌};
+ghost use Rattle.totem_cluster.specs.IoFaults.{run_io_fault, cert_io_fault, write_io_fault};
+
+use thiserror::Error;
+use totem_cert::CertFault;
+use totem_check::CheckFault;
+use totem_evs::{RunFault, WriteFault};
+
+/// Why a call from stream to stream gave no outcome. Nothing was written, unless it is `Write`.
+#[derive(Debug, Drop, Error)]
+pub enum IoFault {
+    /// The run was refused, or its source failed; never `RunFault::Memory`.
+    #[error("the run was refused: {0}")]
+    Run(RunFault),
+    /// The certificate could not be read, or its source failed; never `CertFault::Memory`.
+    #[error("the certificate could not be read: {0}")]
+    Cert(CertFault),
+    /// The certificate does not certify the run; never `CheckFault::Broken` or `CheckFault::Memory`.
+    #[error("the certificate was refused: {0}")]
+    Refused(CheckFault),
+    #[error("out of memory")]
+    Memory,
+    /// How much went out is not known.
+    #[error("write failed")]
+    Write,
+}
+
+impl From<RunFault> for IoFault {
+    ghost from_gives = { λ f e. e ≡ run_io_fault f };
+
+    fn from(fault: RunFault) -> IoFault {
+        match fault {
+            RunFault::Memory => IoFault::Memory,
+            other => IoFault::Run(other),
+        }
+    }
+}
+
+impl From<CertFault> for IoFault {
+    ghost from_gives = { λ f e. e ≡ cert_io_fault f };
+
+    fn from(fault: CertFault) -> IoFault {
+        match fault {
+            CertFault::Memory => IoFault::Memory,
+            other => IoFault::Cert(other),
+        }
+    }
+}
+
+impl From<WriteFault> for IoFault {
+    ghost from_gives = { λ f e. e ≡ write_io_fault f };
+
+    fn from(fault: WriteFault) -> IoFault {
+        match fault {
+            WriteFault::Memory => IoFault::Memory,
+            WriteFault::Write => IoFault::Write,
+        }
+    }
+}

@@ -1,0 +1,19 @@
+//! The program over any three streams: audits of runs, and checks of their certificates.
+#![tactic(auto)]
+
+mod auditing;
+mod checking;
+mod io_fault;
+mod outcome;
+mod report;
+mod shell;
+mod telling;
+mod words;
+
+pub use auditing::audit_io;
+pub use checking::check_io;
+pub use io_fault::IoFault;
+pub use outcome::Outcome;
+pub use shell::program;
+pub use telling::tell_fault;
+pub use totem_audit::Workers;

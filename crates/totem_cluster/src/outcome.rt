@@ -1,0 +1,23 @@
+ghost use Rattle.std.specs.Prelude.{◌≡◌};
+ghost use Rattle.totem_cluster.specs.Endings.{outcome_status};
+
+/// How a call ended that writes a report.
+#[derive(Clone, Copy, Debug, PartialEq, Eq)]
+pub enum Outcome {
+    /// The run meets the specifications.
+    Yes,
+    /// The run breaks at least one.
+    No,
+}
+
+impl Outcome {
+    /// The status of a program that ends with it.
+    pub fn status(self) -> u8
+        ensures { result ≡ outcome_status self }
+    {
+        match self {
+            Outcome::Yes => 0,
+            Outcome::No => 1,
+        }
+    }
+}

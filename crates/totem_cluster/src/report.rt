@@ -1,0 +1,125 @@
+//! The text of a report (docs/SPECIFICATIONS.md, "Report text").
+ghost use Rattle.std.specs.Prelude.{◌≡◌, [], ◌++◌, codes};
+ghost use Rattle.std.specs.List.{flat_map};
+ghost use Rattle.totem_ids.specs.Writing.{Writes, held};
+ghost use Rattle.totem_evs.specs.SpecNo.{spec_text};
+ghost use Rattle.totem_evs.specs.RunText.{line};
+ghost use Rattle.totem_evs.specs.WriteRun.{WritesText};
+ghost use Rattle.totem_audit.specs.Verdicts.{answer_of};
+ghost use Rattle.totem_cluster.specs.Report.{places_text, fault_text, no_text, report_text};
+
+use std::alloc::Global;
+use totem_audit::Verdict;
+use totem_cert::put_cert;
+use totem_evs::{Fault, SpecNo, WriteFault};
+use totem_ids::{Failed, Pieces, Place, Sink};
+
+fn put_spec<S: Sink>(pieces: &mut Pieces, sink: &mut S, spec: SpecNo) -> Result<(), Failed>
+    ensures { Writes (held S.contents S.failures pieces.old sink.old)
+        (held S.contents S.failures pieces.new sink.new) result (spec_text spec) }
+{
+    pieces.put(sink, spec.number().as_bytes())
+}
+
+fn put_places<S: Sink>(pieces: &mut Pieces, sink: &mut S, places: &[Place]) -> Result<(), Failed>
+    ensures { Writes (held S.contents S.failures pieces.old sink.old)
+        (held S.contents S.failures pieces.new sink.new) result (places_text places.now) }
+{
+    for place in places {
+        pieces.put(sink, b" ")?;
+        pieces.put_place(sink, *place)?;
+    }
+    Ok(())
+}
+
+#[tactic(auto, using(totem_ids::proofs::Writers::wrote_then, totem_ids::proofs::Writers::wrote_failed))]
+fn put_fault<S: Sink>(pieces: &mut Pieces, sink: &mut S, fault: &Fault) -> Result<(), Failed>
+    ensures { Writes (held S.contents S.failures pieces.old sink.old)
+        (held S.contents S.failures pieces.new sink.new) result (fault_text fault.now) }
+{
+    pieces.put(sink, b"fault ")?;
+    put_spec(pieces, sink, fault.spec)?;
+    put_places(pieces, sink, fault.places.as_slice())
+}
+
+fn put_faults<S: Sink>(pieces: &mut Pieces, sink: &mut S, faults: &[Fault]) -> Result<(), Failed>
+    ensures { Writes (held S.contents S.failures pieces.old sink.old)
+        (held S.contents S.failures pieces.new sink.new) result (flat_map (λ fault. line (fault_text fault)) faults.now) }
+{
+    for fault in faults {
+        put_fault(pieces, sink, fault)?;
+        pieces.put(sink, b"\n")?;
+    }
+    Ok(())
+}
+
+/// The report of a no.
+#[tactic(auto, using(totem_ids::proofs::Writers::wrote_then, totem_ids::proofs::Writers::wrote_failed))]
+fn put_no<S: Sink>(pieces: &mut Pieces, sink: &mut S, faults: &[Fault]) -> Result<(), Failed>
+    ensures { Writes (held S.contents S.failures pieces.old sink.old)
+        (held S.contents S.failures pieces.new sink.new) result (no_text faults.now) }
+{
+    pieces.put(sink, b"verdict no\n")?;
+    put_faults(pieces, sink, faults)?;
+    pieces.put(sink, b"end\n")
+}
+
+#[tactic(auto, using(totem_ids::proofs::Writers::wrote_then, totem_ids::proofs::Writers::wrote_failed))]
+fn put_report<S: Sink>(pieces: &mut Pieces, sink: &mut S, verdict: &Verdict) -> Result<(), Failed>
+    ensures { Writes (held S.contents S.failures pieces.old sink.old)
+        (held S.contents S.failures pieces.new sink.new) result (report_text (answer_of verdict.now)) }
+{
+    match verdict {
+        Verdict::Yes { certificate } => {
+            pieces.put(sink, b"verdict yes\n")?;
+            put_cert(pieces, sink, certificate)
+        }
+        Verdict::No { faults } => put_no(pieces, sink, faults),
+    }
+}
+
+/// Writes the report of a verdict, in pieces of about 64 KiB.
+pub fn write_report<S: Sink>(
+    alloc: Global,
+    verdict: &Verdict,
+    sink: &mut S,
+) -> Result<(), WriteFault>
+    ensures { WritesText (held S.contents S.failures [] sink.old)
+        (held S.contents S.failures [] sink.new) result (report_text (answer_of verdict.now)) }
+{
+    let Ok(mut pieces) = Pieces::new(alloc) else {
+        return Err(WriteFault::Memory);
+    };
+    if put_report(&mut pieces, sink, verdict).is_err() || pieces.flush(sink).is_err() {
+        return Err(WriteFault::Write);
+    }
+    Ok(())
+}
+
+/// Writes the report of a no with these faults.
+pub fn write_no<S: Sink>(alloc: Global, faults: &[Fault], sink: &mut S) -> Result<(), WriteFault>
+    ensures { WritesText (held S.contents S.failures [] sink.old)
+        (held S.contents S.failures [] sink.new) result (no_text faults.now) }
+{
+    let Ok(mut pieces) = Pieces::new(alloc) else {
+        return Err(WriteFault::Memory);
+    };
+    if put_no(&mut pieces, sink, faults).is_err() || pieces.flush(sink).is_err() {
+        return Err(WriteFault::Write);
+    }
+    Ok(())
+}
+
+/// Writes a text.
+pub fn write_text<S: Sink>(alloc: Global, text: &[u8], sink: &mut S) -> Result<(), WriteFault>
+    ensures { WritesText (held S.contents S.failures [] sink.old)
+        (held S.contents S.failures [] sink.new) result text.now }
+{
+    let Ok(mut pieces) = Pieces::new(alloc) else {
+        return Err(WriteFault::Memory);
+    };
+    if pieces.put(sink, text).is_err() || pieces.flush(sink).is_err() {
+        return Err(WriteFault::Write);
+    }
+    Ok(())
+}

@@ -1,0 +1,87 @@
+//! The program (docs/SPECIFICATIONS.md, "The program").
+ghost use Rattle.std.specs.Prelude.{◌≡◌, []};
+ghost use Rattle.clap.specs.Values.{kind_of};
+ghost use Rattle.totem_ids.specs.Sources.{seen};
+ghost use Rattle.totem_ids.specs.Writing.{held};
+ghost use Rattle.totem_cluster.specs.Endings.{Ends, Explains, Shows, bare};
+
+use crate::auditing::audit_io;
+use crate::checking::check_io;
+use crate::io_fault::IoFault;
+use crate::report::write_text;
+use crate::telling::{tell, tell_fault};
+use crate::words::{Words, read_words};
+use clap::Error;
+use clap::error::ErrorKind;
+use std::alloc::{AllocError, Global};
+use std::sync::Wait;
+use std::thread::Threads;
+use totem_audit::Workers;
+use totem_evs::WriteFault;
+use totem_ids::{Sink, Source};
+
+/// The text for the person who typed the words.
+fn text_of(alloc: Global, error: &Error) -> Result<String, AllocError> {
+    if error.kind() == ErrorKind::OutOfMemory {
+        return Err(AllocError);
+    }
+    error.to_string(alloc)
+}
+
+/// Writes help or the version, and answers the status.
+fn show<W: Sink, E: Sink>(alloc: Global, text: &[u8], output: &mut W, errors: &mut E) -> u8
+    ensures { Shows (held W.contents W.failures [] output.old) (held W.contents W.failures [] output.new)
+        (bare E.contents E.failures errors.old) (bare E.contents E.failures errors.new) text.now result }
+{
+    match write_text(alloc, text, output) {
+        Ok(()) => 0,
+        Err(WriteFault::Memory) => tell_fault(errors, &IoFault::Memory),
+        Err(WriteFault::Write) => tell_fault(errors, &IoFault::Write),
+    }
+}
+
+/// Answers words that ask for help or the version, or for nothing that there is.
+fn explain<W: Sink, E: Sink>(alloc: Global, error: &Error, output: &mut W, errors: &mut E) -> u8
+    ensures { Explains (kind_of error.now)
+        (held W.contents W.failures [] output.old) (held W.contents W.failures [] output.new)
+        (bare E.contents E.failures errors.old) (bare E.contents E.failures errors.new) result }
+{
+    let Ok(text) = text_of(alloc, error) else {
+        return tell_fault(errors, &IoFault::Memory);
+    };
+    match error.kind() {
+        ErrorKind::DisplayHelp | ErrorKind::DisplayVersion => {
+            show(alloc, text.as_bytes(), output, errors)
+        }
+        _ => {
+            tell(errors, text.as_bytes());
+            64
+        }
+    }
+}
+
+/// The program over any three streams; `words` has the program's name first. Answers the status with which to exit.
+pub fn program<T: Threads + Wait + Sync, R: Source, W: Sink, E: Sink>(
+    rt: &T,
+    alloc: Global,
+    words: &[String],
+    input: &mut R,
+    output: &mut W,
+    errors: &mut E,
+) -> u8
+    ensures { Ends (seen R.remaining R.failures input.old) (seen R.remaining R.failures input.new)
+        (held W.contents W.failures [] output.old) (held W.contents W.failures [] output.new)
+        (bare E.contents E.failures errors.old) (bare E.contents E.failures errors.new) result }
+{
+    match read_words(alloc, words) {
+        Err(error) => explain(alloc, &error, output, errors),
+        Ok(Words::Check) => match check_io(alloc, input, output) {
+            Ok(outcome) => outcome.status(),
+            Err(fault) => tell_fault(errors, &fault),
+        },
+        Ok(Words::Audit) => match audit_io(rt, alloc, input, output, Workers::one()) {
+            Ok(outcome) => outcome.status(),
+            Err(fault) => tell_fault(errors, &fault),
+        },
+    }
+}

@@ -1,0 +1,118 @@
+//! What the program tells on its stream of errors. It takes no memory, and passes over a failure of that stream.
+ghost use Rattle.std.specs.Prelude.{◌≡◌, decimal};
+ghost use Rattle.totem_ids.specs.Writing.{Writes};
+ghost use Rattle.totem_cluster.specs.Endings.{Tells, bare, refusal_text, process_text, run_line, cert_line, fault_line, fault_status};
+
+use crate::io_fault::IoFault;
+use totem_cert::CertFault;
+use totem_evs::RunFault;
+use totem_ids::{Failed, Sink};
+
+fn put_bytes<E: Sink>(errors: &mut E, bytes: &[u8]) -> Result<(), Failed>
+    ensures { Writes (bare E.contents E.failures errors.old) (bare E.contents E.failures errors.new) result bytes.now }
+{
+    errors.put(bytes)
+}
+
+fn put_number<E: Sink>(errors: &mut E, number: u16) -> Result<(), Failed>
+    ensures { Writes (bare E.contents E.failures errors.old) (bare E.contents E.failures errors.new) result (decimal number) }
+{
+    let mut digits = itoa::Buffer::new();
+    put_bytes(errors, digits.format(number).as_bytes())
+}
+
+fn put_text<E: Sink>(errors: &mut E, text: &str) -> Result<(), Failed>
+    ensures { Writes (bare E.contents E.failures errors.old) (bare E.contents E.failures errors.new) result text.now }
+{
+    put_bytes(errors, text.as_bytes())
+}
+
+/// What was refused, the number of the fault and its name.
+#[tactic(auto, using(totem_ids::proofs::Writers::wrote_then, totem_ids::proofs::Writers::wrote_failed))]
+fn put_refusal<E: Sink>(errors: &mut E, front: &str, number: u8, name: &str) -> Result<(), Failed>
+    ensures { Writes (bare E.contents E.failures errors.old) (bare E.contents E.failures errors.new)
+        result (refusal_text front.now number name.now) }
+{
+    put_text(errors, front)?;
+    put_number(errors, u16::from(number))?;
+    put_text(errors, " ")?;
+    put_text(errors, name)
+}
+
+/// The end of the line of a run's fault: its process, where it has one.
+fn put_process<E: Sink>(errors: &mut E, fault: &RunFault) -> Result<(), Failed>
+    ensures { Writes (bare E.contents E.failures errors.old) (bare E.contents E.failures errors.new) result (process_text fault.now) }
+{
+    if let RunFault::MissingLog(proc) = fault {
+        put_text(errors, " ")?;
+        put_number(errors, proc.number())?;
+    }
+    Ok(())
+}
+
+fn put_run_fault<E: Sink>(errors: &mut E, fault: &RunFault) -> Result<(), Failed>
+    ensures { Writes (bare E.contents E.failures errors.old) (bare E.contents E.failures errors.new) result (run_line fault.now) }
+{
+    if let RunFault::Read = fault {
+        return put_text(errors, "totem: read failed\n");
+    }
+    put_refusal(errors, "totem: run refused: ", fault.number(), fault.name())?;
+    put_process(errors, fault)?;
+    put_text(errors, "\n")
+}
+
+fn put_cert_fault<E: Sink>(errors: &mut E, fault: &CertFault) -> Result<(), Failed>
+    ensures { Writes (bare E.contents E.failures errors.old) (bare E.contents E.failures errors.new) result (cert_line fault.now) }
+{
+    if let CertFault::Read = fault {
+        return put_text(errors, "totem: read failed\n");
+    }
+    put_refusal(
+        errors,
+        "totem: certificate unreadable: ",
+        fault.number(),
+        fault.name(),
+    )?;
+    put_text(errors, "\n")
+}
+
+fn put_fault<E: Sink>(errors: &mut E, fault: &IoFault) -> Result<(), Failed>
+    ensures { Writes (bare E.contents E.failures errors.old) (bare E.contents E.failures errors.new) result (fault_line fault.now) }
+{
+    match fault {
+        IoFault::Run(fault) => put_run_fault(errors, fault),
+        IoFault::Cert(fault) => put_cert_fault(errors, fault),
+        IoFault::Refused(fault) => {
+            put_refusal(
+                errors,
+                "totem: certificate refused: ",
+                fault.number(),
+                fault.name(),
+            )?;
+            put_text(errors, "\n")
+        }
+        IoFault::Memory => put_text(errors, "totem: out of memory\n"),
+        IoFault::Write => put_text(errors, "totem: write failed\n"),
+    }
+}
+
+/// Tells these bytes.
+pub fn tell<E: Sink>(errors: &mut E, bytes: &[u8])
+    ensures { Tells (bare E.contents E.failures errors.old) (bare E.contents E.failures errors.new) bytes.now }
+{
+    let _ = put_bytes(errors, bytes);
+}
+
+/// Tells a fault, and answers its status.
+pub fn tell_fault<E: Sink>(errors: &mut E, fault: &IoFault) -> u8
+    ensures line { Tells (bare E.contents E.failures errors.old) (bare E.contents E.failures errors.new) (fault_line fault.now) }
+    ensures status { result ≡ fault_status fault.now }
+{
+    let _ = put_fault(errors, fault);
+    match fault {
+        IoFault::Run(RunFault::Read) | IoFault::Cert(CertFault::Read) => 4,
+        IoFault::Run(_) | IoFault::Cert(_) | IoFault::Refused(_) => 2,
+        IoFault::Memory => 3,
+        IoFault::Write => 4,
+    }
+}

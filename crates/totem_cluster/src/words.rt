@@ -1,0 +1,50 @@
+//! The words of a command line.
+use clap::{Command, Error};
+use std::alloc::{AllocError, Global};
+
+/// What the words ask for.
+#[derive(Clone, Copy, Debug, PartialEq, Eq)]
+pub enum Words {
+    /// The audit of the run on the standard input.
+    Audit,
+    /// The check of a run and its certificate.
+    Check,
+}
+
+const ENDINGS: &str = "\
+Status: 0 yes, 1 no, 2 the input was refused, 3 out of memory, 4 a stream failed, 64 wrong words.";
+
+const AUDIT_EXAMPLE: &str = "Example: totem audit < examples/first-yes.run";
+
+const CHECK_EXAMPLE: &str = "Example: totem check < examples/first-yes.checked";
+
+fn audit_command<'a>(alloc: Global) -> Command<'a> {
+    Command::new(alloc, "audit")
+        .about("Judges the run on the standard input, and writes a report")
+        .after_help(AUDIT_EXAMPLE)
+}
+
+fn check_command<'a>(alloc: Global) -> Command<'a> {
+    Command::new(alloc, "check")
+        .about("Judges a run and its certificate, one after the other on the standard input")
+        .after_help(CHECK_EXAMPLE)
+}
+
+fn command<'a>(alloc: Global) -> Result<Command<'a>, AllocError> {
+    Command::new(alloc, "totem")
+        .version("0.1.0")
+        .about("Audits the logs of a process group: what was sent, delivered and installed")
+        .after_help(ENDINGS)
+        .subcommand_required(true)
+        .subcommand(audit_command(alloc))?
+        .subcommand(check_command(alloc))
+}
+
+/// Reads the words, the program's name first. An error has the text for the person who typed them.
+pub fn read_words(alloc: Global, words: &[String]) -> Result<Words, Error> {
+    let matches = command(alloc)?.try_get_matches_from(words)?;
+    Ok(match matches.subcommand() {
+        Some(("check", _)) => Words::Check,
+        _ => Words::Audit,
+    })
+}

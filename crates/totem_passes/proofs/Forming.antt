@@ -1,0 +1,65 @@
+-- Entering changes, and what it tells.
+use Rattle.std.proofs.Common.{◌≡◌, ℕ, ◌+◌, inl, inr, List, [], ◌∷◌, Option, Some, refl, ap, subst, arith}
+use Rattle.std.specs.declared.cmp.Ordering.{Ordering}
+use Rattle.std.specs.Cmp.{IsTotalOrder}
+use Rattle.std.specs.BTreeMap.{BTreeMap}
+use Rattle.std.specs.BTreeMap as tree
+use Rattle.std.proofs.lemmas.Option.{slice_get_within}
+use Rattle.totem_ids.specs.declared.conf.ConfId.{ConfId}
+use Rattle.totem_ids.specs.declared.place.Place.{Place}
+use Rattle.totem_evs.specs.declared.entry.Entry.{Entry}
+use Rattle.totem_evs.specs.declared.entry.Entry.TheVariants.{Conf, Send, Deliver, Fail}
+use Rattle.totem_evs.specs.declared.log.Log.{Log}
+use Rattle.totem_evs.specs.Events.{log_of}
+use Rattle.totem_passes.specs.declared.visit.Visit.{Visit}
+use Rattle.totem_passes.specs.Met.{IsMet}
+use Rattle.totem_passes.specs.Registers.{Keeps, KnowsRun}
+use Rattle.totem_passes.specs.Forms.{KnowsChange}
+use Rattle.totem_passes.specs.Search.{place, HoldsOfNone}
+use Rattle.totem_passes.specs.Pairs.{IsOne}
+use Rattle.totem_passes.specs.Bad.{AreTwoForms}
+use Rattle.totem_passes.proofs.Knowing.{meets_keeps}
+
+abbrev visit : ℕ → ConfId → Visit
+visit p x = record { proc = p; conf = x }
+
+module _ (by_visit : Visit → Visit → Ordering) (by_conf : ConfId → ConfId → Ordering) where
+  pub keeps_changes : IsTotalOrder by_visit → IsTotalOrder by_conf → (v w : BTreeMap Visit (Option Place)) (f g : BTreeMap ConfId (Option (List ℕ))) (k : Visit) (e : Place) (y : ConfId) (ns : List ℕ) → IsMet by_visit v w k e → IsMet by_conf f g y ns
+      → Keeps (KnowsChange by_visit by_conf v f) (KnowsChange by_visit by_conf w g)
+  keeps_changes first second v w f g k e y ns met formed = record {
+    each = λ p log i h. record {
+      visited = λ x ms at. meets_keeps by_visit first v w k e met (visit p x) (place p i) (h.visited x ms at);
+      formed = λ x ms at. meets_keeps by_conf second f g y ns formed x ms (h.formed x ms at);
+    };
+  }
+
+  -- a configuration to which a process changed once, and which has one form, is in no two forms
+  pub only_form : (run : List Log) (v : BTreeMap Visit (Option Place)) (f : BTreeMap ConfId (Option (List ℕ))) (p i : ℕ) (x : ConfId) (ms : List ℕ) → KnowsRun (KnowsChange by_visit by_conf v f) run
+      → tree.get by_visit v (visit p x) ≡ Some (Some (place p i)) → tree.get by_conf f x ≡ Some (Some ms) → HoldsOfNone (IsOne run (AreTwoForms p i (Conf x ms)))
+  only_form run v f p i x ms known once one = record { none = λ places h. go places h }
+    where
+      go : (places : List Place) → IsOne run (AreTwoForms p i (Conf x ms)) places → ⊥
+      go [] h = h
+      go (g ∷ []) (j, js, (Conf y ns, at, (same, inl (procs, other)))) =
+          let key : visit p x ≡ visit g.proc y = rw (procs, same) refl in
+          let met = ((known.each g.proc j (slice_get_within (log_of run g.proc) j (Conf y ns) at)).visited y ns at).only (place p i)
+          (subst (λ (k : Visit). tree.get by_visit v k ≡ Some (Some (place p i))) key once) in
+          other (let ats : i + 1 ≡ j + 1 = ap (λ (e : Place). e.at) met in omega arith)
+      go (g ∷ []) (j, js, (Conf y ns, at, (same, inr other))) =
+          other (((known.each g.proc j (slice_get_within (log_of run g.proc) j (Conf y ns) at)).formed y ns at).only ms (rw same at one))
+      go (g ∷ []) (j, js, (Send n y t, at, h)) = h
+      go (g ∷ []) (j, js, (Deliver n y, at, h)) = h
+      go (g ∷ []) (j, js, (Fail y, at, h)) = h
+      go (g ∷ e ∷ more) h = h
+
+  -- what is no change is in no form
+  pub no_form : (run : List Log) (p i : ℕ) (e : Entry) → ((x : ConfId) (ms : List ℕ) → e ≡ Conf x ms → ⊥) → HoldsOfNone (IsOne run (AreTwoForms p i e))
+  no_form run p i e no_change = record { none = λ places h. go e refl places h }
+    where
+      go : (z : Entry) → e ≡ z → (places : List Place) → IsOne run (AreTwoForms p i z) places → ⊥
+      go z is [] h = h
+      go (Conf x ms) is (f ∷ []) h = no_change x ms is
+      go (Send m x v) is (f ∷ []) (j, js, (y, at, h)) = h
+      go (Deliver m x) is (f ∷ []) (j, js, (y, at, h)) = h
+      go (Fail x) is (f ∷ []) (j, js, (y, at, h)) = h
+      go z is (f ∷ g ∷ more) h = h

@@ -1,0 +1,33 @@
+-- From what is found for each specification to the verdict.
+use Rattle.std.proofs.Common.{◌≡◌, inl, inr, List, [], ◌∷◌, ◌++◌, Option, Some, None, Result, Ok, Err, IfOk, refl, append_assoc, append-nil}
+use Rattle.totem_ids.specs.declared.place.Place.{Place}
+use Rattle.totem_evs.specs.declared.log.Log.{Log}
+use Rattle.totem_evs.specs.declared.fault.Fault.{Fault}
+use Rattle.totem_evs.specs.declared.spec.SpecNo.{SpecNo}
+use Rattle.totem_evs.specs.declared.spec.SpecNo.TheVariants as spec
+use Rattle.totem_evs.specs.Answers.{Finds, Lists, pass_a, pass_b}
+use Rattle.totem_passes.specs.Listed.{listed}
+
+pub lists_more : (run : List Log) (k : SpecNo) (ks : List SpecNo) (found : Option (List Place)) (rest : List Fault) → Finds run k found → Lists run ks rest → Lists run (k ∷ ks) (listed k found ++ rest)
+lists_more run k ks None rest h more = inl (h, more)
+lists_more run k ks (Some places) rest h more = inr (places, rest, refl, h, more)
+
+pub lists_pass_a : (run : List Log) (a b c d : Option (List Place)) (fs gs hs is js : List Fault) → Finds run spec.Twice a → Finds run spec.Misplaced b → Finds run spec.Configuration c → Finds run spec.Turns d
+    → fs ≡ [] → gs ≡ fs ++ listed spec.Twice a → hs ≡ gs ++ listed spec.Misplaced b → is ≡ hs ++ listed spec.Configuration c → js ≡ is ++ listed spec.Turns d → Lists run pass_a js
+lists_pass_a run a b c d fs gs hs is js fa fb fc fd ef eg eh ei ej =
+    let all = lists_more run spec.Twice (spec.Misplaced ∷ spec.Configuration ∷ spec.Turns ∷ []) a _ fa
+    (lists_more run spec.Misplaced (spec.Configuration ∷ spec.Turns ∷ []) b _ fb
+    (lists_more run spec.Configuration (spec.Turns ∷ []) c _ fc
+    (lists_more run spec.Turns [] d [] fd refl))) in
+    let flat : js ≡ listed spec.Twice a ++ (listed spec.Misplaced b ++ (listed spec.Configuration c ++ (listed spec.Turns d ++ []))) =
+    rw (ej, ei, eh, eg, ef) (simp (append_assoc, append-nil)) in
+    rw flat all
+
+pub lists_pass_b : (run : List Log) (a : Option (List Place)) (fs gs : List Fault) → Finds run spec.Unsent a → fs ≡ [] → gs ≡ fs ++ listed spec.Unsent a → Lists run pass_b gs
+lists_pass_b run a fs gs fa ef eg =
+    let flat : gs ≡ listed spec.Unsent a ++ [] = rw (eg, ef) (simp append-nil) in
+    rw flat (lists_more run spec.Unsent [] a [] fa refl)
+
+pub if_ok : {X F : Type 0} (r : Result X F) (P Q : X → Type 0) → ((x : X) → P x → Q x) → IfOk r P → IfOk r Q
+if_ok (Ok x) P Q f h = f x h
+if_ok (Err e) P Q f h = tt

@@ -1,0 +1,14 @@
+-- Where a quick test spares a search.
+use Rattle.std.proofs.Common.{List, Bool, true, false, not, IsTrue, ◌↔◌, refl}
+use Rattle.std.specs.Bool.{OnFalse}
+use Rattle.std.proofs.lemmas.Grind.{not_there}
+use Rattle.totem_ids.specs.declared.place.Place.{Place}
+use Rattle.totem_passes.specs.Search.{HoldsOfNone}
+
+-- what a fact shows that is known to have a proof
+pub none_known : {K : Type 0} (H : List Place → Type 0) → ∥ K ∥₁ → (K → HoldsOfNone H) → HoldsOfNone H
+none_known H known shows = record { none = λ places h. not_there known (λ k. (shows k).none places h) }
+
+pub unless : (b : Bool) (P Q : Type 0) → IsTrue b ↔ Q → (Q → P) → OnFalse (not b) P
+unless true P Q decides f = f (decides.0 refl)
+unless false P Q decides f = tt

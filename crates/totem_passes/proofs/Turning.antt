@@ -1,0 +1,293 @@
+-- Searching for what breaks 2.4, change by change.
+use Rattle.std.proofs.Common.{◌≡◌, ◌≢◌, ℕ, ◌+◌, ◌-◌, ◌<◌, ◌≤◌, ◌⊎◌, inl, inr, List, [], ◌∷◌, length, slice_get, Some, Bool, true, false, not, IsTrue, ◌↔◌, refl, sym, subst, ◌∙◌, arith}
+use Rattle.std.specs.Prelude.{All, Contains}
+use Rattle.std.proofs.lemmas.Option.{slice_get_within}
+use Rattle.totem_ids.specs.declared.ring.RingId.{RingId}
+use Rattle.totem_ids.specs.declared.conf.ConfId.{ConfId}
+use Rattle.totem_ids.specs.declared.conf.ConfId.TheVariants.{Regular, Transitional}
+use Rattle.totem_ids.specs.declared.place.Place.{Place}
+use Rattle.totem_evs.specs.declared.entry.Entry.{Entry}
+use Rattle.totem_evs.specs.declared.entry.Entry.TheVariants.{Conf}
+use Rattle.totem_evs.specs.declared.log.Log.{Log}
+use Rattle.totem_evs.specs.Events.{log_of, IsChange, IsRegular, IsTransitional}
+use Rattle.totem_evs.specs.Changes.{ChangesNext}
+use Rattle.totem_evs.specs.ChangeFaults.{BeginsTransitional, AreWrongNeighbours}
+use Rattle.totem_evs.specs.Answers.{ComesFirst, IsLeast}
+use Rattle.totem_passes.specs.Search.{place, NoneFrom, IsLeastFrom, HoldsOfNone}
+use Rattle.totem_passes.specs.Turns.{IsWrongTurn, HasNoTurn, IsOfOtherRing, ComesFromElsewhere, IsOtherOrigin, IsTurnRest, IsTurnFault}
+use Rattle.totem_evs.proofs.LogOf.{less_or_not}
+use Rattle.totem_passes.proofs.Starting.{Begins, EachBegins, begins_at}
+
+-- no change stands after i and before n
+pub record NoneBetween (log : List Entry) (i n : ℕ) : Type 0 where
+  pub none : (k : ℕ) → i < k → k < n → IsChange log k → ⊥
+
+pub none_between_yet : (log : List Entry) (i : ℕ) → NoneBetween log i (i + 1)
+none_between_yet log i = record { none = λ k lt below h. omega arith }
+
+no_change : (log : List Entry) (i : ℕ) (e : Entry) → slice_get log i ≡ Some e → ((x : ConfId) (ms : List ℕ) → e ≡ Conf x ms → ⊥) → IsChange log i → ⊥
+no_change log i e at other (x, (ms, h)) = other x ms cc
+
+pub none_between_more : (log : List Entry) (i n : ℕ) (e : Entry) → slice_get log n ≡ Some e → ((x : ConfId) (ms : List ℕ) → e ≡ Conf x ms → ⊥) → NoneBetween log i n → NoneBetween log i (n + 1)
+none_between_more log i n e at other before = record {
+  none = λ k lt below h. elim (less_or_not k n) [
+    | inl under ↦ before.none k lt under h
+    | inr more ↦ elim more [ inl over ↦ omega arith | inr same ↦ no_change log n e at other (rw same at h) ]
+  ];
+}
+
+pub turn_here : (log : List Entry) (i j : ℕ) (x y : ConfId) (ms ns : List ℕ) → slice_get log i ≡ Some (Conf x ms) → slice_get log j ≡ Some (Conf y ns) → i < j → NoneBetween log i j → ChangesNext log i j x y ms ns
+turn_here log i j x y ms ns at_i at_j lt before = record { first = at_i; second = at_j; next = record { change = (y, (ns, at_j)); later = lt; none_between = before.none } }
+
+pub no_turn_without_change : (log : List Entry) (i : ℕ) (e : Entry) → slice_get log i ≡ Some e → ((x : ConfId) (ms : List ℕ) → e ≡ Conf x ms → ⊥) → HasNoTurn log i
+no_turn_without_change log i e at other = record { none = λ j x y ms ns turn. no_change log i e at other (x, (ms, turn.first)) }
+
+pub no_turn_at_end : (log : List Entry) (i n : ℕ) → length log ≤ n → NoneBetween log i n → HasNoTurn log i
+no_turn_at_end log i n end before = record { none = λ j x y ms ns turn. before.none j turn.next.later (omega (arith, slice_get_within log j (Conf y ns) turn.second)) turn.next.change }
+
+-- no change stands at n or after it, before i
+pub record NoneBack (log : List Entry) (n i : ℕ) : Type 0 where
+  pub none : (k : ℕ) → n ≤ k → k < i → IsChange log k → ⊥
+
+pub none_back_yet : (log : List Entry) (i : ℕ) → NoneBack log (i - 0) i
+none_back_yet log i = record { none = λ k le lt h. absurd (omega arith) }
+
+pub none_back_more : (log : List Entry) (b i : ℕ) (e : Entry) → b < i → slice_get log (i - 1 - b) ≡ Some e → ((x : ConfId) (ms : List ℕ) → e ≡ Conf x ms → ⊥) → NoneBack log (i - b) i → NoneBack log (i - (b + 1)) i
+none_back_more log b i e within at other before = record {
+  none = λ k le below h. elim (less_or_not k (i - b)) [
+    | inr more ↦ elim more [ inl over ↦ before.none k (omega arith) below h | inr same ↦ before.none k (omega arith) below h ]
+    | inl under ↦ (let same : k ≡ i - 1 - b = omega arith in no_change log (i - 1 - b) e at other (rw same at h))
+  ];
+}
+
+pub none_back_no : (log : List Entry) (b i : ℕ) → i ≤ b → NoneBack log (i - b) i → IsTrue false ↔ ((k : ℕ) × (k < i) × IsChange log k)
+none_back_no log b i le before = (λ t. absurd cc, λ (k, lt, h). absurd (before.none k (omega arith) lt h))
+
+-- the first change of a log
+pub begins_decided : (log : List Entry) (i : ℕ) (x : ConfId) (ms : List ℕ) (before : Bool) → slice_get log i ≡ Some (Conf x ms) → IsTransitional x → IsTrue before ↔ ((k : ℕ) × (k < i) × IsChange log k)
+    → IsTrue (not before) ↔ BeginsTransitional log i
+begins_decided log i x ms true at moves decides = (λ t. absurd cc, λ (y, change, moves', none). absurd (let found = decides.0 refl in none found.0 found.1 found.2))
+begins_decided log i x ms false at moves decides = (λ _. (x, (ms, at), moves, λ k lt h. let t = decides.1 (k, lt, h) in cc), λ _. refl)
+
+pub begins_regular : (log : List Entry) (i : ℕ) (x : ConfId) (ms : List ℕ) (b : Bool) → slice_get log i ≡ Some (Conf x ms) → b ≡ false → IsTrue b ↔ IsTransitional x → IsTrue b ↔ BeginsTransitional log i
+begins_regular log i x ms b at is decides = (λ t. absurd cc, λ (y, (ns, h), moves, none). let same : y ≡ x = cc in decides.1 (rw same at moves))
+
+pub begins_no_change : (log : List Entry) (i : ℕ) (e : Entry) → slice_get log i ≡ Some e → ((x : ConfId) (ms : List ℕ) → e ≡ Conf x ms → ⊥) → IsTrue false ↔ BeginsTransitional log i
+begins_no_change log i e at other = (λ t. absurd cc, λ (y, (ns, h), moves, none). absurd (other y ns cc))
+
+-- a log goes from a change to one next change
+pub record SameTurn (j k : ℕ) (x x' y y' : ConfId) (ms ms' ns ns' : List ℕ) : Type 0 where
+  pub at : j ≡ k
+  pub conf : x ≡ x'
+  pub members : ms ≡ ms'
+  pub next : y ≡ y'
+  pub next_members : ns ≡ ns'
+
+pub one_turn : (log : List Entry) (i j k : ℕ) (x x' y y' : ConfId) (ms ms' ns ns' : List ℕ) → ChangesNext log i j x y ms ns → ChangesNext log i k x' y' ms' ns' → SameTurn j k x x' y y' ms ms' ns ns'
+one_turn log i j k x x' y y' ms ms' ns ns' a b =
+    let same_at = same in
+    record { at = same; conf = (let h = a.first in let g = b.first in cc); members = (let h = a.first in let g = b.first in cc); next = seconds.0; next_members = seconds.1 }
+  where
+    same : j ≡ k
+    same = elim (less_or_not j k) [
+      | inl lt ↦ absurd (b.next.none_between j a.next.later lt a.next.change)
+      | inr more ↦ elim more [ inl gt ↦ absurd (a.next.none_between k b.next.later gt b.next.change) | inr e ↦ e ]
+    ]
+
+    seconds : (y ≡ y') × (ns ≡ ns')
+    seconds = let h : slice_get log k ≡ Some (Conf y ns) = rw same at a.second in let g = b.second in (cc, cc)
+
+-- the ways in which a turn is wrong
+pub wrong_turn : (x y : ConfId) (ms ns : List ℕ)
+    → (IsRegular x × IsRegular y) ⊎ (IsTransitional x × IsTransitional y)
+    ⊎ (IsRegular x × IsTransitional y × (All (Contains ms) ns → ⊥)) ⊎ (IsTransitional x × IsRegular y × (All (Contains ns) ms → ⊥))
+    ⊎ ((next c : RingId) × (least : ℕ) × (x ≡ Transitional next least) × (y ≡ Regular c) × (c ≢ next)) → IsWrongTurn x ms y ns
+wrong_turn (Regular c) (Regular d) ms ns h = tt
+wrong_turn (Regular c) (Transitional n l) ms ns (inl (r, s)) = absurd s
+wrong_turn (Regular c) (Transitional n l) ms ns (inr (inl (s, t))) = absurd s
+wrong_turn (Regular c) (Transitional n l) ms ns (inr (inr (inl (r, t, never)))) = never
+wrong_turn (Regular c) (Transitional n l) ms ns (inr (inr (inr (inl (t, r, never))))) = absurd t
+wrong_turn (Regular c) (Transitional n l) ms ns (inr (inr (inr (inr (m, d, k, is_x, is_y, other))))) = absurd cc
+wrong_turn (Transitional n l) (Regular c) ms ns (inl (r, s)) = absurd r
+wrong_turn (Transitional n l) (Regular c) ms ns (inr (inl (s, t))) = absurd t
+wrong_turn (Transitional n l) (Regular c) ms ns (inr (inr (inl (r, t, never)))) = absurd r
+wrong_turn (Transitional n l) (Regular c) ms ns (inr (inr (inr (inl (t, r, never))))) = inl never
+wrong_turn (Transitional n l) (Regular c) ms ns (inr (inr (inr (inr (m, d, k, is_x, is_y, other))))) = inr (λ e. other cc)
+wrong_turn (Transitional n l) (Transitional m k) ms ns h = tt
+
+pub wrong_neighbours : (log : List Entry) (i j : ℕ) (x y : ConfId) (ms ns : List ℕ) → ChangesNext log i j x y ms ns → IsWrongTurn x ms y ns → AreWrongNeighbours log i j
+wrong_neighbours log i j (Regular c) (Regular d) ms ns turn w = (Regular c, Regular d, ms, ns, turn, inl (tt, tt))
+wrong_neighbours log i j (Regular c) (Transitional n l) ms ns turn w = (Regular c, Transitional n l, ms, ns, turn, inr (inr (inl (tt, tt, w))))
+wrong_neighbours log i j (Transitional n l) (Regular c) ms ns turn (inl w) = (Transitional n l, Regular c, ms, ns, turn, inr (inr (inr (inl (tt, tt, w)))))
+wrong_neighbours log i j (Transitional n l) (Regular c) ms ns turn (inr w) = (Transitional n l, Regular c, ms, ns, turn, inr (inr (inr (inr (n, c, l, refl, refl, w)))))
+wrong_neighbours log i j (Transitional n l) (Transitional m k) ms ns turn w = (Transitional n l, Transitional m k, ms, ns, turn, inr (inl (tt, tt)))
+
+same_wrong : (x x' y y' : ConfId) (ms ms' ns ns' : List ℕ) → x' ≡ x → ms' ≡ ms → y' ≡ y → ns' ≡ ns → IsWrongTurn x' ms' y' ns' → IsWrongTurn x ms y ns
+same_wrong x x' y y' ms ms' ns ns' a b c d h =
+    let P : ConfId → List ℕ → ConfId → List ℕ → Type 0 = λ x ms y ns. IsWrongTurn x ms y ns in
+    let e : P x' ms' y' ns' ≡ P x ms y ns = cc in
+    rw e at h
+
+-- a right turn is the neighbour of no wrong one
+pub right_not_wrong : (log : List Entry) (i j k : ℕ) (x y : ConfId) (ms ns : List ℕ) → ChangesNext log i j x y ms ns → (IsWrongTurn x ms y ns → ⊥) → AreWrongNeighbours log i k → ⊥
+right_not_wrong log i j k x y ms ns turn right (x', y', ms', ns', turn', how) =
+    let one = one_turn log i k j x' x y' y ms' ms ns' ns turn' turn in
+    right (same_wrong x x' y y' ms ms' ns ns' one.conf one.members one.next one.next_members (wrong_turn x' y' ms' ns' how))
+
+pub turn_within : (log : List Entry) (i j : ℕ) (x y : ConfId) (ms ns : List ℕ) → ChangesNext log i j x y ms ns → i < length log
+turn_within log i j x y ms ns turn = slice_get_within log i (Conf x ms) turn.first
+
+place_of : (p j k : ℕ) (f : Place) → p ≡ f.proc → f.at ≡ k + 1 → j ≡ k → place p j ≡ f
+place_of p j k f procs at same = rw (procs, same, ← at) refl
+
+pub turn_of_rest : (run : List Log) (p i j : ℕ) (rest : List Place) → IsTurnRest run p i j rest → (x y : ConfId) × (ms ns : List ℕ) × ChangesNext (log_of run p) i j x y ms ns
+turn_of_rest run p i j [] (x, y, ms, ns, turn, how) = (x, y, ms, ns, turn)
+turn_of_rest run p i j (g ∷ rest) (c, t, ms, ns, moves, turn, other) = (Regular c, t, ms, ns, turn)
+
+-- no list begins where no turn is, and no log begins
+pub none_without_turn : (run : List Log) (p i : ℕ) → (BeginsTransitional (log_of run p) i → ⊥) → HasNoTurn (log_of run p) i → NoneFrom (IsTurnFault run) p i
+none_without_turn run p i not_first never = record { none = λ rest h. go rest h }
+  where
+    at_index : (k : ℕ) (f : Place) (rest : List Place) (j : ℕ) → k ≡ i → IsTurnRest run p k j rest → ⊥
+    at_index k f rest j same h = let found = turn_of_rest run p i j rest (rw same at h) in never.none j found.0 found.1 found.2 found.3 found.4
+
+    go : (rest : List Place) → IsTurnFault run (place p i ∷ rest) → ⊥
+    go [] (k, is, h) = let same : k ≡ i = omega arith in not_first (rw same at h)
+    go (f ∷ rest) (k, is, (j, js, (procs, h))) = at_index k f rest j (omega arith) h
+
+-- the list ends with a change that may not be the next one
+pub wrong_here : (run : List Log) (p i j : ℕ) (x y : ConfId) (ms ns : List ℕ) → (BeginsTransitional (log_of run p) i → ⊥) → ChangesNext (log_of run p) i j x y ms ns → IsWrongTurn x ms y ns
+    → IsLeastFrom (IsTurnFault run) p i (place p j ∷ [])
+wrong_here run p i j x y ms ns not_first turn w = record {
+  least = record {
+    holds = (i, refl, (j, refl, (refl, wrong_neighbours (log_of run p) i j x y ms ns turn w)));
+    first = λ others h. go others h;
+  };
+}
+  where
+    at_index : (k l : ℕ) (f : Place) (rest : List Place) → k ≡ i → p ≡ f.proc → f.at ≡ l + 1 → IsTurnRest run p k l rest → ComesFirst (place p j ∷ []) (f ∷ rest)
+    at_index k l f rest same procs at h =
+        let found = turn_of_rest run p i l rest (rw same at h) in
+        let one = one_turn (log_of run p) i j l x found.0 y found.1 ms found.2 ns found.3 turn found.4 in
+        inr (place_of p j l f procs at one.at, tt)
+
+    go : (others : List Place) → IsTurnFault run (place p i ∷ others) → ComesFirst (place p j ∷ []) others
+    go [] (k, is, h) = let same : k ≡ i = omega arith in absurd (not_first (rw same at h))
+    go (f ∷ rest) (k, is, (l, ls, (procs, h))) = at_index k l f rest (omega arith) procs ls h
+
+-- it may be the next one, and no other log comes there from elsewhere
+pub none_after_right : (run : List Log) (p i j : ℕ) (x y : ConfId) (ms ns : List ℕ) → (BeginsTransitional (log_of run p) i → ⊥) → ChangesNext (log_of run p) i j x y ms ns → (IsWrongTurn x ms y ns → ⊥)
+    → ((c : RingId) → x ≡ Regular c → HoldsOfNone (IsOtherOrigin run p c y)) → NoneFrom (IsTurnFault run) p i
+none_after_right run p i j x y ms ns not_first turn right none_else = record { none = λ rest h. go rest h }
+  where
+    at_index : (k l : ℕ) (rest : List Place) → k ≡ i → IsTurnRest run p k l rest → ⊥
+    at_index k l [] same h = right_not_wrong (log_of run p) i j l x y ms ns turn right (rw same at h)
+    at_index k l (g ∷ rest) same (c, t, ks, ls, moves, turn', other) =
+        let one = one_turn (log_of run p) i j l x (Regular c) y t ms ks ns ls turn (rw same at turn') in
+        (none_else c one.conf).none (g ∷ rest) (other_at g rest c t (sym one.next) other)
+      where
+        other_at : (g : Place) (rest : List Place) (c : RingId) (t : ConfId) → t ≡ y → IsOtherOrigin run p c t (g ∷ rest) → IsOtherOrigin run p c y (g ∷ rest)
+        other_at g rest c t e h = let P : ConfId → Type 0 = λ z. IsOtherOrigin run p c z (g ∷ rest) in subst P e h
+
+    go : (rest : List Place) → IsTurnFault run (place p i ∷ rest) → ⊥
+    go [] (k, is, h) = let same : k ≡ i = omega arith in not_first (rw same at h)
+    go (f ∷ rest) (k, is, (l, ls, (procs, h))) = at_index k l rest (omega arith) h
+
+-- it may be the next one, and another log comes there from elsewhere
+pub some_after_right : (run : List Log) (p i j : ℕ) (x y : ConfId) (ms ns : List ℕ) (c : RingId) (rest : List Place) → (BeginsTransitional (log_of run p) i → ⊥) → ChangesNext (log_of run p) i j x y ms ns
+    → (IsWrongTurn x ms y ns → ⊥) → x ≡ Regular c → IsLeast (IsOtherOrigin run p c y) rest → IsLeastFrom (IsTurnFault run) p i (place p j ∷ rest)
+some_after_right run p i j x y ms ns c rest not_first turn right is_c least = record {
+  least = record {
+    holds = (i, refl, (j, refl, (refl, known rest least.holds)));
+    first = λ others h. go others h;
+  };
+}
+  where
+    moves_on : (z : ConfId) → z ≡ y → IsTransitional z
+    moves_on (Transitional n l) e = tt
+    moves_on (Regular d) e = absurd (right (same_wrong x (Regular c) y (Regular d) ms ms ns ns (sym is_c) refl e refl tt))
+
+    known : (rest : List Place) → IsOtherOrigin run p c y rest → IsTurnRest run p i j rest
+    known [] h = absurd h
+    known (g ∷ more) h = (c, y, ms, ns, moves_on y refl, rw is_c at turn, h)
+
+    other_at : (g : Place) (more : List Place) (d : RingId) (t : ConfId) → d ≡ c → t ≡ y → IsOtherOrigin run p d t (g ∷ more) → IsOtherOrigin run p c y (g ∷ more)
+    other_at g more d t a b h = let P : RingId → ConfId → Type 0 = λ e z. IsOtherOrigin run p e z (g ∷ more) in
+        let both : P d t ≡ P c y = cc in rw both at h
+
+    at_index : (k l : ℕ) (f : Place) (more : List Place) → k ≡ i → p ≡ f.proc → f.at ≡ l + 1 → IsTurnRest run p k l more → ComesFirst (place p j ∷ rest) (f ∷ more)
+    at_index k l f [] same procs at h = absurd (right_not_wrong (log_of run p) i j l x y ms ns turn right (rw same at h))
+    at_index k l f (g ∷ more) same procs at (d, t, ks, ls, moves, turn', other) =
+        let one = one_turn (log_of run p) i j l x (Regular d) y t ms ks ns ls turn (rw same at turn') in
+        let rings : d ≡ c = (let e : Regular d ≡ Regular c = sym one.conf ∙ is_c in cc) in
+        inr (place_of p j l f procs at one.at, least.first (g ∷ more) (other_at g more d t rings (sym one.next) other))
+
+    go : (others : List Place) → IsTurnFault run (place p i ∷ others) → ComesFirst (place p j ∷ rest) others
+    go [] (k, is, h) = let same : k ≡ i = omega arith in absurd (not_first (rw same at h))
+    go (f ∷ more) (k, is, (l, ls, (procs, h))) = at_index k l f more (omega arith) procs ls h
+
+pub begins_here : (run : List Log) (p i : ℕ) → BeginsTransitional (log_of run p) i → IsLeastFrom (IsTurnFault run) p i []
+begins_here run p i h = record { least = record { holds = (i, refl, h); first = λ others _. tt } }
+
+-- another log's two changes
+pub others_begin : (run : List Log) (p : ℕ) (c : RingId) (t : ConfId) → EachBegins run (IsOtherOrigin run p c t)
+others_begin run p c t = record { each = λ places h. go places h }
+  where
+    go : (places : List Place) → IsOtherOrigin run p c t places → Begins run places
+    go [] h = absurd h
+    go (g ∷ []) h = absurd h
+    go (g ∷ h ∷ []) (k, is, (l, ls, (same, (lt, d, ks, ls', never, turn)))) = begins_at run g k (h ∷ []) is (turn_within (log_of run g.proc) k l (Regular d) t ks ls' turn)
+    go (g ∷ h ∷ f ∷ more) b = absurd b
+
+no_other : (run : List Log) (p : ℕ) (c : RingId) (t : ConfId) (q k : ℕ) → ((l : ℕ) → ComesFromElsewhere run p c t q k l → ⊥) → NoneFrom (IsOtherOrigin run p c t) q k
+no_other run p c t q k never = record { none = λ rest h. go rest h }
+  where
+    at_index : (m l : ℕ) → m ≡ k → ComesFromElsewhere run p c t q m l → ⊥
+    at_index m l same h = never l (rw same at h)
+
+    go : (rest : List Place) → IsOtherOrigin run p c t (place q k ∷ rest) → ⊥
+    go [] h = h
+    go (f ∷ []) (m, is, (l, ls, (procs, h))) = at_index m l (omega arith) h
+    go (f ∷ g ∷ more) h = h
+
+pub no_other_below : (run : List Log) (p : ℕ) (c : RingId) (t : ConfId) (q k : ℕ) → q ≤ p → NoneFrom (IsOtherOrigin run p c t) q k
+no_other_below run p c t q k le = no_other run p c t q k (λ l h. let lt = h.0 in omega arith)
+
+pub no_other_without_turn : (run : List Log) (p : ℕ) (c : RingId) (t : ConfId) (q k : ℕ) → HasNoTurn (log_of run q) k → NoneFrom (IsOtherOrigin run p c t) q k
+no_other_without_turn run p c t q k none = no_other run p c t q k (λ l (lt, d, ks, ls, never, turn). none.none l (Regular d) t ks ls turn)
+
+pub no_other_from_here : (run : List Log) (p : ℕ) (c : RingId) (t : ConfId) (q k j : ℕ) (x y : ConfId) (ms ns : List ℕ) → ChangesNext (log_of run q) k j x y ms ns → (IsOfOtherRing c x → ⊥) → NoneFrom (IsOtherOrigin run p c t) q k
+no_other_from_here run p c t q k j x y ms ns turn never = no_other run p c t q k (λ l (lt, d, ks, ls, other, turn').
+    let one = one_turn (log_of run q) k l j (Regular d) x t y ks ms ls ns turn' turn in
+    let P : ConfId → Type 0 = λ z. IsOfOtherRing c z in never (subst P one.conf other))
+
+pub no_other_to_there : (run : List Log) (p : ℕ) (c : RingId) (t : ConfId) (q k j : ℕ) (x y : ConfId) (ms ns : List ℕ) → ChangesNext (log_of run q) k j x y ms ns → (y ≡ t → ⊥) → NoneFrom (IsOtherOrigin run p c t) q k
+no_other_to_there run p c t q k j x y ms ns turn never = no_other run p c t q k (λ l (lt, d, ks, ls, other, turn').
+    never (sym (one_turn (log_of run q) k l j (Regular d) x t y ks ms ls ns turn' turn).next))
+
+pub other_here : (run : List Log) (p : ℕ) (c : RingId) (t : ConfId) (q k j : ℕ) (x y : ConfId) (ms ns : List ℕ) → p < q → ChangesNext (log_of run q) k j x y ms ns → IsOfOtherRing c x → y ≡ t
+    → IsLeastFrom (IsOtherOrigin run p c t) q k (place q j ∷ [])
+other_here run p c t q k j (Transitional n l) y ms ns lt turn other same = absurd other
+other_here run p c t q k j (Regular d) y ms ns lt turn other same = record {
+  least = record {
+    holds = (k, refl, (j, refl, (refl, (lt, d, ms, ns, other, rw same at turn))));
+    first = λ others h. go others h;
+  };
+}
+  where
+    at_index : (m l : ℕ) (f : Place) → m ≡ k → q ≡ f.proc → f.at ≡ l + 1 → ComesFromElsewhere run p c t q m l → ComesFirst (place q j ∷ []) (f ∷ [])
+    at_index m l f same_at procs at (lt', e, ks, ls, never, turn') =
+        let one = one_turn (log_of run q) k j l (Regular d) (Regular e) y t ms ks ns ls turn (rw same_at at turn') in
+        inr (place_of q j l f procs at one.at, tt)
+
+    go : (others : List Place) → IsOtherOrigin run p c t (place q k ∷ others) → ComesFirst (place q j ∷ []) others
+    go [] h = absurd h
+    go (f ∷ []) (m, is, (l, ls, (procs, h))) = at_index m l f (omega arith) procs ls h
+    go (f ∷ g ∷ more) h = absurd h
+
+pub begins_not : (run : List Log) (p i : ℕ) (log : List Entry) (b : Bool) → log ≡ log_of run p → b ≡ false → IsTrue b ↔ BeginsTransitional log i → BeginsTransitional (log_of run p) i → ⊥
+begins_not run p i log b is e decides h = let t : b ≡ true = decides.1 (rw is h) in cc
+
+pub others_of_ring : (run : List Log) (p : ℕ) (x t : ConfId) (c d : RingId) → x ≡ Regular c → x ≡ Regular d → HoldsOfNone (IsOtherOrigin run p c t) → HoldsOfNone (IsOtherOrigin run p d t)
+others_of_ring run p x t c d is_c is_d h = let same : c ≡ d = (let e : Regular c ≡ Regular d = sym is_c ∙ is_d in cc) in
+    let P : RingId → Type 0 = λ r. HoldsOfNone (IsOtherOrigin run p r t) in subst P same h

@@ -1,0 +1,22 @@
+-- The regular configuration that each transitional one follows in a log (docs/SPECIFICATIONS.md, "Following").
+use Rattle.std.specs.Prelude.{◌≡◌, ℕ, IsTrue, List, Some}
+use Rattle.std.specs.declared.cmp.Ordering.{Ordering}
+use Rattle.std.specs.BTreeMap.{BTreeMap}
+use Rattle.std.specs.BTreeMap as tree
+use Rattle.std.specs.BTreeSet.{BTreeSet}
+use Rattle.std.specs.BTreeSet as sorted
+use Rattle.totem_ids.specs.declared.ring.RingId.{RingId}
+use Rattle.totem_ids.specs.declared.conf.ConfId.TheVariants.{Regular}
+use Rattle.totem_evs.specs.declared.entry.Entry.{Entry}
+use Rattle.totem_evs.specs.declared.log.Log.{Log}
+use Rattle.totem_evs.specs.Events.{log_of, ChangesTo}
+use Rattle.totem_evs.specs.Following.{Follows}
+use Rattle.totem_passes.specs.declared.visit.Visit.{Visit}
+
+-- p's change at i to a regular configuration is among the visits
+pub record KnowsVisit (by_visit : Visit → Visit → Ordering) (visits : BTreeSet Visit) (p : ℕ) (log : List Entry) (i : ℕ) : Type 0 where
+  pub each : (c : RingId) → ChangesTo log i (Regular c) → IsTrue (sorted.contains by_visit visits (record { proc = p; conf = Regular c }))
+
+-- each configuration that is kept follows the regular one of its ring in the log of its process
+pub record AreFollowed (by_visit : Visit → Visit → Ordering) (rings : BTreeMap Visit RingId) (run : List Log) : Type 0 where
+  pub each : (v : Visit) (c : RingId) → tree.get by_visit rings v ≡ Some c → Follows (log_of run v.proc) c v.conf

@@ -1,0 +1,14 @@
+pub mod Search
+pub mod Misplaced
+pub mod Pairs
+pub mod Bad
+pub mod Turns
+pub mod Sent
+pub mod Listed
+pub mod Met
+pub mod Registers
+pub mod Repeats
+pub mod Forms
+pub mod Origins
+pub mod Sendings
+pub mod Followed

@@ -1,0 +1,74 @@
+//! 2.3: one configuration in one form (docs/SPECIFICATIONS.md, "2 Changes of configuration").
+ghost use Rattle.std.specs.Prelude.{◌≡◌, ◌↔◌, ◌<◌, IsTrue, IfOk};
+ghost use Rattle.totem_evs.specs.Answers.{Finds};
+ghost use Rattle.totem_passes.specs.Bad.{IsForeignChange, AreTwoForms};
+ghost use Rattle.totem_passes.specs.Registers.{KnowsRun};
+ghost use Rattle.totem_passes.specs.Forms.{KnowsChange};
+
+use crate::forms::{Forms, same_members};
+use crate::pairs::{Standing, Test, least_bad};
+use crate::register::enter_run;
+use crate::visit::Visit;
+use std::alloc::{AllocError, Global};
+use totem_evs::{Entry, Places, Run, SpecNo};
+use totem_ids::{ConfId, Place};
+
+/// Asks for changes by others than the members, and for two forms of one configuration.
+#[derive(Drop)]
+struct TwoForms<'r> {
+    run: &'r Run,
+    forms: Forms,
+    ghost known: { ∥ KnowsRun (KnowsChange ⟦<Visit as Ord>⟧.cmp ⟦<ConfId as Ord>⟧.cmp forms.visits.values forms.members.values) run.now.logs ∥₁ },
+}
+
+impl Test for TwoForms<'_> {
+    ghost of = { λ t. t.run.now.logs };
+
+    ghost alone = { λ t. IsForeignChange };
+
+    ghost pair = { λ t. AreTwoForms };
+
+    fn run(&self) -> &Run {
+        self.run
+    }
+
+    fn is_alone(&self, first: &Standing) -> bool {
+        match first.entry {
+            Entry::Conf(_, members) => !members.contains(first.proc),
+            _ => false,
+        }
+    }
+
+    fn is_pair(&self, first: &Standing, second: &Standing) -> bool {
+        match (first.entry, second.entry) {
+            (Entry::Conf(conf, members), Entry::Conf(other, others)) => {
+                let again = first.proc == second.proc && first.at != second.at;
+                conf.is(other) && (again || !same_members(members, others))
+            }
+            _ => false,
+        }
+    }
+
+    fn may_pair(&self, first: &Standing) -> bool {
+        let Entry::Conf(conf, members) = first.entry else {
+            return false;
+        };
+        let proc = first.proc;
+        let place = Place {
+            proc,
+            at: (first.at + 1) as u32,
+        };
+        let visit = Visit { proc, conf: *conf };
+        !self.forms.visits.is_only(&visit, &place) || !self.forms.members.is_only(conf, members)
+    }
+}
+
+/// The least events that break 2.3.
+pub fn find(alloc: Global, run: &Run) -> Result<Option<Places>, AllocError>
+    ensures { IfOk result (Finds run.now.logs SpecNo.Configuration) }
+{
+    let mut forms = Forms::new(alloc);
+    enter_run(&mut forms, alloc, run)?;
+    let two_forms = TwoForms { run, forms };
+    least_bad(&two_forms, alloc)
+}

@@ -1,0 +1,70 @@
+//! Where each process changed to each configuration, and with which members.
+ghost use Rattle.std.specs.Prelude.{◌≡◌, ◌↔◌, ℕ, ◌<◌, List, IsTrue};
+ghost use Rattle.totem_passes.specs.Forms.{KnowsChange};
+
+use crate::met::{Met, Same};
+use crate::register::Register;
+use crate::visit::Visit;
+use std::alloc::{AllocError, Global};
+use totem_evs::{Entry, Members};
+use totem_ids::{ConfId, Place, ProcId};
+
+pub fn same_members(members: &Members, others: &Members) -> bool
+    ensures { IsTrue result ↔ (members.now ≡ others.now) }
+{
+    members.as_slice() == others.as_slice()
+}
+
+impl Same for Members {
+    fn is_same(&self, other: &Members) -> bool {
+        same_members(self, other)
+    }
+}
+
+/// The place of each process's change to each configuration, and the members of each configuration, or that there are
+/// several.
+#[derive(Drop)]
+pub struct Forms {
+    pub visits: Met<Visit, Place>,
+    pub members: Met<ConfId, Members>,
+}
+
+impl Forms {
+    ghost use Rattle.std.specs.BTreeMap.{IsEmpty};
+
+    pub fn new(alloc: Global) -> Forms
+        ensures visits { IsEmpty result.visits.values }
+        ensures members { IsEmpty result.members.values }
+    {
+        Forms {
+            visits: Met::new(alloc),
+            members: Met::new(alloc),
+        }
+    }
+}
+
+impl Register for Forms {
+    ghost sound = { λ s run. Unit {0} };
+
+    ghost knows = { λ s. KnowsChange ⟦<Visit as Ord>⟧.cmp ⟦<ConfId as Ord>⟧.cmp s.visits.values s.members.values };
+
+    fn enter(
+        &mut self,
+        alloc: Global,
+        proc: ProcId,
+        log: &[Entry],
+        at: usize,
+    ) -> Result<(), AllocError> {
+        let place = Place {
+            proc,
+            at: (at + 1) as u32,
+        };
+        let Entry::Conf(conf, members) = &log[at] else {
+            return Ok(());
+        };
+        let conf = *conf;
+        self.visits.meet(Visit { proc, conf }, place)?;
+        self.members.meet(conf, members.try_clone(alloc)?)?;
+        Ok(())
+    }
+}

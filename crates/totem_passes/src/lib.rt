@@ -1,0 +1,28 @@
+//! The first passes of the audit: each specification's room finds the least events that break it.
+#![tactic(auto)]
+
+mod configuration;
+mod delivery;
+mod follow;
+mod followed;
+mod forms;
+mod kinds;
+mod met;
+mod misplaced;
+mod origins;
+mod pairs;
+mod pass;
+mod register;
+mod repeats;
+mod search;
+mod sending;
+mod sendings;
+#[cfg(test)]
+mod tests;
+mod turn;
+mod turns;
+mod twice;
+mod unsent;
+mod visit;
+
+pub use pass::{pass_a, pass_b};

@@ -1,0 +1,55 @@
+//! From which ring logs come to each configuration.
+ghost use Rattle.totem_passes.specs.Origins.{KnowsOrigin};
+
+use crate::met::{Met, Same};
+use crate::register::Register;
+use crate::turn::turn_at;
+use std::alloc::{AllocError, Global};
+use totem_evs::Entry;
+use totem_ids::{ConfId, ProcId, RingId};
+
+impl Same for RingId {
+    fn is_same(&self, other: &RingId) -> bool {
+        *self == *other
+    }
+}
+
+/// The ring of the regular configuration from which logs come to each configuration, or that there are several.
+#[derive(Drop)]
+pub struct Origins {
+    pub rings: Met<ConfId, RingId>,
+}
+
+impl Origins {
+    ghost use Rattle.std.specs.BTreeMap.{IsEmpty};
+
+    pub fn new(alloc: Global) -> Origins
+        ensures { IsEmpty result.rings.values }
+    {
+        Origins {
+            rings: Met::new(alloc),
+        }
+    }
+}
+
+impl Register for Origins {
+    ghost sound = { λ s run. Unit {0} };
+
+    ghost knows = { λ s. KnowsOrigin ⟦<ConfId as Ord>⟧.cmp s.rings.values };
+
+    fn enter(
+        &mut self,
+        _alloc: Global,
+        _proc: ProcId,
+        log: &[Entry],
+        at: usize,
+    ) -> Result<(), AllocError> {
+        let Some(turn) = turn_at(log, at) else {
+            return Ok(());
+        };
+        let ConfId::Regular(ring) = turn.conf else {
+            return Ok(());
+        };
+        self.rings.meet(*turn.next, *ring)
+    }
+}

@@ -1,0 +1,81 @@
+//! The least list of events of a run of which something holds, place by place.
+ghost use Rattle.std.specs.Prelude.{◌≡◌, ◌<◌, ◌≤◌, IfOk, MatchOption, List, ◌∷◌, length};
+ghost use Rattle.totem_ids.specs.declared.place.Place.{Place};
+ghost use Rattle.totem_evs.specs.declared.log.Log.{Log};
+ghost use Rattle.totem_evs.specs.Events.{log_of};
+ghost use Rattle.totem_passes.specs.Search.{NoneFrom, IsLeastFrom, NoneInLog, IsLeastInLog, NoneOf, IsLeastOf};
+
+use std::alloc::{AllocError, Global};
+use totem_evs::{Entry, Run};
+use totem_ids::{Place, ProcId};
+
+/// A relation on lists of events of one run.
+pub trait Relation {
+    /// The run.
+    ghost of: { Self → List Log };
+
+    /// What it says of a list of places.
+    ghost holds: { Self → List Place → Type 0 };
+
+    /// How the least list goes on that begins at this entry of a process's log.
+    fn rest(
+        &self,
+        alloc: Global,
+        proc: ProcId,
+        log: &[Entry],
+        at: usize,
+    ) -> Result<Option<Vec<Place>>, AllocError>
+        requires log { log.now ≡ log_of (of self.now) proc }
+        requires within { at < length log.now }
+        requires few { length log.now ≤ 1000000 }
+        ensures { IfOk result (λ found. MatchOption found (NoneFrom (holds self.now) proc at) (λ rest. IsLeastFrom (holds self.now) proc at rest.items)) };
+}
+
+/// The list with this place before it.
+pub fn begin_with(first: Place, mut rest: Vec<Place>) -> Result<Vec<Place>, AllocError>
+    ensures { IfOk result (λ list. list.items ≡ first ∷ rest.items) }
+{
+    rest.insert(0, first)?;
+    Ok(rest)
+}
+
+/// The least list that begins in this log.
+fn least_in<R: Relation>(
+    relation: &R,
+    alloc: Global,
+    proc: ProcId,
+    log: &[Entry],
+) -> Result<Option<Vec<Place>>, AllocError>
+    requires log { log.now ≡ log_of (R.of relation.now) proc }
+    requires few { length log.now ≤ 1000000 }
+    ensures { IfOk result (λ found. MatchOption found (NoneInLog (R.holds relation.now) proc (length log.now))
+        (λ list. IsLeastInLog (R.holds relation.now) proc (length log.now) list.items)) }
+{
+    for at in 0..log.len() {
+        if let Some(rest) = relation.rest(alloc, proc, log, at)? {
+            let first = Place {
+                proc,
+                at: (at + 1) as u32,
+            };
+            return Ok(Some(begin_with(first, rest)?));
+        }
+    }
+    Ok(None)
+}
+
+/// The least list that begins with an event of the run.
+pub fn least<R: Relation>(
+    relation: &R,
+    alloc: Global,
+    run: &Run,
+) -> Result<Option<Vec<Place>>, AllocError>
+    requires { run.now.logs ≡ R.of relation.now }
+    ensures { IfOk result (λ found. MatchOption found (NoneOf run.now.logs (R.holds relation.now)) (λ list. IsLeastOf run.now.logs (R.holds relation.now) list.items)) }
+{
+    for log in run.logs.as_slice() {
+        if let Some(list) = least_in(relation, alloc, log.proc, log.entries.as_slice())? {
+            return Ok(Some(list));
+        }
+    }
+    Ok(None)
+}

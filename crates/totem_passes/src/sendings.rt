@@ -1,0 +1,54 @@
+//! The messages that were sent, each with its regular configuration.
+ghost use Rattle.std.specs.Prelude.{◌≡◌, ◌↔◌, IsTrue};
+ghost use Rattle.std.specs.BTreeSet.{contains};
+ghost use Rattle.totem_passes.specs.Sendings.{KnowsSend, WereSent};
+
+use crate::register::Register;
+use crate::sending::Sending;
+use std::alloc::{AllocError, Global};
+use std::collections::BTreeSet;
+use totem_evs::Entry;
+use totem_ids::{ConfId, ProcId};
+
+/// The sends in regular configurations.
+#[derive(Drop)]
+pub struct Sendings {
+    pub sends: BTreeSet<Sending>,
+}
+
+impl Sendings {
+    ghost use Rattle.std.specs.BTreeSet.{IsEmpty};
+
+    pub fn new(alloc: Global) -> Sendings
+        ensures { IsEmpty result.sends }
+    {
+        Sendings {
+            sends: BTreeSet::new(alloc),
+        }
+    }
+}
+
+impl Register for Sendings {
+    ghost sound = { λ s. WereSent ⟦<Sending as Ord>⟧.cmp s.sends };
+
+    ghost knows = { λ s p. KnowsSend ⟦<Sending as Ord>⟧.cmp s.sends };
+
+    fn enter(
+        &mut self,
+        _alloc: Global,
+        _proc: ProcId,
+        log: &[Entry],
+        at: usize,
+    ) -> Result<(), AllocError> {
+        let Entry::Send(message, conf, _) = &log[at] else {
+            return Ok(());
+        };
+        let ConfId::Regular(ring) = conf else {
+            return Ok(());
+        };
+        let message = *message;
+        let ring = *ring;
+        self.sends.insert(Sending { message, ring })?;
+        Ok(())
+    }
+}

@@ -1,0 +1,66 @@
+//! A change and the next one of its log.
+ghost use Rattle.std.specs.Prelude.{◌≡◌, ◌↔◌, ◌<◌, All, Contains, IsTrue, IfSome, IfNone, length};
+ghost use Rattle.totem_evs.specs.Events.{IsChange};
+ghost use Rattle.totem_evs.specs.Changes.{ChangesNext};
+ghost use Rattle.totem_passes.specs.Turns.{HasNoTurn, IsWrongTurn};
+
+use totem_evs::{Entry, Members};
+use totem_ids::ConfId;
+
+/// A change, and the next change after it.
+#[derive(Clone, Copy)]
+pub struct Turn<'a> {
+    pub conf: &'a ConfId,
+    pub members: &'a Members,
+    pub next_at: usize,
+    pub next: &'a ConfId,
+    pub next_members: &'a Members,
+}
+
+/// The change at this index, if it is one, and the next one, if there is one.
+pub fn turn_at(log: &[Entry], at: usize) -> Option<Turn<'_>>
+    requires { at < length log.now }
+    ensures found { IfSome result (λ turn. ChangesNext log.now at turn.next_at turn.conf.now turn.next.now turn.members.now turn.next_members.now) }
+    ensures within { IfSome result (λ turn. turn.next_at < length log.now) }
+    ensures none { IfNone result (HasNoTurn log.now at) }
+{
+    let Entry::Conf(conf, members) = &log[at] else {
+        return None;
+    };
+    for next_at in at + 1..log.len() {
+        if let Entry::Conf(next, next_members) = &log[next_at] {
+            return Some(Turn {
+                conf,
+                members,
+                next_at,
+                next,
+                next_members,
+            });
+        }
+    }
+    None
+}
+
+fn contains_all(members: &Members, others: &Members) -> bool
+    ensures { IsTrue result ↔ All (Contains members.now) others.now }
+{
+    for proc in others.as_slice() {
+        if !members.contains(*proc) {
+            return false;
+        }
+    }
+    true
+}
+
+/// Whether the second of these may not come next after the first.
+pub fn is_wrong(conf: &ConfId, members: &Members, next: &ConfId, next_members: &Members) -> bool
+    ensures { IsTrue result ↔ IsWrongTurn conf.now members.now next.now next_members.now }
+{
+    match (conf, next) {
+        (ConfId::Regular(_), ConfId::Transitional { .. }) => !contains_all(members, next_members),
+        (ConfId::Transitional { next: named, .. }, ConfId::Regular(ring)) => {
+            !contains_all(next_members, members) || *ring != *named
+        }
+        _ => true,
+    }
+}

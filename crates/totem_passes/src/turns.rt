@@ -1,0 +1,158 @@
+//! 2.4: regular and transitional configurations by turns (docs/SPECIFICATIONS.md, "2 Changes of configuration").
+ghost use Rattle.std.specs.Prelude.{◌≡◌, ◌↔◌, ℕ, ◌<◌, IsTrue, IfOk, MatchOption, length};
+ghost use Rattle.totem_evs.specs.Events.{log_of, IsChange, IsTransitional};
+ghost use Rattle.totem_evs.specs.ChangeFaults.{BeginsTransitional};
+ghost use Rattle.totem_evs.specs.Answers.{Finds};
+ghost use Rattle.totem_passes.specs.Registers.{KnowsRun};
+ghost use Rattle.totem_passes.specs.Origins.{KnowsOrigin};
+ghost use Rattle.totem_passes.specs.Turns.{IsTurnFault, IsOtherOrigin, IsOfOtherRing};
+
+use crate::kinds::is_transitional;
+use crate::origins::Origins;
+use crate::register::enter_run;
+use crate::search::{Relation, begin_with, least};
+use crate::turn::{is_wrong, turn_at};
+use std::alloc::{AllocError, Global};
+use totem_evs::{Entry, Places, Run, SpecNo};
+use totem_ids::{ConfId, Place, ProcId, RingId};
+
+/// Whether a change stands before this index. The nearest entries are asked first, so that all the changes of a log that
+/// has one take no more than a walk along it.
+fn has_change_before(log: &[Entry], at: usize) -> bool
+    requires { at < length log.now }
+    ensures { IsTrue result ↔ ((k : ℕ) × (k < at) × IsChange log.now k) }
+{
+    for back in 0..at {
+        if let Entry::Conf(_, _) = &log[at - 1 - back] {
+            return true;
+        }
+    }
+    false
+}
+
+/// Whether the change at this index is the first of its log, and to a transitional configuration.
+fn begins_transitional(log: &[Entry], at: usize) -> bool
+    requires { at < length log.now }
+    ensures { IsTrue result ↔ BeginsTransitional log.now at }
+{
+    match &log[at] {
+        Entry::Conf(conf, _) => is_transitional(conf) && !has_change_before(log, at),
+        _ => false,
+    }
+}
+
+/// Whether it is the regular configuration of another ring.
+fn is_of_other_ring(conf: &ConfId, ring: &RingId) -> bool
+    ensures { IsTrue result ↔ IsOfOtherRing ring.now conf.now }
+{
+    match conf {
+        ConfId::Regular(other) => *ring != *other,
+        ConfId::Transitional { .. } => false,
+    }
+}
+
+/// The changes by which logs above `proc` come to a configuration from another ring.
+#[derive(Clone, Copy)]
+struct OtherOrigins<'r, 'c> {
+    run: &'r Run,
+    proc: ProcId,
+    ring: RingId,
+    conf: &'c ConfId,
+}
+
+impl Relation for OtherOrigins<'_, '_> {
+    ghost of = { λ s. s.run.now.logs };
+
+    ghost holds = { λ s. IsOtherOrigin s.run.now.logs s.proc s.ring s.conf.now };
+
+    fn rest(
+        &self,
+        alloc: Global,
+        proc: ProcId,
+        log: &[Entry],
+        at: usize,
+    ) -> Result<Option<Vec<Place>>, AllocError> {
+        if proc.number() <= self.proc.number() {
+            return Ok(None);
+        }
+        let Some(turn) = turn_at(log, at) else {
+            return Ok(None);
+        };
+        if !is_of_other_ring(turn.conf, &self.ring) {
+            return Ok(None);
+        }
+        if !turn.next.is(self.conf) {
+            return Ok(None);
+        }
+        let next = Place {
+            proc,
+            at: (turn.next_at + 1) as u32,
+        };
+        Ok(Some(begin_with(next, Vec::new(alloc))?))
+    }
+}
+
+/// What breaks 2.4, neighbours in their order.
+#[derive(Drop)]
+struct Turns<'r> {
+    run: &'r Run,
+    origins: Origins,
+    ghost known: { ∥ KnowsRun (KnowsOrigin ⟦<ConfId as Ord>⟧.cmp origins.rings.values) run.now.logs ∥₁ },
+}
+
+impl Relation for Turns<'_> {
+    ghost of = { λ s. s.run.now.logs };
+
+    ghost holds = { λ s. IsTurnFault s.run.now.logs };
+
+    fn rest(
+        &self,
+        alloc: Global,
+        proc: ProcId,
+        log: &[Entry],
+        at: usize,
+    ) -> Result<Option<Vec<Place>>, AllocError> {
+        if begins_transitional(log, at) {
+            return Ok(Some(Vec::new(alloc)));
+        }
+        let Some(turn) = turn_at(log, at) else {
+            return Ok(None);
+        };
+        let next = Place {
+            proc,
+            at: (turn.next_at + 1) as u32,
+        };
+        if is_wrong(turn.conf, turn.members, turn.next, turn.next_members) {
+            return Ok(Some(begin_with(next, Vec::new(alloc))?));
+        }
+        let ConfId::Regular(ring) = turn.conf else {
+            return Ok(None);
+        };
+        if self.origins.rings.is_only(turn.next, ring) {
+            return Ok(None);
+        }
+        let others = OtherOrigins {
+            run: self.run,
+            proc,
+            ring: *ring,
+            conf: turn.next,
+        };
+        match least(&others, alloc, self.run)? {
+            None => Ok(None),
+            Some(rest) => Ok(Some(begin_with(next, rest)?)),
+        }
+    }
+}
+
+/// The least events that break 2.4.
+pub fn find(alloc: Global, run: &Run) -> Result<Option<Places>, AllocError>
+    ensures { IfOk result (Finds run.now.logs SpecNo.Turns) }
+{
+    let mut origins = Origins::new(alloc);
+    enter_run(&mut origins, alloc, run)?;
+    let turns = Turns { run, origins };
+    match least(&turns, alloc, run)? {
+        None => Ok(None),
+        Some(list) => Ok(Some(Places::new(list))),
+    }
+}

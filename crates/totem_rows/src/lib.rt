@@ -1,0 +1,15 @@
+//! Worked examples of the program, as tables.
+#![tactic(auto)]
+
+#[cfg(test)]
+mod certificates;
+#[cfg(test)]
+mod refusals;
+#[cfg(test)]
+mod streams;
+#[cfg(test)]
+mod table;
+#[cfg(test)]
+mod verdicts;
+#[cfg(test)]
+mod word_lists;

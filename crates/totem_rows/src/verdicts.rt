@@ -1,0 +1,75 @@
+//! Reports.
+use crate::table::{Row, run_rows};
+use std::test::Fail;
+
+const VERDICTS: [Row; 8] = [
+    Row {
+        name: "one message that both deliver",
+        words: "audit",
+        input: "totem-run 1;log 1;conf r4.1 1 2;send r4.1 a 4.1#1;dlv r4.1 4.1#1;open;log 2;conf r4.1 1 2;dlv r4.1 4.1#1;open;end;",
+        status: 0,
+        output: "verdict yes;totem-cert 1;pos 1 1 2 3;pos 2 1 3;end;",
+        errors: "",
+    },
+    Row {
+        name: "no log at all",
+        words: "audit",
+        input: "totem-run 1;end;",
+        status: 0,
+        output: "verdict yes;totem-cert 1;end;",
+        errors: "",
+    },
+    Row {
+        name: "a delivery of what nobody sent",
+        words: "audit",
+        input: "totem-run 1;log 1;conf r4.1 1 2;open;log 2;conf r4.1 1 2;dlv r4.1 4.1#1;open;end;",
+        status: 1,
+        output: "verdict no;fault 1.3 2@2;end;",
+        errors: "",
+    },
+    Row {
+        name: "two messages in two orders",
+        words: "audit",
+        input: "totem-run 1;log 1;conf r4.1 1 2;send r4.1 a 4.1#1;send r4.1 a 4.1#2;dlv r4.1 4.1#1;dlv r4.1 4.1#2;open;log 2;conf r4.1 1 2;dlv r4.1 4.1#2;dlv r4.1 4.1#1;open;end;",
+        status: 1,
+        output: "verdict no;fault 6.1 1@4 1@5 2@2 2@3;end;",
+        errors: "",
+    },
+    Row {
+        name: "a delivery before its send",
+        words: "audit",
+        input: "totem-run 1;log 1;conf r4.1 1;dlv r4.1 4.1#1;send r4.1 a 4.1#1;open;end;",
+        status: 1,
+        output: "verdict no;fault 1.1 1@2 1@3;end;",
+        errors: "",
+    },
+    Row {
+        name: "a message from two configurations ago",
+        words: "audit",
+        input: "totem-run 1;log 1;conf r4.1 1 2 3;conf t8.1/1 1 2;conf r8.1 1 2;conf t12.1/1 1 2;dlv t12.1/1 4.1#1;conf r12.1 1 2;open;log 2;conf r4.1 1 2 3;conf t8.1/1 1 2;conf r8.1 1 2;conf t12.1/1 1 2;dlv t12.1/1 4.1#1;conf r12.1 1 2;open;log 3;conf r4.1 1 2 3;send r4.1 a 4.1#1;dlv r4.1 4.1#1;open;end;",
+        status: 1,
+        output: "verdict no;fault 1.3 1@5;end;",
+        errors: "",
+    },
+    Row {
+        name: "deliveries on both sides of a change",
+        words: "audit",
+        input: "totem-run 1;log 1;conf r4.1 1 2;send r4.1 a 4.1#1;dlv r4.1 4.1#1;conf t8.1/1 1 2;conf r8.1 1 2;open;log 2;conf r4.1 1 2;conf t8.1/1 1 2;dlv t8.1/1 4.1#1;conf r8.1 1 2;open;end;",
+        status: 1,
+        output: "verdict no;fault 6.1 1@3 1@4 2@2 2@3;end;",
+        errors: "",
+    },
+    Row {
+        name: "one configuration twice in a log",
+        words: "audit",
+        input: "totem-run 1;log 1;conf r4.1 1;conf r4.1 1;open;end;",
+        status: 1,
+        output: "verdict no;fault 2.3 1@1 1@2;fault 2.4 1@1 1@2;end;",
+        errors: "",
+    },
+];
+
+#[test]
+fn reports_are_as_written(rt: HostRuntime) -> Result<(), Fail> {
+    run_rows(&rt, rt.alloc(), VERDICTS.as_slice())
+}
