@@ -1,0 +1,5 @@
+use Rattle.totem_stitch.proofs.NextChanges.{NoneBetween}
+use Rattle.totem_stitch.proofs.changes.moves_next.Given as goal
+
+abbrev pub invariant-loop-next_at : goal.invariant-loop-next_at
+invariant-loop-next_at l = NoneBetween l.log l.at l.next_at

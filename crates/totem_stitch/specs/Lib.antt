@@ -1,0 +1,4 @@
+pub mod Followers
+pub mod Tables
+pub mod Stitched
+pub mod Building

@@ -1,0 +1,34 @@
+-- The tables of a run.
+use Rattle.std.specs.Prelude.{ℕ, List, Option, Some, None}
+use Rattle.std.specs.BTreeMap as tree
+use Rattle.totem_ids.specs.declared.ring.RingId.{RingId}
+use Rattle.totem_ids.specs.declared.conf.ConfId.{ConfId}
+use Rattle.totem_evs.specs.declared.log.Log.{Log}
+use Rattle.totem_evs.specs.Events.{log_of}
+use Rattle.totem_stitch.specs.declared.table.Table.{Table}
+use Rattle.totem_stitch.specs.declared.stitch.Stitch.{Stitch}
+use Rattle.totem_stitch.specs.Followers.{IsFollower, IsOrigin}
+use Rattle.totem_stitch.specs.Tables.{process_order, follower_in, origin_in}
+
+-- what some table has as following c; a process without a table has nothing
+abbrev pub follower_by : Option Table → RingId → Option ConfId
+follower_by None c = None
+follower_by (Some table) c = follower_in table c
+
+abbrev pub origin_by : Option Table → ConfId → Option RingId
+origin_by None t = None
+origin_by (Some table) t = origin_in table t
+
+-- what the tables have as following c at p
+abbrev pub follower_of : Stitch → ℕ → RingId → Option ConfId
+follower_of stitch p c = follower_by (tree.get process_order stitch.tables p) c
+
+-- what they have as the first that t follows at p
+abbrev pub origin_of : Stitch → ℕ → ConfId → Option RingId
+origin_of stitch p t = origin_by (tree.get process_order stitch.tables p) t
+
+-- these are the tables of the run: at each process they have what follows each regular configuration in its log, and
+-- the first regular one that each configuration follows
+pub record IsStitch (stitch : Stitch) (run : List Log) : Type 0 where
+  pub followers : (p : ℕ) (c : RingId) → IsFollower (log_of run p) c (follower_of stitch p c)
+  pub origins : (p : ℕ) (t : ConfId) → IsOrigin (log_of run p) t (origin_of stitch p t)

@@ -1,0 +1,27 @@
+-- The table of one log.
+use Rattle.std.specs.Prelude.{ℕ, Option, None, unwrap_or}
+use Rattle.std.specs.declared.cmp.Ordering.{Ordering}
+use Rattle.std.specs.BTreeMap as tree
+use Rattle.totem_ids.specs.declared.ring.RingId.{RingId}
+use Rattle.totem_ids.specs.declared.conf.ConfId.{ConfId}
+use Rattle.totem_stitch.specs.declared.table.Table.{Table}
+
+-- the order of processes
+abbrev pub process_order : ℕ → ℕ → Ordering
+process_order = (Rattle.totem_ids.specs.contracts.process.ProcIdOrd.TheImpl.cmp-value).it
+
+-- the order of rings
+abbrev pub ring_order : RingId → RingId → Ordering
+ring_order = (Rattle.totem_ids.specs.contracts.ring.RingIdOrd.TheImpl.cmp-value).it
+
+-- the order of configurations
+abbrev pub conf_order : ConfId → ConfId → Ordering
+conf_order = (Rattle.totem_ids.specs.contracts.conf.ConfIdOrd.TheImpl.cmp-value).it
+
+-- what the table of a log has as following c
+abbrev pub follower_in : Table → RingId → Option ConfId
+follower_in table c = unwrap_or (tree.get ring_order table.followers c) None
+
+-- what it has as the first that t follows
+abbrev pub origin_in : Table → ConfId → Option RingId
+origin_in table t = tree.get conf_order table.origins t

@@ -1,0 +1,11 @@
+//! The tables of following configurations: what follows a regular configuration in the log of a process, and what a
+//! transitional one follows (docs/SPECIFICATIONS.md, "Following").
+#![tactic(auto)]
+
+mod changes;
+mod stitch;
+mod table;
+#[cfg(test)]
+mod tests;
+
+pub use stitch::Stitch;
