@@ -3,15 +3,22 @@ ghost use Rattle.totem_audit.specs.Verdicts.{answer_of};
 
 use std::alloc::{AllocError, Global};
 use totem_cert::Certificate;
-use totem_evs::Fault;
+use totem_evs::{Fault, Pending, Waiting};
 
 /// What the audit says of a run (docs/SPECIFICATIONS.md, "Passes").
 #[derive(Debug, Drop)]
 pub enum Verdict {
-    /// It meets the specifications, and the certificate shows the order of its events.
-    Yes { certificate: Certificate },
+    /// It meets the specifications. The certificate shows the order of its events; what is pending and who waits stands in
+    /// rising order.
+    Yes {
+        certificate: Certificate,
+        pending: Vec<Pending>,
+        waiting: Vec<Waiting>,
+    },
     /// It breaks at least one; these are the faults of the first pass that has one.
-    No { faults: Vec<Fault> },
+    No {
+        faults: Vec<Fault>,
+    },
 }
 
 fn clone_faults(alloc: Global, faults: &[Fault]) -> Result<Vec<Fault>, AllocError>
@@ -29,8 +36,14 @@ impl Verdict {
         ensures { IfOk result (λ verdict. answer_of verdict ≡ answer_of self.now) }
     {
         match self {
-            Verdict::Yes { certificate } => Ok(Verdict::Yes {
+            Verdict::Yes {
+                certificate,
+                pending,
+                waiting,
+            } => Ok(Verdict::Yes {
                 certificate: certificate.try_clone(alloc)?,
+                pending: pending.to_vec(alloc)?,
+                waiting: waiting.to_vec(alloc)?,
             }),
             Verdict::No { faults } => Ok(Verdict::No {
                 faults: clone_faults(alloc, faults)?,

@@ -4,5 +4,4 @@ pub mod Asking
 pub mod Climbing
 pub mod Certain
 pub mod Exactly
-pub mod Contrary
 pub mod Checking

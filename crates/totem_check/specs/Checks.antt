@@ -2,7 +2,10 @@
 use Rattle.std.specs.Prelude.{◌≡◌, List, [], ◌∷◌, Option, Some, None, Result, Ok, Err}
 use Rattle.totem_evs.specs.declared.log.Log.{Log}
 use Rattle.totem_evs.specs.declared.fault.Fault.{Fault}
-use Rattle.totem_evs.specs.Answers.{No, MeetsPasses, IsAnswered, IsLeastBreak}
+use Rattle.totem_evs.specs.Synchrony.{IsVirtuallySynchronous}
+use Rattle.totem_evs.specs.Unsettled.{ArePending, AreWaiting}
+use Rattle.totem_evs.specs.Faults.{Breaks}
+use Rattle.totem_evs.specs.Answers.{No, MeetsPasses, IsAnswered}
 use Rattle.totem_evs.specs.Certificates.{Numbering, Certified}
 use Rattle.totem_check.specs.declared.accepted.Accepted.{Accepted}
 use Rattle.totem_check.specs.declared.certificate_fault.CertificateFault.TheVariants as certificate
@@ -10,20 +13,30 @@ use Rattle.totem_check.specs.declared.check_fault.CheckFault.{CheckFault}
 use Rattle.totem_check.specs.declared.check_fault.CheckFault.TheVariants as faults
 use Rattle.totem_check.specs.Certifying.{Answers}
 
--- the lines certify the run, and it meets 1.3, 1.4, 2.2, 2.3 and 2.4
+-- the lines certify the run, and it meets specifications 1 to 7
 pub record IsAcceptable (run : List Log) (lines : List Numbering) : Type 0 where
   pub certified : Certified run lines
-  pub meets : MeetsPasses run
+  pub meets : IsVirtuallySynchronous run
+
+-- what is accepted lists all that is pending and all who wait
+pub record ListsOpen (run : List Log) (accepted : Accepted) : Type 0 where
+  pub pending : ArePending run accepted.pending.items
+  pub waiting : AreWaiting run accepted.waiting.items
 
 -- the first fault that the audit of the run lists
 pub record IsFirstFault (run : List Log) (fault : Fault) : Type 0 where
   pub others : List Fault
   pub listed : IsAnswered run (No (fault ∷ others))
-  pub breaks : IsLeastBreak run fault.spec fault.places
+  pub breaks : Breaks run fault.spec fault.places
+
+-- of a certified run: its first fault, or there is none and it meets the specifications
+abbrev pub IsFirst : List Log → Option Fault → Type 0
+IsFirst run None = MeetsPasses run × IsVirtuallySynchronous run
+IsFirst run (Some fault) = IsFirstFault run fault
 
 -- the run and the lines are accepted; or this is the first reason why they are not; or memory was refused
 abbrev pub Checks : List Log → List Numbering → Result Accepted CheckFault → Type 0
-Checks run lines (Ok accepted) = IsAcceptable run lines
+Checks run lines (Ok accepted) = IsAcceptable run lines × ListsOpen run accepted
 Checks run lines (Err faults.Count) = Answers run lines (Err certificate.Count)
 Checks run lines (Err faults.NotRising) = Answers run lines (Err certificate.NotRising)
 Checks run lines (Err faults.SendNotBefore) = Answers run lines (Err certificate.SendNotBefore)

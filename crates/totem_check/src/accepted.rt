@@ -1,3 +1,24 @@
-/// What the checker says of a run that meets the specifications and of a certificate for it.
-#[derive(Clone, Copy, Debug, PartialEq, Eq)]
-pub struct Accepted;
+ghost use Rattle.std.specs.Prelude.{◌≡◌, IfOk};
+
+use std::alloc::{AllocError, Global};
+use totem_evs::{Pending, Waiting};
+
+/// What the checker says of a run that meets the specifications and of a certificate for it: what is pending and who
+/// waits, in rising order.
+#[derive(Debug, Drop)]
+pub struct Accepted {
+    pub pending: Vec<Pending>,
+    pub waiting: Vec<Waiting>,
+}
+
+impl Accepted {
+    pub fn try_clone(&self, alloc: Global) -> Result<Accepted, AllocError>
+        ensures pending { IfOk result (λ a. a.pending.items ≡ self.now.pending.items) }
+        ensures waiting { IfOk result (λ a. a.waiting.items ≡ self.now.waiting.items) }
+    {
+        Ok(Accepted {
+            pending: self.pending.to_vec(alloc)?,
+            waiting: self.waiting.to_vec(alloc)?,
+        })
+    }
+}

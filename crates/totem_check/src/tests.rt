@@ -1,5 +1,5 @@
 //! Runs and certificates from their texts, and what the checker says of them.
-use crate::{Accepted, CertificateFault, CheckFault, certified, check};
+use crate::{CertificateFault, CheckFault, certified, check};
 use std::alloc::Global;
 use std::test::Fail;
 use totem_cert::{Certificate, read_cert};
@@ -33,12 +33,29 @@ fn a_run_is_accepted(rt: HostRuntime) -> Result<(), Fail> {
     let run = run_of(alloc, RUN)?;
     let certificate = certificate_of(alloc, "1 1 2 3", "2 1 3")?;
     assert_eq!(rt; certified(&run, &certificate), Ok(()));
-    assert_eq!(rt; check(alloc, &run, &certificate)?, Accepted);
+    check(alloc, &run, &certificate)?;
     let wide = certificate_of(alloc, "1 5 70 4294967295", "2 5 4294967295")?;
-    assert_eq!(rt; check(alloc, &run, &wide)?, Accepted);
+    check(alloc, &run, &wide)?;
     let empty = Certificate::new(Vec::new(alloc))?;
     let none = run_of(alloc, "totem-run 1\nend\n")?;
-    assert_eq!(rt; check(alloc, &none, &empty)?, Accepted);
+    check(alloc, &none, &empty)?;
+    Ok(())
+}
+
+#[test]
+fn what_is_open_is_listed(rt: HostRuntime) -> Result<(), Fail> {
+    let alloc = rt.alloc();
+    let text = "totem-run 1\n\
+        log 1\nconf r4.1 1 2\nsend r4.1 a 4.1#1\nfail r4.1\nfailed\n\
+        log 2\nconf r4.1 1 2\nopen\n\
+        end\n";
+    let run = run_of(alloc, text)?;
+    let certificate = certificate_of(alloc, "1 1 2 3", "2 1")?;
+    let accepted = check(alloc, &run, &certificate)?.try_clone(alloc)?;
+    assert_eq!(rt; accepted.pending.len(), 1);
+    assert_eq!(rt; accepted.pending[0].proc, ProcId::of(2));
+    assert_eq!(rt; accepted.waiting.len(), 1);
+    assert_eq!(rt; accepted.waiting[0].other, ProcId::of(1));
     Ok(())
 }
 

@@ -12,7 +12,7 @@ use Rattle.totem_evs.specs.RunText.{run_text}
 use Rattle.totem_evs.specs.Missing.{EachHasLog, all_members}
 use Rattle.totem_evs.specs.Reading.{ReadsRun, ReadsEnd, FitsRun}
 use Rattle.totem_evs.specs.Answers.{Answer, Yes, No, IsAnswered}
-use Rattle.totem_audit.specs.Verdicts.{IsSound}
+use Rattle.totem_evs.specs.Meanings.{IsSound}
 use Rattle.totem_cluster.specs.Report.{report_text}
 use Rattle.totem_cluster.specs.declared.outcome.Outcome.{Outcome}
 use Rattle.totem_cluster.specs.declared.outcome.Outcome.TheVariants as outcomes
@@ -21,8 +21,8 @@ use Rattle.totem_cluster.specs.declared.io_fault.IoFault.TheVariants as faults
 
 -- the outcome says what the answer says
 abbrev pub Says : Answer → Outcome → Type 0
-Says (Yes lines) outcomes.Yes = Unit {0}
-Says (Yes lines) outcomes.No = ⊥
+Says (Yes lines pending waiting) outcomes.Yes = Unit {0}
+Says (Yes lines pending waiting) outcomes.No = ⊥
 Says (No faults) outcomes.Yes = ⊥
 Says (No faults) outcomes.No = Unit {0}
 

@@ -12,16 +12,16 @@ use Rattle.totem_evs.specs.RunText.{run_text}
 use Rattle.totem_evs.specs.Missing.{EachHasLog, all_members}
 use Rattle.totem_evs.specs.Reading.{ReadsRun, FitsRun}
 use Rattle.totem_evs.specs.Certificates.{Numbering, Certified}
-use Rattle.totem_evs.specs.Answers.{MeetsJudged}
 use Rattle.totem_cert.specs.declared.certificate.Certificate.{Certificate}
 use Rattle.totem_cert.specs.declared.cert_fault.CertFault.{CertFault}
 use Rattle.totem_cert.specs.declared.cert_fault.CertFault.TheVariants as cert_faults
 use Rattle.totem_cert.specs.Keeping.{IsCertificate}
 use Rattle.totem_cert.specs.CertText.{cert_text}
 use Rattle.totem_cert.specs.Reading.{ReadsCert, IsRead}
+use Rattle.totem_check.specs.declared.accepted.Accepted.{Accepted}
 use Rattle.totem_check.specs.declared.check_fault.CheckFault.{CheckFault}
 use Rattle.totem_check.specs.declared.check_fault.CheckFault.TheVariants as check_faults
-use Rattle.totem_check.specs.Checks.{Checks, IsAcceptable, IsFirstFault}
+use Rattle.totem_check.specs.Checks.{Checks, IsAcceptable, ListsOpen, IsFirstFault}
 use Rattle.totem_cluster.specs.Report.{accepted_text, no_text}
 use Rattle.totem_cluster.specs.declared.outcome.Outcome.{Outcome}
 use Rattle.totem_cluster.specs.declared.outcome.Outcome.TheVariants as outcomes
@@ -68,9 +68,10 @@ pub record IsWholePair (old new : Seen) (logs : List Log) (lines : List Numberin
 abbrev pub LacksCertificate : Seen → Seen → CertFault → Type 0
 LacksCertificate old new fault = (between : Seen) × (run : Run) × FitsRun old between run × IsUnreadable between new fault
 
--- the outcome, with its report: accepted, or the first fault that the audit of the run lists
+-- the outcome, with its report: accepted, with what is pending and who waits, or the first fault that the audit of the
+-- run lists
 abbrev pub IsReported : List Log → List Numbering → Held → Held → Outcome → Type 0
-IsReported logs lines was is outcomes.Yes = IsAcceptable logs lines × MeetsJudged logs × Wrote was is accepted_text
+IsReported logs lines was is outcomes.Yes = IsAcceptable logs lines × ((accepted : Accepted) × ListsOpen logs accepted × Wrote was is (accepted_text accepted.pending.items accepted.waiting.items))
 IsReported logs lines was is outcomes.No = Certified logs lines × ((fault : Fault) × IsFirstFault logs fault × Wrote was is (no_text (fault ∷ [])))
 
 -- a run and a certificate were read, and the checker's report of them was written and nothing else

@@ -6,7 +6,7 @@ ghost use Rattle.totem_cluster.specs.CheckIo.{ReadsLast, ChecksText};
 
 use crate::io_fault::IoFault;
 use crate::outcome::Outcome;
-use crate::report::{write_no, write_text};
+use crate::report::{write_accepted, write_no};
 use std::alloc::Global;
 use totem_cert::{CertFault, Certificate, read_cert};
 use totem_check::{CheckFault, check};
@@ -37,8 +37,8 @@ pub fn check_io<R: Source, W: Sink>(
     let run = read_run(alloc, input)?;
     let certificate = read_last(alloc, input)?;
     match check(alloc, &run, &certificate) {
-        Ok(_) => {
-            write_text(alloc, b"verdict yes\nend\n", output)?;
+        Ok(accepted) => {
+            write_accepted(alloc, &accepted, output)?;
             Ok(Outcome::Yes)
         }
         Err(CheckFault::Broken(fault)) => {

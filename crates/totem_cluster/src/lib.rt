@@ -4,6 +4,7 @@
 mod auditing;
 mod checking;
 mod io_fault;
+mod left_open;
 mod outcome;
 mod report;
 mod shell;

@@ -6,11 +6,13 @@ ghost use Rattle.totem_evs.specs.SpecNo.{spec_text};
 ghost use Rattle.totem_evs.specs.RunText.{line};
 ghost use Rattle.totem_evs.specs.WriteRun.{WritesText};
 ghost use Rattle.totem_audit.specs.Verdicts.{answer_of};
-ghost use Rattle.totem_cluster.specs.Report.{places_text, fault_text, no_text, report_text};
+ghost use Rattle.totem_cluster.specs.Report.{places_text, fault_text, no_text, report_text, accepted_text};
 
+use crate::left_open::put_yes;
 use std::alloc::Global;
 use totem_audit::Verdict;
 use totem_cert::put_cert;
+use totem_check::Accepted;
 use totem_evs::{Fault, SpecNo, WriteFault};
 use totem_ids::{Failed, Pieces, Place, Sink};
 
@@ -70,12 +72,30 @@ fn put_report<S: Sink>(pieces: &mut Pieces, sink: &mut S, verdict: &Verdict) -> 
         (held S.contents S.failures pieces.new sink.new) result (report_text (answer_of verdict.now)) }
 {
     match verdict {
-        Verdict::Yes { certificate } => {
-            pieces.put(sink, b"verdict yes\n")?;
+        Verdict::Yes {
+            certificate,
+            pending,
+            waiting,
+        } => {
+            put_yes(pieces, sink, pending, waiting)?;
             put_cert(pieces, sink, certificate)
         }
         Verdict::No { faults } => put_no(pieces, sink, faults),
     }
+}
+
+/// The checker's yes.
+#[tactic(auto, using(totem_ids::proofs::Writers::wrote_then, totem_ids::proofs::Writers::wrote_failed))]
+fn put_accepted<S: Sink>(
+    pieces: &mut Pieces,
+    sink: &mut S,
+    accepted: &Accepted,
+) -> Result<(), Failed>
+    ensures { Writes (held S.contents S.failures pieces.old sink.old)
+        (held S.contents S.failures pieces.new sink.new) result (accepted_text accepted.now.pending.items accepted.now.waiting.items) }
+{
+    put_yes(pieces, sink, &accepted.pending, &accepted.waiting)?;
+    pieces.put(sink, b"end\n")
 }
 
 /// Writes the report of a verdict, in pieces of about 64 KiB.
@@ -91,6 +111,24 @@ pub fn write_report<S: Sink>(
         return Err(WriteFault::Memory);
     };
     if put_report(&mut pieces, sink, verdict).is_err() || pieces.flush(sink).is_err() {
+        return Err(WriteFault::Write);
+    }
+    Ok(())
+}
+
+/// Writes the checker's yes.
+pub fn write_accepted<S: Sink>(
+    alloc: Global,
+    accepted: &Accepted,
+    sink: &mut S,
+) -> Result<(), WriteFault>
+    ensures { WritesText (held S.contents S.failures [] sink.old)
+        (held S.contents S.failures [] sink.new) result (accepted_text accepted.now.pending.items accepted.now.waiting.items) }
+{
+    let Ok(mut pieces) = Pieces::new(alloc) else {
+        return Err(WriteFault::Memory);
+    };
+    if put_accepted(&mut pieces, sink, accepted).is_err() || pieces.flush(sink).is_err() {
         return Err(WriteFault::Write);
     }
     Ok(())

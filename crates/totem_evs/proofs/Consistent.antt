@@ -72,7 +72,7 @@ turns run (e ∷ f ∷ g ∷ []) h ev = h
 turns run (e ∷ f ∷ g ∷ h ∷ x ∷ more) b ev = b
 
 own : (run : List Log) (places : List Place) → BreaksOwnDelivery run places → IsVirtuallySynchronous run → ⊥
-own run (e ∷ []) (i, at, (m, c, sends, never)) ev = never (ev.own e.proc i m c sends)
+own run (e ∷ []) (i, at, (c, (m, sends, never))) ev = never (ev.own e.proc i m c sends)
 own run [] h ev = h
 own run (e ∷ f ∷ more) h ev = h
 
@@ -80,7 +80,7 @@ goes : (log : List Entry) (x d : ConfId) (j : ℕ) → GoesAt log x d j → Goes
 goes log x d j (i, from, next, to) = (i, j, from, next, to)
 
 atomicity : (run : List Log) (places : List Place) → BreaksAtomicity run places → IsVirtuallySynchronous run → ⊥
-atomicity run (e ∷ f ∷ g ∷ []) (i, at_e, (j, at_f, (l, at_g, (same, (m, x, d, delivers, by_p, by_q, never))))) ev =
+atomicity run (e ∷ f ∷ g ∷ []) (i, at_e, (j, at_f, (l, at_g, (same, (x, (m, d, delivers, by_p, by_q, never)))))) ev =
     let there = ev.atomic e.proc g.proc x d (goes _ x d j by_p) (goes _ x d l by_q) i m delivers in never there.0 there.1
 atomicity run [] h ev = h
 atomicity run (e ∷ []) h ev = h
@@ -96,7 +96,7 @@ causality run (e ∷ f ∷ []) h ev = h
 causality run (e ∷ f ∷ g ∷ x ∷ more) h ev = h
 
 gap : (run : List Log) (places : List Place) → BreaksGap run places → IsVirtuallySynchronous run → ⊥
-gap run (e ∷ f ∷ g ∷ []) (i, at_e, (j, at_f, (l, at_g, (same, (c, m, n, d, x, s, o, del_m, del_n, lt, delivers, stays, sends, member, never))))) ev =
+gap run (e ∷ f ∷ g ∷ []) (i, at_e, (j, at_f, (l, at_g, (same, (c, (m, n, d, x, s, o, del_m, del_n, lt, delivers, stays, sends, member, never)))))) ev =
     never (ev.no_gaps c m n e.proc i j g.proc l d del_m del_n lt delivers stays s o x sends member)
 gap run [] h ev = h
 gap run (e ∷ []) h ev = h
@@ -104,12 +104,12 @@ gap run (e ∷ f ∷ []) h ev = h
 gap run (e ∷ f ∷ g ∷ x ∷ more) h ev = h
 
 safety : (run : List Log) (places : List Place) → BreaksSafety run places → IsVirtuallySynchronous run → ⊥
-safety run (e ∷ []) (i, at, (c, m, d, q, safe, delivers, stays, member, never)) ev = never (ev.safe.reaches c m e.proc i d q safe delivers stays member)
+safety run (e ∷ []) (i, at, (c, (m, d, q, safe, delivers, stays, member, never))) ev = never (ev.safe.reaches c m e.proc i d q safe delivers stays member)
 safety run [] h ev = h
 safety run (e ∷ f ∷ more) h ev = h
 
 installed : (run : List Log) (places : List Place) → BreaksInstalled run places → IsVirtuallySynchronous run → ⊥
-installed run (e ∷ []) (i, at, (c, m, q, safe, delivers, member, never)) ev = let j = ev.safe.installed m e.proc i c q safe delivers member in never j.0 j.1
+installed run (e ∷ []) (i, at, (c, (m, q, safe, delivers, member, never))) ev = let j = ev.safe.installed m e.proc i c q safe delivers member in never j.0 j.1
 installed run [] h ev = h
 installed run (e ∷ f ∷ more) h ev = h
 

@@ -125,10 +125,12 @@ sender_moved_on = (
   1,
   refl,
   (
-    first,
     ring 4,
-    (Agreed, refl),
-    moved_on (log_of runs.sender_moved_on 1) 3 (ring 8) (ring 4) alone first refl (omega arith, (tt, (omega arith, (omega arith, tt)))) (other_ring (ring 4) (ring 8) (λ e. omega arith)),
+    (
+      first,
+      (Agreed, refl),
+      moved_on (log_of runs.sender_moved_on 1) 3 (ring 8) (ring 4) alone first refl (omega arith, (tt, (omega arith, (omega arith, tt)))) (other_ring (ring 4) (ring 8) (λ e. omega arith)),
+    ),
   ),
 )
 
@@ -155,22 +157,24 @@ went_on_together = (
       (
         refl,
         (
-          first,
           (regular 4),
-          transitional 8,
-          refl,
           (
-            0,
-            (pair, refl),
-            record {
-              change = (transitional 8, (pair, refl));
-              later = lit< tt;
-              none_between = none_between (log_of runs.went_on_together 1) 0 3 ((λ above below. omega arith), (tt, (tt, ((λ above below. omega arith), ((λ above below. omega arith), tt)))));
-            },
-            (pair, refl),
+            first,
+            transitional 8,
+            refl,
+            (
+              0,
+              (pair, refl),
+              record {
+                change = (transitional 8, (pair, refl));
+                later = lit< tt;
+                none_between = none_between (log_of runs.went_on_together 1) 0 3 ((λ above below. omega arith), (tt, (tt, ((λ above below. omega arith), ((λ above below. omega arith), tt)))));
+              },
+              (pair, refl),
+            ),
+            (0, (pair, refl), record { change = (transitional 8, (pair, refl)); later = lit< tt; none_between = λ k above below h. omega arith }, (pair, refl)),
+            no_delivery,
           ),
-          (0, (pair, refl), record { change = (transitional 8, (pair, refl)); later = lit< tt; none_between = λ k above below h. omega arith }, (pair, refl)),
-          no_delivery,
         ),
       ),
     ),
@@ -252,20 +256,22 @@ gap_where_the_sender_stayed = (
         refl,
         (
           ring 4,
-          first,
-          second,
-          transitional 8,
-          (regular 4),
-          3,
-          1,
-          (regular 4, refl, inl refl),
-          (regular 4, refl, inl refl),
-          lit< tt,
-          refl,
-          inr follows,
-          (Agreed, refl),
-          (1, 2, all_three, refl, search rules),
-          first_missing,
+          (
+            first,
+            second,
+            transitional 8,
+            (regular 4),
+            3,
+            1,
+            (regular 4, refl, inl refl),
+            (regular 4, refl, inl refl),
+            lit< tt,
+            refl,
+            inr follows,
+            (Agreed, refl),
+            (1, 2, all_three, refl, search rules),
+            first_missing,
+          ),
         ),
       ),
     ),
@@ -278,15 +284,17 @@ safe_with_a_member_that_moved_on = (
   refl,
   (
     ring 4,
-    first,
-    (regular 4),
-    3,
-    (1, 1, regular 4, refl),
-    refl,
-    inl refl,
-    (1, 0, all_three, refl, search rules),
-    moved_on (log_of runs.safe_with_a_member_that_moved_on 3) 2 (ring_of_3 8) (ring 4) lone_3 first refl (omega arith, (omega arith, (omega arith, tt)))
-        (other_ring (ring 4) (ring_of_3 8) (λ e. omega arith)),
+    (
+      first,
+      (regular 4),
+      3,
+      (1, 1, regular 4, refl),
+      refl,
+      inl refl,
+      (1, 0, all_three, refl, search rules),
+      moved_on (log_of runs.safe_with_a_member_that_moved_on 3) 2 (ring_of_3 8) (ring 4) lone_3 first refl (omega arith, (omega arith, (omega arith, tt)))
+          (other_ring (ring 4) (ring_of_3 8) (λ e. omega arith)),
+    ),
   ),
 )
 
@@ -296,15 +304,17 @@ safe_with_a_member_that_never_came = (
   refl,
   (
     ring 4,
-    first,
-    (regular 4),
-    3,
-    (1, 1, regular 4, refl),
-    refl,
-    inl refl,
-    (1, 0, all_three, refl, search rules),
-    moved_on (log_of runs.safe_with_a_member_that_never_came 3) 0 (ring_of_3 1) (ring 4) lone_3 first refl (omega arith, tt)
-        (other_ring (ring 4) (ring_of_3 1) (λ e. omega arith)),
+    (
+      first,
+      (regular 4),
+      3,
+      (1, 1, regular 4, refl),
+      refl,
+      inl refl,
+      (1, 0, all_three, refl, search rules),
+      moved_on (log_of runs.safe_with_a_member_that_never_came 3) 0 (ring_of_3 1) (ring 4) lone_3 first refl (omega arith, tt)
+          (other_ring (ring 4) (ring_of_3 1) (λ e. omega arith)),
+    ),
   ),
 )
 
@@ -321,4 +331,4 @@ never_installed j (members, at) =
     other_conf (regular 4) (Regular (ring_of_3 1)) (λ e. omega arith) same
 
 pub safe_where_a_member_never_came : claim.SafeWhereAMemberNeverCame
-safe_where_a_member_never_came = (2, refl, (ring 4, first, 3, (1, 1, regular 4, refl), refl, (1, 0, all_three, refl, search rules), never_installed))
+safe_where_a_member_never_came = (2, refl, (ring 4, (first, 3, (1, 1, regular 4, refl), refl, (1, 0, all_three, refl, search rules), never_installed)))

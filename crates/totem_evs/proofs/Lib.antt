@@ -6,6 +6,9 @@ pub mod Causal
 pub mod Ordered
 pub mod Closed
 pub mod Consistent
+pub mod BreaksIn
+pub mod Originating
+pub mod Synchronous
 pub mod ExampleSteps
 pub mod ExampleBreaks
 pub mod ExamplePlaces
@@ -34,5 +37,4 @@ pub mod Folding
 pub mod Gathers
 pub mod FoldedRun
 pub mod PartRuns
-pub mod Judged
 pub mod LogOf

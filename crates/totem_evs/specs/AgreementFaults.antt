@@ -12,27 +12,27 @@ use Rattle.totem_evs.specs.Steps.{SendsAt, Precedes}
 use Rattle.totem_evs.specs.Following.{IsNextChange, Com, DeliversIn, HasDelivered, DeliversOrEnds}
 use Rattle.totem_evs.specs.Places.{At, IsClosed, IsOrderStep}
 
--- the entry sends what its process neither delivers, nor failed or is open where it might
-abbrev pub IsNotOwned : List Entry → ℕ → Type 0
-IsNotOwned log i = (m : MsgId) × (c : RingId) × Sends log i m (Regular c) × (DeliversOrEnds log c m → ⊥)
+-- the entry sends in c what its process neither delivers, nor failed or is open where it might
+abbrev pub IsNotOwned : List Entry → RingId → ℕ → Type 0
+IsNotOwned log c i = (m : MsgId) × Sends log i m (Regular c) × (DeliversOrEnds log c m → ⊥)
 
 -- 3: the send
 abbrev pub BreaksOwnDelivery : List Log → List Place → Type 0
-BreaksOwnDelivery run (e ∷ []) = At e (λ p i. IsNotOwned (log_of run p) i)
+BreaksOwnDelivery run (e ∷ []) = At e (λ p i. (c : RingId) × IsNotOwned (log_of run p) c i)
 BreaksOwnDelivery run _ = ⊥
 
 -- the change at j is to d, and is the next one after a change to x
 abbrev pub GoesAt : List Entry → ConfId → ConfId → ℕ → Type 0
 GoesAt log x d j = (i : ℕ) × ChangesTo log i x × IsNextChange log i j × ChangesTo log j d
 
--- p and q go from one configuration to one next, and p delivered in the first what q did not
-abbrev pub IsParted : List Log → ℕ → ℕ → ℕ → ℕ → ℕ → Type 0
-IsParted run p i j q k = (m : MsgId) × (x d : ConfId) × Delivers (log_of run p) i m x × GoesAt (log_of run p) x d j × GoesAt (log_of run q) x d k
+-- p and q go from x to one next configuration, and p delivered in x what q did not
+abbrev pub IsParted : List Log → ConfId → ℕ → ℕ → ℕ → ℕ → ℕ → Type 0
+IsParted run x p i j q k = (m : MsgId) × (d : ConfId) × Delivers (log_of run p) i m x × GoesAt (log_of run p) x d j × GoesAt (log_of run q) x d k
     × ((l : ℕ) → Delivers (log_of run q) l m x → ⊥)
 
 -- 4: p's delivery, p's change to the next configuration, and q's
 abbrev pub BreaksAtomicity : List Log → List Place → Type 0
-BreaksAtomicity run (e ∷ f ∷ g ∷ []) = At e (λ p i. At f (λ r j. At g (λ q k. (p ≡ r) × IsParted run p i j q k)))
+BreaksAtomicity run (e ∷ f ∷ g ∷ []) = At e (λ p i. At f (λ r j. At g (λ q k. (p ≡ r) × ((x : ConfId) × IsParted run x p i j q k))))
 BreaksAtomicity run _ = ⊥
 
 -- e's send precedes f's, and r delivers the later message and not the earlier one before it
@@ -49,33 +49,34 @@ BreaksCausality run _ = ⊥
 abbrev pub BreaksOrder : List Log → List Place → Type 0
 BreaksOrder run places = IsClosed run (IsOrderStep run) places
 
--- p delivers m before n, and q delivers n where m's sender is a member, and not m
-abbrev pub IsGap : List Log → ℕ → ℕ → ℕ → ℕ → ℕ → Type 0
-IsGap run p i j q k = (c : RingId) × (m n : MsgId) × (d x : ConfId) × (s l : ℕ)
+-- in c and what follows it p delivers m before n, and q delivers n where m's sender is a member, and not m
+abbrev pub IsGap : List Log → RingId → ℕ → ℕ → ℕ → ℕ → ℕ → Type 0
+IsGap run c p i j q k = (m n : MsgId) × (d x : ConfId) × (s l : ℕ)
     × DeliversIn (log_of run p) c m i × DeliversIn (log_of run p) c n j × (i < j)
     × Delivers (log_of run q) k n d × Com (log_of run q) c d × Sends (log_of run s) l m x × IsMember run d s × (HasDelivered (log_of run q) c m → ⊥)
 
 -- 6.3: p's deliveries of both messages, and q's of the later one
 abbrev pub BreaksGap : List Log → List Place → Type 0
-BreaksGap run (e ∷ f ∷ g ∷ []) = At e (λ p i. At f (λ r j. At g (λ q k. (p ≡ r) × IsGap run p i j q k)))
+BreaksGap run (e ∷ f ∷ g ∷ []) = At e (λ p i. At f (λ r j. At g (λ q k. (p ≡ r) × ((c : RingId) × IsGap run c p i j q k))))
 BreaksGap run _ = ⊥
 
--- p delivers a safe message in d, and a member of d neither delivers it, nor failed or is open where it might
-abbrev pub IsNotReached : List Log → ℕ → ℕ → Type 0
-IsNotReached run p i = (c : RingId) × (m : MsgId) × (d : ConfId) × (q : ℕ) × IsSafe run m × Delivers (log_of run p) i m d × Com (log_of run p) c d
+-- p delivers a safe message in d, which is c or follows it, and a member of d neither delivers it, nor failed or is open
+-- where it might
+abbrev pub IsNotReached : List Log → RingId → ℕ → ℕ → Type 0
+IsNotReached run c p i = (m : MsgId) × (d : ConfId) × (q : ℕ) × IsSafe run m × Delivers (log_of run p) i m d × Com (log_of run p) c d
     × IsMember run d q × (DeliversOrEnds (log_of run q) c m → ⊥)
 
 -- 7.1: p's delivery
 abbrev pub BreaksSafety : List Log → List Place → Type 0
-BreaksSafety run (e ∷ []) = At e (IsNotReached run)
+BreaksSafety run (e ∷ []) = At e (λ p i. (c : RingId) × IsNotReached run c p i)
 BreaksSafety run _ = ⊥
 
--- p delivers a safe message in a regular configuration to which one of its members never changes
-abbrev pub IsNotInstalled : List Log → ℕ → ℕ → Type 0
-IsNotInstalled run p i = (c : RingId) × (m : MsgId) × (q : ℕ) × IsSafe run m × Delivers (log_of run p) i m (Regular c)
+-- p delivers a safe message in c, to which one of its members never changes
+abbrev pub IsNotInstalled : List Log → RingId → ℕ → ℕ → Type 0
+IsNotInstalled run c p i = (m : MsgId) × (q : ℕ) × IsSafe run m × Delivers (log_of run p) i m (Regular c)
     × IsMember run (Regular c) q × ((j : ℕ) → ChangesTo (log_of run q) j (Regular c) → ⊥)
 
 -- 7.2: p's delivery
 abbrev pub BreaksInstalled : List Log → List Place → Type 0
-BreaksInstalled run (e ∷ []) = At e (IsNotInstalled run)
+BreaksInstalled run (e ∷ []) = At e (λ p i. (c : RingId) × IsNotInstalled run c p i)
 BreaksInstalled run _ = ⊥

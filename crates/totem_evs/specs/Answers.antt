@@ -1,17 +1,22 @@
 -- What the passes of an audit answer (docs/SPECIFICATIONS.md, "Faults", "Passes").
-use Rattle.std.specs.Prelude.{◌≡◌, ◌≢◌, ◌⊎◌, ℕ, List, [], ◌∷◌, Option, Some, None}
-use Rattle.totem_ids.specs.Orders.{PlaceBelow}
+use Rattle.std.specs.Prelude.{◌≡◌, ◌≢◌, ◌⊎◌, ◌↔◌, ℕ, List, [], ◌∷◌, ◌++◌, AllPairs, Contains, Option, Some, None}
+use Rattle.totem_ids.specs.Orders.{PlaceBelow, RingBelow}
+use Rattle.totem_ids.specs.declared.conf.ConfId.TheVariants.{Regular}
+use Rattle.totem_ids.specs.declared.ring.RingId.{RingId}
 use Rattle.totem_ids.specs.declared.place.Place.{Place}
 use Rattle.totem_evs.specs.declared.log.Log.{Log}
 use Rattle.totem_evs.specs.declared.fault.Fault.{Fault}
 use Rattle.totem_evs.specs.declared.spec.SpecNo.{SpecNo}
 use Rattle.totem_evs.specs.declared.spec.SpecNo.TheVariants as spec
-use Rattle.totem_evs.specs.Events.{log_of}
-use Rattle.totem_evs.specs.Delivery.{BasicDelivery, DeliversWhatWasSent, DeliversOnce}
-use Rattle.totem_evs.specs.Changes.{StaysInPlace, IsOneConfiguration, TakesTurns, HasOneOrigin, ConfigurationChanges}
-use Rattle.totem_evs.specs.Agreement.{HasTotalOrder}
+use Rattle.totem_evs.specs.declared.pending.Pending.{Pending}
+use Rattle.totem_evs.specs.declared.pending.Waiting.{Waiting}
+use Rattle.totem_evs.specs.Events.{ChangesTo, log_of}
+use Rattle.totem_evs.specs.Delivery.{DeliversWhatWasSent, DeliversOnce}
+use Rattle.totem_evs.specs.Changes.{StaysInPlace, IsOneConfiguration, TakesTurns, HasOneOrigin}
 use Rattle.totem_evs.specs.Faults.{Breaks}
-use Rattle.totem_evs.specs.Certificates.{Numbering}
+use Rattle.totem_evs.specs.RingFaults.{BreaksIn, MeetsIn}
+use Rattle.totem_evs.specs.Unsettled.{ArePending, AreWaiting}
+use Rattle.totem_evs.specs.Certificates.{Numbering, Certified}
 use Rattle.totem_evs.specs.Positions.{IsPositions}
 use Rattle.totem_evs.specs.ClosedLists.{IsCycle}
 
@@ -52,12 +57,6 @@ pub record MeetsPasses (run : List Log) : Type 0 where
   pub one : Meets run spec.Configuration
   pub turns : Meets run spec.Turns
 
--- what is judged so far: the run meets specifications 1 and 2 whole, and its events have a total order (6.1)
-pub record MeetsJudged (run : List Log) : Type 0 where
-  pub basic : BasicDelivery run
-  pub changes : ConfigurationChanges run
-  pub order : HasTotalOrder run
-
 -- the places found for a specification: none if the run meets it, else the least that break it
 abbrev pub Finds : List Log → SpecNo → Option (List Place) → Type 0
 Finds run k None = Meets run k
@@ -83,15 +82,62 @@ pass_b = spec.Unsent ∷ []
 abbrev pub ListsCycle : List Log → List Fault → Type 0
 ListsCycle run faults = (fault : Fault) × (faults ≡ fault ∷ []) × IsCycle run fault
 
--- what is answered of a run: a certificate, or faults
+-- pass C finds nothing: the events can be numbered as the order asks
+abbrev pub HasCertificate : List Log → Type 0
+HasCertificate run = (lines : List Numbering) × Certified run lines
+
+-- a log changes to the regular configuration c
+pub record IsRing (run : List Log) (c : RingId) : Type 0 where
+  pub proc : ℕ
+  pub index : ℕ
+  pub change : ChangesTo (log_of run proc) index (Regular c)
+
+-- the rings of all regular configurations of the run, by number and then by representative
+pub record AreRings (run : List Log) (rings : List RingId) : Type 0 where
+  pub rising : AllPairs RingBelow rings
+  pub exact : (c : RingId) → Contains rings c ↔ IsRing run c
+
+-- the places found for a specification in c: none if the run meets it there, else the least that break it there
+abbrev pub FindsIn : List Log → RingId → SpecNo → Option (List Place) → Type 0
+FindsIn run c k None = MeetsIn run c k
+FindsIn run c k (Some places) = IsLeast (BreaksIn run c k) places
+
+-- the faults of one specification: one for each configuration in which it is broken, in their order
+abbrev pub ListsRings : List Log → SpecNo → List RingId → List Fault → Type 0
+ListsRings run k [] faults = faults ≡ []
+ListsRings run k (c ∷ cs) faults =
+    (MeetsIn run c k × ListsRings run k cs faults)
+    ⊎ ((places : List Place) × (rest : List Fault) × (faults ≡ record { spec = k; places = places } ∷ rest)
+    × IsLeast (BreaksIn run c k) places × ListsRings run k cs rest)
+
+-- the faults of these specifications, in their order
+abbrev pub ListsEach : List Log → List RingId → List SpecNo → List Fault → Type 0
+ListsEach run rings [] faults = faults ≡ []
+ListsEach run rings (k ∷ ks) faults =
+    (own others : List Fault) × (faults ≡ own ++ others) × ListsRings run k rings own × ListsEach run rings ks others
+
+-- the specifications of pass D: 3, 4, 5, 6.3, 7.1, 7.2
+abbrev pub specs_d : List SpecNo
+specs_d = spec.OwnDelivery ∷ spec.Atomicity ∷ spec.Causality ∷ spec.Gap ∷ spec.Safety ∷ spec.Installed ∷ []
+
+-- pass D: the faults of 3, 4, 5, 6.3, 7.1 and 7.2, each asked of each regular configuration
+pub record ListsConfigurations (run : List Log) (faults : List Fault) : Type 0 where
+  pub rings : List RingId
+  pub are : AreRings run rings
+  pub lists : ListsEach run rings specs_d faults
+
+-- what is answered of a run: a certificate and what is left open, or faults
 pub data Answer : Type 0 where
-  Yes : List Numbering → Answer
+  Yes : List Numbering → List Pending → List Waiting → Answer
   No : List Fault → Answer
 
--- the written answer: the faults of the first pass that has one, or where none has the certificate
+-- the written answer: the faults of the first pass that has one, or where none has the certificate, and what is pending
+-- and who waits
 abbrev pub IsAnswered : List Log → Answer → Type 0
-IsAnswered run (Yes lines) = Lists run pass_a [] × Lists run pass_b [] × IsPositions run lines
+IsAnswered run (Yes lines pending waiting) =
+    Lists run pass_a [] × Lists run pass_b [] × IsPositions run lines × ListsConfigurations run [] × ArePending run pending × AreWaiting run waiting
 IsAnswered run (No faults) = (faults ≢ []) × (
     Lists run pass_a faults
     ⊎ (Lists run pass_a [] × Lists run pass_b faults)
-    ⊎ (Lists run pass_a [] × Lists run pass_b [] × ListsCycle run faults))
+    ⊎ (Lists run pass_a [] × Lists run pass_b [] × ListsCycle run faults)
+    ⊎ (Lists run pass_a [] × Lists run pass_b [] × HasCertificate run × ListsConfigurations run faults))

@@ -16,6 +16,8 @@ pub mod DeliveryFaults
 pub mod ChangeFaults
 pub mod AgreementFaults
 pub mod Faults
+pub mod RingAgreement
+pub mod RingFaults
 pub mod Certificates
 pub mod OneHop
 pub mod Laws
@@ -34,6 +36,7 @@ pub mod Reading
 pub mod Gathered
 pub mod PartLaws
 pub mod Answers
+pub mod Meanings
 pub mod Classes
 pub mod Positions
 pub mod ClosedLists

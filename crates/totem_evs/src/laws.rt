@@ -1,6 +1,7 @@
 //! Laws of the specifications, each the contract of a function that does nothing.
 ghost use Rattle.totem_evs.specs.Laws.{BreaksAreBreaks, CertifiedIsOrdered, EachLogIsOrdered, EachTwinsAgree};
 ghost use Rattle.totem_evs.specs.OneHop.{ChainsAreFine};
+ghost use Rattle.totem_evs.specs.Meanings.{AnswersAreSound};
 
 /// What breaks a specification is no part of a run that meets them all.
 pub fn breaks_are_breaks()
@@ -25,4 +26,10 @@ pub fn certified_is_ordered()
 /// Causal delivery (5) over chains of any length follows from pairs in one log, in a certified run that meets 1.3, 1.4 and 2.2.
 pub fn chains_are_fine()
     ensures { ChainsAreFine }
+{}
+
+/// The written answer of a run means what it says: a yes that the run meets specifications 1 to 7, with a certificate and
+/// all that is left open; a no that its faults break theirs, so that the run does not meet the specifications.
+pub fn answers_are_sound()
+    ensures { AnswersAreSound }
 {}

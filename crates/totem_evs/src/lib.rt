@@ -42,7 +42,8 @@ pub use entries::Entries;
 pub use entry::Entry;
 pub use fault::{Fault, Places};
 pub use laws::{
-    breaks_are_breaks, certified_is_ordered, chains_are_fine, each_log_is_ordered, twins_agree,
+    answers_are_sound, breaks_are_breaks, certified_is_ordered, chains_are_fine,
+    each_log_is_ordered, twins_agree,
 };
 pub use log::Log;
 pub use logs::Logs;

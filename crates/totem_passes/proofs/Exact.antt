@@ -16,7 +16,7 @@ use Rattle.totem_ids.specs.contracts.message.MsgIdOrd.TheImpl as message
 use Rattle.totem_passes.specs.contracts.sending.SendingOrd.TheImpl as sending
 use Rattle.totem_passes.specs.contracts.visit.VisitOrd.TheImpl as visit
 
-both_equal : (a b : Ordering) → ordering_then a b ≡ Equal → (a ≡ Equal) × (b ≡ Equal)
+pub both_equal : (a b : Ordering) → ordering_then a b ≡ Equal → (a ≡ Equal) × (b ≡ Equal)
 both_equal Less b e = absurd cc
 both_equal Equal b e = (refl, e)
 both_equal Greater b e = absurd cc
@@ -27,17 +27,17 @@ ring_of s r = record { seq = s; rep = r }
 same_ring : (c d : RingId) → c.seq ≡ d.seq → c.rep ≡ d.rep → c ≡ d
 same_ring c d e k = ap (λ (x : ℕ). ring_of x c.rep) e ∙ ap (ring_of d.seq) k
 
-exact_ring : CmpEqualImpliesEq ring.cmp-value.it
+pub exact_ring : CmpEqualImpliesEq ring.cmp-value.it
 exact_ring c d e = let h = both_equal (nat_cmp c.seq d.seq) (nat_cmp c.rep d.rep) e in same_ring c d (exact_unsigned c.seq d.seq h.0) (exact_unsigned c.rep d.rep h.1)
 
 abbrev message_of : RingId → ℕ → MsgId
 message_of c n = record { ring = c; number = n }
 
-exact_message : CmpEqualImpliesEq message.cmp-value.it
+pub exact_message : CmpEqualImpliesEq message.cmp-value.it
 exact_message m n e = let h = both_equal (ring.cmp-value.it m.ring n.ring) (nat_cmp m.number n.number) e in
     ap (λ (x : RingId). message_of x m.number) (exact_ring m.ring n.ring h.0) ∙ ap (message_of n.ring) (exact_unsigned m.number n.number h.1)
 
-exact_conf : CmpEqualImpliesEq conf.cmp-value.it
+pub exact_conf : CmpEqualImpliesEq conf.cmp-value.it
 exact_conf (Regular c) (Regular d) e = ap (λ (x : RingId). Regular x) (exact_ring c d e)
 exact_conf (Regular c) (Transitional n l) e = absurd cc
 exact_conf (Transitional n l) (Regular c) e = absurd cc

@@ -19,7 +19,7 @@ use Rattle.totem_evs.proofs.LogOf.{less_or_not, log_of_cases}
 use Rattle.totem_passes.proofs.Decisions.{same_ring_or_not}
 use Rattle.totem_passes.proofs.Sent.{same_first}
 
-same_conf_or_not : (x y : ConfId) → (x ≡ y) ⊎ (x ≡ y → ⊥)
+pub same_conf_or_not : (x y : ConfId) → (x ≡ y) ⊎ (x ≡ y → ⊥)
 same_conf_or_not (Regular c) (Regular d) = elim (same_ring_or_not c d) [ inl same ↦ inl (ap Regular same) | inr other ↦ inr (λ e. other cc) ]
 same_conf_or_not (Regular c) (Transitional n l) = inr (λ e. cc)
 same_conf_or_not (Transitional n l) (Regular c) = inr (λ e. cc)
@@ -33,7 +33,7 @@ same_message m n ring number =
     let M : RingId → ℕ → MsgId = λ r k. record { ring = r; number = k } in
     let same : M m.ring m.number ≡ M n.ring n.number = cc in same
 
-same_message_or_not : (m n : MsgId) → (m ≡ n) ⊎ (m ≡ n → ⊥)
+pub same_message_or_not : (m n : MsgId) → (m ≡ n) ⊎ (m ≡ n → ⊥)
 same_message_or_not m n = elim (same_ring_or_not m.ring n.ring) [
   | inr other ↦ inr (λ e. other (ap (λ (x : MsgId). x.ring) e))
   | inl ring ↦ elim (cases_eq m.number n.number) [
@@ -83,39 +83,37 @@ first_or_none log P decide = elim (first_before log P decide (length log)) [
 ]
 
 -- the first change to x, and the next change after an index
-change_to_or_not : (x : ConfId) (e : Entry) → IsChangeTo e x ⊎ (IsChangeTo e x → ⊥)
+pub change_to_or_not : (x : ConfId) (e : Entry) → IsChangeTo e x ⊎ (IsChangeTo e x → ⊥)
 change_to_or_not x (Conf y ms) = same_conf_or_not y x
 change_to_or_not x (Send m y s) = inr (λ h. h)
 change_to_or_not x (Deliver m y) = inr (λ h. h)
 change_to_or_not x (Fail y) = inr (λ h. h)
 
-change_of : (log : List Entry) (i : ℕ) (x : ConfId) (e : Entry) → slice_get log i ≡ Some e → IsChangeTo e x → ChangesTo log i x
+pub change_of : (log : List Entry) (i : ℕ) (x : ConfId) (e : Entry) → slice_get log i ≡ Some e → IsChangeTo e x → ChangesTo log i x
 change_of log i x (Conf y ms) at same = (ms, rw same at at)
 change_of log i x (Send m y s) at h = absurd h
 change_of log i x (Deliver m y) at h = absurd h
 change_of log i x (Fail y) at h = absurd h
 
-first_change_or_not : (log : List Entry) (x : ConfId) → ((i : ℕ) × IsFirstChange log x i) ⊎ ((i : ℕ) → ChangesTo log i x → ⊥)
+pub first_change_or_not : (log : List Entry) (x : ConfId) → ((i : ℕ) × IsFirstChange log x i) ⊎ ((i : ℕ) → ChangesTo log i x → ⊥)
 first_change_or_not log x = elim (first_or_none log (λ i e. IsChangeTo e x) (λ i e. change_to_or_not x e)) [
   | inl found ↦ inl (found.index, record { change = change_of log found.index x found.entry found.at found.has; none_before = λ k lt (ms, h). found.before.none k (Conf x ms) lt h refl })
   | inr none ↦ inr (λ i (ms, h). none i (Conf x ms) h refl)
 ]
 
-IsAnyChange : Entry → Type 0
+abbrev pub IsAnyChange : Entry → Type 0
 IsAnyChange (Conf y ms) = Unit {0}
 IsAnyChange (Send m y s) = ⊥
 IsAnyChange (Deliver m y) = ⊥
 IsAnyChange (Fail y) = ⊥
 
-any_change_or_not : (e : Entry) → IsAnyChange e ⊎ (IsAnyChange e → ⊥)
-unfolding IsAnyChange
+pub any_change_or_not : (e : Entry) → IsAnyChange e ⊎ (IsAnyChange e → ⊥)
 any_change_or_not (Conf y ms) = inl tt
 any_change_or_not (Send m y s) = inr (λ h. h)
 any_change_or_not (Deliver m y) = inr (λ h. h)
 any_change_or_not (Fail y) = inr (λ h. h)
 
-any_change_of : (log : List Entry) (i : ℕ) (e : Entry) → slice_get log i ≡ Some e → IsAnyChange e → IsChange log i
-unfolding IsAnyChange
+pub any_change_of : (log : List Entry) (i : ℕ) (e : Entry) → slice_get log i ≡ Some e → IsAnyChange e → IsChange log i
 any_change_of log i (Conf y ms) at h = (y, (ms, at))
 any_change_of log i (Send m y s) at h = absurd h
 any_change_of log i (Deliver m y) at h = absurd h
@@ -127,8 +125,7 @@ later_change_or_not i j e = elim (less_or_not i j) [
   | inr rest ↦ inr (λ h. let lt = h.0 in elim rest [ inl gt ↦ omega arith | inr same ↦ omega arith ])
 ]
 
-next_change_or_not : (log : List Entry) (i : ℕ) → ((j : ℕ) × IsNextChange log i j) ⊎ ((j : ℕ) → IsNextChange log i j → ⊥)
-unfolding IsAnyChange
+pub next_change_or_not : (log : List Entry) (i : ℕ) → ((j : ℕ) × IsNextChange log i j) ⊎ ((j : ℕ) → IsNextChange log i j → ⊥)
 next_change_or_not log i = elim (first_or_none log (λ j e. (i < j) × IsAnyChange e) (λ j e. later_change_or_not i j e)) [
   | inl found ↦ inl (
     found.index,
@@ -141,11 +138,11 @@ next_change_or_not log i = elim (first_or_none log (λ j e. (i < j) × IsAnyChan
   | inr none ↦ inr (λ j next. let c = next.change in none j (Conf c.0 c.1.0) c.1.1 (next.later, tt))
 ]
 
-transitional_or_not : (x : ConfId) → IsTransitional x ⊎ (IsTransitional x → ⊥)
+pub transitional_or_not : (x : ConfId) → IsTransitional x ⊎ (IsTransitional x → ⊥)
 transitional_or_not (Regular c) = inr (λ h. h)
 transitional_or_not (Transitional n l) = inl tt
 
-one_next : (log : List Entry) (i j k : ℕ) → IsNextChange log i j → IsNextChange log i k → j ≡ k
+pub one_next : (log : List Entry) (i j k : ℕ) → IsNextChange log i j → IsNextChange log i k → j ≡ k
 one_next log i j k a b = elim (less_or_not j k) [
   | inl lt ↦ absurd (b.none_between j a.later lt a.change)
   | inr rest ↦ elim rest [ inl gt ↦ absurd (a.none_between k b.later gt b.change) | inr same ↦ same ]
@@ -156,7 +153,7 @@ next_is log c d i j first next f =
     let from = same_first log (Regular c) f.from i f.first first in
     let to = one_next log i f.to j (rw from at f.next) next in rw to at f.change
 
-follows_or_not : (log : List Entry) (c : RingId) (d : ConfId) → Follows log c d ⊎ (Follows log c d → ⊥)
+pub follows_or_not : (log : List Entry) (c : RingId) (d : ConfId) → Follows log c d ⊎ (Follows log c d → ⊥)
 follows_or_not log c d = elim (first_change_or_not log (Regular c)) [
   | inr none ↦ inr (λ f. none f.from f.first.change)
   | inl first ↦ elim (next_change_or_not log first.0) [
@@ -174,7 +171,7 @@ follows_or_not log c d = elim (first_change_or_not log (Regular c)) [
     same_conf : (j : ℕ) (x y : ConfId) → ChangesTo log j y → ChangesTo log j x → x ≡ y
     same_conf j x y (ms, h) (ns, k) = cc
 
-in_or_not : (log : List Entry) (c : RingId) (d : ConfId) → Com log c d ⊎ (Com log c d → ⊥)
+pub in_or_not : (log : List Entry) (c : RingId) (d : ConfId) → Com log c d ⊎ (Com log c d → ⊥)
 in_or_not log c d = elim (same_conf_or_not d (Regular c)) [
   | inl same ↦ inl (inl same)
   | inr other ↦ elim (follows_or_not log c d) [

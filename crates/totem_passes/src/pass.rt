@@ -8,7 +8,7 @@ use std::alloc::{AllocError, Global};
 use totem_evs::{Fault, Places, Run, SpecNo};
 
 /// The faults with one more, if there is one.
-fn with_found(
+pub fn with_found(
     mut faults: Vec<Fault>,
     spec: SpecNo,
     found: Option<Places>,

@@ -121,7 +121,7 @@ const CHECKS: [Row; 17] = [
         words: "check",
         input: "totem-run 1;log 1;conf r4.1 1 2 3;send r4.1 a 4.1#1;dlv r4.1 4.1#1;conf t8.1/1 1 2;conf r8.1 1 2;open;log 2;conf r4.1 1 2 3;dlv r4.1 4.1#1;conf t8.1/1 1 2;conf r8.1 1 2;open;log 3;conf r4.1 1 2 3;send r4.1 a 4.1#2;dlv r4.1 4.1#2;open;end;totem-cert 1;pos 1 2 4 6 8 10;pos 2 2 6 8 10;pos 3 2 12 14;end;",
         status: 0,
-        output: "verdict yes;end;",
+        output: "verdict yes;pending 3 4.1#1;waiting 3 r4.1 1;waiting 3 r4.1 2;end;",
         errors: "",
     },
     Row {

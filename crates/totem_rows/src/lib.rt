@@ -2,6 +2,8 @@
 #![tactic(auto)]
 
 #[cfg(test)]
+mod agreements;
+#[cfg(test)]
 mod certificates;
 #[cfg(test)]
 mod refusals;

@@ -3,18 +3,18 @@ use Rattle.std.proofs.lemmas.Result.{err_from_is_err_and}
 use Rattle.totem_cluster.proofs.Reported.{whole_pair, report_failed}
 use Rattle.totem_cluster.proofs.checking.check_io.Goals as goal
 
-pub returns-in_err-write_text-in-Ok : goal.returns-in_err-write_text-in-Ok
-returns-in_err-write_text-in-Ok g c =
+pub returns-in_err-write_accepted-in-Ok : goal.returns-in_err-write_accepted-in-Ok
+returns-in_err-write_accepted-in-Ok g c =
     let whole = whole_pair _ _ _ c.in_ok-run.run' _ c.in_ok-run.ensures c.in_ok-certificate.ensures in
-    let p = err_from_is_err_and c.from_residual-in_err-write_text-in-Ok.result c.from_residual-in_err-write_text-in-Ok.ensures.1 in
-    rw (p.1, p.2) (report_failed _ _ _ _ _ _ _ _ whole c.in_err-write_text-in-Ok.ensures)
+    let p = err_from_is_err_and c.from_residual-in_err-write_accepted-in-Ok.result c.from_residual-in_err-write_accepted-in-Ok.ensures.1 in
+    rw (p.1, p.2) (report_failed _ _ _ _ _ _ _ _ whole c.in_err-write_accepted-in-Ok.ensures)
 
 pub returns-in-Ok : goal.returns-in-Ok
 returns-in-Ok g c = record {
   logs = c.in_ok-run.run'.logs;
   lines = c.in_ok-certificate.certificate;
   whole = whole_pair _ _ _ c.in_ok-run.run' _ c.in_ok-run.ensures c.in_ok-certificate.ensures;
-  report = (c.in-Ok.ensures.answer, c.in-Ok.ensures.judged, c.in_ok-write_text-in-Ok.ensures);
+  report = (c.in-Ok.ensures.answer.0, (c.in-Ok.accepted, c.in-Ok.ensures.answer.1, c.in_ok-write_accepted-in-Ok.ensures));
 }
 
 pub returns-in_err-write_no-in-Err-Broken : goal.returns-in_err-write_no-in-Err-Broken

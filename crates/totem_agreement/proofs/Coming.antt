@@ -1,0 +1,47 @@
+-- Entering the changes to regular configurations, and reading them.
+use Rattle.std.proofs.Common.{◌≡◌, ℕ, inl, inr, List, slice_get, Some, true, sym, ◌∙◌, subst}
+use Rattle.std.specs.declared.cmp.Ordering.{Ordering}
+use Rattle.std.specs.BTreeMap.{BTreeMap}
+use Rattle.std.specs.BTreeMap as tree
+use Rattle.std.specs.BTreeSet.{BTreeSet}
+use Rattle.std.specs.BTreeSet as sorted
+use Rattle.std.proofs.lemmas.Map.Lookups.{CmpEqualImpliesEq}
+use Rattle.totem_ids.specs.declared.ring.RingId.{RingId}
+use Rattle.totem_ids.specs.declared.conf.ConfId.{ConfId}
+use Rattle.totem_ids.specs.declared.conf.ConfId.TheVariants.{Regular}
+use Rattle.totem_evs.specs.declared.entry.Entry.{Entry}
+use Rattle.totem_evs.specs.declared.entry.Entry.TheVariants.{Conf}
+use Rattle.totem_evs.specs.declared.log.Log.{Log}
+use Rattle.totem_evs.specs.Events.{log_of, ChangesTo}
+use Rattle.totem_evs.specs.Answers.{IsRing}
+use Rattle.totem_passes.specs.declared.visit.Visit.{Visit}
+use Rattle.totem_passes.specs.Registers.{StaysSound}
+use Rattle.totem_passes.proofs.Knowing.{equal_at, apart_or_at}
+use Rattle.totem_passes.proofs.QuickSends.{visit}
+use Rattle.totem_agreement.specs.Comings.{AreComings}
+
+pub one_more : (by_ring : RingId → RingId → Ordering) (by_visit : Visit → Visit → Ordering) → CmpEqualImpliesEq by_ring → CmpEqualImpliesEq by_visit
+    → (r s : BTreeSet RingId) (m n : BTreeMap Visit ℕ) (p i : ℕ) (log : List Entry) (x : ConfId) (c : RingId) (ms : List ℕ) → slice_get log i ≡ Some (Conf x ms) → x ≡ Regular c
+    → sorted.Updates by_ring r s c true → tree.Updates by_visit m n (visit p (Regular c)) (Some i) → StaysSound (AreComings by_ring by_visit r m) (AreComings by_ring by_visit s n) p log
+one_more by_ring by_visit exact_ring exact_visit r s m n p i log x c ms at is added updated = record { each = λ run logs old. more run logs old }
+  where
+    here : (run : List Log) → log ≡ log_of run p → ChangesTo (log_of run p) i (Regular c)
+    here run logs = (ms, rw (logs, is) at at)
+
+    index_here : (run : List Log) (v : Visit) (j : ℕ) → log ≡ log_of run p → visit p (Regular c) ≡ v → tree.get by_visit n v ≡ Some j → ChangesTo (log_of run v.proc) j v.conf
+    index_here run v j logs same is_j =
+        let there : tree.get by_visit n (visit p (Regular c)) ≡ Some j = subst (λ (z : Visit). tree.get by_visit n z ≡ Some j) (sym same) is_j in
+        let indices : i ≡ j = (let found = updated.1 in cc) in
+        subst (λ (z : Visit). ChangesTo (log_of run z.proc) j z.conf) same (rw (← indices) (here run logs))
+
+    more : (run : List Log) → log ≡ log_of run p → AreComings by_ring by_visit r m run → AreComings by_ring by_visit s n run
+    more run logs old = record {
+      ring = λ d has. elim (apart_or_at by_ring c d) [
+        | inr apart ↦ old.ring d (sym (added.2 d apart) ∙ has)
+        | inl at_d ↦ subst (λ (z : RingId). IsRing run z) (exact_ring c d (equal_at (by_ring c d) at_d)) (record { proc = p; index = i; change = here run logs })
+      ];
+      index = λ v j is_j. elim (apart_or_at by_visit (visit p (Regular c)) v) [
+        | inr apart ↦ old.index v j (sym (updated.2 v apart) ∙ is_j)
+        | inl at_v ↦ index_here run v j logs (exact_visit (visit p (Regular c)) v (equal_at (by_visit (visit p (Regular c)) v) at_v)) is_j
+      ];
+    }

@@ -1,0 +1,88 @@
+-- Gathering, log by log, what holds of the processes of a run, in rising order.
+use Rattle.std.proofs.Common.{◌≡◌, ◌⊎◌, ◌↔◌, ℕ, suc, ◌+◌, ◌<◌, ◌≤◌, inl, inr, List, [], ◌∷◌, ◌++◌, length, slice_get, Some, refl, sym, ◌∙◌, arith}
+use Rattle.std.specs.Prelude.{All, AllPairs, Contains}
+use Rattle.std.proofs.lemmas.List.Kept.{AllPairs-cons}
+use Rattle.std.proofs.lemmas.List.Elements.{All-append, All-contains_itself, Contains-append_left, Contains-append_right, Contains-append_cases}
+use Rattle.totem_evs.specs.declared.log.Log.{Log}
+use Rattle.totem_evs.proofs.LogOf.{Rising, in_order, less_or_not}
+
+pairs_tail : {X : Type 0} (R : X → X → Type 0) (x : X) (xs : List X) → AllPairs R (x ∷ xs) → AllPairs R xs
+pairs_tail R x xs h i j d lt within = h (suc i) (suc j) d (omega arith) (omega arith)
+
+pairs_head : {X : Type 0} (R : X → X → Type 0) (x : X) (xs : List X) → AllPairs R (x ∷ xs) → All (R x) xs
+pairs_head R x xs h k d within = h 0 (suc k) d (omega arith) (omega arith)
+
+all_tail : {X : Type 0} (P : X → Type 0) (x : X) (xs : List X) → All P (x ∷ xs) → All P xs
+all_tail P x xs h k d within = h (suc k) d (omega arith)
+
+pub pairs_append : {X : Type 0} (R : X → X → Type 0) (xs ys : List X) → AllPairs R xs → AllPairs R ys → All (λ x. All (R x) ys) xs → AllPairs R (xs ++ ys)
+pairs_append R [] ys first second across = second
+pairs_append R (x ∷ xs) ys first second across =
+    AllPairs-cons R x (xs ++ ys) (All-append (R x) xs ys (pairs_head R x xs first) (across 0 x (omega arith)))
+    (pairs_append R xs ys (pairs_tail R x xs first) second (all_tail (λ z. All (R z) ys) x xs across))
+
+-- p's log stands among the first k
+pub record HasLogBefore (run : List Log) (k p : ℕ) : Type 0 where
+  pub index : ℕ
+  pub log : Log
+  pub before : index < k
+  pub stands : slice_get run index ≡ Some log
+  pub proc : log.proc ≡ p
+
+module _ {X : Type 0} (proc : X → ℕ) (Below : X → X → Type 0) (by_proc : (a b : X) → proc a < proc b → Below a b) (P : X → Type 0) where
+  -- all of which it holds at the processes of the first k logs
+  pub record Gathered (run : List Log) (k : ℕ) (list : List X) : Type 0 where
+    pub rising : AllPairs Below list
+    pub exact : (x : X) → Contains list x ↔ (P x × HasLogBefore run k (proc x))
+
+  -- all of which it holds at p
+  pub record OfProcess (p : ℕ) (list : List X) : Type 0 where
+    pub rising : AllPairs Below list
+    pub exact : (x : X) → Contains list x ↔ (P x × (proc x ≡ p))
+
+  pub none_gathered : (run : List Log) → Gathered run 0 []
+  none_gathered run = record { rising = λ i j d lt within. absurd (omega arith); exact = λ x. (λ (k, lt, is). absurd (omega arith), λ h. absurd (let b = h.1.before in omega arith)) }
+
+  module _ (run : List Log) (k : ℕ) (log : Log) (at_k : slice_get run k ≡ Some log) where
+    in_more : (p : ℕ) → HasLogBefore run (k + 1) p → HasLogBefore run k p ⊎ (p ≡ log.proc)
+    in_more p h = elim (less_or_not h.index k) [
+      | inl under ↦ inl (record { index = h.index; log = h.log; before = under; stands = h.stands; proc = h.proc })
+      | inr rest ↦ elim rest [
+        | inl over ↦ absurd (let b = h.before in omega arith)
+        | inr same ↦ inr (let at : slice_get run k ≡ Some h.log = rw same at h.stands in let logs : h.log ≡ log = cc in sym h.proc ∙ rw logs refl)
+      ]
+    ]
+
+    kept : (p : ℕ) → HasLogBefore run k p → HasLogBefore run (k + 1) p
+    kept p h = record { index = h.index; log = h.log; before = (let b = h.before in omega arith); stands = h.stands; proc = h.proc }
+
+    here : (p : ℕ) → p ≡ log.proc → HasLogBefore run (k + 1) p
+    here p is = record { index = k; log = log; before = omega arith; stands = at_k; proc = sym is }
+
+    pub gathered_more : (list more : List X) → Rising run → Gathered run k list → OfProcess log.proc more → Gathered run (k + 1) (list ++ more)
+    gathered_more list more rising before now = record {
+      rising = pairs_append Below list more before.rising now.rising (λ i d within. λ j e lt. across _ _ (All-contains_itself list i d within) (All-contains_itself more j e lt));
+      exact = λ x. (
+        λ has. elim (Contains-append_cases list more x has) [
+          | inl old ↦ let h = (before.exact x).0 old in (h.0, kept (proc x) h.1)
+          | inr new ↦ let h = (now.exact x).0 new in (h.0, here (proc x) h.1)
+        ],
+        λ h. elim (in_more (proc x) h.1) [
+          | inl old ↦ Contains-append_left list more x ((before.exact x).1 (h.0, old))
+          | inr new ↦ Contains-append_right list more x ((now.exact x).1 (h.0, new))
+        ],
+      );
+    }
+      where
+        across : (x y : X) → Contains list x → Contains more y → Below x y
+        across x y old new =
+            let h = (before.exact x).0 old in
+            let g = (now.exact y).0 new in
+            let lt = in_order run h.1.index k h.1.log log rising h.1.stands at_k h.1.before in
+            by_proc x y (rw (← h.1.proc, g.1) lt)
+
+  pub all_gathered : (run : List Log) (k : ℕ) (list : List X) → length run ≤ k → ((x : X) → P x → HasLogBefore run (length run) (proc x)) → Gathered run k list → (x : X) → Contains list x ↔ P x
+  all_gathered run k list end has h x = (λ c. ((h.exact x).0 c).0, λ p. (h.exact x).1 (p, widened (has x p)))
+    where
+      widened : {p : ℕ} → HasLogBefore run (length run) p → HasLogBefore run k p
+      widened b = record { index = b.index; log = b.log; before = (let lt = b.before in omega arith); stands = b.stands; proc = b.proc }

@@ -1,0 +1,74 @@
+-- From what each job finds to the faults of the pass.
+use Rattle.std.proofs.Common.{◌≡◌, ◌<◌, ◌+◌, ℕ, inl, inr, List, [], ◌∷◌, ◌++◌, length, take, Option, Some, None, refl, ap}
+use Rattle.std.proofs.Common.{◌≤◌, Result, Ok, Err, IfOk, Vec, Global}
+use Rattle.std.specs.declared.alloc.AllocError.{AllocError}
+use Rattle.std.specs.Prelude.{slice_index_or}
+use Rattle.std.proofs.lemmas.List.{take_more, take_all}
+use Rattle.totem_ids.specs.declared.ring.RingId.{RingId}
+use Rattle.totem_ids.specs.declared.place.Place.{Place}
+use Rattle.totem_evs.specs.declared.log.Log.{Log}
+use Rattle.totem_evs.specs.declared.fault.Fault.{Fault}
+use Rattle.totem_evs.specs.declared.spec.SpecNo.{SpecNo}
+use Rattle.totem_evs.specs.declared.spec.SpecNo.TheVariants as spec
+use Rattle.totem_evs.specs.Answers.{FindsIn, ListsRings, ListsEach, ListsConfigurations, AreRings, specs_d}
+use Rattle.totem_passes.specs.Listed.{listed}
+use Rattle.totem_agreement.specs.declared.findings.Findings.{Findings}
+use Rattle.totem_agreement.specs.declared.pass.Found.{Found}
+use Rattle.totem_agreement.specs.Findings.{AreFindings, IsNothing, GrowsBy, AreFound, all_found}
+
+one_more : (run : List Log) (k : SpecNo) (cs : List RingId) (c : RingId) (fs : List Fault) (found : Option (List Place)) → ListsRings run k cs fs → FindsIn run c k found → ListsRings run k (cs ++ c ∷ []) (fs ++ listed k found)
+one_more run k [] c fs None is meets = rw is (inl (meets, refl))
+one_more run k [] c fs (Some places) is least = rw is (inr (places, [], refl, least, refl))
+one_more run k (b ∷ cs) c fs found (inl (meets, more)) h = inl (meets, one_more run k cs c fs found more h)
+one_more run k (b ∷ cs) c fs found (inr (places, rest, is, least, more)) h = inr (places, rest ++ listed k found, rw is refl, least, one_more run k cs c rest found more h)
+
+pub nothing_found : (run : List Log) (found : Found) → IsNothing found → AreFound run [] found
+nothing_found run found h = record { own = h.own; atomicity = h.atomicity; causality = h.causality; gap = h.gap; safety = h.safety; installed = h.installed }
+
+pub found_more : (run : List Log) (cs : List RingId) (c : RingId) (old new : Found) (findings : Findings) → AreFindings run c findings → GrowsBy old findings new → AreFound run cs old → AreFound run (cs ++ c ∷ []) new
+found_more run cs c old new findings h grows before = record {
+  own = rw grows.own (one_more run spec.OwnDelivery cs c old.own.items findings.own before.own h.own);
+  atomicity = rw grows.atomicity (one_more run spec.Atomicity cs c old.atomicity.items findings.atomicity before.atomicity h.atomicity);
+  causality = rw grows.causality (one_more run spec.Causality cs c old.causality.items findings.causality before.causality h.causality);
+  gap = rw grows.gap (one_more run spec.Gap cs c old.gap.items findings.gap before.gap h.gap);
+  safety = rw grows.safety (one_more run spec.Safety cs c old.safety.items findings.safety before.safety h.safety);
+  installed = rw grows.installed (one_more run spec.Installed cs c old.installed.items findings.installed before.installed h.installed);
+}
+
+nil_behind : (fs : List Fault) → fs ≡ fs ++ []
+nil_behind [] = refl
+nil_behind (f ∷ fs) = ap (λ (gs : List Fault). f ∷ gs) (nil_behind fs)
+
+each_found : (run : List Log) (rings : List RingId) (found : Found) → AreFound run rings found → ListsEach run rings specs_d (all_found found)
+each_found run rings found h = (
+  found.own.items,
+  found.atomicity.items ++ (found.causality.items ++ (found.gap.items ++ (found.safety.items ++ found.installed.items))),
+  refl,
+  h.own,
+  (
+    found.atomicity.items,
+    found.causality.items ++ (found.gap.items ++ (found.safety.items ++ found.installed.items)),
+    refl,
+    h.atomicity,
+    (
+      found.causality.items,
+      found.gap.items ++ (found.safety.items ++ found.installed.items),
+      refl,
+      h.causality,
+      (found.gap.items, found.safety.items ++ found.installed.items, refl, h.gap, (found.safety.items, found.installed.items, refl, h.safety, (found.installed.items, [], nil_behind found.installed.items, h.installed, refl))),
+    ),
+  ),
+)
+
+pub all_listed : (run : List Log) (rings : List RingId) (found : Found) (faults : List Fault) → AreRings run rings → AreFound run rings found → faults ≡ all_found found → ListsConfigurations run faults
+all_listed run rings found faults are h is = record { rings = rings; are = are; lists = rw is (each_found run rings found h) }
+
+pub found_next : (run : List Log) (rings : List RingId) (i : ℕ) (c : RingId) (of : RingId) (logs : List Log) (old new : Found) (findings : Findings) → i < length rings → c ≡ slice_index_or rings i c → logs ≡ run → of ≡ c
+    → AreFindings logs of findings → GrowsBy old findings new → AreFound run (take i rings) old → AreFound run (take (i + 1) rings) new
+found_next run rings i c of logs old new findings lt is same ring h grows before =
+    rw (take_more rings i c lt, ← is) (found_more run (take i rings) c old new findings (rw (same, ring) at h) grows before)
+
+pub all_found_of : (run : List Log) (rings : List RingId) (i : ℕ) (found : Found) (r : Result (Vec Fault Global) AllocError) → AreRings run rings → length rings ≤ i → AreFound run (take i rings) found → IfOk r (λ faults. faults.items ≡ all_found found)
+    → IfOk r (λ faults. ListsConfigurations run faults.items)
+all_found_of run rings i found (Err e) are end h is = tt
+all_found_of run rings i found (Ok faults) are end h is = all_listed run rings found faults.items are (rw (take_all i rings end) at h) is

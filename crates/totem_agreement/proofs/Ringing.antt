@@ -1,0 +1,54 @@
+-- The rings that are gathered are those of the run, in their order.
+use Rattle.std.proofs.Common.{◌≡◌, ◌⊎◌, ◌<◌, ℕ, inl, inr, List, IsTrue, refl, sym, ◌∙◌}
+use Rattle.std.specs.declared.cmp.Ordering.{Ordering}
+use Rattle.std.specs.declared.cmp.Ordering.TheVariants.{Less, Equal, Greater}
+use Rattle.std.specs.Ordering.{nat_cmp, ordering_then, MatchOrdering}
+use Rattle.std.specs.Cmp.{nat_cmp_is}
+use Rattle.std.specs.BTreeSet.{BTreeSet, IsOrdered}
+use Rattle.std.specs.BTreeSet as sorted
+use Rattle.std.specs.BTreeMap.{BTreeMap}
+use Rattle.std.proofs.lemmas.Option.{slice_get_within}
+use Rattle.std.proofs.lemmas.Map.Keys.{Less-from_sorted}
+use Rattle.std.proofs.lemmas.Map.Views.{btree_set_contains_iff}
+use Rattle.totem_ids.specs.Orders.{RingBelow}
+use Rattle.totem_ids.specs.declared.ring.RingId.{RingId}
+use Rattle.totem_ids.specs.contracts.ring.RingIdOrd.TheImpl as ring
+use Rattle.totem_ids.specs.contracts.ring.RingIdOrd.TheImpl.Laws.{total-law}
+use Rattle.totem_evs.specs.declared.log.Log.{Log}
+use Rattle.totem_evs.specs.Events.{log_of}
+use Rattle.totem_evs.specs.Answers.{IsRing, AreRings}
+use Rattle.totem_evs.proofs.LogOf.{less_or_not}
+use Rattle.totem_passes.specs.declared.visit.Visit.{Visit}
+use Rattle.totem_passes.proofs.Exact.{exact_ring}
+use Rattle.totem_agreement.specs.Comings.{HoldsComings}
+
+pub less_first : (a b : Ordering) → ordering_then a b ≡ Less → (a ≡ Less) ⊎ ((a ≡ Equal) × (b ≡ Less))
+less_first Less b e = inl refl
+less_first Equal b e = inr (refl, e)
+less_first Greater b e = absurd cc
+
+-- what the comparison of numbers answers, and what holds
+pub compared : (a b : ℕ) (r : Ordering) → r ≡ nat_cmp a b → MatchOrdering r (a < b) (a ≡ b) (b < a)
+compared a b r e = elim (less_or_not a b) [
+  | inl lt ↦ rw (e ∙ sym (nat_cmp_is a b Less lt)) lt
+  | inr rest ↦ elim rest [
+    | inl gt ↦ rw (e ∙ sym (nat_cmp_is a b Greater gt)) gt
+    | inr same ↦ rw (e ∙ sym (nat_cmp_is a b Equal same)) same
+  ]
+]
+
+pub below_from_less : (c d : RingId) → ring.cmp-value.it c d ≡ Less → RingBelow c d
+below_from_less c d e = elim (less_first (nat_cmp c.seq d.seq) (nat_cmp c.rep d.rep) e) [
+  | inl lt ↦ inl (compared c.seq d.seq Less (sym lt))
+  | inr (same, lt) ↦ inr (compared c.seq d.seq Equal (sym same), compared c.rep d.rep Less (sym lt))
+]
+
+pub are_rings : (by_visit : Visit → Visit → Ordering) (rings : BTreeSet RingId) (indices : BTreeMap Visit ℕ) (run : List Log) → HoldsComings ring.cmp-value.it by_visit rings indices run
+    → IsOrdered ring.cmp-value.it rings → AreRings run rings.keys
+are_rings by_visit rings indices run holds ordered = record {
+  rising = λ i j d lt within. below_from_less _ _ (Less-from_sorted ring.cmp-value.it rings.keys i j d ordered lt within);
+  exact = λ c. (λ has. holds.only.ring c ((btree_set_contains_iff total-law exact_ring rings c).1 has), λ r. (btree_set_contains_iff total-law exact_ring rings c).0 (known c r));
+}
+  where
+    known : (c : RingId) → IsRing run c → IsTrue (sorted.contains ring.cmp-value.it rings c)
+    known c r = (holds.all r.proc r.index (slice_get_within (log_of run r.proc) r.index _ r.change.1)).ring c r.change

@@ -1,0 +1,16 @@
+use Rattle.totem_passes.proofs.Starting.{reworded}
+use Rattle.totem_agreement.proofs.Facts.{facts}
+use Rattle.totem_agreement.proofs.Causing.{send_here, effects_begin, none_without_effect, least_effect}
+use Rattle.totem_agreement.proofs.causality.CausesRelation.rest.Goals as goal
+
+pub least_list-requires-clause-begins : goal.least_list-requires-clause-begins
+least_list-requires-clause-begins c = effects_begin _ _ _ _ _ (facts _ _ _ c.args.self.now.stays.now.meets c.args.self.now.stays.now.are)
+
+pub returns : goal.returns
+returns c =
+    let of = facts _ _ _ c.args.self.now.stays.now.meets c.args.self.now.stays.now.are in
+    let at = rw c.in-Send.is at c.entry_in.ensures in
+    reworded c.least_list.result _ _ _ _
+    (λ none. none_without_effect _ _ _ _ _ _ _ at none)
+    (λ list least. least_effect _ _ _ _ _ _ _ list.items at (send_here _ _ _ c.args.stay.now _ _ _ _ of c.requires.among c.requires.inside at).0 least)
+    c.least_list.ensures

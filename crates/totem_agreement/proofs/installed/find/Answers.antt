@@ -1,0 +1,10 @@
+use Rattle.totem_evs.specs.declared.spec.SpecNo.TheVariants as spec
+use Rattle.totem_agreement.proofs.OnePlace.{finds_in}
+use Rattle.totem_agreement.proofs.Rooms.{installed_begins, installed}
+use Rattle.totem_agreement.proofs.installed.find.Goals as goal
+
+pub least-requires-clause-begins : goal.least-requires-clause-begins
+least-requires-clause-begins c = let s = c.args.stays.now in installed_begins s.run.now.logs s.ring s.list.items s.meets s.are
+
+pub returns : goal.returns
+returns c = let s = c.args.stays.now in finds_in s.run.now.logs s.ring spec.Installed c.least.result (installed s.run.now.logs s.ring) c.least.ensures

@@ -1,0 +1,22 @@
+use Rattle.std.proofs.Common.{refl, arith}
+use Rattle.std.proofs.lemmas.Option.{slice_get_read}
+use Rattle.totem_evs.specs.contracts.pending.PendingOrd.TheImpl as pending
+use Rattle.totem_evs.specs.Answers.{AreRings}
+use Rattle.totem_agreement.proofs.Adding.{between_more}
+use Rattle.totem_agreement.proofs.Ringing.{are_rings}
+use Rattle.totem_agreement.proofs.Pend.{PendingAt, of_one_ring, all_rings}
+use Rattle.totem_agreement.proofs.PendOrder.{are_pending_if_ok, empty_has_none}
+use Rattle.totem_agreement.proofs.pendings.pending.Goals as goal
+
+pub loop-ring-preserved : goal.loop-ring-preserved
+loop-ring-preserved c =
+    let at = slice_get_read c.deref-ring-items.result.now _ _ c.ring-item.result refl c.loop-ring-test.true c.ring-item.is in
+    between_more pending.cmp-value.it (PendingAt c.args.run.now.logs c.deref-ring-items.result.now) _ _ _ _ _ (omega arith) c.loop-ring.invariant
+    (of_one_ring _ c.args.run.now.logs _ _ _ _ _ _ _ at c.in_ok-stays.ensures.logs c.in_ok-stays.ensures.ring c.in_ok-add_pending.ensures)
+
+pub returns : goal.returns
+returns c =
+    let are : AreRings c.args.run.now.logs c.deref-ring-items.result.now = rw (c.deref-ring-items.ensures.value, c.in_ok-rings.ensures.keys) (are_rings _ c.in_ok-comings.comings.rings c.in_ok-comings.comings.indices c.args.run.now.logs c.in_ok-comings.ensures c.in_ok-rings.ensures.ordered) in
+    are_pending_if_ok _ c.loop-ring.set _
+    (all_rings _ c.args.run.now.logs c.deref-ring-items.result.now _ c.new-set.result _ are c.loop-ring-test.false (empty_has_none c.new-set.result c.new-set.ensures.empty) c.loop-ring.invariant)
+    c.in_order.ensures.items c.in_order.ensures.ordered

@@ -1,0 +1,10 @@
+use Rattle.totem_evs.specs.declared.spec.SpecNo.TheVariants as spec
+use Rattle.totem_agreement.proofs.OnePlace.{finds_in}
+use Rattle.totem_agreement.proofs.Rooms.{safety_begins, safety}
+use Rattle.totem_agreement.proofs.safety.find.Goals as goal
+
+pub least-requires-clause-begins : goal.least-requires-clause-begins
+least-requires-clause-begins c = let s = c.args.stays.now in safety_begins s.run.now.logs s.ring s.list.items s.meets s.are
+
+pub returns : goal.returns
+returns c = let s = c.args.stays.now in finds_in s.run.now.logs s.ring spec.Safety c.least.result (safety s.run.now.logs s.ring) c.least.ensures

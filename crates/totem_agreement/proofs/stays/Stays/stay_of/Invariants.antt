@@ -1,0 +1,5 @@
+use Rattle.totem_agreement.proofs.Looking.{NotBefore}
+use Rattle.totem_agreement.proofs.stays.Stays.stay_of.Given as goal
+
+abbrev pub invariant-loop-stay : goal.invariant-loop-stay
+invariant-loop-stay l = NotBefore l.self.list.items l.proc l.stay-index

@@ -1,0 +1,13 @@
+pub mod Arrivals
+pub mod Comings
+pub mod Endings
+pub mod Pendings
+pub mod Stays
+pub mod Acts
+pub mod Kept
+pub mod Reached
+pub mod Search
+pub mod Causality
+pub mod Gaps
+pub mod Partings
+pub mod Findings

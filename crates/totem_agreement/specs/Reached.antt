@@ -1,0 +1,34 @@
+-- Whom a safe message has to reach (docs/SPECIFICATIONS.md, "7 Safe delivery").
+use Rattle.std.specs.Prelude.{◌≡◌, ℕ, List, slice_get, Some, Contains}
+use Rattle.totem_ids.specs.declared.ring.RingId.{RingId}
+use Rattle.totem_ids.specs.declared.conf.ConfId.{ConfId}
+use Rattle.totem_ids.specs.declared.conf.ConfId.TheVariants.{Regular}
+use Rattle.totem_ids.specs.declared.message.MsgId.{MsgId}
+use Rattle.totem_ids.specs.declared.message.Service.TheVariants.{Safe}
+use Rattle.totem_evs.specs.declared.entry.Entry.{Entry}
+use Rattle.totem_evs.specs.declared.entry.Entry.TheVariants.{Send}
+use Rattle.totem_evs.specs.declared.log.Log.{Log}
+use Rattle.totem_evs.specs.Events.{ChangesWith, log_of}
+use Rattle.totem_evs.specs.Following.{DeliversOrEnds}
+use Rattle.totem_evs.specs.Changes.{Names}
+
+-- m was sent in c as a safe message
+pub record IsSafeIn (run : List Log) (c : RingId) (m : MsgId) : Type 0 where
+  pub proc : ℕ
+  pub index : ℕ
+  pub sends : slice_get (log_of run proc) index ≡ Some (Send m (Regular c) Safe)
+
+-- these are the members of the configuration that the entry at i names, by a change of this log
+pub record AreMembersAt (log : List Entry) (i : ℕ) (members : List ℕ) : Type 0 where
+  pub change : ℕ
+  pub conf : ConfId
+  pub with : ChangesWith log change conf members
+  pub named : (d : ConfId) → Names log i d → d ≡ conf
+
+-- q ought to deliver m in c, or in what follows it, and does not
+pub record IsMissed (run : List Log) (c : RingId) (m : MsgId) (q : ℕ) : Type 0 where
+  pub never : DeliversOrEnds (log_of run q) c m → ⊥
+
+-- none of the members is one of which it holds
+pub record HoldsOfNo (members : List ℕ) (P : ℕ → Type 0) : Type 0 where
+  pub none : (q : ℕ) → Contains members q → P q → ⊥

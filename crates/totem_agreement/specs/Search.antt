@@ -1,0 +1,58 @@
+-- Lists of events that begin in the stay of a process (docs/SPECIFICATIONS.md, "Faults").
+use Rattle.std.specs.Prelude.{◌≡◌, ℕ, ◌<◌, ◌≤◌, List, ◌∷◌}
+use Rattle.totem_ids.specs.declared.place.Place.{Place}
+use Rattle.totem_passes.specs.Search.{place, IsLeastFrom}
+use Rattle.totem_agreement.specs.declared.stay.Stay.{Stay}
+use Rattle.totem_agreement.specs.Acts.{IsAmong}
+
+-- the index stands in the stay, behind the change to the regular configuration
+pub record IsInside (stay : Stay) (i : ℕ) : Type 0 where
+  pub after : stay.from < i
+  pub until : i < stay.end
+
+-- the list begins inside one of the stays
+pub record BeginsInside (stays : List Stay) (places : List Place) : Type 0 where
+  pub stay : Stay
+  pub among : IsAmong stays stay
+  pub index : ℕ
+  pub inside : IsInside stay index
+  pub rest : List Place
+  pub is : places ≡ place stay.proc index ∷ rest
+
+-- each list of which it holds begins so
+pub record EachBeginsInside (stays : List Stay) (Holds : List Place → Type 0) : Type 0 where
+  pub each : (places : List Place) → Holds places → BeginsInside stays places
+
+-- the list begins in one of the stays, at an index that is reached
+pub record BeginsWithin (stays : List Stay) (Reaches : Stay → ℕ → Type 0) (places : List Place) : Type 0 where
+  pub stay : Stay
+  pub among : IsAmong stays stay
+  pub index : ℕ
+  pub reached : Reaches stay index
+  pub rest : List Place
+  pub is : places ≡ place stay.proc index ∷ rest
+
+-- each list of which it holds begins so
+pub record EachBeginsWithin (stays : List Stay) (Reaches : Stay → ℕ → Type 0) (Holds : List Place → Type 0) : Type 0 where
+  pub each : (places : List Place) → Holds places → BeginsWithin stays Reaches places
+
+-- it holds of no list that begins in the stay, at an index that is reached and stands before n
+pub record NoneBelow (Reaches : Stay → ℕ → Type 0) (Holds : List Place → Type 0) (stay : Stay) (n : ℕ) : Type 0 where
+  pub none : (i : ℕ) (rest : List Place) → i < n → Reaches stay i → Holds (place stay.proc i ∷ rest) → ⊥
+
+-- it holds of no list that begins in the stay, at an index that is reached
+pub record NoneWithin (Reaches : Stay → ℕ → Type 0) (Holds : List Place → Type 0) (stay : Stay) : Type 0 where
+  pub none : (i : ℕ) (rest : List Place) → Reaches stay i → Holds (place stay.proc i ∷ rest) → ⊥
+
+-- of the lists that begin in the stay, at an index that is reached, this one comes first
+pub record IsLeastWithin (Reaches : Stay → ℕ → Type 0) (Holds : List Place → Type 0) (stay : Stay) (places : List Place) : Type 0 where
+  pub at : ℕ
+  pub rest : List Place
+  pub is : places ≡ place stay.proc at ∷ rest
+  pub least : IsLeastFrom Holds stay.proc at rest
+  pub none_before : NoneBelow Reaches Holds stay at
+
+-- it ends among the first million entries
+pub record IsShort (stay : Stay) : Type 0 where
+  pub some : stay.from < stay.end
+  pub few : stay.end ≤ 1000000

@@ -1,0 +1,106 @@
+//! The changes to regular configurations: the rings, and where each process comes to each.
+ghost use Rattle.std.specs.Prelude.{◌≡◌, ◌<◌, ◌≤◌, List, length};
+
+use crate::arrival::Arrival;
+use std::alloc::{AllocError, Global};
+use std::collections::{BTreeMap, BTreeSet};
+use totem_evs::{Entry, Run};
+use totem_ids::{ConfId, ProcId, RingId};
+use totem_passes::{Register, Visit, enter_run};
+
+/// The rings of the regular configurations, and the index at which each process changes to each of these.
+#[derive(Drop)]
+pub struct Comings {
+    pub rings: BTreeSet<RingId>,
+    pub indices: BTreeMap<Visit, usize>,
+}
+
+impl Register for Comings {
+    ghost use Rattle.totem_agreement.specs.Comings.{AreComings, KnowsComing};
+
+    ghost sound = { λ s. AreComings ⟦<RingId as Ord>⟧.cmp ⟦<Visit as Ord>⟧.cmp s.rings s.indices };
+
+    ghost knows = { λ s. KnowsComing ⟦<RingId as Ord>⟧.cmp ⟦<Visit as Ord>⟧.cmp s.rings s.indices };
+
+    fn enter(
+        &mut self,
+        _alloc: Global,
+        proc: ProcId,
+        log: &[Entry],
+        at: usize,
+    ) -> Result<(), AllocError> {
+        let Entry::Conf(conf, _) = &log[at] else {
+            return Ok(());
+        };
+        let ConfId::Regular(ring) = conf else {
+            return Ok(());
+        };
+        let ring = *ring;
+        let conf = ConfId::Regular(ring);
+        self.rings.insert(ring)?;
+        self.indices.insert(Visit { proc, conf }, at)?;
+        Ok(())
+    }
+}
+
+impl Comings {
+    ghost use Rattle.std.specs.Prelude.{◌≡◌, ◌+◌, ◌<◌, ◌≤◌, IfOk, List, length};
+    ghost use Rattle.std.specs.BTreeMap as tree;
+    ghost use Rattle.std.specs.BTreeSet as sorted;
+    ghost use Rattle.totem_evs.specs.Answers.{AreRings, MeetsPasses};
+    ghost use Rattle.totem_agreement.specs.Arrivals.{AreArrivals};
+    ghost use Rattle.totem_agreement.specs.Comings.{HoldsComings};
+
+    fn new(alloc: Global) -> Comings
+        ensures rings { sorted.IsEmpty result.rings }
+        ensures indices { tree.IsEmpty result.indices }
+    {
+        Comings {
+            rings: BTreeSet::new(alloc),
+            indices: BTreeMap::new(alloc),
+        }
+    }
+
+    /// Those of the run, in n log n steps.
+    pub fn build(alloc: Global, run: &Run) -> Result<Comings, AllocError>
+        ensures { IfOk result (λ comings. HoldsComings ⟦<RingId as Ord>⟧.cmp ⟦<Visit as Ord>⟧.cmp comings.rings comings.indices run.now.logs) }
+    {
+        let mut comings = Comings::new(alloc);
+        enter_run(&mut comings, alloc, run)?;
+        Ok(comings)
+    }
+
+    /// The rings, by number and then by representative.
+    pub fn rings(&self, alloc: Global) -> Result<Vec<RingId>, AllocError>
+        ensures keys { IfOk result (λ list. list.items ≡ self.now.rings.keys) }
+        ensures ordered { IfOk result (λ list. sorted.IsOrdered ⟦<RingId as Ord>⟧.cmp self.now.rings) }
+    {
+        let mut list = Vec::new(alloc);
+        for ring in &self.rings {
+            list.push(*ring)?;
+        }
+        Ok(list)
+    }
+
+    /// The changes to the regular configuration of this ring, log by log.
+    pub fn arrivals(
+        &self,
+        alloc: Global,
+        run: &Run,
+        ring: RingId,
+    ) -> Result<Vec<Arrival>, AllocError>
+        requires comings { HoldsComings ⟦<RingId as Ord>⟧.cmp ⟦<Visit as Ord>⟧.cmp self.now.rings self.now.indices run.now.logs }
+        requires meets { MeetsPasses run.now.logs }
+        ensures { IfOk result (λ list. AreArrivals run.now.logs ring list.items) }
+    {
+        let mut arrivals = Vec::new(alloc);
+        for (log, recorded) in run.logs.as_slice().iter().enumerate() {
+            let proc = recorded.proc;
+            let conf = ConfId::Regular(ring);
+            if let Some(at) = self.indices.get(&Visit { proc, conf }) {
+                arrivals.push(Arrival { log, at: *at })?;
+            }
+        }
+        Ok(arrivals)
+    }
+}

@@ -1,0 +1,39 @@
+ghost use Rattle.std.specs.Prelude.{IfOk};
+ghost use Rattle.totem_agreement.specs.Findings.{AreFindings};
+
+use crate::stays::Stays;
+use crate::{atomicity, causality, gap, installed, own, safety};
+use std::alloc::{AllocError, Global};
+use totem_evs::Places;
+
+/// What one job finds: for each specification of the last pass the least events that break it in one regular
+/// configuration, or none where the run meets it there.
+#[derive(Debug, Drop)]
+pub struct Findings {
+    /// 3.
+    pub own: Option<Places>,
+    /// 4.
+    pub atomicity: Option<Places>,
+    /// 5.
+    pub causality: Option<Places>,
+    /// 6.3.
+    pub gap: Option<Places>,
+    /// 7.1.
+    pub safety: Option<Places>,
+    /// 7.2.
+    pub installed: Option<Places>,
+}
+
+/// The job of one regular configuration.
+pub fn findings_in(alloc: Global, stays: &Stays) -> Result<Findings, AllocError>
+    ensures { IfOk result (AreFindings stays.now.run.now.logs stays.now.ring) }
+{
+    Ok(Findings {
+        own: own::find(alloc, stays)?,
+        atomicity: atomicity::find(alloc, stays)?,
+        causality: causality::find(alloc, stays)?,
+        gap: gap::find(alloc, stays)?,
+        safety: safety::find(alloc, stays)?,
+        installed: installed::find(alloc, stays)?,
+    })
+}

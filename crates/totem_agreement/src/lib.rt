@@ -1,0 +1,26 @@
+//! The last pass of the audit: what processes owe themselves and one another in each regular configuration and in what
+//! follows it; and what a run leaves open (docs/SPECIFICATIONS.md, "Passes", "Pending and waiting").
+#![tactic(auto)]
+
+mod arrival;
+mod atomicity;
+mod causality;
+mod comings;
+mod entries;
+mod findings;
+mod gap;
+mod installed;
+mod kept;
+mod own;
+mod pass;
+mod pendings;
+mod safety;
+mod search;
+mod standing;
+mod stay;
+mod stays;
+mod waitings;
+
+pub use pass::pass_d;
+pub use pendings::pending;
+pub use waitings::waiting;

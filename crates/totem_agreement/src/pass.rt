@@ -1,0 +1,92 @@
+//! Pass D of the audit (docs/SPECIFICATIONS.md, "Passes").
+ghost use Rattle.std.specs.Prelude.{◌≡◌, ◌++◌, IfOk};
+ghost use Rattle.totem_evs.specs.Answers.{MeetsPasses, ListsConfigurations};
+
+use crate::comings::Comings;
+use crate::findings::{Findings, findings_in};
+use crate::stays::Stays;
+use std::alloc::{AllocError, Global};
+use totem_evs::{Fault, Run, SpecNo};
+use totem_passes::with_found;
+
+/// The faults of each specification: one for each configuration in which it is broken, in their order.
+#[derive(Drop)]
+pub struct Found {
+    pub own: Vec<Fault>,
+    pub atomicity: Vec<Fault>,
+    pub causality: Vec<Fault>,
+    pub gap: Vec<Fault>,
+    pub safety: Vec<Fault>,
+    pub installed: Vec<Fault>,
+}
+
+/// The list with the other behind it.
+fn joined(mut faults: Vec<Fault>, others: Vec<Fault>) -> Result<Vec<Fault>, AllocError>
+    ensures { IfOk result (λ list. list.items ≡ faults.items ++ others.items) }
+{
+    for fault in others {
+        faults.push(fault)?;
+    }
+    Ok(faults)
+}
+
+impl Found {
+    ghost use Rattle.std.specs.Prelude.{◌≡◌, IfOk};
+    ghost use Rattle.totem_agreement.specs.Findings.{IsNothing, GrowsBy, all_found};
+
+    fn new(alloc: Global) -> Found
+        ensures { IsNothing result }
+    {
+        Found {
+            own: Vec::new(alloc),
+            atomicity: Vec::new(alloc),
+            causality: Vec::new(alloc),
+            gap: Vec::new(alloc),
+            safety: Vec::new(alloc),
+            installed: Vec::new(alloc),
+        }
+    }
+
+    /// With what was found in the next configuration.
+    fn with(self, findings: Findings) -> Result<Found, AllocError>
+        ensures { IfOk result (GrowsBy self findings) }
+    {
+        Ok(Found {
+            own: with_found(self.own, SpecNo::OwnDelivery, findings.own)?,
+            atomicity: with_found(self.atomicity, SpecNo::Atomicity, findings.atomicity)?,
+            causality: with_found(self.causality, SpecNo::Causality, findings.causality)?,
+            gap: with_found(self.gap, SpecNo::Gap, findings.gap)?,
+            safety: with_found(self.safety, SpecNo::Safety, findings.safety)?,
+            installed: with_found(self.installed, SpecNo::Installed, findings.installed)?,
+        })
+    }
+
+    /// All of them, specification by specification.
+    fn into_faults(self) -> Result<Vec<Fault>, AllocError>
+        ensures { IfOk result (λ faults. faults.items ≡ all_found self) }
+    {
+        let gaps = joined(self.gap, joined(self.safety, self.installed)?)?;
+        joined(
+            self.own,
+            joined(self.atomicity, joined(self.causality, gaps)?)?,
+        )
+    }
+}
+
+/// Pass D, of a run that has passed the others: for each of 3, 4, 5, 6.3, 7.1 and 7.2 and for each regular configuration
+/// in which the run breaks it, the least events that do. Want of memory is no answer. There is a job for each regular
+/// configuration, which sees no other part of the run than that and what follows it.
+pub fn pass_d(alloc: Global, run: &Run) -> Result<Vec<Fault>, AllocError>
+    requires { MeetsPasses run.now.logs }
+    ensures { IfOk result (λ faults. ListsConfigurations run.now.logs faults.items) }
+{
+    let comings = Comings::build(alloc, run)?;
+    let rings = comings.rings(alloc)?;
+    let mut found = Found::new(alloc);
+    for ring in &rings {
+        let arrivals = comings.arrivals(alloc, run, *ring)?;
+        let stays = Stays::build(alloc, run, *ring, &arrivals)?;
+        found = found.with(findings_in(alloc, &stays)?)?;
+    }
+    found.into_faults()
+}

@@ -1,0 +1,112 @@
+//! What is pending (docs/SPECIFICATIONS.md, "Pending and waiting").
+ghost use Rattle.std.specs.Prelude.{◌≡◌, ◌↔◌, ◌<◌, IsTrue, IfSome, IfNone, IfOk, OnOk, length};
+ghost use Rattle.std.specs.BTreeSet as sorted;
+ghost use Rattle.totem_evs.specs.Answers.{MeetsPasses};
+ghost use Rattle.totem_evs.specs.Following.{OpenIn};
+ghost use Rattle.totem_evs.specs.Unsettled.{ArePending, IsPending};
+ghost use Rattle.totem_agreement.specs.Acts.{IsAmong};
+ghost use Rattle.totem_agreement.specs.Pendings.{Adds, MissesAt, MissesNothingAt, MissesFrom, Misses, IsPendingIn};
+
+use crate::comings::Comings;
+use crate::standing::has_failed;
+use crate::stay::Stay;
+use crate::stays::Stays;
+use std::alloc::{AllocError, Global};
+use std::collections::BTreeSet;
+use totem_evs::{Entry, Pending, Run};
+use totem_ids::MsgId;
+
+/// Whether the process of this stay is open in it.
+fn is_open(stays: &Stays, stay: &Stay) -> bool
+    requires { IsAmong stays.now.list.items stay.now }
+    ensures { IsTrue result ↔ OpenIn stay.now.log.now stays.now.ring }
+{
+    stay.is_last() && !has_failed(stay.log)
+}
+
+/// The message that this entry sends, if the process of the stay has not delivered it.
+fn missing_at(stays: &Stays, stay: &Stay, sender: &[Entry], at: usize) -> Option<MsgId>
+    requires among { IsAmong stays.now.list.items stay.now }
+    requires within { at < length sender.now }
+    ensures found { IfSome result (MissesAt stays.now.ring stay.now sender.now at) }
+    ensures none { IfNone result (MissesNothingAt stays.now.ring stay.now sender.now at) }
+{
+    let Entry::Send(message, _, _) = &sender[at] else {
+        return None;
+    };
+    match stays.delivery_of(stay, message) {
+        Some(_) => None,
+        None => Some(*message),
+    }
+}
+
+/// Adds what this sender sent and the process of the stay has not delivered.
+fn add_missing_from(
+    set: &mut BTreeSet<Pending>,
+    stays: &Stays,
+    stay: &Stay,
+    sender: &Stay,
+) -> Result<(), AllocError>
+    requires among { IsAmong stays.now.list.items stay.now }
+    requires sender { IsAmong stays.now.list.items sender.now }
+    ensures { OnOk result (Adds ⟦<Pending as Ord>⟧.cmp (MissesFrom stays.now.ring stay.now sender.now) set.old set.new) }
+{
+    let proc = stay.proc;
+    for at in sender.from + 1..sender.turn {
+        if let Some(msg) = missing_at(stays, stay, sender.log, at) {
+            set.insert(Pending { proc, msg })?;
+        }
+    }
+    Ok(())
+}
+
+/// Adds what was sent and the process of the stay has not delivered.
+fn add_missing(set: &mut BTreeSet<Pending>, stays: &Stays, stay: &Stay) -> Result<(), AllocError>
+    requires { IsAmong stays.now.list.items stay.now }
+    ensures { OnOk result (Adds ⟦<Pending as Ord>⟧.cmp (Misses stays.now.run.now.logs stays.now.ring stay.now) set.old set.new) }
+{
+    for sender in &stays.list {
+        add_missing_from(set, stays, stay, sender)?;
+    }
+    Ok(())
+}
+
+/// Adds what is pending in one configuration.
+fn add_pending(set: &mut BTreeSet<Pending>, stays: &Stays) -> Result<(), AllocError>
+    ensures { OnOk result (Adds ⟦<Pending as Ord>⟧.cmp (IsPendingIn stays.now.run.now.logs stays.now.ring) set.old set.new) }
+{
+    for stay in &stays.list {
+        if is_open(stays, stay) {
+            add_missing(set, stays, stay)?;
+        }
+    }
+    Ok(())
+}
+
+/// The elements of the set, in their order.
+fn in_order(alloc: Global, set: &BTreeSet<Pending>) -> Result<Vec<Pending>, AllocError>
+    ensures items { IfOk result (λ list. list.items ≡ set.now.keys) }
+    ensures ordered { IfOk result (λ list. sorted.IsOrdered ⟦<Pending as Ord>⟧.cmp set.now) }
+{
+    let mut list = Vec::new(alloc);
+    for pending in set {
+        list.push(*pending)?;
+    }
+    Ok(list)
+}
+
+/// All that is pending in a run that has passed the first two passes, by process and then by message.
+pub fn pending(alloc: Global, run: &Run) -> Result<Vec<Pending>, AllocError>
+    requires { MeetsPasses run.now.logs }
+    ensures { IfOk result (λ list. ArePending run.now.logs list.items) }
+{
+    let comings = Comings::build(alloc, run)?;
+    let rings = comings.rings(alloc)?;
+    let mut set = BTreeSet::new(alloc);
+    for ring in &rings {
+        let arrivals = comings.arrivals(alloc, run, *ring)?;
+        let stays = Stays::build(alloc, run, *ring, &arrivals)?;
+        add_pending(&mut set, &stays)?;
+    }
+    in_order(alloc, &set)
+}

@@ -1,0 +1,60 @@
+//! Where logs end (docs/SPECIFICATIONS.md, "Pending and waiting").
+ghost use Rattle.std.specs.Prelude.{◌↔◌, IsTrue, IfSome, IfNone};
+ghost use Rattle.std.specs.Bool.{OnTrue, OnFalse};
+ghost use Rattle.totem_evs.specs.Changes.{StaysInPlace};
+ghost use Rattle.totem_evs.specs.Unsettled.{EndsIn};
+ghost use Rattle.totem_passes.specs.Sent.{IsChangeTo};
+ghost use Rattle.totem_agreement.specs.Endings.{HasFailed, GoesOn, StandsAtEnd, EndsNowhere};
+
+use totem_evs::Entry;
+use totem_ids::ConfId;
+
+/// Whether the log has a failure, which can stand only at its end.
+pub fn has_failed(log: &[Entry]) -> bool
+    requires { StaysInPlace log.now }
+    ensures failed { OnTrue result (HasFailed log.now) }
+    ensures goes_on { OnFalse result (GoesOn log.now) }
+{
+    if log.is_empty() {
+        return false;
+    }
+    matches!(&log[log.len() - 1], Entry::Fail(_))
+}
+
+/// The index of the last change of a log that has no failure.
+pub fn last_change(log: &[Entry]) -> Option<usize>
+    requires { StaysInPlace log.now }
+    ensures found { IfSome result (StandsAtEnd log.now) }
+    ensures none { IfNone result (EndsNowhere log.now) }
+{
+    if has_failed(log) {
+        return None;
+    }
+    for back in 0..log.len() {
+        let at = log.len() - 1 - back;
+        if let Entry::Conf(_, _) = &log[at] {
+            return Some(at);
+        }
+    }
+    None
+}
+
+fn is_change_to(entry: &Entry, conf: &ConfId) -> bool
+    ensures { IsTrue result ↔ IsChangeTo entry.now conf.now }
+{
+    match entry {
+        Entry::Conf(other, _) => other.is(conf),
+        _ => false,
+    }
+}
+
+/// Whether the log ends in the configuration: it has no failure, and its last change is to it.
+pub fn ends_in(log: &[Entry], conf: &ConfId) -> bool
+    requires { StaysInPlace log.now }
+    ensures { IsTrue result ↔ EndsIn log.now conf.now }
+{
+    match last_change(log) {
+        Some(at) => is_change_to(&log[at], conf),
+        None => false,
+    }
+}

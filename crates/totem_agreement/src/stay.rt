@@ -1,0 +1,63 @@
+//! The part of a log that stands in a regular configuration and in what follows it.
+ghost use Rattle.std.specs.Prelude.{◌≡◌, ◌↔◌, ◌<◌, IsTrue, length};
+ghost use Rattle.totem_agreement.specs.Stays.{IsNextOrEnd, AreNextTwo};
+
+use totem_evs::{Entry, Log};
+use totem_ids::ProcId;
+
+/// The stay of a process: its log changes to the regular configuration at `from` and to what follows that at `turn`, and
+/// the entries before `end` are those that stand in these two. Where nothing follows, `turn` is `end`.
+#[derive(Clone, Copy)]
+pub struct Stay<'r> {
+    pub proc: ProcId,
+    pub log: &'r [Entry],
+    pub from: usize,
+    pub turn: usize,
+    pub end: usize,
+}
+
+impl Stay<'_> {
+    /// Whether the stay goes up to the end of the log: there the process failed, or it is open.
+    pub fn is_last(&self) -> bool
+        ensures { IsTrue result ↔ (self.now.end ≡ length self.now.log.now) }
+    {
+        self.end == self.log.len()
+    }
+}
+
+/// The index of the next change after this index, or the length of the log where none follows.
+fn next_change(log: &[Entry], at: usize) -> usize
+    requires { at < length log.now }
+    ensures { IsNextOrEnd log.now at result }
+{
+    for next in at + 1..log.len() {
+        if let Entry::Conf(_, _) = &log[next] {
+            return next;
+        }
+    }
+    log.len()
+}
+
+/// The part of a log from this index up to the change after the next one.
+pub fn stay_from(log: &Log, from: usize) -> Stay<'_>
+    requires { from < length log.now.entries }
+    ensures proc { result.proc ≡ log.now.proc }
+    ensures log { result.log.now ≡ log.now.entries }
+    ensures from { result.from ≡ from }
+    ensures next { AreNextTwo log.now.entries from result.turn result.end }
+{
+    let entries = log.entries.as_slice();
+    let turn = next_change(entries, from);
+    let end = if turn < entries.len() {
+        next_change(entries, turn)
+    } else {
+        turn
+    };
+    Stay {
+        proc: log.proc,
+        log: entries,
+        from,
+        turn,
+        end,
+    }
+}

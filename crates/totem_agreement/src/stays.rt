@@ -1,0 +1,136 @@
+//! The stays of all processes in one regular configuration, and what they sent and delivered there.
+ghost use Rattle.std.specs.Prelude.{◌≡◌, ◌↔◌, IsTrue, IfSome, IfNone, IfOk};
+ghost use Rattle.totem_evs.specs.Answers.{MeetsPasses};
+ghost use Rattle.totem_evs.specs.Missing.{members_of};
+ghost use Rattle.totem_agreement.specs.Arrivals.{AreArrivals};
+ghost use Rattle.totem_agreement.specs.Stays.{AreStays};
+ghost use Rattle.totem_agreement.specs.Kept.{AreKept};
+ghost use Rattle.totem_agreement.specs.Search.{IsInside};
+ghost use Rattle.totem_agreement.specs.Reached.{IsSafeIn, AreMembersAt};
+ghost use Rattle.totem_agreement.specs.Acts.{IsAmong, NeverComes, DeliversHere, DeliversNot, IsSendingOf, NobodySent};
+
+use crate::arrival::Arrival;
+use crate::kept::{Delivery, Kept};
+use crate::stay::{Stay, stay_from};
+use std::alloc::{AllocError, Global};
+use totem_evs::{Entry, Run};
+use totem_ids::{MsgId, ProcId, RingId, Service};
+
+/// A send: by whom, at which index of the log, and as what.
+#[derive(Clone, Copy)]
+pub struct Sending {
+    pub proc: ProcId,
+    pub at: usize,
+    pub service: Service,
+}
+
+/// The stays of a run that meets the specifications of the first two passes, by process.
+#[derive(Drop)]
+pub struct Stays<'r> {
+    pub run: &'r Run,
+    pub ring: RingId,
+    pub list: Vec<Stay<'r>>,
+    kept: Kept,
+    ghost meets: { ∥ MeetsPasses run.now.logs ∥₁ },
+    ghost are: { ∥ AreStays run.now.logs ring list.items ∥₁ },
+    ghost keeps: { ∥ AreKept ⟦<Delivery as Ord>⟧.cmp ⟦<MsgId as Ord>⟧.cmp kept.deliveries kept.sends list.items ∥₁ },
+}
+
+fn is_safe_service(service: Service) -> bool
+    ensures { IsTrue result ↔ (service ≡ Service.Safe) }
+{
+    matches!(service, Service::Safe)
+}
+
+/// The members of a change.
+fn members_of(entry: &Entry) -> &[ProcId]
+    ensures { result.now ≡ members_of entry.now }
+{
+    match entry {
+        Entry::Conf(_, members) => members.as_slice(),
+        _ => &[],
+    }
+}
+
+impl<'r> Stays<'r> {
+    /// The stays in the regular configuration of this ring, to which the logs change at these places.
+    pub fn build(
+        alloc: Global,
+        run: &'r Run,
+        ring: RingId,
+        arrivals: &[Arrival],
+    ) -> Result<Stays<'r>, AllocError>
+        requires meets { MeetsPasses run.now.logs }
+        requires arrivals { AreArrivals run.now.logs ring arrivals.now }
+        ensures logs { IfOk result (λ stays. stays.run.now.logs ≡ run.now.logs) }
+        ensures ring { IfOk result (λ stays. stays.ring ≡ ring) }
+    {
+        let mut list = Vec::new(alloc);
+        let logs = run.logs.as_slice();
+        for arrival in arrivals {
+            let stay = stay_from(&logs[arrival.log], arrival.at);
+            list.extend_from_slice(&[stay])?;
+        }
+        let kept = Kept::of(alloc, &list)?;
+        Ok(Stays {
+            run,
+            ring,
+            list,
+            kept,
+        })
+    }
+
+    /// The stay of this process, if its log changes to the regular configuration.
+    pub fn stay_of(&self, proc: ProcId) -> Option<&Stay<'r>>
+        ensures found { IfSome result (λ stay. IsAmong self.now.list.items stay.now) }
+        ensures proc { IfSome result (λ stay. stay.now.proc ≡ proc) }
+        ensures none { IfNone result (NeverComes self.now.run.now.logs self.now.ring proc) }
+    {
+        for stay in &self.list {
+            if stay.proc == proc {
+                return Some(stay);
+            }
+        }
+        None
+    }
+
+    /// Where the process of this stay delivers the message, in the regular configuration or in what follows it.
+    pub fn delivery_of(&self, stay: &Stay, message: &MsgId) -> Option<usize>
+        requires { IsAmong self.now.list.items stay.now }
+        ensures found { IfSome result (DeliversHere stay.now message.now) }
+        ensures none { IfNone result (DeliversNot stay.now.log.now self.now.ring message.now) }
+    {
+        let proc = stay.proc;
+        let message = *message;
+        let at = self.kept.deliveries.get(&Delivery { proc, message });
+        at.copied()
+    }
+
+    /// The send of the message in the regular configuration.
+    pub fn send_of(&self, message: &MsgId) -> Option<Sending>
+        ensures found { IfSome result (IsSendingOf self.now.run.now.logs self.now.ring message.now) }
+        ensures none { IfNone result (NobodySent self.now.run.now.logs self.now.ring message.now) }
+    {
+        self.kept.sends.get(message).copied()
+    }
+
+    /// Whether the message was sent in the regular configuration as a safe one.
+    pub fn is_safe(&self, message: &MsgId) -> bool
+        ensures { IsTrue result ↔ IsSafeIn self.now.run.now.logs self.now.ring message.now }
+    {
+        match self.send_of(message) {
+            Some(sending) => is_safe_service(sending.service),
+            None => false,
+        }
+    }
+
+    /// The members of the configuration in which the entry at this index stands.
+    pub fn members_at<'s>(&self, stay: &'s Stay<'r>, at: usize) -> &'s [ProcId]
+        requires among { IsAmong self.now.list.items stay.now }
+        requires inside { IsInside stay.now at }
+        ensures { AreMembersAt stay.now.log.now at result.now }
+    {
+        let change = if at < stay.turn { stay.from } else { stay.turn };
+        members_of(&stay.log[change])
+    }
+}

@@ -1,0 +1,72 @@
+-- What it means that events break specifications 3 to 7 in one regular configuration c: they meet the premise there, and
+-- the conclusion fails for them (docs/SPECIFICATIONS.md, "Passes").
+use Rattle.std.specs.Prelude.{◌≡◌, ℕ, ◌<◌, List, [], ◌∷◌}
+use Rattle.totem_ids.specs.declared.ring.RingId.{RingId}
+use Rattle.totem_ids.specs.declared.conf.ConfId.{ConfId}
+use Rattle.totem_ids.specs.declared.conf.ConfId.TheVariants.{Regular}
+use Rattle.totem_ids.specs.declared.message.MsgId.{MsgId}
+use Rattle.totem_ids.specs.declared.place.Place.{Place}
+use Rattle.totem_evs.specs.declared.log.Log.{Log}
+use Rattle.totem_evs.specs.declared.spec.SpecNo.{SpecNo}
+use Rattle.totem_evs.specs.declared.spec.SpecNo.TheVariants as spec
+use Rattle.totem_evs.specs.Events.{log_of}
+use Rattle.totem_evs.specs.Steps.{SendsAt}
+use Rattle.totem_evs.specs.Following.{Com, DeliversIn}
+use Rattle.totem_evs.specs.Places.{At}
+use Rattle.totem_evs.specs.RingAgreement.{IsHop, OwnDeliveryIn, AtomicityIn, CausalityIn, NoGapsIn, SafetyIn, InstalledIn}
+use Rattle.totem_evs.specs.AgreementFaults.{IsNotOwned, IsParted, IsGap, IsNotReached, IsNotInstalled}
+
+-- 3: the send
+abbrev pub BreaksOwnDeliveryIn : List Log → RingId → List Place → Type 0
+BreaksOwnDeliveryIn run c (e ∷ []) = At e (λ p i. IsNotOwned (log_of run p) c i)
+BreaksOwnDeliveryIn run c _ = ⊥
+
+-- 4: p's delivery, p's change to the next configuration, and q's
+abbrev pub BreaksAtomicityIn : List Log → RingId → List Place → Type 0
+BreaksAtomicityIn run c (e ∷ f ∷ g ∷ []) = At e (λ p i. At f (λ r j. At g (λ q k. (p ≡ r) × ((x : ConfId) × Com (log_of run p) c x × IsParted run x p i j q k))))
+BreaksAtomicityIn run c _ = ⊥
+
+-- f's sender sent or delivered e's message before, and r delivers the later message and not the earlier one before it
+abbrev pub IsUncausedIn : List Log → RingId → Place → Place → ℕ → ℕ → Type 0
+IsUncausedIn run c e f r j = (m n : MsgId) × SendsAt run e m (Regular c) × SendsAt run f n (Regular c) × IsHop run c m e f
+    × DeliversIn (log_of run r) c n j × ((i : ℕ) → i < j → DeliversIn (log_of run r) c m i → ⊥)
+
+-- 5: both sends, and r's delivery of the later message
+abbrev pub BreaksCausalityIn : List Log → RingId → List Place → Type 0
+BreaksCausalityIn run c (e ∷ f ∷ g ∷ []) = At g (IsUncausedIn run c e f)
+BreaksCausalityIn run c _ = ⊥
+
+-- 6.3: p's deliveries of both messages, and q's of the later one
+abbrev pub BreaksGapIn : List Log → RingId → List Place → Type 0
+BreaksGapIn run c (e ∷ f ∷ g ∷ []) = At e (λ p i. At f (λ r j. At g (λ q k. (p ≡ r) × IsGap run c p i j q k)))
+BreaksGapIn run c _ = ⊥
+
+-- 7.1: p's delivery
+abbrev pub BreaksSafetyIn : List Log → RingId → List Place → Type 0
+BreaksSafetyIn run c (e ∷ []) = At e (IsNotReached run c)
+BreaksSafetyIn run c _ = ⊥
+
+-- 7.2: p's delivery
+abbrev pub BreaksInstalledIn : List Log → RingId → List Place → Type 0
+BreaksInstalledIn run c (e ∷ []) = At e (IsNotInstalled run c)
+BreaksInstalledIn run c _ = ⊥
+
+-- the places break the specification in c; of specifications that are not asked configuration by configuration it is not said
+abbrev pub BreaksIn : List Log → RingId → SpecNo → List Place → Type 0
+BreaksIn run c spec.OwnDelivery places = BreaksOwnDeliveryIn run c places
+BreaksIn run c spec.Atomicity places = BreaksAtomicityIn run c places
+BreaksIn run c spec.Causality places = BreaksCausalityIn run c places
+BreaksIn run c spec.Gap places = BreaksGapIn run c places
+BreaksIn run c spec.Safety places = BreaksSafetyIn run c places
+BreaksIn run c spec.Installed places = BreaksInstalledIn run c places
+BreaksIn run c _ places = ⊥
+
+-- the run meets the specification in c; of others it is not said
+abbrev pub MeetsIn : List Log → RingId → SpecNo → Type 0
+MeetsIn run c spec.OwnDelivery = OwnDeliveryIn run c
+MeetsIn run c spec.Atomicity = AtomicityIn run c
+MeetsIn run c spec.Causality = CausalityIn run c
+MeetsIn run c spec.Gap = NoGapsIn run c
+MeetsIn run c spec.Safety = SafetyIn run c
+MeetsIn run c spec.Installed = InstalledIn run c
+MeetsIn run c _ = ⊥

@@ -1,0 +1,17 @@
+pub mod Ascents
+pub mod Each
+pub mod Falling
+pub mod Steps
+pub mod Repeats
+pub mod Chains
+pub mod Lists
+pub mod Members
+pub mod Following
+pub mod Staying
+pub mod Taken
+pub mod TakenLists
+pub mod TakenMessages
+pub mod TakenTokens
+pub mod TakenCommits
+pub mod TakenPackets
+pub mod Decided

@@ -1,0 +1,62 @@
+-- What is read as a rising list keeps the rules of the list.
+use Rattle.std.specs.Prelude.{nat_lt, nat_le}
+use Rattle.std.specs.Int.{Width, w8, w16, w32}
+use Rattle.std.proofs.lemmas.Bool.{ltb-true, leb-true}
+use Rattle.std.proofs.Common.{◌≡◌, ℕ, zero, suc, ◌<◌, ◌≤◌, cond, List, [], ◌∷◌, length, Ok, Err, refl, ap, arith}
+use Rattle.std.specs.Prelude.{All}
+use Rattle.totem_ids.specs.Texts.{IsProcess}
+use Rattle.totem_packets.specs.declared.fault.PacketFault.TheVariants.{Range}
+use Rattle.totem_packets.specs.Parsing.{Parsed, ◌>>=◌}
+use Rattle.totem_packets.specs.Fields.{number_at, above_at, up_to_at, rising_at}
+use Rattle.totem_packets.specs.Rising.{IsNumber, IsRequests, IsProcesses}
+use Rattle.totem_packets.proofs.Chains.{Rises, pairs_rise}
+use Rattle.totem_packets.proofs.Steps.{after, guard_then, parsed_is}
+
+-- a number that was read is above the one that it was to be above
+pub above_is : (w : Width) (least : ℕ) (bytes : List ℕ) (n : ℕ) (rest : List ℕ) → above_at w least bytes ≡ Ok (n, rest) → least < n
+unfolding above_at
+above_is w least bytes n rest e =
+    after (number_at w bytes) (λ n. cond (nat_lt least n.0) (Ok n) (Err Range)) (n, rest) e (λ m mid e1 e2.
+    let t = guard_then (nat_lt least m) (Ok (m, mid)) Range (n, rest) e2 in
+    let same = parsed_is m n mid rest t.1 in
+    rw (← same.0) (ltb-true _ _ t.0))
+
+-- a number that was read is at most what it was to be
+pub up_to_is : (w : Width) (most : ℕ) (bytes : List ℕ) (n : ℕ) (rest : List ℕ) → up_to_at w most bytes ≡ Ok (n, rest) → n ≤ most
+unfolding up_to_at
+up_to_is w most bytes n rest e =
+    after (number_at w bytes) (λ n. cond (nat_le n.0 most) (Ok n) (Err Range)) (n, rest) e (λ m mid e1 e2.
+    let t = guard_then (nat_le m most) (Ok (m, mid)) Range (n, rest) e2 in
+    let same = parsed_is m n mid rest t.1 in
+    rw (← same.0) (leb-true _ _ t.0))
+
+-- what each reading of one thing says
+pub record IsAbove {Y : Type 0} (one_above : ℕ → List ℕ → Parsed Y) (number_of : Y → ℕ) : Type 0 where
+  pub above : (last : ℕ) (bytes : List ℕ) (y : Y) (rest : List ℕ) → one_above last bytes ≡ Ok (y, rest) → last < number_of y
+
+-- a list that was read rises and is as long as it was to be
+pub record IsRow {Y : Type 0} (number_of : Y → ℕ) (count last : ℕ) (ys : List Y) : Type 0 where
+  pub rises : Rises number_of last ys
+  pub long : length ys ≡ count
+
+pub row_is : {Y : Type 0} (one_above : ℕ → List ℕ → Parsed Y) (number_of : Y → ℕ) → IsAbove one_above number_of → (count last : ℕ) (bytes : List ℕ) (ys : List Y) (rest : List ℕ) → rising_at one_above number_of count last bytes ≡ Ok (ys, rest) → IsRow number_of count last ys
+unfolding rising_at
+row_is one_above number_of one zero last bytes ys rest e = rw (← (parsed_is [] ys bytes rest e).0) (record { rises = tt; long = refl })
+row_is one_above number_of one (suc n) last bytes ys rest e =
+    after (one_above last bytes) (λ first. rising_at one_above number_of n (number_of first.0) first.1 >>= λ others. Ok (first.0 ∷ others.0, others.1)) (ys, rest) e (λ first mid e1 more.
+    after (rising_at one_above number_of n (number_of first) mid) (λ others. Ok (first ∷ others.0, others.1)) (ys, rest) more (λ others left e2 made.
+    let row = row_is one_above number_of one n (number_of first) mid others left e2 in
+    rw (← (parsed_is (first ∷ others) ys left rest made).0) (record { rises = (one.above last bytes first mid e1, row.rises); long = ap suc row.long })))
+
+pub numbers_above : (w : Width) → IsAbove (above_at w) (λ n. n)
+numbers_above w = record { above = λ last bytes y rest e. above_is w last bytes y rest e }
+
+pub are_requests : (count : ℕ) (bytes mid : List ℕ) (numbers rest : List ℕ) → up_to_at w8 64 bytes ≡ Ok (count, mid) → rising_at (above_at w32) (λ n. n) count 0 mid ≡ Ok (numbers, rest) → All IsNumber numbers → IsRequests numbers
+are_requests count bytes mid numbers rest e1 e2 each =
+    let row = row_is (above_at w32) (λ n. n) (numbers_above w32) count 0 mid numbers rest e2 in
+    record { few = omega (arith, up_to_is w8 64 bytes count mid e1, row.long); rising = pairs_rise (λ n. n) 0 numbers row.rises; each = each }
+
+pub are_processes : (count : ℕ) (bytes mid : List ℕ) (procs rest : List ℕ) → up_to_at w8 32 bytes ≡ Ok (count, mid) → rising_at (above_at w16) (λ n. n) count 0 mid ≡ Ok (procs, rest) → All IsProcess procs → IsProcesses procs
+are_processes count bytes mid procs rest e1 e2 each =
+    let row = row_is (above_at w16) (λ n. n) (numbers_above w16) count 0 mid procs rest e2 in
+    record { few = omega (arith, up_to_is w8 32 bytes count mid e1, row.long); rising = pairs_rise (λ n. n) 0 procs row.rises; each = each }

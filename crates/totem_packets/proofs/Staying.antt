@@ -1,0 +1,169 @@
+-- What a parser answers doesn't change by what follows, unless there were too few bytes; and a field's fault is Short or Range.
+use Rattle.std.specs.Prelude.{nat_lt, ◌==◌}
+use Rattle.std.specs.Int.{Width, w8, w16, w32, w64, byte_len}
+use Rattle.std.proofs.Common.{◌≡◌, ℕ, zero, suc, ◌≤◌, List, [], ◌++◌, length, take, drop, Bool, true, false, cond, Ok, Err, refl, arith}
+use Rattle.std.proofs.lemmas.Bool.{ltb-false, le-ltb}
+use Rattle.std.proofs.lemmas.List.{take-append-le, drop-append-le, length-append}
+use Rattle.totem_ids.specs.declared.message.Service.{Service}
+use Rattle.totem_ids.specs.declared.message.Service.TheVariants.{Agreed, Safe}
+use Rattle.totem_packets.specs.declared.commit.Round.TheVariants.{First, Second}
+use Rattle.totem_packets.specs.declared.fault.PacketFault.TheVariants.{Short, Range}
+use Rattle.totem_packets.specs.Parsing.{Parsed, ◌>>=◌}
+use Rattle.totem_packets.specs.Fields.{bytes_at, number_at, above_at, up_to_at, rising_at, ring_at, payload_at, maybe_at, list_at}
+use Rattle.totem_packets.specs.Grammar.{app_at, old_at, body_of, body_at, message_at, token_at, join_at, round_at, report_at, filled_at, maybe_report_at, member_at, members_at, commit_at, message_packet_at, token_packet_at, join_packet_at, commit_packet_at}
+use Rattle.totem_packets.proofs.Following.{Follows, HasFieldFault}
+
+-- a parser of one field or more
+pub record IsField {Y : Type 0} (parse : List ℕ → Parsed Y) : Type 0 where
+  pub stays : (bytes more : List ℕ) → Follows more (parse bytes) (parse (bytes ++ more))
+  pub fault : (bytes : List ℕ) → HasFieldFault (parse bytes)
+
+pub gives_field : {Y : Type 0} (y : Y) → IsField {Y = Y} (λ bytes. Ok (y, bytes))
+gives_field y = record { stays = λ bytes more. refl; fault = λ bytes. tt }
+
+pub range_field : {Y : Type 0} → IsField {Y = Y} (λ bytes. Err Range)
+range_field = record { stays = λ bytes more h. refl; fault = λ bytes. tt }
+
+pub bind_field : {A Y : Type 0} (sub : List ℕ → Parsed A) (k : A × List ℕ → Parsed Y) → IsField sub → ((a : A) → IsField (λ bytes. k (a, bytes))) → IsField (λ bytes. sub bytes >>= k)
+bind_field {A = A} {Y = Y} sub k first next = record {
+  stays = λ bytes more. go more (sub bytes) (sub (bytes ++ more)) (first.stays bytes more);
+  fault = λ bytes. own (sub bytes) (first.fault bytes);
+}
+  where
+    go : (more : List ℕ) (now later : Parsed A) → Follows more now later → Follows {Y = Y} more (now >>= k) (later >>= k)
+    go more (Ok x) later h = rw h ((next x.0).stays x.1 more)
+    go more (Err f) later h = λ long. rw (h long) refl
+
+    own : (now : Parsed A) → HasFieldFault now → HasFieldFault {Y = Y} (now >>= k)
+    own (Ok x) h = (next x.0).fault x.1
+    own (Err f) h = h
+
+pub cond_field : {Y : Type 0} (t : Bool) (p q : List ℕ → Parsed Y) → IsField p → IsField q → IsField (λ bytes. cond t (p bytes) (q bytes))
+cond_field true p q hp hq = record { stays = λ bytes more. hp.stays bytes more; fault = λ bytes. hp.fault bytes }
+cond_field false p q hp hq = record { stays = λ bytes more. hq.stays bytes more; fault = λ bytes. hq.fault bytes }
+
+bytes_field : (n : ℕ) → IsField (bytes_at n)
+unfolding bytes_at
+bytes_field n = record { stays = λ bytes more. go bytes more (nat_lt (length bytes) n) refl; fault = λ bytes. own bytes (nat_lt (length bytes) n) }
+  where
+    go : (bytes more : List ℕ) (t : Bool) → nat_lt (length bytes) n ≡ t
+        → Follows {Y = List ℕ} more (cond t (Err Short) (Ok (take n bytes, drop n bytes))) (cond (nat_lt (length (bytes ++ more)) n) (Err Short) (Ok (take n (bytes ++ more), drop n (bytes ++ more))))
+    go bytes more true e = λ long. absurd cc
+    go bytes more false e =
+        let long : n ≤ length bytes = ltb-false _ _ e in
+        let longer : nat_lt (length (bytes ++ more)) n ≡ false = le-ltb _ _ (omega (arith, length-append bytes more)) in
+        rw (longer, take-append-le n bytes more long, drop-append-le n bytes more long) refl
+
+    own : (bytes : List ℕ) (t : Bool) → HasFieldFault {Y = List ℕ} (cond t (Err Short) (Ok (take n bytes, drop n bytes)))
+    own bytes true = tt
+    own bytes false = tt
+
+pub number_field : (w : Width) → IsField (number_at w)
+unfolding number_at
+number_field w = bind_field _ _ (bytes_field (byte_len w)) (λ front. gives_field _)
+
+pub above_field : (w : Width) (least : ℕ) → IsField (above_at w least)
+unfolding above_at
+above_field w least = bind_field _ _ (number_field w) (λ n. cond_field _ _ _ (gives_field n) range_field)
+
+pub up_to_field : (w : Width) (most : ℕ) → IsField (up_to_at w most)
+unfolding up_to_at
+up_to_field w most = bind_field _ _ (number_field w) (λ n. cond_field _ _ _ (gives_field n) range_field)
+
+pub rising_field : {Y : Type 0} (one_above : ℕ → List ℕ → Parsed Y) (number_of : Y → ℕ) → ((last : ℕ) → IsField (one_above last)) → (count last : ℕ) → IsField (rising_at one_above number_of count last)
+unfolding rising_at
+rising_field one_above number_of one zero last = gives_field []
+rising_field one_above number_of one (suc n) last = bind_field _ _ (one last) (λ first. bind_field _ _ (rising_field one_above number_of one n (number_of first)) (λ others. gives_field _))
+
+pub ring_field : IsField ring_at
+unfolding ring_at
+ring_field = bind_field _ _ (above_field w32 0) (λ seq. bind_field _ _ (above_field w16 0) (λ rep. gives_field _))
+
+pub payload_field : IsField payload_at
+unfolding payload_at
+payload_field = bind_field _ _ (up_to_field w16 1024) (λ len. bytes_field len)
+
+pub maybe_field : IsField maybe_at
+unfolding maybe_at
+maybe_field = bind_field _ _ (number_field w16) (λ n. gives_field _)
+
+pub list_field : (w : Width) (most : ℕ) → IsField (list_at w most)
+unfolding list_at
+list_field w most = bind_field _ _ (up_to_field w8 most) (λ count. rising_field (above_at w) (λ n. n) (above_field w) count 0)
+
+-- ---- messages
+
+app_field : (service : Service) → IsField (app_at service)
+unfolding app_at
+app_field service = bind_field _ _ payload_field (λ payload. gives_field _)
+
+old_field : (service : Service) → IsField (old_at service)
+unfolding old_at
+old_field service = bind_field _ _ ring_field (λ ring. bind_field _ _ (above_field w32 0) (λ number. bind_field _ _ (above_field w16 0) (λ sender. bind_field _ _ payload_field (λ payload. gives_field _))))
+
+body_field : IsField body_at
+unfolding body_at body_of
+body_field = bind_field _ _ (number_field w8) (λ kind.
+    cond_field _ _ _ (app_field Agreed) (cond_field _ _ _ (app_field Safe) (cond_field _ _ _ (old_field Agreed) (cond_field _ _ _ (old_field Safe) (cond_field _ _ _ (gives_field _) range_field)))))
+
+pub message_field : IsField message_at
+unfolding message_at
+message_field = bind_field _ _ ring_field (λ ring. bind_field _ _ (above_field w32 0) (λ number. bind_field _ _ (above_field w16 0) (λ sender. bind_field _ _ body_field (λ body. gives_field _))))
+
+-- ---- tokens and joins
+
+pub token_field : IsField token_at
+unfolding token_at
+token_field = bind_field _ _ ring_field (λ ring. bind_field _ _ (above_field w64 0) (λ token_seq. bind_field _ _ (number_field w32) (λ seq. bind_field _ _ (number_field w32) (λ aru. bind_field _ _ maybe_field (λ aru_id. bind_field _ _ (list_field w32 64) (λ rtr. gives_field _))))))
+
+pub join_field : IsField join_at
+unfolding join_at
+join_field = bind_field _ _ (above_field w16 0) (λ sender. bind_field _ _ (above_field w32 0) (λ seq. bind_field _ _ (list_field w16 32) (λ processes. bind_field _ _ (list_field w16 32) (λ failed. gives_field _))))
+
+-- ---- commit tokens
+
+round_field : IsField round_at
+unfolding round_at
+round_field = bind_field _ _ (number_field w8) (λ round. cond_field (round == 1) _ _ (gives_field First) (cond_field (round == 2) _ _ (gives_field Second) range_field))
+
+report_field : IsField report_at
+unfolding report_at
+report_field = bind_field _ _ ring_field (λ ring. bind_field _ _ (number_field w32) (λ aru. bind_field _ _ (number_field w32) (λ delivered. bind_field _ _ (list_field w16 32) (λ obligation. gives_field _))))
+
+filled_field : IsField filled_at
+unfolding filled_at
+filled_field = bind_field _ _ report_field (λ report. gives_field _)
+
+maybe_report_field : IsField maybe_report_at
+unfolding maybe_report_at
+maybe_report_field = bind_field _ _ (number_field w8) (λ filled. cond_field _ _ _ (gives_field _) (cond_field _ _ _ filled_field range_field))
+
+member_field : (last : ℕ) → IsField (member_at last)
+unfolding member_at
+member_field last = bind_field _ _ (above_field w16 last) (λ proc. bind_field _ _ maybe_report_field (λ report. gives_field _))
+
+members_field : IsField members_at
+unfolding members_at
+members_field = bind_field _ _ (up_to_field w8 32) (λ count. cond_field _ _ _ range_field (rising_field member_at (λ m. m.proc) member_field count 0))
+
+pub commit_field : IsField commit_at
+unfolding commit_at
+commit_field = bind_field _ _ ring_field (λ ring. bind_field _ _ round_field (λ round. bind_field _ _ members_field (λ members. gives_field _)))
+
+-- ---- what the kinds of packets read
+
+pub message_packet_field : IsField message_packet_at
+unfolding message_packet_at
+message_packet_field = bind_field _ _ message_field (λ message. gives_field _)
+
+pub token_packet_field : IsField token_packet_at
+unfolding token_packet_at
+token_packet_field = bind_field _ _ token_field (λ token. gives_field _)
+
+pub join_packet_field : IsField join_packet_at
+unfolding join_packet_at
+join_packet_field = bind_field _ _ join_field (λ join. gives_field _)
+
+pub commit_packet_field : IsField commit_packet_at
+unfolding commit_packet_at
+commit_packet_field = bind_field _ _ commit_field (λ token. gives_field _)

@@ -1,0 +1,220 @@
+-- A commit token that is read is spelled so, and what is spelled so is read again.
+use Rattle.std.specs.Prelude.{◌==◌, IfSome}
+use Rattle.std.specs.Int.{w8, w16, w32}
+use Rattle.std.specs.List.{flat_map}
+use Rattle.std.proofs.Common.{◌≡◌, ℕ, ◌^◌, ◌<◌, List, ◌++◌, length, false, cond, Option, Some, None, Ok, Err, refl, sym, append_assoc, arith, inl, inr}
+use Rattle.std.proofs.lemmas.Bool.{eqb-true, eqb-false, ne_eqb}
+use Rattle.std.proofs.lemmas.List.Elements.{All-from_recursion, recursion_from_All}
+use Rattle.totem_packets.specs.declared.commit.CommitToken.{CommitToken}
+use Rattle.totem_packets.specs.declared.commit.Round.{Round}
+use Rattle.totem_packets.specs.declared.commit.Round.TheVariants.{First, Second}
+use Rattle.totem_packets.specs.declared.commit_member.CommitMember.{CommitMember}
+use Rattle.totem_packets.specs.declared.commit_member.Report.{Report}
+use Rattle.totem_packets.specs.declared.fault.PacketFault.TheVariants.{Range}
+use Rattle.totem_packets.specs.CommitMembers.{IsReport, IsCommitMember, IsCommitMembers}
+use Rattle.totem_packets.specs.Parsing.{Parsed, ◌>>=◌, AreBytes}
+use Rattle.totem_packets.specs.Fields.{number_at, above_at, up_to_at, rising_at, ring_at, list_at}
+use Rattle.totem_packets.specs.Grammar.{round_at, report_at, filled_at, maybe_report_at, member_at, members_at, commit_at}
+use Rattle.totem_packets.specs.Ranges.{IsCommitToken}
+use Rattle.totem_packets.specs.Spelling.{number_bytes, ring_bytes, list_bytes, report_bytes, member_bytes, round_number, commit_bytes}
+use Rattle.totem_packets.proofs.Steps.{after, taken, guard_then, guard_else, parsed_is}
+use Rattle.totem_packets.proofs.Chains.{pairs_rise, rise_from_pairs}
+use Rattle.totem_packets.proofs.Lists.{row_is}
+use Rattle.totem_packets.proofs.Members.{members_above}
+use Rattle.totem_packets.proofs.Taken.{Takes, then_takes, wide8, wide16, wide32, number_takes, number_again, above_takes, above_again, up_to_takes, up_to_again, ring_takes, ring_again}
+use Rattle.totem_packets.proofs.TakenLists.{IsReading, row_takes, row_again, processes_take, processes_again}
+
+-- ---- rounds
+
+round_of : (bytes : List ℕ) (n : ℕ) (mid : List ℕ) (r : Round) (rest : List ℕ) → Takes bytes (number_bytes w8 n) mid → cond {A = Parsed Round} (n == 1) (Ok (First, mid)) (cond (n == 2) (Ok (Second, mid)) (Err Range)) ≡ Ok (r, rest) → Takes bytes (number_bytes w8 (round_number r)) rest
+round_of bytes n mid r rest first e =
+    elim (taken (n == 1) (Ok (First, mid)) (cond (n == 2) (Ok (Second, mid)) (Err Range)) (Ok (r, rest)) e) [
+      | inl t ↦
+          let same = parsed_is First r mid rest t.1 in
+          let is : n ≡ 1 = eqb-true _ _ t.0 in
+          let one : Takes bytes (number_bytes w8 1) mid = rw is at first in
+          rw (← same.0, ← same.1) one
+      | inr t ↦
+          let u = guard_then (n == 2) (Ok (Second, mid)) Range (r, rest) t.1 in
+          let same = parsed_is Second r mid rest u.1 in
+          let is : n ≡ 2 = eqb-true _ _ u.0 in
+          let two : Takes bytes (number_bytes w8 2) mid = rw is at first in
+          rw (← same.0, ← same.1) two
+    ]
+
+round_takes : (bytes : List ℕ) (r : Round) (rest : List ℕ) → AreBytes bytes → round_at bytes ≡ Ok (r, rest) → Takes bytes (number_bytes w8 (round_number r)) rest
+unfolding round_at
+round_takes bytes r rest fits e =
+    after (number_at w8 bytes) (λ round. cond (round.0 == 1) (Ok (First, round.1)) (cond (round.0 == 2) (Ok (Second, round.1)) (Err Range))) (r, rest) e (λ n mid e1 more.
+    round_of bytes n mid r rest (number_takes w8 (2 ^ 8) wide8 bytes n mid fits e1).0 more)
+
+round_again : (r : Round) (rest : List ℕ) → round_at (number_bytes w8 (round_number r) ++ rest) ≡ Ok (r, rest)
+unfolding round_at
+round_again First rest = rw (number_again w8 (2 ^ 8) wide8 1 rest (omega arith)) refl
+round_again Second rest = rw (number_again w8 (2 ^ 8) wide8 2 rest (omega arith)) refl
+
+-- ---- reports
+
+-- the fields of a report
+abbrev fields_of : Report → List ℕ
+fields_of r = ring_bytes r.ring ++ (number_bytes w32 r.aru ++ (number_bytes w32 r.delivered ++ list_bytes w16 r.obligation))
+
+pub record IsReportRead (bytes : List ℕ) (r : Report) (rest : List ℕ) : Type 0 where
+  pub takes : Takes bytes (fields_of r) rest
+  pub fits : IsReport r
+
+report_takes : (bytes : List ℕ) (r : Report) (rest : List ℕ) → AreBytes bytes → report_at bytes ≡ Ok (r, rest) → IsReportRead bytes r rest
+unfolding report_at
+report_takes bytes r rest fits e =
+    after (ring_at bytes) (λ ring. number_at w32 ring.1 >>= λ aru. number_at w32 aru.1 >>= λ delivered. list_at w16 32 delivered.1 >>= λ obligation. Ok (record { ring = ring.0; aru = aru.0; delivered = delivered.0; obligation = obligation.0 }, obligation.1)) (r, rest) e (λ ring m1 e1 t1.
+    after (number_at w32 m1) (λ aru. number_at w32 aru.1 >>= λ delivered. list_at w16 32 delivered.1 >>= λ obligation. Ok (record { ring = ring; aru = aru.0; delivered = delivered.0; obligation = obligation.0 }, obligation.1)) (r, rest) t1 (λ aru m2 e2 t2.
+    after (number_at w32 m2) (λ delivered. list_at w16 32 delivered.1 >>= λ obligation. Ok (record { ring = ring; aru = aru; delivered = delivered.0; obligation = obligation.0 }, obligation.1)) (r, rest) t2 (λ delivered m3 e3 t3.
+    after (list_at w16 32 m3) (λ obligation. Ok (record { ring = ring; aru = aru; delivered = delivered; obligation = obligation.0 }, obligation.1)) (r, rest) t3 (λ obligation left e4 made.
+    let read : Report = record { ring = ring; aru = aru; delivered = delivered; obligation = obligation } in
+    let same = parsed_is read r left rest made in
+    let f1 = ring_takes bytes ring m1 fits e1 in
+    let f2 = number_takes w32 (2 ^ 32) wide32 m1 aru m2 f1.takes.rest_fits e2 in
+    let f3 = number_takes w32 (2 ^ 32) wide32 m2 delivered m3 f2.0.rest_fits e3 in
+    let f4 = processes_take m3 obligation left f3.0.rest_fits e4 in
+    rw (← same.0, ← same.1) (record {
+      takes = then_takes _ _ _ _ _ f1.takes (then_takes _ _ _ _ _ f2.0 (then_takes _ _ _ _ _ f3.0 f4.takes));
+      fits = record { ring = f1.fits; aru = f2.1; delivered = f3.1; obligation = f4.fits };
+    })))))
+
+report_again : (r : Report) (rest : List ℕ) → IsReport r → report_at (ring_bytes r.ring ++ (number_bytes w32 r.aru ++ (number_bytes w32 r.delivered ++ (list_bytes w16 r.obligation ++ rest)))) ≡ Ok (r, rest)
+unfolding report_at
+report_again r rest fits =
+    let t4 : List ℕ = list_bytes w16 r.obligation ++ rest in
+    let t3 : List ℕ = number_bytes w32 r.delivered ++ t4 in
+    let t2 : List ℕ = number_bytes w32 r.aru ++ t3 in
+    rw (
+      ring_again r.ring t2 fits.ring,
+      number_again w32 (2 ^ 32) wide32 r.aru t3 fits.aru,
+      number_again w32 (2 ^ 32) wide32 r.delivered t4 fits.delivered,
+      processes_again r.obligation rest fits.obligation,
+    ) refl
+
+pub record IsMaybeReportRead (bytes : List ℕ) (o : Option Report) (rest : List ℕ) : Type 0 where
+  pub takes : Takes bytes (report_bytes o) rest
+  pub fits : IfSome o IsReport
+
+no_report_takes : (bytes : List ℕ) (n : ℕ) (mid : List ℕ) (o : Option Report) (rest : List ℕ) → Takes bytes (number_bytes w8 n) mid → n ≡ 0 → ◌≡◌ {A = Parsed (Option Report)} (Ok (None, mid)) (Ok (o, rest)) → IsMaybeReportRead bytes o rest
+unfolding report_bytes
+no_report_takes bytes n mid o rest first is e =
+    let same = parsed_is None o mid rest e in
+    let whole : Takes bytes (number_bytes w8 0) mid = rw is at first in
+    rw (← same.0, ← same.1) (record { takes = whole; fits = tt })
+
+filled_takes : (bytes : List ℕ) (n : ℕ) (mid : List ℕ) (o : Option Report) (rest : List ℕ) → Takes bytes (number_bytes w8 n) mid → n ≡ 1 → filled_at mid ≡ Ok (o, rest) → IsMaybeReportRead bytes o rest
+unfolding filled_at report_bytes
+filled_takes bytes n mid o rest first is e =
+    after (report_at mid) (λ report. Ok (Some report.0, report.1)) (o, rest) e (λ report left e1 made.
+    let same = parsed_is (Some report) o left rest made in
+    let f = report_takes mid report left first.rest_fits e1 in
+    let whole : Takes bytes (number_bytes w8 1 ++ fields_of report) left = rw is at (then_takes _ _ _ _ _ first f.takes) in
+    let regrouped : number_bytes w8 1 ++ fields_of report ≡ number_bytes w8 1 ++ ring_bytes report.ring ++ number_bytes w32 report.aru ++ number_bytes w32 report.delivered ++ list_bytes w16 report.obligation = sym (simp append_assoc) in
+    rw (← same.0, ← same.1) (record { takes = rw regrouped at whole; fits = f.fits }))
+
+maybe_report_takes : (bytes : List ℕ) (o : Option Report) (rest : List ℕ) → AreBytes bytes → maybe_report_at bytes ≡ Ok (o, rest) → IsMaybeReportRead bytes o rest
+unfolding maybe_report_at
+maybe_report_takes bytes o rest fits e =
+    after (number_at w8 bytes) (λ filled. cond (filled.0 == 0) (Ok (None, filled.1)) (cond (filled.0 == 1) (filled_at filled.1) (Err Range))) (o, rest) e (λ n mid e1 more.
+    let first = (number_takes w8 (2 ^ 8) wide8 bytes n mid fits e1).0 in
+    elim (taken (n == 0) (Ok (None, mid)) (cond (n == 1) (filled_at mid) (Err Range)) (Ok (o, rest)) more) [
+      | inl t ↦ no_report_takes bytes n mid o rest first (eqb-true _ _ t.0) t.1
+      | inr t ↦ let u = guard_then (n == 1) (filled_at mid) Range (o, rest) t.1 in filled_takes bytes n mid o rest first (eqb-true _ _ u.0) u.1
+    ])
+
+maybe_report_again : (o : Option Report) (rest : List ℕ) → IfSome o IsReport → maybe_report_at (report_bytes o ++ rest) ≡ Ok (o, rest)
+unfolding maybe_report_at filled_at report_bytes
+maybe_report_again None rest fits = rw (number_again w8 (2 ^ 8) wide8 0 rest (omega arith)) refl
+maybe_report_again (Some r) rest fits =
+    let tail : List ℕ = ring_bytes r.ring ++ (number_bytes w32 r.aru ++ (number_bytes w32 r.delivered ++ (list_bytes w16 r.obligation ++ rest))) in
+    let regrouped : (number_bytes w8 1 ++ ring_bytes r.ring ++ number_bytes w32 r.aru ++ number_bytes w32 r.delivered ++ list_bytes w16 r.obligation) ++ rest ≡ number_bytes w8 1 ++ tail = simp append_assoc in
+    rw (regrouped, number_again w8 (2 ^ 8) wide8 1 tail (omega arith), report_again r rest fits) refl
+
+-- ---- members
+
+member_takes : (last : ℕ) (bytes : List ℕ) (m : CommitMember) (rest : List ℕ) → AreBytes bytes → member_at last bytes ≡ Ok (m, rest) → Takes bytes (member_bytes m) rest × IsCommitMember m
+unfolding member_at member_bytes
+member_takes last bytes m rest fits e =
+    after (above_at w16 last bytes) (λ proc. maybe_report_at proc.1 >>= λ report. Ok (record { proc = proc.0; report = report.0 }, report.1)) (m, rest) e (λ proc mid e1 more.
+    after (maybe_report_at mid) (λ report. Ok (record { proc = proc; report = report.0 }, report.1)) (m, rest) more (λ report left e2 made.
+    let read : CommitMember = record { proc = proc; report = report } in
+    let same = parsed_is read m left rest made in
+    let f1 = above_takes w16 (2 ^ 16) wide16 last bytes proc mid fits e1 in
+    let f2 = maybe_report_takes mid report left f1.takes.rest_fits e2 in
+    rw (← same.0, ← same.1) (then_takes _ _ _ _ _ f1.takes f2.takes, record { proc = record { positive = omega (arith, f1.above); small = omega (arith, f1.small) }; report = f2.fits })))
+
+member_again : (last : ℕ) (m : CommitMember) (rest : List ℕ) → IsCommitMember m → last < m.proc → member_at last (member_bytes m ++ rest) ≡ Ok (m, rest)
+unfolding member_at member_bytes
+member_again last m rest fits above =
+    let regrouped : (number_bytes w16 m.proc ++ report_bytes m.report) ++ rest ≡ number_bytes w16 m.proc ++ (report_bytes m.report ++ rest) = simp append_assoc in
+    rw (
+      regrouped,
+      above_again w16 (2 ^ 16) wide16 last m.proc (report_bytes m.report ++ rest) (omega (arith, fits.proc.small)) above,
+      maybe_report_again m.report rest fits.report,
+    ) refl
+
+member_reading : IsReading member_at (λ m. m.proc) member_bytes IsCommitMember
+member_reading = record { takes = member_takes; again = member_again }
+
+pub record AreMembersRead (bytes : List ℕ) (ms : List CommitMember) (rest : List ℕ) : Type 0 where
+  pub takes : Takes bytes (number_bytes w8 (length ms) ++ flat_map member_bytes ms) rest
+  pub fits : IsCommitMembers ms
+
+members_take : (bytes : List ℕ) (ms : List CommitMember) (rest : List ℕ) → AreBytes bytes → members_at bytes ≡ Ok (ms, rest) → AreMembersRead bytes ms rest
+unfolding members_at
+members_take bytes ms rest fits e =
+    after (up_to_at w8 32 bytes) (λ count. cond (count.0 == 0) (Err Range) (rising_at member_at (λ m. m.proc) count.0 0 count.1)) (ms, rest) e (λ count mid e1 more.
+    let t = guard_else (count == 0) (rising_at member_at (λ m. m.proc) count 0 mid) Range (ms, rest) more in
+    let f = up_to_takes w8 (2 ^ 8) wide8 32 bytes count mid fits e1 in
+    let g = row_takes member_at (λ m. m.proc) member_bytes IsCommitMember member_reading count 0 mid ms rest f.takes.rest_fits t.1 in
+    let row = row_is member_at (λ m. m.proc) members_above count 0 mid ms rest t.1 in
+    record {
+      takes = rw row.long (then_takes _ _ _ _ _ f.takes g.takes);
+      fits = record {
+        some = omega (arith, row.long, eqb-false _ _ t.0);
+        few = omega (arith, row.long, f.few);
+        rising = pairs_rise (λ m. m.proc) 0 ms row.rises;
+        each = All-from_recursion IsCommitMember ms g.fits;
+      };
+    })
+
+members_again : (ms : List CommitMember) (rest : List ℕ) → IsCommitMembers ms → members_at (number_bytes w8 (length ms) ++ (flat_map member_bytes ms ++ rest)) ≡ Ok (ms, rest)
+unfolding members_at
+members_again ms rest fits =
+    let test : (length ms == 0) ≡ false = ne_eqb _ _ (λ e. omega (arith, fits.some, e)) in
+    rw (up_to_again w8 (2 ^ 8) wide8 32 (length ms) (flat_map member_bytes ms ++ rest) (omega (arith, fits.few)) fits.few, test)
+    (row_again member_at (λ m. m.proc) member_bytes IsCommitMember member_reading 0 ms rest
+    (rise_from_pairs (λ m. m.proc) 0 ms (λ k d within. (fits.each k d within).proc.positive) fits.rising)
+    (recursion_from_All IsCommitMember ms fits.each))
+
+-- ---- commit tokens
+
+pub record IsCommitRead (bytes : List ℕ) (t : CommitToken) (rest : List ℕ) : Type 0 where
+  pub takes : Takes bytes (commit_bytes t) rest
+  pub fits : IsCommitToken t
+
+pub commit_takes : (bytes : List ℕ) (t : CommitToken) (rest : List ℕ) → AreBytes bytes → commit_at bytes ≡ Ok (t, rest) → IsCommitRead bytes t rest
+unfolding commit_at commit_bytes
+commit_takes bytes t rest fits e =
+    after (ring_at bytes) (λ ring. round_at ring.1 >>= λ round. members_at round.1 >>= λ members. Ok (record { ring = ring.0; round = round.0; members = members.0 }, members.1)) (t, rest) e (λ ring m1 e1 t1.
+    after (round_at m1) (λ round. members_at round.1 >>= λ members. Ok (record { ring = ring; round = round.0; members = members.0 }, members.1)) (t, rest) t1 (λ round m2 e2 t2.
+    after (members_at m2) (λ members. Ok (record { ring = ring; round = round; members = members.0 }, members.1)) (t, rest) t2 (λ members left e3 made.
+    let read : CommitToken = record { ring = ring; round = round; members = members } in
+    let same = parsed_is read t left rest made in
+    let f1 = ring_takes bytes ring m1 fits e1 in
+    let f2 = round_takes m1 round m2 f1.takes.rest_fits e2 in
+    let f3 = members_take m2 members left f2.rest_fits e3 in
+    let whole : Takes bytes ((ring_bytes ring ++ number_bytes w8 (round_number round)) ++ (number_bytes w8 (length members) ++ flat_map member_bytes members)) left = then_takes _ _ _ _ _ (then_takes _ _ _ _ _ f1.takes f2) f3.takes in
+    let regrouped : (ring_bytes ring ++ number_bytes w8 (round_number round)) ++ (number_bytes w8 (length members) ++ flat_map member_bytes members) ≡ ring_bytes ring ++ number_bytes w8 (round_number round) ++ number_bytes w8 (length members) ++ flat_map member_bytes members = sym (append_assoc (ring_bytes ring ++ number_bytes w8 (round_number round)) (number_bytes w8 (length members)) (flat_map member_bytes members)) in
+    rw (← same.0, ← same.1) (record { takes = rw regrouped at whole; fits = record { ring = f1.fits; members = f3.fits } }))))
+
+pub commit_again : (t : CommitToken) (rest : List ℕ) → IsCommitToken t → commit_at (commit_bytes t ++ rest) ≡ Ok (t, rest)
+unfolding commit_at commit_bytes
+commit_again t rest fits =
+    let t3 : List ℕ = number_bytes w8 (length t.members) ++ (flat_map member_bytes t.members ++ rest) in
+    let t2 : List ℕ = number_bytes w8 (round_number t.round) ++ t3 in
+    let regrouped : (ring_bytes t.ring ++ number_bytes w8 (round_number t.round) ++ number_bytes w8 (length t.members) ++ flat_map member_bytes t.members) ++ rest ≡ ring_bytes t.ring ++ t2 = simp append_assoc in
+    rw (regrouped, ring_again t.ring t2 fits.ring, round_again t.round t3, members_again t.members rest fits.members) refl

@@ -1,0 +1,12 @@
+use Rattle.std.specs.Prelude.{All}
+use Rattle.std.specs.Int.{w16}
+use Rattle.totem_ids.specs.Texts.{IsProcess}
+use Rattle.totem_packets.specs.Fields.{above_at, rising_at}
+use Rattle.totem_packets.proofs.Repeats.{IsReadTo}
+use Rattle.totem_packets.proofs.read_lists.processes.Given as goal
+
+abbrev pub invariant-loop : goal.invariant-loop
+invariant-loop l = record {
+  so_far : IsReadTo (above_at w16) (λ n. n) l.procs.items l.count l.counter l.last l.reader (rising_at (above_at w16) (λ n. n) l.count 0 l.fn.reader);
+  each : All IsProcess l.procs.items;
+}

@@ -1,0 +1,8 @@
+use Rattle.std.proofs.Common.{◌≡◌, ◌++◌, take, length}
+use Rattle.std.specs.Int.{w8, w16}
+use Rattle.std.specs.List.{flat_map}
+use Rattle.totem_packets.specs.Spelling.{number_bytes}
+use Rattle.totem_packets.proofs.writing.put_process_set.Given as goal
+
+abbrev pub invariant-loop-proc : goal.invariant-loop-proc
+invariant-loop-proc l = l.out.items ≡ l.fn.out.items ++ number_bytes w8 (length l.procs) ++ flat_map (number_bytes w16) (take l.proc-index l.procs)

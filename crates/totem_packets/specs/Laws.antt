@@ -1,0 +1,29 @@
+-- What holds of the bytes of packets (docs/PROTOCOL.md, "Packets").
+use Rattle.std.specs.Prelude.{◌≡◌, ℕ, ◌<◌, List, [], ◌∷◌, ◌++◌, Err, ◌⊎◌}
+use Rattle.totem_packets.specs.declared.fault.PacketFault.TheVariants.{Short, Range}
+use Rattle.totem_packets.specs.declared.packet.Packet as packet
+use Rattle.totem_packets.specs.Grammar.{decode_packet}
+use Rattle.totem_packets.specs.Ranges.{IsPacket}
+use Rattle.totem_packets.specs.Spelling.{packet_bytes}
+
+-- the first byte is none of 1 to 4
+abbrev pub IsOfNoKind : List ℕ → Type 0
+IsOfNoKind [] = ⊥
+IsOfNoKind (kind ∷ rest) = (kind ≡ 0) ⊎ (4 < kind)
+
+-- a packet's spelling, and one byte or more behind it
+pub record HasMore (bytes : List ℕ) : Type 0 where
+  pub packet : packet.Packet
+  pub byte : ℕ
+  pub rest : List ℕ
+  pub fits : IsPacket packet
+  pub whole : bytes ≡ packet_bytes packet ++ byte ∷ rest
+
+-- up to a byte nothing is wrong, and with it a field has a value that is not allowed, whatever follows
+pub record IsFirstWrong (bytes : List ℕ) : Type 0 where
+  pub front : List ℕ
+  pub byte : ℕ
+  pub rest : List ℕ
+  pub whole : bytes ≡ front ++ byte ∷ rest
+  pub before : decode_packet front ≡ Err Short
+  pub wrong : (more : List ℕ) → decode_packet (front ++ byte ∷ more) ≡ Err Range

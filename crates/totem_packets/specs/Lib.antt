@@ -1,0 +1,11 @@
+pub mod Lists
+pub mod Payload
+pub mod Rising
+pub mod CommitMembers
+pub mod Ranges
+pub mod PacketFaults
+pub mod Spelling
+pub mod Parsing
+pub mod Fields
+pub mod Grammar
+pub mod Laws

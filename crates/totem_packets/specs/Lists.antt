@@ -1,0 +1,20 @@
+-- Lists that keep a rule, and what is wrong with those that don't (docs/PROTOCOL.md, "Packets").
+use Rattle.std.specs.Prelude.{◌≡◌, ℕ, ◌+◌, ◌<◌, ◌≤◌, List, [], length, take, AllPairs}
+use Rattle.totem_packets.specs.declared.refused.ListFault.{ListFault}
+use Rattle.totem_packets.specs.declared.refused.ListFault.TheVariants.{Empty, TooMany, NotRising}
+
+-- the elements before `at` rise, and with the one at `at` they don't
+pub record FallsAt {X : Type 0} (Below : X → X → Type 0) (xs : List X) (at : ℕ) : Type 0 where
+  pub within : at < length xs
+  pub before : AllPairs Below (take at xs)
+  pub falls : AllPairs Below (take (at + 1) xs) → ⊥
+
+-- the first rule of a rising list of least to greatest elements that this list breaks
+abbrev pub Refuses : {X : Type 0} → ℕ → ℕ → (X → X → Type 0) → List X → ListFault → Type 0
+Refuses least greatest Below xs Empty = (0 < least) × (xs ≡ [])
+Refuses least greatest Below xs (TooMany limit) = (limit ≡ greatest) × (greatest < length xs)
+Refuses least greatest Below xs (NotRising at) = (length xs ≤ greatest) × FallsAt Below xs at
+
+-- each element is above each other
+abbrev pub Anyhow : {X : Type 0} → X → X → Type 0
+Anyhow a b = Unit {0}

@@ -1,0 +1,32 @@
+-- What a parser of packets answers, and what a reader of packets answers beside it.
+use Rattle.std.specs.Prelude.{◌≡◌, ◌≢◌, ℕ, ◌<◌, List, slice_index, Result, Ok, Err}
+use Rattle.totem_packets.specs.declared.fault.PacketFault.{PacketFault}
+use Rattle.totem_packets.specs.declared.fault.PacketFault.TheVariants.{Memory}
+
+-- a value and the bytes behind it, or a fault
+abbrev pub Parsed : Type 0 → Type 0
+Parsed Y = Result (Y × List ℕ) PacketFault
+
+-- one thing after the other
+infixl 10 ◌>>=◌
+abbrev pub ◌>>=◌ : {A B : Type 0} → Result A PacketFault → (A → Result B PacketFault) → Result B PacketFault
+(Ok x) >>= f = f x
+(Err e) >>= f = Err e
+
+-- the parser gives this fault, unless memory was refused
+pub record Fails {Y : Type 0} (fault : PacketFault) (parsed : Result Y PacketFault) : Type 0 where
+  pub is : fault ≢ Memory → parsed ≡ Err fault
+
+-- what was answered is what the parser gives, want of memory aside
+abbrev pub Gives : {Y : Type 0} → Result Y PacketFault → Result Y PacketFault → Type 0
+Gives (Ok y) parsed = parsed ≡ Ok y
+Gives (Err fault) parsed = Fails fault parsed
+
+-- what a reader answered, seen by `view`, and what it left are what the parser gives, want of memory aside
+abbrev pub Reads : {X Y : Type 0} → (X → Y) → Result X PacketFault → List ℕ → Parsed Y → Type 0
+Reads view (Ok x) left parsed = parsed ≡ Ok (view x, left)
+Reads view (Err fault) left parsed = Fails fault parsed
+
+-- each number is a byte
+abbrev pub AreBytes : List ℕ → Type 0
+AreBytes bytes = (i : ℕ) → slice_index bytes i < 256

@@ -1,0 +1,32 @@
+ghost use Rattle.std.specs.Prelude.{◌≡◌, IfOk};
+
+use crate::commit_members::CommitMembers;
+use std::alloc::{AllocError, Global};
+use totem_ids::RingId;
+
+/// How often a commit token goes round: once to be filled in, and once filled.
+#[derive(Clone, Copy, Debug, PartialEq, Eq, PartialOrd, Ord, Hash)]
+pub enum Round {
+    First,
+    Second,
+}
+
+/// The commit token: it forms a ring of its members.
+#[derive(Debug, Drop)]
+pub struct CommitToken {
+    pub ring: RingId,
+    pub round: Round,
+    pub members: CommitMembers,
+}
+
+impl CommitToken {
+    pub fn try_clone(&self, alloc: Global) -> Result<CommitToken, AllocError>
+        ensures { IfOk result (λ t. t ≡ self.now) }
+    {
+        Ok(CommitToken {
+            ring: self.ring,
+            round: self.round,
+            members: self.members.try_clone(alloc)?,
+        })
+    }
+}

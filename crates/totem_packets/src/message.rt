@@ -1,0 +1,77 @@
+ghost use Rattle.std.specs.Prelude.{◌≡◌, IfOk};
+
+use crate::number::Number;
+use crate::payload::Payload;
+use std::alloc::AllocError;
+use totem_ids::{ProcId, RingId, Service};
+
+/// What a message says.
+#[derive(Debug, Drop)]
+pub enum Body {
+    /// What a client asked to send.
+    App {
+        service: Service,
+        payload: Payload,
+    },
+    /// A message of an older ring, sent again on this one.
+    Old {
+        ring: RingId,
+        number: Number,
+        sender: ProcId,
+        service: Service,
+        payload: Payload,
+    },
+    /// The sender has sent all its old messages.
+    Mark,
+}
+
+/// A message of a ring.
+#[derive(Debug, Drop)]
+pub struct Message {
+    pub ring: RingId,
+    pub number: Number,
+    pub sender: ProcId,
+    pub body: Body,
+}
+
+impl Body {
+    /// A copy that shares the payload and takes no memory; it fails only where the count of owners is full.
+    pub fn try_clone(&self) -> Result<Body, AllocError>
+        ensures { IfOk result (λ b. b ≡ self.now) }
+    {
+        Ok(match self {
+            Body::App { service, payload } => Body::App {
+                service: *service,
+                payload: payload.try_clone()?,
+            },
+            Body::Old {
+                ring,
+                number,
+                sender,
+                service,
+                payload,
+            } => Body::Old {
+                ring: *ring,
+                number: *number,
+                sender: *sender,
+                service: *service,
+                payload: payload.try_clone()?,
+            },
+            Body::Mark => Body::Mark,
+        })
+    }
+}
+
+impl Message {
+    /// A copy that shares the payload and takes no memory; it fails only where the count of owners is full.
+    pub fn try_clone(&self) -> Result<Message, AllocError>
+        ensures { IfOk result (λ m. m ≡ self.now) }
+    {
+        Ok(Message {
+            ring: self.ring,
+            number: self.number,
+            sender: self.sender,
+            body: self.body.try_clone()?,
+        })
+    }
+}

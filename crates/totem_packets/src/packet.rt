@@ -1,0 +1,64 @@
+ghost use Rattle.std.specs.Prelude.{◌≡◌, IfOk};
+
+use crate::commit::CommitToken;
+use crate::decoding::decode;
+use crate::encoding::encode;
+use crate::fault::PacketFault;
+use crate::join::Join;
+use crate::message::Message;
+use crate::ranges::keeps_its_ranges;
+use crate::token::Token;
+use std::alloc::{AllocError, Global};
+
+/// What nodes send to each other.
+#[derive(Debug, Drop)]
+pub enum Packet {
+    Message(Message),
+    Token(Token),
+    Join(Join),
+    Commit(CommitToken),
+}
+
+impl Packet {
+    ghost use Rattle.std.specs.Prelude.{◌≡◌, Ok, IfOk};
+    ghost use Rattle.totem_packets.specs.Grammar.{decode_packet};
+    ghost use Rattle.totem_packets.specs.Parsing.{Gives};
+    ghost use Rattle.totem_packets.specs.Ranges.{IsPacket};
+    ghost use Rattle.totem_packets.specs.Spelling.{packet_bytes};
+
+    /// The bytes of the packet.
+    #[tactic(auto, using(crate::proofs::Decided::spelled_read))]
+    pub fn encode(&self, alloc: Global) -> Result<Vec<u8>, AllocError>
+        ensures spelled { IfOk result (λ bytes. bytes.items ≡ packet_bytes self.now) }
+        // What is encoded is decoded.
+        ensures read { IfOk result (λ bytes. decode_packet bytes.items ≡ Ok self.now) }
+        ensures range { IsPacket self.now }
+    {
+        keeps_its_ranges(self);
+        encode(alloc, self)
+    }
+
+    /// The packet that all these bytes spell, or the first fault from left to right.
+    #[tactic(auto, using(crate::proofs::Decided::spelled_read, crate::proofs::Decided::found))]
+    pub fn decode(alloc: Global, bytes: &[u8]) -> Result<Packet, PacketFault>
+        // What is decoded is spelled so, and is in range.
+        ensures spelled { IfOk result (λ packet. IsPacket packet × (bytes.now ≡ packet_bytes packet)) }
+        // What is spelled so is decoded, unless memory is refused.
+        ensures read { (packet : Packet) → IsPacket packet → bytes.now ≡ packet_bytes packet → Gives result (Ok packet) }
+        // Each fault is the grammar's, unless memory is refused.
+        ensures exact { Gives result (decode_packet bytes.now) }
+    {
+        decode(alloc, bytes)
+    }
+
+    pub fn try_clone(&self, alloc: Global) -> Result<Packet, AllocError>
+        ensures { IfOk result (λ p. p ≡ self.now) }
+    {
+        Ok(match self {
+            Packet::Message(message) => Packet::Message(message.try_clone()?),
+            Packet::Token(token) => Packet::Token(token.try_clone(alloc)?),
+            Packet::Join(join) => Packet::Join(join.try_clone(alloc)?),
+            Packet::Commit(token) => Packet::Commit(token.try_clone(alloc)?),
+        })
+    }
+}

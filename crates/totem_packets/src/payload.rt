@@ -1,0 +1,76 @@
+ghost use Rattle.std.specs.Prelude.{◌≡◌, ◌≤◌, ◌<◌, length, IfOk, MatchResult};
+ghost use Rattle.totem_packets.specs.Lists.{Refuses, Anyhow};
+ghost use Rattle.totem_packets.specs.Payload.{IsPayload};
+
+use crate::refused::{ListFault, Refused};
+use bytes::Bytes;
+use std::alloc::AllocError;
+use std::marker::Model;
+
+/// How many bytes a message may carry.
+const MOST: usize = 1_024;
+
+/// The bytes that a message carries: 0 to 1,024. Copies share them.
+#[derive(Debug, Drop)]
+pub struct Payload {
+    bytes: Bytes,
+}
+
+impl Model for Payload {
+    ghost use Rattle.std.specs.Prelude.{ℕ, List};
+    ghost use Rattle.totem_packets.specs.Payload.{IsPayload};
+
+    ghost Value = { List ℕ };
+
+    ghost view = { λ p. p.bytes };
+
+    ghost invariant = { λ p. IsPayload p.bytes };
+}
+
+impl Payload {
+    /// The payload of these bytes; a refusal gives them back.
+    pub fn new(bytes: Bytes) -> Result<Payload, Refused<Bytes>>
+        ensures { MatchResult result (λ p. (p ≡ bytes) × IsPayload bytes)
+            (λ r. (r.value ≡ bytes) × Refuses 0 1024 Anyhow bytes r.fault) }
+    {
+        if bytes.len() > MOST {
+            return Err(Refused {
+                fault: ListFault::TooMany(MOST),
+                value: bytes,
+            });
+        }
+        Ok(Payload { bytes })
+    }
+
+    /// The payload of bytes that are known not to be too many.
+    pub fn of(bytes: Bytes) -> Payload
+        requires { IsPayload bytes }
+        ensures { result ≡ bytes }
+    {
+        Payload { bytes }
+    }
+
+    pub fn as_slice(&self) -> &[u8]
+        ensures value { result.now ≡ self.now }
+        ensures payload { IsPayload self.now }
+    {
+        self.bytes.as_slice()
+    }
+
+    /// The bytes, without taking memory.
+    pub fn into_bytes(self) -> Bytes
+        ensures { result ≡ self }
+    {
+        let Payload { bytes } = self;
+        bytes
+    }
+
+    /// A copy that shares the bytes and takes no memory; it fails only where the count of owners is full.
+    pub fn try_clone(&self) -> Result<Payload, AllocError>
+        ensures { IfOk result (λ p. p ≡ self.now) }
+    {
+        Ok(Payload {
+            bytes: self.bytes.clone()?,
+        })
+    }
+}

@@ -1,0 +1,80 @@
+ghost use Rattle.std.specs.Prelude.{◌≡◌, ◌<◌, ◌^◌, All, IfOk, MatchResult};
+ghost use Rattle.totem_packets.specs.Lists.{Refuses};
+ghost use Rattle.totem_packets.specs.Rising.{IsBelow, IsProcesses};
+
+use crate::refused::{ListFault, Refused};
+use crate::rising::first_fall;
+use std::alloc::{AllocError, Global};
+use std::marker::Model;
+use totem_ids::ProcId;
+
+/// How many processes a set may have.
+const MOST: usize = 32;
+
+/// A set of processes: 0 to 32, strictly rising.
+#[derive(Debug, Drop)]
+pub struct Processes {
+    procs: Vec<ProcId>,
+}
+
+impl Model for Processes {
+    ghost use Rattle.std.specs.Prelude.{ℕ, List};
+    ghost use Rattle.totem_packets.specs.Rising.{IsProcesses};
+
+    ghost Value = { List ℕ };
+
+    ghost view = { λ p. p.procs.items };
+
+    ghost invariant = { λ p. IsProcesses p.procs.items };
+}
+
+impl Processes {
+    /// The set of these processes; a refusal gives the list back.
+    pub fn new(procs: Vec<ProcId>) -> Result<Processes, Refused<Vec<ProcId>>>
+        ensures { MatchResult result (λ p. (p ≡ procs.items) × IsProcesses procs.items)
+            (λ r. (r.value.items ≡ procs.items) × Refuses 0 32 IsBelow procs.items r.fault) }
+    {
+        let fault = if procs.len() > MOST {
+            ListFault::TooMany(MOST)
+        } else if let Some(at) = first_fall(&procs) {
+            ListFault::NotRising(at)
+        } else {
+            return Ok(Processes { procs });
+        };
+        Err(Refused {
+            fault,
+            value: procs,
+        })
+    }
+
+    /// The set of processes that are known to keep the rules.
+    pub fn of(procs: Vec<ProcId>) -> Processes
+        requires { IsProcesses procs.items }
+        ensures { result ≡ procs.items }
+    {
+        Processes { procs }
+    }
+
+    pub fn as_slice(&self) -> &[ProcId]
+        ensures value { result.now ≡ self.now }
+        ensures processes { IsProcesses self.now }
+    {
+        &self.procs
+    }
+
+    /// The processes, without taking memory.
+    pub fn into_vec(self) -> Vec<ProcId>
+        ensures { result.items ≡ self }
+    {
+        let Processes { procs } = self;
+        procs
+    }
+
+    pub fn try_clone(&self, alloc: Global) -> Result<Processes, AllocError>
+        ensures { IfOk result (λ p. p ≡ self.now) }
+    {
+        Ok(Processes {
+            procs: self.procs.to_vec(alloc)?,
+        })
+    }
+}

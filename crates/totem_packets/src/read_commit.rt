@@ -1,0 +1,108 @@
+//! Commit tokens, read from left to right.
+ghost use Rattle.std.specs.Prelude.{All, IfOk};
+ghost use Rattle.totem_packets.specs.CommitMembers.{IsCommitMember};
+ghost use Rattle.totem_packets.specs.Fields.{rising_at};
+ghost use Rattle.totem_packets.specs.Grammar.{round_at, report_at, filled_at, maybe_report_at, member_at, members_at, commit_at};
+ghost use Rattle.totem_packets.specs.Parsing.{Reads};
+
+use crate::commit::{CommitToken, Round};
+use crate::commit_member::{CommitMember, Report};
+use crate::commit_members::CommitMembers;
+use crate::fault::PacketFault;
+use crate::read_lists::process_set;
+use crate::reader::Reader;
+use std::alloc::Global;
+
+#[tactic(auto, using(crate::proofs::Falling::passes_on), unfolding(crate::specs::Grammar::round_at))]
+fn round(reader: &mut Reader) -> Result<Round, PacketFault>
+    ensures { Reads (λ x. x) result reader.new (round_at reader.old) }
+{
+    match reader.u8()? {
+        1 => Ok(Round::First),
+        2 => Ok(Round::Second),
+        _ => Err(PacketFault::Range),
+    }
+}
+
+#[tactic(auto, using(crate::proofs::Falling::passes_on), unfolding(crate::specs::Grammar::report_at))]
+fn report(alloc: Global, reader: &mut Reader) -> Result<Report, PacketFault>
+    ensures { Reads (λ x. x) result reader.new (report_at reader.old) }
+{
+    let ring = reader.ring()?;
+    let aru = reader.u32()?;
+    let delivered = reader.u32()?;
+    let obligation = process_set(alloc, reader)?;
+    Ok(Report {
+        ring,
+        aru,
+        delivered,
+        obligation,
+    })
+}
+
+#[tactic(auto, using(crate::proofs::Falling::passes_on), unfolding(crate::specs::Grammar::maybe_report_at, crate::specs::Grammar::filled_at))]
+fn maybe_report(alloc: Global, reader: &mut Reader) -> Result<Option<Report>, PacketFault>
+    ensures { Reads (λ x. x) result reader.new (maybe_report_at reader.old) }
+{
+    match reader.u8()? {
+        0 => Ok(None),
+        1 => Ok(Some(report(alloc, reader)?)),
+        _ => Err(PacketFault::Range),
+    }
+}
+
+/// A member whose process is above this one.
+#[tactic(auto, using(crate::proofs::Falling::passes_on), unfolding(crate::specs::Grammar::member_at))]
+fn member(alloc: Global, reader: &mut Reader, least: u16) -> Result<CommitMember, PacketFault>
+    ensures { Reads (λ x. x) result reader.new (member_at least reader.old) }
+{
+    let proc = reader.process(least)?;
+    let report = maybe_report(alloc, reader)?;
+    Ok(CommitMember { proc, report })
+}
+
+/// That many rising members.
+fn member_list(
+    alloc: Global,
+    reader: &mut Reader,
+    count: u8,
+) -> Result<Vec<CommitMember>, PacketFault>
+    ensures reads { Reads (λ x. x.items) result reader.new (rising_at member_at (λ m. m.proc) count 0 reader.old) }
+    ensures each { IfOk result (λ x. All IsCommitMember x.items) }
+{
+    let mut list = Vec::with_capacity(alloc, usize::from(count))?;
+    let mut last = 0u16;
+    for _ in 0..count {
+        let member = member(alloc, reader, last)?;
+        member.keeps_its_rule();
+        last = member.proc.number();
+        list.push(member)?;
+    }
+    Ok(list)
+}
+
+#[tactic(auto, using(crate::proofs::Falling::passes_on, crate::proofs::Members::are_members), unfolding(crate::specs::Grammar::members_at))]
+fn members(alloc: Global, reader: &mut Reader) -> Result<CommitMembers, PacketFault>
+    ensures { Reads (λ x. x) result reader.new (members_at reader.old) }
+{
+    let count = reader.count(32)?;
+    if count == 0 {
+        return Err(PacketFault::Range);
+    }
+    let list = member_list(alloc, reader, count)?;
+    Ok(CommitMembers::of(list))
+}
+
+#[tactic(auto, using(crate::proofs::Falling::passes_on), unfolding(crate::specs::Grammar::commit_at))]
+pub fn commit_token(alloc: Global, reader: &mut Reader) -> Result<CommitToken, PacketFault>
+    ensures { Reads (λ x. x) result reader.new (commit_at reader.old) }
+{
+    let ring = reader.ring()?;
+    let round = round(reader)?;
+    let members = members(alloc, reader)?;
+    Ok(CommitToken {
+        ring,
+        round,
+        members,
+    })
+}

@@ -1,0 +1,29 @@
+use std::error::Error;
+use std::fmt;
+use thiserror::Error as ThisError;
+
+/// The first rule of a list that is broken. Elements count from 0.
+#[derive(Clone, Copy, Debug, PartialEq, Eq, ThisError)]
+pub enum ListFault {
+    #[error("there is none")]
+    Empty,
+    #[error("there are more than {0}")]
+    TooMany(usize),
+    #[error("the one at index {0} is not above the one before")]
+    NotRising(usize),
+}
+
+/// A value that was not taken, given back with the rule that it breaks.
+#[derive(Debug, Drop)]
+pub struct Refused<V> {
+    pub fault: ListFault,
+    pub value: V,
+}
+
+impl<V> fmt::Display for Refused<V> {
+    fn fmt<W: fmt::Write>(&self, f: &mut fmt::Formatter<W>) -> fmt::Result {
+        write!(f, "{}", self.fault)
+    }
+}
+
+impl<V: fmt::Debug + Drop> Error for Refused<V> {}

@@ -1,0 +1,80 @@
+ghost use Rattle.std.specs.Prelude.{◌≡◌, ◌<◌, ◌^◌, All, IfOk, MatchResult};
+ghost use Rattle.totem_packets.specs.Lists.{Refuses};
+ghost use Rattle.totem_packets.specs.Rising.{IsBelow, IsRequests};
+
+use crate::number::Number;
+use crate::refused::{ListFault, Refused};
+use crate::rising::first_fall;
+use std::alloc::{AllocError, Global};
+use std::marker::Model;
+
+/// How many numbers a token may ask for.
+const MOST: usize = 64;
+
+/// The numbers that a token asks for: 0 to 64, strictly rising.
+#[derive(Debug, Drop)]
+pub struct Requests {
+    numbers: Vec<Number>,
+}
+
+impl Model for Requests {
+    ghost use Rattle.std.specs.Prelude.{ℕ, List};
+    ghost use Rattle.totem_packets.specs.Rising.{IsRequests};
+
+    ghost Value = { List ℕ };
+
+    ghost view = { λ r. r.numbers.items };
+
+    ghost invariant = { λ r. IsRequests r.numbers.items };
+}
+
+impl Requests {
+    /// The requests for these numbers; a refusal gives the list back.
+    pub fn new(numbers: Vec<Number>) -> Result<Requests, Refused<Vec<Number>>>
+        ensures { MatchResult result (λ q. (q ≡ numbers.items) × IsRequests numbers.items)
+            (λ r. (r.value.items ≡ numbers.items) × Refuses 0 64 IsBelow numbers.items r.fault) }
+    {
+        let fault = if numbers.len() > MOST {
+            ListFault::TooMany(MOST)
+        } else if let Some(at) = first_fall(&numbers) {
+            ListFault::NotRising(at)
+        } else {
+            return Ok(Requests { numbers });
+        };
+        Err(Refused {
+            fault,
+            value: numbers,
+        })
+    }
+
+    /// The requests for numbers that are known to keep the rules.
+    pub fn of(numbers: Vec<Number>) -> Requests
+        requires { IsRequests numbers.items }
+        ensures { result ≡ numbers.items }
+    {
+        Requests { numbers }
+    }
+
+    pub fn as_slice(&self) -> &[Number]
+        ensures value { result.now ≡ self.now }
+        ensures requests { IsRequests self.now }
+    {
+        &self.numbers
+    }
+
+    /// The numbers, without taking memory.
+    pub fn into_vec(self) -> Vec<Number>
+        ensures { result.items ≡ self }
+    {
+        let Requests { numbers } = self;
+        numbers
+    }
+
+    pub fn try_clone(&self, alloc: Global) -> Result<Requests, AllocError>
+        ensures { IfOk result (λ r. r ≡ self.now) }
+    {
+        Ok(Requests {
+            numbers: self.numbers.to_vec(alloc)?,
+        })
+    }
+}

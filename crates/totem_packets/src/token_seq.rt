@@ -1,0 +1,46 @@
+ghost use Rattle.std.specs.Prelude.{◌≡◌, ℕ, ◌<◌, MatchOption};
+
+use std::marker::Model;
+
+/// How often a token was passed on: from 1 to 18446744073709551615.
+#[derive(Clone, Copy, Debug, PartialEq, Eq, PartialOrd, Ord, Hash)]
+pub struct TokenSeq {
+    value: u64,
+}
+
+impl Model for TokenSeq {
+    ghost Value = { ℕ };
+
+    ghost view = { λ n. n.value };
+
+    ghost invariant = { λ n. 0 < n.value };
+
+    ghost inverse = { λ n. record { value = n } };
+}
+
+impl TokenSeq {
+    /// The count of this value; none is 0.
+    pub fn new(value: u64) -> Option<TokenSeq>
+        ensures { MatchOption result (value ≡ 0) (λ n. n ≡ value) }
+    {
+        if value == 0 {
+            return None;
+        }
+        Some(TokenSeq { value })
+    }
+
+    /// The count of a value that is known not to be 0.
+    pub fn of(value: u64) -> TokenSeq
+        requires { 0 < value }
+        ensures { result ≡ value }
+    {
+        TokenSeq { value }
+    }
+
+    pub fn get(self) -> u64
+        ensures value { result ≡ self }
+        ensures positive { 0 < result }
+    {
+        self.value
+    }
+}
