@@ -24,3 +24,4 @@ pub mod Waits
 pub mod Adding
 pub mod Pend
 pub mod PendOrder
+pub mod Pacing

@@ -10,4 +10,5 @@ pub mod Search
 pub mod Causality
 pub mod Gaps
 pub mod Partings
+pub mod Pace
 pub mod Findings

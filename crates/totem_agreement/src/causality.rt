@@ -9,6 +9,7 @@ ghost use Rattle.totem_agreement.specs.Acts.{IsAmong};
 ghost use Rattle.totem_agreement.specs.Search.{IsInside};
 ghost use Rattle.totem_agreement.specs.Causality.{IsOneSurprise, IsEffect};
 
+use crate::pace::is_causal;
 use crate::search::{Finder, Relation, first_found, least, least_list, only};
 use crate::stay::Stay;
 use crate::stays::Stays;
@@ -130,5 +131,8 @@ impl Relation for Causes<'_, '_> {
 pub fn find(alloc: Global, stays: &Stays) -> Result<Option<Places>, AllocError>
     ensures { IfOk result (FindsIn stays.now.run.now.logs stays.now.ring SpecNo.Causality) }
 {
+    if is_causal(stays) {
+        return Ok(None);
+    }
     least(&Causes { stays }, alloc, stays)
 }

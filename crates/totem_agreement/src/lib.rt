@@ -12,6 +12,7 @@ mod gap;
 mod installed;
 mod kept;
 mod own;
+mod pace;
 mod pass;
 mod pendings;
 mod safety;

@@ -108,6 +108,10 @@ fn requests_rise(rt: HostRuntime) -> Result<(), Fail> {
         return Err("65 numbers were taken".into());
     };
     assert_eq!(rt; refused.fault, ListFault::TooMany(64));
+    assert_eq!(rt;
+        format!(in alloc; "{refused}")?.as_str(),
+        "there are more than 64"
+    );
     Ok(())
 }
 
