@@ -15,3 +15,5 @@ pub mod TakenTokens
 pub mod TakenCommits
 pub mod TakenPackets
 pub mod Decided
+pub mod SetFacts
+pub mod OldRingFacts

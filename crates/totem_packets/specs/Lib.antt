@@ -9,3 +9,5 @@ pub mod Parsing
 pub mod Fields
 pub mod Grammar
 pub mod Laws
+pub mod Sets
+pub mod OldRings

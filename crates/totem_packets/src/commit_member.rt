@@ -25,7 +25,7 @@ pub struct CommitMember {
 
 impl Report {
     /// The types of its parts keep the ranges, and this passes it on.
-    pub(crate) fn keeps_its_rule(&self)
+    pub fn keeps_its_rule(&self)
         ensures { IsReport self.now }
     {
         ring_fits(&self.ring);
@@ -48,7 +48,7 @@ impl Report {
 
 impl CommitMember {
     /// The types of its parts keep the ranges, and this passes it on.
-    pub(crate) fn keeps_its_rule(&self)
+    pub fn keeps_its_rule(&self)
         ensures { IsCommitMember self.now }
     {
         let _proc = self.proc.number();

@@ -13,6 +13,7 @@ mod join;
 mod laws;
 mod message;
 mod number;
+mod old_rings;
 mod packet;
 mod payload;
 mod processes;
@@ -24,6 +25,10 @@ mod reader;
 mod refused;
 mod requests;
 mod rising;
+mod set_fault;
+#[cfg(test)]
+mod set_tests;
+mod sets;
 #[cfg(test)]
 mod tests;
 mod token;
@@ -49,5 +54,6 @@ pub use payload::Payload;
 pub use processes::Processes;
 pub use refused::{ListFault, Refused};
 pub use requests::Requests;
+pub use set_fault::SetFault;
 pub use token::Token;
 pub use token_seq::TokenSeq;

@@ -9,7 +9,7 @@ use std::marker::Model;
 use totem_ids::ProcId;
 
 /// How many processes a set may have.
-const MOST: usize = 32;
+pub const MOST: usize = 32;
 
 /// A set of processes: 0 to 32, strictly rising.
 #[derive(Debug, Drop)]

@@ -1,0 +1,206 @@
+-- What a gathering keeps: who failed is known, and I have not failed.
+use Rattle.std.proofs.Common.{◌≡◌, ℕ, ◌<◌, ◌≤◌, ◌==◌, ◌&&◌, ⊎_elim, true, false, not, List, [], length, filter, refl, sym, ◌∙◌, ap, arith, Result, Ok, Err}
+use Rattle.std.specs.Prelude.{nat_lt}
+use Rattle.std.proofs.lemmas.Bool.{eq-eqb, eqb-true, eqb-false, ne_eqb, ltb-false, not-true, not-false, and_parts, and_from, and_right, or_cases, or_parts, or_from, or_left, or_right}
+use Rattle.totem_packets.specs.declared.join.Join.{Join}
+use Rattle.totem_packets.specs.declared.set_fault.SetFault.{SetFault}
+use Rattle.totem_packets.specs.declared.set_fault.SetFault.TheVariants.{TooMany, Memory}
+use Rattle.totem_member.specs.declared.join_sets.Sets.{Sets}
+use Rattle.totem_packets.specs.Rising.{IsProcesses}
+use Rattle.totem_packets.specs.Sets.{has, is_within, with_process, union, Makes}
+use Rattle.totem_packets.proofs.SetFacts.{Up, up_of, up_with, up_union, has_with, has_union, part_is}
+use Rattle.totem_member.specs.Gathers.{Gather, IsGather, IsStanding, gathered, agrees, is_stranger, turning_away, joined}
+use Rattle.totem_member.proofs.Within.{IsPart, part_of, within_from, no_longer, above, has_filter}
+
+-- a Join that is taken
+pub record IsTaken (g : Gather) (j : Join) : Type 0 where
+  pub other : j.sender ≡ g.me → ⊥
+  pub sender : has j.processes j.sender ≡ true
+  pub known : is_within j.failed j.processes ≡ true
+  pub few : length (union g.sets.processes j.processes) ≤ 32
+
+pub taken : (g : Gather) (j : Join) → is_stranger g j ≡ false → IsTaken g j
+taken g j e =
+    let f = or_parts _ (nat_lt 32 (length (union g.sets.processes j.processes))) e in
+    let e5 = or_parts _ (not (is_within j.failed j.processes)) f.0 in
+    let d = or_parts _ (has g.sets.failed j.sender) e5.0 in
+    let c = or_parts _ (has j.failed j.sender) d.0 in
+    let b = or_parts (j.sender == g.me) (not (has j.processes j.sender)) c.0 in
+    record {
+      other = eqb-false j.sender g.me b.0;
+      sender = not-false (has j.processes j.sender) b.1;
+      known = not-false (is_within j.failed j.processes) e5.1;
+      few = ltb-false 32 (length (union g.sets.processes j.processes)) f.1;
+    }
+
+-- there is room for a set of at most 32
+pub room : (made : Result (List ℕ) SetFault) (set : List ℕ) → Makes made set → length set ≤ 32 → made ≡ Err TooMany → ⊥
+room (Ok p) set makes few e = cc
+room (Err TooMany) set makes few e = omega (arith, makes, few)
+room (Err Memory) set makes few e = cc
+
+-- ---- a process more on both sides
+
+with_part : (s : ℕ) (ps qs : List ℕ) → Up 0 ps → Up 0 qs → IsPart ps qs → IsPart (with_process ps s) (with_process qs s)
+with_part s ps qs up others part = record {
+  had = λ x e.
+      has_with s 0 qs x others
+      ∙ ⊎_elim
+      (λ old. or_left (has qs x) (s == x) (part.had x old))
+      (λ here. or_right (has qs x) (s == x) here)
+      (or_cases (has ps x) (s == x) (sym (has_with s 0 ps x up) ∙ e));
+}
+
+union_part : (ps fs qs gs : List ℕ) → Up 0 ps → Up 0 fs → Up 0 qs → Up 0 gs → IsPart fs ps → IsPart gs qs → IsPart (union fs gs) (union ps qs)
+union_part ps fs qs gs p f q g mine theirs = record {
+  had = λ x e.
+      has_union ps 0 qs x p q
+      ∙ ⊎_elim
+      (λ old. or_left (has ps x) (has qs x) (mine.had x old))
+      (λ new. or_right (has ps x) (has qs x) (theirs.had x new))
+      (or_cases (has fs x) (has gs x) (sym (has_union fs 0 gs x f g) ∙ e));
+}
+
+-- one of those more is within all
+with_in_union : (s : ℕ) (ps qs : List ℕ) → Up 0 ps → Up 0 qs → has qs s ≡ true → IsPart (with_process ps s) (union ps qs)
+with_in_union s ps qs up others there = record {
+  had = λ x e.
+      has_union ps 0 qs x up others
+      ∙ ⊎_elim
+      (λ old. or_left (has ps x) (has qs x) old)
+      (λ here. or_right (has ps x) (has qs x) (ap (has qs) (sym (eqb-true s x here)) ∙ there))
+      (or_cases (has ps x) (s == x) (sym (has_with s 0 ps x up) ∙ e));
+}
+
+-- ---- hearing a Join
+
+-- what hearing a Join comes to: there is room for its sets, and they keep the rules
+pub record IsHeard (me : ℕ) (s : Sets) : Type 0 where
+  pub processes : length s.processes ≤ 32
+  pub failed : length s.failed ≤ 32
+  pub standing : IsStanding me s
+
+pub turned : (g : Gather) (j : Join) → IsGather g → IsProcesses j.processes → is_stranger g j ≡ false → IsHeard g.me (turning_away g.sets j)
+turned g j is others not_stranger = record {
+  processes = few;
+  failed = omega (arith, few, no_longer 0 0 (with_process g.sets.failed j.sender) (with_process g.sets.processes j.sender) (up_with j.sender 0 g.sets.failed some fs) (up_with j.sender 0 g.sets.processes some ps) part);
+  standing = record {
+    known = within_from (with_process g.sets.failed j.sender) (with_process g.sets.processes j.sender) part;
+    mine = has_with j.sender 0 g.sets.processes g.me ps ∙ or_left (has g.sets.processes g.me) (j.sender == g.me) is.standing.mine;
+    standing = ap not (has_with j.sender 0 g.sets.failed g.me fs ∙ or_from (has g.sets.failed g.me) (j.sender == g.me) (not-true (has g.sets.failed g.me) is.standing.standing) (ne_eqb j.sender g.me join.other));
+  };
+}
+  where
+    join : IsTaken g j
+    join = taken g j not_stranger
+
+    ps : Up 0 g.sets.processes
+    ps = up_of g.sets.processes is.processes
+
+    fs : Up 0 g.sets.failed
+    fs = up_of g.sets.failed is.failed
+
+    qs : Up 0 j.processes
+    qs = up_of j.processes others
+
+    some : 0 < j.sender
+    some = above 0 j.processes j.sender qs join.sender
+
+    part : IsPart (with_process g.sets.failed j.sender) (with_process g.sets.processes j.sender)
+    part = with_part j.sender g.sets.failed g.sets.processes fs ps (part_of g.sets.failed g.sets.processes is.standing.known)
+
+    few : length (with_process g.sets.processes j.sender) ≤ 32
+    few = omega (arith, join.few, no_longer 0 0 (with_process g.sets.processes j.sender) (union g.sets.processes j.processes) (up_with j.sender 0 g.sets.processes some ps) (up_union g.sets.processes 0 j.processes ps qs) (with_in_union j.sender g.sets.processes j.processes ps qs join.sender))
+
+pub heard : (g : Gather) (j : Join) → IsGather g → IsProcesses j.processes → IsProcesses j.failed → is_stranger g j ≡ false → has j.failed g.me ≡ false → IsHeard g.me (joined g.sets j)
+heard g j is others gone not_stranger still = record {
+  processes = join.few;
+  failed = omega (arith, join.few, no_longer 0 0 (union g.sets.failed j.failed) (union g.sets.processes j.processes) (up_union g.sets.failed 0 j.failed fs gs) (up_union g.sets.processes 0 j.processes ps qs) part);
+  standing = record {
+    known = within_from (union g.sets.failed j.failed) (union g.sets.processes j.processes) part;
+    mine = has_union g.sets.processes 0 j.processes g.me ps qs ∙ or_left (has g.sets.processes g.me) (has j.processes g.me) is.standing.mine;
+    standing = ap not (has_union g.sets.failed 0 j.failed g.me fs gs ∙ or_from (has g.sets.failed g.me) (has j.failed g.me) (not-true (has g.sets.failed g.me) is.standing.standing) still);
+  };
+}
+  where
+    join : IsTaken g j
+    join = taken g j not_stranger
+
+    ps : Up 0 g.sets.processes
+    ps = up_of g.sets.processes is.processes
+
+    fs : Up 0 g.sets.failed
+    fs = up_of g.sets.failed is.failed
+
+    qs : Up 0 j.processes
+    qs = up_of j.processes others
+
+    gs : Up 0 j.failed
+    gs = up_of j.failed gone
+
+    part : IsPart (union g.sets.failed j.failed) (union g.sets.processes j.processes)
+    part = union_part g.sets.processes g.sets.failed j.processes j.failed ps fs qs gs (part_of g.sets.failed g.sets.processes is.standing.known) (part_of j.failed j.processes join.known)
+
+-- ---- a timeout
+
+pub given_up : (g : Gather) → IsGather g → IsHeard g.me (record { processes = g.sets.processes; failed = union g.sets.failed (filter (λ p. not (agrees g p)) (gathered g)) })
+given_up g is = record {
+  processes = is.processes.few;
+  failed = omega (arith, is.processes.few, no_longer 0 0 (union g.sets.failed late) g.sets.processes (up_union g.sets.failed 0 late fs ls) ps part);
+  standing = record {
+    known = within_from (union g.sets.failed late) g.sets.processes part;
+    mine = is.standing.mine;
+    standing = ap not (has_union g.sets.failed 0 late g.me fs ls ∙ or_from (has g.sets.failed g.me) (has late g.me) (not-true (has g.sets.failed g.me) is.standing.standing) i_agree);
+  };
+}
+  where
+    late : List ℕ
+    late = filter (λ p. not (agrees g p)) (gathered g)
+
+    ps : Up 0 g.sets.processes
+    ps = up_of g.sets.processes is.processes
+
+    fs : Up 0 g.sets.failed
+    fs = up_of g.sets.failed is.failed
+
+    ls : Up 0 late
+    ls = up_of late (part_is (λ p. not (agrees g p)) (gathered g) (part_is (λ p. not (has g.sets.failed p)) g.sets.processes is.processes))
+
+    late_is : (x : ℕ) → has late x ≡ ((has g.sets.processes x && not (has g.sets.failed x)) && not (agrees g x))
+    late_is x = has_filter (λ p. not (agrees g p)) (gathered g) x ∙ ap (λ b. b && not (agrees g x)) (has_filter (λ p. not (has g.sets.failed p)) g.sets.processes x)
+
+    part : IsPart (union g.sets.failed late) g.sets.processes
+    part = record {
+      had = λ x e.
+          ⊎_elim
+          (λ old. (part_of g.sets.failed g.sets.processes is.standing.known).had x old)
+          (λ new. (and_parts (has g.sets.processes x) (not (has g.sets.failed x)) (and_parts (has g.sets.processes x && not (has g.sets.failed x)) (not (agrees g x)) (sym (late_is x) ∙ new)).0).0)
+          (or_cases (has g.sets.failed x) (has late x) (sym (has_union g.sets.failed 0 late x fs ls) ∙ e));
+    }
+
+    i_agree : has late g.me ≡ false
+    i_agree = late_is g.me ∙ and_right (has g.sets.processes g.me && not (has g.sets.failed g.me)) (not (agrees g g.me)) (ap not (or_left (g.me == g.me) _ (eq-eqb g.me g.me refl)))
+
+-- ---- who is gathered
+
+-- I am
+pub gathered_has_me : (g : Gather) → IsGather g → has (gathered g) g.me ≡ true
+gathered_has_me g is = has_filter (λ p. not (has g.sets.failed p)) g.sets.processes g.me ∙ and_from (has g.sets.processes g.me) (not (has g.sets.failed g.me)) is.standing.mine is.standing.standing
+
+-- a gathering begins so
+pub begins : (me : ℕ) (base : List ℕ) → IsProcesses base → IsStanding me (record { processes = with_process base me; failed = [] })
+begins me base is = record {
+  known = refl;
+  mine = has_with me 0 base me (up_of base is) ∙ or_right (has base me) (me == me) (eq-eqb me me refl);
+  standing = refl;
+}
+
+-- what was made is the set
+pub made_is : (made : Result (List ℕ) SetFault) (p set : List ℕ) → made ≡ Ok p → Makes made set → p ≡ set
+made_is (Ok q) p set e makes = let first = makes.0 in cc
+made_is (Err TooMany) p set e makes = cc
+made_is (Err Memory) p set e makes = cc
+
+-- and stands as the set does
+pub standing_so : (me : ℕ) (s : Sets) (ps fs : List ℕ) → ps ≡ s.processes → fs ≡ s.failed → IsStanding me s → IsStanding me (record { processes = ps; failed = fs })
+standing_so me s ps fs same gone stands = rw (same, gone) stands

@@ -1,0 +1,3 @@
+pub mod FilledMembers
+pub mod Within
+pub mod GatherFacts

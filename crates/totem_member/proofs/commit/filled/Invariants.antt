@@ -1,0 +1,6 @@
+use Rattle.std.proofs.Common.{◌≡◌, take, map}
+use Rattle.totem_member.specs.Commits.{filled_by}
+use Rattle.totem_member.proofs.commit.filled.Given as goal
+
+abbrev pub invariant-loop-member : goal.invariant-loop-member
+invariant-loop-member l = l.filled.items ≡ map (filled_by l.proc l.report) (take l.member-index l.list)

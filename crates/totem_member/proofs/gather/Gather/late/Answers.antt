@@ -1,0 +1,10 @@
+use Rattle.std.proofs.Common.{not}
+use Rattle.std.proofs.lemmas.List.{take_all}
+use Rattle.totem_packets.proofs.SetFacts.{part_is}
+use Rattle.totem_member.specs.Gathers.{agrees}
+use Rattle.totem_member.proofs.gather.Gather.late.Goals as goal
+
+pub of-requires : goal.of-requires
+of-requires c =
+    rw (c.loop-proc.invariant, take_all c.loop-proc.proc-index c.as_slice-proc-items.result.now c.loop-proc-test.false, c.as_slice-proc-items.ensures.value)
+    (part_is (λ p. not (agrees c.args.self.now p)) c.args.members.now c.as_slice-proc-items.ensures.processes)

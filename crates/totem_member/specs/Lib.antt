@@ -1,0 +1,4 @@
+pub mod Gathers
+pub mod Commits
+pub mod MemberFaults
+pub mod Steps

@@ -1,0 +1,63 @@
+//! Why a step of membership was refused.
+ghost use Rattle.std.specs.Prelude.{◌≡◌};
+ghost use Rattle.totem_member.specs.declared.fault.MemberFault.TheVariants.{Memory};
+ghost use Rattle.totem_member.specs.MemberFaults.{fault_number, fault_name};
+
+use std::alloc::{AllocError, AllocFailed};
+use thiserror::Error;
+
+/// Why a step of membership was refused.
+#[derive(Clone, Copy, Debug, PartialEq, Eq, Error)]
+pub enum MemberFault {
+    #[error("its sender can't be gathered with")]
+    Stranger,
+    #[error("it is of another gathering, or was taken before")]
+    Stale,
+    /// The number of the new ring would pass its greatest value, or the obligation union 32 processes.
+    #[error("a value is out of range")]
+    Range,
+    #[error("out of memory")]
+    Memory,
+}
+
+impl MemberFault {
+    /// Its number, from 1 on in the order above.
+    pub fn number(&self) -> u8
+        ensures { result ≡ fault_number self.now }
+    {
+        match self {
+            MemberFault::Stranger => 1,
+            MemberFault::Stale => 2,
+            MemberFault::Range => 3,
+            MemberFault::Memory => 4,
+        }
+    }
+
+    /// Its name.
+    pub fn name(&self) -> &'static str
+        ensures { result.now ≡ fault_name self.now }
+    {
+        match self {
+            MemberFault::Stranger => "Stranger",
+            MemberFault::Stale => "Stale",
+            MemberFault::Range => "Range",
+            MemberFault::Memory => "Memory",
+        }
+    }
+}
+
+impl From<AllocError> for MemberFault {
+    ghost from_gives = { λ _ e. e ≡ Memory };
+
+    fn from(_e: AllocError) -> MemberFault {
+        MemberFault::Memory
+    }
+}
+
+impl<T: Drop> From<AllocFailed<T>> for MemberFault {
+    ghost from_gives = { λ _ e. e ≡ Memory };
+
+    fn from(e: AllocFailed<T>) -> MemberFault {
+        MemberFault::from(AllocError::from(e))
+    }
+}

@@ -1,0 +1,324 @@
+ghost use Rattle.std.specs.Prelude.{◌≡◌, IfOk, IfSome, IsTrue, false, not, filter, ◌==◌};
+ghost use Rattle.std.specs.List.{list_all};
+ghost use Rattle.totem_packets.specs.Sets.{has};
+ghost use Rattle.totem_packets.specs.declared.set_fault.SetFault.TheVariants.{TooMany};
+ghost use Rattle.totem_member.specs.Gathers.{join, gathered, agrees, consensus, is_stranger, after_join, after_timeout, noted_equal, on_join, on_timeout, IsGather, IsStanding};
+ghost use Rattle.totem_member.specs.Steps.{IsStep, Begins};
+
+use crate::fault::MemberFault;
+use crate::join_sets::{Noted, Sets};
+use crate::views::GatherOut;
+use std::alloc::{AllocError, Global};
+use std::marker::Model;
+use totem_ids::ProcId;
+use totem_packets::{Join, Number, Processes, SetFault};
+
+/// How many processes may gather.
+const MOST: usize = 32;
+
+/// A process that looks for others to form a ring with.
+#[derive(Debug, Drop)]
+pub struct Gather {
+    me: ProcId,
+    sets: Sets,
+    seq: Number,
+    noted: Vec<Noted>,
+}
+
+impl Model for Gather {
+    ghost use Rattle.totem_member.specs.Gathers.{Gather as Gathering, IsStanding};
+
+    ghost Value = { Gathering };
+
+    ghost view = { λ g. record { me = g.me; sets = g.sets; seq = g.seq; noted = g.noted.items } };
+
+    ghost invariant = { λ g. IsStanding g.me g.sets };
+}
+
+/// A set for which there is room, so that only memory can lack.
+fn with_room(made: Result<Processes, SetFault>) -> Result<Processes, AllocError>
+    requires { made ≡ Err TooMany → ⊥ }
+    ensures { IfOk result (λ p. made ≡ Ok p) }
+{
+    match made {
+        Ok(set) => Ok(set),
+        Err(SetFault::TooMany) => unreachable!(),
+        Err(SetFault::Memory) => Err(AllocError),
+    }
+}
+
+/// Whether the sets that this process told last are these.
+fn noted_equal(noted: &[Noted], proc: ProcId, sets: &Sets) -> bool
+    ensures { result ≡ noted_equal noted.now proc sets.now }
+{
+    noted
+        .iter()
+        .any(|note| note.proc == proc && note.sets.are(sets))
+}
+
+/// A copy of each.
+fn noted_all(alloc: Global, noted: &[Noted]) -> Result<Vec<Noted>, AllocError>
+    ensures { IfOk result (λ v. v.items ≡ noted.now) }
+{
+    let mut list = Vec::with_capacity(alloc, noted.len())?;
+    for note in noted {
+        list.push(note.try_clone(alloc)?)?;
+    }
+    Ok(list)
+}
+
+/// What was noted of all but this process.
+fn noted_of_others(alloc: Global, noted: &[Noted], proc: ProcId) -> Result<Vec<Noted>, AllocError>
+    ensures { IfOk result (λ v. v.items ≡ filter (λ n. not (n.proc == proc)) noted.now) }
+{
+    let mut list = Vec::new(alloc);
+    for note in noted {
+        if note.proc != proc {
+            list.push(note.try_clone(alloc)?)?;
+        }
+    }
+    Ok(list)
+}
+
+impl Gather {
+    /// A gathering of these processes and me, of whom nobody was heard yet; TooMany where they are more than 32.
+    pub fn new(alloc: Global, me: ProcId, base: &Processes, seq: Number) -> Result<Gather, SetFault>
+        ensures { Begins result me base.now seq }
+    {
+        Ok(Gather {
+            me,
+            sets: Sets {
+                processes: base.with(alloc, me)?,
+                failed: Processes::none(alloc),
+            },
+            seq,
+            noted: Vec::new(alloc),
+        })
+    }
+
+    pub fn try_clone(&self, alloc: Global) -> Result<Gather, AllocError>
+        ensures { IfOk result (λ g. g ≡ self.now) }
+    {
+        Ok(Gather {
+            me: self.me,
+            sets: self.sets.try_clone(alloc)?,
+            seq: self.seq,
+            noted: noted_all(alloc, &self.noted)?,
+        })
+    }
+
+    /// The type keeps this, and this passes it on.
+    fn keeps_its_rule(&self)
+        ensures { IsGather self.now }
+    {
+        let _ = &self.sets;
+        let _ = self.sets.processes.as_slice();
+        let _ = self.sets.failed.as_slice();
+    }
+
+    pub fn me(&self) -> ProcId
+        ensures { result ≡ self.now.me }
+    {
+        self.me
+    }
+
+    /// The greatest number of a ring that was heard of.
+    pub fn seq(&self) -> Number
+        ensures { result ≡ self.now.seq }
+    {
+        self.seq
+    }
+
+    /// Who is known.
+    pub fn processes(&self) -> &Processes
+        ensures { result.now ≡ self.now.sets.processes }
+    {
+        &self.sets.processes
+    }
+
+    /// Who of these failed.
+    pub fn failed(&self) -> &Processes
+        ensures { result.now ≡ self.now.sets.failed }
+    {
+        &self.sets.failed
+    }
+
+    /// My Join.
+    pub fn join(&self, alloc: Global) -> Result<Join, AllocError>
+        ensures { IfOk result (λ told. told ≡ join self.now) }
+    {
+        Ok(Join {
+            sender: self.me,
+            seq: self.seq,
+            processes: self.sets.processes.try_clone(alloc)?,
+            failed: self.sets.failed.try_clone(alloc)?,
+        })
+    }
+
+    /// Who would form a ring.
+    pub fn gathered(&self, alloc: Global) -> Result<Processes, AllocError>
+        ensures { IfOk result (λ m. m ≡ gathered self.now) }
+    {
+        self.sets.processes.without(alloc, &self.sets.failed)
+    }
+
+    fn agrees(&self, proc: ProcId) -> bool
+        ensures { result ≡ agrees self.now proc }
+    {
+        proc == self.me || noted_equal(&self.noted, proc, &self.sets)
+    }
+
+    fn all_agree(&self, members: &Processes) -> bool
+        ensures { result ≡ list_all (agrees self.now) members.now }
+    {
+        members.as_slice().iter().all(|proc| self.agrees(*proc))
+    }
+
+    /// On whom there is consensus, if there is.
+    pub fn consensus(&self, alloc: Global) -> Result<Option<Processes>, AllocError>
+        ensures value { IfOk result (λ members. members ≡ consensus self.now) }
+        ensures mine { IfOk result (λ members. IfSome members (λ m. IsTrue (has m self.now.me))) }
+    {
+        self.keeps_its_rule();
+        let members = self.gathered(alloc)?;
+        if self.all_agree(&members) {
+            return Ok(Some(members));
+        }
+        Ok(None)
+    }
+
+    fn is_stranger(&self, join: &Join) -> bool
+        ensures { result ≡ is_stranger self.now join.now }
+    {
+        join.sender == self.me
+            || !join.processes.contains(join.sender)
+            || join.failed.contains(join.sender)
+            || self.sets.failed.contains(join.sender)
+            || !join.failed.is_within(&join.processes)
+            || self.sets.processes.union_len(&join.processes) > MOST
+    }
+
+    /// My sets once a Join was heard.
+    fn sets_after(&self, alloc: Global, join: &Join) -> Result<Sets, AllocError>
+        requires { is_stranger self.now join.now ≡ false }
+        ensures value { IfOk result (λ s. s ≡ (after_join self.now join.now).sets) }
+        ensures standing { IfOk result (λ s. IsStanding self.now.me s) }
+    {
+        self.keeps_its_rule();
+        let _ = join.processes.as_slice();
+        let _ = join.failed.as_slice();
+        let mine = &self.sets;
+        if join.failed.contains(self.me) {
+            return Ok(Sets {
+                processes: with_room(mine.processes.with(alloc, join.sender))?,
+                failed: with_room(mine.failed.with(alloc, join.sender))?,
+            });
+        }
+        Ok(Sets {
+            processes: with_room(mine.processes.union(alloc, &join.processes))?,
+            failed: with_room(mine.failed.union(alloc, &join.failed))?,
+        })
+    }
+
+    /// What is noted once a Join was heard.
+    fn noted_after(&self, alloc: Global, join: &Join) -> Result<Vec<Noted>, AllocError>
+        ensures { IfOk result (λ n. n.items ≡ (after_join self.now join.now).noted) }
+    {
+        if join.failed.contains(self.me) {
+            return noted_all(alloc, &self.noted);
+        }
+        let mut noted = noted_of_others(alloc, &self.noted, join.sender)?;
+        noted.push(Noted {
+            proc: join.sender,
+            sets: Sets {
+                processes: join.processes.try_clone(alloc)?,
+                failed: join.failed.try_clone(alloc)?,
+            },
+        })?;
+        Ok(noted)
+    }
+
+    fn after_join(&self, alloc: Global, join: &Join) -> Result<Gather, AllocError>
+        requires { is_stranger self.now join.now ≡ false }
+        ensures { IfOk result (λ g. g ≡ after_join self.now join.now) }
+    {
+        let seq = if self.seq.get() < join.seq.get() {
+            join.seq
+        } else {
+            self.seq
+        };
+        Ok(Gather {
+            me: self.me,
+            sets: self.sets_after(alloc, join)?,
+            seq,
+            noted: self.noted_after(alloc, join)?,
+        })
+    }
+
+    /// Takes a Join.
+    pub fn on_join(&mut self, alloc: Global, join: &Join) -> Result<GatherOut, MemberFault>
+        ensures step { IsStep self.old self.new result (on_join self.old join.now) }
+        ensures mine { IfOk result (λ out. IfSome out.members (λ m. IsTrue (has m self.old.me))) }
+    {
+        if self.is_stranger(join) {
+            return Err(MemberFault::Stranger);
+        }
+        let next = self.after_join(alloc, join)?;
+        let members = next.consensus(alloc)?;
+        let again = !next.sets.are(&self.sets);
+        *self = next;
+        Ok(GatherOut { again, members })
+    }
+
+    /// Those of these processes that don't agree.
+    fn late(&self, alloc: Global, members: &Processes) -> Result<Processes, AllocError>
+        ensures { IfOk result (λ late. late ≡ filter (λ p. not (agrees self.now p)) members.now) }
+    {
+        let mut late = Vec::new(alloc);
+        for proc in members.as_slice() {
+            if !self.agrees(*proc) {
+                late.push(*proc)?;
+            }
+        }
+        Ok(Processes::of(late))
+    }
+
+    /// My sets once those that don't agree are given up.
+    fn sets_without_late(&self, alloc: Global) -> Result<Sets, AllocError>
+        ensures value { IfOk result (λ s. s ≡ (after_timeout self.now).sets) }
+        ensures standing { IfOk result (λ s. IsStanding self.now.me s) }
+    {
+        self.keeps_its_rule();
+        let members = self.gathered(alloc)?;
+        let late = self.late(alloc, &members)?;
+        Ok(Sets {
+            processes: self.sets.processes.try_clone(alloc)?,
+            failed: with_room(self.sets.failed.union(alloc, &late))?,
+        })
+    }
+
+    fn after_timeout(&self, alloc: Global) -> Result<Gather, AllocError>
+        ensures { IfOk result (λ g. g ≡ after_timeout self.now) }
+    {
+        Ok(Gather {
+            me: self.me,
+            sets: self.sets_without_late(alloc)?,
+            seq: self.seq,
+            noted: noted_all(alloc, &self.noted)?,
+        })
+    }
+
+    /// Gives up those that don't agree: each of them has failed.
+    pub fn on_timeout(&mut self, alloc: Global) -> Result<GatherOut, MemberFault>
+        ensures step { IsStep self.old self.new result (Ok (on_timeout self.old)) }
+        ensures mine { IfOk result (λ out. IfSome out.members (λ m. IsTrue (has m self.old.me))) }
+    {
+        let next = self.after_timeout(alloc)?;
+        let members = next.consensus(alloc)?;
+        *self = next;
+        Ok(GatherOut {
+            again: true,
+            members,
+        })
+    }
+}

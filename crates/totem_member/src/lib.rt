@@ -1,0 +1,18 @@
+//! Membership: who gathers, and the commit token that forms a ring of them.
+#![tactic(auto)]
+
+mod commit;
+#[cfg(test)]
+mod commit_tests;
+mod fault;
+mod gather;
+#[cfg(test)]
+mod gather_tests;
+mod join_sets;
+mod views;
+
+pub use commit::{first_commit, on_commit};
+pub use fault::MemberFault;
+pub use gather::Gather;
+pub use join_sets::{Noted, Sets};
+pub use views::{Act, CommitOut, CommitView, GatherOut, Phase};

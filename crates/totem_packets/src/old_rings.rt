@@ -1,0 +1,211 @@
+//! What the reports of a commit token say of an old ring.
+ghost use Rattle.std.specs.Prelude.{◌≡◌, ◌≤◌, length, filter, not, IfOk};
+ghost use Rattle.totem_packets.specs.Sets.{has, same_processes, Makes};
+ghost use Rattle.totem_packets.specs.OldRings.{processes_of, is_filled, reports_ring, transitional_set, least_aru, greatest_delivered, obligation_union, obligation_from, is_obliged};
+
+use crate::commit_member::CommitMember;
+use crate::commit_members::CommitMembers;
+use crate::processes::{MOST, Processes};
+use crate::set_fault::SetFault;
+use crate::sets::list_union;
+use std::alloc::{AllocError, Global};
+use totem_ids::{ProcId, RingId};
+
+impl CommitMember {
+    /// Whether it has reported this ring as the one that it comes from.
+    pub fn reports_ring(&self, old: &RingId) -> bool
+        ensures { result ≡ reports_ring old.now self.now.report }
+    {
+        match &self.report {
+            None => false,
+            Some(report) => report.ring.seq == old.seq && report.ring.rep == old.rep,
+        }
+    }
+
+    /// The obligation set that it reported, if it comes from this ring, or else none.
+    fn obligation_from(&self, old: &RingId) -> &[ProcId]
+        ensures value { result.now ≡ obligation_from old.now self.now.report }
+        ensures few { length result.now ≤ 32 }
+    {
+        if self.reports_ring(old) {
+            if let Some(report) = &self.report {
+                return report.obligation.as_slice();
+            }
+        }
+        &[]
+    }
+}
+
+impl CommitMembers {
+    /// Who the members are.
+    pub fn processes(&self, alloc: Global) -> Result<Processes, AllocError>
+        ensures { IfOk result (λ p. p ≡ processes_of self.now) }
+    {
+        let mut list = Vec::new(alloc);
+        for member in self.as_slice() {
+            list.push(member.proc)?;
+        }
+        Ok(Processes::of(list))
+    }
+
+    /// Whether these are the members; it takes no memory.
+    pub fn are(&self, processes: &Processes) -> bool
+        ensures { result ≡ same_processes (processes_of self.now) processes.now }
+    {
+        let members = self.as_slice();
+        let list = processes.as_slice();
+        if members.len() != list.len() {
+            return false;
+        }
+        for (at, proc) in list.iter().enumerate() {
+            if members[at].proc != *proc {
+                return false;
+            }
+        }
+        true
+    }
+
+    /// Whether each member has reported.
+    pub fn is_filled(&self) -> bool
+        ensures { result ≡ is_filled self.now }
+    {
+        self.as_slice().iter().all(|member| member.report.is_some())
+    }
+
+    /// Whether the process is a member and has reported this ring as the one that it comes from.
+    pub fn is_from(&self, old: &RingId, proc: ProcId) -> bool
+        ensures { result ≡ has (transitional_set old.now self.now) proc }
+    {
+        for member in self.as_slice() {
+            if member.reports_ring(old) && member.proc == proc {
+                return true;
+            }
+        }
+        false
+    }
+
+    /// The transitional set: the members that come from this ring.
+    pub fn transitional_set(&self, alloc: Global, old: &RingId) -> Result<Processes, AllocError>
+        ensures { IfOk result (λ p. p ≡ transitional_set old.now self.now) }
+    {
+        let mut list = Vec::new(alloc);
+        for member in self.as_slice() {
+            if member.reports_ring(old) {
+                list.push(member.proc)?;
+            }
+        }
+        Ok(Processes::of(list))
+    }
+
+    /// The least aru that members from this ring reported, 0 where none comes from it.
+    pub fn least_aru(&self, old: &RingId) -> u32
+        ensures { result ≡ least_aru old.now self.now }
+    {
+        let mut least = None;
+        for member in self.as_slice() {
+            if let Some(report) = &member.report {
+                if member.reports_ring(old) {
+                    least = Some(match least {
+                        None => report.aru,
+                        Some(other) => report.aru.min(other),
+                    });
+                }
+            }
+        }
+        least.unwrap_or(0)
+    }
+
+    /// The greatest number that members from this ring reported as handed up, 0 where none comes from it.
+    pub fn greatest_delivered(&self, old: &RingId) -> u32
+        ensures { result ≡ greatest_delivered old.now self.now }
+    {
+        let mut greatest = 0u32;
+        for member in self.as_slice() {
+            if let Some(report) = &member.report {
+                if member.reports_ring(old) {
+                    greatest = greatest.max(report.delivered);
+                }
+            }
+        }
+        greatest
+    }
+
+    /// Whether the process comes from this ring, or is in an obligation set that one of these members reported who
+    /// come from it.
+    #[tactic(auto, unfolding(crate::specs::OldRings::is_obliged))]
+    fn is_obliged(&self, old: &RingId, front: &[CommitMember], proc: ProcId) -> bool
+        ensures { result ≡ is_obliged old.now self.now front.now proc }
+    {
+        if self.is_from(old, proc) {
+            return true;
+        }
+        for member in front {
+            if let Some(report) = &member.report {
+                if member.reports_ring(old) && report.obligation.contains(proc) {
+                    return true;
+                }
+            }
+        }
+        false
+    }
+
+    /// How many processes of this member's obligation set are neither in the transitional set nor in an obligation
+    /// set of these members.
+    fn newly_obliged(&self, old: &RingId, front: &[CommitMember], member: &CommitMember) -> usize
+        ensures value { result ≡ length (filter (λ p. not (is_obliged old.now self.now front.now p)) (obligation_from old.now member.now.report)) }
+        ensures few { result ≤ 32 }
+    {
+        let obligation = member.obligation_from(old);
+        let mut count = 0usize;
+        for proc in obligation {
+            if !self.is_obliged(old, front, *proc) {
+                count += 1;
+            }
+        }
+        count
+    }
+
+    /// How many members come from this ring.
+    fn count_from(&self, old: &RingId) -> usize
+        ensures value { result ≡ length (transitional_set old.now self.now) }
+        ensures few { result ≤ 32 }
+    {
+        let mut count = 0usize;
+        for member in self.as_slice() {
+            if member.reports_ring(old) {
+                count += 1;
+            }
+        }
+        count
+    }
+
+    /// How many processes the obligation union has; it takes no memory.
+    pub fn obligation_len(&self, old: &RingId) -> usize
+        ensures { result ≡ length (obligation_union old.now self.now) }
+    {
+        let list = self.as_slice();
+        let mut count = self.count_from(old);
+        for (at, member) in list.iter().enumerate() {
+            count += self.newly_obliged(old, &list[..at], member);
+        }
+        count
+    }
+
+    /// The obligation union: the transitional set with all obligation sets that it reported.
+    pub fn obligation_union(&self, alloc: Global, old: &RingId) -> Result<Processes, SetFault>
+        ensures { Makes result (obligation_union old.now self.now) }
+    {
+        if self.obligation_len(old) > MOST {
+            return Err(SetFault::TooMany);
+        }
+        let mut all = self.transitional_set(alloc, old)?.into_vec();
+        for member in self.as_slice() {
+            if let Some(report) = &member.report {
+                if member.reports_ring(old) {
+                    all = list_union(alloc, &all, report.obligation.as_slice())?;
+                }
+            }
+        }
+        Ok(Processes::of(all))
+    }
+}

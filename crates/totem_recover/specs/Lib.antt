@@ -1,0 +1,4 @@
+pub mod Exchange
+pub mod Finish
+pub mod Together
+pub mod Owed

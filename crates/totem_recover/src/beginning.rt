@@ -1,0 +1,83 @@
+//! How a recovery begins (docs/PROTOCOL.md, "Recovery").
+ghost use Rattle.std.specs.Prelude.{◌≡◌, ◌↔◌, ◌≤◌, IsTrue, IfOk, length};
+ghost use Rattle.totem_packets.specs.OldRings.{processes_of, transitional_set, obligation_union};
+ghost use Rattle.totem_packets.specs.Sets.{has};
+ghost use Rattle.totem_recover.specs.Exchange.{IsReady, reported_obligation};
+
+use std::alloc::{AllocError, Global};
+use totem_evs::Members;
+use totem_ids::{ProcId, RingId};
+use totem_packets::{CommitMembers, CommitToken, Processes, SetFault};
+use totem_ring::RingState;
+
+/// How many processes a set may have.
+const MOST: usize = 32;
+
+/// Whether a recovery may begin: the token reports for `me` the ring of `prev`, and O has at most 32 processes. It takes no
+/// memory.
+pub fn is_ready(me: ProcId, prev: &RingState, token: &CommitToken) -> bool
+    ensures { IsTrue result ↔ IsReady me prev.now token.now }
+{
+    let old = prev.ring();
+    token.members.is_from(&old, me) && token.members.obligation_len(&old) <= MOST
+}
+
+/// The members of the new ring.
+pub(crate) fn members_of(alloc: Global, members: &CommitMembers) -> Result<Members, AllocError>
+    ensures { IfOk result (λ m. m ≡ processes_of members.now) }
+{
+    let procs = members.processes(alloc)?;
+    let _rule = members.as_slice();
+    let _procs = procs.as_slice();
+    Ok(Members::of(procs.into_vec()))
+}
+
+/// The members that come from the ring of `me`.
+pub(crate) fn transitional_of(
+    alloc: Global,
+    old: &RingId,
+    members: &CommitMembers,
+    me: ProcId,
+) -> Result<Members, AllocError>
+    requires { IsTrue (has (transitional_set old.now members.now) me) }
+    ensures { IfOk result (λ m. m ≡ transitional_set old.now members.now) }
+{
+    let procs = members.transitional_set(alloc, old)?;
+    let _procs = procs.as_slice();
+    Ok(Members::of(procs.into_vec()))
+}
+
+/// To whom those owe messages who come from this ring.
+pub(crate) fn obliged_of(
+    alloc: Global,
+    old: &RingId,
+    members: &CommitMembers,
+) -> Result<Processes, AllocError>
+    requires { length (obligation_union old.now members.now) ≤ 32 }
+    ensures { IfOk result (λ p. p ≡ obligation_union old.now members.now) }
+{
+    match members.obligation_union(alloc, old) {
+        Ok(obliged) => Ok(obliged),
+        Err(SetFault::TooMany) => unreachable!(),
+        Err(SetFault::Memory) => Err(AllocError),
+    }
+}
+
+/// The obligation set that this process reported.
+pub(crate) fn reported_obligation(
+    alloc: Global,
+    members: &CommitMembers,
+    proc: ProcId,
+) -> Result<Processes, AllocError>
+    ensures { IfOk result (λ p. p ≡ reported_obligation members.now proc) }
+{
+    for member in members.as_slice() {
+        if member.proc == proc {
+            return match &member.report {
+                None => Ok(Processes::none(alloc)),
+                Some(report) => report.obligation.try_clone(alloc),
+            };
+        }
+    }
+    Ok(Processes::none(alloc))
+}

@@ -1,0 +1,102 @@
+//! What is written of the old ring (docs/PROTOCOL.md, "The finish").
+ghost use Rattle.std.specs.Prelude.{◌≡◌, ◌+◌, ◌++◌, ◌∷◌, [], IfOk, OnOk, length};
+ghost use Rattle.totem_ring.specs.Rings.{going_up, is_agreed};
+ghost use Rattle.totem_recover.specs.Exchange.{held_above};
+ghost use Rattle.totem_recover.specs.Finish.{delivery, deliveries, rest_from};
+
+use std::alloc::AllocError;
+use std::collections::BTreeMap;
+use totem_evs::Entry;
+use totem_ids::{ConfId, MsgId, Service};
+use totem_packets::{Body, Message, Processes};
+
+/// Whether it waits for its turn alone.
+fn is_agreed(body: &Body) -> bool
+    ensures { result ≡ is_agreed body.now }
+{
+    match body {
+        Body::App { service, .. } => match service {
+            Service::Agreed => true,
+            Service::Safe => false,
+        },
+        Body::Old { .. } => true,
+        Body::Mark => false,
+    }
+}
+
+/// The delivery of a client's message; the others have none.
+fn delivery(conf: &ConfId, message: &Message) -> Option<Entry>
+    ensures { result ≡ delivery conf.now message.now }
+{
+    match &message.body {
+        Body::App { .. } => Some(Entry::Deliver(
+            MsgId {
+                ring: message.ring,
+                number: message.number.get(),
+            },
+            *conf,
+        )),
+        Body::Old { .. } => None,
+        Body::Mark => None,
+    }
+}
+
+/// Writes the delivery of a message, if it has one.
+fn deliver(entries: &mut Vec<Entry>, conf: &ConfId, message: &Message) -> Result<(), AllocError>
+    ensures { OnOk result (entries.new.items ≡ entries.old.items ++ deliveries conf.now (message.now ∷ [])) }
+{
+    if let Some(entry) = delivery(conf, message) {
+        entries.push(entry)?;
+    }
+    Ok(())
+}
+
+/// Writes the regular part, and answers the last number that it takes.
+pub(crate) fn write_regular(
+    entries: &mut Vec<Entry>,
+    conf: &ConfId,
+    held: &BTreeMap<u32, Message>,
+    handed: u32,
+    high: u32,
+) -> Result<u32, AllocError>
+    ensures written { OnOk result (entries.new.items ≡ entries.old.items ++ deliveries conf.now (going_up handed high held.now.entries)) }
+    ensures last { IfOk result (λ last. last ≡ handed + length (going_up handed high held.now.entries)) }
+{
+    let mut last = handed;
+    for (number, message) in held {
+        if *number <= last {
+            continue;
+        }
+        if *number - 1 != last || (!is_agreed(&message.body) && high < *number) {
+            break;
+        }
+        deliver(entries, conf, message)?;
+        last = *number;
+    }
+    Ok(last)
+}
+
+/// Writes the rest: before the first gap all, behind it only what those in O sent.
+pub(crate) fn write_rest(
+    entries: &mut Vec<Entry>,
+    conf: &ConfId,
+    held: &BTreeMap<u32, Message>,
+    last: u32,
+    obliged: &Processes,
+) -> Result<(), AllocError>
+    ensures { OnOk result (entries.new.items ≡ entries.old.items ++ deliveries conf.now (rest_from obliged.now last (held_above last held.now.entries))) }
+{
+    let mut at = last;
+    let mut has_gap = false;
+    for (number, message) in held {
+        if *number <= last {
+            continue;
+        }
+        has_gap = has_gap || at == u32::MAX || *number != at + 1;
+        if !has_gap || obliged.contains(message.sender) {
+            deliver(entries, conf, message)?;
+        }
+        at = *number;
+    }
+    Ok(())
+}

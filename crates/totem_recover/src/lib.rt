@@ -1,0 +1,19 @@
+//! Recovery: what members tell each other of their old rings, and what they write when they leave them.
+#![tactic(auto)]
+
+mod beginning;
+#[cfg(test)]
+mod exchange_tests;
+mod finishing;
+mod laws;
+mod marks;
+mod recovery;
+#[cfg(test)]
+mod samples;
+mod sending;
+#[cfg(test)]
+mod tests;
+
+pub use beginning::is_ready;
+pub use laws::{a_member_owes_itself, members_leave_alike, owed_are_delivered};
+pub use recovery::Recovery;

@@ -1,0 +1,50 @@
+//! Marks: who has sent all its old messages (docs/PROTOCOL.md, "Recovery").
+ghost use Rattle.std.specs.Prelude.{◌≡◌, map};
+ghost use Rattle.totem_recover.specs.Exchange.{is_mark, mark_of, greatest_of_all, is_reached};
+
+use std::collections::BTreeMap;
+use totem_ids::ProcId;
+use totem_packets::{Body, Message};
+
+fn is_mark(body: &Body) -> bool
+    ensures { result ≡ is_mark body.now }
+{
+    match body {
+        Body::App { .. } => false,
+        Body::Old { .. } => false,
+        Body::Mark => true,
+    }
+}
+
+/// The number of the process's mark.
+fn mark_of(held: &BTreeMap<u32, Message>, proc: ProcId) -> Option<u32>
+    ensures { result ≡ mark_of held.now.entries proc }
+{
+    for (number, message) in held {
+        if message.sender == proc && is_mark(&message.body) {
+            return Some(*number);
+        }
+    }
+    None
+}
+
+/// The number of the last mark, if each member's is held.
+pub(crate) fn last_mark(members: &[ProcId], held: &BTreeMap<u32, Message>) -> Option<u32>
+    ensures { result ≡ greatest_of_all (map (mark_of held.now.entries) members.now) }
+{
+    let mut last = 0;
+    for proc in members {
+        last = mark_of(held, *proc)?.max(last);
+    }
+    Some(last)
+}
+
+/// Whether this number is there, and is at most `top`.
+pub(crate) fn is_reached(mark: Option<u32>, top: u32) -> bool
+    ensures { result ≡ is_reached mark top }
+{
+    match mark {
+        None => false,
+        Some(number) => number <= top,
+    }
+}

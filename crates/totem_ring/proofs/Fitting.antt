@@ -1,0 +1,52 @@
+-- What a step sends are tokens and messages of the lists.
+use Rattle.std.proofs.Common.{◌≡◌, ℕ, List, [], ◌∷◌, ◌++◌, map, cond, Option, Some, None, refl, subst}
+use Rattle.std.specs.Prelude.{All}
+use Rattle.std.specs.List.{filter_map, cons_option}
+use Rattle.std.specs.Ordering.{nat_cmp, is_eq}
+use Rattle.std.specs.declared.cmp.Ordering.{Ordering}
+use Rattle.std.specs.declared.cmp.Ordering.TheVariants.{Less, Equal, Greater}
+use Rattle.std.proofs.lemmas.List.Elements.{All-nil, All-cons}
+use Rattle.totem_packets.specs.declared.message.Message.{Message}
+use Rattle.totem_packets.specs.declared.token.Token.{Token}
+use Rattle.totem_ring.specs.Rings.{Held, message_at}
+use Rattle.totem_ring.specs.Visits.{Sending, broadcasts}
+use Rattle.totem_ring.proofs.Nth.{IsNth, IsOf}
+use Rattle.totem_ring.proofs.HeldOnes.{AreOf, StandIn}
+use Rattle.totem_ring.proofs.Numbering.{AreNumbered}
+
+abbrev pub AllFit : List Token → List Message → List Sending → Type 0
+AllFit tokens msgs [] = Unit {0}
+AllFit tokens msgs (s ∷ ss) = IsOf tokens msgs s.1 × AllFit tokens msgs ss
+
+pub AllFit-append : (tokens : List Token) (msgs : List Message) (xs ys : List Sending) → AllFit tokens msgs xs → AllFit tokens msgs ys → AllFit tokens msgs (xs ++ ys)
+AllFit-append tokens msgs [] ys h k = k
+AllFit-append tokens msgs (x ∷ xs) ys h k = (h.0, AllFit-append tokens msgs xs ys h.1 k)
+
+pub AllFit-broadcasts : (tokens : List Token) (msgs ms : List Message) → StandIn msgs ms → AllFit tokens msgs (broadcasts ms)
+AllFit-broadcasts tokens msgs [] h = tt
+AllFit-broadcasts tokens msgs (m ∷ ms) h = (h.0, AllFit-broadcasts tokens msgs ms h.1)
+
+pub All-packets : (tokens : List Token) (msgs : List Message) (xs : List Sending) → AllFit tokens msgs xs → All (IsOf tokens msgs) (map (λ (s : Sending). s.1) xs)
+All-packets tokens msgs [] h = All-nil (IsOf tokens msgs)
+All-packets tokens msgs (x ∷ xs) h = All-cons (IsOf tokens msgs) x.1 (map (λ (s : Sending). s.1) xs) h.0 (All-packets tokens msgs xs h.1)
+
+at_number : (msgs : List Message) → AreNumbered msgs → (n : ℕ) (m : Message) → IsNth msgs n m → IsNth msgs m.number m
+at_number msgs numbers n m nth = record { before = nth.before; after = numbers.number nth.before m nth.at; at = nth.at }
+
+-- a message that is found is one of the list
+found : (msgs : List Message) (held : Held) (n : ℕ) (m : Message) → AreNumbered msgs → AreOf msgs held → message_at held n ≡ Some m → IsNth msgs m.number m
+found msgs [] n m numbers h e = absurd cc
+found msgs (e ∷ es) n m numbers h is = go (nat_cmp n e.0) is (λ is. found msgs es n m numbers h.1 is)
+  where
+    go : (o : Ordering) → cond (is_eq o) (Some e.1) (message_at es n) ≡ Some m → (message_at es n ≡ Some m → IsNth msgs m.number m) → IsNth msgs m.number m
+    go Less is rest = rest is
+    go Equal is rest = let same : e.1 ≡ m = cc in let P : Message → Type 0 = λ x. IsNth msgs x.number x in subst P same (at_number msgs numbers e.0 e.1 h.0)
+    go Greater is rest = rest is
+
+pub requested_stand : (msgs : List Message) (held : Held) (rtr : List ℕ) → AreNumbered msgs → AreOf msgs held → StandIn msgs (filter_map (message_at held) rtr)
+requested_stand msgs held [] numbers h = tt
+requested_stand msgs held (n ∷ ns) numbers h = go (message_at held n) (λ m e. found msgs held n m numbers h e) (requested_stand msgs held ns numbers h)
+  where
+    go : (o : Option Message) → ((m : Message) → o ≡ Some m → IsNth msgs m.number m) → StandIn msgs (filter_map (message_at held) ns) → StandIn msgs (cons_option o (filter_map (message_at held) ns))
+    go None is rest = rest
+    go (Some m) is rest = (is m refl, rest)

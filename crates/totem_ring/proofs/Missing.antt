@@ -1,0 +1,108 @@
+-- The walk over what is missing.
+use Rattle.std.proofs.Common.{◌≡◌, ℕ, zero, suc, ◌+◌, ◌-◌, ◌<◌, ◌≤◌, List, [], ◌∷◌, ◌++◌, length, take, get_or, Bool, true, false, not, cond, refl, sym, ◌∙◌, ap, arith, le-ltb, lt-ltb, inl, inr}
+use Rattle.std.specs.Prelude.{filter}
+use Rattle.std.proofs.lemmas.Bool.{cases_lt}
+use Rattle.totem_ring.specs.Requests.{with_number}
+use Rattle.totem_ids.specs.Names.{RingName}
+use Rattle.std.proofs.lemmas.List.{take_more, length-take-le}
+use Rattle.totem_packets.specs.declared.message.Body.{Body}
+use Rattle.totem_packets.specs.declared.message.Message.{Message}
+use Rattle.totem_ring.specs.Rings.{Ring, Held, holds, aru_of}
+use Rattle.totem_ring.specs.Requests.{numbers_above, with_requests}
+use Rattle.totem_ring.specs.Visits.{missing, numbered}
+use Rattle.totem_ring.proofs.Rising.{whole_holds}
+
+-- what is missing above n
+abbrev pub gaps : Held → ℕ → ℕ → List ℕ
+gaps held n seq = filter (λ k. not (holds held k)) (numbers_above n (seq - n))
+
+counted : (n seq : ℕ) → n < seq → numbers_above n (seq - n) ≡ (n + 1) ∷ numbers_above (n + 1) (seq - (n + 1))
+counted n seq lt = let more : seq - n ≡ suc (seq - (n + 1)) = omega arith in ap (numbers_above n) more
+
+gap_held : (held : Held) (n seq : ℕ) (b : Bool) → n < seq → holds held (n + 1) ≡ b → gaps held n seq ≡ cond (not b) ((n + 1) ∷ gaps held (n + 1) seq) (gaps held (n + 1) seq)
+gap_held held n seq b lt is =
+    ap (filter (λ k. not (holds held k))) (counted n seq lt)
+    ∙ ap (λ (b : Bool). cond (not b) ((n + 1) ∷ gaps held (n + 1) seq) (gaps held (n + 1) seq)) is
+
+no_gaps : (held : Held) (n seq : ℕ) → seq ≤ n → gaps held n seq ≡ []
+no_gaps held n seq le = let none : seq - n ≡ 0 = omega arith in ap (λ count. filter (λ k. not (holds held k)) (numbers_above n count)) none
+
+-- up to the aru nothing is missing
+gaps_from : (held : Held) (seq k : ℕ) → k ≤ aru_of held → gaps held k seq ≡ gaps held 0 seq
+gaps_from held seq zero le = refl
+gaps_from held seq (suc k) le = elim (cases_lt k seq) [
+  | inl lt ↦ (
+      let at : holds held (k + 1) ≡ true = whole_holds 0 (k + 1) held (omega arith) (omega arith) in
+      let step : suc k ≡ k + 1 = omega arith in
+      ap (λ n. gaps held n seq) step ∙ sym (gap_held held k seq true lt at) ∙ gaps_from held seq k (omega arith)
+      )
+  | inr ge ↦ no_gaps held (suc k) seq (omega arith) ∙ sym (no_gaps held k seq ge) ∙ gaps_from held seq k (omega arith)
+]
+
+-- what is asked for so far, with what is still to come
+pub record IsAsking (rtr before : List ℕ) (held : Held) (n seq : ℕ) : Type 0 where
+  pub all : with_requests rtr (gaps held n seq) ≡ with_requests before (missing held seq)
+
+pub asking_starts : (rtr : List ℕ) (held : Held) (n seq : ℕ) → n ≡ aru_of held → IsAsking rtr rtr held n seq
+asking_starts rtr held n seq is = record {
+  all =
+      ap (with_requests rtr) (gaps_from held seq n (omega (arith, is)))
+      ∙ (let whole : seq - 0 ≡ seq = omega arith in ap (λ count. with_requests rtr (filter (λ k. not (holds held k)) (numbers_above 0 count))) whole);
+}
+
+full_stays : (rtr ns : List ℕ) → 64 ≤ length rtr → with_requests rtr ns ≡ rtr
+full_stays rtr [] full = refl
+full_stays rtr (n ∷ ns) full = ap (λ (b : Bool). with_requests (cond b (with_number rtr n) rtr) ns) (le-ltb (length rtr) 64 full) ∙ full_stays rtr ns full
+
+pub asking_full : (rtr before : List ℕ) (held : Held) (n seq : ℕ) → IsAsking rtr before held n seq → 64 ≤ length rtr → rtr ≡ with_requests before (missing held seq)
+asking_full rtr before held n seq h full = sym (full_stays rtr (gaps held n seq) full) ∙ h.all
+
+pub asking_past : (rtr before : List ℕ) (held : Held) (n seq : ℕ) → IsAsking rtr before held n seq → n < seq → holds held (n + 1) ≡ true → IsAsking rtr before held (n + 1) seq
+asking_past rtr before held n seq h lt at = record { all = sym (ap (with_requests rtr) (gap_held held n seq true lt at)) ∙ h.all }
+
+pub asking_more : (rtr more before : List ℕ) (held : Held) (n seq : ℕ) → IsAsking rtr before held n seq → n < seq → holds held (n + 1) ≡ false → length rtr < 64 → more ≡ with_number rtr (n + 1) → IsAsking more before held (n + 1) seq
+asking_more rtr more before held n seq h lt at room is = record {
+  all =
+      ap (λ ns. with_requests ns (gaps held (n + 1) seq)) is
+      ∙ sym (ap (λ (b : Bool). with_requests (cond b (with_number rtr (n + 1)) rtr) (gaps held (n + 1) seq)) (lt-ltb (length rtr) 64 room))
+      ∙ sym (ap (with_requests rtr) (gap_held held n seq false lt at))
+      ∙ h.all;
+}
+
+pub asking_there : (rtr before : List ℕ) (held : Held) (n seq : ℕ) → IsAsking rtr before held n seq → n < seq → holds held (n + 1) ≡ false → length rtr < 64 → with_number rtr (n + 1) ≡ rtr → IsAsking rtr before held (n + 1) seq
+asking_there rtr before held n seq h lt at room is = asking_more rtr rtr before held n seq h lt at room (sym is)
+
+pub asking_ends : (rtr before : List ℕ) (held : Held) (n seq : ℕ) → IsAsking rtr before held n seq → seq ≤ n → rtr ≡ with_requests before (missing held seq)
+asking_ends rtr before held n seq h le = sym (ap (with_requests rtr) (no_gaps held n seq le)) ∙ h.all
+
+-- one number more is given
+pub numbered_push : (s : Ring) (seq : ℕ) (bodies : List Body) (body : Body) → numbered s seq (bodies ++ body ∷ []) ≡ numbered s seq bodies ++ record { ring = s.ring; number = (seq + length bodies) + 1; sender = s.me; body = body } ∷ []
+numbered_push s seq [] body =
+    let none : seq ≡ seq + 0 = omega arith in
+    ap (λ (n : ℕ). record { ring = s.ring; number = n + 1; sender = s.me; body = body } ∷ []) none
+numbered_push s seq (b ∷ bs) body =
+    let same : (seq + 1) + length bs ≡ seq + suc (length bs) = omega arith in
+    ap (λ ms. record { ring = s.ring; number = seq + 1; sender = s.me; body = b } ∷ ms) (numbered_push s (seq + 1) bs body
+    ∙ ap (λ (n : ℕ). numbered s (seq + 1) bs ++ record { ring = s.ring; number = n + 1; sender = s.me; body = body } ∷ []) same)
+
+pub numbered_one : (s : Ring) (seq i given number me : ℕ) (ring : RingName) (bodies : List Body) (own items : List Message) (body copy : Body)
+    → own ≡ numbered s seq (take i bodies) → i < length bodies → given ≡ seq + i → body ≡ get_or bodies i body → copy ≡ body → number ≡ given + 1 → ring ≡ s.ring → me ≡ s.me
+    → items ≡ own ++ record { ring = ring; number = number; sender = me; body = copy } ∷ [] → items ≡ numbered s seq (take (i + 1) bodies)
+numbered_one s seq i given number me ring bodies own items body copy far lt count at same is ring_is me_is put =
+    let len : length (take i bodies) ≡ i = length-take-le i bodies (omega arith) in
+    let the_number : number ≡ (seq + length (take i bodies)) + 1 = omega (arith, len) in
+    put
+    ∙ ap (λ ms. ms ++ record { ring = ring; number = number; sender = me; body = copy } ∷ []) far
+    ∙ ap (λ (r : RingName). numbered s seq (take i bodies) ++ record { ring = r; number = number; sender = me; body = copy } ∷ []) ring_is
+    ∙ ap (λ (p : ℕ). numbered s seq (take i bodies) ++ record { ring = s.ring; number = number; sender = p; body = copy } ∷ []) me_is
+    ∙ ap (λ (n : ℕ). numbered s seq (take i bodies) ++ record { ring = s.ring; number = n; sender = s.me; body = copy } ∷ []) the_number
+    ∙ ap (λ (b : Body). numbered s seq (take i bodies) ++ record { ring = s.ring; number = (seq + length (take i bodies)) + 1; sender = s.me; body = b } ∷ []) (same ∙ at)
+    ∙ sym (numbered_push s seq (take i bodies) (get_or bodies i body))
+    ∙ ap (numbered s seq) (sym (take_more bodies i body lt))
+
+pub numbered_of : (s : Ring) (seq i given number me : ℕ) (ring : RingName) (bodies waiting : List Body) (own items : List Message) (body copy : Body) → bodies ≡ waiting
+    → own ≡ numbered s seq (take i waiting) → i < length bodies → given ≡ seq + i → body ≡ get_or bodies i body → copy ≡ body → number ≡ given + 1 → ring ≡ s.ring → me ≡ s.me
+    → items ≡ own ++ record { ring = ring; number = number; sender = me; body = copy } ∷ [] → items ≡ numbered s seq (take (i + 1) waiting)
+numbered_of s seq i given number me ring bodies waiting own items body copy whole far lt count at same is ring_is me_is put =
+    numbered_one s seq i given number me ring bodies own items body copy (far ∙ ap (λ bs. numbered s seq (take i bs)) (sym whole)) lt count at same is ring_is me_is put
+    ∙ ap (λ bs. numbered s seq (take (i + 1) bs)) whole

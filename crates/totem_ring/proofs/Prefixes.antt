@@ -1,0 +1,52 @@
+-- Lists of which one begins the other.
+use Rattle.std.proofs.Common.{◌≡◌, ◌==◌, ℕ, zero, suc, ◌⊎◌, inl, inr, List, [], ◌∷◌, ◌++◌, length, slice_get, Some, None, map, refl, sym, ◌∙◌, ap, append_assoc}
+use Rattle.std.specs.Prelude.{filter}
+use Rattle.std.proofs.lemmas.List.{map-append}
+use Rattle.std.proofs.lemmas.List.Elements.{filter-append}
+use Rattle.totem_packets.specs.declared.message.Message.{Message}
+use Rattle.totem_ring.specs.Order.{IsPrefixOf, bodies_of}
+
+pub slice_get-append : {X : Type 0} (xs ys : List X) (k : ℕ) (x : X) → slice_get xs k ≡ Some x → slice_get (xs ++ ys) k ≡ Some x
+slice_get-append [] ys k x h = absurd cc
+slice_get-append (y ∷ xs) ys zero x h = h
+slice_get-append (y ∷ xs) ys (suc k) x h = slice_get-append xs ys k x h
+
+-- of two lists that begin a third one begins the other
+pub one_begins : {X : Type 0} (xs ys zs : List X) → IsPrefixOf xs zs → IsPrefixOf ys zs → IsPrefixOf xs ys ⊎ IsPrefixOf ys xs
+one_begins [] ys zs p q = inl (ys, refl)
+one_begins (x ∷ xs) [] zs p q = inr (x ∷ xs, refl)
+one_begins (x ∷ xs) (y ∷ ys) zs (r, e) (t, f) =
+    let both : x ∷ (xs ++ r) ≡ y ∷ (ys ++ t) = e ∙ sym f in
+    let heads : x ≡ y = cc in
+    let tails : xs ++ r ≡ ys ++ t = cc in
+    elim (one_begins xs ys (ys ++ t) (r, tails) (t, refl)) [
+      | inl (rest, h) ↦ inl (rest, (let joined : x ∷ (xs ++ rest) ≡ y ∷ ys = cc in joined))
+      | inr (rest, h) ↦ inr (rest, (let joined : y ∷ (ys ++ rest) ≡ x ∷ xs = cc in joined))
+    ]
+
+-- what begins a list begins a longer one too
+pub begins_longer : {X : Type 0} (xs ys more : List X) → IsPrefixOf xs ys → IsPrefixOf xs (ys ++ more)
+begins_longer xs ys more (rest, e) = (rest ++ more, sym (append_assoc xs rest more) ∙ ap (λ zs. zs ++ more) e)
+
+-- the element at the end of a prefix goes on with it
+pub goes_on : {X : Type 0} (xs zs : List X) (x : X) → IsPrefixOf xs zs → slice_get zs (length xs) ≡ Some x → IsPrefixOf (xs ++ x ∷ []) zs
+goes_on [] zs x ([], e) h = let none : slice_get zs 0 ≡ None = rw (← e) refl in absurd cc
+goes_on {X} [] zs x (r ∷ rest, e) h =
+    let first : slice_get zs 0 ≡ Some r = rw (← e) refl in
+    let same : x ≡ r = cc in
+    (rest, rw same e)
+goes_on (y ∷ xs) [] x (rest, e) h = absurd cc
+goes_on (y ∷ xs) (z ∷ zs) x (rest, e) h =
+    let heads : y ≡ z = cc in
+    let tails : xs ++ rest ≡ zs = cc in
+    let more = goes_on xs zs x (rest, tails) h in
+    (more.0, (let e' = more.1 in let joined : y ∷ ((xs ++ x ∷ []) ++ more.0) ≡ z ∷ zs = cc in joined))
+
+pub bodies_of-append : (p : ℕ) (xs ys : List Message) → bodies_of p (xs ++ ys) ≡ bodies_of p xs ++ bodies_of p ys
+bodies_of-append p xs ys =
+    ap (λ ms. map (λ (m : Message). m.body) ms) (filter-append (λ (m : Message). m.sender == p) xs ys)
+    ∙ map-append (λ (m : Message). m.body) (filter (λ (m : Message). m.sender == p) xs) (filter (λ (m : Message). m.sender == p) ys)
+
+-- what a process says in a prefix begins what it says in all
+pub bodies_begin : (p : ℕ) (xs zs : List Message) → IsPrefixOf xs zs → IsPrefixOf (bodies_of p xs) (bodies_of p zs)
+bodies_begin p xs zs (rest, e) = (bodies_of p rest, sym (bodies_of-append p xs rest) ∙ ap (bodies_of p) e)

@@ -1,0 +1,105 @@
+-- What every schedule keeps, by two lists: the tokens in the order in which they were made, and the messages by number.
+use Rattle.std.proofs.Common.{◌≡◌, ℕ, ◌+◌, ◌==◌, ◌<◌, List, [], ◌∷◌, ◌++◌, length, Bool, true, false, if◌then◌else◌, Option, Some, None, Ok, refl, ◌∙◌, ap, append-nil, eqb-true, length-append}
+use Rattle.std.specs.Prelude.{All, ⊤}
+use Rattle.std.proofs.lemmas.List.Elements.{All-append}
+use Rattle.totem_packets.specs.declared.message.Body.{Body}
+use Rattle.totem_packets.specs.declared.message.Message.{Message}
+use Rattle.totem_packets.specs.declared.token.Token.{Token}
+use Rattle.totem_ring.specs.declared.fault.RingFault.{RingFault}
+use Rattle.totem_ring.specs.declared.moves.Act.{Act}
+use Rattle.totem_ring.specs.Rings.{Ring, taker_of, handed_up, after_hand_up}
+use Rattle.totem_ring.specs.Steps.{Done, unless_refused}
+use Rattle.totem_ring.specs.Worlds.{World, world_after, submitted}
+use Rattle.totem_ring.specs.Order.{IsPrefixOf, bodies_of}
+use Rattle.totem_ring.proofs.Prefixes.{begins_longer, bodies_of-append}
+use Rattle.totem_ring.proofs.Nth.{IsNth, IsNth-append, IsOf}
+use Rattle.totem_ring.proofs.HeldOnes.{AreOf, AreOf-append}
+use Rattle.totem_ring.proofs.GoingUp.{going_up_begins}
+use Rattle.totem_ring.proofs.Numbering.{AreNumbered}
+use Rattle.totem_ring.proofs.Fitting.{AllFit, All-packets}
+
+abbrev pub KeptIsOf : List Token → Option Token → Type 0
+KeptIsOf tokens None = ⊤
+KeptIsOf tokens (Some t) = IsNth tokens t.token_seq t
+
+-- what one member has
+pub record Keeps (ring_members : List ℕ) (tokens : List Token) (msgs : List Message) (p : ℕ) (s : Ring) (up : List Message) (accepted : List Body) : Type 0 where
+  pub me : s.me ≡ p
+  pub members : s.members ≡ ring_members
+  pub held : AreOf msgs s.held
+  pub handed : length up ≡ s.handed
+  pub begins : IsPrefixOf up msgs
+  pub bodies : bodies_of p msgs ++ s.waiting ≡ accepted
+  pub kept : KeptIsOf tokens s.kept
+
+pub record Keeping (w : World) (earlier : List Token) (newest : Token) (msgs : List Message) : Type 0 where
+  pub sent : All (IsOf (earlier ++ newest ∷ []) msgs) w.sent
+  pub numbers : AreNumbered msgs
+  pub seq : length msgs ≡ newest.seq
+  -- every token but the newest was taken
+  pub taken : (t : ℕ) → t < length earlier → t < (w.state (taker_of w.members (t + 1))).last
+  pub each : (p : ℕ) → Keeps w.members (earlier ++ newest ∷ []) msgs p (w.state p) (w.up p) (w.accepted p)
+
+pub record HasOrder (w : World) : Type 0 where
+  pub earlier : List Token
+  pub newest : Token
+  pub msgs : List Message
+  pub keeping : Keeping w earlier newest msgs
+
+pub kept_longer : (tokens more : List Token) (kept : Option Token) → KeptIsOf tokens kept → KeptIsOf (tokens ++ more) kept
+kept_longer tokens more None h = h
+kept_longer tokens more (Some t) h = IsNth-append tokens more t.token_seq t h
+
+-- a member that does nothing while others make more
+pub Keeps-longer : (members : List ℕ) (tokens more : List Token) (msgs new : List Message) (p : ℕ) (s : Ring) (up : List Message) (accepted : List Body)
+    → bodies_of p new ≡ [] → Keeps members tokens msgs p s up accepted → Keeps members (tokens ++ more) (msgs ++ new) p s up accepted
+Keeps-longer members tokens more msgs new p s up accepted silent h = record {
+  me = h.me;
+  members = h.members;
+  held = AreOf-append msgs new s.held h.held;
+  handed = h.handed;
+  begins = begins_longer up msgs new h.begins;
+  bodies = ap (λ bodies. bodies ++ s.waiting) (bodies_of-append p msgs new ∙ ap (λ bodies. bodies_of p msgs ++ bodies) silent ∙ append-nil (bodies_of p msgs)) ∙ h.bodies;
+  kept = kept_longer tokens more s.kept h.kept;
+}
+
+-- handing up keeps the order
+pub Keeps-hand_up : (members : List ℕ) (tokens : List Token) (msgs : List Message) (p : ℕ) (s : Ring) (up : List Message) (accepted : List Body)
+    → Keeps members tokens msgs p s up accepted → Keeps members tokens msgs p (after_hand_up s) (up ++ handed_up s) accepted
+Keeps-hand_up members tokens msgs p s up accepted h = record {
+  me = h.me;
+  members = h.members;
+  held = h.held;
+  handed = length-append up (handed_up s) ∙ ap (λ n. n + length (handed_up s)) h.handed;
+  begins = going_up_begins msgs up s.handed s.safe_to s.held h.handed h.begins h.held;
+  bodies = h.bodies;
+  kept = h.kept;
+}
+
+-- a member that took no token
+pub Keeping-same_tokens : (w : World) (earlier : List Token) (newest : Token) (msgs : List Message) (p : ℕ) (act : Act) (done : Done)
+    → Keeping w earlier newest msgs → done.state.last ≡ (w.state p).last → AllFit (earlier ++ newest ∷ []) msgs done.packets
+    → Keeps w.members (earlier ++ newest ∷ []) msgs p done.state (w.up p ++ done.handed) (w.accepted p ++ submitted act)
+    → Keeping (world_after w p act (Ok done)) earlier newest msgs
+Keeping-same_tokens w earlier newest msgs p act done h same_last fit mine = record {
+  sent = All-append (IsOf (earlier ++ newest ∷ []) msgs) w.sent _ h.sent (All-packets (earlier ++ newest ∷ []) msgs done.packets fit);
+  numbers = h.numbers;
+  seq = h.seq;
+  taken = λ t below. taken (taker_of w.members (t + 1)) t (h.taken t below) (taker_of w.members (t + 1) == p) refl;
+  each = λ q. each q (q == p) refl;
+}
+  where
+    taken : (q t : ℕ) → t < (w.state q).last → (b : Bool) → (q == p) ≡ b → t < (if b then done.state else w.state q).last
+    taken q t below true is = let at_p : t < (w.state p).last = rw (eqb-true q p is) at below in rw same_last at_p
+    taken q t below false is = below
+
+    each : (q : ℕ) (b : Bool) → (q == p) ≡ b
+        → Keeps w.members (earlier ++ newest ∷ []) msgs q (if b then done.state else w.state q) (if b then w.up p ++ done.handed else w.up q) (if b then w.accepted p ++ submitted act else w.accepted q)
+    each q true is = rw (eqb-true q p is) mine
+    each q false is = h.each q
+
+-- a step that keeps the order where it isn't refused keeps it
+pub unless_refused_keeps : (w : World) (p : ℕ) (act : Act) (refusal : Option RingFault) (done : Done)
+    → HasOrder w → (refusal ≡ None → HasOrder (world_after w p act (Ok done))) → HasOrder (world_after w p act (unless_refused refusal done))
+unless_refused_keeps w p act None done h go = go refl
+unless_refused_keeps w p act (Some fault) done h go = h

@@ -1,0 +1,12 @@
+pub mod RingFaults
+pub mod Rings
+pub mod Refusals
+pub mod Requests
+pub mod Visits
+pub mod Departures
+pub mod Steps
+pub mod Answers
+pub mod Undoing
+pub mod Invariant
+pub mod Worlds
+pub mod Order

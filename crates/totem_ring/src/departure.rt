@@ -1,0 +1,65 @@
+//! What leaves a visit.
+ghost use Rattle.std.specs.Prelude.{◌≡◌, ◌++◌, ◌∷◌, [], IfOk};
+ghost use Rattle.totem_packets.specs.declared.packet.Packet.TheVariants.{Token as AToken};
+ghost use Rattle.totem_ring.specs.declared.out.To.TheVariants.{One as ToOne};
+ghost use Rattle.totem_ring.specs.Visits.{broadcasts, aru_set};
+
+use crate::out::To;
+use std::alloc::{AllocError, Global};
+use totem_ids::ProcId;
+use totem_packets::{Message, Packet, Token};
+
+/// How a visit ends.
+#[derive(Debug, Drop)]
+pub struct Departure {
+    /// The token, as it leaves.
+    pub leaving: Token,
+    /// Up to here safe messages may be handed up.
+    pub safe_to: u32,
+    pub packets: Vec<(To, Packet)>,
+    pub handed: Vec<Message>,
+}
+
+/// What a visit sends: what was asked for, what is new, and the token to the next member.
+pub fn sendings(
+    alloc: Global,
+    asked: Vec<Message>,
+    own: Vec<Message>,
+    next: ProcId,
+    token: &Token,
+) -> Result<Vec<(To, Packet)>, AllocError>
+    ensures { IfOk result (λ packets. packets.items ≡ (broadcasts asked.items ++ broadcasts own.items) ++ (ToOne next, AToken token.now) ∷ []) }
+{
+    let mut packets = Vec::new(alloc);
+    for message in asked {
+        packets.push((To::All, Packet::Message(message)))?;
+    }
+    for message in own {
+        packets.push((To::All, Packet::Message(message)))?;
+    }
+    packets.push((To::One(next), Packet::Token(token.try_clone(alloc)?)))?;
+    Ok(packets)
+}
+
+/// The aru and who holds it down, as they leave from `me`.
+pub fn set_aru(
+    me: ProcId,
+    my_aru: u32,
+    seq: u32,
+    aru: u32,
+    aru_id: Option<ProcId>,
+) -> (u32, Option<ProcId>)
+    ensures { result ≡ aru_set me my_aru seq aru aru_id }
+{
+    let is_free = match aru_id {
+        None => true,
+        Some(proc) => proc.number() == me.number(),
+    };
+    if my_aru >= aru && !is_free {
+        return (aru, aru_id);
+    }
+    if my_aru == seq {
+        return (my_aru, None);
+    }
+    (my_aru, Some(me))
+}

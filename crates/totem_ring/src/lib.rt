@@ -1,0 +1,28 @@
+//! One ring: each member's steps, and the order that every schedule of steps keeps.
+#![tactic(auto)]
+
+mod departure;
+mod fault;
+mod held;
+mod moves;
+mod order;
+mod out;
+mod refusals;
+mod requests;
+#[cfg(test)]
+mod schedule_tests;
+mod start;
+mod state;
+#[cfg(test)]
+mod tests;
+mod undo;
+mod walks;
+
+pub use fault::RingFault;
+pub use moves::{Act, RingMove};
+pub use order::one_order;
+pub use out::{RingOut, To};
+pub use refusals::MOST_WAITING;
+pub use start::first_token;
+pub use state::RingState;
+pub use undo::RingUndo;

@@ -1,0 +1,58 @@
+//! What a step's refusal asks of its parts.
+ghost use Rattle.std.specs.Prelude.{◌≡◌, ◌==◌, ◌<◌, position, length, IfSome};
+ghost use Rattle.totem_ring.specs.Rings.{same_ring, is_agreed};
+ghost use Rattle.totem_ring.specs.Refusals.{is_member, is_none_or_member, is_above};
+
+use totem_ids::{ProcId, RingId, Service};
+use totem_packets::{Body, Number};
+
+/// How many bodies may wait.
+pub const MOST_WAITING: usize = 16;
+
+pub fn is_same_ring(a: RingId, b: RingId) -> bool
+    ensures { result ≡ same_ring a b }
+{
+    a.seq == b.seq && a.rep.number() == b.rep.number()
+}
+
+pub fn is_member(members: &[ProcId], proc: ProcId) -> bool
+    ensures { result ≡ is_member members.now proc }
+{
+    members.iter().any(|q| q.number() == proc.number())
+}
+
+pub fn is_agreed(body: &Body) -> bool
+    ensures { result ≡ is_agreed body.now }
+{
+    match body {
+        Body::App { service, .. } => match service {
+            Service::Agreed => true,
+            Service::Safe => false,
+        },
+        Body::Old { .. } => true,
+        Body::Mark => false,
+    }
+}
+
+pub fn is_none_or_member(members: &[ProcId], proc: Option<ProcId>) -> bool
+    ensures { result ≡ is_none_or_member members.now proc }
+{
+    match proc {
+        None => true,
+        Some(proc) => is_member(members, proc),
+    }
+}
+
+/// Where this process stands among the members, from 0.
+pub fn place_of(members: &[ProcId], proc: ProcId) -> Option<usize>
+    ensures place { result ≡ position (λ p. p == proc) members.now }
+    ensures within { IfSome result (λ place. place < length members.now) }
+{
+    members.iter().position(|p| p.number() == proc.number())
+}
+
+pub fn is_above(seq: u32, numbers: &[Number]) -> bool
+    ensures { result ≡ is_above seq numbers.now }
+{
+    numbers.iter().any(|n| n.get() > seq)
+}

@@ -1,0 +1,312 @@
+//! A member's state on its ring, and its steps but the visit.
+ghost use Rattle.std.specs.Prelude.{◌≡◌, ◌+◌, ◌<◌, length, IfOk, Ok};
+ghost use Rattle.totem_ring.specs.Steps.{kept_after};
+ghost use Rattle.totem_ring.specs.Undoing.{kept_again};
+
+use crate::fault::RingFault;
+use crate::held::Held;
+use crate::out::{RingOut, To};
+use crate::refusals::{MOST_WAITING, is_member, is_same_ring, place_of};
+use crate::undo::RingUndo;
+use std::alloc::{AllocError, Global};
+use std::collections::BTreeMap;
+use std::marker::Model;
+use totem_ids::{ProcId, RingId};
+use totem_packets::{Body, Message, Number, Packet, Token};
+
+mod visit;
+
+/// One member's state on its ring. A call that is refused leaves it as it was.
+#[derive(Debug, Drop)]
+pub struct RingState {
+    me: ProcId,
+    ring: RingId,
+    members: Vec<ProcId>,
+    held: Held,
+    handed: u32,
+    /// Up to here safe messages may be handed up.
+    safe_to: u32,
+    /// The aru with which the token last left here.
+    sent_aru: u32,
+    /// The token_seq that was taken last.
+    last: u64,
+    waiting: Vec<Body>,
+    /// The token that was passed on last, while no sign of its arrival has come.
+    kept: Option<Token>,
+}
+
+impl Model for RingState {
+    ghost use Rattle.std.specs.Prelude.{◌<◌, length};
+    ghost use Rattle.totem_ring.specs.Rings.{Ring};
+
+    ghost Value = { Ring };
+
+    ghost view = { λ s. record {
+      me = s.me;
+      ring = s.ring;
+      members = s.members.items;
+      held = s.held;
+      handed = s.handed;
+      safe_to = s.safe_to;
+      sent_aru = s.sent_aru;
+      last = s.last;
+      waiting = s.waiting.items;
+      kept = s.kept;
+    } };
+
+    ghost invariant = { λ s. 0 < length s.members.items };
+}
+
+/// Forgets the token if this number is above its `seq`, and gives it back.
+fn forget_below(kept: &mut Option<Token>, number: Number) -> Option<Token>
+    ensures after { kept.new ≡ kept_after kept.old number }
+    ensures again { kept_again result kept.new ≡ kept.old }
+{
+    if kept.as_ref().is_some_and(|token| token.seq < number.get()) {
+        return kept.take();
+    }
+    None
+}
+
+impl RingState {
+    ghost use Rattle.totem_ring.specs.Rings.{new_ring, next_of, aru_of};
+    ghost use Rattle.totem_ring.specs.Steps.{submit, adopt, on_message, on_resend};
+    ghost use Rattle.totem_ring.specs.Refusals.{message_refusal};
+    ghost use Rattle.totem_ring.specs.Answers.{Answers, AnswersNothing};
+    ghost use Rattle.totem_ring.specs.Undoing.{AnswersUndoably, taken_back};
+    ghost use Rattle.totem_ring.specs.Invariant.{RisesFrom};
+
+    /// The state of a member of a new ring. The members are strictly rising, with `me` among them.
+    pub fn new(
+        alloc: Global,
+        me: ProcId,
+        ring: RingId,
+        members: &[ProcId],
+    ) -> Result<RingState, AllocError>
+        requires { 0 < length members.now }
+        ensures { IfOk result (λ s. s ≡ new_ring me ring members.now) }
+    {
+        Ok(RingState {
+            me,
+            ring,
+            members: members.to_vec(alloc)?,
+            held: Held::new(alloc),
+            handed: 0,
+            safe_to: 0,
+            sent_aru: 0,
+            last: 0,
+            waiting: Vec::new(alloc),
+            kept: None,
+        })
+    }
+
+    pub fn me(&self) -> ProcId
+        ensures { result ≡ self.now.me }
+    {
+        self.me
+    }
+
+    pub fn ring(&self) -> RingId
+        ensures { result ≡ self.now.ring }
+    {
+        self.ring
+    }
+
+    /// The members, in the order in which the token passes them.
+    pub fn members(&self) -> &[ProcId]
+        ensures value { result.now ≡ self.now.members }
+        ensures some { 0 < length self.now.members }
+    {
+        &self.members
+    }
+
+    /// The messages that came or were sent here, by number.
+    pub fn held(&self) -> &BTreeMap<u32, Message>
+        ensures value { result.now.entries ≡ self.now.held }
+        ensures rises { RisesFrom 0 self.now.held }
+    {
+        self.held.as_map()
+    }
+
+    /// The greatest n such that messages 1 to n are held.
+    pub fn my_aru(&self) -> u32
+        ensures { result ≡ aru_of self.now.held }
+    {
+        self.held.aru()
+    }
+
+    /// The greatest number handed up.
+    pub fn handed(&self) -> u32
+        ensures { result ≡ self.now.handed }
+    {
+        self.handed
+    }
+
+    /// The bodies that wait for the next visit.
+    pub fn waiting(&self) -> &[Body]
+        ensures { result.now ≡ self.now.waiting }
+    {
+        &self.waiting
+    }
+
+    /// A client's body, or one of recovery, is to be sent: it waits for the next visit.
+    pub fn submit(&mut self, body: Body) -> Result<(), RingFault>
+        ensures { AnswersNothing result self.old self.new (submit self.old body) }
+    {
+        if self.waiting.len() >= MOST_WAITING {
+            return Err(RingFault::Full);
+        }
+        self.waiting.push(body)?;
+        Ok(())
+    }
+
+    fn message_refusal(&self, message: &Message) -> Option<RingFault>
+        ensures { result ≡ message_refusal self.now message.now }
+    {
+        if !is_same_ring(message.ring, self.ring) {
+            return Some(RingFault::OtherRing);
+        }
+        if self.held.contains(message.number.get()) {
+            return Some(RingFault::Repeat);
+        }
+        if !is_member(&self.members, message.sender) {
+            return Some(RingFault::Range);
+        }
+        None
+    }
+
+    /// Holds a message of this ring that came on another way. Nothing is handed up, and the kept token stays.
+    pub fn adopt(&mut self, message: &Message) -> Result<(), RingFault>
+        ensures { AnswersNothing result self.old self.new (adopt self.old message.now) }
+    {
+        if let Some(fault) = self.message_refusal(message) {
+            return Err(fault);
+        }
+        Ok(self.held.hold(message)?)
+    }
+
+    /// A message has come. With the undo the step can be taken back.
+    pub fn take_message(
+        &mut self,
+        alloc: Global,
+        message: &Message,
+    ) -> Result<(RingOut, RingUndo), RingFault>
+        ensures { AnswersUndoably result self.old self.new (on_message self.old message.now) }
+    {
+        if let Some(fault) = self.message_refusal(message) {
+            return Err(fault);
+        }
+        self.held.hold(message)?;
+        let Ok(up) = self.held.going_up(alloc, self.handed, self.safe_to) else {
+            self.held.forget(message.number);
+            return Err(RingFault::Memory);
+        };
+        let handed = self.handed;
+        self.handed += up.len() as u32;
+        let undo = RingUndo::Message {
+            number: message.number,
+            handed,
+            forgotten: forget_below(&mut self.kept, message.number),
+        };
+        let out = RingOut {
+            packets: Vec::new(alloc),
+            handed: up,
+        };
+        Ok((out, undo))
+    }
+
+    /// A message has come.
+    pub fn on_message(&mut self, alloc: Global, message: &Message) -> Result<RingOut, RingFault>
+        ensures { Answers result self.old self.new (on_message self.old message.now) }
+    {
+        let (out, _undo) = self.take_message(alloc, message)?;
+        Ok(out)
+    }
+
+    /// Takes the last step back: what a caller does whose own growth fails after it. `take_message` and `take_token`
+    /// give the undo; for a submit or an adopt the caller writes it.
+    pub fn undo(&mut self, undo: RingUndo)
+        ensures { self.new ≡ taken_back undo self.old }
+    {
+        match undo {
+            RingUndo::Submit { waited } => self.waiting.truncate(waited),
+            RingUndo::Message {
+                number,
+                handed,
+                forgotten,
+            } => {
+                self.held.forget(number);
+                self.handed = handed;
+                if let Some(token) = forgotten {
+                    self.kept = Some(token);
+                }
+            }
+            RingUndo::Visit {
+                seq,
+                handed,
+                safe_to,
+                sent_aru,
+                last,
+                waiting,
+                kept,
+            } => {
+                self.held.forget_above(seq);
+                self.handed = handed;
+                self.safe_to = safe_to;
+                self.sent_aru = sent_aru;
+                self.last = last;
+                self.waiting = waiting;
+                self.kept = kept;
+            }
+        }
+    }
+
+    pub fn try_clone(&self, alloc: Global) -> Result<RingState, AllocError>
+        ensures { IfOk result (λ s. s ≡ self.now) }
+    {
+        let mut waiting = Vec::with_capacity(alloc, self.waiting.len())?;
+        for body in &self.waiting {
+            waiting.push(body.try_clone()?)?;
+        }
+        let kept = match &self.kept {
+            None => None,
+            Some(token) => Some(token.try_clone(alloc)?),
+        };
+        Ok(RingState {
+            me: self.me,
+            ring: self.ring,
+            members: self.members.to_vec(alloc)?,
+            held: self.held.try_clone(alloc)?,
+            handed: self.handed,
+            safe_to: self.safe_to,
+            sent_aru: self.sent_aru,
+            last: self.last,
+            waiting,
+            kept,
+        })
+    }
+
+    fn next_member(&self) -> ProcId
+        ensures { result ≡ next_of self.now }
+    {
+        let place = place_of(&self.members, self.me).unwrap_or(0);
+        self.members[(place + 1) % self.members.len()]
+    }
+
+    /// Time has passed: the kept token is sent again.
+    pub fn on_resend(&self, alloc: Global) -> Result<RingOut, RingFault>
+        ensures { Answers result self.now self.now (Ok (on_resend self.now)) }
+    {
+        let mut packets = Vec::new(alloc);
+        if let Some(token) = &self.kept {
+            packets.push((
+                To::One(self.next_member()),
+                Packet::Token(token.try_clone(alloc)?),
+            ))?;
+        }
+        Ok(RingOut {
+            packets,
+            handed: Vec::new(alloc),
+        })
+    }
+}

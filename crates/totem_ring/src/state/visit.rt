@@ -1,0 +1,180 @@
+//! A token's visit.
+ghost use Rattle.std.specs.Prelude.{◌≡◌, ◌+◌, ◌^◌, ◌<◌, length, IfOk};
+
+use crate::departure::{Departure, sendings, set_aru};
+use crate::fault::RingFault;
+use crate::out::RingOut;
+use crate::refusals::{is_above, is_none_or_member, is_same_ring};
+use crate::requests::{Answered, answer, ask_missing};
+use crate::state::RingState;
+use crate::undo::RingUndo;
+use std::alloc::{AllocError, Global};
+use std::mem;
+use totem_ids::ProcId;
+use totem_packets::{Message, Number, Requests, Token, TokenSeq};
+
+impl RingState {
+    ghost use Rattle.totem_ring.specs.Rings.{taker_of};
+    ghost use Rattle.totem_ring.specs.Steps.{on_token};
+    ghost use Rattle.totem_ring.specs.Refusals.{token_refusal, is_sound, has_room, is_token_in_range};
+    ghost use Rattle.totem_packets.specs.Rising.{IsRequests};
+    ghost use Rattle.totem_ring.specs.Visits.{numbered};
+    ghost use Rattle.totem_ring.specs.Departures.{IsDeparture, token_left};
+    ghost use Rattle.totem_ring.specs.Answers.{Answers};
+    ghost use Rattle.totem_ring.specs.Undoing.{AnswersUndoably};
+
+    fn token_refusal(&self, token: &Token) -> Option<RingFault>
+        ensures { result ≡ token_refusal self.now token.now }
+    {
+        if !is_same_ring(token.ring, self.ring) {
+            return Some(RingFault::OtherRing);
+        }
+        if token.token_seq.get() <= self.last {
+            return Some(RingFault::Repeat);
+        }
+        if !self.is_token_in_range(token) {
+            return Some(RingFault::Range);
+        }
+        None
+    }
+
+    fn taker(&self, token_seq: TokenSeq) -> ProcId
+        ensures { result ≡ taker_of self.now.members token_seq }
+    {
+        let count = self.members.len() as u64;
+        self.members[((token_seq.get() - 1) % count) as usize]
+    }
+
+    fn is_sound(&self, token: &Token) -> bool
+        ensures { result ≡ is_sound self.now token.now }
+    {
+        token.aru <= token.seq
+            && is_none_or_member(&self.members, token.aru_id)
+            && !is_above(token.seq, token.rtr.as_slice())
+            && !self.held.holds_above(token.seq)
+    }
+
+    fn has_room(&self, token: &Token) -> bool
+        ensures { result ≡ has_room self.now token.now }
+    {
+        token.token_seq.get() < u64::MAX && token.seq as u64 + (self.waiting.len() as u64) < 1 << 32
+    }
+
+    fn is_token_in_range(&self, token: &Token) -> bool
+        ensures { result ≡ is_token_in_range self.now token.now }
+    {
+        self.taker(token.token_seq).number() == self.me.number()
+            && self.is_sound(token)
+            && self.has_room(token)
+    }
+
+    /// What waits, as messages with the numbers after `seq`.
+    fn numbered(&self, alloc: Global, seq: u32) -> Result<Vec<Message>, AllocError>
+        requires { seq + length self.now.waiting < 2 ^ 32 }
+        ensures { IfOk result (λ own. own.items ≡ numbered self.now seq self.now.waiting) }
+    {
+        let mut own = Vec::new(alloc);
+        let mut given = seq;
+        for body in &self.waiting {
+            own.push(Message {
+                ring: self.ring,
+                number: Number::of(given + 1),
+                sender: self.me,
+                body: body.try_clone()?,
+            })?;
+            given += 1;
+        }
+        Ok(own)
+    }
+
+    /// The token as it leaves, when `seq` is the last number given and `rtr` is still asked for.
+    fn token_left(&self, token: &Token, seq: u32, mut rtr: Vec<Number>) -> Result<Token, AllocError>
+        requires room { token.now.token_seq + 1 < 2 ^ 64 }
+        requires rules { IsRequests rtr.items }
+        ensures { IfOk result (λ left. left ≡ token_left self.now token.now seq rtr.items) }
+    {
+        let (aru, aru_id) = set_aru(self.me, self.held.aru(), seq, token.aru, token.aru_id);
+        ask_missing(&mut rtr, &self.held, seq)?;
+        Ok(Token {
+            ring: self.ring,
+            token_seq: TokenSeq::of(token.token_seq.get() + 1),
+            seq,
+            aru,
+            aru_id,
+            rtr: Requests::of(rtr),
+        })
+    }
+
+    /// How the visit ends, when its own messages are held.
+    fn departure(
+        &self,
+        alloc: Global,
+        token: &Token,
+        answered: Answered,
+        own: Vec<Message>,
+    ) -> Result<Departure, AllocError>
+        requires seq { token.now.seq + length own.items < 2 ^ 32 }
+        requires token_seq { token.now.token_seq + 1 < 2 ^ 64 }
+        requires rules { IsRequests answered.rtr.items }
+        ensures { IfOk result (IsDeparture self.now token.now answered own.items) }
+    {
+        let seq = token.seq + own.len() as u32;
+        let leaving = self.token_left(token, seq, answered.rtr)?;
+        let safe_to = self.safe_to.max(self.sent_aru.min(leaving.aru));
+        let handed = self.held.going_up(alloc, self.handed, safe_to)?;
+        let packets = sendings(alloc, answered.messages, own, self.next_member(), &leaving)?;
+        Ok(Departure {
+            leaving,
+            safe_to,
+            packets,
+            handed,
+        })
+    }
+
+    /// The token has come. With the undo the visit can be taken back.
+    pub fn take_token(
+        &mut self,
+        alloc: Global,
+        token: &Token,
+    ) -> Result<(RingOut, RingUndo), RingFault>
+        ensures { AnswersUndoably result self.old self.new (on_token self.old token.now) }
+    {
+        if let Some(fault) = self.token_refusal(token) {
+            return Err(fault);
+        }
+        let answered = answer(alloc, &self.held, &token.rtr)?;
+        let own = self.numbered(alloc, token.seq)?;
+        self.held.hold_all(token.seq, &own)?;
+        let Ok(departure) = self.departure(alloc, token, answered, own) else {
+            self.held.forget_above(token.seq);
+            return Err(RingFault::Memory);
+        };
+        let undo = RingUndo::Visit {
+            seq: token.seq,
+            handed: self.handed,
+            safe_to: self.safe_to,
+            sent_aru: self.sent_aru,
+            last: self.last,
+            waiting: mem::replace(&mut self.waiting, Vec::new(alloc)),
+            kept: self.kept.take(),
+        };
+        self.handed += departure.handed.len() as u32;
+        self.safe_to = departure.safe_to;
+        self.sent_aru = departure.leaving.aru;
+        self.last = token.token_seq.get();
+        self.kept = Some(departure.leaving);
+        let out = RingOut {
+            packets: departure.packets,
+            handed: departure.handed,
+        };
+        Ok((out, undo))
+    }
+
+    /// The token has come: what it asks for and what waits is broadcast, messages are handed up, and it is passed on.
+    pub fn on_token(&mut self, alloc: Global, token: &Token) -> Result<RingOut, RingFault>
+        ensures { Answers result self.old self.new (on_token self.old token.now) }
+    {
+        let (out, _undo) = self.take_token(alloc, token)?;
+        Ok(out)
+    }
+}

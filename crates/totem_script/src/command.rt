@@ -1,0 +1,48 @@
+use crate::groups::Groups;
+use crate::process_list::ProcessList;
+use totem_ids::{ProcId, RingId, Service};
+use totem_packets::Payload;
+
+/// What a line of a script says (docs/PROTOCOL.md, "Scripts").
+#[derive(Debug, Drop)]
+pub enum Command {
+    /// These nodes are made on this ring, and its first token is on its way.
+    Ring {
+        ring: RingId,
+        members: ProcessList,
+    },
+    /// A client of this process asks it to send this.
+    Submit {
+        proc: ProcId,
+        service: Service,
+        payload: Payload,
+    },
+    /// So many times the first packet goes to its receiver.
+    Run {
+        times: u32,
+    },
+    /// The packet at this place, from 1, is lost.
+    Drop {
+        place: u32,
+    },
+    /// The packet at this place, from 1, comes once more, behind the others.
+    Repeat {
+        place: u32,
+    },
+    /// From now on no packet passes between these groups.
+    Cut {
+        groups: Groups,
+    },
+    /// The cut ends.
+    Join,
+    /// The process's timer runs out.
+    Timer {
+        proc: ProcId,
+    },
+    /// The process fails.
+    Crash {
+        proc: ProcId,
+    },
+    /// The last line.
+    End,
+}

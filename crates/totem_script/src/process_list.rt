@@ -1,0 +1,50 @@
+ghost use Rattle.std.specs.Prelude.{◌≡◌, [], ◌∷◌, ◌++◌, MatchResult, IsTrue, ◌↔◌};
+
+use std::alloc::{AllocError, AllocFailed, Global};
+use std::marker::Model;
+use totem_ids::ProcId;
+
+/// Processes as a line lists them: in any order, and each as often as it stands there.
+#[derive(Debug, Drop)]
+pub struct ProcessList {
+    procs: Vec<ProcId>,
+}
+
+impl Model for ProcessList {
+    ghost use Rattle.std.specs.Prelude.{ℕ, List};
+
+    ghost Value = { List ℕ };
+
+    ghost view = { λ p. p.procs.items };
+}
+
+impl ProcessList {
+    /// No processes yet.
+    pub fn new(alloc: Global) -> ProcessList
+        ensures { result ≡ [] }
+    {
+        ProcessList {
+            procs: Vec::new(alloc),
+        }
+    }
+
+    /// One process more, behind the others.
+    pub fn push(&mut self, proc: ProcId) -> Result<(), AllocError>
+        ensures { MatchResult result (λ u. self.new ≡ self.old ++ proc ∷ []) (λ e. self.new ≡ self.old) }
+    {
+        self.procs.push(proc)?;
+        Ok(())
+    }
+
+    pub fn is_empty(&self) -> bool
+        ensures { IsTrue result ↔ (self.now ≡ []) }
+    {
+        self.procs.is_empty()
+    }
+
+    pub fn as_slice(&self) -> &[ProcId]
+        ensures { result.now ≡ self.now }
+    {
+        &self.procs
+    }
+}
