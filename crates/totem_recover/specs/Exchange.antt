@@ -12,8 +12,8 @@ use Rattle.totem_packets.specs.declared.packet.Packet as packet
 use Rattle.totem_packets.specs.declared.packet.Packet.TheVariants as packets
 use Rattle.totem_packets.specs.OldRings.{processes_of, transitional_set, least_aru, greatest_delivered, obligation_union}
 use Rattle.totem_packets.specs.Sets.{has}
-use Rattle.totem_ring.specs.declared.out.To.{To}
-use Rattle.totem_ring.specs.declared.out.To.TheVariants.{All, One}
+use Rattle.totem_ring.specs.declared.outcome.To.{To}
+use Rattle.totem_ring.specs.declared.outcome.To.TheVariants.{All, One}
 use Rattle.totem_ring.specs.Rings.{Ring, Held, aru_of}
 
 -- a member on its way from its old ring to a new one

@@ -4,7 +4,7 @@ use Rattle.totem_packets.specs.declared.message.Message.{Message}
 use Rattle.totem_packets.specs.declared.token.Token.{Token}
 use Rattle.totem_ring.specs.declared.fault.RingFault.{RingFault}
 use Rattle.totem_ring.specs.declared.fault.RingFault.TheVariants.{Memory}
-use Rattle.totem_ring.specs.declared.out.RingOut.{RingOut}
+use Rattle.totem_ring.specs.declared.outcome.RingOut.{RingOut}
 use Rattle.totem_ring.specs.declared.undo.RingUndo.{RingUndo}
 use Rattle.totem_ring.specs.declared.undo.RingUndo.TheVariants.{Message as OfMessage}
 use Rattle.totem_ring.specs.Rings.{Ring, Held, with_message, without, going_up}

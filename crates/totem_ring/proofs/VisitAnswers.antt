@@ -6,9 +6,9 @@ use Rattle.totem_packets.specs.declared.message.Body.{Body}
 use Rattle.totem_packets.specs.declared.message.Message.{Message}
 use Rattle.totem_packets.specs.declared.token.Token.{Token}
 use Rattle.totem_packets.specs.declared.packet.Packet.TheVariants.{Token as AToken}
-use Rattle.totem_ring.specs.declared.out.To.TheVariants.{One as ToOne}
+use Rattle.totem_ring.specs.declared.outcome.To.TheVariants.{One as ToOne}
 use Rattle.totem_ring.specs.declared.departure.Departure.{Departure}
-use Rattle.totem_ring.specs.declared.out.RingOut.{RingOut}
+use Rattle.totem_ring.specs.declared.outcome.RingOut.{RingOut}
 use Rattle.totem_ring.specs.declared.requests.Answered.{Answered}
 use Rattle.totem_ring.specs.Rings.{up_to, Ring, Held, message_at, holds, with_messages, aru_of, going_up, next_of}
 use Rattle.totem_ring.specs.Refusals.{token_refusal, holds_above}

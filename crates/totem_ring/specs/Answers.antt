@@ -2,7 +2,7 @@
 use Rattle.std.specs.Prelude.{◌≡◌, Result, Ok, Err}
 use Rattle.totem_ring.specs.declared.fault.RingFault.{RingFault}
 use Rattle.totem_ring.specs.declared.fault.RingFault.TheVariants.{Memory}
-use Rattle.totem_ring.specs.declared.out.RingOut.{RingOut}
+use Rattle.totem_ring.specs.declared.outcome.RingOut.{RingOut}
 use Rattle.totem_ring.specs.Rings.{Ring}
 use Rattle.totem_ring.specs.Steps.{Done}
 

@@ -5,7 +5,7 @@ use Rattle.totem_packets.specs.declared.message.Message.{Message}
 use Rattle.totem_packets.specs.declared.token.Token.{Token}
 use Rattle.totem_packets.specs.declared.packet.Packet.TheVariants.{Token as AToken}
 use Rattle.totem_packets.specs.Rising.{IsRequests}
-use Rattle.totem_ring.specs.declared.out.To.TheVariants.{One as ToOne}
+use Rattle.totem_ring.specs.declared.outcome.To.TheVariants.{One as ToOne}
 use Rattle.totem_ring.specs.declared.departure.Departure.{Departure}
 use Rattle.totem_ring.specs.declared.requests.Answered.{Answered}
 use Rattle.totem_ring.specs.Requests.{with_requests}

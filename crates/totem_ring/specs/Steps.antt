@@ -4,7 +4,7 @@ use Rattle.totem_packets.specs.declared.message.Body.{Body}
 use Rattle.totem_packets.specs.declared.message.Message.{Message}
 use Rattle.totem_packets.specs.declared.token.Token.{Token}
 use Rattle.totem_packets.specs.declared.packet.Packet.TheVariants.{Token as AToken}
-use Rattle.totem_ring.specs.declared.out.To.TheVariants.{One as ToOne}
+use Rattle.totem_ring.specs.declared.outcome.To.TheVariants.{One as ToOne}
 use Rattle.totem_ring.specs.declared.fault.RingFault.{RingFault}
 use Rattle.totem_ring.specs.declared.moves.Act.{Act}
 use Rattle.totem_ring.specs.declared.moves.Act.TheVariants.{Submit as DoesSubmit, Message as GetsMessage, Token as GetsToken, Resend as DoesResend}

@@ -3,7 +3,7 @@ use Rattle.std.specs.Prelude.{◌≡◌, take, Option, None, Some, Result, Ok, E
 use Rattle.totem_packets.specs.declared.token.Token.{Token}
 use Rattle.totem_ring.specs.declared.fault.RingFault.{RingFault}
 use Rattle.totem_ring.specs.declared.fault.RingFault.TheVariants.{Memory}
-use Rattle.totem_ring.specs.declared.out.RingOut.{RingOut}
+use Rattle.totem_ring.specs.declared.outcome.RingOut.{RingOut}
 use Rattle.totem_ring.specs.declared.undo.RingUndo.{RingUndo}
 use Rattle.totem_ring.specs.declared.undo.RingUndo.TheVariants.{Submit as OfSubmit, Message as OfMessage, Visit as OfVisit}
 use Rattle.totem_ring.specs.Answers.{IsDone, IsRefused}

@@ -7,8 +7,8 @@ use Rattle.totem_packets.specs.declared.message.Message.{Message}
 use Rattle.totem_packets.specs.declared.token.Token.{Token}
 use Rattle.totem_packets.specs.declared.packet.Packet.{Packet}
 use Rattle.totem_packets.specs.declared.packet.Packet.TheVariants.{Message as AMessage, Token as AToken}
-use Rattle.totem_ring.specs.declared.out.To.{To}
-use Rattle.totem_ring.specs.declared.out.To.TheVariants.{All as ToAll, One as ToOne}
+use Rattle.totem_ring.specs.declared.outcome.To.{To}
+use Rattle.totem_ring.specs.declared.outcome.To.TheVariants.{All as ToAll, One as ToOne}
 use Rattle.totem_ring.specs.Rings.{Ring, Held, message_at, holds, with_messages, aru_of, handed_up, after_hand_up, next_of}
 
 -- a packet and whom it is for

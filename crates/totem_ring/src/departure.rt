@@ -1,10 +1,10 @@
 //! What leaves a visit.
 ghost use Rattle.std.specs.Prelude.{◌≡◌, ◌++◌, ◌∷◌, [], IfOk};
 ghost use Rattle.totem_packets.specs.declared.packet.Packet.TheVariants.{Token as AToken};
-ghost use Rattle.totem_ring.specs.declared.out.To.TheVariants.{One as ToOne};
+ghost use Rattle.totem_ring.specs.declared.outcome.To.TheVariants.{One as ToOne};
 ghost use Rattle.totem_ring.specs.Visits.{broadcasts, aru_set};
 
-use crate::out::To;
+use crate::outcome::To;
 use std::alloc::{AllocError, Global};
 use totem_ids::ProcId;
 use totem_packets::{Message, Packet, Token};

@@ -6,7 +6,7 @@ mod fault;
 mod held;
 mod moves;
 mod order;
-mod out;
+mod outcome;
 mod refusals;
 mod requests;
 #[cfg(test)]
@@ -21,7 +21,7 @@ mod walks;
 pub use fault::RingFault;
 pub use moves::{Act, RingMove};
 pub use order::one_order;
-pub use out::{RingOut, To};
+pub use outcome::{RingOut, To};
 pub use refusals::MOST_WAITING;
 pub use start::first_token;
 pub use state::RingState;

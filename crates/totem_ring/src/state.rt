@@ -5,7 +5,7 @@ ghost use Rattle.totem_ring.specs.Undoing.{kept_again};
 
 use crate::fault::RingFault;
 use crate::held::Held;
-use crate::out::{RingOut, To};
+use crate::outcome::{RingOut, To};
 use crate::refusals::{MOST_WAITING, is_member, is_same_ring, place_of};
 use crate::undo::RingUndo;
 use std::alloc::{AllocError, Global};

@@ -3,7 +3,7 @@ ghost use Rattle.std.specs.Prelude.{◌≡◌, ◌+◌, ◌^◌, ◌<◌, length
 
 use crate::departure::{Departure, sendings, set_aru};
 use crate::fault::RingFault;
-use crate::out::RingOut;
+use crate::outcome::RingOut;
 use crate::refusals::{is_above, is_none_or_member, is_same_ring};
 use crate::requests::{Answered, answer, ask_missing};
 use crate::state::RingState;

@@ -1,5 +1,5 @@
 use Rattle.std.proofs.Common.{◌≡◌, ◌+◌, Ok, None, ◌∙◌, sym, ap, subst}
-use Rattle.totem_ring.specs.declared.out.RingOut.{RingOut}
+use Rattle.totem_ring.specs.declared.outcome.RingOut.{RingOut}
 use Rattle.totem_ring.specs.declared.undo.RingUndo.TheVariants.{Message as OfMessage}
 use Rattle.totem_ring.specs.Refusals.{message_refusal}
 use Rattle.totem_ring.specs.Steps.{on_message}

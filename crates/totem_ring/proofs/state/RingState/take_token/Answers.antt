@@ -1,7 +1,7 @@
 use Rattle.std.proofs.Common.{Vec, Global, [], ◌≡◌, ◌+◌, ◌<◌, List, Some, None, Ok, sym, ◌∙◌, ap, subst}
 use Rattle.std.specs.Prelude.{All}
 use Rattle.totem_packets.specs.declared.message.Message.{Message}
-use Rattle.totem_ring.specs.declared.out.RingOut.{RingOut}
+use Rattle.totem_ring.specs.declared.outcome.RingOut.{RingOut}
 use Rattle.totem_ring.specs.Rings.{Ring}
 use Rattle.totem_ring.specs.Refusals.{token_refusal}
 use Rattle.totem_ring.specs.Visits.{numbered}
