@@ -4,10 +4,14 @@ use Rattle.totem_evs.specs.declared.run_fault.RunFault.{RunFault}
 use Rattle.totem_evs.specs.declared.run_fault.RunFault.TheVariants as run_faults
 use Rattle.totem_evs.specs.RunText.{line}
 use Rattle.totem_evs.specs.RunFaults.{fault_number, fault_name}
+use Rattle.totem_script.specs.declared.script_fault.ScriptFault.{ScriptFault}
+use Rattle.totem_script.specs.declared.script_fault.ScriptFaultKind.{ScriptFaultKind}
+use Rattle.totem_script.specs.declared.script_fault.ScriptFaultKind.TheVariants as script_faults
+use Rattle.totem_script.specs.ScriptFaults.{fault_number as script_fault_number, fault_name as script_fault_name}
 use Rattle.totem_cert.specs.declared.cert_fault.CertFault.{CertFault}
 use Rattle.totem_cert.specs.declared.cert_fault.CertFault.TheVariants as cert_faults
 use Rattle.totem_cert.specs.CertFaults.{fault_number as cert_fault_number, fault_name as cert_fault_name}
-use Rattle.totem_cluster.specs.Endings.{refusal_text, process_text, run_line, cert_line}
+use Rattle.totem_cluster.specs.Endings.{refusal_text, process_text, run_line, cert_line, script_line, script_line_of}
 
 pub run_not_read : (fault : RunFault) → (fault ≡ run_faults.Read → ⊥)
     → line (refusal_text (codes "totem: run refused: ") (fault_number fault) (fault_name fault) ++ process_text fault) ≡ run_line fault
@@ -34,3 +38,21 @@ cert_not_read cert_faults.TooMany no_read = refl
 cert_not_read cert_faults.End no_read = refl
 cert_not_read cert_faults.Read no_read = absurd (no_read refl)
 cert_not_read cert_faults.Memory no_read = refl
+
+pub script_not_read : (fault : ScriptFault) → (fault.kind ≡ script_faults.Read → ⊥)
+    → line (refusal_text (codes "totem: script refused: ") (script_fault_number fault.kind) (script_fault_name fault.kind)) ≡ script_line fault
+script_not_read fault no_read = of_kind fault.kind no_read
+  where
+    of_kind : (kind : ScriptFaultKind) → (kind ≡ script_faults.Read → ⊥)
+        → line (refusal_text (codes "totem: script refused: ") (script_fault_number kind) (script_fault_name kind)) ≡ script_line_of kind
+    of_kind script_faults.Header no_read = refl
+    of_kind script_faults.Word no_read = refl
+    of_kind script_faults.Number no_read = refl
+    of_kind script_faults.Order no_read = refl
+    of_kind script_faults.Members no_read = refl
+    of_kind script_faults.Place no_read = refl
+    of_kind script_faults.End no_read = refl
+    of_kind script_faults.Truncated no_read = refl
+    of_kind script_faults.TooMany no_read = refl
+    of_kind script_faults.Read no_read = absurd (no_read refl)
+    of_kind script_faults.Memory no_read = refl

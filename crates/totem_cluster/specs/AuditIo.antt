@@ -23,8 +23,10 @@ use Rattle.totem_cluster.specs.declared.io_fault.IoFault.TheVariants as faults
 abbrev pub Says : Answer → Outcome → Type 0
 Says (Yes lines pending waiting) outcomes.Yes = Unit {0}
 Says (Yes lines pending waiting) outcomes.No = ⊥
+Says (Yes lines pending waiting) outcomes.Made = ⊥
 Says (No faults) outcomes.Yes = ⊥
 Says (No faults) outcomes.No = Unit {0}
+Says (No faults) outcomes.Made = ⊥
 
 -- all that was left is the text of a run in which each member has a log, and nothing is left now
 pub record IsWhole (old new : Seen) (logs : List Log) : Type 0 where
@@ -60,5 +62,6 @@ Audits old new was is (Ok outcome) = IsAudited old new was is outcome
 Audits old new was is (Err (faults.Run fault)) = (is ≡ was) × (fault ≢ run_faults.Memory) × IsRefused old new fault
 Audits old new was is (Err (faults.Cert fault)) = ⊥
 Audits old new was is (Err (faults.Refused fault)) = ⊥
+Audits old new was is (Err (faults.Script fault)) = ⊥
 Audits old new was is (Err faults.Memory) = (is ≡ was) × (new.failures ≡ old.failures)
 Audits old new was is (Err faults.Write) = (is.failures ≡ (was.failures + 1) % 2 ^ 64) × ((logs : List Log) × IsWhole old new logs)

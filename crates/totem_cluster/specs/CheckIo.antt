@@ -73,6 +73,7 @@ LacksCertificate old new fault = (between : Seen) × (run : Run) × FitsRun old 
 abbrev pub IsReported : List Log → List Numbering → Held → Held → Outcome → Type 0
 IsReported logs lines was is outcomes.Yes = IsAcceptable logs lines × ((accepted : Accepted) × ListsOpen logs accepted × Wrote was is (accepted_text accepted.pending.items accepted.waiting.items))
 IsReported logs lines was is outcomes.No = Certified logs lines × ((fault : Fault) × IsFirstFault logs fault × Wrote was is (no_text (fault ∷ [])))
+IsReported logs lines was is outcomes.Made = ⊥
 
 -- a run and a certificate were read, and the checker's report of them was written and nothing else
 pub record IsChecked (old new : Seen) (was is : Held) (outcome : Outcome) : Type 0 where
@@ -102,5 +103,6 @@ ChecksText old new was is (Ok outcome) = IsChecked old new was is outcome
 ChecksText old new was is (Err (faults.Run fault)) = (is ≡ was) × (fault ≢ run_faults.Memory) × ReadsRun old new (Err fault)
 ChecksText old new was is (Err (faults.Cert fault)) = (is ≡ was) × (fault ≢ cert_faults.Memory) × LacksCertificate old new fault
 ChecksText old new was is (Err (faults.Refused fault)) = (is ≡ was) × IsRefusedFor old new fault
+ChecksText old new was is (Err (faults.Script fault)) = ⊥
 ChecksText old new was is (Err faults.Memory) = (is ≡ was) × (new.failures ≡ old.failures)
 ChecksText old new was is (Err faults.Write) = (is.failures ≡ (was.failures + 1) % 2 ^ 64) × ((logs : List Log) × (lines : List Numbering) × IsWholePair old new logs lines)

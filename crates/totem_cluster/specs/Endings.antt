@@ -13,12 +13,17 @@ use Rattle.totem_cert.specs.declared.cert_fault.CertFault.{CertFault}
 use Rattle.totem_cert.specs.declared.cert_fault.CertFault.TheVariants as cert_faults
 use Rattle.totem_cert.specs.CertFaults.{fault_number as cert_fault_number, fault_name as cert_fault_name}
 use Rattle.totem_check.specs.CheckFaults.{fault_number as check_fault_number, fault_name as check_fault_name}
+use Rattle.totem_script.specs.declared.script_fault.ScriptFault.{ScriptFault}
+use Rattle.totem_script.specs.declared.script_fault.ScriptFaultKind.{ScriptFaultKind}
+use Rattle.totem_script.specs.declared.script_fault.ScriptFaultKind.TheVariants as script_faults
+use Rattle.totem_script.specs.ScriptFaults.{fault_number as script_fault_number, fault_name as script_fault_name}
 use Rattle.totem_cluster.specs.declared.outcome.Outcome.{Outcome}
 use Rattle.totem_cluster.specs.declared.outcome.Outcome.TheVariants as outcomes
 use Rattle.totem_cluster.specs.declared.io_fault.IoFault.{IoFault}
 use Rattle.totem_cluster.specs.declared.io_fault.IoFault.TheVariants as faults
 use Rattle.totem_cluster.specs.AuditIo.{Audits}
 use Rattle.totem_cluster.specs.CheckIo.{ChecksText}
+use Rattle.totem_cluster.specs.SimIo.{Simulates}
 
 -- what a sink's members say of it, with nothing gathered for it
 abbrev pub bare : {S : Type 0} → (S → Option (List ℕ)) → (S → ℕ) → S → Held
@@ -34,6 +39,7 @@ Tells old new text = Wrote old new text ⊎ (new.failures ≡ (old.failures + 1)
 abbrev pub outcome_status : Outcome → ℕ
 outcome_status outcomes.Yes = 0
 outcome_status outcomes.No = 1
+outcome_status outcomes.Made = 0
 
 -- what tells a refusal: what was refused, the number and the name of the fault
 abbrev pub refusal_text : List ℕ → ℕ → List ℕ → List ℕ
@@ -52,11 +58,19 @@ abbrev pub cert_line : CertFault → List ℕ
 cert_line cert_faults.Read = line (codes "totem: read failed")
 cert_line fault = line (refusal_text (codes "totem: certificate unreadable: ") (cert_fault_number fault) (cert_fault_name fault))
 
+abbrev pub script_line_of : ScriptFaultKind → List ℕ
+script_line_of script_faults.Read = line (codes "totem: read failed")
+script_line_of kind = line (refusal_text (codes "totem: script refused: ") (script_fault_number kind) (script_fault_name kind))
+
+abbrev pub script_line : ScriptFault → List ℕ
+script_line fault = script_line_of fault.kind
+
 -- the line that tells a fault
 abbrev pub fault_line : IoFault → List ℕ
 fault_line (faults.Run fault) = run_line fault
 fault_line (faults.Cert fault) = cert_line fault
 fault_line (faults.Refused fault) = line (refusal_text (codes "totem: certificate refused: ") (check_fault_number fault) (check_fault_name fault))
+fault_line (faults.Script fault) = script_line fault
 fault_line faults.Memory = line (codes "totem: out of memory")
 fault_line faults.Write = line (codes "totem: write failed")
 
@@ -68,11 +82,16 @@ abbrev pub cert_status : CertFault → ℕ
 cert_status cert_faults.Read = 4
 cert_status fault = 2
 
+abbrev pub script_status : ScriptFaultKind → ℕ
+script_status script_faults.Read = 4
+script_status kind = 2
+
 -- the status of a fault
 abbrev pub fault_status : IoFault → ℕ
 fault_status (faults.Run fault) = run_status fault
 fault_status (faults.Cert fault) = cert_status fault
 fault_status (faults.Refused fault) = 2
+fault_status (faults.Script fault) = script_status fault.kind
 fault_status faults.Memory = 3
 fault_status faults.Write = 4
 
@@ -91,7 +110,7 @@ pub data Shows (was is quiet said : Held) (text : List ℕ) : ℕ → Type 0 whe
   -- the output failed
   unshown : is.failures ≡ (was.failures + 1) % 2 ^ 64 → Tells quiet said (fault_line faults.Write) → Shows was is quiet said text 4
 
--- what is told of words that ask for no audit and no check, and the status
+-- what is told of words that ask for no audit, no check and no simulation, and the status
 pub data Explains (kind : ErrorKind) (was is quiet said : Held) : ℕ → Type 0 where
   -- help or the version was asked for
   helped : (text : List ℕ) (status : ℕ) → IsAsked kind → Shows was is quiet said text status → Explains kind was is quiet said status
@@ -110,5 +129,9 @@ pub data Ends (old new : Seen) (was is quiet said : Held) : ℕ → Type 0 where
   checked : (outcome : Outcome) → ChecksText old new was is (Ok outcome) → said ≡ quiet → Ends old new was is quiet said (outcome_status outcome)
   -- it was not, and the fault is told
   unchecked : (fault : IoFault) → ChecksText old new was is (Err fault) → Tells quiet said (fault_line fault) → Ends old new was is quiet said (fault_status fault)
+  -- a script was read, and its run written
+  simulated : (outcome : Outcome) → Simulates old new was is (Ok outcome) → said ≡ quiet → Ends old new was is quiet said (outcome_status outcome)
+  -- it was not, and the fault is told
+  unsimulated : (fault : IoFault) → Simulates old new was is (Err fault) → Tells quiet said (fault_line fault) → Ends old new was is quiet said (fault_status fault)
   -- nothing was read, and the words are answered; what the text is, and for which words, is not said here
   explained : (kind : ErrorKind) (status : ℕ) → new ≡ old → Explains kind was is quiet said status → Ends old new was is quiet said status

@@ -2,4 +2,5 @@ pub mod Report
 pub mod IoFaults
 pub mod AuditIo
 pub mod CheckIo
+pub mod SimIo
 pub mod Endings

@@ -5,6 +5,7 @@ use thiserror::Error;
 use totem_cert::CertFault;
 use totem_check::CheckFault;
 use totem_evs::{RunFault, WriteFault};
+use totem_script::ScriptFault;
 
 /// Why a call from stream to stream gave no outcome. Nothing was written, unless it is `Write`.
 #[derive(Debug, Drop, Error)]
@@ -18,6 +19,9 @@ pub enum IoFault {
     /// The certificate does not certify the run; never `CheckFault::Broken` or `CheckFault::Memory`.
     #[error("the certificate was refused: {0}")]
     Refused(CheckFault),
+    /// The script makes no run, or its source failed; never with `ScriptFaultKind::Memory`.
+    #[error("the script was refused: {0}")]
+    Script(ScriptFault),
     #[error("out of memory")]
     Memory,
     /// How much went out is not known.

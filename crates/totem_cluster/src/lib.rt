@@ -1,4 +1,4 @@
-//! The program over any three streams: audits of runs, and checks of their certificates.
+//! The program over any three streams: audits of runs, checks of their certificates, and runs that scripts make.
 #![tactic(auto)]
 
 mod auditing;
@@ -8,6 +8,7 @@ mod left_open;
 mod outcome;
 mod report;
 mod shell;
+mod simulating;
 mod telling;
 mod words;
 
@@ -16,5 +17,6 @@ pub use checking::check_io;
 pub use io_fault::IoFault;
 pub use outcome::Outcome;
 pub use shell::program;
+pub use simulating::sim_io;
 pub use telling::tell_fault;
 pub use totem_audit::Workers;

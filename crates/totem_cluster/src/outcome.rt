@@ -1,13 +1,15 @@
 ghost use Rattle.std.specs.Prelude.{◌≡◌};
 ghost use Rattle.totem_cluster.specs.Endings.{outcome_status};
 
-/// How a call ended that writes a report.
+/// How a call ended that writes a report or a run.
 #[derive(Clone, Copy, Debug, PartialEq, Eq)]
 pub enum Outcome {
     /// The run meets the specifications.
     Yes,
     /// The run breaks at least one.
     No,
+    /// A run was made.
+    Made,
 }
 
 impl Outcome {
@@ -18,6 +20,7 @@ impl Outcome {
         match self {
             Outcome::Yes => 0,
             Outcome::No => 1,
+            Outcome::Made => 0,
         }
     }
 }

@@ -9,6 +9,7 @@ use crate::auditing::audit_io;
 use crate::checking::check_io;
 use crate::io_fault::IoFault;
 use crate::report::write_text;
+use crate::simulating::sim_io;
 use crate::telling::{tell, tell_fault};
 use crate::words::{Words, read_words};
 use clap::Error;
@@ -76,6 +77,10 @@ pub fn program<T: Threads + Wait + Sync, R: Source, W: Sink, E: Sink>(
     match read_words(alloc, words) {
         Err(error) => explain(alloc, &error, output, errors),
         Ok(Words::Check) => match check_io(alloc, input, output) {
+            Ok(outcome) => outcome.status(),
+            Err(fault) => tell_fault(errors, &fault),
+        },
+        Ok(Words::Sim) => match sim_io(alloc, input, output) {
             Ok(outcome) => outcome.status(),
             Err(fault) => tell_fault(errors, &fault),
         },

@@ -1,12 +1,13 @@
 //! What the program tells on its stream of errors. It takes no memory, and passes over a failure of that stream.
 ghost use Rattle.std.specs.Prelude.{◌≡◌, decimal};
 ghost use Rattle.totem_ids.specs.Writing.{Writes};
-ghost use Rattle.totem_cluster.specs.Endings.{Tells, bare, refusal_text, process_text, run_line, cert_line, fault_line, fault_status};
+ghost use Rattle.totem_cluster.specs.Endings.{Tells, bare, refusal_text, process_text, run_line, cert_line, script_line, fault_line, script_status, fault_status};
 
 use crate::io_fault::IoFault;
 use totem_cert::CertFault;
 use totem_evs::RunFault;
 use totem_ids::{Failed, Sink};
+use totem_script::{ScriptFault, ScriptFaultKind};
 
 fn put_bytes<E: Sink>(errors: &mut E, bytes: &[u8]) -> Result<(), Failed>
     ensures { Writes (bare E.contents E.failures errors.old) (bare E.contents E.failures errors.new) result bytes.now }
@@ -76,6 +77,21 @@ fn put_cert_fault<E: Sink>(errors: &mut E, fault: &CertFault) -> Result<(), Fail
     put_text(errors, "\n")
 }
 
+fn put_script_fault<E: Sink>(errors: &mut E, fault: &ScriptFault) -> Result<(), Failed>
+    ensures { Writes (bare E.contents E.failures errors.old) (bare E.contents E.failures errors.new) result (script_line fault.now) }
+{
+    if let ScriptFaultKind::Read = fault.kind {
+        return put_text(errors, "totem: read failed\n");
+    }
+    put_refusal(
+        errors,
+        "totem: script refused: ",
+        fault.number(),
+        fault.name(),
+    )?;
+    put_text(errors, "\n")
+}
+
 fn put_fault<E: Sink>(errors: &mut E, fault: &IoFault) -> Result<(), Failed>
     ensures { Writes (bare E.contents E.failures errors.old) (bare E.contents E.failures errors.new) result (fault_line fault.now) }
 {
@@ -91,8 +107,19 @@ fn put_fault<E: Sink>(errors: &mut E, fault: &IoFault) -> Result<(), Failed>
             )?;
             put_text(errors, "\n")
         }
+        IoFault::Script(fault) => put_script_fault(errors, fault),
         IoFault::Memory => put_text(errors, "totem: out of memory\n"),
         IoFault::Write => put_text(errors, "totem: write failed\n"),
+    }
+}
+
+/// The status of a script's fault.
+fn script_status(kind: ScriptFaultKind) -> u8
+    ensures { result ≡ script_status kind }
+{
+    match kind {
+        ScriptFaultKind::Read => 4,
+        _ => 2,
     }
 }
 
@@ -111,6 +138,7 @@ pub fn tell_fault<E: Sink>(errors: &mut E, fault: &IoFault) -> u8
     let _ = put_fault(errors, fault);
     match fault {
         IoFault::Run(RunFault::Read) | IoFault::Cert(CertFault::Read) => 4,
+        IoFault::Script(fault) => script_status(fault.kind),
         IoFault::Run(_) | IoFault::Cert(_) | IoFault::Refused(_) => 2,
         IoFault::Memory => 3,
         IoFault::Write => 4,

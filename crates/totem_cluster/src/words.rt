@@ -9,12 +9,16 @@ pub enum Words {
     Audit,
     /// The check of a run and its certificate.
     Check,
+    /// The run that the script on the standard input makes.
+    Sim,
 }
 
 const ENDINGS: &str = "\
-Status: 0 yes, 1 no, 2 the input was refused, 3 out of memory, 4 a stream failed, 64 wrong words.";
+Status: 0 yes, or a run was made, 1 no, 2 the input was refused, 3 out of memory, 4 a stream failed, 64 wrong words.";
 
 const AUDIT_EXAMPLE: &str = "Example: totem audit < examples/first-yes.run";
+
+const SIM_EXAMPLE: &str = "Example: totem sim < examples/partition-that-heals.script | totem audit";
 
 const CHECK_EXAMPLE: &str = "Example: totem check < examples/first-yes.checked";
 
@@ -30,6 +34,12 @@ fn check_command<'a>(alloc: Global) -> Command<'a> {
         .after_help(CHECK_EXAMPLE)
 }
 
+fn sim_command<'a>(alloc: Global) -> Command<'a> {
+    Command::new(alloc, "sim")
+        .about("Follows the script on the standard input, and writes the run that its nodes record")
+        .after_help(SIM_EXAMPLE)
+}
+
 fn command<'a>(alloc: Global) -> Result<Command<'a>, AllocError> {
     Command::new(alloc, "totem")
         .version("0.1.0")
@@ -37,7 +47,8 @@ fn command<'a>(alloc: Global) -> Result<Command<'a>, AllocError> {
         .after_help(ENDINGS)
         .subcommand_required(true)
         .subcommand(audit_command(alloc))?
-        .subcommand(check_command(alloc))
+        .subcommand(check_command(alloc))?
+        .subcommand(sim_command(alloc))
 }
 
 /// Reads the words, the program's name first. An error has the text for the person who typed them.
@@ -45,6 +56,7 @@ pub fn read_words(alloc: Global, words: &[String]) -> Result<Words, Error> {
     let matches = command(alloc)?.try_get_matches_from(words)?;
     Ok(match matches.subcommand() {
         Some(("check", _)) => Words::Check,
+        Some(("sim", _)) => Words::Sim,
         _ => Words::Audit,
     })
 }

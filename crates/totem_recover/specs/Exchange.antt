@@ -125,15 +125,18 @@ abbrev pub is_reached : Option ℕ → ℕ → Bool
 is_reached None top = false
 is_reached (Some n) top = nat_le n top
 
--- After a visit: what it numbered is off the list; where all marks are held and the aru is at or above each, the
--- obligation set becomes O.
+-- my obligation set after a visit that left the new ring so: where all marks are held and the aru is at or above each, it is O
+abbrev pub obligation_after : Leaving → Ring → List ℕ
+obligation_after r ring = if is_reached (last_mark r ring) (aru_of ring.held) then r.obliged else r.obligation
+
+-- After a visit: what it numbered is off the list, and the obligation set may have become O.
 abbrev pub on_ring : Leaving → Ring → List (To × packet.Packet) → Leaving
 on_ring r ring sendings =
     let numbers = numbers_sent r sendings in
     record r {
       list = drop (min most_at_a_visit (length numbers)) r.list;
       sent = fold max r.sent numbers;
-      obligation = if is_reached (last_mark r ring) (aru_of ring.held) then r.obliged else r.obligation;
+      obligation = obligation_after r ring;
     }
 
 -- every member's mark is handed up

@@ -1,28 +1,15 @@
 //! What is written of the old ring (docs/PROTOCOL.md, "The finish").
 ghost use Rattle.std.specs.Prelude.{◌≡◌, ◌+◌, ◌++◌, ◌∷◌, [], IfOk, OnOk, length};
-ghost use Rattle.totem_ring.specs.Rings.{going_up, is_agreed};
+ghost use Rattle.totem_ring.specs.Rings.{going_up};
 ghost use Rattle.totem_recover.specs.Exchange.{held_above};
 ghost use Rattle.totem_recover.specs.Finish.{delivery, deliveries, rest_from};
 
 use std::alloc::AllocError;
 use std::collections::BTreeMap;
 use totem_evs::Entry;
-use totem_ids::{ConfId, MsgId, Service};
+use totem_ids::{ConfId, MsgId};
 use totem_packets::{Body, Message, Processes};
-
-/// Whether it waits for its turn alone.
-fn is_agreed(body: &Body) -> bool
-    ensures { result ≡ is_agreed body.now }
-{
-    match body {
-        Body::App { service, .. } => match service {
-            Service::Agreed => true,
-            Service::Safe => false,
-        },
-        Body::Old { .. } => true,
-        Body::Mark => false,
-    }
-}
+use totem_ring::is_agreed;
 
 /// The delivery of a client's message; the others have none.
 fn delivery(conf: &ConfId, message: &Message) -> Option<Entry>
@@ -42,7 +29,7 @@ fn delivery(conf: &ConfId, message: &Message) -> Option<Entry>
 }
 
 /// Writes the delivery of a message, if it has one.
-fn deliver(entries: &mut Vec<Entry>, conf: &ConfId, message: &Message) -> Result<(), AllocError>
+pub fn deliver(entries: &mut Vec<Entry>, conf: &ConfId, message: &Message) -> Result<(), AllocError>
     ensures { OnOk result (entries.new.items ≡ entries.old.items ++ deliveries conf.now (message.now ∷ [])) }
 {
     if let Some(entry) = delivery(conf, message) {

@@ -15,5 +15,7 @@ mod sending;
 mod tests;
 
 pub use beginning::is_ready;
+pub use finishing::deliver;
 pub use laws::{a_member_owes_itself, members_leave_alike, owed_are_delivered};
 pub use recovery::Recovery;
+pub use sending::copies_of;

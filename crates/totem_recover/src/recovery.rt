@@ -55,7 +55,7 @@ impl Model for Recovery {
 }
 
 impl Recovery {
-    ghost use Rattle.totem_recover.specs.Exchange.{IsReady, new_recovery, next_bodies, on_ring, last_mark, is_done};
+    ghost use Rattle.totem_recover.specs.Exchange.{IsReady, new_recovery, next_bodies, on_ring, obligation_after, last_mark, is_done};
     ghost use Rattle.totem_recover.specs.Finish.{finish};
 
     /// The recovery that begins as this commit token ends: from the ring of `prev` to that of the token. That it may begin is
@@ -117,6 +117,17 @@ impl Recovery {
         ensures { result.now ≡ self.now.obligation }
     {
         if self.holds_all_marks {
+            &self.obliged
+        } else {
+            &self.obliged_before
+        }
+    }
+
+    /// To whom it owes messages once a visit is noted that left the new ring in this state.
+    pub fn obligation_after(&self, ring: &RingState) -> &Processes
+        ensures { result.now ≡ obligation_after self.now ring.now }
+    {
+        if self.holds_all_marks || is_reached(self.last_mark(ring), ring.my_aru()) {
             &self.obliged
         } else {
             &self.obliged_before

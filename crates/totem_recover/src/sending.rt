@@ -51,7 +51,7 @@ pub(crate) fn list_to_send(
 }
 
 /// Copies of these bodies.
-pub(crate) fn copies_of(alloc: Global, bodies: &[Body]) -> Result<Vec<Body>, AllocError>
+pub fn copies_of(alloc: Global, bodies: &[Body]) -> Result<Vec<Body>, AllocError>
     ensures { IfOk result (λ copies. copies.items ≡ bodies.now) }
 {
     let mut copies = Vec::with_capacity(alloc, bodies.len())?;

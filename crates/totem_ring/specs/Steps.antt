@@ -23,6 +23,10 @@ abbrev pub unless_refused : Option RingFault → Done → Result Done RingFault
 unless_refused (Some fault) done = Err fault
 unless_refused None done = Ok done
 
+-- with these bodies waiting for the next visit too
+abbrev pub given : Ring → List Body → Ring
+given s bodies = record s { waiting = s.waiting ++ bodies }
+
 -- The body waits for the next visit.
 abbrev pub after_submit : Ring → Body → Done
 after_submit s body = record { state = record s { waiting = s.waiting ++ body ∷ [] }; packets = []; handed = [] }

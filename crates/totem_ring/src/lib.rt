@@ -22,7 +22,7 @@ pub use fault::RingFault;
 pub use moves::{Act, RingMove};
 pub use order::one_order;
 pub use outcome::{RingOut, To};
-pub use refusals::MOST_WAITING;
+pub use refusals::{MOST_WAITING, is_agreed, is_same_ring};
 pub use start::first_token;
 pub use state::RingState;
 pub use undo::RingUndo;

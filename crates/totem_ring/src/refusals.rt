@@ -21,6 +21,7 @@ pub fn is_member(members: &[ProcId], proc: ProcId) -> bool
     members.iter().any(|q| q.number() == proc.number())
 }
 
+/// Whether the message waits for its turn alone; a safe one waits until all may hold it. Old counts as agreed, Mark as safe.
 pub fn is_agreed(body: &Body) -> bool
     ensures { result ≡ is_agreed body.now }
 {

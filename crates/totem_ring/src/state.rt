@@ -1,5 +1,5 @@
 //! A member's state on its ring, and its steps but the visit.
-ghost use Rattle.std.specs.Prelude.{◌≡◌, ◌+◌, ◌<◌, length, IfOk, Ok};
+ghost use Rattle.std.specs.Prelude.{◌≡◌, ◌+◌, ◌<◌, ◌++◌, length, take, IfOk, OnOk, MatchResult, Ok};
 ghost use Rattle.totem_ring.specs.Steps.{kept_after};
 ghost use Rattle.totem_ring.specs.Undoing.{kept_again};
 
@@ -68,9 +68,20 @@ fn forget_below(kept: &mut Option<Token>, number: Number) -> Option<Token>
     None
 }
 
+/// Appends copies of these bodies, as many as there is memory for.
+fn put_all(waiting: &mut Vec<Body>, bodies: &[Body]) -> Result<(), AllocError>
+    ensures all { OnOk result (waiting.new.items ≡ waiting.old.items ++ bodies.now) }
+    ensures before { take (length waiting.old.items) waiting.new.items ≡ waiting.old.items }
+{
+    for body in bodies {
+        waiting.push(body.try_clone()?)?;
+    }
+    Ok(())
+}
+
 impl RingState {
     ghost use Rattle.totem_ring.specs.Rings.{new_ring, next_of, aru_of};
-    ghost use Rattle.totem_ring.specs.Steps.{submit, adopt, on_message, on_resend};
+    ghost use Rattle.totem_ring.specs.Steps.{given, submit, adopt, on_message, on_resend};
     ghost use Rattle.totem_ring.specs.Refusals.{message_refusal};
     ghost use Rattle.totem_ring.specs.Answers.{Answers, AnswersNothing};
     ghost use Rattle.totem_ring.specs.Undoing.{AnswersUndoably, taken_back};
@@ -158,6 +169,18 @@ impl RingState {
         }
         self.waiting.push(body)?;
         Ok(())
+    }
+
+    /// These bodies wait for the next visit too: all of them, or none. Nothing counts here how many wait.
+    pub fn give(&mut self, bodies: &[Body]) -> Result<(), AllocError>
+        ensures { MatchResult result (λ u. self.new ≡ given self.old bodies.now) (λ e. self.new ≡ self.old) }
+    {
+        let waited = self.waiting.len();
+        let put = put_all(&mut self.waiting, bodies);
+        if put.is_err() {
+            self.waiting.truncate(waited);
+        }
+        put
     }
 
     fn message_refusal(&self, message: &Message) -> Option<RingFault>

@@ -8,6 +8,8 @@ mod certificates;
 #[cfg(test)]
 mod refusals;
 #[cfg(test)]
+mod simulations;
+#[cfg(test)]
 mod streams;
 #[cfg(test)]
 mod table;

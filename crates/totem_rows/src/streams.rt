@@ -1,24 +1,36 @@
 //! Streams that fail.
 use crate::table::{lines, words};
+use std::alloc::Global;
+use std::io;
+use std::process::Abort;
+use std::sync::Wait;
 use std::test::Fail;
-use totem_cluster::{IoFault, Outcome, Workers, audit_io, check_io, program};
+use std::thread::Threads;
+use totem_cluster::{IoFault, Outcome, Workers, audit_io, check_io, program, sim_io};
 use totem_evs::RunFault;
 use totem_ids::{FromRead, Fused, ToWrite};
+use totem_script::{ScriptFault, ScriptFaultKind};
 
 const GOOD: &str =
     "totem-run 1;log 1;conf r4.1 1 2;send r4.1 a 4.1#1;dlv r4.1 4.1#1;open;log 2;conf r4.1 1 2;dlv r4.1 4.1#1;open;end;";
 
-#[test]
-fn a_read_that_fails_leaves_no_report(rt: HostRuntime) -> Result<(), Fail> {
-    let alloc = rt.alloc();
-    let text = lines(alloc, GOOD)?;
-    let words = words(alloc, "audit")?;
+const SCRIPT: &str = "totem-script 1;ring 4.1 1;end;";
+
+// The program fails to read, wherever the source fails, and writes nothing.
+fn fails_to_read<T: Threads + Wait + Abort + Sync>(
+    rt: &T,
+    alloc: Global,
+    asked: &str,
+    text: &str,
+) -> Result<(), Fail> {
+    let text = lines(alloc, text)?;
+    let words = words(alloc, asked)?;
     for at in 0..=text.len() as u64 {
         let mut input = Fused::new(FromRead::new(text.as_bytes()), at);
         let mut output = ToWrite::new(Vec::new(alloc));
         let mut errors = ToWrite::new(Vec::new(alloc));
         let status = program(
-            &rt,
+            rt,
             alloc,
             words.as_slice(),
             &mut input,
@@ -37,11 +49,70 @@ fn a_read_that_fails_leaves_no_report(rt: HostRuntime) -> Result<(), Fail> {
 }
 
 #[test]
+fn a_read_that_fails_leaves_no_report(rt: HostRuntime) -> Result<(), Fail> {
+    fails_to_read(&rt, rt.alloc(), "audit", GOOD)
+}
+
+#[test]
+fn a_read_that_fails_leaves_no_run(rt: HostRuntime) -> Result<(), Fail> {
+    fails_to_read(&rt, rt.alloc(), "sim", SCRIPT)
+}
+
+// What is wrong with an earlier line comes before a failure of the source.
+#[test]
+fn an_earlier_line_comes_before_a_failed_read(rt: HostRuntime) -> Result<(), Fail> {
+    let alloc = rt.alloc();
+    let mut input = Fused::new(FromRead::new(b"totem-script 1\nrings".as_slice()), 20);
+    let mut output = ToWrite::new(Vec::new(alloc));
+    let fault = sim_io(alloc, &mut input, &mut output);
+    assert!(rt;
+        matches!(
+            fault,
+            Err(IoFault::Script(ScriptFault {
+                kind: ScriptFaultKind::Read,
+                line: 2
+            }))
+        )
+    );
+    let mut input = Fused::new(FromRead::new(b"totem-script 1\nrings\n".as_slice()), 21);
+    let fault = sim_io(alloc, &mut input, &mut output);
+    assert!(rt;
+        matches!(
+            fault,
+            Err(IoFault::Script(ScriptFault {
+                kind: ScriptFaultKind::Word,
+                line: 2
+            }))
+        )
+    );
+    Ok(())
+}
+
+#[test]
+fn a_script_without_an_end_is_refused(rt: HostRuntime) -> Result<(), Fail> {
+    let alloc = rt.alloc();
+    let mut input = FromRead::new(io::repeat(b'x'));
+    let mut output = ToWrite::new(Vec::new(alloc));
+    let fault = sim_io(alloc, &mut input, &mut output);
+    assert!(rt;
+        matches!(
+            fault,
+            Err(IoFault::Script(ScriptFault {
+                kind: ScriptFaultKind::TooMany,
+                line: 1
+            }))
+        )
+    );
+    assert_eq!(rt; output.into_inner().len(), 0);
+    Ok(())
+}
+
+#[test]
 fn a_write_that_fails_is_told(rt: HostRuntime) -> Result<(), Fail> {
     let alloc = rt.alloc();
-    let text = lines(alloc, GOOD)?;
-    for asked in ["audit", "--help"] {
+    for (asked, text) in [("audit", GOOD), ("sim", SCRIPT), ("--help", "")] {
         let words = words(alloc, asked)?;
+        let text = lines(alloc, text)?;
         let mut input = FromRead::new(text.as_bytes());
         let mut output = Fused::new(ToWrite::new(Vec::new(alloc)), 0);
         let mut errors = ToWrite::new(Vec::new(alloc));

@@ -1,10 +1,9 @@
 -- The digits of a number, one after the other.
-use Rattle.std.proofs.Common.{◌≡◌, ◌≢◌, ℕ, ◌<◌, ◌≤◌, ◌+◌, ◌-◌, ◌*◌, List, [], ◌∷◌, length, get_or, drop, Bool, true, false, cond, Ok, Err, refl, sym, ap, ◌∙◌, arith, nat_le}
+use Rattle.std.proofs.Common.{◌≡◌, ℕ, ◌<◌, ◌≤◌, ◌+◌, ◌-◌, ◌*◌, List, [], ◌∷◌, length, get_or, drop, true, false, Ok, Err, refl, ap, ◌∙◌, arith}
 use Rattle.std.proofs.lemmas.List.{drop_more, drop_all}
 use Rattle.std.proofs.lemmas.Bool.Decides.{nat_tests}
 use Rattle.totem_ids.specs.Numbers.{is_digit}
 use Rattle.totem_script.specs.declared.fault.LineFault.TheVariants.{Word, Number}
-use Rattle.totem_script.specs.Parsed.{Parsed}
 use Rattle.totem_script.specs.Numbers.{begins_number, digits_in, number_in}
 
 pub no_digit : (max : ℕ) (word : List ℕ) → length word ≡ 0 → number_in max word ≡ Err Number

@@ -1,3 +1,10 @@
 pub mod Cuts
 pub mod Digits
 pub mod Steps
+pub mod LineEnds
+pub mod Acting
+pub mod Casting
+pub mod Rings
+pub mod Sent
+pub mod Happening
+pub mod Judging

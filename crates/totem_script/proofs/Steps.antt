@@ -1,5 +1,5 @@
 -- Lists of processes and groups, a word at a time.
-use Rattle.std.proofs.Common.{◌≡◌, ◌≢◌, ℕ, ◌++◌, List, [], ◌∷◌, Ok, Err, Option, None, Some, refl, sym, ap, ◌∙◌}
+use Rattle.std.proofs.Common.{◌≡◌, ◌≢◌, ℕ, ◌++◌, List, [], ◌∷◌, Ok, Err, None, Some, refl, ap, ◌∙◌}
 use Rattle.totem_script.specs.declared.fault.LineFault.{LineFault}
 use Rattle.totem_script.specs.declared.fault.LineFault.TheVariants.{Word}
 use Rattle.totem_script.specs.Numbers.{process_in}

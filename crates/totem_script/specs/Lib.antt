@@ -3,3 +3,10 @@ pub mod Parsed
 pub mod Numbers
 pub mod Keywords
 pub mod Commands
+pub mod ScriptFaults
+pub mod Judged
+pub mod Lines
+pub mod Actors
+pub mod Casts
+pub mod Scenes
+pub mod Simulation

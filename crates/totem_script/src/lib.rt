@@ -1,15 +1,24 @@
 //! Scripts: texts that say what happens to some nodes, line by line.
 #![tactic(auto)]
 
+mod actor;
+mod cast;
 mod command;
 mod cutting;
 mod fault;
 mod groups;
 mod keyword;
+mod lines;
 mod numbers;
 mod parts;
+mod playing;
+mod posting;
 mod process_list;
 mod reading;
+mod scene;
+mod script_fault;
+#[cfg(test)]
+mod simulation_tests;
 mod submitting;
 #[cfg(test)]
 mod tests;
@@ -19,5 +28,7 @@ pub use fault::LineFault;
 pub use groups::Groups;
 pub use keyword::Keyword;
 pub use parts::Parts;
+pub use playing::simulate;
 pub use process_list::ProcessList;
 pub use reading::read_command;
+pub use script_fault::{ScriptFault, ScriptFaultKind};

@@ -1,4 +1,5 @@
 ghost use Rattle.std.specs.Prelude.{◌≡◌, [], ◌∷◌, ◌++◌, MatchResult, IsTrue, ◌↔◌};
+ghost use Rattle.totem_packets.specs.Sets.{has};
 
 use std::alloc::{AllocError, AllocFailed, Global};
 use std::marker::Model;
@@ -40,6 +41,12 @@ impl ProcessList {
         ensures { IsTrue result ↔ (self.now ≡ []) }
     {
         self.procs.is_empty()
+    }
+
+    pub fn has(&self, proc: ProcId) -> bool
+        ensures { result ≡ has self.now proc }
+    {
+        self.procs.iter().any(|other| *other == proc)
     }
 
     pub fn as_slice(&self) -> &[ProcId]

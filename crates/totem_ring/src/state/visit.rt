@@ -16,21 +16,32 @@ use totem_packets::{Message, Number, Requests, Token, TokenSeq};
 impl RingState {
     ghost use Rattle.totem_ring.specs.Rings.{taker_of};
     ghost use Rattle.totem_ring.specs.Steps.{on_token};
-    ghost use Rattle.totem_ring.specs.Refusals.{token_refusal, is_sound, has_room, is_token_in_range};
+    ghost use Rattle.totem_ring.specs.Refusals.{refusal_at_once, token_refusal, is_sound, has_room, is_token_in_range};
     ghost use Rattle.totem_packets.specs.Rising.{IsRequests};
     ghost use Rattle.totem_ring.specs.Visits.{numbered};
     ghost use Rattle.totem_ring.specs.Departures.{IsDeparture, token_left};
     ghost use Rattle.totem_ring.specs.Answers.{Answers};
     ghost use Rattle.totem_ring.specs.Undoing.{AnswersUndoably};
 
-    fn token_refusal(&self, token: &Token) -> Option<RingFault>
-        ensures { result ≡ token_refusal self.now token.now }
+    /// What refuses a token whatever waits here: it is of another ring, or was taken before.
+    pub fn token_refusal_at_once(&self, token: &Token) -> Option<RingFault>
+        ensures { result ≡ refusal_at_once self.now token.now }
     {
         if !is_same_ring(token.ring, self.ring) {
             return Some(RingFault::OtherRing);
         }
         if token.token_seq.get() <= self.last {
             return Some(RingFault::Repeat);
+        }
+        None
+    }
+
+    #[tactic(auto, using(crate::proofs::AtOnce::refused_at_once, crate::proofs::AtOnce::refused_later))]
+    fn token_refusal(&self, token: &Token) -> Option<RingFault>
+        ensures { result ≡ token_refusal self.now token.now }
+    {
+        if let Some(fault) = self.token_refusal_at_once(token) {
+            return Some(fault);
         }
         if !self.is_token_in_range(token) {
             return Some(RingFault::Range);

@@ -1,5 +1,5 @@
 use Rattle.std.proofs.Common.{refl}
-use Rattle.totem_cluster.specs.Endings.{judged, failed, checked, unchecked, explained}
+use Rattle.totem_cluster.specs.Endings.{judged, failed, checked, unchecked, simulated, unsimulated, explained}
 use Rattle.totem_cluster.proofs.shell.program.Goals as goal
 
 pub returns-in-Err : goal.returns-in-Err
@@ -17,3 +17,10 @@ returns-in-Ok-audit_io g c = rw c.status-in-Ok-audit_io.ensures (judged _ c.in-O
 pub returns-in-Err-audit_io : goal.returns-in-Err-audit_io
 returns-in-Err-audit_io g c =
     rw c.tell_fault-in-Err-audit_io.ensures.status (failed _ c.in-Err-audit_io.ensures c.tell_fault-in-Err-audit_io.ensures.line)
+
+pub returns-in-Ok-sim_io : goal.returns-in-Ok-sim_io
+returns-in-Ok-sim_io g c = rw c.status-in-Ok-sim_io.ensures (simulated _ c.in-Ok-sim_io.ensures refl)
+
+pub returns-in-Err-sim_io : goal.returns-in-Err-sim_io
+returns-in-Err-sim_io g c =
+    rw c.tell_fault-in-Err-sim_io.ensures.status (unsimulated _ c.in-Err-sim_io.ensures c.tell_fault-in-Err-sim_io.ensures.line)

@@ -1,6 +1,5 @@
-use Rattle.std.proofs.Common.{rules, ◌≡◌, ◌≢◌, [], ◌∷◌, Ok, Err, Some, None, sym, ◌∙◌}
-use Rattle.totem_script.specs.Numbers.{process_in}
-use Rattle.totem_script.specs.Commands.{group_word, groups_from}
+use Rattle.std.proofs.Common.{rules, [], sym}
+use Rattle.totem_script.specs.Commands.{groups_from}
 use Rattle.totem_script.proofs.Steps.{no_group, no_first, first, last_group, no_next, next_process, next_group}
 use Rattle.totem_script.proofs.cutting.groups.Goals as goal
 

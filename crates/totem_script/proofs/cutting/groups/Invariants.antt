@@ -1,4 +1,4 @@
-use Rattle.std.proofs.Common.{◌≡◌, ℕ, length, []}
+use Rattle.std.proofs.Common.{◌≡◌, length, []}
 use Rattle.totem_script.specs.Commands.{groups_from}
 use Rattle.totem_script.proofs.cutting.groups.Given as goal
 

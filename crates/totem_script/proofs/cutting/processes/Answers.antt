@@ -1,7 +1,7 @@
-use Rattle.std.proofs.Common.{rules, ◌≡◌, [], ◌∷◌, Ok, Err, sym, ◌∙◌}
+use Rattle.std.proofs.Common.{rules, ◌≡◌, Ok, Err, sym}
 use Rattle.totem_script.specs.Numbers.{process_in}
-use Rattle.totem_script.specs.Commands.{processes_from, some_processes}
-use Rattle.totem_script.proofs.Steps.{no_word, no_process, one_more, fails}
+use Rattle.totem_script.specs.Commands.{some_processes}
+use Rattle.totem_script.proofs.Steps.{no_word, no_process, one_more}
 use Rattle.totem_script.proofs.cutting.processes.Goals as goal
 
 pub returns-in_err-process : goal.returns-in_err-process

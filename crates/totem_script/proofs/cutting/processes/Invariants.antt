@@ -1,4 +1,4 @@
-use Rattle.std.proofs.Common.{◌≡◌, ℕ, length}
+use Rattle.std.proofs.Common.{◌≡◌, length}
 use Rattle.totem_script.specs.Commands.{processes_from, some_processes}
 use Rattle.totem_script.proofs.cutting.processes.Given as goal
 

@@ -1,4 +1,4 @@
-use Rattle.std.proofs.Common.{◌≡◌, ℕ, ◌<◌, ◌≤◌, drop}
+use Rattle.std.proofs.Common.{◌≡◌, ◌<◌, ◌≤◌, drop}
 use Rattle.totem_script.specs.Numbers.{number_in, digits_in}
 use Rattle.totem_script.proofs.numbers.number.Given as goal
 

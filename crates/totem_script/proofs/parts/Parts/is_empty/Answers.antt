@@ -1,4 +1,3 @@
-use Rattle.std.proofs.Common.{rules, sym, ◌∙◌, ap}
 use Rattle.totem_script.proofs.Cuts.{shows_none}
 use Rattle.totem_script.proofs.parts.Parts.is_empty.Goals as goal
 

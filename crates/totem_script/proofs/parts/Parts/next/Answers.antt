@@ -1,6 +1,5 @@
-use Rattle.std.proofs.Common.{rules, sym, ◌∙◌, ap, ◌∷◌}
+use Rattle.std.proofs.Common.{rules}
 use Rattle.std.proofs.lemmas.List.{take_rest}
-use Rattle.totem_script.specs.Parts.{parts}
 use Rattle.totem_script.proofs.Cuts.{cut_found, cut_nowhere, goes_on}
 use Rattle.totem_script.proofs.parts.Parts.next.Goals as goal
 

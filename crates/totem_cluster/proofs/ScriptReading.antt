@@ -1,0 +1,135 @@
+-- Reading a script: byte after byte, and no further than is looked at.
+use Rattle.std.proofs.Common.{◌≡◌, ℕ, zero, suc, ◌+◌, ◌%◌, ◌^◌, ◌==◌, ◌≤◌, List, [], ◌∷◌, ◌++◌, length, map, take, cond, Bool, true, false, Option, None, Some, Ok, Err, IfSome, inl, refl, sym, ap, ◌∙◌, append_assoc, arith}
+use Rattle.std.specs.Io.KnownBytes.{Consumes, Keeps, IsAtEnd}
+use Rattle.std.proofs.lemmas.List.{take_all, append-nil, length_push}
+use Rattle.std.proofs.Math.Seq.{take-append_seam}
+use Rattle.totem_ids.specs.Sources.{Seen}
+use Rattle.totem_ids.specs.Writing.{Held}
+use Rattle.totem_evs.specs.declared.run.Run.{Run}
+use Rattle.totem_evs.specs.declared.writing.WriteFault.{WriteFault}
+use Rattle.totem_evs.specs.declared.writing.WriteFault.TheVariants as write_faults
+use Rattle.totem_evs.specs.WriteRun.{WritesText}
+use Rattle.totem_evs.specs.RunText.{run_text}
+use Rattle.totem_script.specs.Lines.{longer_line, lines_of}
+use Rattle.totem_script.specs.Actors.{log_of}
+use Rattle.totem_script.specs.Simulation.{Told, and_then, all_played, simulate}
+use Rattle.totem_cluster.specs.IoFaults.{write_io_fault}
+use Rattle.totem_cluster.specs.SimIo.{most_read, IsRead, BreaksOff, IsReading, MakesRun, Simulates}
+use Rattle.totem_cluster.specs.declared.io_fault.IoFault.{IoFault}
+use Rattle.totem_cluster.specs.declared.io_fault.IoFault.TheVariants as faults
+
+-- ---- no further than is looked at
+
+-- a byte more than there is room for decides
+pub front_lines : (room : ℕ) (bytes : List ℕ) → lines_of room (take (suc room) bytes) ≡ lines_of room bytes
+unfolding lines_of
+front_lines room [] = refl
+front_lines zero (b ∷ bytes) = refl
+front_lines (suc room) (b ∷ bytes) = ap (λ ls. cond (b == 10) (Ok [] ∷ ls) (longer_line b ls)) (front_lines room bytes)
+
+pub reads_front : (bytes : List ℕ) → simulate (take most_read bytes) ≡ simulate bytes
+unfolding simulate
+reads_front bytes = ap (λ lines. and_then (all_played lines) (λ scene. Ok (record { logs = map log_of scene.actors }))) (front_lines 65536 bytes)
+
+-- what a script that was read makes, all of it makes
+pub of_all : (a : Option (List ℕ)) (read : List ℕ) (answer : Told Run) → IfSome a (λ bytes. read ≡ take most_read bytes) → simulate read ≡ answer
+    → IfSome a (λ bytes. simulate bytes ≡ answer)
+of_all None read answer whole made = tt
+of_all (Some bytes) read answer whole made = sym (reads_front bytes) ∙ ap simulate (sym whole) ∙ made
+
+-- ---- byte after byte
+
+-- what was read so far
+pub record SoFar (a b : Seen) (read : List ℕ) (count : ℕ) : Type 0 where
+  pub taken : Consumes a.remaining b.remaining read
+  pub failures : b.failures ≡ a.failures
+  pub counted : length read ≡ count
+
+pub starts : (a : Seen) (read : List ℕ) → read ≡ [] → SoFar a a read 0
+starts a read none = record { taken = nothing a.remaining read none; failures = refl; counted = ap length none }
+  where
+    nothing : (a : Option (List ℕ)) (read : List ℕ) → read ≡ [] → Consumes a a read
+    nothing None read none = tt
+    nothing (Some xs) read none = ap (λ ys. ys ++ xs) (sym none)
+
+one_taken : (a b c : Option (List ℕ)) (read more : List ℕ) (x : ℕ) → Consumes a b read → Consumes b c (x ∷ []) → more ≡ read ++ x ∷ [] → Consumes a c more
+one_taken None b c read more x p q is = tt
+one_taken (Some s) None c read more x p q is = absurd p
+one_taken (Some s) (Some t) None read more x p q is = absurd q
+one_taken (Some s) (Some t) (Some u) read more x p q is = p ∙ ap (λ (ws : List ℕ). read ++ ws) q ∙ sym (append_assoc read (x ∷ []) u) ∙ ap (λ ws. ws ++ u) (sym is)
+
+pub one_more : (a b c : Seen) (read more : List ℕ) (count x : ℕ) → SoFar a b read count → Consumes b.remaining c.remaining (x ∷ []) → c.failures ≡ b.failures → more ≡ read ++ x ∷ []
+    → SoFar a c more (count + 1)
+one_more a b c read more count x far taken failures is = record {
+  taken = one_taken a.remaining b.remaining c.remaining read more x far.taken taken is;
+  failures = failures ∙ far.failures;
+  counted = ap length is ∙ counted_one read x count far.counted;
+}
+  where
+    counted_one : (read : List ℕ) (x count : ℕ) → length read ≡ count → length (read ++ x ∷ []) ≡ count + 1
+    counted_one read x count is = omega (arith, is, length_push read x)
+
+kept : (a b c : Option (List ℕ)) (read : List ℕ) → Consumes a b read → Keeps b c → Consumes a c read
+kept None b c read p q = tt
+kept (Some s) None c read p q = absurd p
+kept (Some s) (Some t) None read p q = absurd q
+kept (Some s) (Some t) (Some u) read p q = p ∙ ap (λ ws. read ++ ws) (sym q)
+
+all_of : (a b : Option (List ℕ)) (read : List ℕ) → Consumes a b read → IsAtEnd b → length read ≤ most_read → IfSome a (λ bytes. read ≡ take most_read bytes)
+all_of None b read p at few = tt
+all_of (Some s) None read p at few = absurd p
+all_of (Some s) (Some t) read p at few =
+    let whole : s ≡ read = p ∙ ap (λ ws. read ++ ws) at ∙ append-nil read in
+    sym (ap (take most_read) whole ∙ take_all most_read read few)
+
+front_of : (a b : Option (List ℕ)) (read : List ℕ) → Consumes a b read → length read ≡ most_read → IfSome a (λ bytes. read ≡ take most_read bytes)
+front_of None b read p many = tt
+front_of (Some s) None read p many = absurd p
+front_of (Some s) (Some t) read p many = sym (ap (take most_read) p ∙ ap (λ n. take n (read ++ t)) (sym many) ∙ take-append_seam read t)
+
+-- the input has ended
+pub read_to_end : (a b c : Seen) (read : List ℕ) (count : ℕ) → SoFar a b read count → count ≤ most_read → IsAtEnd b.remaining → Keeps b.remaining c.remaining → c.failures ≡ b.failures
+    → IsRead a c read
+read_to_end a b c read count far few at keeps failures = record {
+  taken = kept a.remaining b.remaining c.remaining read far.taken keeps;
+  whole = all_of a.remaining b.remaining read far.taken at (omega (arith, far.counted, few));
+  failures = failures ∙ far.failures;
+}
+
+-- it is longer than is looked at
+pub read_far : (a b : Seen) (read : List ℕ) (count : ℕ) → SoFar a b read count → count ≡ most_read → IsRead a b read
+read_far a b read count far many = record {
+  taken = far.taken;
+  whole = front_of a.remaining b.remaining read far.taken (far.counted ∙ many);
+  failures = far.failures;
+}
+
+-- the source has failed
+pub read_breaks : (a b c : Seen) (read : List ℕ) (count : ℕ) → SoFar a b read count → Keeps b.remaining c.remaining → c.failures ≡ (b.failures + 1) % 2 ^ 64 → BreaksOff a c read
+read_breaks a b c read count far keeps failures = record {
+  taken = kept a.remaining b.remaining c.remaining read far.taken keeps;
+  failures = failures ∙ ap (λ n. (n + 1) % 2 ^ 64) far.failures;
+}
+
+-- ---- the run
+
+-- the run was not written
+pub sim_failed : (a c : Seen) (was is : Held) (read : List ℕ) (run : Run) (e : WriteFault)
+    → IsRead a c read → simulate read ≡ Ok run → WritesText {A = Unit {0}} was is (Err e) (run_text run.logs) → Simulates a c was is (Err (write_io_fault e))
+sim_failed a c was is read run write_faults.Memory whole made h = h
+sim_failed a c was is read run write_faults.Write whole made h = (h, record { read = read; run = run; is_read = whole; made = made })
+
+-- the input ended, or was read as far as it is looked at
+pub read_whole : (a b : Seen) (read : List ℕ) (failed : Bool) → IsReading failed a b read → failed ≡ false → IsRead a b read
+read_whole a b read false is unfailed = is
+read_whole a b read true is unfailed = absurd cc
+
+-- the script makes no run
+pub no_run : (a c : Seen) (was : Held) (read : List ℕ) (fault : IoFault) → IsRead a c read → MakesRun (Err fault) read → Simulates a c was was (Err fault)
+no_run a c was read (faults.Script fault) whole made =
+    (refl, inl (record { read = read; is_read = whole; made = made; of_all = of_all a.remaining read (Err fault) whole.whole made }))
+no_run a c was read faults.Memory whole made = refl
+no_run a c was read (faults.Run fault) whole made = absurd made
+no_run a c was read (faults.Cert fault) whole made = absurd made
+no_run a c was read (faults.Refused fault) whole made = absurd made
+no_run a c was read faults.Write whole made = absurd made

@@ -1,0 +1,114 @@
+//! From a script to the text of the run that it makes.
+ghost use Rattle.std.specs.Prelude.{◌≡◌, ◌≤◌, ◌+◌, ◌==◌, [], length, count_by};
+ghost use Rattle.totem_ids.specs.Sources.{seen};
+ghost use Rattle.totem_ids.specs.Writing.{held};
+ghost use Rattle.totem_cluster.specs.SimIo.{ReadsScript, Simulates, MakesRun, TellsBehind, unread};
+
+use crate::io_fault::IoFault;
+use crate::outcome::Outcome;
+use std::alloc::{AllocError, Global};
+use totem_evs::{Run, write_run};
+use totem_ids::{Sink, Source};
+use totem_script::{ScriptFault, ScriptFaultKind, simulate};
+
+/// How many bytes are looked at: one more than a script may have.
+const MOST: usize = 65_537;
+
+/// What was read of a script.
+#[derive(Debug, Drop)]
+pub struct Reading {
+    bytes: Vec<u8>,
+    /// The source failed behind these bytes.
+    failed: bool,
+}
+
+/// Reads to the end of the input, and of a longer one as much as is looked at.
+fn read_script<R: Source>(alloc: Global, input: &mut R) -> Result<Reading, AllocError>
+    ensures { ReadsScript (seen R.remaining R.failures input.old) (seen R.remaining R.failures input.new) result }
+{
+    let mut bytes = Vec::new(alloc);
+    for count in 0..MOST {
+        match input.byte() {
+            Ok(Some(byte)) => bytes.push(byte)?,
+            Ok(None) => {
+                return Ok(Reading {
+                    bytes,
+                    failed: false,
+                });
+            }
+            Err(_) => {
+                return Ok(Reading {
+                    bytes,
+                    failed: true,
+                });
+            }
+        }
+    }
+    Ok(Reading {
+        bytes,
+        failed: false,
+    })
+}
+
+/// The fault of a script that can't be read on behind these bytes.
+fn unread(bytes: &[u8]) -> ScriptFault
+    requires { length bytes.now ≤ 65537 }
+    ensures { result ≡ unread bytes.now }
+{
+    let lines = bytes.iter().filter(|b| **b == b'\n').count();
+    ScriptFault {
+        kind: ScriptFaultKind::Read,
+        line: lines as u32 + 1,
+    }
+}
+
+/// The fault of a script whose source failed behind these bytes: that of an earlier line, or that it can't be read.
+fn fault_behind(alloc: Global, bytes: &[u8]) -> IoFault
+    requires { length bytes.now ≤ 65537 }
+    ensures { TellsBehind result bytes.now }
+{
+    let Err(fault) = simulate(alloc, bytes) else {
+        return IoFault::Script(unread(bytes));
+    };
+    match fault.kind {
+        ScriptFaultKind::Memory => IoFault::Memory,
+        ScriptFaultKind::Truncated => IoFault::Script(unread(bytes)),
+        _ => IoFault::Script(fault),
+    }
+}
+
+/// The script's run, and what it is otherwise.
+fn run_of(alloc: Global, script: &[u8]) -> Result<Run, IoFault>
+    ensures { MakesRun result script.now }
+{
+    match simulate(alloc, script) {
+        Ok(run) => Ok(run),
+        Err(fault) => match fault.kind {
+            ScriptFaultKind::Memory => Err(IoFault::Memory),
+            _ => Err(IoFault::Script(fault)),
+        },
+    }
+}
+
+/// Reads a script, and writes the text of the run that it makes. A script that has no end is refused.
+pub fn sim_io<R: Source, W: Sink>(
+    alloc: Global,
+    input: &mut R,
+    output: &mut W,
+) -> Result<Outcome, IoFault>
+    ensures { Simulates (seen R.remaining R.failures input.old) (seen R.remaining R.failures input.new)
+        (held W.contents W.failures [] output.old) (held W.contents W.failures [] output.new) result }
+{
+    let Ok(script) = read_script(alloc, input) else {
+        return Err(IoFault::Memory);
+    };
+    if script.failed {
+        return Err(fault_behind(alloc, &script.bytes));
+    }
+    let run = match run_of(alloc, &script.bytes) {
+        Ok(run) => run,
+        Err(fault) => return Err(fault),
+    };
+    write_run(alloc, &run, output)?;
+    Ok(Outcome::Made)
+}

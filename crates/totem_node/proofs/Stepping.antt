@@ -1,0 +1,59 @@
+-- How a step's answer follows from those of its parts.
+use Rattle.std.proofs.Common.{◌≡◌, ◌≢◌, ◌++◌, List, [], ◌∷◌, Result, Ok, Err, refl, sym, ap, ◌∙◌, subst}
+use Rattle.totem_ring.specs.Rings.{Ring}
+use Rattle.totem_member.specs.declared.fault.MemberFault.{MemberFault}
+use Rattle.totem_member.specs.declared.views.GatherOut.{GatherOut}
+use Rattle.totem_member.specs.Gathers.{Gather, Gathered, on_timeout}
+use Rattle.totem_node.specs.declared.fault.NodeFault.{NodeFault}
+use Rattle.totem_node.specs.declared.fault.NodeFault.TheVariants.{Memory}
+use Rattle.totem_node.specs.declared.outcome.StepOut.{StepOut}
+use Rattle.totem_node.specs.Outcomes.{Outcome, ◌>>=◌, IsRefused, Fails, Gives}
+use Rattle.totem_node.specs.Nodes.{Node, Stepped, Told, on_its_ring}
+use Rattle.totem_node.specs.Answers.{IsStep, IsTold}
+use Rattle.totem_node.specs.Gathering.{join_broadcast, look_at_consensus}
+use Rattle.totem_node.specs.Table.{late}
+use Rattle.totem_node.specs.Turns.{IsTurn}
+use Rattle.totem_node.specs.declared.turn.Turn.{Turn}
+use Rattle.totem_ring.specs.Visits.{Sending}
+
+-- what refuses the first part refuses the whole
+pub refused_first : {A B : Type 0} (fault : NodeFault) (first : Outcome A) (go : A → Outcome B)
+    → (fault ≢ Memory → first ≡ Err fault) → fault ≢ Memory → (first >>= go) ≡ Err fault
+refused_first fault first go is ne = ap (λ w. w >>= go) (is ne)
+
+-- what refuses the second part refuses the whole, when the first was taken
+pub refused_then : {A B : Type 0} (fault : NodeFault) (first : Outcome A) (x : A) (go : A → Outcome B)
+    → first ≡ Ok x → (fault ≢ Memory → go x ≡ Err fault) → fault ≢ Memory → (first >>= go) ≡ Err fault
+refused_then fault first x go taken is ne = ap (λ w. w >>= go) taken ∙ is ne
+
+-- want of memory is no refusal that is written
+pub of_memory : {B : Type 0} (written : Outcome B) → Memory ≢ Memory → written ≡ Err Memory
+of_memory written ne = absurd (ne refl)
+
+-- a ring's step, as the node's
+pub told_on_node : (node : Ring → Node) (n : Node) (old new : Ring) (answer : Outcome StepOut) (written : Outcome Told)
+    → node old ≡ n → IsTold old new answer written → IsStep n (node new) answer (on_its_ring written node)
+told_on_node node n old new (Ok out) written is told = ap (λ w. on_its_ring w node) told
+told_on_node node n old new (Err fault) written is told = record {
+  unchanged = ap node told.unchanged ∙ is;
+  fault_is = λ ne. ap (λ w. on_its_ring w node) (told.fault_is ne);
+}
+
+late_from : Node → Result Gathered MemberFault → Outcome Stepped
+late_from n (Ok done) = look_at_consensus (record n { quiet = 0 }) done.gather done.out.members (join_broadcast done.gather ∷ [])
+late_from n (Err fault) = Err Memory
+
+abbrev pub came_to : Gathered → Result Gathered MemberFault
+came_to done = Ok done
+
+-- the late ones are given up, when this is what the timeout came to
+pub late_as : (n : Node) (g next : Gather) (out : GatherOut) → came_to (on_timeout g) ≡ came_to (record { gather = next; out = out })
+    → late n g ≡ look_at_consensus (record n { quiet = 0 }) next out.members (join_broadcast next ∷ [])
+unfolding late_from
+late_as n g next out is = ap (late_from n) is
+
+pub late_of_copy : (n : Node) (g copy next : Gather) (out : GatherOut) (answer : Outcome Turn) (packets : List Sending)
+    → copy ≡ g → came_to (on_timeout copy) ≡ came_to (record { gather = next; out = out }) → packets ≡ join_broadcast next ∷ []
+    → IsTurn answer n (look_at_consensus (record n { quiet = 0 }) next out.members packets) → IsTurn answer n (late n g)
+late_of_copy n g copy next out answer packets same is sent turn =
+    subst (λ w. IsTurn answer n w) (ap (λ ps. look_at_consensus (record n { quiet = 0 }) next out.members ps) sent ∙ sym (late_as n copy next out is) ∙ ap (late n) same) turn

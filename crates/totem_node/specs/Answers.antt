@@ -1,0 +1,45 @@
+-- What a call that takes a step of a node answers for (docs/PROTOCOL.md, "The node").
+use Rattle.std.specs.Prelude.{◌≡◌, [], Result, Ok, Err}
+use Rattle.std.specs.declared.alloc.AllocError.{AllocError}
+use Rattle.totem_ids.specs.declared.conf.ConfId.TheVariants.{Regular}
+use Rattle.totem_packets.specs.declared.message.Message.{Message}
+use Rattle.totem_ring.specs.declared.outcome.RingOut.{RingOut}
+use Rattle.totem_ring.specs.Rings.{Ring}
+use Rattle.totem_recover.specs.Finish.{deliveries}
+use Rattle.totem_ring.specs.Steps.{on_resend}
+use Rattle.totem_node.specs.declared.fault.NodeFault.TheVariants.{Memory}
+use Rattle.totem_node.specs.Visiting.{resend_steps, message_steps, message_told, adopting, carried}
+use Rattle.totem_node.specs.declared.outcome.StepOut.{StepOut}
+use Rattle.totem_node.specs.Outcomes.{Outcome, IsRefused}
+use Rattle.totem_node.specs.Nodes.{Node, Stepped, Told}
+
+-- The answer of a call to the written step: this step, or its refusal. A refused step changes nothing.
+abbrev pub IsStep : Node → Node → Outcome StepOut → Outcome Stepped → Type 0
+IsStep old new (Ok out) written =
+    written ≡ Ok (record { node = new; packets = out.packets.items; entries = out.entries.items; ring_steps = out.ring_steps.items })
+IsStep old new (Err fault) written = IsRefused fault old new written
+
+-- the same of a step on one ring
+abbrev pub IsTold : Ring → Ring → Outcome StepOut → Outcome Told → Type 0
+IsTold old new (Ok out) written =
+    written ≡ Ok (record { ring = new; packets = out.packets.items; entries = out.entries.items; ring_steps = out.ring_steps.items })
+IsTold old new (Err fault) written = IsRefused fault old new written
+
+-- the token that the ring passed on is sent again: the ring stays, and a refusal is want of memory
+abbrev pub IsResent : Outcome StepOut → Ring → Type 0
+IsResent (Ok out) ring = (out.packets.items ≡ (on_resend ring).packets) × (out.entries.items ≡ []) × (out.ring_steps.items ≡ resend_steps ring.ring)
+IsResent (Err fault) ring = fault ≡ Memory
+
+-- what is told of a message that the new ring took, and that the installed ring has adopted what it carries
+abbrev pub TellsAdopting : Result StepOut AllocError → Ring → Ring → Ring → Message → RingOut → Type 0
+TellsAdopting (Ok told) installed now ring m out =
+    (told.packets.items ≡ out.packets.items)
+    × (told.entries.items ≡ deliveries (Regular ring.ring) out.handed.items)
+    × (told.ring_steps.items ≡ message_steps ring.ring m)
+    × (now ≡ adopting installed (carried m.body))
+TellsAdopting (Err e) installed now ring m out = now ≡ installed
+
+-- a message on the new ring, of which the installed ring may adopt what it carries; a refusal changes neither
+abbrev pub IsToldAdopting : Outcome StepOut → Ring → Ring → Ring → Ring → Message → Type 0
+IsToldAdopting (Ok out) installed now old new m = IsTold old new (Ok out) (message_told old m) × (now ≡ adopting installed (carried m.body))
+IsToldAdopting (Err fault) installed now old new m = IsTold old new (Err fault) (message_told old m) × (now ≡ installed)

@@ -1,0 +1,13 @@
+pub mod Faults
+pub mod Outcomes
+pub mod Nodes
+pub mod Gathering
+pub mod Visiting
+pub mod Visits
+pub mod Table
+pub mod Answers
+pub mod Turns
+pub mod Lean
+pub mod NewVisits
+pub mod Sizes
+pub mod Replay

@@ -1,0 +1,94 @@
+-- A node: which state it is in, and what it keeps through all of them (docs/PROTOCOL.md, "The node").
+use Rattle.std.specs.Prelude.{ℕ, List, [], Bool, true, false, is_some, max, Option, None, Ok, Err}
+use Rattle.totem_ids.specs.Names.{RingName}
+use Rattle.totem_ids.specs.declared.conf.ConfId.{ConfId}
+use Rattle.totem_ids.specs.declared.conf.ConfId.TheVariants.{Regular}
+use Rattle.totem_packets.specs.declared.message.Body.{Body}
+use Rattle.totem_packets.specs.declared.commit_member.Report.{Report}
+use Rattle.totem_evs.specs.declared.entry.Entry.{Entry}
+use Rattle.totem_ring.specs.Rings.{Ring, new_ring, aru_of}
+use Rattle.totem_ring.specs.Visits.{Sending}
+use Rattle.totem_member.specs.declared.views.Phase.{Phase}
+use Rattle.totem_member.specs.declared.views.CommitView.{CommitView}
+use Rattle.totem_member.specs.Gathers.{Gather, gathered}
+use Rattle.totem_node.specs.declared.ring_step.RingStep.{RingStep}
+use Rattle.totem_node.specs.Outcomes.{Outcome}
+pub use Rattle.totem_node.specs.declared.state.State.{State}
+pub use Rattle.totem_node.specs.declared.state.State.TheVariants.{Operational, Gathering, Committing, InRecovery}
+pub use Rattle.totem_node.specs.declared.state.Recovering.{Recovering}
+
+pub record Node : Type 0 where
+  pub me : ℕ
+  pub state : State
+  pub installed : Ring  -- the installed ring
+  pub waiting : List Body  -- the messages that wait for the next visit in Operational
+  pub quiet : ℕ  -- counted timers
+  pub seq : ℕ  -- the greatest ring number made, filled or installed
+  pub obligation : List ℕ  -- the obligation set
+  pub filled : Option RingName  -- the ring of the commit token made or filled last since the last installing
+  pub crashed : Bool
+
+abbrev pub new_node : ℕ → RingName → List ℕ → Node
+new_node me ring members = record {
+  me = me;
+  state = Operational;
+  installed = new_ring me ring members;
+  waiting = [];
+  quiet = 0;
+  seq = ring.seq;
+  obligation = [];
+  filled = None;
+  crashed = false;
+}
+
+-- a commit token was made or filled since the last installing
+abbrev pub is_sealed : Node → Bool
+is_sealed n = is_some n.filled
+
+-- the configuration of the last change: each change of a node ends in a regular one
+abbrev pub last_change : Node → ConfId
+last_change n = Regular n.installed.ring
+
+-- M, in Commit and Recovery
+abbrev pub committed_to : State → List ℕ
+committed_to Operational = []
+committed_to (Gathering g) = []
+committed_to (Committing g) = gathered g
+committed_to (InRecovery x) = gathered x.gather
+
+-- the node in this recovery
+abbrev pub recovering_as : Node → Recovering → Node
+recovering_as n x = record n { state = InRecovery x }
+
+-- the report of what this node has of the installed ring
+abbrev pub report : Node → Report
+report n = record { ring = n.installed.ring; aru = aru_of n.installed.held; delivered = n.installed.handed; obligation = n.obligation }
+
+-- what the node shows to a commit token
+abbrev pub commit_view : Node → Phase → Gather → Bool → CommitView
+commit_view n phase g started =
+    record { me = n.me; members = gathered g; seq = max n.seq g.seq; filled = n.filled; phase = phase; started = started }
+
+-- what a step comes to
+pub record Stepped : Type 0 where
+  pub node : Node
+  pub packets : List Sending
+  pub entries : List Entry
+  pub ring_steps : List RingStep
+
+-- a step that sends this, and does no more to rings or the log
+abbrev pub sending : Node → List Sending → Stepped
+sending n packets = record { node = n; packets = packets; entries = []; ring_steps = [] }
+
+-- what a step on one of its rings comes to: the ring after it, what was sent, what is written, and the ring's own steps
+pub record Told : Type 0 where
+  pub ring : Ring
+  pub packets : List Sending
+  pub entries : List Entry
+  pub ring_steps : List RingStep
+
+-- the node is this one, when its ring's step is told so
+abbrev pub on_its_ring : Outcome Told → (Ring → Node) → Outcome Stepped
+on_its_ring (Ok told) node =
+    Ok (record { node = node told.ring; packets = told.packets; entries = told.entries; ring_steps = told.ring_steps })
+on_its_ring (Err fault) node = Err fault

@@ -1,0 +1,55 @@
+//! What clients ask for, and the crash.
+ghost use Rattle.std.specs.Prelude.{◌≡◌, Ok};
+ghost use Rattle.totem_node.specs.Table.{on_submit, on_crash};
+ghost use Rattle.totem_node.specs.Answers.{IsStep};
+
+use crate::fault::NodeFault;
+use crate::node_core::NodeCore;
+use crate::outcome::StepOut;
+use bytes::Bytes;
+use std::alloc::Global;
+use totem_evs::Entry;
+use totem_ids::{ConfId, Service};
+use totem_packets::{Body, Payload};
+use totem_ring::MOST_WAITING;
+
+/// How many bytes a payload may have.
+const LONGEST: usize = 1024;
+
+impl NodeCore {
+    /// A client's message waits for the next visit.
+    pub(crate) fn on_submit(
+        &mut self,
+        alloc: Global,
+        service: Service,
+        payload: Bytes,
+    ) -> Result<StepOut, NodeFault>
+        ensures { IsStep self.old self.new result (on_submit self.old service payload) }
+    {
+        if payload.len() > LONGEST {
+            return Err(NodeFault::Range);
+        }
+        if self.waiting.len() >= MOST_WAITING {
+            return Err(NodeFault::Full);
+        }
+        self.waiting.push(Body::App {
+            service,
+            payload: Payload::of(payload),
+        })?;
+        Ok(StepOut::sending(alloc, Vec::new(alloc)))
+    }
+
+    /// It fails in the configuration of its last change.
+    pub(crate) fn on_crash(&mut self, alloc: Global) -> Result<StepOut, NodeFault>
+        ensures { IsStep self.old self.new result (Ok (on_crash self.old)) }
+    {
+        let mut entries = Vec::with_capacity(alloc, 1)?;
+        entries.push(Entry::Fail(ConfId::Regular(self.installed.ring())))?;
+        self.crashed = true;
+        Ok(StepOut {
+            packets: Vec::new(alloc),
+            entries,
+            ring_steps: Vec::new(alloc),
+        })
+    }
+}

@@ -1,0 +1,127 @@
+//! Commit tokens that come.
+ghost use Rattle.std.specs.Prelude.{◌≡◌, ◌<◌, length, IfOk};
+ghost use Rattle.totem_packets.specs.declared.packet.Packet.TheVariants as packet;
+ghost use Rattle.totem_recover.specs.Exchange.{IsReady};
+ghost use Rattle.totem_node.specs.Outcomes.{Fails};
+ghost use Rattle.totem_node.specs.Table.{filling, recovering, entering, commit_taken, on_packet};
+ghost use Rattle.totem_node.specs.Turns.{IsTurn, IsCommitTurn, Makes};
+
+use crate::fault::NodeFault;
+use crate::gathering::commit_passed_on;
+use crate::node_core::NodeCore;
+use crate::state::{Recovering, State};
+use crate::turn::Turn;
+use std::alloc::{AllocError, Global};
+use totem_member::{Act, Gather, Phase, on_commit};
+use totem_packets::{CommitToken, Number};
+use totem_recover::Recovery;
+use totem_ring::RingState;
+
+impl NodeCore {
+    /// With its report more, the token goes on, and the node waits for it.
+    fn filling(
+        &self,
+        alloc: Global,
+        gather: &Gather,
+        token: CommitToken,
+    ) -> Result<Turn, AllocError>
+        ensures { IfOk result (λ turn. Makes turn self.now (filling self.now gather.now token)) }
+    {
+        let ring = token.ring;
+        let mut packets = Vec::new(alloc);
+        packets.push(commit_passed_on(alloc, self.me, token)?)?;
+        Ok(Turn {
+            state: State::Committing(gather.try_clone(alloc)?),
+            quiet: self.quiet,
+            seq: Number::of(ring.seq),
+            filled: Some(ring),
+            packets,
+        })
+    }
+
+    /// A member of the token's ring that recovers.
+    fn recovering(
+        &self,
+        alloc: Global,
+        gather: &Gather,
+        token: &CommitToken,
+    ) -> Result<Recovering, AllocError>
+        requires { IsReady self.now.me self.now.installed token.now }
+        ensures { IfOk result (λ x. x ≡ recovering self.now gather.now token.now) }
+    {
+        let _rule = token.members.as_slice();
+        let members = token.members.processes(alloc)?;
+        Ok(Recovering {
+            gather: gather.try_clone(alloc)?,
+            ring: RingState::new(alloc, self.me, token.ring, members.as_slice())?,
+            recovery: Recovery::new(alloc, self.me, &self.installed, token)?,
+            started: false,
+        })
+    }
+
+    /// The node is a member of the new ring, and recovers.
+    fn entering(
+        &self,
+        alloc: Global,
+        gather: &Gather,
+        token: CommitToken,
+    ) -> Result<Turn, AllocError>
+        requires { IsReady self.now.me self.now.installed token }
+        ensures { IfOk result (λ turn. Makes turn self.now (entering self.now gather.now token)) }
+    {
+        let state = State::InRecovery(self.recovering(alloc, gather, &token)?);
+        let mut packets = Vec::new(alloc);
+        packets.push(commit_passed_on(alloc, self.me, token)?)?;
+        Ok(Turn {
+            state,
+            quiet: self.quiet,
+            seq: self.seq,
+            filled: self.filled,
+            packets,
+        })
+    }
+
+    /// A node that gathers, waits for the token or recovers takes it; there is no turn where the first token of the new ring is to
+    /// be taken.
+    fn commit_taken(
+        &self,
+        alloc: Global,
+        gather: &Gather,
+        phase: Phase,
+        started: bool,
+        token: &CommitToken,
+    ) -> Result<Option<Turn>, NodeFault>
+        ensures { IsCommitTurn result self.now (commit_taken self.now gather.now phase started token.now) }
+    {
+        let view = self.commit_view(alloc, phase, gather, started)?;
+        let report = self.report(alloc)?;
+        let taken = on_commit(alloc, token, &view, report)?;
+        match taken.act {
+            Act::Filled => Ok(Some(self.filling(alloc, gather, taken.token)?)),
+            Act::Entered => Ok(Some(self.entering(alloc, gather, taken.token)?)),
+            Act::Started => Ok(None),
+        }
+    }
+
+    /// A commit token has come; there is no turn where the first token of the new ring is to be taken.
+    pub(crate) fn on_commit(
+        &self,
+        alloc: Global,
+        token: &CommitToken,
+    ) -> Result<Option<Turn>, NodeFault>
+        ensures { IsCommitTurn result self.now (on_packet self.now (packet.Commit token.now)) }
+    {
+        match &self.state {
+            State::Operational => Err(NodeFault::Stale),
+            State::Gathering(gather) => {
+                self.commit_taken(alloc, gather, Phase::Gather, false, token)
+            }
+            State::Committing(gather) => {
+                self.commit_taken(alloc, gather, Phase::Commit, false, token)
+            }
+            State::InRecovery(x) => {
+                self.commit_taken(alloc, &x.gather, Phase::Recovery, x.started, token)
+            }
+        }
+    }
+}

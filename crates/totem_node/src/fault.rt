@@ -1,0 +1,119 @@
+//! Why a node refused a step.
+ghost use Rattle.std.specs.Prelude.{◌≡◌};
+ghost use Rattle.totem_node.specs.declared.fault.NodeFault.TheVariants.{Memory};
+ghost use Rattle.totem_node.specs.Faults.{fault_number, fault_name, of_ring, of_member, of_set};
+
+use std::alloc::{AllocError, AllocFailed};
+use thiserror::Error;
+use totem_member::MemberFault;
+use totem_packets::SetFault;
+use totem_ring::RingFault;
+
+/// Why a node refused a step (docs/PROTOCOL.md, "The node").
+#[derive(Clone, Copy, Debug, PartialEq, Eq, Error)]
+pub enum NodeFault {
+    #[error("the node has crashed")]
+    Stopped,
+    #[error("it is of another ring")]
+    OtherRing,
+    #[error("it was taken before")]
+    Repeat,
+    #[error("it comes too late")]
+    Stale,
+    #[error("it is of a process that can't be met")]
+    Stranger,
+    #[error("a value is out of range")]
+    Range,
+    #[error("16 messages wait")]
+    Full,
+    #[error("out of memory")]
+    Memory,
+}
+
+impl NodeFault {
+    /// Its number, from 1 on in the order above.
+    pub fn number(&self) -> u8
+        ensures { result ≡ fault_number self.now }
+    {
+        match self {
+            NodeFault::Stopped => 1,
+            NodeFault::OtherRing => 2,
+            NodeFault::Repeat => 3,
+            NodeFault::Stale => 4,
+            NodeFault::Stranger => 5,
+            NodeFault::Range => 6,
+            NodeFault::Full => 7,
+            NodeFault::Memory => 8,
+        }
+    }
+
+    /// Its name.
+    pub fn name(&self) -> &'static str
+        ensures { result.now ≡ fault_name self.now }
+    {
+        match self {
+            NodeFault::Stopped => "Stopped",
+            NodeFault::OtherRing => "OtherRing",
+            NodeFault::Repeat => "Repeat",
+            NodeFault::Stale => "Stale",
+            NodeFault::Stranger => "Stranger",
+            NodeFault::Range => "Range",
+            NodeFault::Full => "Full",
+            NodeFault::Memory => "Memory",
+        }
+    }
+}
+
+impl From<AllocError> for NodeFault {
+    ghost from_gives = { λ _ e. e ≡ Memory };
+
+    fn from(_e: AllocError) -> NodeFault {
+        NodeFault::Memory
+    }
+}
+
+impl<T: Drop> From<AllocFailed<T>> for NodeFault {
+    ghost from_gives = { λ _ e. e ≡ Memory };
+
+    fn from(e: AllocFailed<T>) -> NodeFault {
+        NodeFault::from(AllocError::from(e))
+    }
+}
+
+impl From<RingFault> for NodeFault {
+    ghost from_gives = { λ f e. e ≡ of_ring f };
+
+    fn from(fault: RingFault) -> NodeFault {
+        match fault {
+            RingFault::OtherRing => NodeFault::OtherRing,
+            RingFault::Repeat => NodeFault::Repeat,
+            RingFault::Range => NodeFault::Range,
+            RingFault::Full => NodeFault::Full,
+            RingFault::Memory => NodeFault::Memory,
+        }
+    }
+}
+
+impl From<MemberFault> for NodeFault {
+    ghost from_gives = { λ f e. e ≡ of_member f };
+
+    fn from(fault: MemberFault) -> NodeFault {
+        match fault {
+            MemberFault::Stranger => NodeFault::Stranger,
+            MemberFault::Stale => NodeFault::Stale,
+            MemberFault::Range => NodeFault::Range,
+            MemberFault::Memory => NodeFault::Memory,
+        }
+    }
+}
+
+impl From<SetFault> for NodeFault {
+    ghost from_gives = { λ f e. e ≡ of_set f };
+
+    fn from(fault: SetFault) -> NodeFault {
+        match fault {
+            SetFault::TooMany => NodeFault::Stranger,
+            SetFault::Memory => NodeFault::Memory,
+        }
+    }
+}

@@ -1,0 +1,98 @@
+//! Joins that come.
+ghost use Rattle.std.specs.Prelude.{◌≡◌, ◌&&◌};
+ghost use Rattle.totem_packets.specs.declared.packet.Packet.TheVariants as packet;
+ghost use Rattle.totem_packets.specs.Sets.{has, is_within};
+ghost use Rattle.totem_member.specs.Gathers.{gathered};
+ghost use Rattle.totem_node.specs.Table.{is_late, says_nothing_new, join_in_gather, join_in_commit, on_join_in, on_packet};
+ghost use Rattle.totem_node.specs.Turns.{IsTurn};
+
+use crate::fault::NodeFault;
+use crate::gathering::join_broadcast;
+use crate::node_core::NodeCore;
+use crate::state::State;
+use crate::turn::Turn;
+use std::alloc::Global;
+use totem_ids::ProcId;
+use totem_member::Gather;
+use totem_packets::Join;
+
+/// Whether the process is one of these.
+pub fn is_among(procs: &[ProcId], proc: ProcId) -> bool
+    ensures { result ≡ has procs.now proc }
+{
+    procs.iter().any(|q| *q == proc)
+}
+
+/// Whether the process is one of the gathered ones.
+#[tactic(auto, using(crate::proofs::Gathered::has_without))]
+fn is_gathered(gather: &Gather, proc: ProcId) -> bool
+    ensures { result ≡ has (gathered gather.now) proc }
+{
+    gather.processes().contains(proc) && !gather.failed().contains(proc)
+}
+
+/// Whether both sets of the Join are within the gathering's.
+fn is_known(gather: &Gather, join: &Join) -> bool
+    ensures { result ≡ (is_within join.now.processes gather.now.sets.processes && is_within join.now.failed gather.now.sets.failed) }
+{
+    join.processes.is_within(gather.processes()) && join.failed.is_within(gather.failed())
+}
+
+/// Whether a Join says no more than the gathering knows: its sender is in M, its sets are within the Gather's, and its number
+/// is not above the Gather's.
+fn says_nothing_new(gather: &Gather, join: &Join) -> bool
+    ensures { result ≡ says_nothing_new gather.now join.now }
+{
+    is_gathered(gather, join.sender)
+        && is_known(gather, join)
+        && join.seq.get() <= gather.seq().get()
+}
+
+impl NodeCore {
+    /// Whether the Join was sent before its sender entered the installed ring.
+    fn is_late(&self, join: &Join) -> bool
+        ensures { result ≡ is_late self.now join.now }
+    {
+        join.sender != self.me
+            && is_among(self.installed.members(), join.sender)
+            && join.seq.get() < self.installed.ring().seq
+    }
+
+    /// In Gather.
+    fn join_in_gather(&self, alloc: Global, gather: &Gather, join: &Join) -> Result<Turn, NodeFault>
+        ensures { IsTurn result self.now (join_in_gather self.now gather.now join.now) }
+    {
+        let mut next = gather.try_clone(alloc)?;
+        let out = next.on_join(alloc, join)?;
+        let mut packets = Vec::new(alloc);
+        if out.again {
+            packets.push(join_broadcast(alloc, &next)?)?;
+        }
+        self.look_at_consensus(alloc, self.quiet, next, out.members, packets)
+    }
+
+    /// In Commit and Recovery.
+    fn join_in_commit(&self, alloc: Global, gather: &Gather, join: &Join) -> Result<Turn, NodeFault>
+        ensures { IsTurn result self.now (join_in_commit self.now gather.now join.now) }
+    {
+        if says_nothing_new(gather, join) {
+            return Err(NodeFault::Stale);
+        }
+        self.to_gather(alloc, None, Some(join))
+    }
+
+    /// A Join has come.
+    pub(crate) fn on_join(&self, alloc: Global, join: &Join) -> Result<Turn, NodeFault>
+        ensures { IsTurn result self.now (on_packet self.now (packet.Join join.now)) }
+    {
+        if self.is_late(join) {
+            return Err(NodeFault::Stale);
+        }
+        match &self.state {
+            State::Operational => self.to_gather(alloc, None, Some(join)),
+            State::Gathering(gather) => self.join_in_gather(alloc, gather, join),
+            State::Committing(gather) => self.join_in_commit(alloc, gather, join),
+            State::InRecovery(x) => self.join_in_commit(alloc, &x.gather, join),
+        }
+    }
+}

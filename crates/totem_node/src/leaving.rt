@@ -1,0 +1,238 @@
+//! Visits of a new ring, and the finish: the old ring is left, and the new one installed.
+ghost use Rattle.std.specs.Prelude.{◌≡◌, ◌++◌, Err, IfOk, IfSome, OnOk, filter, nat_le, nat_lt};
+ghost use Rattle.totem_recover.specs.Finish.{deliveries};
+ghost use Rattle.totem_ring.specs.Refusals.{refusal_at_once};
+ghost use Rattle.totem_node.specs.Faults.{of_ring};
+ghost use Rattle.totem_recover.specs.Exchange.{obligation_after};
+ghost use Rattle.totem_node.specs.declared.state.State.TheVariants.{InRecovery};
+ghost use Rattle.totem_node.specs.Nodes.{recovering_as};
+ghost use Rattle.totem_node.specs.Visiting.{finishing_entries, installing, visit_entries, visit_new};
+ghost use Rattle.totem_node.specs.Answers.{IsStep};
+ghost use Rattle.totem_node.specs.NewVisits.{IsNewVisit, starting_as, visit_noted, TellsNewVisit};
+
+use crate::fault::NodeFault;
+use crate::node_core::NodeCore;
+use crate::outcome::StepOut;
+use crate::ring_step::RingStep;
+use crate::state::{Recovering, State};
+use crate::told::write_deliveries;
+use crate::visiting::{Visited, visit};
+use std::alloc::{AllocError, Global};
+use totem_evs::Entry;
+use totem_ids::ConfId;
+use totem_packets::{Message, Processes, Token};
+use totem_recover::{Recovery, deliver};
+use totem_ring::{RingOut, RingState};
+
+/// Writes the deliveries of those messages whose number is at most `last`.
+fn write_up_to(
+    entries: &mut Vec<Entry>,
+    conf: &ConfId,
+    messages: &[Message],
+    last: u32,
+) -> Result<(), AllocError>
+    ensures { OnOk result (entries.new.items ≡ entries.old.items ++ deliveries conf.now (filter (λ m. nat_le m.number last) messages.now)) }
+{
+    for message in messages {
+        if message.number.get() <= last {
+            deliver(entries, conf, message)?;
+        }
+    }
+    Ok(())
+}
+
+/// Writes the deliveries of those messages whose number is above `last`.
+fn write_above(
+    entries: &mut Vec<Entry>,
+    conf: &ConfId,
+    messages: &[Message],
+    last: u32,
+) -> Result<(), AllocError>
+    ensures { OnOk result (entries.new.items ≡ entries.old.items ++ deliveries conf.now (filter (λ m. nat_lt last m.number) messages.now)) }
+{
+    for message in messages {
+        if message.number.get() > last {
+            deliver(entries, conf, message)?;
+        }
+    }
+    Ok(())
+}
+
+/// Appends these entries.
+fn append(entries: &mut Vec<Entry>, more: Vec<Entry>) -> Result<(), AllocError>
+    ensures { OnOk result (entries.new.items ≡ entries.old.items ++ more.items) }
+{
+    for entry in more {
+        entries.push(entry)?;
+    }
+    Ok(())
+}
+
+/// What stands before the last mark, the finish, and what stands behind it.
+fn finishing_entries(
+    alloc: Global,
+    recovery: &Recovery,
+    installed: &RingState,
+    ring: &RingState,
+    handed: &[Message],
+) -> Result<Vec<Entry>, AllocError>
+    ensures { IfOk result (λ entries. entries.items ≡ finishing_entries recovery.now installed.now ring.now handed.now) }
+{
+    let last = recovery.last_mark(ring).unwrap_or(0);
+    let conf = ConfId::Regular(ring.ring());
+    let mut entries = Vec::new(alloc);
+    write_up_to(&mut entries, &conf, handed, last)?;
+    append(&mut entries, recovery.finish(alloc, installed)?)?;
+    write_above(&mut entries, &conf, handed, last)?;
+    Ok(entries)
+}
+
+/// What is written of a visit that left the new ring so, and handed these messages up.
+fn visit_entries(
+    alloc: Global,
+    recovery: &Recovery,
+    installed: &RingState,
+    ring: &RingState,
+    handed: &[Message],
+) -> Result<Vec<Entry>, AllocError>
+    ensures { IfOk result (λ entries. entries.items ≡ visit_entries recovery.now installed.now ring.now handed.now) }
+{
+    if recovery.is_done(ring) {
+        return finishing_entries(alloc, recovery, installed, ring, handed);
+    }
+    let mut entries = Vec::new(alloc);
+    write_deliveries(&mut entries, &ConfId::Regular(ring.ring()), handed)?;
+    Ok(entries)
+}
+
+/// A visit of the new ring: what it gave, what is written of it, and to whom messages are owed after it.
+#[derive(Debug, Drop)]
+pub struct NewVisit {
+    out: RingOut,
+    entries: Vec<Entry>,
+    ring_steps: Vec<RingStep>,
+    obligation: Processes,
+}
+
+impl NewVisit {
+    /// What was taken, with what is written of it, and to whom messages are owed after it.
+    fn of(
+        alloc: Global,
+        recovery: &Recovery,
+        installed: &RingState,
+        ring: &RingState,
+        visited: Visited,
+    ) -> Result<NewVisit, AllocError>
+        ensures { IfOk result (TellsNewVisit recovery.now installed.now ring.now visited) }
+    {
+        Ok(NewVisit {
+            entries: visit_entries(alloc, recovery, installed, ring, &visited.out.handed)?,
+            obligation: recovery.obligation_after(ring).try_clone(alloc)?,
+            out: visited.out,
+            ring_steps: visited.ring_steps,
+        })
+    }
+}
+
+/// The new ring's token has come: the next bodies of the list are given to the ring before the visit.
+#[tactic(auto, using(crate::proofs::Refusing::token_refused))]
+fn take_visit(
+    alloc: Global,
+    recovery: &Recovery,
+    installed: &RingState,
+    ring: &mut RingState,
+    token: &Token,
+) -> Result<NewVisit, NodeFault>
+    ensures visit { IsNewVisit result recovery.now installed.now ring.old ring.new token.now }
+    ensures at_once { IfSome (refusal_at_once ring.old token.now) (λ fault. result ≡ Err (of_ring fault)) }
+{
+    if let Some(fault) = ring.token_refusal_at_once(token) {
+        return Err(fault.into());
+    }
+    let bodies = recovery.next_bodies(alloc)?;
+    let (visited, undo) = visit(alloc, ring, &bodies, token)?;
+    match NewVisit::of(alloc, recovery, installed, ring, visited) {
+        Ok(visit) => Ok(visit),
+        Err(e) => {
+            undo.take_back(ring);
+            Err(e.into())
+        }
+    }
+}
+
+impl NodeCore {
+    /// The new ring is installed.
+    fn install(&mut self, alloc: Global, ring: RingState)
+        ensures { self.new ≡ installing self.old ring }
+    {
+        self.state = State::Operational;
+        self.installed = ring;
+        self.obligation = Processes::none(alloc);
+        self.filled = None;
+    }
+
+    /// The recovery goes on, with its first token taken or not.
+    fn go_on(&mut self, mut x: Recovering, started: bool, obligation: Processes)
+        ensures { self.new ≡ record self.old { state = InRecovery (starting_as x started); obligation = obligation } }
+    {
+        x.started = started;
+        self.state = State::InRecovery(x);
+        self.obligation = obligation;
+    }
+
+    /// The visit is noted: the recovery goes on, or every member's mark is handed up and the new ring is installed.
+    fn note_visit(
+        &mut self,
+        alloc: Global,
+        mut x: Recovering,
+        started: bool,
+        visit: NewVisit,
+    ) -> StepOut
+        requires { visit.obligation ≡ obligation_after x.recovery x.ring }
+        ensures node { self.new ≡ visit_noted self.old (starting_as x started) visit }
+        ensures packets { result.packets.items ≡ visit.out.packets.items }
+        ensures entries { result.entries.items ≡ visit.entries.items }
+        ensures ring_steps { result.ring_steps.items ≡ visit.ring_steps.items }
+    {
+        let NewVisit {
+            out,
+            entries,
+            ring_steps,
+            obligation,
+        } = visit;
+        let is_done = x.recovery.on_ring(&x.ring, &out);
+        self.quiet = 0;
+        let told = StepOut {
+            packets: out.packets,
+            entries,
+            ring_steps,
+        };
+        if is_done {
+            self.install(alloc, x.ring);
+            return told;
+        }
+        self.go_on(x, started, obligation);
+        told
+    }
+
+    /// The new ring's token has come. The recovery was taken out of the state; `started` says whether its first token was taken
+    /// here, once this one is.
+    pub(crate) fn visit_new(
+        &mut self,
+        alloc: Global,
+        mut x: Recovering,
+        started: bool,
+        token: &Token,
+    ) -> Result<StepOut, NodeFault>
+        ensures step { IsStep (recovering_as self.old x) self.new result (visit_new (recovering_as self.old x) (starting_as x started) token.now) }
+        ensures at_once { IfSome (refusal_at_once x.ring token.now) (λ fault. result ≡ Err (of_ring fault)) }
+    {
+        match take_visit(alloc, &x.recovery, &self.installed, &mut x.ring, token) {
+            Ok(visit) => Ok(self.note_visit(alloc, x, started, visit)),
+            Err(fault) => {
+                self.state = State::InRecovery(x);
+                Err(fault)
+            }
+        }
+    }
+}

@@ -1,0 +1,34 @@
+//! A node of the protocol: its ring, membership and recovery put together as one machine over inputs.
+#![tactic(auto)]
+
+mod clients;
+mod commits;
+mod fault;
+#[cfg(test)]
+mod fault_tests;
+mod gathering;
+mod input;
+mod joins;
+mod leaving;
+mod messages;
+mod node_core;
+mod outcome;
+mod recovering;
+mod reporting;
+mod ring_step;
+mod state;
+mod step;
+#[cfg(test)]
+mod tests;
+mod timers;
+mod tokens;
+mod told;
+mod turn;
+mod visiting;
+
+pub use fault::NodeFault;
+pub use input::Input;
+pub use node_core::NodeCore;
+pub use outcome::StepOut;
+pub use ring_step::RingStep;
+pub use state::{Recovering, State};

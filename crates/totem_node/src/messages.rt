@@ -1,0 +1,133 @@
+//! Messages that come.
+ghost use Rattle.std.specs.Prelude.{◌≡◌, IfOk};
+ghost use Rattle.totem_ids.specs.declared.conf.ConfId.TheVariants.{Regular};
+ghost use Rattle.totem_recover.specs.Finish.{deliveries};
+ghost use Rattle.totem_node.specs.Nodes.{recovering_as};
+ghost use Rattle.totem_node.specs.Visiting.{message_steps, message_told, message_on_installed};
+ghost use Rattle.totem_node.specs.Table.{message_in_operational, message_in_gather, message_in_recovery, on_message};
+ghost use Rattle.totem_node.specs.Answers.{IsTold, IsStep};
+
+use crate::fault::NodeFault;
+use crate::joins::is_among;
+use crate::node_core::NodeCore;
+use crate::outcome::StepOut;
+use crate::state::{Recovering, State};
+use crate::told::{deliveries_on, message_steps};
+use std::alloc::{AllocError, Global};
+use std::mem;
+use totem_packets::Message;
+use totem_ring::{RingOut, RingState, is_same_ring};
+
+/// What a node tells of a message that a ring took.
+pub fn tell(
+    alloc: Global,
+    ring: &RingState,
+    message: Message,
+    out: RingOut,
+) -> Result<StepOut, AllocError>
+    ensures { IfOk result (λ told. (told.packets.items ≡ out.packets.items)
+        × (told.entries.items ≡ deliveries (Regular ring.now.ring) out.handed.items)
+        × (told.ring_steps.items ≡ message_steps ring.now.ring message)) }
+{
+    Ok(StepOut {
+        packets: out.packets,
+        entries: deliveries_on(alloc, ring.ring(), &out.handed)?,
+        ring_steps: message_steps(alloc, ring.ring(), message)?,
+    })
+}
+
+/// A message comes to a ring.
+fn take_message(alloc: Global, ring: &mut RingState, message: Message) -> Result<StepOut, NodeFault>
+    ensures { IsTold ring.old ring.new result (message_told ring.old message) }
+{
+    let (out, undo) = ring.take_message(alloc, &message)?;
+    match tell(alloc, ring, message, out) {
+        Ok(told) => Ok(told),
+        Err(e) => {
+            ring.undo(undo);
+            Err(e.into())
+        }
+    }
+}
+
+impl NodeCore {
+    /// A message of the installed ring has come.
+    pub(crate) fn message_on_installed(
+        &mut self,
+        alloc: Global,
+        message: Message,
+    ) -> Result<StepOut, NodeFault>
+        ensures { IsStep self.old self.new result (message_on_installed self.old message) }
+    {
+        take_message(alloc, &mut self.installed, message)
+    }
+
+    /// In Operational. The sender of a message of a foreign ring is met.
+    fn message_in_operational(
+        &mut self,
+        alloc: Global,
+        message: Message,
+    ) -> Result<StepOut, NodeFault>
+        ensures { IsStep self.old self.new result (message_in_operational self.old message) }
+    {
+        if is_same_ring(message.ring, self.installed.ring()) {
+            return self.message_on_installed(alloc, message);
+        }
+        if is_among(self.installed.members(), message.sender) {
+            return Err(NodeFault::OtherRing);
+        }
+        let turn = self.to_gather(alloc, Some(message.sender), None)?;
+        Ok(self.turn(alloc, turn))
+    }
+
+    /// In Gather: of the installed ring, until a commit token was made or filled.
+    fn message_in_gather(&mut self, alloc: Global, message: Message) -> Result<StepOut, NodeFault>
+        ensures { IsStep self.old self.new result (message_in_gather self.old message) }
+    {
+        let is_own = is_same_ring(message.ring, self.installed.ring());
+        if !is_own || self.filled.is_some() {
+            return Err(NodeFault::OtherRing);
+        }
+        self.message_on_installed(alloc, message)
+    }
+
+    /// In Recovery, which was taken out of the state: of the new ring.
+    fn message_in_recovery(
+        &mut self,
+        alloc: Global,
+        x: Recovering,
+        message: Message,
+    ) -> Result<StepOut, NodeFault>
+        ensures { IsStep (recovering_as self.old x) self.new result (message_in_recovery (recovering_as self.old x) x message) }
+    {
+        if is_same_ring(message.ring, self.installed.ring())
+            || !is_same_ring(message.ring, x.ring.ring())
+        {
+            self.state = State::InRecovery(x);
+            return Err(NodeFault::OtherRing);
+        }
+        self.message_on_new(alloc, x, message)
+    }
+
+    /// A message has come.
+    pub(crate) fn on_message(
+        &mut self,
+        alloc: Global,
+        message: Message,
+    ) -> Result<StepOut, NodeFault>
+        ensures { IsStep self.old self.new result (on_message self.old message self.old.state) }
+    {
+        match mem::replace(&mut self.state, State::Operational) {
+            State::Operational => self.message_in_operational(alloc, message),
+            State::Gathering(gather) => {
+                self.state = State::Gathering(gather);
+                self.message_in_gather(alloc, message)
+            }
+            State::Committing(gather) => {
+                self.state = State::Committing(gather);
+                Err(NodeFault::OtherRing)
+            }
+            State::InRecovery(x) => self.message_in_recovery(alloc, x, message),
+        }
+    }
+}

@@ -1,0 +1,97 @@
+//! A node, as a value.
+ghost use Rattle.std.specs.Prelude.{◌≡◌, IfOk};
+
+use crate::state::State;
+use std::alloc::{AllocError, Global};
+use std::marker::Model;
+use totem_evs::{Entry, Members};
+use totem_ids::{ConfId, ProcId, RingId};
+use totem_packets::{Body, Number, Processes};
+use totem_recover::copies_of;
+use totem_ring::RingState;
+
+/// A node: a machine over inputs, without clock, network or threads. A step that is refused leaves it as it was.
+#[derive(Debug, Drop)]
+pub struct NodeCore {
+    pub(crate) me: ProcId,
+    pub(crate) state: State,
+    pub(crate) installed: RingState,
+    /// What waits for the next visit in Operational.
+    pub(crate) waiting: Vec<Body>,
+    /// How many timers have run out since a token, or the gathering's last change.
+    pub(crate) quiet: u8,
+    /// The greatest ring number made, filled or installed.
+    pub(crate) seq: Number,
+    /// To whom it owes messages.
+    pub(crate) obligation: Processes,
+    /// The ring of the commit token that it made or filled last since it installed a ring.
+    pub(crate) filled: Option<RingId>,
+    pub(crate) crashed: bool,
+}
+
+impl Model for NodeCore {
+    ghost use Rattle.totem_node.specs.Nodes.{Node};
+
+    ghost Value = { Node };
+
+    ghost view = { λ n. record {
+      me = n.me;
+      state = n.state;
+      installed = n.installed;
+      waiting = n.waiting.items;
+      quiet = n.quiet;
+      seq = n.seq;
+      obligation = n.obligation;
+      filled = n.filled;
+      crashed = n.crashed;
+    } };
+}
+
+impl NodeCore {
+    ghost use Rattle.totem_node.specs.Nodes.{new_node};
+    ghost use Rattle.totem_node.specs.Replay.{first_change};
+    ghost use Rattle.totem_evs.specs.Members.{IsMembers};
+
+    /// A node that starts on this ring, and the change with which its log begins. The members are 1 to 32 processes, strictly
+    /// rising, with `me` among them.
+    pub fn new(
+        alloc: Global,
+        me: ProcId,
+        ring: RingId,
+        members: &[ProcId],
+    ) -> Result<(NodeCore, Entry), AllocError>
+        requires { IsMembers members.now }
+        ensures node { IfOk result (λ made. made.0 ≡ new_node me ring members.now) }
+        ensures entry { IfOk result (λ made. made.1 ≡ first_change ring members.now) }
+    {
+        let change = Entry::Conf(ConfId::Regular(ring), Members::of(members.to_vec(alloc)?));
+        let node = NodeCore {
+            me,
+            state: State::Operational,
+            installed: RingState::new(alloc, me, ring, members)?,
+            waiting: Vec::new(alloc),
+            quiet: 0,
+            seq: Number::of(ring.seq),
+            obligation: Processes::none(alloc),
+            filled: None,
+            crashed: false,
+        };
+        Ok((node, change))
+    }
+
+    pub fn try_clone(&self, alloc: Global) -> Result<NodeCore, AllocError>
+        ensures { IfOk result (λ n. n ≡ self.now) }
+    {
+        Ok(NodeCore {
+            me: self.me,
+            state: self.state.try_clone(alloc)?,
+            installed: self.installed.try_clone(alloc)?,
+            waiting: copies_of(alloc, &self.waiting)?,
+            quiet: self.quiet,
+            seq: self.seq,
+            obligation: self.obligation.try_clone(alloc)?,
+            filled: self.filled,
+            crashed: self.crashed,
+        })
+    }
+}

@@ -1,0 +1,108 @@
+//! The node step: each input to its room.
+ghost use Rattle.std.specs.Prelude.{◌≡◌, Err, IfSome};
+ghost use Rattle.totem_packets.specs.declared.packet.Packet.TheVariants as packet;
+ghost use Rattle.totem_node.specs.Table.{starting, on_token, on_packet, step};
+ghost use Rattle.totem_node.specs.Lean.{token_refused_at_once, packet_refused_at_once, refused_at_once};
+ghost use Rattle.totem_node.specs.Answers.{IsStep};
+
+use crate::fault::NodeFault;
+use crate::input::Input;
+use crate::node_core::NodeCore;
+use crate::outcome::StepOut;
+use crate::state::State;
+use std::alloc::Global;
+use std::mem;
+use totem_packets::{CommitToken, Join, Packet, Token};
+use totem_ring::first_token;
+
+impl NodeCore {
+    /// A token has come.
+    fn on_token(&mut self, alloc: Global, token: &Token) -> Result<StepOut, NodeFault>
+        ensures step { IsStep self.old self.new result (on_token self.old token.now self.old.state) }
+        ensures at_once { IfSome (token_refused_at_once self.old token.now self.old.state) (λ fault. result ≡ Err fault) }
+    {
+        match mem::replace(&mut self.state, State::Operational) {
+            State::Operational => self.visit_installed(alloc, token),
+            State::Gathering(gather) => {
+                self.state = State::Gathering(gather);
+                Err(NodeFault::Stale)
+            }
+            State::Committing(gather) => {
+                self.state = State::Committing(gather);
+                Err(NodeFault::Stale)
+            }
+            State::InRecovery(x) => {
+                let started = x.started;
+                self.visit_new(alloc, x, started, token)
+            }
+        }
+    }
+
+    /// The commit token came back: the first token of the new ring is taken at once.
+    fn start(&mut self, alloc: Global) -> Result<StepOut, NodeFault>
+        ensures { IsStep self.old self.new result (starting self.old self.old.state) }
+    {
+        match mem::replace(&mut self.state, State::Operational) {
+            State::Operational => Err(NodeFault::Stale),
+            State::Gathering(gather) => {
+                self.state = State::Gathering(gather);
+                Err(NodeFault::Stale)
+            }
+            State::Committing(gather) => {
+                self.state = State::Committing(gather);
+                Err(NodeFault::Stale)
+            }
+            State::InRecovery(x) => {
+                let token = first_token(alloc, x.ring.ring());
+                self.visit_new(alloc, x, true, &token)
+            }
+        }
+    }
+
+    /// A Join has come.
+    fn take_join(&mut self, alloc: Global, join: &Join) -> Result<StepOut, NodeFault>
+        ensures { IsStep self.old self.new result (on_packet self.old (packet.Join join.now)) }
+    {
+        let turn = self.on_join(alloc, join)?;
+        Ok(self.turn(alloc, turn))
+    }
+
+    /// A commit token has come.
+    fn take_commit(&mut self, alloc: Global, token: &CommitToken) -> Result<StepOut, NodeFault>
+        ensures { IsStep self.old self.new result (on_packet self.old (packet.Commit token.now)) }
+    {
+        if let Some(turn) = self.on_commit(alloc, token)? {
+            return Ok(self.turn(alloc, turn));
+        }
+        self.start(alloc)
+    }
+
+    /// A packet has come.
+    fn on_packet(&mut self, alloc: Global, packet: Packet) -> Result<StepOut, NodeFault>
+        ensures step { IsStep self.old self.new result (on_packet self.old packet) }
+        ensures at_once { IfSome (packet_refused_at_once self.old packet) (λ fault. result ≡ Err fault) }
+    {
+        match packet {
+            Packet::Message(message) => self.on_message(alloc, message),
+            Packet::Token(token) => self.on_token(alloc, &token),
+            Packet::Join(join) => self.take_join(alloc, &join),
+            Packet::Commit(token) => self.take_commit(alloc, &token),
+        }
+    }
+
+    /// Takes an input. A step that is refused changes nothing, and a token that was taken before is refused without any memory.
+    pub fn step(&mut self, alloc: Global, input: Input) -> Result<StepOut, NodeFault>
+        ensures step { IsStep self.old self.new result (step self.old input) }
+        ensures at_once { IfSome (refused_at_once self.old input) (λ fault. result ≡ Err fault) }
+    {
+        if self.crashed {
+            return Err(NodeFault::Stopped);
+        }
+        match input {
+            Input::Submit { service, payload } => self.on_submit(alloc, service, payload),
+            Input::Packet(packet) => self.on_packet(alloc, packet),
+            Input::Timer => self.on_timer(alloc),
+            Input::Crash => self.on_crash(alloc),
+        }
+    }
+}

@@ -1,0 +1,78 @@
+//! Timers that run out.
+ghost use Rattle.std.specs.Prelude.{◌≡◌, IfOk};
+ghost use Rattle.totem_node.specs.Table.{late, on_timer};
+ghost use Rattle.totem_node.specs.Turns.{IsTurn, IsTimerTurn, IsCounting};
+ghost use Rattle.totem_node.specs.Answers.{IsStep};
+
+use crate::fault::NodeFault;
+use crate::gathering::join_broadcast;
+use crate::node_core::NodeCore;
+use crate::outcome::StepOut;
+use crate::state::State;
+use crate::tokens::resend;
+use crate::turn::Turn;
+use std::alloc::Global;
+use totem_member::Gather;
+
+/// How many timers are counted before one is a cause to gather.
+const QUIET: u8 = 2;
+
+/// How many timers a gathering waits for answers.
+const PATIENCE: u8 = 1;
+
+impl NodeCore {
+    /// In Gather: who doesn't agree in time is given up.
+    fn late(&self, alloc: Global, gather: &Gather) -> Result<Turn, NodeFault>
+        ensures { IsTurn result self.now (late self.now gather.now) }
+    {
+        let mut next = gather.try_clone(alloc)?;
+        let out = next.on_timeout(alloc)?;
+        let mut packets = Vec::new(alloc);
+        packets.push(join_broadcast(alloc, &next)?)?;
+        self.look_at_consensus(alloc, 0, next, out.members, packets)
+    }
+
+    /// What the timer is a cause for, if it isn't only counted.
+    fn timer_turn(&self, alloc: Global) -> Result<Option<Turn>, NodeFault>
+        ensures { IsTimerTurn result self.now }
+    {
+        if let State::Gathering(gather) = &self.state {
+            if self.quiet < PATIENCE {
+                return Ok(None);
+            }
+            return Ok(Some(self.late(alloc, gather)?));
+        }
+        if self.quiet < QUIET {
+            return Ok(None);
+        }
+        Ok(Some(self.to_gather(alloc, None, None)?))
+    }
+
+    /// What is sent as a timer is counted.
+    fn sent_again(&self, alloc: Global) -> Result<StepOut, NodeFault>
+        ensures { IsCounting result self.now }
+    {
+        match &self.state {
+            State::Operational => resend(alloc, &self.installed),
+            State::Gathering(gather) => {
+                let mut packets = Vec::new(alloc);
+                packets.push(join_broadcast(alloc, gather)?)?;
+                Ok(StepOut::sending(alloc, packets))
+            }
+            State::Committing(_) => Ok(StepOut::sending(alloc, Vec::new(alloc))),
+            State::InRecovery(x) => resend(alloc, &x.ring),
+        }
+    }
+
+    /// A timer has run out.
+    pub(crate) fn on_timer(&mut self, alloc: Global) -> Result<StepOut, NodeFault>
+        ensures { IsStep self.old self.new result (on_timer self.old self.old.state) }
+    {
+        if let Some(turn) = self.timer_turn(alloc)? {
+            return Ok(self.turn(alloc, turn));
+        }
+        let told = self.sent_again(alloc)?;
+        self.quiet += 1;
+        Ok(told)
+    }
+}

@@ -1,0 +1,96 @@
+//! Tokens of the installed ring, and tokens that are sent again.
+ghost use Rattle.std.specs.Prelude.{◌≡◌, ◌++◌, Err, IfOk, IfSome};
+ghost use Rattle.totem_recover.specs.Finish.{deliveries};
+ghost use Rattle.totem_ring.specs.Refusals.{refusal_at_once};
+ghost use Rattle.totem_node.specs.Faults.{of_ring};
+ghost use Rattle.totem_node.specs.Visiting.{visit_told, visit_installed};
+ghost use Rattle.totem_node.specs.Answers.{IsTold, IsStep, IsResent};
+
+use crate::fault::NodeFault;
+use crate::node_core::NodeCore;
+use crate::outcome::StepOut;
+use crate::ring_step::RingStep;
+use crate::told::write_deliveries;
+use crate::visiting::{Visited, visit};
+use std::alloc::{AllocError, Global};
+use totem_ids::ConfId;
+use totem_packets::{Body, Token};
+use totem_ring::{Act, RingState};
+
+/// What a node tells of a visit: sends, then deliveries.
+fn tell_visit(conf: &ConfId, visited: Visited) -> Result<StepOut, AllocError>
+    ensures { IfOk result (λ told. (told.packets.items ≡ visited.out.packets.items)
+        × (told.entries.items ≡ visited.sends.items ++ deliveries conf.now visited.out.handed.items)
+        × (told.ring_steps.items ≡ visited.ring_steps.items)) }
+{
+    let Visited {
+        out,
+        mut sends,
+        ring_steps,
+    } = visited;
+    write_deliveries(&mut sends, conf, &out.handed)?;
+    Ok(StepOut {
+        packets: out.packets,
+        entries: sends,
+        ring_steps,
+    })
+}
+
+/// A token comes to a ring to which these bodies are given.
+#[tactic(auto, using(crate::proofs::Refusing::visit_refused))]
+fn take_token(
+    alloc: Global,
+    ring: &mut RingState,
+    bodies: &[Body],
+    token: &Token,
+) -> Result<StepOut, NodeFault>
+    ensures told { IsTold ring.old ring.new result (visit_told ring.old bodies.now token.now) }
+    ensures at_once { IfSome (refusal_at_once ring.old token.now) (λ fault. result ≡ Err (of_ring fault)) }
+{
+    if let Some(fault) = ring.token_refusal_at_once(token) {
+        return Err(fault.into());
+    }
+    let conf = ConfId::Regular(ring.ring());
+    let (visited, undo) = visit(alloc, ring, bodies, token)?;
+    match tell_visit(&conf, visited) {
+        Ok(told) => Ok(told),
+        Err(e) => {
+            undo.take_back(ring);
+            Err(e.into())
+        }
+    }
+}
+
+/// The token that a ring passed on is sent again, if it was kept.
+pub fn resend(alloc: Global, ring: &RingState) -> Result<StepOut, NodeFault>
+    ensures { IsResent result ring.now }
+{
+    let out = ring.on_resend(alloc)?;
+    let mut ring_steps = Vec::with_capacity(alloc, 1)?;
+    ring_steps.push(RingStep {
+        ring: ring.ring(),
+        act: Act::Resend,
+    })?;
+    Ok(StepOut {
+        packets: out.packets,
+        entries: Vec::new(alloc),
+        ring_steps,
+    })
+}
+
+impl NodeCore {
+    /// The installed ring's token has come.
+    pub(crate) fn visit_installed(
+        &mut self,
+        alloc: Global,
+        token: &Token,
+    ) -> Result<StepOut, NodeFault>
+        ensures step { IsStep self.old self.new result (visit_installed self.old token.now) }
+        ensures at_once { IfSome (refusal_at_once self.old.installed token.now) (λ fault. result ≡ Err (of_ring fault)) }
+    {
+        let told = take_token(alloc, &mut self.installed, &self.waiting, token)?;
+        self.waiting.clear();
+        self.quiet = 0;
+        Ok(told)
+    }
+}

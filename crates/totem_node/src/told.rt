@@ -1,0 +1,112 @@
+//! What is written of a ring's step.
+ghost use Rattle.std.specs.Prelude.{◌≡◌, ◌+◌, ◌++◌, ◌<◌, ◌^◌, length, IfOk, OnOk};
+ghost use Rattle.totem_ids.specs.declared.conf.ConfId.TheVariants.{Regular};
+ghost use Rattle.totem_ring.specs.Visits.{numbered};
+ghost use Rattle.totem_recover.specs.Finish.{deliveries};
+ghost use Rattle.totem_node.specs.Visiting.{message_steps, send_of, submits, visit_steps, visit_sends};
+
+use crate::ring_step::RingStep;
+use std::alloc::{AllocError, Global};
+use totem_evs::Entry;
+use totem_ids::{ConfId, MsgId, RingId};
+use totem_packets::{Body, Message, Token};
+use totem_recover::deliver;
+use totem_ring::{Act, RingState};
+
+/// Writes the deliveries of these messages, behind what stands there.
+pub fn write_deliveries(
+    entries: &mut Vec<Entry>,
+    conf: &ConfId,
+    messages: &[Message],
+) -> Result<(), AllocError>
+    ensures { OnOk result (entries.new.items ≡ entries.old.items ++ deliveries conf.now messages.now) }
+{
+    for message in messages {
+        deliver(entries, conf, message)?;
+    }
+    Ok(())
+}
+
+/// The deliveries of these messages on their ring.
+pub fn deliveries_on(
+    alloc: Global,
+    ring: RingId,
+    messages: &[Message],
+) -> Result<Vec<Entry>, AllocError>
+    ensures { IfOk result (λ entries. entries.items ≡ deliveries (Regular ring) messages.now) }
+{
+    let mut entries = Vec::new(alloc);
+    write_deliveries(&mut entries, &ConfId::Regular(ring), messages)?;
+    Ok(entries)
+}
+
+/// The sending of a client's message; the others have none.
+fn send(ring: RingId, number: u32, body: &Body) -> Option<Entry>
+    requires { 0 < number }
+    ensures { result ≡ send_of (Regular ring) ring number body.now }
+{
+    match body {
+        Body::App { service, .. } => Some(Entry::Send(
+            MsgId { ring, number },
+            ConfId::Regular(ring),
+            *service,
+        )),
+        Body::Old { .. } => None,
+        Body::Mark => None,
+    }
+}
+
+/// The sendings of what waits, when it gets the numbers behind `seq`.
+pub fn visit_sends(alloc: Global, ring: &RingState, token: &Token) -> Result<Vec<Entry>, AllocError>
+    requires { token.now.seq + length ring.now.waiting < 2 ^ 32 }
+    ensures { IfOk result (λ entries. entries.items ≡ visit_sends ring.now token.now) }
+{
+    let mut entries = Vec::new(alloc);
+    let mut number = token.seq;
+    for body in ring.waiting() {
+        number += 1;
+        if let Some(entry) = send(ring.ring(), number, body) {
+            entries.push(entry)?;
+        }
+    }
+    Ok(entries)
+}
+
+/// The step of a ring that takes this message.
+pub fn message_steps(
+    alloc: Global,
+    ring: RingId,
+    message: Message,
+) -> Result<Vec<RingStep>, AllocError>
+    ensures { IfOk result (λ steps. steps.items ≡ message_steps ring message) }
+{
+    let mut steps = Vec::with_capacity(alloc, 1)?;
+    steps.push(RingStep {
+        ring,
+        act: Act::Message(message),
+    })?;
+    Ok(steps)
+}
+
+/// The steps of a ring to which these bodies are submitted, and which then takes this token.
+pub fn visit_steps(
+    alloc: Global,
+    ring: RingId,
+    bodies: &[Body],
+    token: &Token,
+) -> Result<Vec<RingStep>, AllocError>
+    ensures { IfOk result (λ steps. steps.items ≡ visit_steps ring bodies.now token.now) }
+{
+    let mut steps = Vec::new(alloc);
+    for body in bodies {
+        steps.push(RingStep {
+            ring,
+            act: Act::Submit(body.try_clone()?),
+        })?;
+    }
+    steps.push(RingStep {
+        ring,
+        act: Act::Token(token.try_clone(alloc)?),
+    })?;
+    Ok(steps)
+}

@@ -1,0 +1,90 @@
+//! A token's visit, with what is written of it.
+ghost use Rattle.std.specs.Prelude.{◌≡◌, ◌+◌, None};
+ghost use Rattle.totem_ring.specs.declared.undo.RingUndo.TheVariants.{Submit as OfSubmit};
+ghost use Rattle.totem_ring.specs.Undoing.{taken_back};
+ghost use Rattle.totem_ring.specs.Refusals.{refusal_at_once};
+ghost use Rattle.totem_node.specs.Visits.{IsVisit, IsTaken};
+
+use crate::fault::NodeFault;
+use crate::ring_step::RingStep;
+use crate::told::{visit_sends, visit_steps};
+use std::alloc::Global;
+use totem_evs::Entry;
+use totem_packets::{Body, Token};
+use totem_ring::{RingOut, RingState, RingUndo};
+
+/// A visit that was taken: what it gave, and what is written of it.
+#[derive(Debug, Drop)]
+pub struct Visited {
+    pub out: RingOut,
+    /// The sendings of what it numbered.
+    pub sends: Vec<Entry>,
+    pub ring_steps: Vec<RingStep>,
+}
+
+/// What takes a visit back.
+#[derive(Debug, Drop)]
+pub struct VisitUndo {
+    undo: RingUndo,
+    /// How many bodies waited on the ring before others were given to it.
+    waited: usize,
+}
+
+impl VisitUndo {
+    /// The ring is again as it was before the visit, and before bodies were given to it.
+    pub fn take_back(self, ring: &mut RingState)
+        ensures { ring.new ≡ taken_back (OfSubmit self.waited) (taken_back self.undo ring.old) }
+    {
+        ring.undo(self.undo);
+        ring.undo(RingUndo::Submit {
+            waited: self.waited,
+        });
+    }
+}
+
+/// The visit, when the ring was given these bodies, and `waited` before them.
+fn take(
+    alloc: Global,
+    ring: &mut RingState,
+    waited: usize,
+    bodies: &[Body],
+    token: &Token,
+) -> Result<(Visited, VisitUndo), NodeFault>
+    requires { refusal_at_once ring.old token.now ≡ None }
+    ensures { IsTaken waited ring.old ring.new result bodies.now token.now }
+{
+    if u64::from(token.seq) + ring.waiting().len() as u64 >= 1 << 32 {
+        return Err(NodeFault::Range);
+    }
+    let sends = visit_sends(alloc, ring, token)?;
+    let ring_steps = visit_steps(alloc, ring.ring(), bodies, token)?;
+    let (out, undo) = ring.take_token(alloc, token)?;
+    let visited = Visited {
+        out,
+        sends,
+        ring_steps,
+    };
+    Ok((visited, VisitUndo { undo, waited }))
+}
+
+/// The token's visit, for which these bodies are given to the ring. The caller shows that nothing refuses the token at once:
+/// `RingState::token_refusal_at_once`.
+pub fn visit(
+    alloc: Global,
+    ring: &mut RingState,
+    bodies: &[Body],
+    token: &Token,
+) -> Result<(Visited, VisitUndo), NodeFault>
+    requires { refusal_at_once ring.old token.now ≡ None }
+    ensures { IsVisit ring.old ring.new result bodies.now token.now }
+{
+    let waited = ring.waiting().len();
+    ring.give(bodies)?;
+    match take(alloc, ring, waited, bodies, token) {
+        Ok(visited) => Ok(visited),
+        Err(fault) => {
+            ring.undo(RingUndo::Submit { waited });
+            Err(fault)
+        }
+    }
+}

@@ -1,0 +1,101 @@
+-- What a process of a script comes to.
+use Rattle.std.proofs.Common.{◌≡◌, ◌≢◌, ℕ, zero, suc, ◌<◌, ◌≤◌, ◌+◌, List, [], ◌∷◌, ◌++◌, length, Bool, true, false, cond, Some, Ok, Err, nat_lt, refl, ap, ◌∙◌, arith}
+use Rattle.std.specs.Prelude.{slice_get}
+use Rattle.std.proofs.lemmas.Bool.Decides.{nat_tests}
+use Rattle.totem_ids.specs.Names.{RingName}
+use Rattle.totem_evs.specs.declared.entry.Entry.{Entry}
+use Rattle.totem_evs.specs.declared.entry.Entry.TheVariants.{Conf, Send, Deliver, Fail}
+use Rattle.totem_evs.specs.declared.ending.Ending.{Ending}
+use Rattle.totem_evs.specs.declared.ending.Ending.TheVariants.{Standing, Failed}
+use Rattle.totem_evs.specs.LogRecord.{LogRecord}
+use Rattle.totem_evs.specs.Runs.{IsFailure, EndsInFail, IsClosedBy}
+use Rattle.totem_ring.specs.Visits.{Sending}
+use Rattle.totem_node.specs.declared.input.Input.{Input}
+use Rattle.totem_node.specs.declared.fault.NodeFault.{NodeFault}
+use Rattle.totem_node.specs.declared.fault.NodeFault.TheVariants as node
+use Rattle.totem_node.specs.declared.ring_step.RingStep.{RingStep}
+use Rattle.totem_node.specs.Nodes.{Node, new_node}
+use Rattle.totem_node.specs.Outcomes.{IsRefused}
+use Rattle.totem_node.specs.Replay.{first_change}
+use Rattle.totem_node.specs.Table.{step}
+use Rattle.totem_script.specs.declared.script_fault.ScriptFaultKind.TheVariants.{TooMany}
+use Rattle.totem_script.specs.Actors.{Actor, new_actor, acted, takes, is_failure, ends_in_failure}
+
+pub starts : (p : ℕ) (ring : RingName) (members : List ℕ) (n : Node) (first : Entry) (entries : List Entry) → n ≡ new_node p ring members
+    → first ≡ first_change ring members → entries ≡ [] ++ first ∷ [] → record { proc = p; node = n; entries = entries } ≡ new_actor p ring members
+unfolding new_actor
+starts p ring members n first entries node change is = rw (is, node, change)
+
+-- the node takes a step
+module _ (a : Actor) (i : Input) (n : Node) where
+  pub passed_over : (fault : NodeFault) → IsRefused fault a.node n (step a.node i) → fault ≢ node.Memory → (packets : List Sending) → packets ≡ []
+      → takes a i ≡ Ok (record { actor = record { proc = a.proc; node = n; entries = a.entries }; packets = packets })
+  unfolding takes
+  passed_over fault refused other packets none = ap (acted a) (refused.fault_is other) ∙ rw (refused.unchanged, none)
+
+  module _ (packets : List Sending) (entries : List Entry) (ring_steps : List RingStep)
+      (done : step a.node i ≡ Ok (record { node = n; packets = packets; entries = entries; ring_steps = ring_steps })) where
+    pub too_many : 1000000 < length a.entries + length entries → takes a i ≡ Err TooMany
+    unfolding takes
+    too_many more =
+        let test : nat_lt 1000000 (length a.entries + length entries) ≡ true = grind (arith, nat_tests) in
+        ap (acted a) done ∙ rw test
+
+    pub goes_on : length a.entries + length entries ≤ 1000000 → (after : List Entry) → after ≡ a.entries ++ entries
+        → takes a i ≡ Ok (record { actor = record { proc = a.proc; node = n; entries = after }; packets = packets })
+    unfolding takes
+    goes_on fits after is =
+        let test : nat_lt 1000000 (length a.entries + length entries) ≡ false = grind (arith, nat_tests) in
+        ap (acted a) done ∙ rw (test, is)
+
+failure_seen : (e : Entry) → IsFailure e → is_failure e ≡ true
+failure_seen (Conf x members) h = absurd h
+failure_seen (Send m x service) h = absurd h
+failure_seen (Deliver m x) h = absurd h
+failure_seen (Fail x) h = refl
+
+failure_is : (e : Entry) → is_failure e ≡ true → IsFailure e
+failure_is (Conf x members) h = absurd (cc)
+failure_is (Send m x service) h = absurd (cc)
+failure_is (Deliver m x) h = absurd (cc)
+failure_is (Fail x) h = tt
+
+end_seen : (entries : List Entry) (i : ℕ) (last : Entry) → length entries ≡ i + 1 → slice_get entries i ≡ Some last → IsFailure last → ends_in_failure entries ≡ true
+unfolding ends_in_failure
+end_seen [] i last many at h = absurd (omega arith)
+end_seen (e ∷ []) zero last many at h = let same : e ≡ last = cc in rw same (failure_seen last h)
+end_seen (e ∷ []) (suc i) last many at h = absurd (omega arith)
+end_seen (e ∷ f ∷ entries) zero last many at h = absurd (omega arith)
+end_seen (e ∷ f ∷ entries) (suc i) last many at h = end_seen (f ∷ entries) i last (omega arith) at h
+
+end_is : (entries : List Entry) → ends_in_failure entries ≡ true → EndsInFail entries
+unfolding ends_in_failure
+end_is [] h = absurd (cc)
+end_is (e ∷ []) h = (0, e, refl, refl, failure_is e h)
+end_is (e ∷ f ∷ entries) h =
+    let rest : EndsInFail (f ∷ entries) = end_is (f ∷ entries) h in
+    let more : length (e ∷ f ∷ entries) ≡ suc rest.0 + 1 = let many = rest.2 in omega arith in
+    (suc rest.0, rest.1, more, rest.3, rest.4)
+
+by_ending : (entries : List Entry) (ending : Ending) → IsClosedBy entries ending → ends_in_failure entries ≡ false → ending ≡ Standing
+by_ending entries Standing closed stands = refl
+by_ending entries Failed closed stands =
+    let end : EndsInFail entries = closed.0 refl in
+    let seen = end_seen entries end.0 end.1 end.2 end.3 end.4 in
+    absurd (cc)
+
+-- what is closed so ends so
+pub closes : (entries : List Entry) (ending : Ending) → IsClosedBy entries ending → ending ≡ cond (ends_in_failure entries) Failed Standing
+closes entries ending closed = by_end (ends_in_failure entries) refl
+  where
+    by_end : (b : Bool) → ends_in_failure entries ≡ b → ending ≡ cond b Failed Standing
+    by_end true is = closed.1 (end_is entries is)
+    by_end false is = by_ending entries ending closed is
+
+told : (p q : ℕ) (before after : List Entry) (ending : Ending) → q ≡ p → after ≡ before → ending ≡ cond (ends_in_failure after) Failed Standing
+    → (let log : LogRecord = record { proc = q; entries = after; ending = ending } in log) ≡ (let whole : LogRecord = record { proc = p; entries = before; ending = cond (ends_in_failure before) Failed Standing } in whole)
+told p q before after ending proc is ends = rw (ends, is, proc)
+
+-- the log of a process's entries
+pub recorded : (log : LogRecord) (p : ℕ) (entries : List Entry) → log.proc ≡ p → log.entries ≡ entries → IsClosedBy log.entries log.ending → log ≡ (let whole : LogRecord = record { proc = p; entries = entries; ending = cond (ends_in_failure entries) Failed Standing } in whole)
+recorded log p entries proc is closed = told p log.proc entries log.entries log.ending proc is (closes log.entries log.ending closed)

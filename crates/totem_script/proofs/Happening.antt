@@ -1,0 +1,72 @@
+-- What becomes of a scene.
+use Rattle.std.proofs.Common.{◌≡◌, ℕ, zero, suc, ◌<◌, ◌+◌, ◌-◌, List, [], ◌∷◌, ◌++◌, length, get_or, take, Ok, refl, ap, ◌∙◌, arith, append-nil}
+use Rattle.std.specs.List.{concat}
+use Rattle.std.proofs.lemmas.List.{take_more}
+use Rattle.std.proofs.lemmas.List.Folds.{concat-append}
+use Rattle.totem_packets.specs.declared.packet.Packet.{Packet}
+use Rattle.totem_ring.specs.Visits.{Sending}
+use Rattle.totem_node.specs.declared.input.Input.{Input}
+use Rattle.totem_node.specs.declared.input.Input.TheVariants as input
+use Rattle.totem_script.specs.declared.script_fault.ScriptFaultKind.{ScriptFaultKind}
+use Rattle.totem_script.specs.Judged.{Judged, Fails, ◌>>=◌}
+use Rattle.totem_script.specs.Actors.{Actor}
+use Rattle.totem_script.specs.Casts.{plays}
+use Rattle.totem_script.specs.Scenes.{Queue, Scene, posted_all, takes_in, run_one, run_times}
+
+-- ---- A step
+
+module _ (s : Scene) (p : ℕ) (i : Input) where
+  pub not_taken : (fault : ScriptFaultKind) → Fails fault (plays s.actors p i) → Fails fault (takes_in s p i)
+  unfolding takes_in
+  not_taken fault fails = record { is = λ other. rw (fails.is other) }
+
+  pub taken : (actors shown : List Actor) (packets : List Sending) (queue : Queue) → plays s.actors p i ≡ Ok (record { actors = actors; packets = packets })
+      → shown ≡ actors → queue ≡ s.queue ++ posted_all s.cut shown p packets
+      → takes_in s p i ≡ Ok (record { actors = actors; queue = queue; cut = s.cut; under_way = s.under_way })
+  unfolding takes_in
+  taken actors shown packets queue played same posted = rw (played, posted, same)
+
+-- ---- Step after step
+
+pub no_packet : (left : ℕ) (s : Scene) → s.queue ≡ [] → run_times left s ≡ Ok s
+unfolding run_times
+no_packet zero s none = refl
+no_packet (suc left) s none =
+    let f : Scene → Judged Scene = run_times left in
+    ap (λ (q : Queue). run_one s q >>= f) none ∙ no_packet left s none
+
+pub stopped : (whole : Judged Scene) (left : ℕ) (s : Scene) (queue : Queue) → whole ≡ run_times left s → queue ≡ s.queue → s.queue ≡ []
+    → whole ≡ Ok (record { actors = s.actors; queue = queue; cut = s.cut; under_way = s.under_way })
+stopped whole left s queue so_far is none = rw is (so_far ∙ no_packet left s none)
+
+pub no_time : (left : ℕ) (s : Scene) → left ≡ 0 → run_times left s ≡ Ok s
+unfolding run_times
+no_time zero s none = refl
+no_time (suc left) s none = absurd (omega arith)
+
+module _ (s : Scene) (p : ℕ) (packet : Packet) (queue : Queue) (is : s.queue ≡ (p, packet) ∷ queue) where
+  pub one_went : (left : ℕ) (next : Scene) → 0 < left → takes_in (record s { queue = queue }) p (input.Packet packet) ≡ Ok next
+      → run_times left s ≡ run_times (left - 1) next
+  unfolding run_times
+  one_went zero next some done = absurd (omega arith)
+  one_went (suc left) next some done =
+      let less : suc left - 1 ≡ left = omega arith in
+      rw (less, is, done)
+
+  pub one_failed : (left : ℕ) (fault : ScriptFaultKind) → 0 < left → Fails fault (takes_in (record s { queue = queue }) p (input.Packet packet))
+      → Fails fault (run_times left s)
+  unfolding run_times
+  one_failed zero fault some fails = absurd (omega arith)
+  one_failed (suc left) fault some fails = record { is = λ other. rw (is, fails.is other) }
+
+-- the same, of what is left of a whole
+pub fails_too : {A : Type 0} (fault : ScriptFaultKind) (whole rest : Judged A) → whole ≡ rest → Fails fault rest → Fails fault whole
+fails_too fault whole rest same fails = record { is = λ other. same ∙ fails.is other }
+
+-- ---- All that stand in groups
+
+pub group_more : (groups : List (List ℕ)) (i : ℕ) (g procs next : List ℕ) → i < length groups → g ≡ get_or groups i g → procs ≡ concat (take i groups)
+    → next ≡ procs ++ g → next ≡ concat (take (i + 1) groups)
+group_more groups i g procs next inside is so_far more =
+    let one : concat (g ∷ []) ≡ g = append-nil g in
+    more ∙ rw (so_far, take_more groups i g inside, concat-append (take i groups) (get_or groups i g ∷ []), ← is, one)

@@ -1,0 +1,134 @@
+-- A script, line by line.
+use Rattle.std.proofs.Common.{◌≡◌, ℕ, zero, suc, ◌≤◌, ◌+◌, ◌==◌, List, [], ◌∷◌, length, drop, map, Bool, true, false, cond, Ok, Err, refl, ap, ◌∙◌, arith}
+use Rattle.std.proofs.lemmas.List.{length-drop}
+use Rattle.totem_evs.specs.declared.run.Run.{Run}
+use Rattle.totem_script.specs.declared.command.Command.{Command}
+use Rattle.totem_script.specs.declared.fault.LineFault.{LineFault}
+use Rattle.totem_script.specs.declared.script_fault.ScriptFault.{ScriptFault}
+use Rattle.totem_script.specs.declared.script_fault.ScriptFaultKind.{ScriptFaultKind}
+use Rattle.totem_script.specs.declared.script_fault.ScriptFaultKind.TheVariants.{End, Truncated}
+use Rattle.totem_script.specs.Commands.{command_of}
+use Rattle.totem_script.specs.Lines.{lines_of, longer_line}
+use Rattle.totem_script.specs.Judged.{Fails}
+use Rattle.totem_script.specs.Parsed as parsed
+use Rattle.totem_script.specs.ScriptFaults.{of_line}
+use Rattle.totem_script.specs.Actors.{log_of}
+use Rattle.totem_script.specs.Scenes.{Scene, empty_scene, done}
+use Rattle.totem_script.specs.Simulation.{Texts, Told, ends, followed, judged, closing, play, all_played, simulate, FailsAt, first_judged, first_headed}
+
+-- ---- A line
+
+module _ (s : Scene) (text : List ℕ) where
+  pub not_command : (fault : LineFault) → parsed.Fails fault (command_of text) → Fails (of_line fault) (followed s text)
+  unfolding followed
+  not_command fault fails = record { is = λ other. let err = fails.is (λ e. other (ap of_line e)) in rw err }
+
+  module _ (c : Command) (read : command_of text ≡ Ok c) where
+    pub not_done : (fault : ScriptFaultKind) → Fails fault (done s c) → Fails fault (followed s text)
+    unfolding followed
+    not_done fault fails = record { is = λ other. rw (read, fails.is other) }
+
+    pub is_done : (next : Scene) (b : Bool) → done s c ≡ Ok next → b ≡ ends c → followed s text ≡ Ok (record { scene = next; ended = b })
+    unfolding followed
+    is_done next b did last = rw (last, read, did)
+
+module _ (s : Scene) (lines : Texts) where
+  pub unfit_text : (fault : ScriptFaultKind) → lines ≡ Err fault ∷ [] → Fails fault (first_judged s lines)
+  unfolding judged
+  unfit_text fault is = record { is = λ other. ap (first_judged s) is }
+
+  pub no_text : lines ≡ [] → Fails Truncated (first_judged s lines)
+  no_text is = record { is = λ other. ap (first_judged s) is }
+
+  pub a_text : (text : List ℕ) (rest : Texts) → lines ≡ Ok text ∷ rest → first_judged s lines ≡ followed s text
+  unfolding judged
+  a_text text rest is = ap (first_judged s) is
+
+-- ---- Line after line
+
+pub stops : (whole : Told Scene) (n : ℕ) (s : Scene) (lines : Texts) (kind : ScriptFaultKind) → whole ≡ play n s lines → Fails kind (first_judged s lines)
+    → FailsAt (record { kind = kind; line = n }) whole
+unfolding play
+stops whole n s [] kind so_far fails = record { is = λ other. let same : Truncated ≡ kind = (let e = fails.is other in cc) in so_far ∙ rw same }
+stops whole n s (l ∷ lines) kind so_far fails = record { is = λ other. so_far ∙ rw (fails.is other) }
+
+pub goes_on : (whole : Told Scene) (n : ℕ) (s : Scene) (lines rest : Texts) (next : Scene) (b : Bool) → whole ≡ play n s lines
+    → first_judged s lines ≡ Ok (record { scene = next; ended = b }) → rest ≡ drop 1 lines → b ≡ false
+    → (whole ≡ play (n + 1) next rest) × (length lines ≡ length rest + 1)
+unfolding play
+goes_on whole n s [] rest next b so_far did is more = absurd (cc)
+goes_on whole n s (l ∷ lines) rest next b so_far did is more =
+    let same : rest ≡ lines = is in
+    let many : suc (length lines) ≡ length rest + 1 = (let e = ap length same in omega (arith, e)) in
+    (so_far ∙ rw (did, more, same), many)
+
+pub ends_here : (whole : Told Scene) (n : ℕ) (s : Scene) (lines rest : Texts) (next : Scene) (b : Bool) → whole ≡ play n s lines
+    → first_judged s lines ≡ Ok (record { scene = next; ended = b }) → rest ≡ drop 1 lines → b ≡ true
+    → whole ≡ closing (n + 1) next rest
+unfolding play
+ends_here whole n s [] rest next b so_far did is last = absurd (cc)
+ends_here whole n s (l ∷ lines) rest next b so_far did is last =
+    let same : rest ≡ lines = is in
+    so_far ∙ rw (did, last, same)
+
+pub closed : (n : ℕ) (s : Scene) (rest : Texts) → rest ≡ [] → closing n s rest ≡ Ok s
+unfolding closing
+closed n s [] none = refl
+closed n s (l ∷ rest) none = absurd (cc)
+
+pub more_behind : (whole : Told Scene) (n : ℕ) (s : Scene) (rest : Texts) → whole ≡ closing n s rest → (rest ≡ [] → ⊥) → FailsAt (record { kind = End; line = n }) whole
+unfolding closing
+more_behind whole n s [] is some = absurd (some refl)
+more_behind whole n s (l ∷ rest) is some = record { is = λ other. is }
+
+-- ---- The whole
+
+longer_many : (b : ℕ) (lines : Texts) (n : ℕ) → length lines ≤ suc n → length (longer_line b lines) ≤ suc (suc n)
+longer_many b [] n few = omega arith
+longer_many b (Ok text ∷ lines) n few = omega arith
+longer_many b (Err fault ∷ lines) n few = omega arith
+
+pub few_lines : (room : ℕ) (bytes : List ℕ) → length (lines_of room bytes) ≤ suc room
+unfolding lines_of
+few_lines room [] = omega arith
+few_lines zero (b ∷ bytes) = omega arith
+few_lines (suc room) (b ∷ bytes) = by_byte (b == 10) (few_lines room bytes)
+  where
+    by_byte : (e : Bool) → length (lines_of room bytes) ≤ suc room → length (cond e (Ok [] ∷ lines_of room bytes) (longer_line b (lines_of room bytes))) ≤ suc (suc room)
+    by_byte true few = omega arith
+    by_byte false few = longer_many b (lines_of room bytes) room few
+
+no_head : (lines : Texts) (kind : ScriptFaultKind) → Fails kind (first_headed lines) → FailsAt (record { kind = kind; line = 1 }) (all_played lines)
+unfolding all_played
+no_head [] kind fails = record { is = λ other. let same : Truncated ≡ kind = (let e = fails.is other in cc) in rw same }
+no_head (l ∷ lines) kind fails = record { is = λ other. rw (fails.is other) }
+
+a_head : (lines rest : Texts) → first_headed lines ≡ Ok empty_scene → rest ≡ drop 1 lines → all_played lines ≡ play 2 empty_scene rest
+unfolding all_played
+a_head [] rest head is = absurd (cc)
+a_head (l ∷ lines) rest head is = let same : rest ≡ lines = is in rw (head, same)
+
+module _ (script : List ℕ) (lines : Texts) (is : lines ≡ lines_of 65536 script) where
+  fails_whole : (fault : ScriptFault) → FailsAt fault (all_played lines) → FailsAt fault (simulate script)
+  unfolding simulate
+  fails_whole fault fails = record { is = λ other. let err = rw is at (fails.is other) in rw err }
+
+  pub without_head : (kind : ScriptFaultKind) → Fails kind (first_headed lines) → FailsAt (record { kind = kind; line = 1 }) (simulate script)
+  without_head kind fails = fails_whole (record { kind = kind; line = 1 }) (no_head lines kind fails)
+
+  pub few_behind : (rest : Texts) → rest ≡ drop 1 lines → length rest ≤ 65537
+  few_behind rest behind =
+      let few = few_lines 65536 script in
+      let all = ap length is in
+      let fewer = ap length behind in
+      omega (arith, few, all, fewer, length-drop 1 lines)
+
+  module _ (rest : Texts) (head : first_headed lines ≡ Ok empty_scene) (behind : rest ≡ drop 1 lines) where
+    pub play_fails : (fault : ScriptFault) → FailsAt fault (play 2 empty_scene rest) → FailsAt fault (simulate script)
+    play_fails fault fails = fails_whole fault (record { is = λ other. a_head lines rest head behind ∙ fails.is other })
+
+    pub play_ends : (s : Scene) (run : Run) → play 2 empty_scene rest ≡ Ok s → run.logs ≡ map log_of s.actors → simulate script ≡ Ok run
+    unfolding simulate
+    play_ends s run played logs =
+        let whole = rw is at (a_head lines rest head behind ∙ played) in
+        rw (whole, ← logs)

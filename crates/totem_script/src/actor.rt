@@ -1,0 +1,103 @@
+//! A process of a script.
+ghost use Rattle.std.specs.Prelude.{◌≡◌, IfOk};
+ghost use Rattle.totem_evs.specs.Members.{IsMembers};
+ghost use Rattle.totem_script.specs.Actors.{new_actor, takes, log_of, IsTaken};
+
+use crate::script_fault::ScriptFaultKind;
+use std::alloc::{AllocError, Global};
+use std::marker::Model;
+use totem_evs::{Entries, Entry, Log};
+use totem_ids::{ProcId, RingId};
+use totem_node::{Input, NodeCore, NodeFault};
+use totem_packets::Packet;
+use totem_ring::To;
+
+/// How many entries a log may have.
+const MOST: usize = 1_000_000;
+
+/// A process of a script: its node, and what the node has written.
+#[derive(Debug, Drop)]
+pub struct ActorState {
+    proc: ProcId,
+    node: NodeCore,
+    entries: Vec<Entry>,
+}
+
+impl Model for ActorState {
+    ghost use Rattle.std.specs.Prelude.{◌<◌, ◌≤◌, length};
+    ghost use Rattle.totem_script.specs.Actors.{Actor};
+
+    ghost Value = { Actor };
+
+    ghost view = { λ a. record { proc = a.proc; node = a.node; entries = a.entries.items } };
+
+    ghost invariant = { λ a. (0 < length a.entries.items) × (length a.entries.items ≤ 1000000) };
+}
+
+impl ActorState {
+    /// A node that starts on this ring.
+    pub fn new(
+        alloc: Global,
+        proc: ProcId,
+        ring: RingId,
+        members: &[ProcId],
+    ) -> Result<ActorState, AllocError>
+        requires { IsMembers members.now }
+        ensures { IfOk result (λ a. a ≡ new_actor proc ring members.now) }
+    {
+        let (node, change) = NodeCore::new(alloc, proc, ring, members)?;
+        let mut entries = Vec::new(alloc);
+        entries.push(change)?;
+        Ok(ActorState {
+            proc,
+            node,
+            entries,
+        })
+    }
+
+    pub fn proc(&self) -> ProcId
+        ensures { result ≡ self.now.proc }
+    {
+        self.proc
+    }
+
+    /// It takes this input, and what its node sends is given back. A step that the node refuses is passed over.
+    pub fn take(
+        &mut self,
+        alloc: Global,
+        input: Input,
+    ) -> Result<Vec<(To, Packet)>, ScriptFaultKind>
+        ensures taken { IsTaken result self.new (takes self.old input) }
+        ensures same { self.new.proc ≡ self.old.proc }
+    {
+        let mut out = match self.node.step(alloc, input) {
+            Ok(out) => out,
+            Err(fault) => {
+                if fault == NodeFault::Memory {
+                    return Err(ScriptFaultKind::Memory);
+                }
+                return Ok(Vec::new(alloc));
+            }
+        };
+        if out.entries.len() > MOST - self.entries.len() {
+            return Err(ScriptFaultKind::TooMany);
+        }
+        self.entries.append(&mut out.entries)?;
+        Ok(out.packets)
+    }
+
+    /// What it has recorded.
+    pub fn into_log(self) -> Log
+        ensures { result ≡ log_of self }
+    {
+        let ActorState {
+            proc,
+            node: _,
+            entries,
+        } = self;
+        match Entries::new(entries) {
+            Ok(entries) => Log::new(proc, entries),
+            Err(_) => unreachable!(),
+        }
+    }
+}

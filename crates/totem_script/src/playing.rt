@@ -1,0 +1,111 @@
+//! A script, line by line.
+ghost use Rattle.std.specs.Prelude.{◌≡◌, ◌≤◌, length, drop, OnOk};
+ghost use Rattle.totem_script.specs.Judged.{Becomes};
+ghost use Rattle.totem_script.specs.Scenes.{empty_scene};
+ghost use Rattle.totem_script.specs.Simulation.{ends, followed, first_judged, first_headed, play, simulate, Follows, Leads, Gives};
+
+use crate::command::Command;
+use crate::lines::Lines;
+use crate::reading::read_command;
+use crate::scene::SceneState;
+use crate::script_fault::{ScriptFault, ScriptFaultKind};
+use std::alloc::Global;
+use totem_evs::Run;
+
+/// The first line of a script.
+const HEAD: &[u8] = b"totem-script 1";
+
+/// Whether this is `end`.
+fn ends(command: &Command) -> bool
+    ensures { result ≡ ends command.now }
+{
+    match command {
+        Command::End => true,
+        _ => false,
+    }
+}
+
+/// What the line says is done. Whether it is the last.
+fn follow(alloc: Global, scene: &mut SceneState, line: &[u8]) -> Result<bool, ScriptFaultKind>
+    ensures { Follows result scene.new (followed scene.old line.now) }
+{
+    let command = read_command(alloc, line)?;
+    let ended = ends(&command);
+    scene.follow(alloc, command)?;
+    Ok(ended)
+}
+
+/// The next line is read and followed. Whether it is the last.
+fn judge(
+    alloc: Global,
+    lines: &mut Lines<'_>,
+    scene: &mut SceneState,
+) -> Result<bool, ScriptFaultKind>
+    ensures done { Follows result scene.new (first_judged scene.old lines.old) }
+    ensures rest { OnOk result (lines.new ≡ drop 1 lines.old) }
+{
+    let Some(text) = lines.next()? else {
+        return Err(ScriptFaultKind::Truncated);
+    };
+    follow(alloc, scene, text)
+}
+
+/// The lines from the second on, up to `end`. Gives the number of the last line.
+fn play(alloc: Global, lines: &mut Lines<'_>, scene: &mut SceneState) -> Result<u32, ScriptFault>
+    requires { length lines.old ≤ 65537 }
+    ensures { Leads result scene.new (play 2 scene.old lines.old) }
+{
+    let mut line = 2u32;
+    'lines: loop {
+        let ended = match judge(alloc, lines, scene) {
+            Ok(ended) => ended,
+            Err(kind) => return Err(ScriptFault { kind, line }),
+        };
+        if ended {
+            break 'lines;
+        }
+        line += 1;
+    }
+    if !lines.is_empty() {
+        return Err(ScriptFault {
+            kind: ScriptFaultKind::End,
+            line: line + 1,
+        });
+    }
+    Ok(line)
+}
+
+/// The first line is the head.
+fn begin(lines: &mut Lines<'_>) -> Result<(), ScriptFaultKind>
+    ensures head { Becomes result empty_scene (first_headed lines.old) }
+    ensures rest { OnOk result (lines.new ≡ drop 1 lines.old) }
+{
+    let Some(text) = lines.next()? else {
+        return Err(ScriptFaultKind::Truncated);
+    };
+    if text == HEAD {
+        Ok(())
+    } else {
+        Err(ScriptFaultKind::Header)
+    }
+}
+
+/// The run that a script makes (docs/PROTOCOL.md, "Scripts"): a log of each of its processes. A fault is that of its
+/// first line that has one, and tells which line that is.
+pub fn simulate(alloc: Global, script: &[u8]) -> Result<Run, ScriptFault>
+    ensures { Gives result (simulate script.now) }
+{
+    let mut lines = Lines::new(script);
+    if let Err(kind) = begin(&mut lines) {
+        return Err(ScriptFault { kind, line: 1 });
+    }
+    let mut scene = SceneState::new(alloc);
+    let line = play(alloc, &mut lines, &mut scene)?;
+    match scene.into_run(alloc) {
+        Ok(run) => Ok(run),
+        Err(_) => Err(ScriptFault {
+            kind: ScriptFaultKind::Memory,
+            line,
+        }),
+    }
+}

@@ -1,0 +1,153 @@
+//! What there is while a script goes on.
+ghost use Rattle.std.specs.Prelude.{◌≡◌, length, nat_lt, slice_get};
+ghost use Rattle.totem_script.specs.Casts.{is_known};
+ghost use Rattle.totem_script.specs.Judged.{Becomes};
+ghost use Rattle.totem_script.specs.Scenes.{empty_scene, takes_in, step_of, makes_ring, is_in_order, effect, done};
+
+use crate::cast::Cast;
+use crate::command::Command;
+use crate::groups::Groups;
+use crate::posting::{Queue, post_all};
+use crate::script_fault::ScriptFaultKind;
+use std::alloc::{AllocError, Global};
+use std::collections::VecDeque;
+use std::marker::Model;
+use totem_evs::Run;
+use totem_ids::ProcId;
+use totem_node::Input;
+
+mod cutting_off;
+mod making;
+mod queueing;
+mod running;
+
+/// What there is while a script goes on.
+#[derive(Debug, Drop)]
+pub struct SceneState {
+    actors: Cast,
+    /// Packets on their way.
+    queue: Queue,
+    /// The groups, during a cut.
+    cut: Option<Groups>,
+    /// A command other than `ring` has come.
+    under_way: bool,
+}
+
+impl Model for SceneState {
+    ghost use Rattle.totem_script.specs.Scenes.{Scene};
+
+    ghost Value = { Scene };
+
+    ghost view = { λ s. record { actors = s.actors; queue = s.queue.items; cut = s.cut; under_way = s.under_way } };
+}
+
+/// Whether this is `ring`.
+fn makes_ring(command: &Command) -> bool
+    ensures { result ≡ makes_ring command.now }
+{
+    match command {
+        Command::Ring {
+            ring: _,
+            members: _,
+        } => true,
+        _ => false,
+    }
+}
+
+impl SceneState {
+    ghost use Rattle.std.specs.Prelude.{map, IfOk};
+    ghost use Rattle.totem_script.specs.Actors.{log_of};
+
+    /// Nothing is there yet.
+    pub fn new(alloc: Global) -> SceneState
+        ensures { result ≡ empty_scene }
+    {
+        SceneState {
+            actors: Cast::new(alloc),
+            queue: VecDeque::new(alloc),
+            cut: None,
+            under_way: false,
+        }
+    }
+
+    /// The process takes this input, if it is one of these, and what its node sends is on its way.
+    fn take(&mut self, alloc: Global, proc: ProcId, input: Input) -> Result<(), ScriptFaultKind>
+        ensures { Becomes result self.new (takes_in self.old proc input) }
+    {
+        let packets = self.actors.take(alloc, proc, input)?;
+        let actors = self.actors.as_slice();
+        post_all(alloc, &mut self.queue, &self.cut, actors, proc, packets)?;
+        Ok(())
+    }
+
+    /// A process that a line names takes this input.
+    fn step(&mut self, alloc: Global, proc: ProcId, input: Input) -> Result<(), ScriptFaultKind>
+        ensures { Becomes result self.new (step_of self.old proc input) }
+    {
+        if !self.actors.is_known(proc) {
+            return Err(ScriptFaultKind::Members);
+        }
+        self.take(alloc, proc, input)
+    }
+
+    fn is_in_order(&self, command: &Command) -> bool
+        ensures { result ≡ is_in_order self.now command.now }
+    {
+        if makes_ring(command) {
+            return !self.under_way;
+        }
+        !self.actors.as_slice().is_empty()
+    }
+
+    /// What a command does.
+    fn act(&mut self, alloc: Global, command: Command) -> Result<(), ScriptFaultKind>
+        ensures { Becomes result self.new (effect self.old command) }
+    {
+        match command {
+            Command::Ring { ring, members } => self.make_ring(alloc, ring, members.as_slice()),
+            Command::Submit {
+                proc,
+                service,
+                payload,
+            } => {
+                let payload = payload.into_bytes();
+                self.step(alloc, proc, Input::Submit { service, payload })
+            }
+            Command::Run { times } => self.run(alloc, times),
+            Command::Drop { place } => self.lose(place),
+            Command::Repeat { place } => self.repeat(alloc, place),
+            Command::Cut { groups } => self.part(alloc, groups),
+            Command::Join => {
+                self.cut = None;
+                Ok(())
+            }
+            Command::Timer { proc } => self.step(alloc, proc, Input::Timer),
+            Command::Crash { proc } => self.step(alloc, proc, Input::Crash),
+            Command::End => Ok(()),
+        }
+    }
+
+    /// The command is done, if it may come now.
+    pub fn follow(&mut self, alloc: Global, command: Command) -> Result<(), ScriptFaultKind>
+        ensures { Becomes result self.new (done self.old command) }
+    {
+        if !self.is_in_order(&command) {
+            return Err(ScriptFaultKind::Order);
+        }
+        self.under_way = !makes_ring(&command);
+        self.act(alloc, command)
+    }
+
+    /// What the processes have recorded.
+    pub fn into_run(self, alloc: Global) -> Result<Run, AllocError>
+        ensures { IfOk result (λ run. run.logs ≡ map log_of self.actors) }
+    {
+        let SceneState {
+            actors,
+            queue: _,
+            cut: _,
+            under_way: _,
+        } = self;
+        actors.into_run(alloc)
+    }
+}

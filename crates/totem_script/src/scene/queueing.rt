@@ -1,0 +1,34 @@
+//! `drop` and `repeat`: packets on their way.
+ghost use Rattle.std.specs.Prelude.{◌-◌, slice_get};
+ghost use Rattle.totem_script.specs.Judged.{Becomes};
+ghost use Rattle.totem_script.specs.Scenes.{dropped, once_more};
+
+use crate::scene::SceneState;
+use crate::script_fault::ScriptFaultKind;
+use std::alloc::Global;
+
+impl SceneState {
+    /// The packet at this place, from 1, is lost.
+    pub(super) fn lose(&mut self, place: u32) -> Result<(), ScriptFaultKind>
+        ensures { Becomes result self.new (dropped self.old place) }
+    {
+        let index = place.saturating_sub(1) as usize;
+        match self.queue.remove(index) {
+            Some(_) => Ok(()),
+            None => Err(ScriptFaultKind::Place),
+        }
+    }
+
+    /// A copy of the packet at this place, from 1, comes behind the others.
+    pub(super) fn repeat(&mut self, alloc: Global, place: u32) -> Result<(), ScriptFaultKind>
+        ensures { Becomes result self.new (once_more self.old (slice_get self.old.queue (place - 1))) }
+    {
+        let index = place.saturating_sub(1) as usize;
+        let Some((to, packet)) = self.queue.get(index) else {
+            return Err(ScriptFaultKind::Place);
+        };
+        let again = (*to, packet.try_clone(alloc)?);
+        self.queue.push_back(again)?;
+        Ok(())
+    }
+}

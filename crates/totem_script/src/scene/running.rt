@@ -1,0 +1,25 @@
+//! `run`: packets go to their receivers.
+ghost use Rattle.totem_script.specs.Judged.{Becomes};
+ghost use Rattle.totem_script.specs.Scenes.{run_times};
+
+use crate::scene::SceneState;
+use crate::script_fault::ScriptFaultKind;
+use std::alloc::Global;
+use totem_node::Input;
+
+impl SceneState {
+    /// So many times, while there is one, the first packet goes to its receiver.
+    pub(super) fn run(&mut self, alloc: Global, times: u32) -> Result<(), ScriptFaultKind>
+        ensures { Becomes result self.new (run_times times self.old) }
+    {
+        let mut left = times;
+        while left > 0 {
+            let Some(first) = self.queue.pop_front() else {
+                return Ok(());
+            };
+            self.take(alloc, first.0, Input::Packet(first.1))?;
+            left -= 1;
+        }
+        Ok(())
+    }
+}

@@ -1,0 +1,128 @@
+//! Why a script makes no run.
+ghost use Rattle.std.specs.Prelude.{◌≡◌};
+ghost use Rattle.totem_script.specs.declared.script_fault.ScriptFaultKind.TheVariants.{Memory};
+ghost use Rattle.totem_script.specs.ScriptFaults.{fault_number, fault_name, of_line};
+
+use crate::fault::LineFault;
+use std::alloc::{AllocError, AllocFailed};
+use thiserror::Error;
+
+/// What is wrong with a line of a script; of several the first, in this order (docs/PROTOCOL.md, "Scripts").
+#[derive(Clone, Copy, Debug, PartialEq, Eq, Error)]
+pub enum ScriptFaultKind {
+    #[error("a script begins with `totem-script 1`")]
+    Header,
+    #[error("a word that no command has there, or one too few")]
+    Word,
+    #[error("no number where one is wanted, or one out of range")]
+    Number,
+    #[error("a ring is wanted first, and none behind another command")]
+    Order,
+    #[error("these processes can't be meant")]
+    Members,
+    #[error("there is no such packet")]
+    Place,
+    #[error("something stands behind the last line")]
+    End,
+    #[error("the script ends too early")]
+    Truncated,
+    #[error("33 processes, 65537 bytes or 1000001 entries of a log")]
+    TooMany,
+    #[error("the script can't be read")]
+    Read,
+    #[error("out of memory")]
+    Memory,
+}
+
+/// Why a script makes no run, and which of its lines, from 1 on, was judged when that came out. A script that ends too
+/// early lacks the line that is named. `Read` and `Memory` name the line that was under way.
+#[derive(Clone, Copy, Debug, PartialEq, Eq, Error)]
+#[error("line {line}: {kind}")]
+pub struct ScriptFault {
+    pub kind: ScriptFaultKind,
+    pub line: u32,
+}
+
+impl ScriptFaultKind {
+    /// Its number, from 1 on in the order above.
+    pub fn number(&self) -> u8
+        ensures { result ≡ fault_number self.now }
+    {
+        match self {
+            ScriptFaultKind::Header => 1,
+            ScriptFaultKind::Word => 2,
+            ScriptFaultKind::Number => 3,
+            ScriptFaultKind::Order => 4,
+            ScriptFaultKind::Members => 5,
+            ScriptFaultKind::Place => 6,
+            ScriptFaultKind::End => 7,
+            ScriptFaultKind::Truncated => 8,
+            ScriptFaultKind::TooMany => 9,
+            ScriptFaultKind::Read => 10,
+            ScriptFaultKind::Memory => 11,
+        }
+    }
+
+    /// Its name.
+    pub fn name(&self) -> &'static str
+        ensures { result.now ≡ fault_name self.now }
+    {
+        match self {
+            ScriptFaultKind::Header => "Header",
+            ScriptFaultKind::Word => "Word",
+            ScriptFaultKind::Number => "Number",
+            ScriptFaultKind::Order => "Order",
+            ScriptFaultKind::Members => "Members",
+            ScriptFaultKind::Place => "Place",
+            ScriptFaultKind::End => "End",
+            ScriptFaultKind::Truncated => "Truncated",
+            ScriptFaultKind::TooMany => "TooMany",
+            ScriptFaultKind::Read => "Read",
+            ScriptFaultKind::Memory => "Memory",
+        }
+    }
+}
+
+impl ScriptFault {
+    /// The number of what is wrong.
+    pub fn number(&self) -> u8
+        ensures { result ≡ fault_number self.now.kind }
+    {
+        self.kind.number()
+    }
+
+    /// The name of what is wrong.
+    pub fn name(&self) -> &'static str
+        ensures { result.now ≡ fault_name self.now.kind }
+    {
+        self.kind.name()
+    }
+}
+
+impl From<AllocError> for ScriptFaultKind {
+    ghost from_gives = { λ _ e. e ≡ Memory };
+
+    fn from(_e: AllocError) -> ScriptFaultKind {
+        ScriptFaultKind::Memory
+    }
+}
+
+impl<T: Drop> From<AllocFailed<T>> for ScriptFaultKind {
+    ghost from_gives = { λ _ e. e ≡ Memory };
+
+    fn from(e: AllocFailed<T>) -> ScriptFaultKind {
+        ScriptFaultKind::from(AllocError::from(e))
+    }
+}
+
+impl From<LineFault> for ScriptFaultKind {
+    ghost from_gives = { λ fault e. e ≡ of_line fault };
+
+    fn from(fault: LineFault) -> ScriptFaultKind {
+        match fault {
+            LineFault::Word => ScriptFaultKind::Word,
+            LineFault::Number => ScriptFaultKind::Number,
+            LineFault::Memory => ScriptFaultKind::Memory,
+        }
+    }
+}
