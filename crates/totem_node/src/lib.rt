@@ -4,8 +4,6 @@
 mod clients;
 mod commits;
 mod fault;
-#[cfg(test)]
-mod fault_tests;
 mod gathering;
 mod input;
 mod joins;

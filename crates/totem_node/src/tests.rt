@@ -1,50 +1,76 @@
-//! Nodes by direct calls: what they send, and the logs that they write.
-use crate::{Input, NodeCore, RingStep};
+//! Nodes by direct calls: each step as a line of text.
+use crate::{Input, NodeCore, NodeFault, StepOut};
 use bytes::Bytes;
 use std::alloc::{AllocError, Global};
 use std::test::Fail;
 use totem_evs::{Entry, Members};
 use totem_ids::{ProcId, RingId, Service};
-use totem_packets::{Body, CommitToken, Message, Number, Packet, Payload};
+use totem_packets::{
+    Body, CommitMember, CommitMembers, CommitToken, Message, Number, Packet, Payload, Round,
+};
 use totem_ring::{Act, To, first_token};
 
-pub fn proc(number: u16) -> ProcId {
+fn proc(number: u16) -> ProcId {
     ProcId::of(number.max(1))
 }
 
 /// A ring with the representative 1.
-pub fn ring(seq: u32) -> RingId {
+fn ring(seq: u32) -> RingId {
     RingId {
         seq: seq.max(1),
         rep: proc(1),
     }
 }
 
-/// A client's message of one letter, or of what else is given.
-pub fn submit(service: Service, word: &'static [u8]) -> Input {
+/// A client's message of one letter.
+fn submit() -> Input {
     Input::Submit {
-        service,
-        payload: Bytes::from_static(word),
+        service: Service::Agreed,
+        payload: Bytes::from_static(b"x"),
     }
 }
 
+/// A client's message of so many bytes.
+fn long(alloc: Global, bytes: usize) -> Result<Input, AllocError> {
+    let payload = Bytes::from_vec(vec![in alloc; 9; bytes]?)?;
+    Ok(Input::Submit {
+        service: Service::Safe,
+        payload,
+    })
+}
+
 /// The first token of ring 4.1.
-pub fn start(alloc: Global) -> Input {
+fn start(alloc: Global) -> Input {
     Input::Packet(Packet::Token(first_token(alloc, ring(4))))
 }
 
 /// A client's message, the first of this ring.
-pub fn message(ring: RingId, sender: u16) -> Input {
+fn message(seq: u32, sender: u16) -> Input {
     let body = Body::App {
         service: Service::Agreed,
         payload: Payload::of(Bytes::from_static(b"m")),
     };
     Input::Packet(Packet::Message(Message {
-        ring,
+        ring: ring(seq),
         number: Number::of(1),
         sender: proc(sender),
         body,
     }))
+}
+
+/// A commit token of 1 alone.
+fn commit(alloc: Global) -> Result<Input, Fail> {
+    let mut list = Vec::new(alloc);
+    list.push(CommitMember {
+        proc: proc(1),
+        report: None,
+    })?;
+    let members = CommitMembers::new(list)?;
+    Ok(Input::Packet(Packet::Commit(CommitToken {
+        ring: ring(8),
+        round: Round::First,
+        members,
+    })))
 }
 
 /// The processes from 1 to this one.
@@ -56,54 +82,6 @@ fn first(alloc: Global, last: u16) -> Result<Members, Fail> {
     Ok(Members::new(list)?)
 }
 
-/// A node, and the lines of its log so far, with `; ` for a line's end.
-#[derive(Drop)]
-pub struct Life {
-    pub node: NodeCore,
-    pub log: String,
-}
-
-/// Process `me` of ring 4.1 of the processes 1 to `count`.
-pub fn process(alloc: Global, me: u16, count: u16) -> Result<Life, Fail> {
-    let members = first(alloc, count)?;
-    let (node, entry) = NodeCore::new(alloc, proc(me), ring(4), members.as_slice())?;
-    let mut log = String::new(alloc);
-    push_line(alloc, &mut log, &entry)?;
-    Ok(Life { node, log })
-}
-
-impl Life {
-    /// It takes an input, and its log grows. Answers what it sends.
-    pub fn take(&mut self, alloc: Global, input: Input) -> Result<Vec<(To, Packet)>, Fail> {
-        let out = self.node.step(alloc, input)?;
-        for entry in &out.entries {
-            push_line(alloc, &mut self.log, entry)?;
-        }
-        Ok(out.packets)
-    }
-
-    /// It takes what it sent last, which was to itself. Answers what it sends.
-    fn go_on_alone(
-        &mut self,
-        alloc: Global,
-        mut sent: Vec<(To, Packet)>,
-    ) -> Result<Vec<(To, Packet)>, Fail> {
-        match sent.pop() {
-            Some((To::One(_), packet)) => self.take(alloc, Input::Packet(packet)),
-            _ => Err(Fail::from("nothing to itself")),
-        }
-    }
-
-    /// So many timers run out. Answers what it sends at the last.
-    pub fn wait(&mut self, alloc: Global, timers: u32) -> Result<Vec<(To, Packet)>, Fail> {
-        let mut sent = Vec::new(alloc);
-        for _ in 0..timers {
-            sent = self.take(alloc, Input::Timer)?;
-        }
-        Ok(sent)
-    }
-}
-
 fn push_processes(alloc: Global, text: &mut String, procs: &[ProcId]) -> Result<(), AllocError> {
     for proc in procs {
         text.push_str(format!(in alloc; " {proc}")?.as_str())?;
@@ -111,7 +89,7 @@ fn push_processes(alloc: Global, text: &mut String, procs: &[ProcId]) -> Result<
     Ok(())
 }
 
-fn push_line(alloc: Global, text: &mut String, entry: &Entry) -> Result<(), AllocError> {
+fn push_entry(alloc: Global, text: &mut String, entry: &Entry) -> Result<(), AllocError> {
     match entry {
         Entry::Conf(conf, members) => {
             text.push_str(format!(in alloc; "conf {conf}")?.as_str())?;
@@ -128,76 +106,29 @@ fn push_line(alloc: Global, text: &mut String, entry: &Entry) -> Result<(), Allo
     text.push_str("; ")
 }
 
-/// The sender and the number of the Join that was sent first, the processes and those that failed, as "1 4: 1 2 but 2".
-fn join_of(alloc: Global, packets: &[(To, Packet)]) -> Result<String, AllocError> {
-    let Some((To::All, Packet::Join(join))) = packets.first() else {
-        return Ok(String::new(alloc));
-    };
-    let mut text = format!(in alloc; "{} {}:", join.sender, join.seq.get())?;
-    push_processes(alloc, &mut text, join.processes.as_slice())?;
-    text.push_str(" but")?;
-    push_processes(alloc, &mut text, join.failed.as_slice())?;
-    Ok(text)
-}
-
-/// The commit token that was sent last.
-pub fn commit_of(packets: &[(To, Packet)]) -> Result<&CommitToken, Fail> {
-    match packets.last() {
-        Some((To::One(_), Packet::Commit(token))) => Ok(token),
-        _ => Err(Fail::from("no commit token")),
+/// What is sent, and to whom; of a Join its number and its sets.
+fn push_packet(
+    alloc: Global,
+    text: &mut String,
+    to: &To,
+    packet: &Packet,
+) -> Result<(), AllocError> {
+    match to {
+        To::All => text.push_str("all")?,
+        To::One(proc) => text.push_str(format!(in alloc; "{proc}")?.as_str())?,
     }
-}
-
-/// The log of 3 once it has taken so many of the packets that it sends to itself, from its commit token on.
-const ALONE: [&str; 5] = [
-    "conf r4.1 1 2 3; ",
-    "conf r4.1 1 2 3; ",
-    "conf r4.1 1 2 3; ",
-    "conf r4.1 1 2 3; conf t8.3/3 3; conf r8.3 3; ",
-    "conf r4.1 1 2 3; conf t8.3/3 3; conf r8.3 3; send r8.3 a 8.3#2; dlv r8.3 8.3#2; ",
-];
-
-#[test]
-fn who_hears_of_nobody_forms_a_ring_alone(rt: HostRuntime) -> Result<(), Fail> {
-    let alloc = rt.alloc();
-    let mut three = process(alloc, 3, 3)?;
-    three.take(alloc, submit(Service::Agreed, b"w"))?;
-    let mut sent = three.wait(alloc, 5)?;
-    for log in ALONE {
-        assert_eq!(rt; three.log.as_str(), log);
-        sent = three.go_on_alone(alloc, sent)?;
+    match packet {
+        Packet::Message(_) => text.push_str(" message")?,
+        Packet::Token(_) => text.push_str(" token")?,
+        Packet::Commit(_) => text.push_str(" commit")?,
+        Packet::Join(join) => {
+            text.push_str(format!(in alloc; " join {}:", join.seq.get())?.as_str())?;
+            push_processes(alloc, text, join.processes.as_slice())?;
+            text.push_str(" but")?;
+            push_processes(alloc, text, join.failed.as_slice())?;
+        }
     }
-    Ok(())
-}
-
-/// What is sent at each timer where nobody answers.
-const UNANSWERED: [&str; 5] = [
-    "",
-    "",
-    "3 4: 1 2 3 but",
-    "3 4: 1 2 3 but",
-    "3 4: 1 2 3 but 1 2",
-];
-
-#[test]
-fn who_does_not_answer_is_given_up(rt: HostRuntime) -> Result<(), Fail> {
-    let alloc = rt.alloc();
-    let mut three = process(alloc, 3, 3)?;
-    for join in UNANSWERED {
-        let sent = three.wait(alloc, 1)?;
-        assert_eq!(rt; join_of(alloc, &sent)?.as_str(), join);
-    }
-    Ok(())
-}
-
-#[test]
-fn a_stranger_is_met(rt: HostRuntime) -> Result<(), Fail> {
-    let alloc = rt.alloc();
-    let mut one = process(alloc, 1, 2)?;
-    let sent = one.take(alloc, message(ring(8), 7))?;
-    assert_eq!(rt; sent.len(), 1);
-    assert_eq!(rt; join_of(alloc, &sent)?.as_str(), "1 4: 1 2 7 but");
-    Ok(())
+    text.push_str("; ")
 }
 
 fn word_of(act: &Act) -> &'static str {
@@ -209,56 +140,169 @@ fn word_of(act: &Act) -> &'static str {
     }
 }
 
-/// What each of these inputs does on rings, with `; ` behind each act and `/ ` behind each input.
-fn acts_of(alloc: Global, node: &mut NodeCore, inputs: Vec<Input>) -> Result<String, Fail> {
+fn push_out(alloc: Global, text: &mut String, out: &StepOut) -> Result<(), AllocError> {
+    for entry in &out.entries {
+        push_entry(alloc, text, entry)?;
+    }
+    for step in &out.ring_steps {
+        let word = word_of(&step.act);
+        text.push_str(format!(in alloc; "{word} {}; ", step.ring)?.as_str())?;
+    }
+    for (to, packet) in &out.packets {
+        push_packet(alloc, text, to, packet)?;
+    }
+    Ok(())
+}
+
+/// The node takes these inputs. What each step writes, does on rings and sends, or its fault, with `/ ` in front.
+fn steps(alloc: Global, node: &mut NodeCore, inputs: Vec<Input>) -> Result<String, AllocError> {
     let mut text = String::new(alloc);
     for input in inputs {
-        let out = node.step(alloc, input)?;
-        push_acts(alloc, &mut text, &out.ring_steps)?;
         text.push_str("/ ")?;
+        match node.step(alloc, input) {
+            Ok(out) => push_out(alloc, &mut text, &out)?,
+            Err(fault) => text.push_str(fault.name())?,
+        }
     }
     Ok(text)
 }
 
-fn push_acts(alloc: Global, text: &mut String, steps: &[RingStep]) -> Result<(), AllocError> {
-    for step in steps {
-        let word = word_of(&step.act);
-        text.push_str(format!(in alloc; "{word} {}; ", step.ring)?.as_str())?;
-    }
+/// The steps of process 1 of ring 4.1, which has the processes 1 to `count`.
+fn life(alloc: Global, count: u16, inputs: Vec<Input>) -> Result<String, Fail> {
+    let members = first(alloc, count)?;
+    let (mut node, _change) = NodeCore::new(alloc, proc(1), ring(4), members.as_slice())?;
+    Ok(steps(alloc, &mut node, inputs)?)
+}
+
+#[test]
+fn a_node_begins_with_a_change(rt: HostRuntime) -> Result<(), Fail> {
+    let members = first(rt.alloc(), 2)?;
+    let (_node, change) = NodeCore::new(rt.alloc(), proc(2), ring(4), members.as_slice())?;
+    let mut text = String::new(rt.alloc());
+    push_entry(rt.alloc(), &mut text, &change)?;
+    assert_eq!(rt; text.as_str(), "conf r4.1 1 2; ");
     Ok(())
 }
 
 #[test]
-fn what_is_done_on_a_ring_is_told(rt: HostRuntime) -> Result<(), Fail> {
+fn a_step_is_told(rt: HostRuntime) -> Result<(), Fail> {
     let alloc = rt.alloc();
-    let mut one = process(alloc, 1, 2)?;
-    let inputs = [
-        submit(Service::Agreed, b"x"),
-        start(alloc),
-        Input::Timer,
-        Input::Crash,
-    ];
-    let acts = acts_of(alloc, &mut one.node, Vec::from_array(alloc, inputs)?)?;
+    let inputs = Vec::from_array(alloc, [submit(), start(alloc), Input::Timer])?;
     assert_eq!(rt;
-        acts.as_str(),
-        "/ submit 4.1; token 4.1; / resend 4.1; / / "
+        life(alloc, 2, inputs)?.as_str(),
+        "/ / send r4.1 a 4.1#1; dlv r4.1 4.1#1; submit 4.1; token 4.1; all message; 2 token; / resend 4.1; 2 token; "
     );
     Ok(())
 }
 
-/// What the node answers to the first token.
-fn answer(alloc: Global, node: &mut NodeCore) -> Result<String, Fail> {
-    let out = node.step(alloc, start(alloc))?;
-    Ok(format!(in alloc; "{out:?}")?)
+#[test]
+fn a_crashed_node_has_stopped(rt: HostRuntime) -> Result<(), Fail> {
+    let alloc = rt.alloc();
+    let inputs = [
+        Input::Crash,
+        submit(),
+        start(alloc),
+        Input::Timer,
+        Input::Crash,
+    ];
+    assert_eq!(rt;
+        life(alloc, 2, Vec::from_array(alloc, inputs)?)?.as_str(),
+        "/ fail r4.1; / Stopped/ Stopped/ Stopped/ Stopped"
+    );
+    Ok(())
+}
+
+#[test]
+fn packets_are_refused_by_name(rt: HostRuntime) -> Result<(), Fail> {
+    let alloc = rt.alloc();
+    let inputs = [start(alloc), message(8, 2), start(alloc), commit(alloc)?];
+    assert_eq!(rt;
+        life(alloc, 2, Vec::from_array(alloc, inputs)?)?.as_str(),
+        "/ token 4.1; 2 token; / OtherRing/ Repeat/ Stale"
+    );
+    Ok(())
+}
+
+#[test]
+fn a_33rd_process_is_not_met(rt: HostRuntime) -> Result<(), Fail> {
+    let alloc = rt.alloc();
+    let inputs = Vec::from_array(alloc, [message(8, 33)])?;
+    assert_eq!(rt; life(alloc, 32, inputs)?.as_str(), "/ Stranger");
+    let inputs = Vec::from_array(alloc, [message(8, 7)])?;
+    assert_eq!(rt;
+        life(alloc, 2, inputs)?.as_str(),
+        "/ all join 4: 1 2 7 but; "
+    );
+    Ok(())
+}
+
+#[test]
+fn a_message_has_at_most_1024_bytes(rt: HostRuntime) -> Result<(), Fail> {
+    let alloc = rt.alloc();
+    let inputs = Vec::from_array(alloc, [long(alloc, 1_024)?, long(alloc, 1_025)?])?;
+    assert_eq!(rt; life(alloc, 2, inputs)?.as_str(), "/ / Range");
+    Ok(())
+}
+
+#[test]
+fn a_17th_message_does_not_wait(rt: HostRuntime) -> Result<(), Fail> {
+    let alloc = rt.alloc();
+    let mut inputs = Vec::new(alloc);
+    for _ in 0..17 {
+        inputs.push(submit())?;
+    }
+    assert_eq!(rt;
+        life(alloc, 2, inputs)?.as_str(),
+        "/ / / / / / / / / / / / / / / / / Full"
+    );
+    Ok(())
+}
+
+#[test]
+fn who_does_not_answer_is_given_up(rt: HostRuntime) -> Result<(), Fail> {
+    let alloc = rt.alloc();
+    let mut inputs = Vec::new(alloc);
+    for _ in 0..5 {
+        inputs.push(Input::Timer)?;
+    }
+    assert_eq!(rt;
+        life(alloc, 3, inputs)?.as_str(),
+        "/ resend 4.1; / resend 4.1; / all join 4: 1 2 3 but; / all join 4: 1 2 3 but; / all join 4: 1 2 3 but 2 3; 1 commit; "
+    );
+    Ok(())
 }
 
 #[test]
 fn a_copy_answers_alike(rt: HostRuntime) -> Result<(), Fail> {
     let alloc = rt.alloc();
-    let mut one = process(alloc, 1, 2)?;
-    one.take(alloc, submit(Service::Agreed, b"x"))?;
-    let mut copy = one.node.try_clone(alloc)?;
-    let shown = answer(alloc, &mut copy)?;
-    assert_eq!(rt; shown.as_str(), answer(alloc, &mut one.node)?.as_str());
+    let members = first(alloc, 2)?;
+    let (node, _change) = NodeCore::new(alloc, proc(1), ring(4), members.as_slice())?;
+    let mut copy = node.try_clone(alloc)?;
+    let inputs = Vec::from_array(alloc, [start(alloc)])?;
+    assert_eq!(rt;
+        steps(alloc, &mut copy, inputs)?.as_str(),
+        "/ token 4.1; 2 token; "
+    );
+    Ok(())
+}
+
+#[test]
+fn faults_have_numbers_and_names(rt: HostRuntime) -> Result<(), Fail> {
+    let faults = [
+        (NodeFault::Stopped, "Stopped"),
+        (NodeFault::OtherRing, "OtherRing"),
+        (NodeFault::Repeat, "Repeat"),
+        (NodeFault::Stale, "Stale"),
+        (NodeFault::Stranger, "Stranger"),
+        (NodeFault::Range, "Range"),
+        (NodeFault::Full, "Full"),
+        (NodeFault::Memory, "Memory"),
+    ];
+    for (at, (fault, name)) in faults.iter().enumerate() {
+        assert_eq!(rt; fault.number() as usize, at + 1);
+        assert_eq!(rt; fault.name(), *name);
+    }
+    let shown = format!(in rt.alloc(); "{}", NodeFault::Full)?;
+    assert_eq!(rt; shown.as_str(), "16 messages wait");
     Ok(())
 }
