@@ -149,6 +149,10 @@ const VERDICTS: [Row; 2] = [
     },
 ];
 
+// A commit token comes twice, and a ring is entered again by it: `examples/ring-entered-twice.script`.
+const ENTERED_TWICE: &str =
+    "totem-script 1;ring 4.1 1 2 3 4;submit 4 a x;run 4;drop 1;drop 1;drop 1;run 2;submit 3 a y;run 1;drop 1;drop 1;drop 1;drop 1;timer 3;drop 1;timer 3;drop 1;timer 3;drop 3;run 1;drop 4;repeat 1;drop 1;run 1;drop 3;drop 4;repeat 1;drop 1;run 1;repeat 1;drop 1;run 2;timer 2;drop 1;drop 1;drop 1;timer 2;drop 2;drop 2;timer 3;drop 2;drop 2;drop 2;timer 3;drop 4;run 1;drop 4;drop 4;run 1;repeat 1;drop 1;repeat 1;drop 1;run 1;repeat 1;drop 1;repeat 1;drop 1;run 1;repeat 1;drop 1;repeat 1;drop 1;run 1;repeat 3;repeat 1;drop 1;repeat 1;drop 1;run 1;repeat 1;drop 1;repeat 1;drop 1;repeat 1;drop 1;run 1;repeat 1;drop 1;repeat 1;drop 1;repeat 1;drop 1;run 1;drop 6;repeat 6;repeat 1;drop 1;repeat 1;drop 1;repeat 1;drop 1;repeat 1;drop 1;repeat 1;drop 1;run 1;drop 9;repeat 1;drop 1;repeat 1;drop 1;repeat 1;drop 1;repeat 1;drop 1;repeat 1;drop 1;repeat 1;drop 1;repeat 1;drop 1;repeat 1;drop 1;run 1;drop 9;drop 10;drop 12;repeat 1;drop 1;repeat 1;drop 1;repeat 1;drop 1;repeat 1;drop 1;repeat 1;drop 1;repeat 1;drop 1;repeat 1;drop 1;repeat 1;drop 1;run 1;timer 2;timer 2;timer 2;drop 12;drop 12;drop 12;repeat 1;drop 1;repeat 1;drop 1;repeat 1;drop 1;repeat 1;drop 1;repeat 1;drop 1;repeat 1;drop 1;run 1;drop 11;drop 11;drop 11;repeat 1;drop 1;repeat 1;drop 1;repeat 1;drop 1;repeat 1;drop 1;repeat 1;drop 1;repeat 1;drop 1;repeat 1;drop 1;repeat 1;drop 1;repeat 1;drop 1;run 1;repeat 1;drop 1;repeat 1;drop 1;repeat 1;drop 1;repeat 1;drop 1;repeat 1;drop 1;repeat 1;drop 1;repeat 1;drop 1;repeat 1;drop 1;run 1;drop 9;repeat 1;drop 1;repeat 1;drop 1;repeat 1;drop 1;repeat 1;drop 1;repeat 1;drop 1;repeat 1;drop 1;repeat 1;drop 1;run 1;drop 8;drop 8;drop 8;drop 9;drop 9;drop 9;repeat 1;drop 1;repeat 1;drop 1;run 1;repeat 1;drop 1;repeat 1;drop 1;repeat 1;drop 1;repeat 1;drop 1;run 1;repeat 1;drop 1;repeat 1;drop 1;repeat 1;drop 1;run 1;repeat 1;drop 1;run 1;drop 5;drop 5;drop 5;drop 5;drop 5;drop 5;run 10;drop 1;end;";
+
 #[test]
 fn scripts_make_runs(rt: HostRuntime) -> Result<(), Fail> {
     run_rows(&rt, rt.alloc(), RUNS.as_slice())
@@ -162,6 +166,17 @@ fn broken_scripts_are_refused(rt: HostRuntime) -> Result<(), Fail> {
 #[test]
 fn what_scripts_make_is_judged(rt: HostRuntime) -> Result<(), Fail> {
     run_rows(&rt, rt.alloc(), VERDICTS.as_slice())
+}
+
+#[test]
+fn a_ring_that_is_entered_twice_is_found(rt: HostRuntime) -> Result<(), Fail> {
+    let made = run(&rt, rt.alloc(), "sim", ENTERED_TWICE)?;
+    let found = run(&rt, rt.alloc(), "audit", made.output.as_str())?;
+    assert_eq!(rt;
+        found.output.as_str(),
+        "verdict no\nfault 4 2@3 2@4 1@3\nend\n"
+    );
+    Ok(())
 }
 
 // Lines without an end: the first one, and then joins up to this many bytes.
