@@ -16,29 +16,6 @@ use Rattle.totem_node.specs.Turns.{IsTurn}
 use Rattle.totem_node.specs.declared.turn.Turn.{Turn}
 use Rattle.totem_ring.specs.Visits.{Sending}
 
--- what refuses the first part refuses the whole
-pub refused_first : {A B : Type 0} (fault : NodeFault) (first : Outcome A) (go : A → Outcome B)
-    → (fault ≢ Memory → first ≡ Err fault) → fault ≢ Memory → (first >>= go) ≡ Err fault
-refused_first fault first go is ne = ap (λ w. w >>= go) (is ne)
-
--- what refuses the second part refuses the whole, when the first was taken
-pub refused_then : {A B : Type 0} (fault : NodeFault) (first : Outcome A) (x : A) (go : A → Outcome B)
-    → first ≡ Ok x → (fault ≢ Memory → go x ≡ Err fault) → fault ≢ Memory → (first >>= go) ≡ Err fault
-refused_then fault first x go taken is ne = ap (λ w. w >>= go) taken ∙ is ne
-
--- want of memory is no refusal that is written
-pub of_memory : {B : Type 0} (written : Outcome B) → Memory ≢ Memory → written ≡ Err Memory
-of_memory written ne = absurd (ne refl)
-
--- a ring's step, as the node's
-pub told_on_node : (node : Ring → Node) (n : Node) (old new : Ring) (answer : Outcome StepOut) (written : Outcome Told)
-    → node old ≡ n → IsTold old new answer written → IsStep n (node new) answer (on_its_ring written node)
-told_on_node node n old new (Ok out) written is told = ap (λ w. on_its_ring w node) told
-told_on_node node n old new (Err fault) written is told = record {
-  unchanged = ap node told.unchanged ∙ is;
-  fault_is = λ ne. ap (λ w. on_its_ring w node) (told.fault_is ne);
-}
-
 late_from : Node → Result Gathered MemberFault → Outcome Stepped
 late_from n (Ok done) = look_at_consensus (record n { quiet = 0 }) done.gather done.out.members (join_broadcast done.gather ∷ [])
 late_from n (Err fault) = Err Memory

@@ -1,6 +1,7 @@
 //! What clients ask for, and the crash.
-ghost use Rattle.std.specs.Prelude.{◌≡◌, Ok};
+ghost use Rattle.std.specs.Prelude.{◌≡◌, Ok, Err, IfSome};
 ghost use Rattle.totem_node.specs.Table.{on_submit, on_crash};
+ghost use Rattle.totem_node.specs.Lean.{submit_refused_at_once};
 ghost use Rattle.totem_node.specs.Answers.{IsStep};
 
 use crate::fault::NodeFault;
@@ -24,7 +25,8 @@ impl NodeCore {
         service: Service,
         payload: Bytes,
     ) -> Result<StepOut, NodeFault>
-        ensures { IsStep self.old self.new result (on_submit self.old service payload) }
+        ensures step { IsStep self.old self.new result (on_submit self.old service payload) }
+        ensures at_once { IfSome (submit_refused_at_once self.old payload) (λ fault. result ≡ Err fault) }
     {
         if payload.len() > LONGEST {
             return Err(NodeFault::Range);

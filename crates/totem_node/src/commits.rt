@@ -1,9 +1,10 @@
 //! Commit tokens that come.
-ghost use Rattle.std.specs.Prelude.{◌≡◌, ◌<◌, length, IfOk};
+ghost use Rattle.std.specs.Prelude.{◌≡◌, ◌<◌, length, Err, IfOk, IfSome};
 ghost use Rattle.totem_packets.specs.declared.packet.Packet.TheVariants as packet;
 ghost use Rattle.totem_recover.specs.Exchange.{IsReady};
 ghost use Rattle.totem_node.specs.Outcomes.{Fails};
 ghost use Rattle.totem_node.specs.Table.{filling, recovering, entering, commit_taken, on_packet};
+ghost use Rattle.totem_node.specs.Lean.{commit_refused_at_once};
 ghost use Rattle.totem_node.specs.Turns.{IsTurn, IsCommitTurn, Makes};
 
 use crate::fault::NodeFault;
@@ -109,7 +110,8 @@ impl NodeCore {
         alloc: Global,
         token: &CommitToken,
     ) -> Result<Option<Turn>, NodeFault>
-        ensures { IsCommitTurn result self.now (on_packet self.now (packet.Commit token.now)) }
+        ensures turn { IsCommitTurn result self.now (on_packet self.now (packet.Commit token.now)) }
+        ensures at_once { IfSome (commit_refused_at_once self.now.state) (λ fault. result ≡ Err fault) }
     {
         match &self.state {
             State::Operational => Err(NodeFault::Stale),

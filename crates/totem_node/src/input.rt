@@ -1,5 +1,8 @@
 //! What may happen to a node.
+ghost use Rattle.std.specs.Prelude.{◌≡◌, IfOk};
+
 use bytes::Bytes;
+use std::alloc::{AllocError, Global};
 use totem_ids::Service;
 use totem_packets::Packet;
 
@@ -14,4 +17,21 @@ pub enum Input {
     Timer,
     /// It fails.
     Crash,
+}
+
+impl Input {
+    /// A copy; it shares the bytes of a client's message.
+    pub fn try_clone(&self, alloc: Global) -> Result<Input, AllocError>
+        ensures { IfOk result (λ input. input ≡ self.now) }
+    {
+        Ok(match self {
+            Input::Submit { service, payload } => Input::Submit {
+                service: *service,
+                payload: payload.clone()?,
+            },
+            Input::Packet(packet) => Input::Packet(packet.try_clone(alloc)?),
+            Input::Timer => Input::Timer,
+            Input::Crash => Input::Crash,
+        })
+    }
 }

@@ -1,9 +1,10 @@
 //! Joins that come.
-ghost use Rattle.std.specs.Prelude.{◌≡◌, ◌&&◌};
+ghost use Rattle.std.specs.Prelude.{◌≡◌, ◌&&◌, Err, IfSome};
 ghost use Rattle.totem_packets.specs.declared.packet.Packet.TheVariants as packet;
 ghost use Rattle.totem_packets.specs.Sets.{has, is_within};
 ghost use Rattle.totem_member.specs.Gathers.{gathered};
 ghost use Rattle.totem_node.specs.Table.{is_late, says_nothing_new, join_in_gather, join_in_commit, on_join_in, on_packet};
+ghost use Rattle.totem_node.specs.Lean.{refused_as_known, join_refused_at_once};
 ghost use Rattle.totem_node.specs.Turns.{IsTurn};
 
 use crate::fault::NodeFault;
@@ -73,7 +74,8 @@ impl NodeCore {
 
     /// In Commit and Recovery.
     fn join_in_commit(&self, alloc: Global, gather: &Gather, join: &Join) -> Result<Turn, NodeFault>
-        ensures { IsTurn result self.now (join_in_commit self.now gather.now join.now) }
+        ensures turn { IsTurn result self.now (join_in_commit self.now gather.now join.now) }
+        ensures at_once { IfSome (refused_as_known gather.now join.now) (λ fault. result ≡ Err fault) }
     {
         if says_nothing_new(gather, join) {
             return Err(NodeFault::Stale);
@@ -83,7 +85,8 @@ impl NodeCore {
 
     /// A Join has come.
     pub(crate) fn on_join(&self, alloc: Global, join: &Join) -> Result<Turn, NodeFault>
-        ensures { IsTurn result self.now (on_packet self.now (packet.Join join.now)) }
+        ensures turn { IsTurn result self.now (on_packet self.now (packet.Join join.now)) }
+        ensures at_once { IfSome (join_refused_at_once self.now join.now) (λ fault. result ≡ Err fault) }
     {
         if self.is_late(join) {
             return Err(NodeFault::Stale);

@@ -1,10 +1,11 @@
 //! Messages that come.
-ghost use Rattle.std.specs.Prelude.{◌≡◌, IfOk};
+ghost use Rattle.std.specs.Prelude.{◌≡◌, Err, IfOk, IfSome};
 ghost use Rattle.totem_ids.specs.declared.conf.ConfId.TheVariants.{Regular};
 ghost use Rattle.totem_recover.specs.Finish.{deliveries};
 ghost use Rattle.totem_node.specs.Nodes.{recovering_as};
 ghost use Rattle.totem_node.specs.Visiting.{message_steps, message_told, message_on_installed};
 ghost use Rattle.totem_node.specs.Table.{message_in_operational, message_in_gather, message_in_recovery, on_message};
+ghost use Rattle.totem_node.specs.Lean.{refused_by, refused_in_operational, refused_in_gather, refused_in_recovery, message_refused_at_once};
 ghost use Rattle.totem_node.specs.Answers.{IsTold, IsStep};
 
 use crate::fault::NodeFault;
@@ -38,7 +39,8 @@ pub fn tell(
 
 /// A message comes to a ring.
 fn take_message(alloc: Global, ring: &mut RingState, message: Message) -> Result<StepOut, NodeFault>
-    ensures { IsTold ring.old ring.new result (message_told ring.old message) }
+    ensures told { IsTold ring.old ring.new result (message_told ring.old message) }
+    ensures at_once { IfSome (refused_by ring.old message) (λ fault. result ≡ Err fault) }
 {
     let (out, undo) = ring.take_message(alloc, &message)?;
     match tell(alloc, ring, message, out) {
@@ -57,7 +59,8 @@ impl NodeCore {
         alloc: Global,
         message: Message,
     ) -> Result<StepOut, NodeFault>
-        ensures { IsStep self.old self.new result (message_on_installed self.old message) }
+        ensures step { IsStep self.old self.new result (message_on_installed self.old message) }
+        ensures at_once { IfSome (refused_by self.old.installed message) (λ fault. result ≡ Err fault) }
     {
         take_message(alloc, &mut self.installed, message)
     }
@@ -68,7 +71,8 @@ impl NodeCore {
         alloc: Global,
         message: Message,
     ) -> Result<StepOut, NodeFault>
-        ensures { IsStep self.old self.new result (message_in_operational self.old message) }
+        ensures step { IsStep self.old self.new result (message_in_operational self.old message) }
+        ensures at_once { IfSome (refused_in_operational self.old message) (λ fault. result ≡ Err fault) }
     {
         if is_same_ring(message.ring, self.installed.ring()) {
             return self.message_on_installed(alloc, message);
@@ -82,7 +86,8 @@ impl NodeCore {
 
     /// In Gather: of the installed ring, until a commit token was made or filled.
     fn message_in_gather(&mut self, alloc: Global, message: Message) -> Result<StepOut, NodeFault>
-        ensures { IsStep self.old self.new result (message_in_gather self.old message) }
+        ensures step { IsStep self.old self.new result (message_in_gather self.old message) }
+        ensures at_once { IfSome (refused_in_gather self.old message) (λ fault. result ≡ Err fault) }
     {
         let is_own = is_same_ring(message.ring, self.installed.ring());
         if !is_own || self.filled.is_some() {
@@ -98,7 +103,8 @@ impl NodeCore {
         x: Recovering,
         message: Message,
     ) -> Result<StepOut, NodeFault>
-        ensures { IsStep (recovering_as self.old x) self.new result (message_in_recovery (recovering_as self.old x) x message) }
+        ensures step { IsStep (recovering_as self.old x) self.new result (message_in_recovery (recovering_as self.old x) x message) }
+        ensures at_once { IfSome (refused_in_recovery self.old x message) (λ fault. result ≡ Err fault) }
     {
         if is_same_ring(message.ring, self.installed.ring())
             || !is_same_ring(message.ring, x.ring.ring())
@@ -115,7 +121,8 @@ impl NodeCore {
         alloc: Global,
         message: Message,
     ) -> Result<StepOut, NodeFault>
-        ensures { IsStep self.old self.new result (on_message self.old message self.old.state) }
+        ensures step { IsStep self.old self.new result (on_message self.old message self.old.state) }
+        ensures at_once { IfSome (message_refused_at_once self.old message self.old.state) (λ fault. result ≡ Err fault) }
     {
         match mem::replace(&mut self.state, State::Operational) {
             State::Operational => self.message_in_operational(alloc, message),

@@ -1,8 +1,8 @@
 //! What a step of a node gives.
-ghost use Rattle.std.specs.Prelude.{◌≡◌, []};
+ghost use Rattle.std.specs.Prelude.{◌≡◌, [], IfOk};
 
 use crate::ring_step::RingStep;
-use std::alloc::Global;
+use std::alloc::{AllocError, Global};
 use totem_evs::Entry;
 use totem_packets::Packet;
 use totem_ring::To;
@@ -27,5 +27,29 @@ impl StepOut {
             entries: Vec::new(alloc),
             ring_steps: Vec::new(alloc),
         }
+    }
+
+    pub fn try_clone(&self, alloc: Global) -> Result<StepOut, AllocError>
+        ensures { IfOk result (λ out. (out.packets.items ≡ self.now.packets.items)
+            × (out.entries.items ≡ self.now.entries.items)
+            × (out.ring_steps.items ≡ self.now.ring_steps.items)) }
+    {
+        let mut packets = Vec::with_capacity(alloc, self.packets.len())?;
+        for sending in &self.packets {
+            packets.push((sending.0, sending.1.try_clone(alloc)?))?;
+        }
+        let mut entries = Vec::with_capacity(alloc, self.entries.len())?;
+        for entry in &self.entries {
+            entries.push(entry.try_clone(alloc)?)?;
+        }
+        let mut ring_steps = Vec::with_capacity(alloc, self.ring_steps.len())?;
+        for step in &self.ring_steps {
+            ring_steps.push(step.try_clone(alloc)?)?;
+        }
+        Ok(StepOut {
+            packets,
+            entries,
+            ring_steps,
+        })
     }
 }

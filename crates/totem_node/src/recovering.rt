@@ -1,9 +1,10 @@
 //! Messages of a new ring, before it is installed.
-ghost use Rattle.std.specs.Prelude.{◌≡◌, IfOk, MatchResult};
+ghost use Rattle.std.specs.Prelude.{◌≡◌, Err, IfOk, IfSome, MatchResult};
 ghost use Rattle.totem_ids.specs.declared.conf.ConfId.TheVariants.{Regular};
 ghost use Rattle.totem_recover.specs.Finish.{deliveries};
 ghost use Rattle.totem_node.specs.Nodes.{recovering_as};
 ghost use Rattle.totem_node.specs.Visiting.{carried, adopting, message_on_new};
+ghost use Rattle.totem_node.specs.Lean.{refused_by};
 ghost use Rattle.totem_node.specs.Answers.{IsStep, IsToldAdopting, TellsAdopting};
 
 use crate::fault::NodeFault;
@@ -77,7 +78,8 @@ fn take_adopting(
     ring: &mut RingState,
     message: Message,
 ) -> Result<StepOut, NodeFault>
-    ensures { IsToldAdopting result installed.old installed.new ring.old ring.new message }
+    ensures told { IsToldAdopting result installed.old installed.new ring.old ring.new message }
+    ensures at_once { IfSome (refused_by ring.old message) (λ fault. result ≡ Err fault) }
 {
     let (out, undo) = ring.take_message(alloc, &message)?;
     match tell_adopting(alloc, installed, ring, message, out) {
@@ -97,7 +99,8 @@ impl NodeCore {
         mut x: Recovering,
         message: Message,
     ) -> Result<StepOut, NodeFault>
-        ensures { IsStep (recovering_as self.old x) self.new result (message_on_new (recovering_as self.old x) x message) }
+        ensures step { IsStep (recovering_as self.old x) self.new result (message_on_new (recovering_as self.old x) x message) }
+        ensures at_once { IfSome (refused_by x.ring message) (λ fault. result ≡ Err fault) }
     {
         let told = take_adopting(alloc, &mut self.installed, &mut x.ring, message);
         self.state = State::InRecovery(x);

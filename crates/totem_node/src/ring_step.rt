@@ -1,4 +1,7 @@
 //! What a node does on a ring.
+ghost use Rattle.std.specs.Prelude.{◌≡◌, IfOk};
+
+use std::alloc::{AllocError, Global};
 use totem_ids::RingId;
 use totem_ring::Act;
 
@@ -7,4 +10,15 @@ use totem_ring::Act;
 pub struct RingStep {
     pub ring: RingId,
     pub act: Act,
+}
+
+impl RingStep {
+    pub fn try_clone(&self, alloc: Global) -> Result<RingStep, AllocError>
+        ensures { IfOk result (λ step. step ≡ self.now) }
+    {
+        Ok(RingStep {
+            ring: self.ring,
+            act: self.act.try_clone(alloc)?,
+        })
+    }
 }

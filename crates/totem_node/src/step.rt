@@ -2,7 +2,7 @@
 ghost use Rattle.std.specs.Prelude.{◌≡◌, Err, IfSome};
 ghost use Rattle.totem_packets.specs.declared.packet.Packet.TheVariants as packet;
 ghost use Rattle.totem_node.specs.Table.{starting, on_token, on_packet, step};
-ghost use Rattle.totem_node.specs.Lean.{token_refused_at_once, packet_refused_at_once, refused_at_once};
+ghost use Rattle.totem_node.specs.Lean.{token_refused_at_once, join_refused_at_once, commit_refused_at_once, packet_refused_at_once, refused_at_once};
 ghost use Rattle.totem_node.specs.Answers.{IsStep};
 
 use crate::fault::NodeFault;
@@ -61,15 +61,19 @@ impl NodeCore {
 
     /// A Join has come.
     fn take_join(&mut self, alloc: Global, join: &Join) -> Result<StepOut, NodeFault>
-        ensures { IsStep self.old self.new result (on_packet self.old (packet.Join join.now)) }
+        ensures step { IsStep self.old self.new result (on_packet self.old (packet.Join join.now)) }
+        ensures at_once { IfSome (join_refused_at_once self.old join.now) (λ fault. result ≡ Err fault) }
     {
-        let turn = self.on_join(alloc, join)?;
-        Ok(self.turn(alloc, turn))
+        match self.on_join(alloc, join) {
+            Ok(turn) => Ok(self.turn(alloc, turn)),
+            Err(fault) => Err(fault),
+        }
     }
 
     /// A commit token has come.
     fn take_commit(&mut self, alloc: Global, token: &CommitToken) -> Result<StepOut, NodeFault>
-        ensures { IsStep self.old self.new result (on_packet self.old (packet.Commit token.now)) }
+        ensures step { IsStep self.old self.new result (on_packet self.old (packet.Commit token.now)) }
+        ensures at_once { IfSome (commit_refused_at_once self.old.state) (λ fault. result ≡ Err fault) }
     {
         if let Some(turn) = self.on_commit(alloc, token)? {
             return Ok(self.turn(alloc, turn));
@@ -90,7 +94,8 @@ impl NodeCore {
         }
     }
 
-    /// Takes an input. A step that is refused changes nothing, and a token that was taken before is refused without any memory.
+    /// Takes an input. A step that is refused changes nothing. What is refused for what the input and the node show as they stand is
+    /// refused without any memory: a token that was taken before, a message of another ring, a message too many.
     pub fn step(&mut self, alloc: Global, input: Input) -> Result<StepOut, NodeFault>
         ensures step { IsStep self.old self.new result (step self.old input) }
         ensures at_once { IfSome (refused_at_once self.old input) (λ fault. result ≡ Err fault) }

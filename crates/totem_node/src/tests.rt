@@ -1,4 +1,4 @@
-//! Nodes by direct calls: each step as a line of text.
+//! Nodes by direct calls: inputs as words, and each step as a line of text.
 use crate::{Input, NodeCore, NodeFault, StepOut};
 use bytes::Bytes;
 use std::alloc::{AllocError, Global};
@@ -22,36 +22,23 @@ fn ring(seq: u32) -> RingId {
     }
 }
 
-/// A client's message of one letter.
-fn submit() -> Input {
-    Input::Submit {
-        service: Service::Agreed,
-        payload: Bytes::from_static(b"x"),
-    }
-}
-
 /// A client's message of so many bytes.
-fn long(alloc: Global, bytes: usize) -> Result<Input, AllocError> {
+fn submit(alloc: Global, bytes: usize) -> Result<Input, AllocError> {
     let payload = Bytes::from_vec(vec![in alloc; 9; bytes]?)?;
     Ok(Input::Submit {
-        service: Service::Safe,
+        service: Service::Agreed,
         payload,
     })
 }
 
-/// The first token of ring 4.1.
-fn start(alloc: Global) -> Input {
-    Input::Packet(Packet::Token(first_token(alloc, ring(4))))
-}
-
-/// A client's message, the first of this ring.
-fn message(seq: u32, sender: u16) -> Input {
+/// A client's message of ring 8.1, its first, sent by this process.
+fn foreign(sender: u16) -> Input {
     let body = Body::App {
         service: Service::Agreed,
         payload: Payload::of(Bytes::from_static(b"m")),
     };
     Input::Packet(Packet::Message(Message {
-        ring: ring(seq),
+        ring: ring(8),
         number: Number::of(1),
         sender: proc(sender),
         body,
@@ -71,6 +58,23 @@ fn commit(alloc: Global) -> Result<Input, Fail> {
         round: Round::First,
         members,
     })))
+}
+
+/// What a word stands for: `submit` and how many bytes, `from` and who sent a message of ring 8.1, `token` for the first token
+/// of ring 4.1, `commit`, `crash`, and anything else for a timer.
+fn input(alloc: Global, word: &str) -> Result<Input, Fail> {
+    if let Some(bytes) = word.strip_prefix("submit") {
+        return Ok(submit(alloc, bytes.parse::<usize>().unwrap_or(0))?);
+    }
+    if let Some(sender) = word.strip_prefix("from") {
+        return Ok(foreign(sender.parse::<u16>().unwrap_or(0)));
+    }
+    match word {
+        "token" => Ok(Input::Packet(Packet::Token(first_token(alloc, ring(4))))),
+        "commit" => commit(alloc),
+        "crash" => Ok(Input::Crash),
+        _ => Ok(Input::Timer),
+    }
 }
 
 /// The processes from 1 to this one.
@@ -154,134 +158,153 @@ fn push_out(alloc: Global, text: &mut String, out: &StepOut) -> Result<(), Alloc
     Ok(())
 }
 
-/// The node takes these inputs. What each step writes, does on rings and sends, or its fault, with `/ ` in front.
-fn steps(alloc: Global, node: &mut NodeCore, inputs: Vec<Input>) -> Result<String, AllocError> {
+/// One step: what it writes, does on rings and sends, or its fault.
+fn push_step(
+    alloc: Global,
+    text: &mut String,
+    node: &mut NodeCore,
+    word: &str,
+) -> Result<(), Fail> {
+    match node.step(alloc, input(alloc, word)?) {
+        Ok(out) => push_out(alloc, text, &out)?,
+        Err(fault) => text.push_str(fault.name())?,
+    }
+    Ok(())
+}
+
+/// The node takes these inputs, one a word. Each step has `/ ` in front.
+fn steps(alloc: Global, node: &mut NodeCore, words: &str) -> Result<String, Fail> {
     let mut text = String::new(alloc);
-    for input in inputs {
+    for word in words.split_whitespace() {
         text.push_str("/ ")?;
-        match node.step(alloc, input) {
-            Ok(out) => push_out(alloc, &mut text, &out)?,
-            Err(fault) => text.push_str(fault.name())?,
+        push_step(alloc, &mut text, node, word)?;
+    }
+    Ok(text)
+}
+
+/// Process 1 of ring 4.1, which has the processes 1 to `count`, and its first entry.
+fn node(alloc: Global, count: u16) -> Result<(NodeCore, Entry), Fail> {
+    let members = first(alloc, count)?;
+    Ok(NodeCore::new(alloc, proc(1), ring(4), members.as_slice())?)
+}
+
+/// The steps of such a node.
+fn life(alloc: Global, count: u16, words: &str) -> Result<String, Fail> {
+    let (mut node, _change) = node(alloc, count)?;
+    steps(alloc, &mut node, words)
+}
+
+/// The steps of a copy of such a node.
+fn life_of_a_copy(alloc: Global, count: u16, words: &str) -> Result<String, Fail> {
+    let (node, _change) = node(alloc, count)?;
+    let mut copy = node.try_clone(alloc)?;
+    steps(alloc, &mut copy, words)
+}
+
+/// The text of such a node's first entry.
+fn first_entry(alloc: Global, count: u16) -> Result<String, Fail> {
+    let (_node, change) = node(alloc, count)?;
+    let mut text = String::new(alloc);
+    push_entry(alloc, &mut text, &change)?;
+    Ok(text)
+}
+
+/// The text of a step's copy.
+fn copied_step(alloc: Global, words: &str) -> Result<String, Fail> {
+    let (mut node, _change) = node(alloc, 2)?;
+    let mut text = String::new(alloc);
+    for word in words.split_whitespace() {
+        let given = input(alloc, word)?.try_clone(alloc)?;
+        if let Ok(out) = node.step(alloc, given) {
+            push_out(alloc, &mut text, &out.try_clone(alloc)?)?;
         }
     }
     Ok(text)
 }
 
-/// The steps of process 1 of ring 4.1, which has the processes 1 to `count`.
-fn life(alloc: Global, count: u16, inputs: Vec<Input>) -> Result<String, Fail> {
-    let members = first(alloc, count)?;
-    let (mut node, _change) = NodeCore::new(alloc, proc(1), ring(4), members.as_slice())?;
-    Ok(steps(alloc, &mut node, inputs)?)
+/// What these inputs make a node tell.
+struct Row {
+    members: u16,
+    inputs: &'static str,
+    told: &'static str,
+}
+
+const LIVES: [Row; 7] = [
+    Row {
+        members: 2,
+        inputs: "submit1 token timer",
+        told: "/ / send r4.1 a 4.1#1; dlv r4.1 4.1#1; submit 4.1; token 4.1; all message; 2 token; / resend 4.1; 2 token; ",
+    },
+    Row {
+        members: 2,
+        inputs: "crash submit1 token timer crash commit from7",
+        told: "/ fail r4.1; / Stopped/ Stopped/ Stopped/ Stopped/ Stopped/ Stopped",
+    },
+    Row {
+        members: 2,
+        inputs: "token from2 token commit",
+        told: "/ token 4.1; 2 token; / OtherRing/ Repeat/ Stale",
+    },
+    Row {
+        members: 32,
+        inputs: "from33",
+        told: "/ Stranger",
+    },
+    Row {
+        members: 2,
+        inputs: "from7",
+        told: "/ all join 4: 1 2 7 but; ",
+    },
+    Row {
+        members: 2,
+        inputs: "submit1024 submit1025",
+        told: "/ / Range",
+    },
+    Row {
+        members: 3,
+        inputs: "timer timer timer timer timer",
+        told: "/ resend 4.1; / resend 4.1; / all join 4: 1 2 3 but; / all join 4: 1 2 3 but; / all join 4: 1 2 3 but 2 3; 1 commit; ",
+    },
+];
+
+#[test]
+fn a_node_tells_its_steps(rt: HostRuntime) -> Result<(), Fail> {
+    for row in &LIVES {
+        let told = life(rt.alloc(), row.members, row.inputs)?;
+        assert_eq!(rt; told.as_str(), row.told, "steps of {}", row.inputs);
+    }
+    Ok(())
 }
 
 #[test]
 fn a_node_begins_with_a_change(rt: HostRuntime) -> Result<(), Fail> {
-    let members = first(rt.alloc(), 2)?;
-    let (_node, change) = NodeCore::new(rt.alloc(), proc(2), ring(4), members.as_slice())?;
-    let mut text = String::new(rt.alloc());
-    push_entry(rt.alloc(), &mut text, &change)?;
+    let text = first_entry(rt.alloc(), 2)?;
     assert_eq!(rt; text.as_str(), "conf r4.1 1 2; ");
     Ok(())
 }
 
 #[test]
-fn a_step_is_told(rt: HostRuntime) -> Result<(), Fail> {
-    let alloc = rt.alloc();
-    let inputs = Vec::from_array(alloc, [submit(), start(alloc), Input::Timer])?;
-    assert_eq!(rt;
-        life(alloc, 2, inputs)?.as_str(),
-        "/ / send r4.1 a 4.1#1; dlv r4.1 4.1#1; submit 4.1; token 4.1; all message; 2 token; / resend 4.1; 2 token; "
-    );
-    Ok(())
-}
-
-#[test]
-fn a_crashed_node_has_stopped(rt: HostRuntime) -> Result<(), Fail> {
-    let alloc = rt.alloc();
-    let inputs = [
-        Input::Crash,
-        submit(),
-        start(alloc),
-        Input::Timer,
-        Input::Crash,
-    ];
-    assert_eq!(rt;
-        life(alloc, 2, Vec::from_array(alloc, inputs)?)?.as_str(),
-        "/ fail r4.1; / Stopped/ Stopped/ Stopped/ Stopped"
-    );
-    Ok(())
-}
-
-#[test]
-fn packets_are_refused_by_name(rt: HostRuntime) -> Result<(), Fail> {
-    let alloc = rt.alloc();
-    let inputs = [start(alloc), message(8, 2), start(alloc), commit(alloc)?];
-    assert_eq!(rt;
-        life(alloc, 2, Vec::from_array(alloc, inputs)?)?.as_str(),
-        "/ token 4.1; 2 token; / OtherRing/ Repeat/ Stale"
-    );
-    Ok(())
-}
-
-#[test]
-fn a_33rd_process_is_not_met(rt: HostRuntime) -> Result<(), Fail> {
-    let alloc = rt.alloc();
-    let inputs = Vec::from_array(alloc, [message(8, 33)])?;
-    assert_eq!(rt; life(alloc, 32, inputs)?.as_str(), "/ Stranger");
-    let inputs = Vec::from_array(alloc, [message(8, 7)])?;
-    assert_eq!(rt;
-        life(alloc, 2, inputs)?.as_str(),
-        "/ all join 4: 1 2 7 but; "
-    );
-    Ok(())
-}
-
-#[test]
-fn a_message_has_at_most_1024_bytes(rt: HostRuntime) -> Result<(), Fail> {
-    let alloc = rt.alloc();
-    let inputs = Vec::from_array(alloc, [long(alloc, 1_024)?, long(alloc, 1_025)?])?;
-    assert_eq!(rt; life(alloc, 2, inputs)?.as_str(), "/ / Range");
-    Ok(())
-}
-
-#[test]
 fn a_17th_message_does_not_wait(rt: HostRuntime) -> Result<(), Fail> {
-    let alloc = rt.alloc();
-    let mut inputs = Vec::new(alloc);
-    for _ in 0..17 {
-        inputs.push(submit())?;
-    }
-    assert_eq!(rt;
-        life(alloc, 2, inputs)?.as_str(),
-        "/ / / / / / / / / / / / / / / / / Full"
-    );
-    Ok(())
-}
-
-#[test]
-fn who_does_not_answer_is_given_up(rt: HostRuntime) -> Result<(), Fail> {
-    let alloc = rt.alloc();
-    let mut inputs = Vec::new(alloc);
-    for _ in 0..5 {
-        inputs.push(Input::Timer)?;
-    }
-    assert_eq!(rt;
-        life(alloc, 3, inputs)?.as_str(),
-        "/ resend 4.1; / resend 4.1; / all join 4: 1 2 3 but; / all join 4: 1 2 3 but; / all join 4: 1 2 3 but 2 3; 1 commit; "
-    );
+    let words =
+        "submit1 submit1 submit1 submit1 submit1 submit1 submit1 submit1 submit1 submit1 submit1 submit1 submit1 submit1 submit1 submit1 submit1";
+    let told = life(rt.alloc(), 2, words)?;
+    assert_eq!(rt; told.as_str(), "/ / / / / / / / / / / / / / / / / Full");
     Ok(())
 }
 
 #[test]
 fn a_copy_answers_alike(rt: HostRuntime) -> Result<(), Fail> {
-    let alloc = rt.alloc();
-    let members = first(alloc, 2)?;
-    let (node, _change) = NodeCore::new(alloc, proc(1), ring(4), members.as_slice())?;
-    let mut copy = node.try_clone(alloc)?;
-    let inputs = Vec::from_array(alloc, [start(alloc)])?;
+    let told = life_of_a_copy(rt.alloc(), 2, "token")?;
+    assert_eq!(rt; told.as_str(), "/ token 4.1; 2 token; ");
+    Ok(())
+}
+
+#[test]
+fn a_step_and_its_input_are_copied(rt: HostRuntime) -> Result<(), Fail> {
+    let told = copied_step(rt.alloc(), "submit1 token")?;
     assert_eq!(rt;
-        steps(alloc, &mut copy, inputs)?.as_str(),
-        "/ token 4.1; 2 token; "
+        told.as_str(),
+        "send r4.1 a 4.1#1; dlv r4.1 4.1#1; submit 4.1; token 4.1; all message; 2 token; "
     );
     Ok(())
 }

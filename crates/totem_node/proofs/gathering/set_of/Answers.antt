@@ -1,4 +1,4 @@
-use Rattle.std.proofs.Common.{subst, length, drop, ◌+◌}
+use Rattle.std.proofs.Common.{subst, drop, ◌+◌}
 use Rattle.totem_packets.specs.Rising.{IsProcesses}
 use Rattle.totem_packets.specs.Sets.{with_process}
 use Rattle.totem_node.proofs.Growing.{set_refused, rises_with, rises_set, one_added}

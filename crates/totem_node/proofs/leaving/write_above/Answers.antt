@@ -1,4 +1,4 @@
-use Rattle.std.proofs.Common.{ap, ◌∙◌, nat_le, nat_lt}
+use Rattle.std.proofs.Common.{ap, ◌∙◌, nat_lt}
 use Rattle.totem_node.proofs.Telling.{one_chosen, none_chosen, is_above_last, not_above_last}
 use Rattle.totem_node.proofs.leaving.write_above.Goals as goal
 use Rattle.totem_node.proofs.leaving.write_above.Goals.{then-get-last+in_ok-deliver, else-get-last}

@@ -1,4 +1,4 @@
-use Rattle.std.proofs.Common.{◌≡◌, ◌++◌, take, filter, nat_le, nat_lt}
+use Rattle.std.proofs.Common.{◌≡◌, ◌++◌, take, filter, nat_lt}
 use Rattle.totem_recover.specs.Finish.{deliveries}
 use Rattle.totem_node.proofs.leaving.write_above.Given as goal
 

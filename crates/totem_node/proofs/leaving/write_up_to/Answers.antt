@@ -1,4 +1,4 @@
-use Rattle.std.proofs.Common.{ap, ◌∙◌, nat_le, nat_lt}
+use Rattle.std.proofs.Common.{ap, ◌∙◌, nat_le}
 use Rattle.totem_node.proofs.Telling.{one_chosen, none_chosen, is_up_to, not_up_to}
 use Rattle.totem_node.proofs.leaving.write_up_to.Goals as goal
 use Rattle.totem_node.proofs.leaving.write_up_to.Goals.{then-get-last+in_ok-deliver, else-get-last}

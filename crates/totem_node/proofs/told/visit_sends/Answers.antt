@@ -1,5 +1,4 @@
-use Rattle.std.proofs.Common.{arith, sym, ap, ◌∙◌, Vec}
-use Rattle.totem_evs.specs.declared.entry.Entry.{Entry}
+use Rattle.std.proofs.Common.{arith, ap, ◌∙◌}
 use Rattle.totem_node.proofs.Telling.{some_sent, none_sent}
 use Rattle.totem_node.proofs.told.visit_sends.Goals as goal
 use Rattle.totem_node.proofs.told.visit_sends.Goals.{in-Some+in_ok-push, in_default}
