@@ -1,9 +1,10 @@
 -- From what each job finds to the faults of the pass.
-use Rattle.std.proofs.Common.{◌≡◌, ◌<◌, ◌+◌, ℕ, inl, inr, List, [], ◌∷◌, ◌++◌, length, take, Option, Some, None, refl, ap}
+use Rattle.std.proofs.Common.{◌≡◌, ◌<◌, ◌+◌, ℕ, inl, inr, List, [], ◌∷◌, ◌++◌, length, take, slice_get, Option, Some, None, refl, ap, arith}
 use Rattle.std.proofs.Common.{◌≤◌, Result, Ok, Err, IfOk, Vec, Global}
 use Rattle.std.specs.declared.alloc.AllocError.{AllocError}
 use Rattle.std.specs.Prelude.{slice_index_or}
 use Rattle.std.proofs.lemmas.List.{take_more, take_all}
+use Rattle.std.proofs.lemmas.Option.{slice_get_cases, slice_get_read}
 use Rattle.totem_ids.specs.declared.ring.RingId.{RingId}
 use Rattle.totem_ids.specs.declared.place.Place.{Place}
 use Rattle.totem_evs.specs.declared.log.Log.{Log}
@@ -15,6 +16,7 @@ use Rattle.totem_passes.specs.Listed.{listed}
 use Rattle.totem_agreement.specs.declared.findings.Findings.{Findings}
 use Rattle.totem_agreement.specs.declared.pass.Found.{Found}
 use Rattle.totem_agreement.specs.Findings.{AreFindings, IsNothing, GrowsBy, AreFound, all_found}
+use Rattle.totem_agreement.specs.Jobs.{AreFindingsAt}
 
 one_more : (run : List Log) (k : SpecNo) (cs : List RingId) (c : RingId) (fs : List Fault) (found : Option (List Place)) → ListsRings run k cs fs → FindsIn run c k found → ListsRings run k (cs ++ c ∷ []) (fs ++ listed k found)
 one_more run k [] c fs None is meets = rw is (inl (meets, refl))
@@ -63,10 +65,19 @@ each_found run rings found h = (
 pub all_listed : (run : List Log) (rings : List RingId) (found : Found) (faults : List Fault) → AreRings run rings → AreFound run rings found → faults ≡ all_found found → ListsConfigurations run faults
 all_listed run rings found faults are h is = record { rings = rings; are = are; lists = rw is (each_found run rings found h) }
 
-pub found_next : (run : List Log) (rings : List RingId) (i : ℕ) (c : RingId) (of : RingId) (logs : List Log) (old new : Found) (findings : Findings) → i < length rings → c ≡ slice_index_or rings i c → logs ≡ run → of ≡ c
-    → AreFindings logs of findings → GrowsBy old findings new → AreFound run (take i rings) old → AreFound run (take (i + 1) rings) new
-found_next run rings i c of logs old new findings lt is same ring h grows before =
-    rw (take_more rings i c lt, ← is) (found_more run (take i rings) c old new findings (rw (same, ring) at h) grows before)
+-- what the job at an index finds, from what was found in its configuration
+pub findings_at : (run : List Log) (rings : List RingId) (i : ℕ) (c of : RingId) (logs : List Log) (findings : Findings) → i < length rings → c ≡ slice_index_or rings i c → logs ≡ run → of ≡ c
+    → AreFindings logs of findings → AreFindingsAt run rings i findings
+findings_at run rings i c of logs findings lt read same ring h = record {
+  at = λ b is. let here : slice_get rings i ≡ Some c = slice_get_read rings (length rings) i c refl lt read in let b_is : b ≡ c = cc in rw b_is (rw (same, ring) at h);
+}
+
+pub found_next : (run : List Log) (rings : List RingId) (i : ℕ) (old new : Found) (findings : Findings) → i < length rings → AreFindingsAt run rings i findings → GrowsBy old findings new → AreFound run (take i rings) old
+    → AreFound run (take (i + 1) rings) new
+found_next run rings i old new findings lt h grows before = elim (slice_get_cases rings i).1 [
+  | inl (c, within, is, read) ↦ rw (take_more rings i c lt, read) (found_more run (take i rings) c old new findings (h.at c is) grows before)
+  | inr (past, none) ↦ absurd (omega arith)
+]
 
 pub all_found_of : (run : List Log) (rings : List RingId) (i : ℕ) (found : Found) (r : Result (Vec Fault Global) AllocError) → AreRings run rings → length rings ≤ i → AreFound run (take i rings) found → IfOk r (λ faults. faults.items ≡ all_found found)
     → IfOk r (λ faults. ListsConfigurations run faults.items)

@@ -9,6 +9,7 @@ pub mod Reached
 pub mod Search
 pub mod Causality
 pub mod Gaps
+pub mod Jobs
 pub mod Partings
 pub mod Pace
 pub mod Findings

@@ -10,6 +10,7 @@ mod entries;
 mod findings;
 mod gap;
 mod installed;
+mod jobs;
 mod kept;
 mod own;
 mod pace;
@@ -22,6 +23,8 @@ mod stay;
 mod stays;
 mod waitings;
 
-pub use pass::pass_d;
+pub use findings::Findings;
+pub use jobs::Jobs;
+pub use pass::{Found, pass_d};
 pub use pendings::pending;
 pub use waitings::waiting;

@@ -2,9 +2,8 @@
 ghost use Rattle.std.specs.Prelude.{◌≡◌, ◌++◌, IfOk};
 ghost use Rattle.totem_evs.specs.Answers.{MeetsPasses, ListsConfigurations};
 
-use crate::comings::Comings;
-use crate::findings::{Findings, findings_in};
-use crate::stays::Stays;
+use crate::findings::Findings;
+use crate::jobs::Jobs;
 use std::alloc::{AllocError, Global};
 use totem_evs::{Fault, Run, SpecNo};
 use totem_passes::with_found;
@@ -34,7 +33,8 @@ impl Found {
     ghost use Rattle.std.specs.Prelude.{◌≡◌, IfOk};
     ghost use Rattle.totem_agreement.specs.Findings.{IsNothing, GrowsBy, all_found};
 
-    fn new(alloc: Global) -> Found
+    /// Nothing yet.
+    pub fn new(alloc: Global) -> Found
         ensures { IsNothing result }
     {
         Found {
@@ -48,7 +48,7 @@ impl Found {
     }
 
     /// With what was found in the next configuration.
-    fn with(self, findings: Findings) -> Result<Found, AllocError>
+    pub fn with(self, findings: Findings) -> Result<Found, AllocError>
         ensures { IfOk result (GrowsBy self findings) }
     {
         Ok(Found {
@@ -62,7 +62,7 @@ impl Found {
     }
 
     /// All of them, specification by specification.
-    fn into_faults(self) -> Result<Vec<Fault>, AllocError>
+    pub fn into_faults(self) -> Result<Vec<Fault>, AllocError>
         ensures { IfOk result (λ faults. faults.items ≡ all_found self) }
     {
         let gaps = joined(self.gap, joined(self.safety, self.installed)?)?;
@@ -74,19 +74,15 @@ impl Found {
 }
 
 /// Pass D, of a run that has passed the others: for each of 3, 4, 5, 6.3, 7.1 and 7.2 and for each regular configuration
-/// in which the run breaks it, the least events that do. Want of memory is no answer. There is a job for each regular
-/// configuration, which sees no other part of the run than that and what follows it.
+/// in which the run breaks it, the least events that do. Want of memory is no answer. The jobs are done in their order.
 pub fn pass_d(alloc: Global, run: &Run) -> Result<Vec<Fault>, AllocError>
     requires { MeetsPasses run.now.logs }
     ensures { IfOk result (λ faults. ListsConfigurations run.now.logs faults.items) }
 {
-    let comings = Comings::build(alloc, run)?;
-    let rings = comings.rings(alloc)?;
+    let jobs = Jobs::build(alloc, run)?;
     let mut found = Found::new(alloc);
-    for ring in &rings {
-        let arrivals = comings.arrivals(alloc, run, *ring)?;
-        let stays = Stays::build(alloc, run, *ring, &arrivals)?;
-        found = found.with(findings_in(alloc, &stays)?)?;
+    for index in 0..jobs.rings.len() {
+        found = found.with(jobs.findings(alloc, index)?)?;
     }
     found.into_faults()
 }

@@ -1,1 +1,3 @@
+pub mod Early
+pub mod Jobs
 pub mod Verdicts

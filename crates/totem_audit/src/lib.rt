@@ -2,11 +2,15 @@
 #![tactic(auto)]
 
 mod auditor;
+mod gate;
+mod job_result;
+mod last_pass;
 #[cfg(test)]
 mod tests;
 mod verdict;
 mod workers;
 
-pub use auditor::audit;
+pub use auditor::{audit, audit_with};
+pub use gate::{Gate, OpenGate};
 pub use verdict::Verdict;
 pub use workers::Workers;

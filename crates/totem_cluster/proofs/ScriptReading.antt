@@ -45,30 +45,6 @@ pub record SoFar (a b : Seen) (read : List ℕ) (count : ℕ) : Type 0 where
   pub failures : b.failures ≡ a.failures
   pub counted : length read ≡ count
 
-pub starts : (a : Seen) (read : List ℕ) → read ≡ [] → SoFar a a read 0
-starts a read none = record { taken = nothing a.remaining read none; failures = refl; counted = ap length none }
-  where
-    nothing : (a : Option (List ℕ)) (read : List ℕ) → read ≡ [] → Consumes a a read
-    nothing None read none = tt
-    nothing (Some xs) read none = ap (λ ys. ys ++ xs) (sym none)
-
-one_taken : (a b c : Option (List ℕ)) (read more : List ℕ) (x : ℕ) → Consumes a b read → Consumes b c (x ∷ []) → more ≡ read ++ x ∷ [] → Consumes a c more
-one_taken None b c read more x p q is = tt
-one_taken (Some s) None c read more x p q is = absurd p
-one_taken (Some s) (Some t) None read more x p q is = absurd q
-one_taken (Some s) (Some t) (Some u) read more x p q is = p ∙ ap (λ (ws : List ℕ). read ++ ws) q ∙ sym (append_assoc read (x ∷ []) u) ∙ ap (λ ws. ws ++ u) (sym is)
-
-pub one_more : (a b c : Seen) (read more : List ℕ) (count x : ℕ) → SoFar a b read count → Consumes b.remaining c.remaining (x ∷ []) → c.failures ≡ b.failures → more ≡ read ++ x ∷ []
-    → SoFar a c more (count + 1)
-one_more a b c read more count x far taken failures is = record {
-  taken = one_taken a.remaining b.remaining c.remaining read more x far.taken taken is;
-  failures = failures ∙ far.failures;
-  counted = ap length is ∙ counted_one read x count far.counted;
-}
-  where
-    counted_one : (read : List ℕ) (x count : ℕ) → length read ≡ count → length (read ++ x ∷ []) ≡ count + 1
-    counted_one read x count is = omega (arith, is, length_push read x)
-
 kept : (a b c : Option (List ℕ)) (read : List ℕ) → Consumes a b read → Keeps b c → Consumes a c read
 kept None b c read p q = tt
 kept (Some s) None c read p q = absurd p
@@ -104,20 +80,7 @@ read_far a b read count far many = record {
   failures = far.failures;
 }
 
--- the source has failed
-pub read_breaks : (a b c : Seen) (read : List ℕ) (count : ℕ) → SoFar a b read count → Keeps b.remaining c.remaining → c.failures ≡ (b.failures + 1) % 2 ^ 64 → BreaksOff a c read
-read_breaks a b c read count far keeps failures = record {
-  taken = kept a.remaining b.remaining c.remaining read far.taken keeps;
-  failures = failures ∙ ap (λ n. (n + 1) % 2 ^ 64) far.failures;
-}
-
 -- ---- the run
-
--- the run was not written
-pub sim_failed : (a c : Seen) (was is : Held) (read : List ℕ) (run : Run) (e : WriteFault)
-    → IsRead a c read → simulate read ≡ Ok run → WritesText {A = Unit {0}} was is (Err e) (run_text run.logs) → Simulates a c was is (Err (write_io_fault e))
-sim_failed a c was is read run write_faults.Memory whole made h = h
-sim_failed a c was is read run write_faults.Write whole made h = (h, record { read = read; run = run; is_read = whole; made = made })
 
 -- the input ended, or was read as far as it is looked at
 pub read_whole : (a b : Seen) (read : List ℕ) (failed : Bool) → IsReading failed a b read → failed ≡ false → IsRead a b read

@@ -1,17 +1,19 @@
 //! From the text of a run to the report of its audit.
-ghost use Rattle.std.specs.Prelude.{◌≡◌, []};
+ghost use Rattle.std.specs.Prelude.{◌≡◌, [], IfOk};
 ghost use Rattle.totem_ids.specs.Sources.{seen};
 ghost use Rattle.totem_ids.specs.Writing.{held};
+ghost use Rattle.totem_evs.specs.Answers.{IsAnswered};
+ghost use Rattle.totem_evs.specs.Meanings.{IsSound};
 ghost use Rattle.totem_audit.specs.Verdicts.{answer_of};
 ghost use Rattle.totem_cluster.specs.AuditIo.{Audits, ReadsWhole, Says};
 
 use crate::io_fault::IoFault;
 use crate::outcome::Outcome;
 use crate::report::write_report;
-use std::alloc::Global;
+use std::alloc::{AllocError, Global};
 use std::sync::Wait;
 use std::thread::Threads;
-use totem_audit::{Verdict, Workers, audit};
+use totem_audit::{OpenGate, Verdict, Workers, audit, audit_with};
 use totem_evs::{Run, RunFault, read_end, read_run};
 use totem_ids::{Sink, Source};
 
@@ -34,20 +36,35 @@ fn outcome(verdict: &Verdict) -> Outcome
     }
 }
 
-/// Reads the text of a run to the end of the input, judges it, and writes the report. `_rt` and `_workers` are for passes
-/// that are divided among threads; the passes so far take the thread that asks.
+/// Judges the run. One worker is the thread that asks, and starts no other.
+fn judge<T: Threads + Sync>(
+    rt: &T,
+    alloc: Global,
+    run: &Run,
+    workers: Workers,
+) -> Result<Verdict, AllocError>
+    ensures answer { IfOk result (λ verdict. IsAnswered run.now.logs (answer_of verdict)) }
+    ensures sound { IfOk result (λ verdict. IsSound run.now.logs (answer_of verdict)) }
+{
+    if workers.count() == 1 {
+        return audit(alloc, run);
+    }
+    audit_with(rt, alloc, run, workers, &OpenGate)
+}
+
+/// Reads the text of a run to the end of the input, judges it, and writes the report, the same for every number of workers.
 pub fn audit_io<T: Threads + Wait + Sync, R: Source, W: Sink>(
-    _rt: &T,
+    rt: &T,
     alloc: Global,
     input: &mut R,
     output: &mut W,
-    _workers: Workers,
+    workers: Workers,
 ) -> Result<Outcome, IoFault>
     ensures { Audits (seen R.remaining R.failures input.old) (seen R.remaining R.failures input.new)
         (held W.contents W.failures [] output.old) (held W.contents W.failures [] output.new) result }
 {
     let run = read_whole(alloc, input)?;
-    let Ok(verdict) = audit(alloc, &run) else {
+    let Ok(verdict) = judge(rt, alloc, &run, workers) else {
         return Err(IoFault::Memory);
     };
     write_report(alloc, &verdict, output)?;

@@ -61,6 +61,11 @@ fn explain<W: Sink, E: Sink>(alloc: Global, error: &Error, output: &mut W, error
     }
 }
 
+/// So many workers; one where there can't be so many.
+fn as_many(workers: u32) -> Workers {
+    Workers::new(workers).unwrap_or(Workers::one())
+}
+
 /// The program over any three streams; `words` has the program's name first. Answers the status with which to exit.
 pub fn program<T: Threads + Wait + Sync, R: Source, W: Sink, E: Sink>(
     rt: &T,
@@ -84,7 +89,7 @@ pub fn program<T: Threads + Wait + Sync, R: Source, W: Sink, E: Sink>(
             Ok(outcome) => outcome.status(),
             Err(fault) => tell_fault(errors, &fault),
         },
-        Ok(Words::Audit) => match audit_io(rt, alloc, input, output, Workers::one()) {
+        Ok(Words::Audit { workers }) => match audit_io(rt, alloc, input, output, as_many(workers)) {
             Ok(outcome) => outcome.status(),
             Err(fault) => tell_fault(errors, &fault),
         },

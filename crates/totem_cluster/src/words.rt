@@ -1,12 +1,13 @@
 //! The words of a command line.
-use clap::{Command, Error};
+use clap::builder::ValueParser;
+use clap::{Arg, ArgMatches, Command, Error};
 use std::alloc::{AllocError, Global};
 
 /// What the words ask for.
 #[derive(Clone, Copy, Debug, PartialEq, Eq)]
 pub enum Words {
-    /// The audit of the run on the standard input.
-    Audit,
+    /// The audit of the run on the standard input, by so many workers, 1 to 64.
+    Audit { workers: u32 },
     /// The check of a run and its certificate.
     Check,
     /// The run that the script on the standard input makes.
@@ -22,10 +23,22 @@ const SIM_EXAMPLE: &str = "Example: totem sim < examples/partition-that-heals.sc
 
 const CHECK_EXAMPLE: &str = "Example: totem check < examples/first-yes.checked";
 
-fn audit_command<'a>(alloc: Global) -> Command<'a> {
+fn audit_command<'a>(alloc: Global) -> Result<Command<'a>, AllocError> {
+    let workers = Arg::new(alloc, "workers")
+        .long("workers")
+        .value_name("W")
+        .value_parser(ValueParser::Unsigned(1, 64))
+        .default_value("1")
+        .help("How many threads judge the run, from 1 to 64; the report is the same");
     Command::new(alloc, "audit")
         .about("Judges the run on the standard input, and writes a report")
         .after_help(AUDIT_EXAMPLE)
+        .arg(workers)
+}
+
+/// How many workers the words of an audit ask for.
+fn workers_of(matches: &ArgMatches<'_>) -> u32 {
+    matches.get_one::<u32>("workers").unwrap_or(1)
 }
 
 fn check_command<'a>(alloc: Global) -> Command<'a> {
@@ -46,7 +59,7 @@ fn command<'a>(alloc: Global) -> Result<Command<'a>, AllocError> {
         .about("Audits the logs of a process group: what was sent, delivered and installed")
         .after_help(ENDINGS)
         .subcommand_required(true)
-        .subcommand(audit_command(alloc))?
+        .subcommand(audit_command(alloc)?)?
         .subcommand(check_command(alloc))?
         .subcommand(sim_command(alloc))
 }
@@ -57,6 +70,9 @@ pub fn read_words(alloc: Global, words: &[String]) -> Result<Words, Error> {
     Ok(match matches.subcommand() {
         Some(("check", _)) => Words::Check,
         Some(("sim", _)) => Words::Sim,
-        _ => Words::Audit,
+        Some((_, audit)) => Words::Audit {
+            workers: workers_of(audit),
+        },
+        None => Words::Audit { workers: 1 },
     })
 }

@@ -124,7 +124,7 @@ fn agreement_is_judged(rt: HostRuntime) -> Result<(), Fail> {
 }
 
 /// One process on 40 rings, one after the other; at the second, the 20th and the 39th it does not deliver what it sends.
-fn forty_rings(alloc: Global) -> Result<String, Fail> {
+pub fn forty_rings(alloc: Global) -> Result<String, Fail> {
     let mut text = format!(in alloc; "totem-run 1;log 1;")?;
     for ring in 1..=40u32 {
         let seq = ring * 4;

@@ -17,3 +17,5 @@ mod table;
 mod verdicts;
 #[cfg(test)]
 mod word_lists;
+#[cfg(test)]
+mod workers;

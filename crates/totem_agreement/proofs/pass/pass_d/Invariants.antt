@@ -2,5 +2,5 @@ use Rattle.std.proofs.Common.{take}
 use Rattle.totem_agreement.specs.Findings.{AreFound}
 use Rattle.totem_agreement.proofs.pass.pass_d.Given as goal
 
-abbrev pub invariant-loop-ring : goal.invariant-loop-ring
-invariant-loop-ring l = AreFound l.run.logs (take l.ring-index l.ring-items) l.found
+abbrev pub invariant-loop-index : goal.invariant-loop-index
+invariant-loop-index l = AreFound l.run.logs (take l.index l.jobs.rings.items) l.found

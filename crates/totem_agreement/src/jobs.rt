@@ -1,0 +1,49 @@
+//! The jobs of the last pass: one for each regular configuration of a run (docs/SPECIFICATIONS.md, "Passes").
+ghost use Rattle.std.specs.Prelude.{◌<◌, IfOk, vec_len};
+ghost use Rattle.totem_evs.specs.Answers.{MeetsPasses};
+ghost use Rattle.totem_agreement.specs.Jobs.{AreJobs, AreFindingsAt};
+
+use crate::comings::Comings;
+use crate::findings::{Findings, findings_in};
+use crate::stays::Stays;
+use std::alloc::{AllocError, Global};
+use totem_evs::Run;
+use totem_ids::RingId;
+
+/// The jobs of a run that has passed the passes before, in the order of their configurations. Each sees no other part of the run
+/// than its configuration and what follows it, so they can be done in any order and by any thread.
+#[derive(Drop)]
+pub struct Jobs<'r> {
+    pub run: &'r Run,
+    /// The configurations, by ring number and then by representative.
+    pub rings: Vec<RingId>,
+    pub comings: Comings,
+}
+
+impl<'r> Jobs<'r> {
+    /// Those of the run.
+    pub fn build(alloc: Global, run: &'r Run) -> Result<Jobs<'r>, AllocError>
+        requires { MeetsPasses run.now.logs }
+        ensures { IfOk result (AreJobs run.now.logs) }
+    {
+        let comings = Comings::build(alloc, run)?;
+        let rings = comings.rings(alloc)?;
+        Ok(Jobs {
+            run,
+            rings,
+            comings,
+        })
+    }
+
+    /// Does the job at this index, counted from 0.
+    pub fn findings(&self, alloc: Global, index: usize) -> Result<Findings, AllocError>
+        requires jobs { AreJobs self.now.run.now.logs self.now }
+        requires within { index < vec_len self.now.rings }
+        ensures { IfOk result (AreFindingsAt self.now.run.now.logs self.now.rings.items index) }
+    {
+        let ring = self.rings[index];
+        let arrivals = self.comings.arrivals(alloc, self.run, ring)?;
+        let stays = Stays::build(alloc, self.run, ring, &arrivals)?;
+        findings_in(alloc, &stays)
+    }
+}

@@ -1,0 +1,19 @@
+//! Who is told of the jobs of an audit.
+
+/// Is told of each job by the thread that does it, before and after; a job that has to be done again is told again. Jobs have
+/// numbers from 1, in the order of their configurations.
+pub trait Gate: Sync {
+    fn before(&self, job: u32);
+
+    fn after(&self, job: u32);
+}
+
+/// A gate that lets every job pass.
+#[derive(Clone, Copy, Debug)]
+pub struct OpenGate;
+
+impl Gate for OpenGate {
+    fn before(&self, _job: u32) {}
+
+    fn after(&self, _job: u32) {}
+}

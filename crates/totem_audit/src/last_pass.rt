@@ -1,0 +1,191 @@
+//! Pass D by many threads (docs/SPECIFICATIONS.md, "Passes").
+ghost use Rattle.std.specs.Prelude.{◌≡◌, ◌<◌, ◌≤◌, ◌⊎◌, ◌++◌, IfOk, IfSome, None, replicate, vec_len};
+ghost use Rattle.std.specs.Thread.{IsSync};
+ghost use Rattle.totem_evs.specs.Answers.{MeetsPasses, ListsConfigurations};
+ghost use Rattle.totem_agreement.specs.Jobs.{AreJobs, AreFindingsAt};
+ghost use Rattle.totem_audit.specs.Jobs.{IsRight, AreRight, AreKnown};
+
+use crate::gate::Gate;
+use crate::job_result::{JobResult, do_job};
+use crate::workers::Workers;
+use std::alloc::{AllocError, Global};
+use std::mem;
+use std::thread::{Threads, join};
+use totem_agreement::{Findings, Found, Jobs};
+use totem_evs::{Fault, Run};
+
+/// The jobs from one index up to another, in turn. Where memory is wanting, the rest is left out.
+#[tactic(auto, using(crate::proofs::Known::none_right, crate::proofs::Known::one_right))]
+fn part<G: Gate>(alloc: Global, jobs: &Jobs<'_>, from: usize, to: usize, gate: &G) -> Vec<JobResult>
+    requires jobs { AreJobs jobs.now.run.now.logs jobs.now }
+    requires within { to ≤ vec_len jobs.now.rings }
+    ensures { AreRight jobs.now.run.now.logs jobs.now.rings.items result.items }
+{
+    let mut results = Vec::new(alloc);
+    for index in from..to {
+        let Ok(done) = do_job(alloc, jobs, index, gate) else {
+            return results;
+        };
+        if results.push(done).is_err() {
+            return results;
+        }
+    }
+    results
+}
+
+/// Where the part of the first `half` of the workers ends, when the jobs are divided into as many parts as there are workers, one
+/// after the other, whose sizes differ by one at most, the larger ones first.
+fn middle(from: usize, to: usize, half: u32, workers: u32) -> usize
+    requires some { 0 < workers }
+    requires order { from ≤ to }
+    ensures { (from ≤ result) × (result ≤ to) }
+{
+    let count = to - from;
+    let share = count / workers as usize;
+    let larger = (count % workers as usize).min(half as usize);
+    let size = share.saturating_mul(half as usize).saturating_add(larger);
+    from + size.min(count)
+}
+
+/// The first results and then the second ones, or the first alone where memory is wanting.
+fn one_after_the_other(mut first: Vec<JobResult>, mut second: Vec<JobResult>) -> Vec<JobResult>
+    ensures { (result.items ≡ first.items ++ second.items) ⊎ (result.items ≡ first.items) }
+{
+    if first.append(&mut second).is_err() {
+        return first;
+    }
+    first
+}
+
+/// The jobs from one index up to another by as many threads, each with a part of its own. Where memory is wanting, some are left
+/// out.
+#[cycle(halves)]
+fn shared<T: Threads + Sync, G: Gate>(
+    rt: &T,
+    alloc: Global,
+    jobs: &Jobs<'_>,
+    from: usize,
+    to: usize,
+    workers: u32,
+    gate: &G,
+) -> Vec<JobResult>
+    requires jobs { AreJobs jobs.now.run.now.logs jobs.now }
+    requires order { from ≤ to }
+    requires within { to ≤ vec_len jobs.now.rings }
+    ensures { AreRight jobs.now.run.now.logs jobs.now.rings.items result.items }
+{
+    if workers <= 1 {
+        return part(alloc, jobs, from, to, gate);
+    }
+    let half = workers / 2;
+    let others = workers - half;
+    let middle = middle(from, to, half, workers);
+    let low = || -> Vec<JobResult>
+        requires { IsSync T.row × IsSync G.row × AreJobs jobs.now.run.now.logs jobs.now × (from ≤ middle) × (middle ≤ vec_len jobs.now.rings) }
+        ensures { AreRight jobs.entry.now.run.now.logs jobs.entry.now.rings.items result.items }
+    { shared(rt, alloc, jobs, from, middle, half, gate) };
+    let high = || -> Vec<JobResult>
+        requires { IsSync T.row × IsSync G.row × AreJobs jobs.now.run.now.logs jobs.now × (middle ≤ to) × (to ≤ vec_len jobs.now.rings) }
+        ensures { AreRight jobs.entry.now.run.now.logs jobs.entry.now.rings.items result.items }
+    { shared(rt, alloc, jobs, middle, to, others, gate) };
+    let (first, second) = join(rt, low, high);
+    one_after_the_other(first, second)
+}
+
+/// Nothing is known of any job.
+#[tactic(auto, using(crate::proofs::Known::nothing_more))]
+fn nothing_known(alloc: Global, count: usize) -> Result<Vec<Option<Findings>>, AllocError>
+    ensures { IfOk result (λ known. known.items ≡ replicate count None) }
+{
+    let mut known = Vec::with_capacity(alloc, count)?;
+    for _ in 0..count {
+        known.push(None)?;
+    }
+    Ok(known)
+}
+
+/// Notes a result. A second one for a job is refused.
+#[tactic(auto, using(crate::proofs::Known::known_set))]
+fn note(jobs: &Jobs<'_>, known: &mut Vec<Option<Findings>>, done: JobResult)
+    requires right { IsRight jobs.now.run.now.logs jobs.now.rings.items done }
+    requires known { AreKnown jobs.now.run.now.logs jobs.now.rings.items known.old.items }
+    ensures { AreKnown jobs.now.run.now.logs jobs.now.rings.items known.new.items }
+{
+    if known[done.index].is_some() {
+        return;
+    }
+    known[done.index] = Some(done.findings);
+}
+
+/// The results by their jobs.
+#[tactic(auto, using(crate::proofs::Known::nothing_is_known, crate::proofs::Known::popped))]
+fn by_job(
+    alloc: Global,
+    jobs: &Jobs<'_>,
+    mut results: Vec<JobResult>,
+) -> Result<Vec<Option<Findings>>, AllocError>
+    requires { AreRight jobs.now.run.now.logs jobs.now.rings.items results.items }
+    ensures { IfOk result (λ known. AreKnown jobs.now.run.now.logs jobs.now.rings.items known.items) }
+{
+    let mut known = nothing_known(alloc, jobs.rings.len())?;
+    while let Some(done) = results.pop() {
+        note(jobs, &mut known, done);
+    }
+    Ok(known)
+}
+
+/// What is known of the job at this index; or it is done now.
+fn known_or_done<G: Gate>(
+    alloc: Global,
+    jobs: &Jobs<'_>,
+    index: usize,
+    known: Option<Findings>,
+    gate: &G,
+) -> Result<Findings, AllocError>
+    requires jobs { AreJobs jobs.now.run.now.logs jobs.now }
+    requires within { index < vec_len jobs.now.rings }
+    requires right { IfSome known (AreFindingsAt jobs.now.run.now.logs jobs.now.rings.items index) }
+    ensures { IfOk result (AreFindingsAt jobs.now.run.now.logs jobs.now.rings.items index) }
+{
+    if let Some(findings) = known {
+        return Ok(findings);
+    }
+    let done = do_job(alloc, jobs, index, gate)?;
+    Ok(done.findings)
+}
+
+/// The faults of the pass, from what is known of its jobs. A job of which nothing is known is done here.
+fn collect<G: Gate>(
+    alloc: Global,
+    jobs: &Jobs<'_>,
+    mut known: Vec<Option<Findings>>,
+    gate: &G,
+) -> Result<Vec<Fault>, AllocError>
+    requires jobs { AreJobs jobs.now.run.now.logs jobs.now }
+    requires known { AreKnown jobs.now.run.now.logs jobs.now.rings.items known.items }
+    ensures { IfOk result (λ faults. ListsConfigurations jobs.now.run.now.logs faults.items) }
+{
+    let mut found = Found::new(alloc);
+    for index in 0..jobs.rings.len() {
+        let one = mem::replace(&mut known[index], None);
+        found = found.with(known_or_done(alloc, jobs, index, one, gate)?)?;
+    }
+    found.into_faults()
+}
+
+/// Pass D of a run that has passed the others, its jobs divided among as many threads as there are workers.
+pub fn pass_d_with<T: Threads + Sync, G: Gate>(
+    rt: &T,
+    alloc: Global,
+    run: &Run,
+    workers: Workers,
+    gate: &G,
+) -> Result<Vec<Fault>, AllocError>
+    requires { MeetsPasses run.now.logs }
+    ensures { IfOk result (λ faults. ListsConfigurations run.now.logs faults.items) }
+{
+    let jobs = Jobs::build(alloc, run)?;
+    let results = shared(rt, alloc, &jobs, 0, jobs.rings.len(), workers.count(), gate);
+    let known = by_job(alloc, &jobs, results)?;
+    collect(alloc, &jobs, known, gate)
+}

@@ -1,0 +1,154 @@
+//! Workers that share the jobs of an audit.
+use crate::agreements::forty_rings;
+use crate::table::{lines, run};
+use std::alloc::Global;
+use std::process::Abort;
+use std::sync::{Mutex, Wait};
+use std::test::Fail;
+use std::thread;
+use std::thread::Threads;
+use std::time::{Clock, Duration};
+use totem_audit::{Gate, OpenGate, Verdict, Workers, audit, audit_with};
+use totem_evs::{Run, read_run};
+use totem_ids::FromRead;
+
+/// How often a gate looks before it gives up, a millisecond apart.
+const LOOKS: u32 = 10_000;
+
+/// Two processes that are each alone on a ring: two configurations, and so two jobs.
+const TWO_JOBS: &str = "totem-run 1;log 1;conf r4.1 1;open;log 2;conf r4.2 2;open;end;";
+
+/// Holds each job until as many have begun, and counts how many came, went, and were let go before that.
+#[derive(Drop)]
+struct HoldsUntil<'g, R> {
+    rt: &'g R,
+    wanted: u32,
+    looks: u32,
+    begun: Mutex<u32>,
+    ended: Mutex<u32>,
+    let_go: Mutex<u32>,
+}
+
+fn add_one<R: Wait>(rt: &R, count: &Mutex<u32>) {
+    let mut count = count.lock(rt);
+    *count = count.saturating_add(1);
+}
+
+impl<'g, R: Wait> HoldsUntil<'g, R> {
+    fn new(rt: &'g R, wanted: u32, looks: u32) -> HoldsUntil<'g, R> {
+        HoldsUntil {
+            rt,
+            wanted,
+            looks,
+            begun: Mutex::new(0),
+            ended: Mutex::new(0),
+            let_go: Mutex::new(0),
+        }
+    }
+}
+
+impl<R: Wait + Clock + Sync> Gate for HoldsUntil<'_, R> {
+    fn before(&self, _job: u32) {
+        add_one(self.rt, &self.begun);
+        for _ in 0..self.looks {
+            if *self.begun.lock(self.rt) >= self.wanted {
+                return;
+            }
+            thread::sleep(self.rt, Duration::from_millis(1));
+        }
+        add_one(self.rt, &self.let_go);
+    }
+
+    fn after(&self, _job: u32) {
+        add_one(self.rt, &self.ended);
+    }
+}
+
+fn run_of(alloc: Global, text: &str) -> Result<Run, Fail> {
+    let text = lines(alloc, text)?;
+    Ok(read_run(alloc, &mut FromRead::new(text.as_bytes()))?)
+}
+
+/// How many jobs came, went, and were let go before both had begun.
+fn counts<T: Threads + Wait + Clock + Abort + Sync>(
+    rt: &T,
+    alloc: Global,
+    workers: Workers,
+    looks: u32,
+) -> Result<(u32, u32, u32), Fail> {
+    let run = run_of(alloc, TWO_JOBS)?;
+    let gate = HoldsUntil::new(rt, 2, looks);
+    let verdict = audit_with(rt, alloc, &run, workers, &gate)?;
+    assert!(rt; matches!(verdict, Verdict::Yes { .. }));
+    Ok((
+        *gate.begun.lock(rt),
+        *gate.ended.lock(rt),
+        *gate.let_go.lock(rt),
+    ))
+}
+
+#[test]
+fn two_jobs_run_side_by_side(rt: HostRuntime) -> Result<(), Fail> {
+    let Some(two) = Workers::new(2) else {
+        panic!(rt; "two workers");
+    };
+    assert_eq!(rt; counts(&rt, rt.alloc(), two, LOOKS)?, (2, 2, 0));
+    Ok(())
+}
+
+#[test]
+fn one_worker_does_one_job_after_the_other(rt: HostRuntime) -> Result<(), Fail> {
+    assert_eq!(rt; counts(&rt, rt.alloc(), Workers::one(), 20)?, (2, 2, 1));
+    Ok(())
+}
+
+#[test]
+fn the_report_is_the_same_for_every_number_of_workers(rt: HostRuntime) -> Result<(), Fail> {
+    let alloc = rt.alloc();
+    let text = forty_rings(alloc)?;
+    let expected = lines(
+        alloc,
+        "verdict no;fault 3 1@6;fault 3 1@77;fault 3 1@152;end;",
+    )?;
+    for words in [
+        "audit --workers 1",
+        "audit --workers=7",
+        "audit --workers 64",
+    ] {
+        let found = run(&rt, alloc, words, text.as_str())?;
+        assert_eq!(rt; found.status, 1, "status of {words}");
+        assert_eq!(rt;
+            found.output.as_str(),
+            expected.as_str(),
+            "output of {words}"
+        );
+    }
+    Ok(())
+}
+
+#[test]
+fn there_are_1_to_64_workers(rt: HostRuntime) -> Result<(), Fail> {
+    for words in [
+        "audit --workers 0",
+        "audit --workers 65",
+        "audit --workers many",
+        "audit --workers",
+    ] {
+        let found = run(&rt, rt.alloc(), words, "totem-run 1;end;")?;
+        assert_eq!(rt; found.status, 64, "status of {words}");
+        assert_eq!(rt; found.output.as_str(), "", "output of {words}");
+        assert!(rt; found.errors.contains("--workers <W>"), "errors of {words}");
+    }
+    Ok(())
+}
+
+#[test]
+fn an_open_gate_changes_nothing(rt: HostRuntime) -> Result<(), Fail> {
+    let alloc = rt.alloc();
+    let run = run_of(alloc, TWO_JOBS)?;
+    let alone = audit(alloc, &run)?;
+    let shared = audit_with(&rt, alloc, &run, Workers::one(), &OpenGate)?;
+    assert!(rt; matches!(alone, Verdict::Yes { .. }));
+    assert!(rt; matches!(shared, Verdict::Yes { .. }));
+    Ok(())
+}
