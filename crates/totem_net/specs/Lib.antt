@@ -1,0 +1,9 @@
+pub mod Plans
+pub mod Fates
+pub mod Words
+pub mod Wires
+pub mod Addresses
+pub mod Waiting
+pub mod Ways
+pub mod Settling
+pub mod Turns

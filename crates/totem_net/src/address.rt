@@ -1,0 +1,26 @@
+//! For whom a packet is.
+ghost use Rattle.std.specs.Prelude.{◌≡◌};
+ghost use Rattle.totem_net.specs.Addresses.{is_for};
+
+use totem_ids::ProcId;
+
+/// For whom a packet is.
+#[derive(Clone, Copy, Debug, PartialEq, Eq)]
+pub enum Address {
+    /// Every node but this one, its sender.
+    AllBut(ProcId),
+    /// This node, who may be the sender itself.
+    One(ProcId),
+}
+
+impl Address {
+    /// Whether it is for this node.
+    pub fn is_for(&self, node: ProcId) -> bool
+        ensures { result ≡ is_for self.now node }
+    {
+        match self {
+            Address::AllBut(sender) => node.number() != sender.number(),
+            Address::One(receiver) => node.number() == receiver.number(),
+        }
+    }
+}

@@ -1,0 +1,73 @@
+//! The fates of packets, one after another.
+ghost use Rattle.std.specs.Prelude.{◌≡◌, IfOk};
+ghost use Rattle.rand_pcg.specs.Pcg.{pcg32};
+ghost use Rattle.totem_net.specs.Fates.{fate_of};
+ghost use Rattle.totem_net.specs.Words.{begun_with, word_at};
+
+use crate::copies::Fate;
+use crate::formula::fate;
+use crate::plan::Plan;
+use rand_core::SeedableRng;
+use rand_core::utils::NextWord;
+use rand_pcg::Pcg32;
+use std::alloc::AllocError;
+use std::marker::Model;
+
+/// The fates that the words of a generator give, in their order.
+#[derive(Debug, Drop)]
+pub struct Fates {
+    words: Pcg32,
+    plan: Plan,
+}
+
+impl Model for Fates {
+    ghost use Rattle.totem_net.specs.Words.{ToCome};
+
+    ghost Value = { ToCome };
+
+    ghost view = { λ f. record { generator = f.words; plan = f.plan } };
+}
+
+impl Fates {
+    /// The fates from a seed on.
+    pub fn new(seed: u64, plan: Plan) -> Fates
+        ensures generator { result.generator ≡ begun_with seed }
+        ensures plan { result.plan ≡ plan }
+    {
+        Fates {
+            words: Pcg32::seed_from_u64(seed),
+            plan,
+        }
+    }
+
+    /// The same fates, once more.
+    pub fn try_clone(&self) -> Result<Fates, AllocError>
+        ensures { IfOk result (λ copy. copy ≡ self.now) }
+    {
+        Ok(Fates {
+            words: self.words.clone()?,
+            plan: self.plan,
+        })
+    }
+
+    /// The next one.
+    pub fn next(&mut self) -> Fate
+        ensures value { result ≡ fate_of (pcg32 self.old.generator).0 self.old.plan }
+        ensures words { self.new.generator ≡ (pcg32 self.old.generator).1 }
+        ensures plan { self.new.plan ≡ self.old.plan }
+    {
+        fate(self.words.next_word(), self.plan)
+    }
+
+    /// The fate behind so many others. It draws them all: each is that of the generator's word of its own number.
+    #[tactic(auto, using(crate::proofs::Drawing::word_less, crate::proofs::Drawing::word_last))]
+    pub fn nth(seed: u64, plan: Plan, before: u32) -> Fate
+        ensures { result ≡ fate_of (word_at before (begun_with seed)) plan }
+    {
+        let mut fates = Fates::new(seed, plan);
+        'others: for _ in 0..before {
+            fates.next();
+        }
+        fates.next()
+    }
+}

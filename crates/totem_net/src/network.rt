@@ -1,0 +1,59 @@
+//! The channels of a run in threads.
+ghost use Rattle.std.specs.Prelude.{◌<◌};
+
+use crate::ends::NodeEnds;
+use crate::fates::Fates;
+use crate::pacer::Pacer;
+use crate::port::Port;
+use crate::switch::Switch;
+use crate::turns::Turns;
+use crate::ways::Ways;
+use bytes::Bytes;
+use crossbeam_channel::unbounded;
+use std::alloc::{AllocError, Global};
+use totem_ids::ProcId;
+
+/// What the threads of a run hold: the switch's, the pacing one, and three for each node.
+#[derive(Drop)]
+pub struct Network {
+    pub switch: Switch,
+    pub pacer: Pacer,
+    /// In rising order of the nodes, which are 1 to their number.
+    pub nodes: Vec<NodeEnds>,
+}
+
+impl Network {
+    /// The network of so many nodes, for so many ticks. The first packet is handed on before anything else, to node 1
+    /// and without a fate.
+    pub fn new(
+        alloc: Global,
+        nodes: u16,
+        ticks: u32,
+        fates: Fates,
+        first: Bytes,
+    ) -> Result<Network, AllocError>
+        requires { 0 < nodes }
+    {
+        let (to_switch, inbound) = unbounded(alloc)?;
+        let (paces, answers) = unbounded(alloc)?;
+        let mut ports = Vec::new(alloc);
+        let mut ends = Vec::new(alloc);
+        for number in 0..nodes {
+            let (port, held) = Port::new(alloc, ProcId::of(number + 1), &to_switch)?;
+            ports.push(port)?;
+            ends.push(held)?;
+        }
+        Ok(Network {
+            switch: Switch {
+                inbound,
+                paces,
+                ports,
+                ways: Ways::new(alloc, nodes, fates)?,
+                turns: Turns::new(nodes, ticks),
+                first,
+            },
+            pacer: Pacer::new(to_switch, answers),
+            nodes: ends,
+        })
+    }
+}

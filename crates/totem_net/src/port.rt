@@ -1,0 +1,69 @@
+//! The switch's side of one node.
+use crate::ends::{NodeEnds, Outlet, ThreadEnd};
+use crate::sending::give;
+use crate::words::{ClientWord, Inbound, PacketWord, TimerWord};
+use bytes::Bytes;
+use crossbeam_channel::{Sender, unbounded};
+use std::alloc::{AllocError, Global};
+use std::sync::Wait;
+use totem_ids::{ProcId, Service};
+
+/// The channels to a node's threads.
+#[derive(Drop)]
+pub struct Port {
+    packets: Sender<PacketWord>,
+    timer: Sender<TimerWord>,
+    client: Sender<ClientWord>,
+}
+
+impl Port {
+    /// The port of a node, and what the node's threads hold.
+    pub fn new(
+        alloc: Global,
+        node: ProcId,
+        inbound: &Sender<Inbound>,
+    ) -> Result<(Port, NodeEnds), AllocError> {
+        let (packets, received) = unbounded(alloc)?;
+        let (timer, timed) = unbounded(alloc)?;
+        let (client, asked) = unbounded(alloc)?;
+        let ends = NodeEnds {
+            node,
+            receiving: ThreadEnd {
+                words: received,
+                outlet: Outlet::new(node, inbound)?,
+            },
+            timer: ThreadEnd {
+                words: timed,
+                outlet: Outlet::new(node, inbound)?,
+            },
+            client: ThreadEnd {
+                words: asked,
+                outlet: Outlet::new(node, inbound)?,
+            },
+        };
+        let port = Port {
+            packets,
+            timer,
+            client,
+        };
+        Ok((port, ends))
+    }
+
+    /// Hands a packet on to the receiving thread.
+    pub fn hand_on<R: Wait>(&self, rt: &R, packet: Bytes) -> Result<(), AllocError> {
+        give(rt, &self.packets, PacketWord::Packet(packet))
+    }
+
+    /// The node's turn: a word for its timer thread, and one for its client thread.
+    pub fn take_turn<R: Wait>(&self, rt: &R, service: Service) -> Result<(), AllocError> {
+        give(rt, &self.timer, TimerWord::Timer)?;
+        give(rt, &self.client, ClientWord::Submit(service))
+    }
+
+    /// A stop word for each thread. A thread that can't be sent one, for want of memory, sees the channel's end.
+    pub fn stop<R: Wait>(self, rt: &R) {
+        let _ = give(rt, &self.packets, PacketWord::Stop);
+        let _ = give(rt, &self.timer, TimerWord::Stop);
+        let _ = give(rt, &self.client, ClientWord::Stop);
+    }
+}

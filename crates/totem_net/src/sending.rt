@@ -1,0 +1,12 @@
+//! Words that are sent to whoever still listens.
+use crossbeam_channel::{SendError, Sender};
+use std::alloc::AllocError;
+use std::sync::Wait;
+
+/// Sends a word. Where nobody listens any more it is dropped, which is no error.
+pub fn give<T: Drop, R: Wait>(rt: &R, to: &Sender<T>, word: T) -> Result<(), AllocError> {
+    match to.send(rt, word) {
+        Err(SendError::OutOfMemory(_)) => Err(AllocError),
+        _ => Ok(()),
+    }
+}

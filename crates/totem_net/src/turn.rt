@@ -1,0 +1,9 @@
+//! Whose turn it is at which tick.
+use totem_ids::{ProcId, Service};
+
+/// A node's turn: its timer runs out, and its client submits a message of this service.
+#[derive(Clone, Copy, Debug, PartialEq, Eq)]
+pub struct Turn {
+    pub node: ProcId,
+    pub service: Service,
+}

@@ -1,0 +1,46 @@
+//! What goes over the channels of a run in threads.
+use crate::address::Address;
+use bytes::Bytes;
+use totem_ids::Service;
+
+/// What comes to the switch, over its one inbound channel.
+#[derive(Debug, Drop)]
+pub enum Inbound {
+    /// An encoded packet that a node sends.
+    Packet { address: Address, packet: Bytes },
+    /// The pacing thread's tick. The switch answers it by a `Pace`.
+    Tick,
+}
+
+/// What the switch answers to a tick.
+#[derive(Clone, Copy, Debug, PartialEq, Eq)]
+pub enum Pace {
+    /// Another tick may come.
+    On,
+    /// The ticks are used up.
+    Over,
+}
+
+/// What a node's receiving thread is given.
+#[derive(Debug, Drop)]
+pub enum PacketWord {
+    /// An encoded packet that came over the network.
+    Packet(Bytes),
+    Stop,
+}
+
+/// What a node's timer thread is given.
+#[derive(Clone, Copy, Debug, PartialEq, Eq)]
+pub enum TimerWord {
+    /// The node's timer has run out.
+    Timer,
+    Stop,
+}
+
+/// What a node's client thread is given.
+#[derive(Clone, Copy, Debug, PartialEq, Eq)]
+pub enum ClientWord {
+    /// Submit a message of this service.
+    Submit(Service),
+    Stop,
+}
