@@ -1,0 +1,16 @@
+-- Calls and their receipts, as contracts see them (docs/PROTOCOL.md, "Books").
+use Rattle.std.specs.Prelude.{ℕ}
+use Rattle.totem_node.specs.declared.input.Input.{Input}
+use Rattle.totem_node.specs.Outcomes.{Outcome}
+use Rattle.totem_node.specs.Replay.{Answer}
+
+-- a call: an input, and what was answered
+pub record Called : Type 0 where
+  pub input : Input
+  pub reply : Outcome Answer
+
+-- the receipt of a call: its place among all calls, from 1, and what it was
+pub record Receipt : Type 0 where
+  pub at : ℕ
+  pub input : Input
+  pub reply : Outcome Answer

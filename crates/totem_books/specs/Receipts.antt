@@ -1,0 +1,61 @@
+-- Whether receipts are those of a list of calls (docs/PROTOCOL.md, "Books").
+use Rattle.std.specs.Prelude.{◌≡◌, ◌<◌, ◌≤◌, ◌+◌, ◌-◌, ◌==◌, ℕ, Bool, false, cond, List, [], ◌∷◌, length, Some, slice_get, slice_index_or, count_by, sum_by, All}
+use Rattle.totem_books.specs.Calls.{Called, Receipt}
+use Rattle.totem_books.specs.Seats.{SeatRecord}
+
+-- the call at the receipt's place has its input and its reply
+abbrev pub Fits : List Called → Receipt → Type 0
+Fits calls stub = (0 < stub.at) × (slice_get calls (stub.at - 1) ≡ Some (record { input = stub.input; reply = stub.reply }))
+
+-- the receipts fit the calls, and their places rise from this one
+abbrev pub FitRising : List Called → ℕ → List Receipt → Type 0
+FitRising calls low [] = Unit {0}
+FitRising calls low (stub ∷ stubs) = (low < stub.at) × Fits calls stub × FitRising calls stub.at stubs
+
+-- how many of these receipts are of a place
+abbrev pub count_at : ℕ → List Receipt → ℕ
+count_at place stubs = count_by (λ (stub : Receipt). stub.at == place) stubs
+
+-- how many receipts of all seats are of it
+abbrev pub count_in : ℕ → List SeatRecord → ℕ
+count_in place seats = sum_by (λ (seat : SeatRecord). count_at place seat.stubs) seats
+
+-- how many receipts all seats have
+abbrev pub receipts_in : List SeatRecord → ℕ
+receipts_in seats = sum_by (λ (seat : SeatRecord). length seat.stubs) seats
+
+-- the shares of all seats together
+abbrev pub shares_in : List SeatRecord → ℕ
+shares_in seats = sum_by (λ (seat : SeatRecord). seat.share) seats
+
+-- each seat's receipts fit the calls at rising places, and no two receipts are of one place
+pub record Agree (calls : List Called) (seats : List SeatRecord) : Type 0 where
+  pub each : All (λ seat. FitRising calls 0 seat.stubs) seats
+  pub apart : (k : ℕ) → k < length calls → count_in (k + 1) seats ≤ 1
+
+-- each place belongs to one receipt of one seat
+pub record Covers (calls : List Called) (seats : List SeatRecord) : Type 0 where
+  pub one : (k : ℕ) → k < length calls → count_in (k + 1) seats ≡ 1
+
+-- marks of places: how many stand at one, and in all
+abbrev pub mark_at : List Bool → ℕ → ℕ
+mark_at marks k = cond (slice_index_or marks k false) 1 0
+
+abbrev pub marked : List Bool → ℕ
+marked marks = count_by (λ b. b) marks
+
+-- the place is within reach of so many marks
+abbrev pub IsInReach : ℕ → Receipt → Type 0
+IsInReach n stub = (0 < stub.at) × (stub.at ≤ n)
+
+-- each place has one mark more for each receipt of it, and none has two
+pub record Marks (before after : List Bool) (count : ℕ → ℕ) (stubs : ℕ) : Type 0 where
+  pub same_length : length after ≡ length before
+  pub at : (k : ℕ) → k < length before → mark_at after k ≡ mark_at before k + count (k + 1)
+  pub all : marked after ≡ marked before + stubs
+
+-- a place that has a mark, or a receipt, too many
+pub record MarksTwice (before : List Bool) (count : ℕ → ℕ) : Type 0 where
+  pub place : ℕ
+  pub within : place < length before
+  pub more : 2 ≤ mark_at before place + count (place + 1)

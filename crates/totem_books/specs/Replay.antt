@@ -1,0 +1,57 @@
+-- What its calls make of a node: one step of the node for each (docs/PROTOCOL.md, "Books").
+use Rattle.std.specs.Prelude.{◌≡◌, ℕ, List, [], ◌∷◌, map, reverse, Ok, Err}
+use Rattle.totem_ids.specs.Names.{RingName}
+use Rattle.totem_evs.specs.declared.entry.Entry.{Entry}
+use Rattle.totem_node.specs.declared.input.Input.{Input}
+use Rattle.totem_node.specs.Nodes.{Node, Stepped}
+use Rattle.totem_node.specs.Outcomes.{Outcome}
+use Rattle.totem_node.specs.Table.{step}
+use Rattle.totem_node.specs.Replay.{Answer, Life, born, one_input}
+use Rattle.totem_books.specs.Calls.{Called}
+
+-- with what a node begins: who it is, and its first ring with the members
+pub record Start : Type 0 where
+  pub me : ℕ
+  pub ring : RingName
+  pub members : List ℕ
+
+-- the life that has only begun
+abbrev pub beginning : Start → Life
+beginning s = born s.me s.ring s.members
+
+-- the calls with the last one first: it adds one input to the life that those before it make
+abbrev pub lived_back : Start → List Called → Life
+lived_back start [] = beginning start
+lived_back start (call ∷ before) = one_input (lived_back start before) call.input
+
+-- the replay of the calls' inputs, in their order
+abbrev pub replay : Start → List Called → Life
+replay start calls = lived_back start (reverse calls)
+
+abbrev pub replies_of : List Called → List (Outcome Answer)
+replies_of calls = map (λ (call : Called). call.reply) calls
+
+-- what a step answers
+abbrev pub answer_to : Outcome Stepped → Outcome Answer
+answer_to (Ok s) = Ok (record { packets = s.packets; entries = s.entries; ring_steps = s.ring_steps })
+answer_to (Err fault) = Err fault
+
+-- the node behind it: a refused step leaves it
+abbrev pub node_behind : Node → Outcome Stepped → Node
+node_behind node (Ok s) = s.node
+node_behind node (Err fault) = node
+
+-- this node, this log and the stored replies are the replay of the stored inputs
+pub record IsReplay (start : Start) (calls : List Called) (node : Node) (log : List Entry) : Type 0 where
+  pub node_is : node ≡ (replay start calls).node
+  pub log_is : log ≡ (replay start calls).entries
+  pub replies_are : replies_of calls ≡ (replay start calls).replies
+
+-- this log and the stored replies are the replay of the stored inputs
+pub record IsRecorded (start : Start) (calls : List Called) (log : List Entry) : Type 0 where
+  pub log_is : log ≡ (replay start calls).entries
+  pub replies_are : replies_of calls ≡ (replay start calls).replies
+
+-- each call has the reply that the node gives to its input there
+abbrev pub IsPlayed : Start → List Called → Type 0
+IsPlayed start calls = replies_of calls ≡ (replay start calls).replies

@@ -1,0 +1,121 @@
+//! A node's book: the node, its calls and its log.
+ghost use Rattle.std.specs.Prelude.{◌≡◌, ◌+◌, Err, IfOk, IfErr, OnErr, length};
+ghost use Rattle.totem_evs.specs.Members.{IsMembers};
+ghost use Rattle.totem_books.specs.Replies.{answer_of};
+ghost use Rattle.totem_books.specs.Replay.{IsRecorded};
+ghost use Rattle.totem_books.specs.History.{begun, start_with, log_of, answer, called, receipt, followed_by, IsFull};
+
+use crate::book_fault::BookFault;
+use crate::call::{Call, Stub};
+use crate::giving::give_and_store;
+use crate::level::Level;
+use crate::reply::Reply;
+use crate::taken::Taken;
+use std::alloc::{AllocError, Global};
+use std::marker::Model;
+use totem_evs::{Entry, Members};
+use totem_ids::{ProcId, RingId};
+use totem_node::{Input, NodeCore};
+
+/// How many calls, or entries, a book stores before it is full.
+const MOST: usize = 1_000_000;
+
+/// A node with its calls and its log. Contracts see with what the node began, and the calls.
+#[derive(Debug, Drop)]
+pub struct Book {
+    me: ProcId,
+    ring: RingId,
+    members: Members,
+    node: Level,
+    entries: Vec<Entry>,
+    calls: Vec<Call>,
+}
+
+impl Model for Book {
+    ghost use Rattle.totem_books.specs.History.{History, start_with};
+    ghost use Rattle.totem_books.specs.Replay.{IsReplay};
+
+    ghost Value = { History };
+
+    ghost view = { λ b. record { start = start_with b.me b.ring b.members; calls = b.calls.items } };
+
+    ghost invariant = { λ b. IsReplay (start_with b.me b.ring b.members) b.calls.items b.node b.entries.items };
+}
+
+impl Book {
+    /// A book without calls, of a node that starts on this ring. The members are 1 to 32 processes, strictly rising, with `me`
+    /// among them.
+    pub fn new(
+        alloc: Global,
+        me: ProcId,
+        ring: RingId,
+        members: &[ProcId],
+    ) -> Result<Book, AllocError>
+        requires { IsMembers members.now }
+        ensures { IfOk result (λ b. b ≡ begun (start_with me ring members.now)) }
+    {
+        let (node, change) = NodeCore::new(alloc, me, ring, members)?;
+        let mut entries = Vec::new(alloc);
+        entries.push(change)?;
+        Ok(Book {
+            me,
+            ring,
+            members: Members::of(members.to_vec(alloc)?),
+            node: Level::new(node),
+            entries,
+            calls: Vec::new(alloc),
+        })
+    }
+
+    pub fn calls(&self) -> &[Call]
+        ensures { result.now ≡ self.now.calls }
+    {
+        &self.calls
+    }
+
+    /// The entries: the first change, and what the calls wrote.
+    pub fn log(&self) -> &[Entry]
+        ensures { result.now ≡ log_of self.now }
+    {
+        &self.entries
+    }
+
+    /// Gives the node one input and stores the call. At a fault nothing changes and nothing is stored.
+    pub fn apply(&mut self, alloc: Global, input: Input) -> Result<(Stub, Reply), BookFault>
+        ensures history { IfOk result (λ r. self.new ≡ followed_by self.old (called input (answer_of r.1))) }
+        ensures reply { IfOk result (λ r. answer_of r.1 ≡ answer self.old input) }
+        ensures stub { IfOk result (λ r. r.0 ≡ receipt (length self.old.calls + 1) input (answer_of r.1)) }
+        ensures unchanged { OnErr result (self.new ≡ self.old) }
+        ensures long { IfErr result (λ e. e ≡ BookFault.Long → IsFull self.old) }
+        ensures full { IsFull self.old → result ≡ Err BookFault.Long }
+    {
+        if self.calls.len() >= MOST || self.entries.len() >= MOST {
+            return Err(BookFault::Long);
+        }
+        let copy = self.node.copy(alloc)?;
+        let Taken {
+            node,
+            input,
+            stub,
+            reply,
+        } = give_and_store(alloc, &mut self.calls, &mut self.entries, copy, input)?;
+        self.node.follow(alloc, node, input);
+        Ok((stub, reply))
+    }
+
+    /// The calls and the log.
+    pub(crate) fn into_parts(self) -> (Vec<Call>, Vec<Entry>)
+        ensures calls { result.0.items ≡ self.calls }
+        ensures log { IsRecorded self.start result.0.items result.1.items }
+    {
+        let Book {
+            me: _,
+            ring: _,
+            members: _,
+            node: _,
+            entries,
+            calls,
+        } = self;
+        (calls, entries)
+    }
+}

@@ -1,0 +1,57 @@
+//! The end of a shared book, once its seats came back.
+ghost use Rattle.std.specs.Prelude.{◌≡◌, ◌<◌, List, IfOk, IfErr, vec_len, length};
+ghost use Rattle.totem_books.specs.Calls.{Called};
+ghost use Rattle.totem_books.specs.Replay.{IsRecorded, IsPlayed};
+ghost use Rattle.totem_books.specs.History.{start_with};
+ghost use Rattle.totem_books.specs.Receipts.{Agree, Covers, receipts_in, shares_in};
+
+use crate::close_fault::CloseFault;
+use crate::closed::ClosedBook;
+use crate::name::BookName;
+use crate::seat::Seat;
+use crate::settle::{Unsettled, settle};
+use crate::shared::SharedBook;
+use std::alloc::Global;
+use std::sync::Mutex;
+
+/// Why a book wasn't closed, with the book and the seats, which may be tried again.
+#[derive(Drop)]
+pub struct CloseRefused<L: BookName> {
+    pub fault: CloseFault,
+    pub book: SharedBook<L>,
+    pub seats: Vec<Seat<L>>,
+}
+
+impl<L: BookName> SharedBook<L> {
+    /// Ends the book where all its seats came back, and each has the receipts of its calls. It waits for nobody.
+    pub fn close(self, alloc: Global, seats: Vec<Seat<L>>) -> Result<ClosedBook, CloseRefused<L>>
+        ensures shares { IfOk result (λ b. length b.calls ≡ shares_in seats.items) }
+        ensures receipts { IfOk result (λ b. length b.calls ≡ receipts_in seats.items) }
+        ensures agree { IfOk result (λ b. Agree b.calls seats.items) }
+        ensures covers { IfOk result (λ b. Covers b.calls seats.items) }
+        ensures log { IfOk result (λ b. IsRecorded (start_with L.me L.ring L.members) b.calls b.log) }
+        ensures back { IfErr result (λ e. e.seats.items ≡ seats.items) }
+        ensures missing { IfErr result (λ e. e.fault ≡ CloseFault.SeatMissing → vec_len seats < L.parts) }
+        // Some calls, each answered as the node answers it, don't agree with the receipts.
+        ensures mismatch { IfErr result (λ e. e.fault ≡ CloseFault.ReceiptMismatch
+            → (calls : List Called) × IsPlayed (start_with L.me L.ring L.members) calls × (Agree calls seats.items → ⊥)) }
+    {
+        if (seats.len() as u64) < self.count.seats {
+            return Err(CloseRefused {
+                fault: CloseFault::SeatMissing,
+                book: self,
+                seats,
+            });
+        }
+        let SharedBook { lock, count } = self;
+        match settle(alloc, lock.into_inner(), seats) {
+            Ok(closed) => Ok(closed),
+            Err(back) => {
+                let Unsettled { fault, kept, seats } = back;
+                let lock = Mutex::new(kept);
+                let book = SharedBook { lock, count };
+                Err(CloseRefused { fault, book, seats })
+            }
+        }
+    }
+}

@@ -1,0 +1,46 @@
+//! Whether two values are the same, as contracts can use it.
+ghost use Rattle.std.specs.Prelude.{◌≡◌, ◌↔◌, IsTrue};
+
+mod events;
+mod joining;
+mod messages;
+mod names;
+mod packets;
+mod steps;
+
+/// What is compared by value: `==`, as contracts can use it.
+pub trait Same {
+    fn same(&self, other: &Self) -> bool
+        ensures { IsTrue result ↔ (self.now ≡ other.now) };
+}
+
+/// Whether two lists have the same items in the same order.
+pub fn same_items<T: Same>(these: &[T], those: &[T]) -> bool
+    ensures { IsTrue result ↔ (these.now ≡ those.now) }
+{
+    if these.len() != those.len() {
+        return false;
+    }
+    for i in 0..these.len() {
+        if !these[i].same(&those[i]) {
+            return false;
+        }
+    }
+    true
+}
+
+impl<T: Same> Same for Option<T> {
+    fn same(&self, other: &Option<T>) -> bool {
+        match (self, other) {
+            (Some(this), Some(that)) => this.same(that),
+            (None, None) => true,
+            _ => false,
+        }
+    }
+}
+
+impl<A: Same, B: Same> Same for (A, B) {
+    fn same(&self, other: &(A, B)) -> bool {
+        self.0.same(&other.0) && self.1.same(&other.1)
+    }
+}

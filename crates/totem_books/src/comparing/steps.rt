@@ -1,0 +1,46 @@
+//! What goes into a node's step, and what a node does on a ring.
+use crate::comparing::Same;
+use totem_node::{Input, NodeFault, RingStep};
+use totem_ring::Act;
+
+impl Same for Act {
+    fn same(&self, other: &Act) -> bool {
+        match (self, other) {
+            (Act::Submit(this), Act::Submit(that)) => this.same(that),
+            (Act::Message(this), Act::Message(that)) => this.same(that),
+            (Act::Token(this), Act::Token(that)) => this.same(that),
+            (Act::Resend, Act::Resend) => true,
+            _ => false,
+        }
+    }
+}
+
+impl Same for RingStep {
+    fn same(&self, other: &RingStep) -> bool {
+        self.ring == other.ring && self.act.same(&other.act)
+    }
+}
+
+impl Same for NodeFault {
+    fn same(&self, other: &NodeFault) -> bool {
+        *self == *other
+    }
+}
+
+impl Same for Input {
+    fn same(&self, other: &Input) -> bool {
+        match (self, other) {
+            (
+                Input::Submit { service, payload },
+                Input::Submit {
+                    service: kind,
+                    payload: bytes,
+                },
+            ) => *service == *kind && payload.same(bytes),
+            (Input::Packet(this), Input::Packet(that)) => this.same(that),
+            (Input::Timer, Input::Timer) => true,
+            (Input::Crash, Input::Crash) => true,
+            _ => false,
+        }
+    }
+}

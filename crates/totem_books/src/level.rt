@@ -1,0 +1,67 @@
+//! A node with a copy that takes each input first.
+ghost use Rattle.std.specs.Prelude.{◌≡◌, IfOk, IfSome};
+ghost use Rattle.totem_node.specs.Table.{step};
+ghost use Rattle.totem_books.specs.Replay.{node_behind};
+
+use crate::stepping::stepped;
+use std::alloc::{AllocError, Global};
+use std::marker::Model;
+use std::mem;
+use totem_node::{Input, NodeCore};
+
+/// A node with a copy that takes each input first. The copy then takes the node's place, and the node comes level with it by the
+/// same input: two steps for an input, and no copying but the first. Contracts see the node.
+#[derive(Debug, Drop)]
+pub struct Level {
+    node: NodeCore,
+    copy: Option<NodeCore>,
+}
+
+impl Model for Level {
+    ghost use Rattle.std.specs.Prelude.{◌≡◌, IfSome};
+    ghost use Rattle.totem_node.specs.Nodes.{Node};
+
+    ghost Value = { Node };
+
+    ghost view = { λ l. l.node };
+
+    ghost invariant = { λ l. IfSome l.copy (λ c. c ≡ l.node) };
+}
+
+impl Level {
+    pub fn new(node: NodeCore) -> Level
+        ensures { result ≡ node }
+    {
+        Level { node, copy: None }
+    }
+
+    /// The copy, or a new one where there is none.
+    pub fn copy(&mut self, alloc: Global) -> Result<NodeCore, AllocError>
+        ensures copy { IfOk result (λ copy. copy ≡ self.old) }
+        ensures kept { self.new ≡ self.old }
+    {
+        match self.copy.take() {
+            Some(copy) => Ok(copy),
+            None => self.node.try_clone(alloc),
+        }
+    }
+
+    /// The copy has taken the input, and takes the node's place. The node comes level with it, if it has the memory.
+    #[tactic(auto, using(crate::proofs::Steps::comes_level))]
+    pub fn follow(&mut self, alloc: Global, copy: NodeCore, input: Input)
+        requires { copy ≡ node_behind self.old (step self.old input) }
+        ensures { self.new ≡ copy }
+    {
+        let node = mem::replace(&mut self.node, copy);
+        self.copy = caught_up(alloc, node, input);
+    }
+}
+
+fn caught_up(alloc: Global, node: NodeCore, input: Input) -> Option<NodeCore>
+    ensures { IfSome result (λ n. n ≡ node_behind node (step node input)) }
+{
+    match stepped(alloc, node, input) {
+        Ok((node, _reply)) => Some(node),
+        Err(_) => None,
+    }
+}

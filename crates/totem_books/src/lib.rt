@@ -1,0 +1,40 @@
+//! Books: what a node was given and what it answered, call by call, and the receipts of those who called.
+#![tactic(auto)]
+
+mod book;
+mod book_fault;
+mod call;
+mod close;
+mod close_fault;
+mod closed;
+mod comparing;
+mod giving;
+mod kept;
+mod level;
+mod marks;
+mod name;
+#[cfg(test)]
+mod receipt_tests;
+mod receipts;
+mod reply;
+mod seat;
+mod settle;
+mod shared;
+#[cfg(test)]
+mod shared_tests;
+mod stepping;
+mod taken;
+#[cfg(test)]
+mod tests;
+
+pub use book::Book;
+pub use book_fault::BookFault;
+pub use call::{Call, Stub};
+pub use close::CloseRefused;
+pub use close_fault::CloseFault;
+pub use closed::ClosedBook;
+pub use comparing::Same;
+pub use name::BookName;
+pub use reply::Reply;
+pub use seat::Seat;
+pub use shared::SharedBook;

@@ -1,0 +1,85 @@
+//! The seats' receipts against what lay under the lock.
+ghost use Rattle.std.specs.Prelude.{◌≡◌, ◌<◌, ◌≤◌, IfOk, IfErr, vec_len, length};
+ghost use Rattle.totem_books.specs.Replay.{IsRecorded};
+ghost use Rattle.totem_books.specs.History.{start_with};
+ghost use Rattle.totem_books.specs.Receipts.{Agree, Covers, receipts_in, shares_in};
+
+use crate::close_fault::CloseFault;
+use crate::closed::ClosedBook;
+use crate::kept::Kept;
+use crate::name::BookName;
+use crate::receipts::agree;
+use crate::seat::Seat;
+use std::alloc::Global;
+use std::sync::ledger::Share;
+
+/// What lay under the lock and the seats, where they don't settle.
+#[derive(Drop)]
+pub struct Unsettled<L: BookName> {
+    pub fault: CloseFault,
+    pub kept: Kept<L>,
+    pub seats: Vec<Seat<L>>,
+}
+
+/// All seats' shares in one. They add up to the receipts, and there are no more parts than the ledger has.
+pub fn merged<L: BookName>(seats: Vec<Seat<L>>) -> Share<L>
+    requires some { 0 < vec_len seats }
+    requires whole { 0 < L.parts }
+    ensures parts { result.parts ≡ vec_len seats }
+    ensures apart { result.parts ≤ L.parts }
+    ensures shares { result.amount ≡ shares_in seats.items }
+    ensures receipts { result.amount ≡ receipts_in seats.items }
+{
+    let mut seats = seats;
+    let Some(first) = seats.pop() else {
+        unreachable!()
+    };
+    let Seat { stubs: _, share } = first;
+    let mut all = share;
+    while let Some(seat) = seats.pop() {
+        let Seat { stubs: _, share } = seat;
+        all.merge(share);
+    }
+    all
+}
+
+/// Compares the seats' receipts with what lay under the lock.
+pub fn settle<L: BookName>(
+    alloc: Global,
+    kept: Kept<L>,
+    seats: Vec<Seat<L>>,
+) -> Result<ClosedBook, Unsettled<L>>
+    requires { (L.parts ≤ vec_len seats) × (0 < L.parts) }
+    ensures calls { IfOk result (λ b. b.calls ≡ kept.book.calls) }
+    ensures shares { IfOk result (λ b. length b.calls ≡ shares_in seats.items) }
+    ensures receipts { IfOk result (λ b. length b.calls ≡ receipts_in seats.items) }
+    ensures agree { IfOk result (λ b. Agree b.calls seats.items) }
+    ensures covers { IfOk result (λ b. Covers b.calls seats.items) }
+    ensures log { IfOk result (λ b. IsRecorded (start_with L.me L.ring L.members) b.calls b.log) }
+    ensures back { IfErr result (λ e. (e.kept.book ≡ kept.book) × (e.seats.items ≡ seats.items)) }
+    ensures mismatch { IfErr result (λ e. e.fault ≡ CloseFault.ReceiptMismatch → Agree kept.book.calls seats.items → ⊥) }
+    ensures present { IfErr result (λ e. e.fault ≡ CloseFault.SeatMissing → ⊥) }
+{
+    match agree(alloc, kept.book.calls(), seats.as_slice()) {
+        Ok(true) => {}
+        Ok(false) => {
+            return Err(Unsettled {
+                fault: CloseFault::ReceiptMismatch,
+                kept,
+                seats,
+            });
+        }
+        Err(_) => {
+            return Err(Unsettled {
+                fault: CloseFault::Memory,
+                kept,
+                seats,
+            });
+        }
+    }
+    let mut all = merged(seats);
+    let Kept { book, mut total } = kept;
+    total.audit(&mut all);
+    let (calls, log) = book.into_parts();
+    Ok(ClosedBook { calls, log })
+}

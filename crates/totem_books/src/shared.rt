@@ -1,0 +1,91 @@
+//! A book that threads share.
+ghost use Rattle.std.specs.Prelude.{◌≡◌, ◌<◌, ◌≤◌, ◌+◌, ℕ, [], ◌∷◌, ◌++◌, IfOk, OnOk, OnErr, vec_len, All};
+ghost use Rattle.totem_evs.specs.Members.{IsMembers};
+ghost use Rattle.totem_books.specs.Replies.{answer_of};
+ghost use Rattle.totem_books.specs.History.{receipt};
+
+use crate::book::Book;
+use crate::book_fault::BookFault;
+use crate::kept::Kept;
+use crate::name::BookName;
+use crate::reply::Reply;
+use crate::seat::Seat;
+use std::alloc::{AllocError, Global};
+use std::marker::PhantomData;
+use std::sync::ledger::{Blank, Ledger};
+use std::sync::{Mutex, Wait};
+use totem_ids::{ProcId, RingId};
+use totem_node::Input;
+
+/// How many seats a book has: one for each part of its ledger.
+#[derive(Drop)]
+pub(crate) struct Count<L: Ledger> {
+    pub seats: u64,
+    pub of: PhantomData<L>,
+    pub ghost all: { seats ≡ L.parts },
+    pub ghost some: { 0 < seats },
+}
+
+/// A book that threads share, each by a seat of its own. While nobody has the lock, the log and the stored replies are the
+/// replay of the stored inputs, and the ledger counts the calls.
+#[derive(Drop)]
+pub struct SharedBook<L: BookName> {
+    pub(crate) lock: Mutex<Kept<L>>,
+    pub(crate) count: Count<L>,
+}
+
+impl<L: BookName> SharedBook<L> {
+    /// A book without calls, of a node that starts on this ring, and its seats: 1 to 64, one for each part of the blank. A
+    /// refusal ends the ledger.
+    pub fn new(
+        alloc: Global,
+        blank: Blank,
+        me: ProcId,
+        ring: RingId,
+        members: &[ProcId],
+        seats: u64,
+    ) -> Result<(SharedBook<L>, Vec<Seat<L>>), AllocError>
+        requires ledger { (blank.name ≡ L.name) × (blank.parts ≡ L.parts) }
+        requires start { (me ≡ L.me) × (ring ≡ L.ring) × (members.now ≡ L.members) }
+        requires members { IsMembers members.now }
+        requires seats { (seats ≡ L.parts) × (0 < seats) × (seats ≤ 64) }
+        ensures count { IfOk result (λ r. vec_len r.1 ≡ seats) }
+        ensures empty { IfOk result (λ r. All (λ seat. (seat.stubs ≡ []) × (seat.share ≡ 0)) r.1.items) }
+    {
+        let (total, mut all) = blank.open::<L>();
+        let mut empty = Vec::new(alloc);
+        for _ in 0..seats {
+            let share = all.split_off(1, 0);
+            empty.push(Seat::new(alloc, share))?;
+        }
+        let kept = Kept {
+            book: Book::new(alloc, me, ring, members)?,
+            total,
+        };
+        let count = Count {
+            seats,
+            of: PhantomData,
+        };
+        let lock = Mutex::new(kept);
+        Ok((SharedBook { lock, count }, empty))
+    }
+
+    /// Gives the node one input, and keeps the receipt in the seat. It waits for the lock. At a fault the seat is unchanged.
+    pub fn call(
+        &self,
+        rt: &impl Wait,
+        alloc: Global,
+        seat: &mut Seat<L>,
+        input: Input,
+    ) -> Result<Reply, BookFault>
+        ensures receipt { IfOk result (λ r. (at : ℕ) × (seat.new.stubs ≡ seat.old.stubs ++ receipt at input (answer_of r) ∷ [])) }
+        ensures share { OnOk result (seat.new.share ≡ seat.old.share + 1) }
+        ensures unchanged { OnErr result (seat.new ≡ seat.old) }
+    {
+        let Seat { stubs, share } = seat;
+        stubs.reserve(1)?;
+        let (stub, reply) = self.lock.lock(rt).apply(alloc, share, input)?;
+        stubs.push_reserved(stub);
+        Ok(reply)
+    }
+}
