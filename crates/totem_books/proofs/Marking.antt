@@ -1,6 +1,5 @@
 -- Marks of places, and what they show of the receipts.
-use Rattle.std.proofs.Common.{◌≡◌, ◌<◌, ◌≤◌, ◌+◌, ◌-◌, ◌==◌, ◌↔◌, ℕ, zero, suc, Bool, true, false, cond, List, [], ◌∷◌, length, take, get_or, replicate, refl, sym, ap, ◌∙◌, subst, arith, eq-eqb, count_by, sum_by, All, Some, IsTrue, MatchBool, true≢false}
-use Rattle.std.specs.Prelude.{slice_get}
+use Rattle.std.proofs.Common.{◌≡◌, ◌<◌, ◌≤◌, ◌+◌, ◌-◌, ◌==◌, ◌↔◌, ℕ, zero, suc, Bool, true, false, cond, List, [], ◌∷◌, length, take, get_or, replicate, refl, sym, ap, ◌∙◌, subst, arith, eq-eqb, All, IsTrue, MatchBool, true≢false}
 use Rattle.std.proofs.lemmas.List.Sums.{count_by_more_yes, sum_by_more, sum_by-take-le, sum_by-cons, count_by-le-length}
 use Rattle.std.proofs.lemmas.List.{get_or-replicate, length-replicate, take_all}
 use Rattle.std.proofs.lemmas.List.Elements.{All-more}
@@ -8,7 +7,7 @@ use Rattle.std.proofs.lemmas.List.Folds.{sum_by-replicate}
 use Rattle.std.proofs.lemmas.Option.{slice_get_within}
 use Rattle.totem_books.specs.Calls.{Called, Receipt}
 use Rattle.totem_books.specs.Seats.{SeatRecord}
-use Rattle.totem_books.specs.Receipts.{Fits, FitRising, count_at, count_in, receipts_in, Agree, Covers, mark_at, marked, IsInReach, Marks, MarksTwice}
+use Rattle.totem_books.specs.Receipts.{FitRising, count_at, count_in, receipts_in, Agree, Covers, mark_at, marked, IsInReach, Marks, MarksTwice}
 
 -- the mark of this receipt's place was set
 pub marked_twice : (old now : List Bool) (stubs : List Receipt) (i : ℕ) (s : Receipt) → Marks old now (λ p. count_at p (take i stubs)) i → i < length stubs → s ≡ get_or stubs i s

@@ -1,5 +1,5 @@
 -- One call more is one input more in the replay.
-use Rattle.std.proofs.Common.{◌≡◌, ℕ, List, [], ◌∷◌, ◌++◌, Ok, Err, refl, sym, ap, subst, ◌∙◌, reverse, append-nil, Option, None, Some, IfSome}
+use Rattle.std.proofs.Common.{◌≡◌, ℕ, List, [], ◌∷◌, ◌++◌, Ok, Err, refl, sym, ap, subst, ◌∙◌, append-nil, Option, None, Some, IfSome}
 use Rattle.std.proofs.lemmas.List.{reverse-append, map-append}
 use Rattle.totem_evs.specs.declared.entry.Entry.{Entry}
 use Rattle.totem_node.specs.declared.input.Input.{Input}
@@ -10,7 +10,7 @@ use Rattle.totem_node.specs.Replay.{Answer, Life, lived, one_input}
 use Rattle.totem_books.specs.declared.taken.Taken.{Taken}
 use Rattle.totem_books.specs.Replies.{answer_of, entries_of}
 use Rattle.totem_books.specs.Calls.{Called, Receipt}
-use Rattle.totem_books.specs.Replay.{Start, replay, lived_back, replies_of, answer_to, node_behind, IsReplay}
+use Rattle.totem_books.specs.Replay.{Start, replay, lived_back, answer_to, node_behind, IsReplay}
 use Rattle.totem_books.specs.History.{called}
 use Rattle.totem_books.specs.Taking.{IsTaken, IsAdded}
 

@@ -2,10 +2,8 @@
 use Rattle.std.specs.Prelude.{◌≡◌, ℕ, List, [], ◌∷◌, map, reverse, Ok, Err}
 use Rattle.totem_ids.specs.Names.{RingName}
 use Rattle.totem_evs.specs.declared.entry.Entry.{Entry}
-use Rattle.totem_node.specs.declared.input.Input.{Input}
 use Rattle.totem_node.specs.Nodes.{Node, Stepped}
 use Rattle.totem_node.specs.Outcomes.{Outcome}
-use Rattle.totem_node.specs.Table.{step}
 use Rattle.totem_node.specs.Replay.{Answer, Life, born, one_input}
 use Rattle.totem_books.specs.Calls.{Called}
 

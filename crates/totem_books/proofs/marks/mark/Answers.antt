@@ -1,4 +1,4 @@
-use Rattle.std.proofs.Common.{rules, arith}
+use Rattle.std.proofs.Common.{rules}
 use Rattle.totem_books.proofs.Marking.{marked_twice}
 use Rattle.totem_books.proofs.marks.mark.Goals as goal
 

@@ -1,4 +1,4 @@
-use Rattle.std.proofs.Common.{◌∙◌, ap, length, replicate, false}
+use Rattle.std.proofs.Common.{◌∙◌, ap, length, false}
 use Rattle.std.proofs.lemmas.List.{length-replicate}
 use Rattle.totem_books.proofs.Marking.{all_in_reach, agrees, covers}
 use Rattle.totem_books.proofs.receipts.agree.Goals as goal
