@@ -57,8 +57,8 @@ fn one_after_the_other(mut first: Vec<JobResult>, mut second: Vec<JobResult>) ->
     first
 }
 
-/// The jobs from one index up to another by as many threads, each with a part of its own. Where memory is wanting, some are left
-/// out.
+/// The jobs from one index up to another by as many threads, each with a part of its own, and no more threads than jobs. Where
+/// memory is wanting, some are left out.
 #[cycle(halves)]
 fn shared<T: Threads + Sync, G: Gate>(
     rt: &T,
@@ -74,7 +74,7 @@ fn shared<T: Threads + Sync, G: Gate>(
     requires within { to ≤ vec_len jobs.now.rings }
     ensures { AreRight jobs.now.run.now.logs jobs.now.rings.items result.items }
 {
-    if workers <= 1 {
+    if workers <= 1 || to - from <= 1 {
         return part(alloc, jobs, from, to, gate);
     }
     let half = workers / 2;
