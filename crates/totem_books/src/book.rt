@@ -2,11 +2,11 @@
 ghost use Rattle.std.specs.Prelude.{◌≡◌, ◌+◌, Err, IfOk, IfErr, OnErr, length};
 ghost use Rattle.totem_evs.specs.Members.{IsMembers};
 ghost use Rattle.totem_books.specs.Replies.{answer_of};
-ghost use Rattle.totem_books.specs.Replay.{IsRecorded};
 ghost use Rattle.totem_books.specs.History.{begun, start_with, log_of, answer, called, receipt, followed_by, IsFull};
 
 use crate::book_fault::BookFault;
 use crate::call::{Call, Stub};
+use crate::closed::ClosedBook;
 use crate::giving::give_and_store;
 use crate::level::Level;
 use crate::reply::Reply;
@@ -103,19 +103,25 @@ impl Book {
         Ok((stub, reply))
     }
 
-    /// The calls and the log.
-    pub(crate) fn into_parts(self) -> (Vec<Call>, Vec<Entry>)
-        ensures calls { result.0.items ≡ self.calls }
-        ensures log { IsRecorded self.start result.0.items result.1.items }
+    /// The same book, which takes no more calls.
+    pub(crate) fn into_closed(self) -> ClosedBook
+        ensures start { result.start ≡ self.start }
+        ensures calls { result.calls ≡ self.calls }
     {
         let Book {
-            me: _,
-            ring: _,
-            members: _,
+            me,
+            ring,
+            members,
             node: _,
             entries,
             calls,
         } = self;
-        (calls, entries)
+        ClosedBook {
+            me,
+            ring,
+            members,
+            calls,
+            log: entries,
+        }
     }
 }

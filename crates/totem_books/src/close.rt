@@ -29,6 +29,7 @@ impl<L: BookName> SharedBook<L> {
         ensures receipts { IfOk result (λ b. length b.calls ≡ receipts_in seats.items) }
         ensures agree { IfOk result (λ b. Agree b.calls seats.items) }
         ensures covers { IfOk result (λ b. Covers b.calls seats.items) }
+        ensures start { IfOk result (λ b. b.start ≡ start_with L.me L.ring L.members) }
         ensures log { IfOk result (λ b. IsRecorded (start_with L.me L.ring L.members) b.calls b.log) }
         ensures back { IfErr result (λ e. e.seats.items ≡ seats.items) }
         ensures missing { IfErr result (λ e. e.fault ≡ CloseFault.SeatMissing → vec_len seats < L.parts) }

@@ -1,6 +1,5 @@
 //! The seats' receipts against what lay under the lock.
 ghost use Rattle.std.specs.Prelude.{◌≡◌, ◌<◌, ◌≤◌, IfOk, IfErr, vec_len, length};
-ghost use Rattle.totem_books.specs.Replay.{IsRecorded};
 ghost use Rattle.totem_books.specs.History.{start_with};
 ghost use Rattle.totem_books.specs.Receipts.{Agree, Covers, receipts_in, shares_in};
 
@@ -55,7 +54,7 @@ pub fn settle<L: BookName>(
     ensures receipts { IfOk result (λ b. length b.calls ≡ receipts_in seats.items) }
     ensures agree { IfOk result (λ b. Agree b.calls seats.items) }
     ensures covers { IfOk result (λ b. Covers b.calls seats.items) }
-    ensures log { IfOk result (λ b. IsRecorded (start_with L.me L.ring L.members) b.calls b.log) }
+    ensures start { IfOk result (λ b. b.start ≡ start_with L.me L.ring L.members) }
     ensures back { IfErr result (λ e. (e.kept.book ≡ kept.book) × (e.seats.items ≡ seats.items)) }
     ensures mismatch { IfErr result (λ e. e.fault ≡ CloseFault.ReceiptMismatch → Agree kept.book.calls seats.items → ⊥) }
     ensures present { IfErr result (λ e. e.fault ≡ CloseFault.SeatMissing → ⊥) }
@@ -80,6 +79,5 @@ pub fn settle<L: BookName>(
     let mut all = merged(seats);
     let Kept { book, mut total } = kept;
     total.audit(&mut all);
-    let (calls, log) = book.into_parts();
-    Ok(ClosedBook { calls, log })
+    Ok(book.into_closed())
 }

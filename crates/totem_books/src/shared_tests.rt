@@ -1,8 +1,8 @@
 //! Books that threads share.
-ghost use Rattle.std.specs.Prelude.{◌≡◌, [], ◌∷◌};
+ghost use Rattle.std.specs.Prelude.{◌≡◌};
 
 use crate::tests::{book, ring, start, submit, told, told_by, two};
-use crate::{BookFault, BookName, CloseFault, ClosedBook, Seat, SharedBook, Stub};
+use crate::{BookName, CloseFault, ClosedBook, Seat, SharedBook, Stub};
 use std::alloc::{AllocError, Global};
 use std::marker::Brand;
 use std::process::Abort;

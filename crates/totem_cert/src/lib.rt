@@ -24,6 +24,8 @@ mod reading;
 mod ready;
 mod step;
 #[cfg(test)]
+mod test_values;
+#[cfg(test)]
 mod tests;
 mod text_laws;
 #[cfg(test)]

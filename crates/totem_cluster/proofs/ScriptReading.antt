@@ -95,4 +95,5 @@ no_run a c was read faults.Memory whole made = refl
 no_run a c was read (faults.Run fault) whole made = absurd made
 no_run a c was read (faults.Cert fault) whole made = absurd made
 no_run a c was read (faults.Refused fault) whole made = absurd made
+no_run a c was read (faults.Book trouble) whole made = absurd made
 no_run a c was read faults.Write whole made = absurd made

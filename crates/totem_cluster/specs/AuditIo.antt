@@ -63,5 +63,6 @@ Audits old new was is (Err (faults.Run fault)) = (is ≡ was) × (fault ≢ run_
 Audits old new was is (Err (faults.Cert fault)) = ⊥
 Audits old new was is (Err (faults.Refused fault)) = ⊥
 Audits old new was is (Err (faults.Script fault)) = ⊥
+Audits old new was is (Err (faults.Book trouble)) = ⊥
 Audits old new was is (Err faults.Memory) = (is ≡ was) × (new.failures ≡ old.failures)
 Audits old new was is (Err faults.Write) = (is.failures ≡ (was.failures + 1) % 2 ^ 64) × ((logs : List Log) × IsWhole old new logs)

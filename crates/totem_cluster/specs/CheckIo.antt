@@ -104,5 +104,6 @@ ChecksText old new was is (Err (faults.Run fault)) = (is ≡ was) × (fault ≢ 
 ChecksText old new was is (Err (faults.Cert fault)) = (is ≡ was) × (fault ≢ cert_faults.Memory) × LacksCertificate old new fault
 ChecksText old new was is (Err (faults.Refused fault)) = (is ≡ was) × IsRefusedFor old new fault
 ChecksText old new was is (Err (faults.Script fault)) = ⊥
+ChecksText old new was is (Err (faults.Book trouble)) = ⊥
 ChecksText old new was is (Err faults.Memory) = (is ≡ was) × (new.failures ≡ old.failures)
 ChecksText old new was is (Err faults.Write) = (is.failures ≡ (was.failures + 1) % 2 ^ 64) × ((logs : List Log) × (lines : List Numbering) × IsWholePair old new logs lines)

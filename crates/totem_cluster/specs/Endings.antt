@@ -17,6 +17,7 @@ use Rattle.totem_script.specs.declared.script_fault.ScriptFault.{ScriptFault}
 use Rattle.totem_script.specs.declared.script_fault.ScriptFaultKind.{ScriptFaultKind}
 use Rattle.totem_script.specs.declared.script_fault.ScriptFaultKind.TheVariants as script_faults
 use Rattle.totem_script.specs.ScriptFaults.{fault_number as script_fault_number, fault_name as script_fault_name}
+use Rattle.totem_threads.specs.Faults.{trouble_number, trouble_name}
 use Rattle.totem_cluster.specs.declared.outcome.Outcome.{Outcome}
 use Rattle.totem_cluster.specs.declared.outcome.Outcome.TheVariants as outcomes
 use Rattle.totem_cluster.specs.declared.io_fault.IoFault.{IoFault}
@@ -24,6 +25,7 @@ use Rattle.totem_cluster.specs.declared.io_fault.IoFault.TheVariants as faults
 use Rattle.totem_cluster.specs.AuditIo.{Audits}
 use Rattle.totem_cluster.specs.CheckIo.{ChecksText}
 use Rattle.totem_cluster.specs.SimIo.{Simulates}
+use Rattle.totem_cluster.specs.RunIo.{Records}
 
 -- what a sink's members say of it, with nothing gathered for it
 abbrev pub bare : {S : Type 0} → (S → Option (List ℕ)) → (S → ℕ) → S → Held
@@ -71,6 +73,7 @@ fault_line (faults.Run fault) = run_line fault
 fault_line (faults.Cert fault) = cert_line fault
 fault_line (faults.Refused fault) = line (refusal_text (codes "totem: certificate refused: ") (check_fault_number fault) (check_fault_name fault))
 fault_line (faults.Script fault) = script_line fault
+fault_line (faults.Book trouble) = line (refusal_text (codes "totem: book refused: ") (trouble_number trouble) (trouble_name trouble))
 fault_line faults.Memory = line (codes "totem: out of memory")
 fault_line faults.Write = line (codes "totem: write failed")
 
@@ -92,10 +95,20 @@ fault_status (faults.Run fault) = run_status fault
 fault_status (faults.Cert fault) = cert_status fault
 fault_status (faults.Refused fault) = 2
 fault_status (faults.Script fault) = script_status fault.kind
+fault_status (faults.Book trouble) = 2
 fault_status faults.Memory = 3
 fault_status faults.Write = 4
 
 -- ---- the program
+
+-- what comes of nodes that are to run in threads, and the status
+pub data Plays (was is quiet said : Held) : ℕ → Type 0 where
+  -- they ran, and their run was written
+  recorded : (nodes : ℕ) (outcome : Outcome) → Records nodes was is (Ok outcome) → said ≡ quiet → Plays was is quiet said (outcome_status outcome)
+  -- it was not, and the fault is told
+  unrecorded : (nodes : ℕ) (fault : IoFault) → Records nodes was is (Err fault) → Tells quiet said (fault_line fault) → Plays was is quiet said (fault_status fault)
+  -- the numbers don't fit together, which is told
+  unfit : (text : List ℕ) → is ≡ was → Tells quiet said text → Plays was is quiet said 64
 
 -- help or the version is asked for
 abbrev pub IsAsked : ErrorKind → Type 0
@@ -110,7 +123,7 @@ pub data Shows (was is quiet said : Held) (text : List ℕ) : ℕ → Type 0 whe
   -- the output failed
   unshown : is.failures ≡ (was.failures + 1) % 2 ^ 64 → Tells quiet said (fault_line faults.Write) → Shows was is quiet said text 4
 
--- what is told of words that ask for no audit, no check and no simulation, and the status
+-- what is told of words that ask for no audit, check, simulation or run, and the status
 pub data Explains (kind : ErrorKind) (was is quiet said : Held) : ℕ → Type 0 where
   -- help or the version was asked for
   helped : (text : List ℕ) (status : ℕ) → IsAsked kind → Shows was is quiet said text status → Explains kind was is quiet said status
@@ -133,5 +146,7 @@ pub data Ends (old new : Seen) (was is quiet said : Held) : ℕ → Type 0 where
   simulated : (outcome : Outcome) → Simulates old new was is (Ok outcome) → said ≡ quiet → Ends old new was is quiet said (outcome_status outcome)
   -- it was not, and the fault is told
   unsimulated : (fault : IoFault) → Simulates old new was is (Err fault) → Tells quiet said (fault_line fault) → Ends old new was is quiet said (fault_status fault)
+  -- nothing was read, and nodes were to run in threads
+  played : (status : ℕ) → new ≡ old → Plays was is quiet said status → Ends old new was is quiet said status
   -- nothing was read, and the words are answered; what the text is, and for which words, is not said here
   explained : (kind : ErrorKind) (status : ℕ) → new ≡ old → Explains kind was is quiet said status → Ends old new was is quiet said status

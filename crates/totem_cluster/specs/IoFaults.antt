@@ -5,6 +5,8 @@ use Rattle.totem_cert.specs.declared.cert_fault.CertFault.{CertFault}
 use Rattle.totem_cert.specs.declared.cert_fault.CertFault.TheVariants as cert_faults
 use Rattle.totem_evs.specs.declared.writing.WriteFault.{WriteFault}
 use Rattle.totem_evs.specs.declared.writing.WriteFault.TheVariants as write_faults
+use Rattle.totem_threads.specs.declared.fault.ThreadsFault.{ThreadsFault}
+use Rattle.totem_threads.specs.declared.fault.ThreadsFault.TheVariants as threads_faults
 use Rattle.totem_cluster.specs.declared.io_fault.IoFault.{IoFault}
 use Rattle.totem_cluster.specs.declared.io_fault.IoFault.TheVariants as faults
 
@@ -22,3 +24,8 @@ cert_io_fault fault = faults.Cert fault
 abbrev pub write_io_fault : WriteFault → IoFault
 write_io_fault write_faults.Memory = faults.Memory
 write_io_fault write_faults.Write = faults.Write
+
+-- what a fault of a run in threads is
+abbrev pub threads_io_fault : ThreadsFault → IoFault
+threads_io_fault threads_faults.Memory = faults.Memory
+threads_io_fault (threads_faults.Book trouble) = faults.Book trouble

@@ -114,6 +114,7 @@ Simulates old new was is (Ok outcomes.Made) = IsSimulated old new was is
 Simulates old new was is (Ok outcomes.Yes) = ⊥
 Simulates old new was is (Ok outcomes.No) = ⊥
 Simulates old new was is (Err (faults.Script fault)) = (is ≡ was) × (IsNoScript old new fault ⊎ IsUnread old new fault)
+Simulates old new was is (Err (faults.Book trouble)) = ⊥
 Simulates old new was is (Err faults.Memory) = is ≡ was
 Simulates old new was is (Err faults.Write) = (is.failures ≡ (was.failures + 1) % 2 ^ 64) × IsUnwritten old new
 Simulates old new was is (Err (faults.Run fault)) = ⊥

@@ -1,11 +1,12 @@
 ghost use Rattle.std.specs.Prelude.{◌≡◌};
-ghost use Rattle.totem_cluster.specs.IoFaults.{run_io_fault, cert_io_fault, write_io_fault};
+ghost use Rattle.totem_cluster.specs.IoFaults.{run_io_fault, cert_io_fault, write_io_fault, threads_io_fault};
 
 use thiserror::Error;
 use totem_cert::CertFault;
 use totem_check::CheckFault;
 use totem_evs::{RunFault, WriteFault};
 use totem_script::ScriptFault;
+use totem_threads::{BookTrouble, ThreadsFault};
 
 /// Why a call from stream to stream gave no outcome. Nothing was written, unless it is `Write`.
 #[derive(Debug, Drop, Error)]
@@ -22,6 +23,10 @@ pub enum IoFault {
     /// The script makes no run, or its source failed; never with `ScriptFaultKind::Memory`.
     #[error("the script was refused: {0}")]
     Script(ScriptFault),
+    /// A book of a run in threads took no further call, or wasn't closed.
+    #[error("a book was refused: {0}")]
+    Book(BookTrouble),
+    /// Memory was refused; in a run in threads also a thread.
     #[error("out of memory")]
     Memory,
     /// How much went out is not known.
@@ -58,6 +63,17 @@ impl From<WriteFault> for IoFault {
         match fault {
             WriteFault::Memory => IoFault::Memory,
             WriteFault::Write => IoFault::Write,
+        }
+    }
+}
+
+impl From<ThreadsFault> for IoFault {
+    ghost from_gives = { λ f e. e ≡ threads_io_fault f };
+
+    fn from(fault: ThreadsFault) -> IoFault {
+        match fault {
+            ThreadsFault::Memory => IoFault::Memory,
+            ThreadsFault::Book(trouble) => IoFault::Book(trouble),
         }
     }
 }

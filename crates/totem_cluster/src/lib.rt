@@ -1,4 +1,5 @@
-//! The program over any three streams: audits of runs, checks of their certificates, and runs that scripts make.
+//! The program over any three streams: audits of runs, checks of their certificates, and runs that scripts or nodes in
+//! threads make.
 #![tactic(auto)]
 
 mod auditing;
@@ -6,7 +7,9 @@ mod checking;
 mod io_fault;
 mod left_open;
 mod outcome;
+mod recording;
 mod report;
+mod run_words;
 mod shell;
 mod simulating;
 mod telling;
@@ -16,7 +19,9 @@ pub use auditing::audit_io;
 pub use checking::check_io;
 pub use io_fault::IoFault;
 pub use outcome::Outcome;
+pub use recording::{run_io, run_threads};
 pub use shell::program;
 pub use simulating::sim_io;
 pub use telling::tell_fault;
 pub use totem_audit::Workers;
+pub use totem_threads::{BookTrouble, RunPlan};

@@ -3,12 +3,14 @@ ghost use Rattle.std.specs.Prelude.{◌≡◌, []};
 ghost use Rattle.clap.specs.Values.{kind_of};
 ghost use Rattle.totem_ids.specs.Sources.{seen};
 ghost use Rattle.totem_ids.specs.Writing.{held};
-ghost use Rattle.totem_cluster.specs.Endings.{Ends, Explains, Shows, bare};
+ghost use Rattle.totem_cluster.specs.Endings.{Ends, Explains, Shows, Plays, bare};
 
 use crate::auditing::audit_io;
 use crate::checking::check_io;
 use crate::io_fault::IoFault;
+use crate::recording::run_io;
 use crate::report::write_text;
+use crate::run_words::RunWords;
 use crate::simulating::sim_io;
 use crate::telling::{tell, tell_fault};
 use crate::words::{Words, read_words};
@@ -66,6 +68,34 @@ fn as_many(workers: u32) -> Workers {
     Workers::new(workers).unwrap_or(Workers::one())
 }
 
+/// What is told of numbers of a run that don't fit together.
+const UNFIT: &str = "\
+error: '--lose' and '--repeat' are together above 100
+
+For more information, try '--help'.
+";
+
+/// Runs nodes in threads, where the numbers fit together, and answers the status.
+fn play<T: Threads + Wait + Sync, W: Sink, E: Sink>(
+    rt: &T,
+    alloc: Global,
+    words: &RunWords,
+    output: &mut W,
+    errors: &mut E,
+) -> u8
+    ensures { Plays (held W.contents W.failures [] output.old) (held W.contents W.failures [] output.new)
+        (bare E.contents E.failures errors.old) (bare E.contents E.failures errors.new) result }
+{
+    let Some(plan) = words.plan() else {
+        tell(errors, UNFIT.as_bytes());
+        return 64;
+    };
+    match run_io(rt, alloc, plan, output) {
+        Ok(outcome) => outcome.status(),
+        Err(fault) => tell_fault(errors, &fault),
+    }
+}
+
 /// The program over any three streams; `words` has the program's name first. Answers the status with which to exit.
 pub fn program<T: Threads + Wait + Sync, R: Source, W: Sink, E: Sink>(
     rt: &T,
@@ -89,6 +119,7 @@ pub fn program<T: Threads + Wait + Sync, R: Source, W: Sink, E: Sink>(
             Ok(outcome) => outcome.status(),
             Err(fault) => tell_fault(errors, &fault),
         },
+        Ok(Words::Run(words)) => play(rt, alloc, &words, output, errors),
         Ok(Words::Audit { workers }) => match audit_io(rt, alloc, input, output, as_many(workers)) {
             Ok(outcome) => outcome.status(),
             Err(fault) => tell_fault(errors, &fault),

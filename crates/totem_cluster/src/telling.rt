@@ -1,6 +1,7 @@
 //! What the program tells on its stream of errors. It takes no memory, and passes over a failure of that stream.
 ghost use Rattle.std.specs.Prelude.{◌≡◌, decimal};
 ghost use Rattle.totem_ids.specs.Writing.{Writes};
+ghost use Rattle.totem_cluster.specs.declared.io_fault.IoFault.TheVariants.{Book};
 ghost use Rattle.totem_cluster.specs.Endings.{Tells, bare, refusal_text, process_text, run_line, cert_line, script_line, fault_line, script_status, fault_status};
 
 use crate::io_fault::IoFault;
@@ -8,6 +9,7 @@ use totem_cert::CertFault;
 use totem_evs::RunFault;
 use totem_ids::{Failed, Sink};
 use totem_script::{ScriptFault, ScriptFaultKind};
+use totem_threads::BookTrouble;
 
 fn put_bytes<E: Sink>(errors: &mut E, bytes: &[u8]) -> Result<(), Failed>
     ensures { Writes (bare E.contents E.failures errors.old) (bare E.contents E.failures errors.new) result bytes.now }
@@ -92,6 +94,18 @@ fn put_script_fault<E: Sink>(errors: &mut E, fault: &ScriptFault) -> Result<(), 
     put_text(errors, "\n")
 }
 
+fn put_book_trouble<E: Sink>(errors: &mut E, trouble: &BookTrouble) -> Result<(), Failed>
+    ensures { Writes (bare E.contents E.failures errors.old) (bare E.contents E.failures errors.new) result (fault_line (Book trouble.now)) }
+{
+    put_refusal(
+        errors,
+        "totem: book refused: ",
+        trouble.number(),
+        trouble.name(),
+    )?;
+    put_text(errors, "\n")
+}
+
 fn put_fault<E: Sink>(errors: &mut E, fault: &IoFault) -> Result<(), Failed>
     ensures { Writes (bare E.contents E.failures errors.old) (bare E.contents E.failures errors.new) result (fault_line fault.now) }
 {
@@ -108,6 +122,7 @@ fn put_fault<E: Sink>(errors: &mut E, fault: &IoFault) -> Result<(), Failed>
             put_text(errors, "\n")
         }
         IoFault::Script(fault) => put_script_fault(errors, fault),
+        IoFault::Book(trouble) => put_book_trouble(errors, trouble),
         IoFault::Memory => put_text(errors, "totem: out of memory\n"),
         IoFault::Write => put_text(errors, "totem: write failed\n"),
     }
@@ -139,7 +154,7 @@ pub fn tell_fault<E: Sink>(errors: &mut E, fault: &IoFault) -> u8
     match fault {
         IoFault::Run(RunFault::Read) | IoFault::Cert(CertFault::Read) => 4,
         IoFault::Script(fault) => script_status(fault.kind),
-        IoFault::Run(_) | IoFault::Cert(_) | IoFault::Refused(_) => 2,
+        IoFault::Run(_) | IoFault::Cert(_) | IoFault::Refused(_) | IoFault::Book(_) => 2,
         IoFault::Memory => 3,
         IoFault::Write => 4,
     }

@@ -1,4 +1,5 @@
 //! The words of a command line.
+use crate::run_words::{RunWords, run_command, run_words};
 use clap::builder::ValueParser;
 use clap::{Arg, ArgMatches, Command, Error};
 use std::alloc::{AllocError, Global};
@@ -12,6 +13,8 @@ pub enum Words {
     Check,
     /// The run that the script on the standard input makes.
     Sim,
+    /// The run that nodes in threads record.
+    Run(RunWords),
 }
 
 const ENDINGS: &str = "\
@@ -61,7 +64,8 @@ fn command<'a>(alloc: Global) -> Result<Command<'a>, AllocError> {
         .subcommand_required(true)
         .subcommand(audit_command(alloc)?)?
         .subcommand(check_command(alloc))?
-        .subcommand(sim_command(alloc))
+        .subcommand(sim_command(alloc))?
+        .subcommand(run_command(alloc)?)
 }
 
 /// Reads the words, the program's name first. An error has the text for the person who typed them.
@@ -70,6 +74,7 @@ pub fn read_words(alloc: Global, words: &[String]) -> Result<Words, Error> {
     Ok(match matches.subcommand() {
         Some(("check", _)) => Words::Check,
         Some(("sim", _)) => Words::Sim,
+        Some(("run", run)) => Words::Run(run_words(run)),
         Some((_, audit)) => Words::Audit {
             workers: workers_of(audit),
         },

@@ -57,6 +57,11 @@ fn view(alloc: Global, me: u16) -> Result<CommitView, Fail> {
     Ok(view_of(me, range(alloc, 1, 4)?))
 }
 
+/// A member of 1 and 2.
+fn pair(alloc: Global, me: u16) -> Result<CommitView, Fail> {
+    Ok(view_of(me, range(alloc, 1, 3)?))
+}
+
 /// A member that has filled the commit token of ring 8.1.
 fn filled(alloc: Global, me: u16, phase: Phase) -> Result<CommitView, Fail> {
     let mut view = view(alloc, me)?;
@@ -84,9 +89,14 @@ fn fill(alloc: Global, token: &CommitToken, me: u16) -> Result<CommitToken, Fail
     Ok(on_commit(alloc, token, &view(alloc, me)?, report(alloc))?.token)
 }
 
+/// The commit token that 1 made and 2 filled.
+fn filled_by_two(alloc: Global) -> Result<CommitToken, Fail> {
+    fill(alloc, &made(alloc)?, 2)
+}
+
 /// The commit token once all have filled it.
 fn full(alloc: Global) -> Result<CommitToken, Fail> {
-    fill(alloc, &fill(alloc, &made(alloc)?, 2)?, 3)
+    fill(alloc, &filled_by_two(alloc)?, 3)
 }
 
 /// The same in its second round.
@@ -96,175 +106,246 @@ fn second(alloc: Global) -> Result<CommitToken, Fail> {
     Ok(token)
 }
 
-/// How this member takes it, and in which round it goes on.
-fn takes(alloc: Global, token: &CommitToken, me: u16, phase: Phase) -> Result<(Act, Round), Fail> {
-    let out = on_commit(alloc, token, &filled(alloc, me, phase)?, report(alloc))?;
+/// How a token is taken: what is done, and in which round it goes on.
+type Taken = Result<(Act, Round), MemberFault>;
+
+fn take(alloc: Global, token: &CommitToken, view: &CommitView, report: Report) -> Taken {
+    let out = on_commit(alloc, token, view, report)?;
     Ok((out.act, out.token.round))
 }
 
-fn is_stale(alloc: Global, token: &CommitToken, view: &CommitView) -> bool {
-    match on_commit(alloc, token, view, report(alloc)) {
-        Err(MemberFault::Stale) => true,
-        _ => false,
+/// How the token that 1 made is taken.
+fn takes_made(alloc: Global, view: &CommitView) -> Result<Taken, Fail> {
+    Ok(take(alloc, &made(alloc)?, view, report(alloc)))
+}
+
+/// How the token that all have filled is taken.
+fn takes_full(alloc: Global, view: &CommitView) -> Result<Taken, Fail> {
+    Ok(take(alloc, &full(alloc)?, view, report(alloc)))
+}
+
+/// How the token in its second round is taken.
+fn takes_second(alloc: Global, view: &CommitView) -> Result<Taken, Fail> {
+    Ok(take(alloc, &second(alloc)?, view, report(alloc)))
+}
+
+/// Whose report the token has, if it has one alone.
+fn only_reporter(token: &CommitToken) -> Option<ProcId> {
+    let mut reporter = None;
+    for member in token.members.as_slice() {
+        if member.report.is_some() {
+            if reporter.is_some() {
+                return None;
+            }
+            reporter = Some(member.proc);
+        }
     }
+    reporter
 }
 
 #[test]
 fn the_least_makes_the_token(rt: HostRuntime) -> Result<(), Fail> {
     let token = made(rt.alloc())?;
-    assert_eq!(rt; token.ring, ring(8));
-    assert_eq!(rt; token.round, Round::First);
-    let mut reported = 0u32;
-    for member in token.members.as_slice() {
-        if member.report.is_some() {
-            assert_eq!(rt; member.proc, proc(1));
-            reported = reported.saturating_add(1);
-        }
-    }
-    assert_eq!(rt; reported, 1);
+    assert_eq!(rt; (token.ring, token.round), (ring(8), Round::First));
+    Ok(())
+}
+
+#[test]
+fn only_who_makes_the_token_reports(rt: HostRuntime) -> Result<(), Fail> {
+    let token = made(rt.alloc())?;
+    assert_eq!(rt; only_reporter(&token), Some(proc(1)));
     Ok(())
 }
 
 #[test]
 fn each_member_fills_it(rt: HostRuntime) -> Result<(), Fail> {
-    let alloc = rt.alloc();
-    let out = on_commit(alloc, &made(alloc)?, &view(alloc, 2)?, report(alloc))?;
-    assert_eq!(rt; out.act, Act::Filled);
-    assert!(rt; !out.token.members.is_filled());
+    let view = view(rt.alloc(), 2)?;
+    assert_eq!(rt;
+        takes_made(rt.alloc(), &view)?,
+        Ok((Act::Filled, Round::First))
+    );
+    Ok(())
+}
+
+#[test]
+fn two_of_three_do_not_fill_it(rt: HostRuntime) -> Result<(), Fail> {
+    let token = filled_by_two(rt.alloc())?;
+    assert!(rt; !token.members.is_filled());
     Ok(())
 }
 
 #[test]
 fn the_first_round_fills_all(rt: HostRuntime) -> Result<(), Fail> {
     let token = full(rt.alloc())?;
-    assert_eq!(rt; token.round, Round::First);
-    assert!(rt; token.members.is_filled());
+    assert_eq!(rt;
+        (token.round, token.members.is_filled()),
+        (Round::First, true)
+    );
     Ok(())
 }
 
 #[test]
 fn the_least_enters_in_the_first_round(rt: HostRuntime) -> Result<(), Fail> {
-    let alloc = rt.alloc();
-    let how = takes(alloc, &full(alloc)?, 1, Phase::Commit)?;
-    assert_eq!(rt; how, (Act::Entered, Round::Second));
+    let view = filled(rt.alloc(), 1, Phase::Commit)?;
+    assert_eq!(rt;
+        takes_full(rt.alloc(), &view)?,
+        Ok((Act::Entered, Round::Second))
+    );
     Ok(())
 }
 
 #[test]
 fn the_others_enter_in_the_second(rt: HostRuntime) -> Result<(), Fail> {
-    let alloc = rt.alloc();
-    let token = second(alloc)?;
-    let how = takes(alloc, &token, 2, Phase::Commit)?;
-    assert_eq!(rt; how, (Act::Entered, Round::Second));
-    let how = takes(alloc, &token, 3, Phase::Commit)?;
-    assert_eq!(rt; how, (Act::Entered, Round::Second));
+    for me in [2, 3] {
+        let view = filled(rt.alloc(), me, Phase::Commit)?;
+        assert_eq!(rt;
+            takes_second(rt.alloc(), &view)?,
+            Ok((Act::Entered, Round::Second))
+        );
+    }
     Ok(())
 }
 
 #[test]
 fn the_least_starts_the_ring(rt: HostRuntime) -> Result<(), Fail> {
-    let alloc = rt.alloc();
-    let how = takes(alloc, &second(alloc)?, 1, Phase::Recovery)?;
-    assert_eq!(rt; how, (Act::Started, Round::Second));
+    let view = filled(rt.alloc(), 1, Phase::Recovery)?;
+    assert_eq!(rt;
+        takes_second(rt.alloc(), &view)?,
+        Ok((Act::Started, Round::Second))
+    );
     Ok(())
 }
 
 #[test]
 fn another_waits_for_the_second_round(rt: HostRuntime) -> Result<(), Fail> {
-    let alloc = rt.alloc();
-    let view = filled(alloc, 2, Phase::Commit)?;
-    assert!(rt; is_stale(alloc, &full(alloc)?, &view));
+    let view = filled(rt.alloc(), 2, Phase::Commit)?;
+    assert_eq!(rt; takes_full(rt.alloc(), &view)?, Err(MemberFault::Stale));
     Ok(())
 }
 
 #[test]
 fn the_least_enters_once(rt: HostRuntime) -> Result<(), Fail> {
-    let alloc = rt.alloc();
-    let view = filled(alloc, 1, Phase::Commit)?;
-    assert!(rt; is_stale(alloc, &second(alloc)?, &view));
+    let view = filled(rt.alloc(), 1, Phase::Commit)?;
+    assert_eq!(rt; takes_second(rt.alloc(), &view)?, Err(MemberFault::Stale));
     Ok(())
 }
 
 #[test]
 fn it_starts_once(rt: HostRuntime) -> Result<(), Fail> {
-    let alloc = rt.alloc();
-    let mut view = filled(alloc, 1, Phase::Recovery)?;
+    let mut view = filled(rt.alloc(), 1, Phase::Recovery)?;
     view.started = true;
-    assert!(rt; is_stale(alloc, &second(alloc)?, &view));
+    assert_eq!(rt; takes_second(rt.alloc(), &view)?, Err(MemberFault::Stale));
     Ok(())
 }
 
 #[test]
 fn other_members_are_stale(rt: HostRuntime) -> Result<(), Fail> {
-    let alloc = rt.alloc();
-    let view = view_of(2, range(alloc, 1, 3)?);
-    assert!(rt; is_stale(alloc, &made(alloc)?, &view));
+    let view = pair(rt.alloc(), 2)?;
+    assert_eq!(rt; takes_made(rt.alloc(), &view)?, Err(MemberFault::Stale));
     Ok(())
 }
 
 #[test]
 fn a_ring_that_is_not_newer_is_stale(rt: HostRuntime) -> Result<(), Fail> {
-    let alloc = rt.alloc();
-    let mut view = view(alloc, 2)?;
+    let mut view = view(rt.alloc(), 2)?;
     view.seq = Number::of(8);
-    assert!(rt; is_stale(alloc, &made(alloc)?, &view));
+    assert_eq!(rt; takes_made(rt.alloc(), &view)?, Err(MemberFault::Stale));
     Ok(())
+}
+
+/// How 1 takes the token that all have filled, where it would report another aru.
+fn takes_with_another_aru(alloc: Global, aru: u32) -> Result<Taken, Fail> {
+    let token = full(alloc)?;
+    let view = filled(alloc, 1, Phase::Commit)?;
+    let mut later = report(alloc);
+    later.aru = aru;
+    Ok(take(alloc, &token, &view, later))
 }
 
 #[test]
 fn another_report_is_stale(rt: HostRuntime) -> Result<(), Fail> {
-    let alloc = rt.alloc();
-    let mut later = report(alloc);
-    later.aru = 4;
-    let view = filled(alloc, 1, Phase::Commit)?;
-    let Err(fault) = on_commit(alloc, &full(alloc)?, &view, later) else {
-        return Err("another report was taken".into());
-    };
-    assert_eq!(rt; fault, MemberFault::Stale);
+    assert_eq!(rt;
+        takes_with_another_aru(rt.alloc(), 4)?,
+        Err(MemberFault::Stale)
+    );
     Ok(())
+}
+
+/// The number of the ring that 1 forms where it knows this one.
+fn number_after(alloc: Global, seq: u32) -> Result<Result<u32, MemberFault>, Fail> {
+    let mut view = view(alloc, 1)?;
+    view.seq = Number::of(seq.max(1));
+    if !view.members.contains(view.me) {
+        return Err("1 is no member".into());
+    }
+    Ok(match first_commit(alloc, &view, report(alloc)) {
+        Ok(token) => Ok(token.ring.seq),
+        Err(fault) => Err(fault),
+    })
 }
 
 #[test]
 fn ring_numbers_end(rt: HostRuntime) -> Result<(), Fail> {
-    let alloc = rt.alloc();
-    let mut view = view(alloc, 1)?;
-    view.seq = Number::of(4_294_967_291);
-    assert_eq!(rt; make(alloc, &view, report(alloc))?.ring.seq, 4_294_967_295);
-    view.seq = Number::of(4_294_967_292);
-    if !view.members.contains(view.me) {
-        return Err("1 is no member".into());
-    }
-    let Err(fault) = first_commit(alloc, &view, report(alloc)) else {
-        return Err("a ring of number 4294967296 was formed".into());
-    };
-    assert_eq!(rt; fault, MemberFault::Range);
+    assert_eq!(rt; number_after(rt.alloc(), 4_294_967_291)?, Ok(4_294_967_295));
+    assert_eq!(rt;
+        number_after(rt.alloc(), 4_294_967_292)?,
+        Err(MemberFault::Range)
+    );
     Ok(())
 }
 
-/// 1 and 2 form a ring, 1 with these obligations and 2 with those from 18 on up to this one.
-fn enters(alloc: Global, high: u16) -> Result<Result<Act, MemberFault>, Fail> {
-    let mut one = view_of(1, range(alloc, 1, 3)?);
-    let token = make(alloc, &one, obliged_to(range(alloc, 3, 20)?))?;
+/// The obligations of 1: the processes from 3 to 19.
+fn report_of_one(alloc: Global) -> Result<Report, Fail> {
+    Ok(obliged_to(range(alloc, 3, 20)?))
+}
+
+/// The token that 1 makes for a ring of 1 and 2.
+fn made_for_two(alloc: Global) -> Result<CommitToken, Fail> {
+    make(alloc, &pair(alloc, 1)?, report_of_one(alloc)?)
+}
+
+/// The same with the report of 2, whose obligations are those from 18 on up to this one.
+fn full_for_two(alloc: Global, high: u16) -> Result<CommitToken, Fail> {
     let other = obliged_to(range(alloc, 18, high)?);
-    let token = on_commit(alloc, &token, &view_of(2, range(alloc, 1, 3)?), other)?.token;
+    let token = made_for_two(alloc)?;
+    Ok(on_commit(alloc, &token, &pair(alloc, 2)?, other)?.token)
+}
+
+/// How 1 takes that.
+fn takes_obligations(alloc: Global, high: u16) -> Result<Taken, Fail> {
+    let token = full_for_two(alloc, high)?;
+    let mut one = pair(alloc, 1)?;
     one.seq = Number::of(8);
     one.filled = Some(ring(8));
-    Ok(on_commit(alloc, &token, &one, obliged_to(range(alloc, 3, 20)?)).map(|out| out.act))
+    Ok(take(alloc, &token, &one, report_of_one(alloc)?))
 }
 
 #[test]
 fn obligations_can_be_too_many(rt: HostRuntime) -> Result<(), Fail> {
-    assert_eq!(rt; enters(rt.alloc(), 33)?, Ok(Act::Entered));
-    assert_eq!(rt; enters(rt.alloc(), 34)?, Err(MemberFault::Range));
+    assert_eq!(rt;
+        takes_obligations(rt.alloc(), 33)?,
+        Ok((Act::Entered, Round::Second))
+    );
+    assert_eq!(rt; takes_obligations(rt.alloc(), 34)?, Err(MemberFault::Range));
     Ok(())
 }
 
 #[test]
-fn views_and_answers_are_copied(rt: HostRuntime) -> Result<(), Fail> {
-    let alloc = rt.alloc();
+fn views_are_copied(rt: HostRuntime) -> Result<(), Fail> {
+    let view = view(rt.alloc(), 2)?;
+    assert_eq!(rt; view.try_clone(rt.alloc())?.members.len(), 3);
+    Ok(())
+}
+
+/// What a copy of a view does with the token, as a copy of the answer has it.
+fn copied_act(alloc: Global) -> Result<Act, Fail> {
     let view = view(alloc, 2)?.try_clone(alloc)?;
-    assert_eq!(rt; view.members.len(), 3);
     let out = on_commit(alloc, &made(alloc)?, &view, report(alloc))?;
-    assert_eq!(rt; out.try_clone(alloc)?.act, Act::Filled);
+    Ok(out.try_clone(alloc)?.act)
+}
+
+#[test]
+fn answers_are_copied(rt: HostRuntime) -> Result<(), Fail> {
+    assert_eq!(rt; copied_act(rt.alloc())?, Act::Filled);
     Ok(())
 }

@@ -1,6 +1,6 @@
-//! Gatherings, by direct calls.
-use crate::{Gather, MemberFault};
-use std::alloc::Global;
+//! Gatherings by direct calls: Joins as words, and what is asked of a gathering as text.
+use crate::{Gather, GatherOut, MemberFault};
+use std::alloc::{AllocError, Global};
 use std::test::Fail;
 use totem_ids::ProcId;
 use totem_packets::{Join, Number, Processes, SetFault};
@@ -9,10 +9,11 @@ fn proc(number: u16) -> ProcId {
     ProcId::of(number.max(1))
 }
 
-fn set(alloc: Global, values: &[u16]) -> Result<Processes, Fail> {
+/// The processes of these digits.
+fn set(alloc: Global, digits: &str) -> Result<Processes, Fail> {
     let mut list = Vec::new(alloc);
-    for value in values {
-        list.push(proc(*value))?;
+    for digit in digits.bytes() {
+        list.push(proc(u16::from(digit.saturating_sub(b'0'))))?;
     }
     Ok(Processes::new(list)?)
 }
@@ -26,109 +27,244 @@ fn first(alloc: Global, last: u16) -> Result<Processes, Fail> {
     Ok(Processes::new(list)?)
 }
 
-fn join_of(alloc: Global, sender: u16, processes: &[u16], failed: &[u16]) -> Result<Join, Fail> {
+/// Process 1 gathers with these.
+fn gather(alloc: Global, base: &str) -> Result<Gather, Fail> {
+    Ok(Gather::new(alloc, proc(1), &set(alloc, base)?, Number::of(4))?)
+}
+
+/// The Join of a word such as `4:2:12:3`: it knows of ring 4, is of 2, and tells that 1 and 2 are known and 3 failed.
+fn join_of(alloc: Global, word: &str) -> Result<Join, Fail> {
+    let (seq, word) = word.split_once(':').unwrap_or(("", ""));
+    let (sender, word) = word.split_once(':').unwrap_or(("", ""));
+    let (processes, failed) = word.split_once(':').unwrap_or(("", ""));
     Ok(Join {
-        sender: proc(sender),
-        seq: Number::of(4),
+        sender: proc(sender.parse::<u16>().unwrap_or(0)),
+        seq: Number::of(seq.parse::<u32>().unwrap_or(0).max(1)),
         processes: set(alloc, processes)?,
         failed: set(alloc, failed)?,
     })
 }
 
-/// Process 1 gathers with 2.
-fn gather(alloc: Global) -> Result<Gather, Fail> {
-    Ok(Gather::new(alloc, proc(1), &set(alloc, &[2])?, Number::of(4))?)
+/// A gathering, and what its last step gave.
+#[derive(Drop)]
+struct Step {
+    gathering: Gather,
+    out: GatherOut,
+}
+
+fn push_set(alloc: Global, text: &mut String, set: &Processes) -> Result<(), AllocError> {
+    for proc in set.as_slice() {
+        text.push_str(format!(in alloc; " {proc}")?.as_str())?;
+    }
+    Ok(())
+}
+
+fn push_maybe(alloc: Global, text: &mut String, set: &Option<Processes>) -> Result<(), AllocError> {
+    match set {
+        None => text.push_str(" none"),
+        Some(set) => push_set(alloc, text, set),
+    }
+}
+
+fn push_gathered(alloc: Global, text: &mut String, gathering: &Gather) -> Result<(), AllocError> {
+    let members = gathering.gathered(alloc)?;
+    push_set(alloc, text, &members)
+}
+
+fn push_consensus(alloc: Global, text: &mut String, gathering: &Gather) -> Result<(), AllocError> {
+    let members = gathering.consensus(alloc)?;
+    push_maybe(alloc, text, &members)
+}
+
+/// The Join of a copy: its sender, and who is known.
+fn push_join(alloc: Global, text: &mut String, gathering: &Gather) -> Result<(), AllocError> {
+    let join = gathering.try_clone(alloc)?.join(alloc)?;
+    text.push_str(format!(in alloc; " {}:", join.sender)?.as_str())?;
+    push_set(alloc, text, &join.processes)
+}
+
+/// The members of a copy of what a step gave.
+fn push_copy(alloc: Global, text: &mut String, out: &GatherOut) -> Result<(), AllocError> {
+    let copy = out.try_clone(alloc)?;
+    push_maybe(alloc, text, &copy.members)
+}
+
+/// What is asked of a gathering by this word, and then told.
+fn push_asked(
+    alloc: Global,
+    text: &mut String,
+    gathering: &Gather,
+    word: &str,
+) -> Result<(), AllocError> {
+    match word {
+        "me" => text.push_str(format!(in alloc; " {}", gathering.me())?.as_str()),
+        "seq" => text.push_str(format!(in alloc; " {}", gathering.seq().get())?.as_str()),
+        "known" => push_set(alloc, text, gathering.processes()),
+        "failed" => push_set(alloc, text, gathering.failed()),
+        "gathered" => push_gathered(alloc, text, gathering),
+        "consensus" => push_consensus(alloc, text, gathering),
+        "join" => push_join(alloc, text, gathering),
+        _ => text.push_str(" no such word"),
+    }
+}
+
+impl Step {
+    fn takes(
+        &mut self,
+        text: &mut String,
+        answer: Result<GatherOut, MemberFault>,
+    ) -> Result<(), AllocError> {
+        match answer {
+            Ok(out) => {
+                self.out = out;
+                Ok(())
+            }
+            Err(fault) => text.push_str(fault.name()),
+        }
+    }
+
+    fn hears(&mut self, alloc: Global, text: &mut String, join: &Join) -> Result<(), AllocError> {
+        let answer = self.gathering.on_join(alloc, join);
+        self.takes(text, answer)
+    }
+
+    fn ends(&mut self, alloc: Global, text: &mut String) -> Result<(), AllocError> {
+        let answer = self.gathering.on_timeout(alloc);
+        self.takes(text, answer)
+    }
+
+    /// What this word asks: of the last step whether it has news and on whom there is consensus, and else of the gathering.
+    fn asked(&self, alloc: Global, text: &mut String, word: &str) -> Result<(), AllocError> {
+        match word {
+            "again" => text.push_str(if self.out.again { " yes" } else { " no" }),
+            "members" => push_maybe(alloc, text, &self.out.members),
+            "copied" => push_copy(alloc, text, &self.out),
+            _ => push_asked(alloc, text, &self.gathering, word),
+        }
+    }
+
+    /// One word: `timeout`, a Join, or what is asked.
+    fn does(&mut self, alloc: Global, text: &mut String, word: &str) -> Result<(), Fail> {
+        if word == "timeout" {
+            self.ends(alloc, text)?;
+        } else if word.contains(':') {
+            self.hears(alloc, text, &join_of(alloc, word)?)?;
+        } else {
+            text.push_str(word)?;
+            self.asked(alloc, text, word)?;
+            text.push_str("; ")?;
+        }
+        Ok(())
+    }
+}
+
+/// Process 1 gathers with these, and does and tells what the words say.
+fn life(alloc: Global, base: &str, words: &str) -> Result<String, Fail> {
+    let mut step = Step {
+        gathering: gather(alloc, base)?,
+        out: GatherOut {
+            again: false,
+            members: None,
+        },
+    };
+    let mut text = String::new(alloc);
+    for word in words.split_whitespace() {
+        step.does(alloc, &mut text, word)?;
+    }
+    Ok(text)
 }
 
 #[test]
 fn a_gathering_begins_with_me(rt: HostRuntime) -> Result<(), Fail> {
-    let alloc = rt.alloc();
-    let gathering = gather(alloc)?;
-    assert_eq!(rt; gathering.me(), proc(1));
-    assert_eq!(rt; gathering.seq().get(), 4);
-    assert!(rt; gathering.processes().is(&set(alloc, &[1, 2])?));
-    assert_eq!(rt; gathering.failed().len(), 0);
-    assert!(rt; gathering.gathered(alloc)?.is(&set(alloc, &[1, 2])?));
-    assert!(rt; gathering.consensus(alloc)?.is_none());
-    let join = gathering.try_clone(alloc)?.join(alloc)?;
-    assert_eq!(rt; join.sender, proc(1));
-    assert!(rt; join.processes.is(&set(alloc, &[1, 2])?));
-    Ok(())
-}
-
-#[test]
-fn thirty_three_are_too_many(rt: HostRuntime) -> Result<(), Fail> {
-    let alloc = rt.alloc();
-    let base = first(alloc, 32)?;
-    let Err(fault) = Gather::new(alloc, proc(33), &base, Number::of(4)) else {
-        return Err("33 processes gather".into());
-    };
-    assert_eq!(rt; fault, SetFault::TooMany);
-    let mut gathering = Gather::new(alloc, proc(32), &base, Number::of(4))?;
-    let Err(fault) = gathering.on_join(alloc, &join_of(alloc, 33, &[33], &[])?) else {
-        return Err("a 33rd process was heard".into());
-    };
-    assert_eq!(rt; fault, MemberFault::Stranger);
+    let told = life(
+        rt.alloc(),
+        "2",
+        "me seq known failed gathered consensus join",
+    )?;
+    assert_eq!(rt;
+        told.as_str(),
+        "me 1; seq 4; known 1 2; failed; gathered 1 2; consensus none; join 1: 1 2; "
+    );
     Ok(())
 }
 
 #[test]
 fn two_agree(rt: HostRuntime) -> Result<(), Fail> {
-    let alloc = rt.alloc();
-    let mut gathering = gather(alloc)?;
-    let out = gathering.on_join(alloc, &join_of(alloc, 2, &[1, 2], &[])?)?;
-    assert!(rt; !out.again);
-    assert!(rt; out.try_clone(alloc)?.members.is_some());
-    let members = out.members.ok_or("no consensus")?;
-    assert!(rt; members.is(&set(alloc, &[1, 2])?));
+    let told = life(rt.alloc(), "2", "4:2:12: again copied members")?;
+    assert_eq!(rt; told.as_str(), "again no; copied 1 2; members 1 2; ");
     Ok(())
 }
 
 #[test]
 fn news_are_told_anew(rt: HostRuntime) -> Result<(), Fail> {
-    let alloc = rt.alloc();
-    let mut gathering = gather(alloc)?;
-    let mut join = join_of(alloc, 3, &[3, 4], &[4])?;
-    join.seq = Number::of(8);
-    let out = gathering.on_join(alloc, &join)?;
-    assert!(rt; out.again);
-    assert!(rt; out.members.is_none());
-    assert!(rt; gathering.processes().is(&set(alloc, &[1, 2, 3, 4])?));
-    assert!(rt; gathering.failed().is(&set(alloc, &[4])?));
-    assert_eq!(rt; gathering.seq().get(), 8);
+    let told = life(rt.alloc(), "2", "8:3:34:4 again members known failed seq")?;
+    assert_eq!(rt;
+        told.as_str(),
+        "again yes; members none; known 1 2 3 4; failed 4; seq 8; "
+    );
     Ok(())
 }
 
 #[test]
 fn a_silent_member_is_given_up(rt: HostRuntime) -> Result<(), Fail> {
-    let alloc = rt.alloc();
-    let mut gathering = Gather::new(alloc, proc(1), &set(alloc, &[2, 3])?, Number::of(4))?;
-    let out = gathering.on_join(alloc, &join_of(alloc, 2, &[1, 2, 3], &[])?)?;
-    assert!(rt; out.members.is_none());
-    let out = gathering.on_timeout(alloc)?;
-    assert!(rt; out.again);
-    assert!(rt; gathering.failed().is(&set(alloc, &[3])?));
-    assert!(rt; out.members.is_none());
-    let out = gathering.on_join(alloc, &join_of(alloc, 2, &[1, 2, 3], &[3])?)?;
-    let members = out.members.ok_or("no consensus")?;
-    assert!(rt; members.is(&set(alloc, &[1, 2])?));
+    let told = life(
+        rt.alloc(),
+        "23",
+        "4:2:123: members timeout again failed members 4:2:123:3 members",
+    )?;
+    assert_eq!(rt;
+        told.as_str(),
+        "members none; again yes; failed 3; members none; members 1 2; "
+    );
     Ok(())
 }
 
 #[test]
 fn who_fails_me_has_failed(rt: HostRuntime) -> Result<(), Fail> {
-    let alloc = rt.alloc();
-    let mut gathering = gather(alloc)?;
-    let out = gathering.on_join(alloc, &join_of(alloc, 2, &[1, 2, 7], &[1])?)?;
-    assert!(rt; out.again);
-    assert!(rt; gathering.processes().is(&set(alloc, &[1, 2])?));
-    assert!(rt; gathering.failed().is(&set(alloc, &[2])?));
-    let members = out.members.ok_or("no consensus")?;
-    assert!(rt; members.is(&set(alloc, &[1])?));
-    let Err(fault) = gathering.on_join(alloc, &join_of(alloc, 2, &[1, 2], &[])?) else {
-        return Err("a failed process was heard".into());
-    };
-    assert_eq!(rt; fault, MemberFault::Stranger);
+    let told = life(
+        rt.alloc(),
+        "2",
+        "4:2:127:1 again known failed members 4:2:12:",
+    )?;
+    assert_eq!(rt;
+        told.as_str(),
+        "again yes; known 1 2; failed 2; members 1; Stranger"
+    );
+    Ok(())
+}
+
+/// Process `me` gathers with 1 to 32.
+fn gather_32(alloc: Global, me: u16) -> Result<Result<Gather, SetFault>, Fail> {
+    let base = first(alloc, 32)?;
+    Ok(Gather::new(alloc, proc(me), &base, Number::of(4)))
+}
+
+#[test]
+fn thirty_three_do_not_gather(rt: HostRuntime) -> Result<(), Fail> {
+    let answer = gather_32(rt.alloc(), 33)?;
+    assert!(rt; matches!(answer, Err(SetFault::TooMany)));
+    Ok(())
+}
+
+/// The Join of a process that knows of itself alone.
+fn join_of_one(alloc: Global, me: u16) -> Result<Join, Fail> {
+    let base = Processes::none(alloc);
+    Ok(Gather::new(alloc, proc(me), &base, Number::of(4))?.join(alloc)?)
+}
+
+/// Whether 32 processes hear of this one, or why not.
+fn heard_by_32(alloc: Global, other: u16) -> Result<Option<MemberFault>, Fail> {
+    let join = join_of_one(alloc, other)?;
+    let mut gathering = gather_32(alloc, 32)??;
+    Ok(match gathering.on_join(alloc, &join) {
+        Ok(_) => None,
+        Err(fault) => Some(fault),
+    })
+}
+
+#[test]
+fn a_33rd_is_not_heard(rt: HostRuntime) -> Result<(), Fail> {
+    assert_eq!(rt; heard_by_32(rt.alloc(), 33)?, Some(MemberFault::Stranger));
     Ok(())
 }
 
@@ -141,6 +277,19 @@ fn joins(alloc: Global, all: &[Gather]) -> Result<Vec<Join>, Fail> {
     Ok(joins)
 }
 
+/// It takes a Join; whether it agrees on this set then.
+fn agrees_after(
+    alloc: Global,
+    gathering: &mut Gather,
+    join: &Join,
+    all: &Processes,
+) -> Result<bool, Fail> {
+    Ok(match gathering.on_join(alloc, join)?.members {
+        None => false,
+        Some(members) => members.is(all),
+    })
+}
+
 /// It takes the Joins of all others; whether at last it agrees on this set.
 fn agrees_on(
     alloc: Global,
@@ -148,16 +297,13 @@ fn agrees_on(
     joins: &[Join],
     all: &Processes,
 ) -> Result<bool, Fail> {
-    let mut members = None;
+    let mut agrees = false;
     for join in joins {
         if join.sender != gathering.me() {
-            members = gathering.on_join(alloc, join)?.members;
+            agrees = agrees_after(alloc, gathering, join, all)?;
         }
     }
-    Ok(match members {
-        None => false,
-        Some(members) => members.is(all),
-    })
+    Ok(agrees)
 }
 
 /// Each takes the Joins of all others; how many at last agree on this set.
@@ -172,6 +318,13 @@ fn agreed(alloc: Global, gathers: &mut [Gather], all: &Processes) -> Result<u32,
     Ok(count)
 }
 
+/// How many agree on this set after three rounds of Joins.
+fn agreed_at_last(alloc: Global, gathers: &mut [Gather], all: &Processes) -> Result<u32, Fail> {
+    agreed(alloc, gathers, all)?;
+    agreed(alloc, gathers, all)?;
+    agreed(alloc, gathers, all)
+}
+
 /// Each begins alone.
 fn alone(alloc: Global, all: &Processes) -> Result<Vec<Gather>, Fail> {
     let mut gathers = Vec::new(alloc);
@@ -181,13 +334,11 @@ fn alone(alloc: Global, all: &Processes) -> Result<Vec<Gather>, Fail> {
     Ok(gathers)
 }
 
-/// How many of 1 to the last agree on all of these, after three rounds of Joins.
+/// How many of 1 to the last, who begin alone, agree on all of these at last.
 fn agree_at_last(alloc: Global, last: u16) -> Result<u32, Fail> {
     let all = first(alloc, last)?;
     let mut gathers = alone(alloc, &all)?;
-    agreed(alloc, &mut gathers, &all)?;
-    agreed(alloc, &mut gathers, &all)?;
-    agreed(alloc, &mut gathers, &all)
+    agreed_at_last(alloc, &mut gathers, &all)
 }
 
 #[test]

@@ -1,3 +1,4 @@
 pub mod Drawing
 pub mod Waits
 pub mod Walking
+pub mod Numbers

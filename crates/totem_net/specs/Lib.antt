@@ -1,6 +1,7 @@
 pub mod Plans
 pub mod Fates
 pub mod Words
+pub mod Nodes
 pub mod Wires
 pub mod Addresses
 pub mod Waiting

@@ -1,5 +1,6 @@
 //! The channels of a run in threads.
-ghost use Rattle.std.specs.Prelude.{◌<◌};
+ghost use Rattle.std.specs.Prelude.{◌≡◌, ◌<◌, IfOk, map};
+ghost use Rattle.totem_net.specs.Nodes.{node_numbers};
 
 use crate::ends::NodeEnds;
 use crate::fates::Fates;
@@ -25,6 +26,7 @@ pub struct Network {
 impl Network {
     /// The network of so many nodes, for so many ticks. The first packet is handed on before anything else, to node 1
     /// and without a fate.
+    #[tactic(auto, using(crate::proofs::Numbers::ends_more))]
     pub fn new(
         alloc: Global,
         nodes: u16,
@@ -33,12 +35,13 @@ impl Network {
         first: Bytes,
     ) -> Result<Network, AllocError>
         requires { 0 < nodes }
+        ensures { IfOk result (λ network. map (λ ends. ends.node) network.nodes.items ≡ node_numbers nodes) }
     {
         let (to_switch, inbound) = unbounded(alloc)?;
         let (paces, answers) = unbounded(alloc)?;
         let mut ports = Vec::new(alloc);
         let mut ends = Vec::new(alloc);
-        for number in 0..nodes {
+        'nodes: for number in 0..nodes {
             let (port, held) = Port::new(alloc, ProcId::of(number + 1), &to_switch)?;
             ports.push(port)?;
             ends.push(held)?;

@@ -1,4 +1,6 @@
 //! The switch's side of one node.
+ghost use Rattle.std.specs.Prelude.{◌≡◌, IfOk};
+
 use crate::ends::{NodeEnds, Outlet, ThreadEnd};
 use crate::sending::give;
 use crate::words::{ClientWord, Inbound, PacketWord, TimerWord};
@@ -22,7 +24,9 @@ impl Port {
         alloc: Global,
         node: ProcId,
         inbound: &Sender<Inbound>,
-    ) -> Result<(Port, NodeEnds), AllocError> {
+    ) -> Result<(Port, NodeEnds), AllocError>
+        ensures { IfOk result (λ made. made.1.node ≡ node) }
+    {
         let (packets, received) = unbounded(alloc)?;
         let (timer, timed) = unbounded(alloc)?;
         let (client, asked) = unbounded(alloc)?;

@@ -1,14 +1,13 @@
 //! Packets against their bytes, written out by hand.
-ghost use Rattle.std.specs.Prelude.{◌<◌};
-
+use crate::test_values::{is_shown_alike, ring, set};
 use crate::{
     Body, CommitMember, CommitMembers, CommitToken, Join, Message, Number, Packet, PacketFault,
-    Payload, Processes, Report, Requests, Round, Token, TokenSeq,
+    Payload, Report, Requests, Round, Token, TokenSeq,
 };
 use bytes::Bytes;
 use std::alloc::{AllocError, Global};
 use std::test::Fail;
-use totem_ids::{ProcId, RingId, Service};
+use totem_ids::{ProcId, Service};
 
 /// The token that the third process of ring 4.1 passes on: nobody holds message 1 yet.
 const TOKEN: [u8; 30] = [
@@ -22,7 +21,7 @@ const MESSAGE: [u8; 17] = [1, 0, 0, 0, 4, 0, 1, 0, 0, 0, 1, 0, 1, 0, 0, 1, 120];
 const SAFE: [u8; 16] = [1, 0, 0, 0, 4, 0, 1, 0, 0, 0, 1, 0, 1, 1, 0, 0];
 
 /// Message 8.1#3 of process 2: 4.1#5 of process 1 once more, agreed, `hi`.
-const OLD: [u8; 30] = [
+pub(crate) const OLD: [u8; 30] = [
     1, 0, 0, 0, 8, 0, 1, 0, 0, 0, 3, 0, 2, 2, 0, 0, 0, 4, 0, 1, 0, 0, 0, 5, 0, 1, 0, 2, 104, 105,
 ];
 
@@ -43,26 +42,46 @@ const COMMIT: [u8; 34] = [
     2, 0,
 ];
 
-fn ring(seq: u32) -> RingId
-    requires { 0 < seq }
-{
-    RingId {
-        seq,
-        rep: ProcId::of(1),
-    }
+/// A packet, by the name that `packet` knows, and its bytes.
+struct Spelled {
+    name: &'static str,
+    bytes: &'static [u8],
 }
 
-fn processes(alloc: Global, numbers: &[u16]) -> Result<Processes, Fail> {
-    let mut procs = Vec::new(alloc);
-    for number in numbers {
-        procs.push(ProcId::new(*number).ok_or("a process")?)?;
-    }
-    Ok(Processes::new(procs)?)
-}
-
-fn payload(bytes: &'static [u8]) -> Result<Payload, Fail> {
-    Ok(Payload::new(Bytes::from_static(bytes))?)
-}
+const PACKETS: [Spelled; 8] = [
+    Spelled {
+        name: "token",
+        bytes: &TOKEN,
+    },
+    Spelled {
+        name: "agreed message",
+        bytes: &MESSAGE,
+    },
+    Spelled {
+        name: "safe message",
+        bytes: &SAFE,
+    },
+    Spelled {
+        name: "agreed old message",
+        bytes: &OLD,
+    },
+    Spelled {
+        name: "safe old message",
+        bytes: &OLD_SAFE,
+    },
+    Spelled {
+        name: "mark",
+        bytes: &MARK,
+    },
+    Spelled {
+        name: "join",
+        bytes: &JOIN,
+    },
+    Spelled {
+        name: "commit token",
+        bytes: &COMMIT,
+    },
+];
 
 fn token(alloc: Global) -> Result<Packet, Fail> {
     let mut numbers = Vec::new(alloc);
@@ -84,13 +103,14 @@ fn app(service: Service, bytes: &'static [u8]) -> Result<Packet, Fail> {
         sender: ProcId::of(1),
         body: Body::App {
             service,
-            payload: payload(bytes)?,
+            payload: Payload::new(Bytes::from_static(bytes))?,
         },
     }))
 }
 
-fn old(service: Service) -> Result<Packet, Fail> {
-    Ok(Packet::Message(Message {
+/// 4.1#5 of process 1 with this payload, once more.
+pub(crate) fn old(service: Service, payload: Payload) -> Packet {
+    Packet::Message(Message {
         ring: ring(8),
         number: Number::of(3),
         sender: ProcId::of(2),
@@ -99,9 +119,13 @@ fn old(service: Service) -> Result<Packet, Fail> {
             number: Number::of(5),
             sender: ProcId::of(1),
             service,
-            payload: payload(b"hi")?,
+            payload,
         },
-    }))
+    })
+}
+
+fn old_hi(service: Service) -> Result<Packet, Fail> {
+    Ok(old(service, Payload::new(Bytes::from_static(b"hi"))?))
 }
 
 fn mark() -> Packet {
@@ -117,22 +141,27 @@ fn join(alloc: Global) -> Result<Packet, Fail> {
     Ok(Packet::Join(Join {
         sender: ProcId::of(1),
         seq: Number::of(8),
-        processes: processes(alloc, &[1, 2, 3])?,
-        failed: processes(alloc, &[3])?,
+        processes: set(alloc, &[1, 2, 3])?,
+        failed: set(alloc, &[3])?,
     }))
 }
 
-fn commit(alloc: Global) -> Result<Packet, Fail> {
-    let mut list = Vec::new(alloc);
-    list.push(CommitMember {
+/// Process 1, which reports ring 4.1.
+fn reporting(alloc: Global) -> Result<CommitMember, Fail> {
+    Ok(CommitMember {
         proc: ProcId::of(1),
         report: Some(Report {
             ring: ring(4),
             aru: 5,
             delivered: 4,
-            obligation: processes(alloc, &[1, 3])?,
+            obligation: set(alloc, &[1, 3])?,
         }),
-    })?;
+    })
+}
+
+fn commit(alloc: Global) -> Result<Packet, Fail> {
+    let mut list = Vec::new(alloc);
+    list.push(reporting(alloc)?)?;
     list.push(CommitMember {
         proc: ProcId::of(2),
         report: None,
@@ -144,249 +173,158 @@ fn commit(alloc: Global) -> Result<Packet, Fail> {
     }))
 }
 
-/// Whether the packet has these bytes, is read from them, and is equal to its copy.
-fn is_spelled(alloc: Global, packet: &Packet, bytes: &[u8]) -> Result<bool, Fail> {
-    let spelled = packet.encode(alloc)?;
+/// The packet of this name.
+fn packet(alloc: Global, name: &str) -> Result<Packet, Fail> {
+    match name {
+        "token" => token(alloc),
+        "agreed message" => app(Service::Agreed, b"x"),
+        "safe message" => app(Service::Safe, b""),
+        "agreed old message" => old_hi(Service::Agreed),
+        "safe old message" => old_hi(Service::Safe),
+        "mark" => Ok(mark()),
+        "join" => join(alloc),
+        _ => commit(alloc),
+    }
+}
+
+fn is_encoded(alloc: Global, packet: &Packet, bytes: &[u8]) -> Result<bool, AllocError> {
+    Ok(packet.encode(alloc)?.as_slice() == bytes)
+}
+
+fn is_decoded(alloc: Global, packet: &Packet, bytes: &[u8]) -> Result<bool, Fail> {
     let read = Packet::decode(alloc, bytes)?;
-    let copy = packet.try_clone(alloc)?;
-    let shown = format!(in alloc; "{packet:?}")?;
-    Ok(
-        spelled.as_slice() == bytes
-            && shown == format!(in alloc; "{read:?}")?
-            && shown == format!(in alloc; "{copy:?}")?,
-    )
+    Ok(is_shown_alike(alloc, packet, &read)?)
+}
+
+fn is_copied(alloc: Global, packet: &Packet) -> Result<bool, AllocError> {
+    is_shown_alike(alloc, packet, &packet.try_clone(alloc)?)
+}
+
+/// Whether the packet has these bytes, is read from them, and is equal to its copy.
+pub(crate) fn is_spelled(alloc: Global, packet: &Packet, bytes: &[u8]) -> Result<bool, Fail> {
+    let is_encoded = is_encoded(alloc, packet, bytes)?;
+    let is_decoded = is_decoded(alloc, packet, bytes)?;
+    Ok(is_encoded && is_decoded && is_copied(alloc, packet)?)
+}
+
+/// The same, of the packet of this name.
+fn is_spelled_so(alloc: Global, name: &str, bytes: &[u8]) -> Result<bool, Fail> {
+    is_spelled(alloc, &packet(alloc, name)?, bytes)
 }
 
 #[test]
 fn packets_have_their_bytes(rt: HostRuntime) -> Result<(), Fail> {
-    let alloc = rt.alloc();
-    assert!(rt; is_spelled(alloc, &token(alloc)?, &TOKEN)?);
-    assert!(rt; is_spelled(alloc, &app(Service::Agreed, b"x")?, &MESSAGE)?);
-    assert!(rt; is_spelled(alloc, &app(Service::Safe, b"")?, &SAFE)?);
-    assert!(rt; is_spelled(alloc, &old(Service::Agreed)?, &OLD)?);
-    assert!(rt; is_spelled(alloc, &old(Service::Safe)?, &OLD_SAFE)?);
-    assert!(rt; is_spelled(alloc, &mark(), &MARK)?);
-    assert!(rt; is_spelled(alloc, &join(alloc)?, &JOIN)?);
-    assert!(rt; is_spelled(alloc, &commit(alloc)?, &COMMIT)?);
+    for row in &PACKETS {
+        let is_spelled = is_spelled_so(rt.alloc(), row.name, row.bytes)?;
+        assert!(rt; is_spelled, "the {}", row.name);
+    }
     Ok(())
 }
 
-/// Whether each proper beginning of the bytes is Short, and with one byte more they are Trailing.
-fn ends_there(alloc: Global, bytes: &[u8]) -> Result<bool, AllocError> {
+/// Why these bytes are no packet.
+fn fault_of(alloc: Global, bytes: &[u8]) -> Option<PacketFault> {
+    Packet::decode(alloc, bytes).err()
+}
+
+/// Whether each proper beginning of the bytes is Short.
+fn is_short_before(alloc: Global, bytes: &[u8]) -> bool {
     for end in 0..bytes.len() {
-        if !matches!(
-            Packet::decode(alloc, &bytes[..end]),
-            Err(PacketFault::Short)
-        ) {
-            return Ok(false);
+        if fault_of(alloc, &bytes[..end]) != Some(PacketFault::Short) {
+            return false;
         }
     }
+    true
+}
+
+/// Why the bytes with one byte more are no packet.
+fn fault_behind(alloc: Global, bytes: &[u8]) -> Result<Option<PacketFault>, AllocError> {
     let mut more = bytes.to_vec(alloc)?;
     more.push(0)?;
-    Ok(matches!(Packet::decode(alloc, &more), Err(PacketFault::Trailing)))
+    Ok(fault_of(alloc, &more))
+}
+
+/// Whether each proper beginning of the bytes is Short, and with one byte more they are Trailing.
+pub(crate) fn ends_there(alloc: Global, bytes: &[u8]) -> Result<bool, AllocError> {
+    let behind = fault_behind(alloc, bytes)?;
+    Ok(is_short_before(alloc, bytes) && behind == Some(PacketFault::Trailing))
 }
 
 #[test]
 fn cut_packets_are_short(rt: HostRuntime) -> Result<(), Fail> {
-    let alloc = rt.alloc();
-    let packets: [&[u8]; 8] = [
-        &TOKEN, &MESSAGE, &SAFE, &OLD, &OLD_SAFE, &MARK, &JOIN, &COMMIT,
-    ];
-    for bytes in packets {
-        assert!(rt; ends_there(alloc, bytes)?);
+    for row in &PACKETS {
+        assert!(rt; ends_there(rt.alloc(), row.bytes)?, "the {}", row.name);
     }
     Ok(())
 }
 
 #[test]
-fn first_bytes_of_no_kind(rt: HostRuntime) -> Result<(), Fail> {
-    let alloc = rt.alloc();
+fn first_bytes_of_no_kind(rt: HostRuntime) {
     for first in [0, 5, 255] {
-        assert!(rt; matches!(Packet::decode(alloc, &[first]), Err(PacketFault::Kind)));
-        assert!(rt;
-            matches!(
-                Packet::decode(alloc, &[first, 0, 0]),
-                Err(PacketFault::Kind)
-            )
+        assert_eq!(rt; fault_of(rt.alloc(), &[first]), Some(PacketFault::Kind));
+        assert_eq!(rt;
+            fault_of(rt.alloc(), &[first, 0, 0]),
+            Some(PacketFault::Kind)
         );
     }
-    Ok(())
 }
+
+/// Bytes that have a wrong value at their end.
+const WRONG: [&[u8]; 19] = [
+    // a message: the ring's number, its representative, the number, the sender, the kind, the length
+    &[1, 0, 0, 0, 0],
+    &[1, 0, 0, 0, 4, 0, 0],
+    &[1, 0, 0, 0, 4, 0, 1, 0, 0, 0, 0],
+    &[1, 0, 0, 0, 4, 0, 1, 0, 0, 0, 1, 0, 0],
+    &[1, 0, 0, 0, 4, 0, 1, 0, 0, 0, 1, 0, 1, 5],
+    &[1, 0, 0, 0, 4, 0, 1, 0, 0, 0, 1, 0, 1, 0, 4, 1],
+    // a token: its count of passes, 65 numbers, a number 0, a number that does not rise
+    &[2, 0, 0, 0, 4, 0, 1, 0, 0, 0, 0, 0, 0, 0, 0],
+    &[
+        2, 0, 0, 0, 4, 0, 1, 0, 0, 0, 0, 0, 0, 0, 4, 0, 0, 0, 2, 0, 0, 0, 0, 0, 3, 65,
+    ],
+    &[
+        2, 0, 0, 0, 4, 0, 1, 0, 0, 0, 0, 0, 0, 0, 4, 0, 0, 0, 2, 0, 0, 0, 0, 0, 0, 1, 0, 0, 0, 0,
+    ],
+    &[
+        2, 0, 0, 0, 4, 0, 1, 0, 0, 0, 0, 0, 0, 0, 4, 0, 0, 0, 2, 0, 0, 0, 0, 0, 0, 2, 0, 0, 0, 2,
+        0, 0, 0, 2,
+    ],
+    // a join: its number, 33 processes, processes that do not rise
+    &[3, 0, 1, 0, 0, 0, 0],
+    &[3, 0, 1, 0, 0, 0, 8, 33],
+    &[3, 0, 1, 0, 0, 0, 8, 2, 0, 2, 0, 1],
+    // a commit token: rounds 0 and 3, no member, 33 members, a byte before the report
+    &[4, 0, 0, 0, 8, 0, 1, 0],
+    &[4, 0, 0, 0, 8, 0, 1, 3],
+    &[4, 0, 0, 0, 8, 0, 1, 2, 0],
+    &[4, 0, 0, 0, 8, 0, 1, 2, 33],
+    &[4, 0, 0, 0, 8, 0, 1, 2, 2, 0, 1, 2],
+    // its second member is not above the first
+    &[4, 0, 0, 0, 8, 0, 1, 2, 2, 0, 1, 0, 0, 1],
+];
 
 /// Whether these bytes are refused as Range, and without their last one as Short.
 fn is_wrong_at_its_end(alloc: Global, bytes: &[u8]) -> bool {
     let Some((_, front)) = bytes.split_last() else {
         return false;
     };
-    matches!(Packet::decode(alloc, bytes), Err(PacketFault::Range))
-        && matches!(Packet::decode(alloc, front), Err(PacketFault::Short))
+    fault_of(alloc, bytes) == Some(PacketFault::Range)
+        && fault_of(alloc, front) == Some(PacketFault::Short)
 }
 
 #[test]
-fn wrong_values_are_known_at_once(rt: HostRuntime) -> Result<(), Fail> {
-    let alloc = rt.alloc();
-    let cases: [&[u8]; 19] = [
-        // a message: the ring's number, its representative, the number, the sender, the kind, the length
-        &[1, 0, 0, 0, 0],
-        &[1, 0, 0, 0, 4, 0, 0],
-        &[1, 0, 0, 0, 4, 0, 1, 0, 0, 0, 0],
-        &[1, 0, 0, 0, 4, 0, 1, 0, 0, 0, 1, 0, 0],
-        &[1, 0, 0, 0, 4, 0, 1, 0, 0, 0, 1, 0, 1, 5],
-        &[1, 0, 0, 0, 4, 0, 1, 0, 0, 0, 1, 0, 1, 0, 4, 1],
-        // a token: its count of passes, 65 numbers, a number 0, a number that does not rise
-        &[2, 0, 0, 0, 4, 0, 1, 0, 0, 0, 0, 0, 0, 0, 0],
-        &[
-            2, 0, 0, 0, 4, 0, 1, 0, 0, 0, 0, 0, 0, 0, 4, 0, 0, 0, 2, 0, 0, 0, 0, 0, 3, 65,
-        ],
-        &[
-            2, 0, 0, 0, 4, 0, 1, 0, 0, 0, 0, 0, 0, 0, 4, 0, 0, 0, 2, 0, 0, 0, 0, 0, 0, 1, 0, 0, 0,
-            0,
-        ],
-        &[
-            2, 0, 0, 0, 4, 0, 1, 0, 0, 0, 0, 0, 0, 0, 4, 0, 0, 0, 2, 0, 0, 0, 0, 0, 0, 2, 0, 0, 0,
-            2, 0, 0, 0, 2,
-        ],
-        // a join: its number, 33 processes, processes that do not rise
-        &[3, 0, 1, 0, 0, 0, 0],
-        &[3, 0, 1, 0, 0, 0, 8, 33],
-        &[3, 0, 1, 0, 0, 0, 8, 2, 0, 2, 0, 1],
-        // a commit token: rounds 0 and 3, no member, 33 members, a byte before the report
-        &[4, 0, 0, 0, 8, 0, 1, 0],
-        &[4, 0, 0, 0, 8, 0, 1, 3],
-        &[4, 0, 0, 0, 8, 0, 1, 2, 0],
-        &[4, 0, 0, 0, 8, 0, 1, 2, 33],
-        &[4, 0, 0, 0, 8, 0, 1, 2, 2, 0, 1, 2],
-        // its second member is not above the first
-        &[4, 0, 0, 0, 8, 0, 1, 2, 2, 0, 1, 0, 0, 1],
-    ];
-    for bytes in cases {
-        assert!(rt; is_wrong_at_its_end(alloc, bytes));
+fn wrong_values_are_known_at_once(rt: HostRuntime) {
+    for bytes in WRONG {
+        assert!(rt;
+            is_wrong_at_its_end(rt.alloc(), bytes),
+            "the bytes {bytes:?}"
+        );
     }
-    Ok(())
 }
 
 #[test]
-fn a_token_for_65_numbers(rt: HostRuntime) -> Result<(), Fail> {
+fn a_token_for_65_numbers(rt: HostRuntime) {
     let mut bytes = TOKEN;
     bytes[25] = 65;
-    assert!(rt; matches!(Packet::decode(rt.alloc(), &bytes), Err(PacketFault::Range)));
-    Ok(())
-}
-
-#[test]
-fn the_largest_token(rt: HostRuntime) -> Result<(), Fail> {
-    let alloc = rt.alloc();
-    let mut numbers = Vec::new(alloc);
-    let mut bytes = [
-        2, 255, 255, 255, 255, 255, 255, 255, 255, 255, 255, 255, 255, 255, 255, 255, 255, 255,
-        255, 255, 255, 255, 255, 255, 255, 64,
-    ]
-    .to_vec(alloc)?;
-    for low in 192..256u32 {
-        numbers.push(Number::of(4_294_967_040 + low))?;
-        bytes.extend_from_slice(&[255, 255, 255])?;
-        bytes.push(low as u8)?;
-    }
-    let token = Packet::Token(Token {
-        ring: RingId {
-            seq: 4_294_967_295,
-            rep: ProcId::of(65_535),
-        },
-        token_seq: TokenSeq::of(18_446_744_073_709_551_615),
-        seq: 4_294_967_295,
-        aru: 4_294_967_295,
-        aru_id: ProcId::new(65_535),
-        rtr: Requests::new(numbers)?,
-    });
-    assert!(rt; is_spelled(alloc, &token, &bytes)?);
-    assert!(rt; ends_there(alloc, &bytes)?);
-    Ok(())
-}
-
-#[test]
-fn the_largest_message(rt: HostRuntime) -> Result<(), Fail> {
-    let alloc = rt.alloc();
-    let text = vec![in alloc; 7; 1_024]?;
-    let mut bytes = OLD[..26].to_vec(alloc)?;
-    bytes.extend_from_slice(&[4, 0])?;
-    bytes.extend_from_slice(&text)?;
-    let message = Packet::Message(Message {
-        ring: ring(8),
-        number: Number::of(3),
-        sender: ProcId::of(2),
-        body: Body::Old {
-            ring: ring(4),
-            number: Number::of(5),
-            sender: ProcId::of(1),
-            service: Service::Agreed,
-            payload: Payload::new(Bytes::copy_from_slice(alloc, &text)?)?,
-        },
-    });
-    assert!(rt; is_spelled(alloc, &message, &bytes)?);
-    assert!(rt; ends_there(alloc, &bytes)?);
-    Ok(())
-}
-
-/// 32 processes: 1 to 32.
-fn all_processes(alloc: Global) -> Result<Processes, Fail> {
-    let mut procs = Vec::new(alloc);
-    for number in 1..33u16 {
-        procs.push(ProcId::of(number))?;
-    }
-    Ok(Processes::new(procs)?)
-}
-
-#[test]
-fn the_largest_commit_token(rt: HostRuntime) -> Result<(), Fail> {
-    let alloc = rt.alloc();
-    let mut list = Vec::new(alloc);
-    let mut bytes = [4, 0, 0, 0, 8, 0, 1, 2, 32].to_vec(alloc)?;
-    for number in 1..33u16 {
-        list.push(CommitMember {
-            proc: ProcId::of(number),
-            report: Some(Report {
-                ring: ring(4),
-                aru: 0,
-                delivered: 4_294_967_295,
-                obligation: all_processes(alloc)?,
-            }),
-        })?;
-        bytes.push(0)?;
-        bytes.push(number as u8)?;
-        bytes.extend_from_slice(&[1, 0, 0, 0, 4, 0, 1, 0, 0, 0, 0, 255, 255, 255, 255, 32])?;
-        for process in 1..33u8 {
-            bytes.push(0)?;
-            bytes.push(process)?;
-        }
-    }
-    let token = Packet::Commit(CommitToken {
-        ring: ring(8),
-        round: Round::Second,
-        members: CommitMembers::new(list)?,
-    });
-    assert!(rt; is_spelled(alloc, &token, &bytes)?);
-    assert!(rt; ends_there(alloc, &bytes)?);
-    Ok(())
-}
-
-#[test]
-fn the_largest_join(rt: HostRuntime) -> Result<(), Fail> {
-    let alloc = rt.alloc();
-    let mut bytes = [3, 255, 255, 255, 255, 255, 255].to_vec(alloc)?;
-    for _ in 0..2 {
-        bytes.push(32)?;
-        for process in 1..33u8 {
-            bytes.push(0)?;
-            bytes.push(process)?;
-        }
-    }
-    let join = Packet::Join(Join {
-        sender: ProcId::of(65_535),
-        seq: Number::of(4_294_967_295),
-        processes: all_processes(alloc)?,
-        failed: all_processes(alloc)?,
-    });
-    assert!(rt; is_spelled(alloc, &join, &bytes)?);
-    assert!(rt; ends_there(alloc, &bytes)?);
-    Ok(())
+    assert_eq!(rt; fault_of(rt.alloc(), &bytes), Some(PacketFault::Range));
 }

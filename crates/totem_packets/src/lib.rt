@@ -30,6 +30,10 @@ mod set_fault;
 mod set_tests;
 mod sets;
 #[cfg(test)]
+mod size_tests;
+#[cfg(test)]
+mod test_values;
+#[cfg(test)]
 mod tests;
 mod token;
 mod token_seq;

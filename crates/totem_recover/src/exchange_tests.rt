@@ -43,6 +43,14 @@ fn commit_token(alloc: Global) -> Result<CommitToken, Fail> {
     token(twelve(), members)
 }
 
+fn begun(alloc: Global, me: ProcId, prev: &RingState) -> Result<Recovery, Fail> {
+    let token = commit_token(alloc)?;
+    if !is_ready(me, prev, &token) {
+        return Err("it may not begin".into());
+    }
+    Ok(Recovery::new(alloc, me, prev, &token)?)
+}
+
 /// A member who comes from a ring of these, with these messages of it.
 fn member_of(
     alloc: Global,
@@ -53,11 +61,7 @@ fn member_of(
 ) -> Result<Node, Fail> {
     let mut prev = state(alloc, me, old, members)?;
     hear_all(alloc, &mut prev, messages)?;
-    let token = commit_token(alloc)?;
-    if !is_ready(me, &prev, &token) {
-        return Err("it may not begin".into());
-    }
-    let recovery = Recovery::new(alloc, me, &prev, &token)?;
+    let recovery = begun(alloc, me, &prev)?;
     let ring = state(alloc, me, twelve(), &[1, 2, 3])?;
     Ok(Node {
         prev,
@@ -159,69 +163,121 @@ fn passed_on(alloc: Global, out: &RingOut) -> Result<Token, Fail> {
     Ok(token.try_clone(alloc)?)
 }
 
-/// The token comes to this member, and the others hear what it sends. Answers the token that it passes on, and whether it is
-/// done.
-fn turn(
-    alloc: Global,
-    nodes: &mut Vec<Node>,
-    at: usize,
-    token: &Token,
-) -> Result<(Token, bool), Fail> {
-    let Some(node) = nodes.get_mut(at) else {
-        return Err("no such member".into());
-    };
-    let (out, done) = node.visit(alloc, token)?;
-    for node in nodes.iter_mut() {
-        node.hear_all(alloc, &out)?;
-    }
-    Ok((passed_on(alloc, &out)?, done))
+/// The three members, the token that was passed on, and at which turns, from 0, a member was done.
+#[derive(Drop)]
+struct World {
+    nodes: Vec<Node>,
+    token: Token,
+    done_at: Vec<usize>,
 }
 
-/// The members after so many turns of the token, and who was done at which turn, from 0.
-fn after_turns(alloc: Global, turns: usize) -> Result<(Vec<Node>, Vec<usize>), Fail> {
-    let mut nodes = three_members(alloc)?;
-    let mut done_at = Vec::new(alloc);
-    let mut token = first_token(alloc, twelve());
-    for at in 0..turns {
-        let (next, done) = turn(alloc, &mut nodes, at % 3, &token)?;
+impl World {
+    fn new(alloc: Global) -> Result<World, Fail> {
+        Ok(World {
+            nodes: three_members(alloc)?,
+            token: first_token(alloc, twelve()),
+            done_at: Vec::new(alloc),
+        })
+    }
+
+    /// The token comes to the member whose turn it is.
+    fn visit(&mut self, alloc: Global, turn: usize) -> Result<RingOut, Fail> {
+        let Some(node) = self.nodes.get_mut(turn % 3) else {
+            return Err("no such member".into());
+        };
+        let (out, done) = node.visit(alloc, &self.token)?;
         if done {
-            done_at.push(at)?;
+            self.done_at.push(turn)?;
         }
-        token = next;
+        Ok(out)
     }
-    Ok((nodes, done_at))
+
+    /// The others hear what a visit sent.
+    fn hear(&mut self, alloc: Global, out: &RingOut) -> Result<(), Fail> {
+        for node in self.nodes.iter_mut() {
+            node.hear_all(alloc, out)?;
+        }
+        Ok(())
+    }
+
+    fn turn(&mut self, alloc: Global, turn: usize) -> Result<(), Fail> {
+        let out = self.visit(alloc, turn)?;
+        self.hear(alloc, &out)?;
+        self.token = passed_on(alloc, &out)?;
+        Ok(())
+    }
 }
 
-/// Each sends its list: 1 to 4 are of 1, 5 to 7 of 2, 8 of 3. Whoever comes last holds all marks.
+/// The members after so many turns of the token.
+fn after_turns(alloc: Global, turns: usize) -> Result<World, Fail> {
+    let mut world = World::new(alloc)?;
+    for turn in 0..turns {
+        world.turn(alloc, turn)?;
+    }
+    Ok(world)
+}
+
+/// Of each member its number, the last mark, and how many processes it owes messages.
+fn marks(alloc: Global, nodes: &[Node]) -> Result<String, AllocError> {
+    let mut text = String::new(alloc);
+    for node in nodes {
+        let last = node.recovery.last_mark(&node.ring).unwrap_or(0);
+        let owed = node.recovery.obligation().as_slice().len();
+        text.push_str(format!(in alloc; "{}: {last} {owed}; ", node.ring.me())?.as_str())?;
+    }
+    Ok(text)
+}
+
+/// What each member writes as it leaves its old ring.
+fn all_left(alloc: Global, nodes: &[Node]) -> Result<String, AllocError> {
+    let mut text = String::new(alloc);
+    for node in nodes {
+        text.push_str(node.left(alloc)?.as_str())?;
+        text.push_str("/ ")?;
+    }
+    Ok(text)
+}
+
+/// How many members are done.
+fn done(nodes: &[Node]) -> usize {
+    let mut count = 0usize;
+    for node in nodes {
+        if node.recovery.is_done(&node.ring) {
+            count = count.saturating_add(1);
+        }
+    }
+    count
+}
+
+/// Each sends its list: 1 to 4 are of 1, 5 to 7 of 2, 8 of 3. Whoever comes last holds all marks, and owes messages to itself.
 #[test]
 fn whoever_comes_last_holds_all_marks(rt: HostRuntime) -> Result<(), Fail> {
-    let alloc = rt.alloc();
-    let (nodes, done_at) = after_turns(alloc, 3)?;
-    assert_eq!(rt; done_at.len(), 0);
-    for node in &nodes {
-        assert_eq!(rt; node.recovery.last_mark(&node.ring), Some(8));
-        let owed = if node.ring.me() == ProcId::of(3) {
-            1
-        } else {
-            0
-        };
-        assert_eq!(rt; node.recovery.obligation().as_slice().len(), owed);
-    }
+    let world = after_turns(rt.alloc(), 3)?;
+    let text = marks(rt.alloc(), &world.nodes)?;
+    assert_eq!(rt; text.as_str(), "1: 8 0; 2: 8 0; 3: 8 1; ");
+    Ok(())
+}
+
+#[test]
+fn nobody_is_done_in_the_first_round(rt: HostRuntime) -> Result<(), Fail> {
+    let world = after_turns(rt.alloc(), 3)?;
+    assert_eq!(rt; world.done_at.len(), 0);
     Ok(())
 }
 
 /// Who has seen the token leave twice with the last number is done: first the third, then the others.
 #[test]
+fn the_third_is_done_first(rt: HostRuntime) -> Result<(), Fail> {
+    let world = after_turns(rt.alloc(), 9)?;
+    assert_eq!(rt; world.done_at.as_slice(), [5, 6, 7, 8].as_slice());
+    assert_eq!(rt; done(&world.nodes), 3);
+    Ok(())
+}
+
+#[test]
 fn two_rings_become_one(rt: HostRuntime) -> Result<(), Fail> {
-    let alloc = rt.alloc();
-    let (nodes, done_at) = after_turns(alloc, 9)?;
-    assert_eq!(rt; done_at.as_slice(), [5, 6, 7, 8].as_slice());
-    let mut text = String::new(alloc);
-    for node in &nodes {
-        assert_eq!(rt; node.recovery.is_done(&node.ring), true);
-        text.push_str(node.left(alloc)?.as_str())?;
-        text.push_str("/ ")?;
-    }
+    let world = after_turns(rt.alloc(), 9)?;
+    let text = all_left(rt.alloc(), &world.nodes)?;
     assert_eq!(rt;
         text.as_str(),
         "conf t12.1/1 1 2; dlv t12.1/1 4.1#3; dlv t12.1/1 4.1#6; conf r12.1 1 2 3; / dlv r4.1 4.1#2; conf t12.1/1 1 2; dlv t12.1/1 4.1#3; dlv t12.1/1 4.1#6; conf r12.1 1 2 3; / conf t12.1/3 3; conf r12.1 1 2 3; / "

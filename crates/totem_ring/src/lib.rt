@@ -10,6 +10,8 @@ mod outcome;
 mod refusals;
 mod requests;
 #[cfg(test)]
+mod samples;
+#[cfg(test)]
 mod schedule_tests;
 mod start;
 mod state;

@@ -14,6 +14,8 @@ mod streams;
 #[cfg(test)]
 mod table;
 #[cfg(test)]
+mod threads;
+#[cfg(test)]
 mod verdicts;
 #[cfg(test)]
 mod word_lists;

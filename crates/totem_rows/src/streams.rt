@@ -110,7 +110,12 @@ fn a_script_without_an_end_is_refused(rt: HostRuntime) -> Result<(), Fail> {
 #[test]
 fn a_write_that_fails_is_told(rt: HostRuntime) -> Result<(), Fail> {
     let alloc = rt.alloc();
-    for (asked, text) in [("audit", GOOD), ("sim", SCRIPT), ("--help", "")] {
+    for (asked, text) in [
+        ("audit", GOOD),
+        ("sim", SCRIPT),
+        ("run --ticks 8", ""),
+        ("--help", ""),
+    ] {
         let words = words(alloc, asked)?;
         let text = lines(alloc, text)?;
         let mut input = FromRead::new(text.as_bytes());

@@ -12,6 +12,7 @@ fn help_that_was_asked_for_goes_to_the_output(rt: HostRuntime) -> Result<(), Fai
         "help audit",
         "check -h",
         "sim --help",
+        "run --help",
     ] {
         let found = run(&rt, rt.alloc(), words, "")?;
         assert_eq!(rt; found.status, 0, "status of {words}");

@@ -1,5 +1,5 @@
 use Rattle.std.proofs.Common.{refl}
-use Rattle.totem_cluster.specs.Endings.{judged, failed, checked, unchecked, simulated, unsimulated, explained}
+use Rattle.totem_cluster.specs.Endings.{judged, failed, checked, unchecked, simulated, unsimulated, explained, played}
 use Rattle.totem_cluster.proofs.shell.program.Goals as goal
 
 pub returns-in-Err : goal.returns-in-Err
@@ -24,3 +24,6 @@ returns-in-Ok-sim_io g c = rw c.status-in-Ok-sim_io.ensures (simulated _ c.in-Ok
 pub returns-in-Err-sim_io : goal.returns-in-Err-sim_io
 returns-in-Err-sim_io g c =
     rw c.tell_fault-in-Err-sim_io.ensures.status (unsimulated _ c.in-Err-sim_io.ensures c.tell_fault-in-Err-sim_io.ensures.line)
+
+pub returns-in-Ok-Run : goal.returns-in-Ok-Run
+returns-in-Ok-Run g c = played _ refl c.play.ensures

@@ -1,0 +1,44 @@
+-- What a run in threads writes (docs/PROTOCOL.md, "A run in threads").
+use Rattle.std.specs.Prelude.{◌≡◌, ℕ, ◌+◌, ◌%◌, ◌^◌, List, Result, Ok, Err}
+use Rattle.totem_ids.specs.Writing.{Held, Wrote}
+use Rattle.totem_evs.specs.LogRecord.{LogRecord}
+use Rattle.totem_evs.specs.Runs.{IsRun}
+use Rattle.totem_evs.specs.RunText.{run_text}
+use Rattle.totem_books.specs.Seats.{Closed}
+use Rattle.totem_threads.specs.Books.{IsRunOf}
+use Rattle.totem_cluster.specs.declared.outcome.Outcome.{Outcome}
+use Rattle.totem_cluster.specs.declared.outcome.Outcome.TheVariants as outcomes
+use Rattle.totem_cluster.specs.declared.io_fault.IoFault.{IoFault}
+use Rattle.totem_cluster.specs.declared.io_fault.IoFault.TheVariants as faults
+
+-- a book took no further call or wasn't closed, or memory or a thread was refused
+abbrev pub IsOfThreads : IoFault → Type 0
+IsOfThreads (faults.Book trouble) = Unit {0}
+IsOfThreads faults.Memory = Unit {0}
+IsOfThreads faults.Write = ⊥
+IsOfThreads (faults.Run fault) = ⊥
+IsOfThreads (faults.Cert fault) = ⊥
+IsOfThreads (faults.Refused fault) = ⊥
+IsOfThreads (faults.Script fault) = ⊥
+
+-- a book was closed for each of so many nodes, and the text of their logs was written and nothing else
+pub record IsRecorded (nodes : ℕ) (was is : Held) : Type 0 where
+  pub books : List Closed
+  pub logs : List LogRecord
+  pub run : IsRun logs
+  pub run_of : IsRunOf nodes books logs
+  pub written : Wrote was is (run_text logs)
+
+-- a book took no further call or wasn't closed; or memory or a thread was refused: nothing was written; or the sink
+-- failed in this call
+abbrev pub Records : ℕ → Held → Held → Result Outcome IoFault → Type 0
+Records nodes was is (Ok outcomes.Made) = IsRecorded nodes was is
+Records nodes was is (Ok outcomes.Yes) = ⊥
+Records nodes was is (Ok outcomes.No) = ⊥
+Records nodes was is (Err (faults.Book trouble)) = is ≡ was
+Records nodes was is (Err faults.Memory) = is ≡ was
+Records nodes was is (Err faults.Write) = is.failures ≡ (was.failures + 1) % 2 ^ 64
+Records nodes was is (Err (faults.Run fault)) = ⊥
+Records nodes was is (Err (faults.Cert fault)) = ⊥
+Records nodes was is (Err (faults.Refused fault)) = ⊥
+Records nodes was is (Err (faults.Script fault)) = ⊥

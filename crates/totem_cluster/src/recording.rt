@@ -1,0 +1,51 @@
+//! Runs of nodes in threads.
+ghost use Rattle.std.specs.Prelude.{[], IfOk, IfErr};
+ghost use Rattle.totem_ids.specs.Writing.{held};
+ghost use Rattle.totem_threads.specs.Starts.{IsInRange};
+ghost use Rattle.totem_threads.specs.Books.{IsRunOf};
+ghost use Rattle.totem_cluster.specs.RunIo.{Records, IsOfThreads};
+
+use crate::io_fault::IoFault;
+use crate::outcome::Outcome;
+use std::alloc::Global;
+use std::sync::Wait;
+use std::thread::Threads;
+use totem_books::ClosedBook;
+use totem_evs::{Run, write_run};
+use totem_ids::Sink;
+use totem_net::{Quiet, Start};
+use totem_threads::{RunPlan, run_nodes};
+
+/// Runs so many nodes in threads, on ring 4.1, over a network that does what the plan says, until the ticks are used up
+/// (docs/PROTOCOL.md, "A run in threads"). Answers what they recorded, and their books in rising order. The receiving
+/// thread of each node calls `begun` before it receives. It waits for all threads; which run comes out is open.
+pub fn run_threads<S: Start, R: Threads + Wait + Sync>(
+    rt: &R,
+    alloc: Global,
+    plan: RunPlan,
+    start: &S,
+) -> Result<(Run, Vec<ClosedBook>), IoFault>
+    requires { IsInRange plan }
+    ensures run { IfOk result (λ made. IsRunOf plan.nodes made.1.items made.0.logs) }
+    ensures faults { IfErr result IsOfThreads }
+{
+    Ok(run_nodes(rt, alloc, plan, start)?)
+}
+
+/// Runs nodes in threads, and writes the run that they record.
+pub fn run_io<R: Threads + Wait + Sync, W: Sink>(
+    rt: &R,
+    alloc: Global,
+    plan: RunPlan,
+    output: &mut W,
+) -> Result<Outcome, IoFault>
+    requires { IsInRange plan }
+    ensures { Records plan.nodes (held W.contents W.failures [] output.old) (held W.contents W.failures [] output.new) result }
+{
+    let (run, _) = match run_threads(rt, alloc, plan, &Quiet) {
+        Ok(made) => made,
+        Err(fault) => return Err(fault),
+    };
+    write_run(alloc, &run, output)?;
+    Ok(Outcome::Made)
+}

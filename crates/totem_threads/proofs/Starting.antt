@@ -1,0 +1,119 @@
+-- The members of the first ring, and the logs of its nodes.
+use Rattle.std.proofs.Common.{◌≡◌, ℕ, ◌+◌, ◌<◌, ◌≤◌, List, [], ◌∷◌, ◌++◌, length, take, get_or, map, refl, ap, sym, subst, ◌∙◌, arith}
+use Rattle.std.specs.Prelude.{AllPairs}
+use Rattle.std.proofs.lemmas.List.{length-map, get_or-map, length-take-le, get_or-take, map-append, take_more, take_all}
+use Rattle.std.proofs.lemmas.List.FromFn.{length-range_with_len, get_or-range_with_len}
+use Rattle.totem_evs.specs.declared.refused.ListFault.{ListFault}
+use Rattle.totem_evs.specs.declared.refused.ListFault.TheVariants.{Empty, TooMany, NotRising}
+use Rattle.totem_evs.specs.Lists.{Refuses}
+use Rattle.totem_evs.specs.LogRecord.{LogRecord}
+use Rattle.totem_evs.specs.Members.{IsMembers}
+use Rattle.totem_evs.specs.Runs.{IsBelowLog}
+use Rattle.totem_net.specs.declared.ends.NodeEnds.{NodeEnds}
+use Rattle.totem_net.specs.Nodes.{node_numbers}
+use Rattle.totem_net.proofs.Numbers.{one_more}
+use Rattle.totem_books.specs.Replay.{Start}
+use Rattle.totem_books.specs.Seats.{Closed}
+use Rattle.totem_threads.specs.Starts.{start_of, starts}
+use Rattle.totem_threads.specs.Books.{AreLogsOf}
+
+number_at : (n i d : ℕ) → i < n → get_or (node_numbers n) i d ≡ 1 + i
+number_at n i d less = get_or-range_with_len 1 n i d less
+
+-- one process more
+pub numbers_more : (xs : List ℕ) (n j : ℕ) → xs ≡ node_numbers n → j ≡ n + 1 → xs ++ j ∷ [] ≡ node_numbers (n + 1)
+numbers_more xs n j is next = ap (λ (ys : List ℕ). ys ++ j ∷ []) is ∙ sym (one_more n j next)
+
+-- 1 to n are members, where they are 1 to 32
+pub are_members : (n : ℕ) → 0 < n → n ≤ 32 → IsMembers (node_numbers n)
+are_members n some few =
+    let count = length-range_with_len 1 n in
+    record {
+      some = omega (arith, count, some);
+      few = omega (arith, count, few);
+      rising = λ i j d less inside. rw (number_at n i d (omega (arith, count)), number_at n j d (omega (arith, count))) (omega arith);
+      processes = λ i d inside. rw (number_at n i d (omega (arith, count))) (record { positive = omega arith; small = omega (arith, count) });
+    }
+
+-- ---- With what the nodes begin
+
+apart : (n : ℕ) (ends : List NodeEnds) → map (λ (e : NodeEnds). start_of n e.node) ends ≡ map (start_of n) (map (λ (e : NodeEnds). e.node) ends)
+apart n [] = refl
+apart n (e ∷ es) = ap (λ (xs : List Start). start_of n e.node ∷ xs) (apart n es)
+
+-- the nodes of a network begin as all
+pub starts_of : (n : ℕ) (ends : List NodeEnds) → map (λ (e : NodeEnds). e.node) ends ≡ node_numbers n
+    → map (λ (e : NodeEnds). start_of n e.node) ends ≡ starts n
+starts_of n ends are = apart n ends ∙ ap (map (start_of n)) are
+
+-- ---- The processes of the books
+
+mes : (books : List Closed) → map (λ (s : Start). s.me) (map (λ (b : Closed). b.start) books) ≡ map (λ (b : Closed). b.start.me) books
+mes [] = refl
+mes (b ∷ bs) = ap (λ (xs : List ℕ). b.start.me ∷ xs) (mes bs)
+
+numbers : (nodes : ℕ) (ns : List ℕ) → map (λ (s : Start). s.me) (map (start_of nodes) ns) ≡ ns
+numbers nodes [] = refl
+numbers nodes (n ∷ ns) = ap (λ (xs : List ℕ). n ∷ xs) (numbers nodes ns)
+
+processes : (nodes : ℕ) (books : List Closed) (logs : List LogRecord) → map (λ (b : Closed). b.start) books ≡ starts nodes → AreLogsOf books logs
+    → map (λ (l : LogRecord). l.proc) logs ≡ node_numbers nodes
+processes nodes books logs begun are =
+    are.processes ∙ sym (mes books) ∙ ap (map (λ (s : Start). s.me)) begun ∙ numbers nodes (node_numbers nodes)
+
+-- ---- Their logs are those of a run
+
+module _ (nodes : ℕ) (logs : List LogRecord) (procs : map (λ (l : LogRecord). l.proc) logs ≡ node_numbers nodes) where
+  as_many : length logs ≡ nodes
+  as_many = sym (length-map logs (λ (l : LogRecord). l.proc)) ∙ ap length procs ∙ length-range_with_len 1 nodes
+
+  process_at : (i : ℕ) (d : LogRecord) → i < length logs → (get_or logs i d).proc ≡ 1 + i
+  process_at i d inside =
+      sym (get_or-map (λ (l : LogRecord). l.proc) logs i d 0 inside)
+      ∙ ap (λ (xs : List ℕ). get_or xs i 0) procs
+      ∙ number_at nodes i 0 (omega (arith, as_many))
+
+  rise : AllPairs IsBelowLog logs
+  rise i j d less inside = rw (process_at i d (omega arith), process_at j d inside) (omega arith)
+
+front_pairs : {X : Type 0} (R : X → X → Type 0) (xs : List X) (n : ℕ) → n ≤ length xs → AllPairs R xs → AllPairs R (take n xs)
+front_pairs R xs n fits all = λ i j d less inside.
+    let many = length-take-le n xs in
+    let within : j < n = omega (arith, many) in
+    rw (get_or-take n xs i d (omega arith), get_or-take n xs j d within) (all i j d less (omega arith))
+
+-- they are refused by none of the rules
+pub logs_taken : (nodes : ℕ) (books : List Closed) (logs : List LogRecord) (fault : ListFault) → nodes ≤ 32
+    → map (λ (b : Closed). b.start) books ≡ starts nodes → AreLogsOf books logs → Refuses 0 32 IsBelowLog logs fault → ⊥
+logs_taken nodes books logs Empty few begun are refused = let none = refused.0 in omega arith
+logs_taken nodes books logs (TooMany limit) few begun are refused =
+    let many = refused.1 in
+    let same = as_many nodes logs (processes nodes books logs begun are) in
+    omega arith
+logs_taken nodes books logs (NotRising at) few begun are refused =
+    let within = refused.1.within in
+    refused.1.falls (front_pairs IsBelowLog logs (at + 1) (omega (arith, within)) (rise nodes logs (processes nodes books logs begun are)))
+
+-- ---- Books and their logs, one after another
+
+mapped : {A B C : Type 0} (f : A → C) (g : B → C) (xs : List A) (ys : List B) (x : A) (y : B) → map f xs ≡ map g ys → f x ≡ g y
+    → map f (xs ++ x ∷ []) ≡ map g (ys ++ y ∷ [])
+mapped {C = C} f g xs ys x y before here =
+    map-append f xs (x ∷ [])
+    ∙ ap (λ (zs : List C). zs ++ f x ∷ []) before
+    ∙ ap (λ (z : C). map g ys ++ z ∷ []) here
+    ∙ sym (map-append g ys (y ∷ []))
+
+-- one log more
+pub logs_more : (books : List Closed) (logs : List LogRecord) (i : ℕ) (b : Closed) (l : LogRecord) → b ≡ get_or books i b → i < length books
+    → AreLogsOf (take i books) logs → l.proc ≡ b.start.me → l.entries ≡ b.log → AreLogsOf (take (i + 1) books) (logs ++ l ∷ [])
+logs_more books logs i b l is within before proc entries =
+    let more : take (i + 1) books ≡ take i books ++ b ∷ [] = take_more books i b within ∙ ap (λ (x : Closed). take i books ++ x ∷ []) (sym is) in
+    rw more (record {
+      processes = mapped (λ (l : LogRecord). l.proc) (λ (b : Closed). b.start.me) logs (take i books) l b before.processes proc;
+      entries = mapped (λ (l : LogRecord). l.entries) (λ (b : Closed). b.log) logs (take i books) l b before.entries entries;
+    })
+
+-- all of them
+pub logs_all : (books : List Closed) (logs : List LogRecord) (i : ℕ) → length books ≤ i → AreLogsOf (take i books) logs → AreLogsOf books logs
+logs_all books logs i end are = subst (λ (bs : List Closed). AreLogsOf bs logs) (take_all i books end) are

@@ -1,0 +1,6 @@
+use Rattle.std.proofs.Common.{take}
+use Rattle.totem_threads.specs.Books.{AreLogsOf}
+use Rattle.totem_threads.proofs.logs.logs_of.Given as goal
+
+abbrev pub invariant-loop-book : goal.invariant-loop-book
+invariant-loop-book l = AreLogsOf (take l.book-index l.books) l.logs.items

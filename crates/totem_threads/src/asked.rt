@@ -1,0 +1,13 @@
+//! What a word asks of a node.
+use totem_node::Input;
+
+/// What a word asks of the thread that is given it.
+#[derive(Debug, Drop)]
+pub enum Asked {
+    /// To give its node this.
+    Input(Input),
+    /// Nothing.
+    Nothing,
+    /// To stop.
+    Stop,
+}

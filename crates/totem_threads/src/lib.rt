@@ -1,0 +1,19 @@
+//! Runs in threads: nodes that share books with their threads, over a network of channels.
+#![tactic(auto)]
+
+mod ask_words;
+mod asked;
+mod fault;
+mod firsts;
+mod logs;
+mod node;
+mod plan;
+mod run;
+mod sending;
+mod serving;
+#[cfg(test)]
+mod tests;
+
+pub use fault::{BookTrouble, ThreadsFault};
+pub use plan::RunPlan;
+pub use run::run_nodes;

@@ -1,0 +1,62 @@
+//! The run that books are.
+ghost use Rattle.std.specs.Prelude.{◌≡◌, ◌≤◌, IfOk, map, All};
+ghost use Rattle.totem_threads.specs.Starts.{starts};
+ghost use Rattle.totem_threads.specs.Books.{AreLogsOf, IsReplayed};
+
+use crate::fault::{BookTrouble, ThreadsFault};
+use std::alloc::{AllocError, Global};
+use totem_books::{BookFault, ClosedBook};
+use totem_evs::{Entries, Entry, Log, Run};
+
+fn copy_of(alloc: Global, entries: &[Entry]) -> Result<Vec<Entry>, AllocError>
+    ensures { IfOk result (λ copy. copy.items ≡ entries.now) }
+{
+    let mut copy = Vec::with_capacity(alloc, entries.len())?;
+    for entry in entries {
+        copy.push(entry.try_clone(alloc)?)?;
+    }
+    Ok(copy)
+}
+
+/// The log of a book. One that is longer than a log may be is refused as a call of it is.
+fn log_of(alloc: Global, book: &ClosedBook) -> Result<Log, ThreadsFault>
+    ensures process { IfOk result (λ log. log.proc ≡ book.now.start.me) }
+    ensures entries { IfOk result (λ log. log.entries ≡ book.now.log) }
+{
+    match Entries::new(copy_of(alloc, book.log())?) {
+        Ok(entries) => Ok(Log::new(book.me(), entries)),
+        Err(_) => Err(ThreadsFault::Book(BookTrouble::Call(BookFault::Long))),
+    }
+}
+
+fn logs_of(alloc: Global, books: &[ClosedBook]) -> Result<Vec<Log>, ThreadsFault>
+    ensures { IfOk result (λ logs. AreLogsOf books.now logs.items) }
+{
+    let mut logs = Vec::with_capacity(alloc, books.len())?;
+    for book in books {
+        logs.push(log_of(alloc, book)?)?;
+    }
+    Ok(logs)
+}
+
+/// What the type of each book keeps, this passes on.
+pub fn all_replayed(books: &[ClosedBook])
+    ensures { All IsReplayed books.now }
+{
+    for book in books {
+        book.log();
+    }
+}
+
+/// The run of these books.
+#[tactic(auto, using(crate::proofs::Starting::logs_taken))]
+pub fn run_of(alloc: Global, nodes: u16, books: &[ClosedBook]) -> Result<Run, ThreadsFault>
+    requires few { nodes ≤ 32 }
+    requires begun { map (λ b. b.start) books.now ≡ starts nodes }
+    ensures { IfOk result (λ run. AreLogsOf books.now run.logs) }
+{
+    match Run::new(logs_of(alloc, books)?) {
+        Ok(run) => Ok(run),
+        Err(_) => unreachable!(),
+    }
+}

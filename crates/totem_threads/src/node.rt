@@ -1,0 +1,115 @@
+//! A node's thread: it opens the node's book, runs three threads over it, and closes it.
+ghost use Rattle.std.specs.Prelude.{◌≡◌, ◌<◌, ◌≤◌, IfOk, vec_len};
+ghost use Rattle.totem_threads.specs.Starts.{first_ring, start_of};
+
+use crate::fault::ThreadsFault;
+use crate::firsts::{first_members, first_ring};
+use crate::serving::{receive, serve};
+use std::alloc::Global;
+use std::marker::Brand;
+use std::sync::Wait;
+use std::sync::ledger::Blank;
+use std::thread;
+use std::thread::Threads;
+use totem_books::{BookFault, BookName, ClosedBook, Seat, SharedBook};
+use totem_evs::Members;
+use totem_net::{NodeEnds, Start};
+
+/// The three seats.
+fn three<L: BookName>(seats: Vec<Seat<L>>) -> (Seat<L>, Seat<L>, Seat<L>)
+    requires { vec_len seats ≡ 3 }
+{
+    let mut seats = seats;
+    let (Some(third), Some(second), Some(first)) = (seats.pop(), seats.pop(), seats.pop()) else {
+        unreachable!()
+    };
+    (first, second, third)
+}
+
+/// Runs the node's threads to their ends, and answers their seats.
+fn serve_all<L: BookName + Send + Sync, S: Start, R: Threads + Wait + Sync>(
+    rt: &R,
+    alloc: Global,
+    book: &SharedBook<L>,
+    seats: Vec<Seat<L>>,
+    ends: NodeEnds,
+    start: &S,
+) -> Result<Vec<Seat<L>>, BookFault>
+    requires { vec_len seats ≡ 3 }
+{
+    let (first, second, third) = three(seats);
+    let NodeEnds {
+        node,
+        receiving,
+        timer,
+        client,
+    } = ends;
+    thread::scope(
+        thread::scope_env(),
+        rt,
+        move |scope| -> Result<Vec<Seat<L>>, BookFault> {
+            let Ok(receiver) = scope.spawn(move || receive(
+                rt, alloc, book, first, receiving, node, start,
+            )) else {
+                return Err(BookFault::Memory);
+            };
+            let Ok(timing) = scope.spawn(move || serve(rt, alloc, book, second, timer)) else {
+                return Err(BookFault::Memory);
+            };
+            let Ok(asking) = scope.spawn(move || serve(rt, alloc, book, third, client)) else {
+                return Err(BookFault::Memory);
+            };
+            let mut back = Vec::with_capacity(alloc, 3)?;
+            back.push(receiver.join(rt)?)?;
+            back.push(timing.join(rt)?)?;
+            back.push(asking.join(rt)?)?;
+            Ok(back)
+        },
+    )
+}
+
+/// The book of this name, from its first call to its last.
+fn keep_book<L: BookName + Send + Sync, S: Start, R: Threads + Wait + Sync>(
+    rt: &R,
+    alloc: Global,
+    blank: Blank,
+    members: &Members,
+    ends: NodeEnds,
+    start: &S,
+) -> Result<ClosedBook, ThreadsFault>
+    requires ledger { (blank.name ≡ L.name) × (blank.parts ≡ L.parts) × (L.parts ≡ 3) }
+    requires start { (ends.node ≡ L.me) × (L.ring ≡ first_ring) × (L.members ≡ members.now) }
+    ensures me { IfOk result (λ book. book.start.me ≡ ends.node) }
+    ensures ring { IfOk result (λ book. book.start.ring ≡ first_ring) }
+    ensures members { IfOk result (λ book. book.start.members ≡ members.now) }
+{
+    let me = ends.node;
+    let (book, seats) = SharedBook::<L>::new(
+        alloc,
+        blank,
+        me,
+        first_ring(),
+        members.as_slice(),
+        3,
+    )?;
+    let back = serve_all(rt, alloc, &book, seats, ends, start)?;
+    match book.close(alloc, back) {
+        Ok(closed) => Ok(closed),
+        Err(refused) => Err(ThreadsFault::from(refused.fault)),
+    }
+}
+
+/// One of so many nodes, from its first word to its last.
+pub fn run_node<S: Start, R: Threads + Wait + Sync>(
+    rt: &R,
+    alloc: Global,
+    nodes: u16,
+    ends: NodeEnds,
+    start: &S,
+) -> Result<ClosedBook, ThreadsFault>
+    requires { (0 < nodes) × (nodes ≤ 32) }
+    ensures { IfOk result (λ book. book.start ≡ start_of nodes ends.node) }
+{
+    let members = first_members(alloc, nodes)?;
+    keep_book::<Brand, S, R>(rt, alloc, Blank::new(3), &members, ends, start)
+}

@@ -1,0 +1,123 @@
+//! A run in threads.
+ghost use Rattle.std.specs.Prelude.{◌≡◌, ◌<◌, ◌≤◌, IfOk, map};
+ghost use Rattle.totem_net.specs.Nodes.{node_numbers};
+ghost use Rattle.totem_threads.specs.Starts.{IsInRange, start_of, starts};
+ghost use Rattle.totem_threads.specs.Books.{IsRunOf};
+
+use crate::fault::ThreadsFault;
+use crate::firsts::first_packet;
+use crate::logs::{all_replayed, run_of};
+use crate::node::run_node;
+use crate::plan::RunPlan;
+use std::alloc::Global;
+use std::sync::Wait;
+use std::thread;
+use std::thread::{Promise, PromisedHandle, Threads};
+use totem_books::ClosedBook;
+use totem_evs::Run;
+use totem_ids::ProcId;
+use totem_net::{Fates, Network, Start};
+
+/// That a thread's book, where it gives one, is the book of this node in a run of so many.
+#[derive(Clone, Copy)]
+struct BookOf {
+    node: ProcId,
+    nodes: u16,
+}
+
+impl Promise<Result<ClosedBook, ThreadsFault>> for BookOf {
+    ghost use Rattle.std.specs.Prelude.{◌≡◌, IfOk};
+    ghost use Rattle.totem_threads.specs.Starts.{start_of};
+
+    ghost kept_by = { λ p r. IfOk r (λ book. book.start ≡ start_of p.nodes p.node) };
+}
+
+type NodeHandle = PromisedHandle<Result<ClosedBook, ThreadsFault>, BookOf>;
+
+/// The books of the threads, once each has ended.
+fn joined<R: Threads>(
+    rt: &R,
+    alloc: Global,
+    running: Vec<NodeHandle>,
+) -> Result<Vec<ClosedBook>, ThreadsFault>
+    ensures { IfOk result (λ books. map (λ b. b.start) books.items
+        ≡ map (λ h. start_of h.promise.nodes h.promise.node) running.items) }
+{
+    let mut books = Vec::with_capacity(alloc, running.len())?;
+    for handle in running {
+        books.push(handle.join(rt)?)?;
+    }
+    Ok(books)
+}
+
+/// Runs the nodes in threads over their network, with the switch in this one, and answers their books.
+fn run_network<S: Start, R: Threads + Wait + Sync>(
+    rt: &R,
+    alloc: Global,
+    count: u16,
+    network: Network,
+    start: &S,
+) -> Result<Vec<ClosedBook>, ThreadsFault>
+    requires few { (0 < count) × (count ≤ 32) }
+    requires nodes { map (λ ends. ends.node) network.nodes.items ≡ node_numbers count }
+    ensures { IfOk result (λ books. map (λ b. b.start) books.items ≡ starts count) }
+{
+    let Network {
+        switch,
+        pacer,
+        nodes,
+    } = network;
+    thread::scope(
+        thread::scope_env(),
+        rt,
+        move |scope| -> Result<Vec<ClosedBook>, ThreadsFault>
+            requires few { (0 < count) × (count ≤ 32) }
+            requires nodes { map (λ ends. ends.node) nodes.items ≡ node_numbers count }
+            ensures { IfOk result (λ books. map (λ b. b.start) books.items ≡ starts count) }
+        {
+            let mut running = Vec::with_capacity(alloc, nodes.len())?;
+            for ends in nodes {
+                let promise = BookOf {
+                    node: ends.node,
+                    nodes: count,
+                };
+                let node = move || -> Result<ClosedBook, ThreadsFault>
+                    requires { (0 < count) × (count ≤ 32) }
+                { run_node(rt, alloc, count, ends, start) };
+                let Ok(handle) = scope.spawn_with(promise, node) else {
+                    return Err(ThreadsFault::Memory);
+                };
+                running.push(handle)?;
+            }
+            let Ok(pacing) = scope.spawn(move || pacer.run(rt)) else {
+                return Err(ThreadsFault::Memory);
+            };
+            let served = switch.run(rt, alloc);
+            pacing.join(rt);
+            let books = joined(rt, alloc, running)?;
+            served?;
+            Ok(books)
+        },
+    )
+}
+
+/// Runs so many nodes in threads, on ring 4.1, over a network that does what the plan says, until the ticks are used up
+/// (docs/PROTOCOL.md, "A run in threads"). Answers what the nodes recorded, and their books in rising order. It waits for
+/// all threads; which run comes out is open.
+pub fn run_nodes<S: Start, R: Threads + Wait + Sync>(
+    rt: &R,
+    alloc: Global,
+    plan: RunPlan,
+    start: &S,
+) -> Result<(Run, Vec<ClosedBook>), ThreadsFault>
+    requires { IsInRange plan }
+    ensures { IfOk result (λ made. IsRunOf plan.nodes made.1.items made.0.logs) }
+{
+    let fates = Fates::new(plan.seed, plan.plan);
+    let first = first_packet(alloc)?;
+    let network = Network::new(alloc, plan.nodes, plan.ticks, fates, first)?;
+    let books = run_network(rt, alloc, plan.nodes, network, start)?;
+    let run = run_of(alloc, plan.nodes, books.as_slice())?;
+    all_replayed(&books);
+    Ok((run, books))
+}

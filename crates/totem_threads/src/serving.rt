@@ -1,0 +1,49 @@
+//! What each thread of a node does.
+use crate::ask_words::Word;
+use crate::asked::Asked;
+use crate::sending::send;
+use std::alloc::Global;
+use std::sync::Wait;
+use totem_books::{BookFault, BookName, Seat, SharedBook};
+use totem_ids::ProcId;
+use totem_net::{PacketWord, Start, ThreadEnd};
+
+/// Gives the node what each word asks, and sends what it answers, until a stop word comes or the switch is gone. Answers
+/// the seat, with the receipts of these calls.
+pub fn serve<L: BookName, W: Word, R: Wait>(
+    rt: &R,
+    alloc: Global,
+    book: &SharedBook<L>,
+    seat: Seat<L>,
+    end: ThreadEnd<W>,
+) -> Result<Seat<L>, BookFault> {
+    let mut seat = seat;
+    for _ in rt.forever() {
+        let Ok(word) = end.words.recv(rt) else {
+            break;
+        };
+        match word.asked(alloc)? {
+            Asked::Input(input) => {
+                let reply = book.call(rt, alloc, &mut seat, input)?;
+                send(rt, alloc, &end.outlet, &reply)?;
+            }
+            Asked::Nothing => {}
+            Asked::Stop => break,
+        }
+    }
+    Ok(seat)
+}
+
+/// The receiving thread tells that its node has begun, and then does as the others.
+pub fn receive<L: BookName, S: Start, R: Wait>(
+    rt: &R,
+    alloc: Global,
+    book: &SharedBook<L>,
+    seat: Seat<L>,
+    end: ThreadEnd<PacketWord>,
+    node: ProcId,
+    start: &S,
+) -> Result<Seat<L>, BookFault> {
+    start.begun(node);
+    serve(rt, alloc, book, seat, end)
+}
