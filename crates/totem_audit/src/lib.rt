@@ -5,8 +5,6 @@ mod auditor;
 mod gate;
 mod job_result;
 mod last_pass;
-#[cfg(test)]
-mod tests;
 mod verdict;
 mod workers;
 

@@ -13,19 +13,13 @@ mod kept;
 mod level;
 mod marks;
 mod name;
-#[cfg(test)]
-mod receipt_tests;
 mod receipts;
 mod reply;
 mod seat;
 mod settle;
 mod shared;
-#[cfg(test)]
-mod shared_tests;
 mod stepping;
 mod taken;
-#[cfg(test)]
-mod tests;
 
 pub use book::Book;
 pub use book_fault::BookFault;

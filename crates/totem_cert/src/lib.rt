@@ -18,18 +18,10 @@ mod numbering;
 mod numbers;
 mod open_line;
 mod order;
-#[cfg(test)]
-mod position_tests;
 mod reading;
 mod ready;
 mod step;
-#[cfg(test)]
-mod test_values;
-#[cfg(test)]
-mod tests;
 mod text_laws;
-#[cfg(test)]
-mod text_tests;
 mod twins;
 mod visit;
 mod walk;

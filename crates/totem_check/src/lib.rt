@@ -14,8 +14,6 @@ mod pairs;
 mod rising;
 mod sends;
 mod shares;
-#[cfg(test)]
-mod tests;
 
 pub use accepted::Accepted;
 pub use certificate_fault::CertificateFault;

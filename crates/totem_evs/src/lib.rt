@@ -19,8 +19,6 @@ mod part;
 mod part_laws;
 mod pending;
 mod read_part;
-#[cfg(test)]
-mod read_tests;
 mod reading;
 mod refused;
 mod rising;
@@ -29,12 +27,8 @@ mod run_fault;
 mod run_reader;
 mod spec;
 mod stage;
-#[cfg(test)]
-mod tests;
 mod text_laws;
 mod unlogged;
-#[cfg(test)]
-mod write_tests;
 mod writing;
 
 pub use ending::Ending;

@@ -37,6 +37,3 @@ pub use reading::{next, number, number_to, read_proc, word};
 pub use ring::RingId;
 pub use sink::{Sink, ToWrite};
 pub use source::{Failed, FromRead, Source};
-
-#[cfg(test)]
-mod tests;

@@ -2,12 +2,8 @@
 #![tactic(auto)]
 
 mod commit;
-#[cfg(test)]
-mod commit_tests;
 mod fault;
 mod gather;
-#[cfg(test)]
-mod gather_tests;
 mod join_sets;
 mod views;
 

@@ -16,10 +16,6 @@ mod port;
 mod sending;
 mod start;
 mod switch;
-#[cfg(test)]
-mod tests;
-#[cfg(test)]
-mod thread_tests;
 mod turn;
 mod turns;
 mod ways;

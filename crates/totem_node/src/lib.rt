@@ -16,8 +16,6 @@ mod reporting;
 mod ring_step;
 mod state;
 mod step;
-#[cfg(test)]
-mod tests;
 mod timers;
 mod tokens;
 mod told;

@@ -1,8 +1,6 @@
 //! Packets: what nodes send to each other, and their bytes.
 #![tactic(auto)]
 
-#[cfg(test)]
-mod byte_tests;
 mod commit;
 mod commit_member;
 mod commit_members;
@@ -26,15 +24,7 @@ mod refused;
 mod requests;
 mod rising;
 mod set_fault;
-#[cfg(test)]
-mod set_tests;
 mod sets;
-#[cfg(test)]
-mod size_tests;
-#[cfg(test)]
-mod test_values;
-#[cfg(test)]
-mod tests;
 mod token;
 mod token_seq;
 mod write_commit;

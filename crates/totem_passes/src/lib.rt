@@ -17,8 +17,6 @@ mod repeats;
 mod search;
 mod sending;
 mod sendings;
-#[cfg(test)]
-mod tests;
 mod turn;
 mod turns;
 mod twice;

@@ -2,17 +2,11 @@
 #![tactic(auto)]
 
 mod beginning;
-#[cfg(test)]
-mod exchange_tests;
 mod finishing;
 mod laws;
 mod marks;
 mod recovery;
-#[cfg(test)]
-mod samples;
 mod sending;
-#[cfg(test)]
-mod tests;
 
 pub use beginning::is_ready;
 pub use finishing::deliver;

@@ -9,14 +9,8 @@ mod order;
 mod outcome;
 mod refusals;
 mod requests;
-#[cfg(test)]
-mod samples;
-#[cfg(test)]
-mod schedule_tests;
 mod start;
 mod state;
-#[cfg(test)]
-mod tests;
 mod undo;
 mod walks;
 

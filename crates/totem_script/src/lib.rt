@@ -17,11 +17,7 @@ mod process_list;
 mod reading;
 mod scene;
 mod script_fault;
-#[cfg(test)]
-mod simulation_tests;
 mod submitting;
-#[cfg(test)]
-mod tests;
 
 pub use command::Command;
 pub use fault::LineFault;

@@ -5,7 +5,5 @@
 mod changes;
 mod stitch;
 mod table;
-#[cfg(test)]
-mod tests;
 
 pub use stitch::Stitch;

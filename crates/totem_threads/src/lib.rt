@@ -11,8 +11,6 @@ mod plan;
 mod run;
 mod sending;
 mod serving;
-#[cfg(test)]
-mod tests;
 
 pub use fault::{BookTrouble, ThreadsFault};
 pub use plan::RunPlan;

@@ -1,0 +1,331 @@
+//! Nodes by direct calls: inputs as words, and each step as a line of text.
+use bytes::Bytes;
+use std::alloc::{AllocError, Global};
+use std::test::Fail;
+use totem_evs::{Entry, Members};
+use totem_ids::{ProcId, RingId, Service};
+use totem_node::{Input, NodeCore, NodeFault, StepOut};
+use totem_packets::{
+    Body, CommitMember, CommitMembers, CommitToken, Message, Number, Packet, Payload, Round,
+};
+use totem_ring::{Act, To, first_token};
+
+fn proc(number: u16) -> ProcId {
+    ProcId::of(number.max(1))
+}
+
+/// A ring with the representative 1.
+fn ring(seq: u32) -> RingId {
+    RingId {
+        seq: seq.max(1),
+        rep: proc(1),
+    }
+}
+
+/// A client's message of so many bytes.
+fn submit(alloc: Global, bytes: usize) -> Result<Input, AllocError> {
+    let payload = Bytes::from_vec(vec![in alloc; 9; bytes]?)?;
+    Ok(Input::Submit {
+        service: Service::Agreed,
+        payload,
+    })
+}
+
+/// A client's message of ring 8.1, its first, sent by this process.
+fn foreign(sender: u16) -> Input {
+    let body = Body::App {
+        service: Service::Agreed,
+        payload: Payload::of(Bytes::from_static(b"m")),
+    };
+    Input::Packet(Packet::Message(Message {
+        ring: ring(8),
+        number: Number::of(1),
+        sender: proc(sender),
+        body,
+    }))
+}
+
+/// A commit token of 1 alone.
+fn commit(alloc: Global) -> Result<Input, Fail> {
+    let mut list = Vec::new(alloc);
+    list.push(CommitMember {
+        proc: proc(1),
+        report: None,
+    })?;
+    let members = CommitMembers::new(list)?;
+    Ok(Input::Packet(Packet::Commit(CommitToken {
+        ring: ring(8),
+        round: Round::First,
+        members,
+    })))
+}
+
+/// What a word stands for: `submit` and how many bytes, `from` and who sent a message of ring 8.1, `token` for the first token
+/// of ring 4.1, `commit`, `crash`, and anything else for a timer.
+fn input(alloc: Global, word: &str) -> Result<Input, Fail> {
+    if let Some(bytes) = word.strip_prefix("submit") {
+        return Ok(submit(alloc, bytes.parse::<usize>().unwrap_or(0))?);
+    }
+    if let Some(sender) = word.strip_prefix("from") {
+        return Ok(foreign(sender.parse::<u16>().unwrap_or(0)));
+    }
+    match word {
+        "token" => Ok(Input::Packet(Packet::Token(first_token(alloc, ring(4))))),
+        "commit" => commit(alloc),
+        "crash" => Ok(Input::Crash),
+        _ => Ok(Input::Timer),
+    }
+}
+
+/// The processes from 1 to this one.
+fn first(alloc: Global, last: u16) -> Result<Members, Fail> {
+    let mut list = Vec::new(alloc);
+    for value in 0..last {
+        list.push(proc(value.saturating_add(1)))?;
+    }
+    Ok(Members::new(list)?)
+}
+
+fn push_processes(alloc: Global, text: &mut String, procs: &[ProcId]) -> Result<(), AllocError> {
+    for proc in procs {
+        text.push_str(format!(in alloc; " {proc}")?.as_str())?;
+    }
+    Ok(())
+}
+
+fn push_entry(alloc: Global, text: &mut String, entry: &Entry) -> Result<(), AllocError> {
+    match entry {
+        Entry::Conf(conf, members) => {
+            text.push_str(format!(in alloc; "conf {conf}")?.as_str())?;
+            push_processes(alloc, text, members.as_slice())?;
+        }
+        Entry::Deliver(message, conf) => {
+            text.push_str(format!(in alloc; "dlv {conf} {message}")?.as_str())?;
+        }
+        Entry::Send(message, conf, service) => {
+            text.push_str(format!(in alloc; "send {conf} {service} {message}")?.as_str())?;
+        }
+        Entry::Fail(conf) => text.push_str(format!(in alloc; "fail {conf}")?.as_str())?,
+    }
+    text.push_str("; ")
+}
+
+/// What is sent, and to whom; of a Join its number and its sets.
+fn push_packet(
+    alloc: Global,
+    text: &mut String,
+    to: &To,
+    packet: &Packet,
+) -> Result<(), AllocError> {
+    match to {
+        To::All => text.push_str("all")?,
+        To::One(proc) => text.push_str(format!(in alloc; "{proc}")?.as_str())?,
+    }
+    match packet {
+        Packet::Message(_) => text.push_str(" message")?,
+        Packet::Token(_) => text.push_str(" token")?,
+        Packet::Commit(_) => text.push_str(" commit")?,
+        Packet::Join(join) => {
+            text.push_str(format!(in alloc; " join {}:", join.seq.get())?.as_str())?;
+            push_processes(alloc, text, join.processes.as_slice())?;
+            text.push_str(" but")?;
+            push_processes(alloc, text, join.failed.as_slice())?;
+        }
+    }
+    text.push_str("; ")
+}
+
+fn word_of(act: &Act) -> &'static str {
+    match act {
+        Act::Submit(_) => "submit",
+        Act::Message(_) => "message",
+        Act::Token(_) => "token",
+        Act::Resend => "resend",
+    }
+}
+
+fn push_out(alloc: Global, text: &mut String, out: &StepOut) -> Result<(), AllocError> {
+    for entry in &out.entries {
+        push_entry(alloc, text, entry)?;
+    }
+    for step in &out.ring_steps {
+        let word = word_of(&step.act);
+        text.push_str(format!(in alloc; "{word} {}; ", step.ring)?.as_str())?;
+    }
+    for (to, packet) in &out.packets {
+        push_packet(alloc, text, to, packet)?;
+    }
+    Ok(())
+}
+
+/// One step: what it writes, does on rings and sends, or its fault.
+fn push_step(
+    alloc: Global,
+    text: &mut String,
+    node: &mut NodeCore,
+    word: &str,
+) -> Result<(), Fail> {
+    match node.step(alloc, input(alloc, word)?) {
+        Ok(out) => push_out(alloc, text, &out)?,
+        Err(fault) => text.push_str(fault.name())?,
+    }
+    Ok(())
+}
+
+/// The node takes these inputs, one a word. Each step has `/ ` in front.
+fn steps(alloc: Global, node: &mut NodeCore, words: &str) -> Result<String, Fail> {
+    let mut text = String::new(alloc);
+    for word in words.split_whitespace() {
+        text.push_str("/ ")?;
+        push_step(alloc, &mut text, node, word)?;
+    }
+    Ok(text)
+}
+
+/// Process 1 of ring 4.1, which has the processes 1 to `count`, and its first entry.
+fn node(alloc: Global, count: u16) -> Result<(NodeCore, Entry), Fail> {
+    let members = first(alloc, count)?;
+    Ok(NodeCore::new(alloc, proc(1), ring(4), members.as_slice())?)
+}
+
+/// The steps of such a node.
+fn life(alloc: Global, count: u16, words: &str) -> Result<String, Fail> {
+    let (mut node, _change) = node(alloc, count)?;
+    steps(alloc, &mut node, words)
+}
+
+/// The steps of a copy of such a node.
+fn life_of_a_copy(alloc: Global, count: u16, words: &str) -> Result<String, Fail> {
+    let (node, _change) = node(alloc, count)?;
+    let mut copy = node.try_clone(alloc)?;
+    steps(alloc, &mut copy, words)
+}
+
+/// The text of such a node's first entry.
+fn first_entry(alloc: Global, count: u16) -> Result<String, Fail> {
+    let (_node, change) = node(alloc, count)?;
+    let mut text = String::new(alloc);
+    push_entry(alloc, &mut text, &change)?;
+    Ok(text)
+}
+
+/// The text of a step's copy.
+fn copied_step(alloc: Global, words: &str) -> Result<String, Fail> {
+    let (mut node, _change) = node(alloc, 2)?;
+    let mut text = String::new(alloc);
+    for word in words.split_whitespace() {
+        let given = input(alloc, word)?.try_clone(alloc)?;
+        if let Ok(out) = node.step(alloc, given) {
+            push_out(alloc, &mut text, &out.try_clone(alloc)?)?;
+        }
+    }
+    Ok(text)
+}
+
+/// What these inputs make a node tell.
+struct Row {
+    members: u16,
+    inputs: &'static str,
+    told: &'static str,
+}
+
+const LIVES: [Row; 7] = [
+    Row {
+        members: 2,
+        inputs: "submit1 token timer",
+        told: "/ / send r4.1 a 4.1#1; dlv r4.1 4.1#1; submit 4.1; token 4.1; all message; 2 token; / resend 4.1; 2 token; ",
+    },
+    Row {
+        members: 2,
+        inputs: "crash submit1 token timer crash commit from7",
+        told: "/ fail r4.1; / Stopped/ Stopped/ Stopped/ Stopped/ Stopped/ Stopped",
+    },
+    Row {
+        members: 2,
+        inputs: "token from2 token commit",
+        told: "/ token 4.1; 2 token; / OtherRing/ Repeat/ Stale",
+    },
+    Row {
+        members: 32,
+        inputs: "from33",
+        told: "/ Stranger",
+    },
+    Row {
+        members: 2,
+        inputs: "from7",
+        told: "/ all join 4: 1 2 7 but; ",
+    },
+    Row {
+        members: 2,
+        inputs: "submit1024 submit1025",
+        told: "/ / Range",
+    },
+    Row {
+        members: 3,
+        inputs: "timer timer timer timer timer",
+        told: "/ resend 4.1; / resend 4.1; / all join 4: 1 2 3 but; / all join 4: 1 2 3 but; / all join 4: 1 2 3 but 2 3; 1 commit; ",
+    },
+];
+
+#[test]
+fn a_node_tells_its_steps(rt: HostRuntime) -> Result<(), Fail> {
+    for row in &LIVES {
+        let told = life(rt.alloc(), row.members, row.inputs)?;
+        assert_eq!(rt; told.as_str(), row.told, "steps of {}", row.inputs);
+    }
+    Ok(())
+}
+
+#[test]
+fn a_node_begins_with_a_change(rt: HostRuntime) -> Result<(), Fail> {
+    let text = first_entry(rt.alloc(), 2)?;
+    assert_eq!(rt; text.as_str(), "conf r4.1 1 2; ");
+    Ok(())
+}
+
+#[test]
+fn a_17th_message_does_not_wait(rt: HostRuntime) -> Result<(), Fail> {
+    let words =
+        "submit1 submit1 submit1 submit1 submit1 submit1 submit1 submit1 submit1 submit1 submit1 submit1 submit1 submit1 submit1 submit1 submit1";
+    let told = life(rt.alloc(), 2, words)?;
+    assert_eq!(rt; told.as_str(), "/ / / / / / / / / / / / / / / / / Full");
+    Ok(())
+}
+
+#[test]
+fn a_copy_answers_alike(rt: HostRuntime) -> Result<(), Fail> {
+    let told = life_of_a_copy(rt.alloc(), 2, "token")?;
+    assert_eq!(rt; told.as_str(), "/ token 4.1; 2 token; ");
+    Ok(())
+}
+
+#[test]
+fn a_step_and_its_input_are_copied(rt: HostRuntime) -> Result<(), Fail> {
+    let told = copied_step(rt.alloc(), "submit1 token")?;
+    assert_eq!(rt;
+        told.as_str(),
+        "send r4.1 a 4.1#1; dlv r4.1 4.1#1; submit 4.1; token 4.1; all message; 2 token; "
+    );
+    Ok(())
+}
+
+#[test]
+fn faults_have_numbers_and_names(rt: HostRuntime) -> Result<(), Fail> {
+    let faults = [
+        (NodeFault::Stopped, "Stopped"),
+        (NodeFault::OtherRing, "OtherRing"),
+        (NodeFault::Repeat, "Repeat"),
+        (NodeFault::Stale, "Stale"),
+        (NodeFault::Stranger, "Stranger"),
+        (NodeFault::Range, "Range"),
+        (NodeFault::Full, "Full"),
+        (NodeFault::Memory, "Memory"),
+    ];
+    for (at, (fault, name)) in faults.iter().enumerate() {
+        assert_eq!(rt; fault.number() as usize, at + 1);
+        assert_eq!(rt; fault.name(), *name);
+    }
+    let shown = format!(in rt.alloc(); "{}", NodeFault::Full)?;
+    assert_eq!(rt; shown.as_str(), "16 messages wait");
+    Ok(())
+}

@@ -1,0 +1,15 @@
+//! Tests of names and packets, by public calls.
+#![tactic(auto)]
+
+#[cfg(test)]
+mod names;
+#[cfg(test)]
+mod packet_bytes;
+#[cfg(test)]
+mod packet_parts;
+#[cfg(test)]
+mod packet_sizes;
+#[cfg(test)]
+mod packet_values;
+#[cfg(test)]
+mod process_sets;

@@ -1,0 +1,393 @@
+//! Members of a ring for the tests: what they do as words, and what is asked of them as text.
+use bytes::Bytes;
+use std::alloc::{AllocError, Global};
+use std::test::Fail;
+use totem_ids::{ProcId, RingId, Service};
+use totem_packets::{Body, Message, Packet, Payload, Token};
+use totem_ring::{MOST_WAITING, RingFault, RingOut, RingState, RingUndo, To, first_token};
+
+pub fn proc(number: u16) -> ProcId {
+    ProcId::of(number.max(1))
+}
+
+/// A ring with the representative 1.
+pub fn ring(seq: u32) -> RingId {
+    RingId {
+        seq: seq.max(1),
+        rep: proc(1),
+    }
+}
+
+pub fn say(service: Service) -> Body {
+    Body::App {
+        service,
+        payload: Payload::of(Bytes::from_static(b"x")),
+    }
+}
+
+/// The processes from 1 to this one.
+fn procs(alloc: Global, last: u16) -> Result<Vec<ProcId>, AllocError> {
+    let mut list = Vec::new(alloc);
+    for value in 0..last {
+        list.push(proc(value.saturating_add(1)))?;
+    }
+    Ok(list)
+}
+
+/// A member of ring 4.1 of these processes.
+fn state(alloc: Global, me: ProcId, members: &[ProcId]) -> Result<RingState, Fail> {
+    if members.is_empty() {
+        return Err(Fail::from("no member"));
+    }
+    Ok(RingState::new(alloc, me, ring(4), members)?)
+}
+
+/// Member `me` of ring 4.1 of the processes 1 to `count`.
+pub fn member(alloc: Global, me: u16, count: u16) -> Result<RingState, Fail> {
+    let members = procs(alloc, count)?;
+    state(alloc, proc(me), &members)
+}
+
+/// The members of ring 4.1 of the processes 1 to `count`.
+fn members(alloc: Global, count: u16) -> Result<Vec<RingState>, Fail> {
+    let mut members = Vec::new(alloc);
+    for value in 0..count {
+        members.push(member(alloc, value.saturating_add(1), count)?)?;
+    }
+    Ok(members)
+}
+
+/// A token's token_seq, seq, aru and aru_id, and the least number that it asks for; 0 is none.
+pub fn numbers_of(token: &Token) -> [u64; 5] {
+    let aru_id = match token.aru_id {
+        None => 0,
+        Some(proc) => u64::from(proc.number()),
+    };
+    let least = match token.rtr.as_slice().first() {
+        None => 0,
+        Some(number) => u64::from(number.get()),
+    };
+    [
+        token.token_seq.get(),
+        u64::from(token.seq),
+        u64::from(token.aru),
+        aru_id,
+        least,
+    ]
+}
+
+/// How many messages a member holds, its my_aru, what it handed up, and how many bodies wait.
+fn counts_of(state: &RingState) -> [u64; 4] {
+    [
+        state.held().len() as u64,
+        u64::from(state.my_aru()),
+        u64::from(state.handed()),
+        state.waiting().len() as u64,
+    ]
+}
+
+/// What a step tells: why it was refused, or numbers.
+#[derive(Clone, Copy)]
+enum Told {
+    Nothing,
+    Refusal(&'static str),
+    Count(u64),
+    Counts([u64; 4]),
+    Numbers([u64; 5]),
+}
+
+fn refusal(answer: Result<(), RingFault>) -> Told {
+    match answer {
+        Ok(()) => Told::Nothing,
+        Err(fault) => Told::Refusal(fault.name()),
+    }
+}
+
+/// A step is taken back. Tells the counts that it left.
+fn taken_back(state: &mut RingState, undo: RingUndo) -> Told {
+    let counts = counts_of(state);
+    state.undo(undo);
+    Told::Counts(counts)
+}
+
+/// As many bodies are submitted as may wait.
+fn fill(state: &mut RingState) -> Told {
+    for _ in 0..MOST_WAITING {
+        if let Err(fault) = state.submit(say(Service::Agreed)) {
+            return Told::Refusal(fault.name());
+        }
+    }
+    Told::Nothing
+}
+
+/// A mark is submitted and taken back.
+fn mark_back(state: &mut RingState) -> Told {
+    match state.submit(Body::Mark) {
+        Ok(()) => taken_back(state, RingUndo::Submit { waited: 0 }),
+        Err(fault) => Told::Refusal(fault.name()),
+    }
+}
+
+/// The first token of ring 4.1 comes and is taken back.
+fn token_back(alloc: Global, state: &mut RingState) -> Told {
+    match state.take_token(alloc, &first_token(alloc, ring(4))) {
+        Ok((_, undo)) => taken_back(state, undo),
+        Err(fault) => Told::Refusal(fault.name()),
+    }
+}
+
+/// A message comes and is taken back.
+fn message_back(alloc: Global, state: &mut RingState, message: &Message) -> Told {
+    match state.take_message(alloc, message) {
+        Ok((_, undo)) => taken_back(state, undo),
+        Err(fault) => Told::Refusal(fault.name()),
+    }
+}
+
+/// A message comes. Tells how many it hands up.
+fn handed(alloc: Global, state: &mut RingState, message: &Message) -> Told {
+    match state.on_message(alloc, message) {
+        Ok(out) => Told::Count(out.handed.len() as u64),
+        Err(fault) => Told::Refusal(fault.name()),
+    }
+}
+
+/// A message comes to a member in the way that this word says.
+fn hear(alloc: Global, state: &mut RingState, message: &Message, word: &str) -> Told {
+    match word {
+        "handed" => handed(alloc, state, message),
+        "adopt" => refusal(state.adopt(message)),
+        "message_back" => message_back(alloc, state, message),
+        _ => match handed(alloc, state, message) {
+            Told::Refusal(name) => Told::Refusal(name),
+            _ => Told::Nothing,
+        },
+    }
+}
+
+/// How many packets a member would send again.
+fn resends(alloc: Global, state: &RingState) -> Told {
+    match state.on_resend(alloc) {
+        Ok(out) => Told::Count(out.packets.len() as u64),
+        Err(fault) => Told::Refusal(fault.name()),
+    }
+}
+
+/// The counts of a copy.
+fn copied(alloc: Global, state: &RingState) -> Told {
+    match state.try_clone(alloc) {
+        Ok(copy) => Told::Counts(counts_of(&copy)),
+        Err(_) => Told::Refusal("no memory"),
+    }
+}
+
+/// What a member does or is asked by this word, where no packet comes.
+fn alone(alloc: Global, state: &mut RingState, word: &str) -> Told {
+    match word {
+        "agreed" => refusal(state.submit(say(Service::Agreed))),
+        "safe" => refusal(state.submit(say(Service::Safe))),
+        "mark" => refusal(state.submit(Body::Mark)),
+        "fill" => fill(state),
+        "mark_back" => mark_back(state),
+        "token_back" => token_back(alloc, state),
+        "resends" => resends(alloc, state),
+        "copied" => copied(alloc, state),
+        "up" => Told::Count(u64::from(state.handed())),
+        "waiting" => Told::Count(state.waiting().len() as u64),
+        "counts" => Told::Counts(counts_of(state)),
+        _ => Told::Refusal("no such word"),
+    }
+}
+
+/// The token that was passed on.
+fn token_of(out: &RingOut) -> Option<&Token> {
+    match out.packets.last() {
+        Some((To::One(_), Packet::Token(token))) => Some(token),
+        _ => None,
+    }
+}
+
+/// The message that was broadcast first.
+fn message_of(out: &RingOut) -> Option<&Message> {
+    match out.packets.first() {
+        Some((To::All, Packet::Message(message))) => Some(message),
+        _ => None,
+    }
+}
+
+/// The same, to be altered.
+fn message_in(out: &mut RingOut) -> Option<&mut Message> {
+    match out.packets.first_mut() {
+        Some((To::All, Packet::Message(message))) => Some(message),
+        _ => None,
+    }
+}
+
+/// Who has the token next.
+fn next(out: &RingOut) -> Told {
+    match out.packets.last() {
+        Some((To::One(next), Packet::Token(_))) => Told::Count(u64::from(next.number())),
+        _ => Told::Refusal("no token"),
+    }
+}
+
+fn numbers(out: &RingOut) -> Told {
+    match token_of(out) {
+        Some(token) => Told::Numbers(numbers_of(token)),
+        None => Told::Refusal("no token"),
+    }
+}
+
+/// The number of the message that was broadcast first.
+fn number(out: &RingOut) -> Told {
+    match message_of(out) {
+        Some(message) => Told::Count(u64::from(message.number.get())),
+        None => Told::Refusal("no message"),
+    }
+}
+
+/// The message gets this sender, or its ring gets this number.
+fn alter(out: &mut RingOut, word: &str, value: u16) -> Told {
+    let Some(message) = message_in(out) else {
+        return Told::Refusal("no message");
+    };
+    if word == "sender" {
+        message.sender = proc(value);
+    } else {
+        message.ring = ring(u32::from(value));
+    }
+    Told::Nothing
+}
+
+/// The members of ring 4.1, and what the last visit or resending sent and handed up.
+#[derive(Drop)]
+struct World {
+    members: Vec<RingState>,
+    out: RingOut,
+}
+
+impl World {
+    fn new(alloc: Global, count: u16) -> Result<World, Fail> {
+        let out = RingOut {
+            packets: Vec::new(alloc),
+            handed: Vec::new(alloc),
+        };
+        Ok(World {
+            members: members(alloc, count)?,
+            out,
+        })
+    }
+
+    fn takes(&mut self, answer: Result<RingOut, RingFault>) -> Told {
+        match answer {
+            Ok(out) => {
+                self.out = out;
+                Told::Nothing
+            }
+            Err(fault) => Told::Refusal(fault.name()),
+        }
+    }
+
+    /// The first token of this ring comes to a member.
+    fn first(&mut self, alloc: Global, at: usize, ring: RingId) -> Told {
+        let Some(member) = self.members.get_mut(at) else {
+            return Told::Refusal("no member");
+        };
+        let answer = member.on_token(alloc, &first_token(alloc, ring));
+        self.takes(answer)
+    }
+
+    /// The token that was passed on comes to a member.
+    fn token(&mut self, alloc: Global, at: usize) -> Told {
+        let Some(token) = token_of(&self.out) else {
+            return Told::Refusal("no token");
+        };
+        let Some(member) = self.members.get_mut(at) else {
+            return Told::Refusal("no member");
+        };
+        let answer = member.on_token(alloc, token);
+        self.takes(answer)
+    }
+
+    /// A member sends its token again.
+    fn resend(&mut self, alloc: Global, at: usize) -> Told {
+        let Some(member) = self.members.get(at) else {
+            return Told::Refusal("no member");
+        };
+        let answer = member.on_resend(alloc);
+        self.takes(answer)
+    }
+
+    /// The message that was broadcast first comes to a member.
+    fn message(&mut self, alloc: Global, word: &str, at: usize) -> Told {
+        let Some(message) = message_of(&self.out) else {
+            return Told::Refusal("no message");
+        };
+        let Some(member) = self.members.get_mut(at) else {
+            return Told::Refusal("no member");
+        };
+        hear(alloc, member, message, word)
+    }
+
+    fn alone(&mut self, alloc: Global, word: &str, at: usize) -> Told {
+        let Some(member) = self.members.get_mut(at) else {
+            return Told::Refusal("no member");
+        };
+        alone(alloc, member, word)
+    }
+
+    /// One step: what this word stands for, at the member or with the value of this number.
+    fn step(&mut self, alloc: Global, word: &str, value: u16) -> Told {
+        let at = usize::from(value).saturating_sub(1);
+        match word {
+            "first" => self.first(alloc, at, ring(4)),
+            "other" => self.first(alloc, at, ring(8)),
+            "token" => self.token(alloc, at),
+            "resend" => self.resend(alloc, at),
+            "message" | "handed" | "adopt" | "message_back" => self.message(alloc, word, at),
+            "sender" | "ring" => alter(&mut self.out, word, value),
+            "next" => next(&self.out),
+            "numbers" => numbers(&self.out),
+            "number" => number(&self.out),
+            _ => self.alone(alloc, word, at),
+        }
+    }
+}
+
+fn push_number(alloc: Global, text: &mut String, number: u64) -> Result<(), AllocError> {
+    text.push_str(format!(in alloc; " {number}")?.as_str())
+}
+
+fn push_numbers(alloc: Global, text: &mut String, numbers: &[u64]) -> Result<(), AllocError> {
+    for number in numbers {
+        push_number(alloc, text, *number)?;
+    }
+    text.push_str("; ")
+}
+
+/// What a step tells, behind its word; nothing where it tells nothing.
+fn push_told(alloc: Global, text: &mut String, word: &str, told: Told) -> Result<(), AllocError> {
+    match told {
+        Told::Nothing => return Ok(()),
+        _ => text.push_str(word)?,
+    }
+    match told {
+        Told::Nothing => Ok(()),
+        Told::Refusal(name) => text.push_str(format!(in alloc; " {name}; ")?.as_str()),
+        Told::Count(count) => push_numbers(alloc, text, &[count]),
+        Told::Counts(counts) => push_numbers(alloc, text, &counts),
+        Told::Numbers(numbers) => push_numbers(alloc, text, &numbers),
+    }
+}
+
+/// The steps of members 1 to `count` of ring 4.1. A word is what is done, `:`, and the member's number.
+pub fn life(alloc: Global, count: u16, words: &str) -> Result<String, Fail> {
+    let mut world = World::new(alloc, count)?;
+    let mut text = String::new(alloc);
+    for word in words.split_whitespace() {
+        let (verb, number) = word.split_once(':').unwrap_or((word, "0"));
+        let told = world.step(alloc, verb, number.parse::<u16>().unwrap_or(0));
+        push_told(alloc, &mut text, word, told)?;
+    }
+    Ok(text)
+}

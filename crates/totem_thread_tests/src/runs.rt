@@ -1,0 +1,239 @@
+//! Runs in threads: what the books of each run have to show, whichever comes out.
+ghost use Rattle.std.specs.Prelude.{IfSome};
+ghost use Rattle.totem_threads.specs.Starts.{IsInRange};
+
+use std::alloc::{AllocError, Global};
+use std::collections::BTreeMap;
+use std::sync::{Mutex, Wait};
+use std::test::*;
+use std::thread;
+use std::thread::Threads;
+use std::time::{Clock, Duration};
+use totem_books::{BookFault, Call, CloseFault, ClosedBook, Reply};
+use totem_ids::ProcId;
+use totem_net::{Plan, Quiet, Start};
+use totem_node::Input;
+use totem_packets::Packet;
+use totem_ring::To;
+use totem_threads::{BookTrouble, RunPlan, ThreadsFault, run_nodes};
+
+/// Three nodes, for so many ticks.
+fn three_nodes(ticks: u32, lose: u8, repeat: u8, hold: u8) -> Option<RunPlan>
+    ensures { IfSome result IsInRange }
+{
+    RunPlan::new(3, ticks, 1, Plan::new(lose, repeat, hold)?)
+}
+
+fn books_of<S: Start, R: Threads + Wait + Sync>(
+    rt: &R,
+    alloc: Global,
+    plan: Option<RunPlan>,
+    start: &S,
+) -> Result<Vec<ClosedBook>, Fail>
+    requires { IfSome plan IsInRange }
+{
+    let Some(plan) = plan else {
+        return Err(Fail::from("no plan"));
+    };
+    let (_, books) = run_nodes(rt, alloc, plan, start)?;
+    Ok(books)
+}
+
+/// How many calls of these books a timer made, and a client.
+fn turns(books: &[ClosedBook]) -> (usize, usize) {
+    let mut timers = 0usize;
+    let mut submits = 0usize;
+    for book in books {
+        for call in book.calls() {
+            match call.input {
+                Input::Timer => timers = timers.saturating_add(1),
+                Input::Submit { .. } => submits = submits.saturating_add(1),
+                _ => {}
+            }
+        }
+    }
+    (timers, submits)
+}
+
+/// A packet on its way to a node.
+fn passage(alloc: Global, to: ProcId, packet: &Packet) -> Result<Vec<u8>, AllocError> {
+    let mut bytes = packet.encode(alloc)?;
+    bytes.extend_from_slice(&to.number().to_be_bytes())?;
+    Ok(bytes)
+}
+
+/// What went to which node, and whether another node sent it.
+type Sent = BTreeMap<Vec<u8>, bool>;
+
+/// Notes what a node of three sent in one call.
+fn note(alloc: Global, sent: &mut Sent, from: ProcId, call: &Call) -> Result<(), AllocError> {
+    let Reply::Done(out) = &call.reply else {
+        return Ok(());
+    };
+    for (to, packet) in &out.packets {
+        for number in 1..4 {
+            let node = ProcId::of(number);
+            let goes = match to {
+                To::All => node != from,
+                To::One(receiver) => node == *receiver,
+            };
+            if goes {
+                sent.insert(passage(alloc, node, packet)?, node != from)?;
+            }
+        }
+    }
+    Ok(())
+}
+
+fn all_sent(alloc: Global, books: &[ClosedBook]) -> Result<Sent, AllocError> {
+    let mut sent = BTreeMap::new(alloc);
+    for book in books {
+        for call in book.calls() {
+            note(alloc, &mut sent, book.me(), call)?;
+        }
+    }
+    Ok(sent)
+}
+
+/// Of what a book was given over the network: how much nobody sent, and how much another sent and it took.
+fn given(alloc: Global, sent: &Sent, book: &ClosedBook) -> Result<(usize, usize), AllocError> {
+    let mut unsent = 0usize;
+    let mut taken = 0usize;
+    for call in book.calls() {
+        let Input::Packet(packet) = &call.input else {
+            continue;
+        };
+        match sent.get(&passage(alloc, book.me(), packet)?) {
+            None => unsent = unsent.saturating_add(1),
+            Some(by_another) => {
+                if *by_another && matches!(call.reply, Reply::Done(_)) {
+                    taken = taken.saturating_add(1);
+                }
+            }
+        }
+    }
+    Ok((unsent, taken))
+}
+
+/// How much of what was given nobody sent, and whether each took something of another.
+fn all_given(alloc: Global, books: &[ClosedBook]) -> Result<(usize, bool), AllocError> {
+    let sent = all_sent(alloc, books)?;
+    let mut unsent = 0usize;
+    let mut each = true;
+    for book in books {
+        let (none, taken) = given(alloc, &sent, book)?;
+        unsent = unsent.saturating_add(none);
+        each = each && taken > 0;
+    }
+    Ok((unsent, each))
+}
+
+#[test]
+fn words_and_packets_are_those_of_a_network(rt: HostRuntime) -> Result<(), Fail> {
+    let alloc: Global = rt.alloc();
+    for _ in 0..10 {
+        let books = books_of(&rt, alloc, three_nodes(4000, 0, 0, 0), &Quiet)?;
+        assert_eq!(rt; turns(&books), (500, 500));
+        let (unsent, each) = all_given(alloc, &books)?;
+        assert_eq!(rt; unsent, 1, "the first token alone was sent by nobody");
+        if each {
+            return Ok(());
+        }
+    }
+    panic!(rt; "in ten runs, a node took no packet of another");
+}
+
+#[test]
+fn a_network_that_loses_has_each_word_too(rt: HostRuntime) -> Result<(), Fail> {
+    let books = books_of(&rt, rt.alloc(), three_nodes(800, 10, 20, 3), &Quiet)?;
+    assert_eq!(rt; turns(&books), (100, 100));
+    Ok(())
+}
+
+/// Holds each node until three have begun, and counts how many were let go before that.
+#[derive(Drop)]
+struct Together<'a, R> {
+    rt: &'a R,
+    begun: Mutex<u32>,
+    let_go: Mutex<u32>,
+}
+
+fn add_one<R: Wait>(rt: &R, count: &Mutex<u32>) {
+    let mut count = count.lock(rt);
+    *count = count.saturating_add(1);
+}
+
+impl<R: Wait + Clock + Sync> Start for Together<'_, R> {
+    fn begun(&self, _node: ProcId) {
+        add_one(self.rt, &self.begun);
+        for _ in 0..10_000 {
+            if *self.begun.lock(self.rt) >= 3 {
+                return;
+            }
+            thread::sleep(self.rt, Duration::from_millis(1));
+        }
+        add_one(self.rt, &self.let_go);
+    }
+}
+
+#[test]
+fn nodes_run_side_by_side(rt: HostRuntime) -> Result<(), Fail> {
+    let together = Together {
+        rt: &rt,
+        begun: Mutex::new(0),
+        let_go: Mutex::new(0),
+    };
+    let books = books_of(&rt, rt.alloc(), three_nodes(8, 0, 0, 0), &together)?;
+    assert_eq!(rt; books.len(), 3);
+    assert_eq!(rt; *together.begun.lock(&rt), 3);
+    assert_eq!(rt; *together.let_go.lock(&rt), 0);
+    Ok(())
+}
+
+#[test]
+fn a_plan_is_of_1_to_32_nodes_and_a_million_ticks(rt: HostRuntime) -> Result<(), Fail> {
+    let Some(plan) = Plan::new(0, 0, 0) else {
+        panic!(rt; "no plan");
+    };
+    for (nodes, ticks, fits) in [
+        (0, 1, false),
+        (1, 1, true),
+        (32, 1_000_000, true),
+        (33, 1, false),
+        (1, 0, false),
+        (1, 1_000_001, false),
+    ] {
+        assert_eq!(rt;
+            RunPlan::new(nodes, ticks, 1, plan).is_some(),
+            fits,
+            "{nodes} {ticks}"
+        );
+    }
+    Ok(())
+}
+
+#[test]
+fn faults_tell_what_was_refused(rt: HostRuntime) -> Result<(), Fail> {
+    for (trouble, number, name) in [
+        (BookTrouble::Call(BookFault::Long), 1, "Long"),
+        (
+            BookTrouble::Close(CloseFault::SeatMissing),
+            1,
+            "SeatMissing",
+        ),
+        (
+            BookTrouble::Close(CloseFault::ReceiptMismatch),
+            2,
+            "ReceiptMismatch",
+        ),
+    ] {
+        assert_eq!(rt; trouble.number(), number);
+        assert_eq!(rt; trouble.name(), name);
+    }
+    assert_eq!(rt; ThreadsFault::from(BookFault::Memory), ThreadsFault::Memory);
+    assert_eq!(rt;
+        ThreadsFault::from(CloseFault::Memory),
+        ThreadsFault::Memory
+    );
+    Ok(())
+}
