@@ -1,9 +1,10 @@
 //! Each constructor and each copy called once, and what refusals say.
 use std::alloc::{AllocError, Global};
+use std::fmt::Debug;
 use std::test::Fail;
 use totem_evs::{
-    Ending, Entries, Entry, Fault, ListFault, Log, Logs, Members, Pending, Places, Run, SpecNo,
-    Waiting,
+    Ending, Entries, Entry, Fault, ListFault, Log, Logs, Members, Pending, Places, Refused, Run,
+    SpecNo, Waiting,
 };
 use totem_ids::{ConfId, MsgId, Place, ProcId, RingId, Service};
 
@@ -70,61 +71,89 @@ fn members_rise(rt: HostRuntime) -> Result<(), Fail> {
     Ok(())
 }
 
+/// The rule that a list breaks, and how many it has.
+fn refusal<T: Drop, V: Drop>(
+    alloc: Global,
+    answer: Result<T, Refused<Vec<V>>>,
+) -> Result<String, AllocError> {
+    match answer {
+        Ok(_) => String::from_str(alloc, "taken"),
+        Err(refused) => format!(in alloc; "{:?} of {}", refused.fault, refused.value.len()),
+    }
+}
+
+fn members_refusal(alloc: Global, numbers: &[u16]) -> Result<String, AllocError> {
+    refusal(alloc, Members::new(procs(alloc, numbers)?))
+}
+
 #[test]
-fn members_are_refused_by_name(rt: HostRuntime) -> Result<(), Fail> {
-    let alloc = rt.alloc();
-    let cases = [
-        (procs(alloc, &[])?, ListFault::Empty, "there is none"),
-        (
-            first_to(alloc, 33)?,
-            ListFault::TooMany(32),
-            "there are more than 32",
-        ),
-        (
-            procs(alloc, &[1, 3, 3])?,
-            ListFault::NotRising(2),
-            "the one at index 2 is not above the one before",
-        ),
-        (
-            procs(alloc, &[2, 1, 3])?,
-            ListFault::NotRising(1),
-            "the one at index 1 is not above the one before",
-        ),
-    ];
-    for (list, fault, text) in cases {
-        let count = list.len();
-        match Members::new(list) {
-            Ok(_) => assert!(rt; false, "{text}"),
-            Err(refused) => {
-                assert_eq!(rt; refused.fault, fault);
-                assert_eq!(rt; refused.to_string(alloc)?.as_str(), text);
-                assert_eq!(rt; refused.value.len(), count);
-            }
-        }
+fn members_are_some_and_rise(rt: HostRuntime) -> Result<(), Fail> {
+    let alloc: Global = rt.alloc();
+    for (numbers, fault) in [
+        ([].as_slice(), "Empty of 0"),
+        ([1, 3, 3].as_slice(), "NotRising(2) of 3"),
+        ([2, 1, 3].as_slice(), "NotRising(1) of 3"),
+    ] {
+        assert_eq!(rt; members_refusal(alloc, numbers)?.as_str(), fault);
     }
     Ok(())
 }
 
 #[test]
-fn entries_are_some_and_few(rt: HostRuntime) -> Result<(), Fail> {
-    let alloc = rt.alloc();
-    match Entries::new(Vec::new(alloc)) {
-        Ok(_) => assert!(rt; false, "no entry"),
-        Err(refused) => assert_eq!(rt; refused.fault, ListFault::Empty),
+fn a_33rd_member_is_refused(rt: HostRuntime) -> Result<(), Fail> {
+    let alloc: Global = rt.alloc();
+    let fault = refusal(alloc, Members::new(first_to(alloc, 33)?))?;
+    assert_eq!(rt; fault.as_str(), "TooMany(32) of 33");
+    Ok(())
+}
+
+#[test]
+fn refusals_have_texts(rt: HostRuntime) -> Result<(), Fail> {
+    let alloc: Global = rt.alloc();
+    for (fault, text) in [
+        (ListFault::Empty, "there is none"),
+        (ListFault::TooMany(32), "there are more than 32"),
+        (
+            ListFault::NotRising(2),
+            "the one at index 2 is not above the one before",
+        ),
+    ] {
+        assert_eq!(rt;
+            format!(in alloc; "{}", Refused { fault, value: 1 })?.as_str(),
+            text
+        );
     }
-    let mut list = Vec::with_capacity(alloc, 1_000_001)?;
-    for _ in 0..1_000_001u32 {
+    Ok(())
+}
+
+fn failures(alloc: Global, count: u32) -> Result<Vec<Entry>, AllocError> {
+    let mut list = Vec::new(alloc);
+    for _ in 0..count {
         list.push(Entry::Fail(conf()))?;
     }
-    match Entries::new(list) {
-        Ok(_) => assert!(rt; false, "too many entries"),
-        Err(refused) => {
-            assert_eq!(rt; refused.fault, ListFault::TooMany(1_000_000));
-            let mut list = refused.value;
-            let _ = list.pop();
-            assert_eq!(rt; Entries::new(list)?.into_vec().len(), 1_000_000);
-        }
-    }
+    Ok(list)
+}
+
+#[test]
+fn a_log_has_some_entries(rt: HostRuntime) -> Result<(), Fail> {
+    let alloc: Global = rt.alloc();
+    let fault = refusal(alloc, Entries::new(Vec::new(alloc)))?;
+    assert_eq!(rt; fault.as_str(), "Empty of 0");
+    Ok(())
+}
+
+#[test]
+fn a_million_entries_are_taken(rt: HostRuntime) -> Result<(), Fail> {
+    let list = failures(rt.alloc(), 1_000_000)?;
+    assert_eq!(rt; Entries::new(list)?.into_vec().len(), 1_000_000);
+    Ok(())
+}
+
+#[test]
+fn one_more_is_refused(rt: HostRuntime) -> Result<(), Fail> {
+    let alloc: Global = rt.alloc();
+    let fault = refusal(alloc, Entries::new(failures(alloc, 1_000_001)?))?;
+    assert_eq!(rt; fault.as_str(), "TooMany(1000000) of 1000001");
     Ok(())
 }
 
@@ -142,63 +171,78 @@ fn a_log_ends_as_its_last_entry_says(rt: HostRuntime) -> Result<(), Fail> {
     Ok(())
 }
 
+/// Logs of these processes.
+fn logs(alloc: Global, numbers: &[u16]) -> Result<Vec<Log>, Fail> {
+    let mut list = Vec::new(alloc);
+    for number in numbers {
+        list.push(log(alloc, ProcId::of((*number).max(1)))?)?;
+    }
+    Ok(list)
+}
+
+fn logs_to(alloc: Global, last: u16) -> Result<Vec<Log>, Fail> {
+    let mut list = Vec::new(alloc);
+    for number in 1..=last {
+        list.push(log(alloc, ProcId::of(number))?)?;
+    }
+    Ok(list)
+}
+
 #[test]
-fn a_run_is_built_and_taken_apart(rt: HostRuntime) -> Result<(), Fail> {
-    let alloc = rt.alloc();
-    let empty = Run::new(Vec::new(alloc))?;
-    assert_eq!(rt; empty.into_logs().len(), 0);
-    let mut logs = Vec::new(alloc);
-    for number in 1..=32u16 {
-        logs.push(log(alloc, ProcId::of(number))?)?;
-    }
-    let run = Run::new(logs)?;
-    assert_eq!(rt; run.logs.as_slice().len(), 32);
-    let mut logs = run.into_logs();
-    logs.push(log(alloc, ProcId::of(33))?)?;
-    match Run::new(logs) {
-        Ok(_) => assert!(rt; false, "33 logs"),
-        Err(refused) => {
-            assert_eq!(rt; refused.fault, ListFault::TooMany(32));
-            assert_eq!(rt; refused.value.len(), 33);
-        }
-    }
+fn a_run_may_have_no_logs(rt: HostRuntime) -> Result<(), Fail> {
+    assert_eq!(rt; Run::new(Vec::new(rt.alloc()))?.into_logs().len(), 0);
+    Ok(())
+}
+
+#[test]
+fn a_run_has_32_logs_at_most(rt: HostRuntime) -> Result<(), Fail> {
+    let alloc: Global = rt.alloc();
+    assert_eq!(rt; Run::new(logs_to(alloc, 32)?)?.logs.as_slice().len(), 32);
+    let fault = refusal(alloc, Run::new(logs_to(alloc, 33)?))?;
+    assert_eq!(rt; fault.as_str(), "TooMany(32) of 33");
     Ok(())
 }
 
 #[test]
 fn logs_of_one_process_are_refused(rt: HostRuntime) -> Result<(), Fail> {
-    let alloc = rt.alloc();
-    let mut logs = Vec::new(alloc);
-    logs.push(log(alloc, ProcId::of(1))?)?;
-    logs.push(log(alloc, ProcId::of(2))?)?;
-    logs.push(log(alloc, ProcId::of(2))?)?;
-    match Logs::new(logs) {
-        Ok(_) => assert!(rt; false, "one process twice"),
-        Err(refused) => assert_eq!(rt; refused.fault, ListFault::NotRising(2)),
-    }
+    let alloc: Global = rt.alloc();
+    let fault = refusal(alloc, Logs::new(logs(alloc, &[1, 2, 2])?))?;
+    assert_eq!(rt; fault.as_str(), "NotRising(2) of 3");
+    Ok(())
+}
+
+fn is_shown_alike<T: Debug>(alloc: Global, value: &T, other: &T) -> Result<bool, AllocError> {
+    let shown = format!(in alloc; "{value:?}")?;
+    Ok(shown == format!(in alloc; "{other:?}")?)
+}
+
+#[test]
+fn copies_of_runs_are_equal(rt: HostRuntime) -> Result<(), Fail> {
+    let alloc: Global = rt.alloc();
+    let run = Run::new(logs(alloc, &[1, 2])?)?;
+    assert!(rt; is_shown_alike(alloc, &run, &run.try_clone(alloc)?)?);
     Ok(())
 }
 
 #[test]
-fn copies_look_like_their_sources(rt: HostRuntime) -> Result<(), Fail> {
-    let alloc = rt.alloc();
-    let mut logs = Vec::new(alloc);
-    logs.push(log(alloc, ProcId::of(1))?)?;
-    logs.push(log(alloc, ProcId::of(2))?)?;
-    let run = Run::new(logs)?;
-    let copy = run.try_clone(alloc)?;
-    assert_eq!(rt;
-        format!(in alloc; "{copy:?}")?.as_str(),
-        format!(in alloc; "{run:?}")?.as_str()
-    );
-    let list = run.logs.try_clone(alloc)?.into_vec();
-    assert_eq!(rt; list.len(), 2);
+fn copies_of_logs_are_as_many(rt: HostRuntime) -> Result<(), Fail> {
+    let alloc: Global = rt.alloc();
+    let list = Logs::new(logs(alloc, &[1, 2])?)?;
+    assert_eq!(rt; list.try_clone(alloc)?.into_vec().len(), 2);
+    Ok(())
+}
+
+#[test]
+fn copies_of_entries_are_equal(rt: HostRuntime) -> Result<(), Fail> {
+    let alloc: Global = rt.alloc();
     let entry = change(alloc)?;
-    let same = entry.try_clone(alloc)?;
-    assert_eq!(rt;
-        format!(in alloc; "{same:?}")?.as_str(),
-        format!(in alloc; "{entry:?}")?.as_str()
-    );
+    assert!(rt; is_shown_alike(alloc, &entry, &entry.try_clone(alloc)?)?);
+    Ok(())
+}
+
+#[test]
+fn a_failure_is_told_from_a_change(rt: HostRuntime) -> Result<(), Fail> {
+    let entry = change(rt.alloc())?;
     assert!(rt; !entry.is_failure());
     assert!(rt; Entry::Fail(conf()).is_failure());
     Ok(())

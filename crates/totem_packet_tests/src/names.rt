@@ -4,124 +4,189 @@ use std::test::Fail;
 use std::{fmt, io};
 use totem_ids::{
     Buffered, ConfId, Failed, FromRead, Fused, MsgId, Pieces, Place, ProcId, ReadError, RingId,
-    Service, TextFault, ToWrite, conf_fits, conf_order, conf_spelling, message_fits, message_order,
-    message_spelling, next, number, number_spelling, number_to, place_fits, place_order,
-    place_spelling, process_fits, process_spelling, read_conf, read_message, read_place, read_proc,
-    read_ring, ring_fits, ring_order, ring_spelling, word,
+    Service, Sink, Source, TextFault, ToWrite, conf_fits, conf_order, conf_spelling, message_fits,
+    message_order, message_spelling, next, number, number_spelling, number_to, place_fits,
+    place_order, place_spelling, process_fits, process_spelling, read_conf, read_message,
+    read_place, read_proc, read_ring, ring_fits, ring_order, ring_spelling, word,
 };
 
-fn ring(seq: u32, rep: u16) -> Option<RingId> {
-    RingId::new(seq, ProcId::new(rep)?)
+fn proc(number: u16) -> ProcId {
+    ProcId::of(number.max(1))
 }
 
-fn transitional(seq: u32, rep: u16, least: u16) -> Option<ConfId> {
-    Some(ConfId::Transitional {
-        next: ring(seq, rep)?,
-        least: ProcId::new(least)?,
-    })
+fn ring(seq: u32, rep: u16) -> RingId {
+    RingId {
+        seq: seq.max(1),
+        rep: proc(rep),
+    }
 }
 
-fn message(seq: u32, rep: u16, number: u32) -> Option<MsgId> {
-    MsgId::new(ring(seq, rep)?, number)
+fn transitional(seq: u32, rep: u16, least: u16) -> ConfId {
+    ConfId::Transitional {
+        next: ring(seq, rep),
+        least: proc(least),
+    }
 }
 
-fn place(proc: u16, at: u32) -> Option<Place> {
-    Place::new(ProcId::new(proc)?, at)
+fn message(seq: u32, rep: u16, number: u32) -> MsgId {
+    MsgId {
+        ring: ring(seq, rep),
+        number: number.max(1),
+    }
+}
+
+fn place(number: u16, at: u32) -> Place {
+    Place {
+        proc: proc(number),
+        at: at.max(1),
+    }
 }
 
 #[test]
-fn no_name_has_the_number_zero(rt: HostRuntime) -> Result<(), Fail> {
-    assert_eq!(rt; ProcId::new(0), None);
-    assert_eq!(rt; ring(0, 1), None);
-    assert_eq!(rt; message(4, 1, 0), None);
-    assert_eq!(rt; place(1, 0), None);
-    assert_eq!(rt; ProcId::new(65535).ok_or("65535")?.number(), 65535);
-    assert_eq!(rt; ProcId::of(7).number(), 7);
-    let greatest = message(u32::MAX, 1, u32::MAX).ok_or("the greatest")?;
-    assert_eq!(rt; greatest.ring.seq, u32::MAX);
-    assert_eq!(rt; greatest.number, u32::MAX);
-    assert_eq!(rt; place(1, u32::MAX).ok_or("the greatest")?.at, u32::MAX);
-    Ok(())
+fn no_name_has_the_number_zero(rt: HostRuntime) {
+    for (number, process) in [(0, None), (7, Some(proc(7))), (65535, Some(proc(65535)))] {
+        assert_eq!(rt; ProcId::new(number), process);
+    }
+    for (number, name) in [(0, None), (u32::MAX, Some(ring(u32::MAX, 1)))] {
+        assert_eq!(rt; RingId::new(number, proc(1)), name);
+    }
+    for (number, name) in [(0, None), (u32::MAX, Some(message(4, 1, u32::MAX)))] {
+        assert_eq!(rt; MsgId::new(ring(4, 1), number), name);
+    }
+    for (number, name) in [(0, None), (u32::MAX, Some(place(1, u32::MAX)))] {
+        assert_eq!(rt; Place::new(proc(1), number), name);
+    }
 }
 
-fn is_written<D: fmt::Display>(alloc: Global, name: &D, text: &str) -> Result<bool, AllocError> {
-    let written = name.to_string(alloc)?;
-    Ok(written.as_str() == text)
+#[test]
+fn a_process_gives_its_number(rt: HostRuntime) {
+    for number in [1, 7, 65535] {
+        assert_eq!(rt; proc(number).number(), number);
+    }
+}
+
+fn written_names(alloc: Global) -> Result<String, AllocError> {
+    let greatest = ring(4294967295, 65535);
+    let regular = ConfId::Regular(ring(4, 1));
+    let last = transitional(8, 1, 12);
+    let (sent, entry) = (message(4, 1, 7), place(2, 50));
+    format!(in alloc;
+        "{} {} {greatest} {regular} {last} {sent} {entry}",
+        proc(1),
+        ring(4, 1)
+    )
 }
 
 #[test]
 fn names_are_written(rt: HostRuntime) -> Result<(), Fail> {
-    let alloc = rt.alloc();
-    let first = ring(4, 1).ok_or("4.1")?;
-    let greatest = ring(4294967295, 65535).ok_or("the greatest")?;
-    let last = transitional(8, 1, 12).ok_or("t8.1/12")?;
-    let sent = message(4, 1, 7).ok_or("4.1#7")?;
-    let entry = place(2, 50).ok_or("2@50")?;
-    assert!(rt; is_written(alloc, &first.rep, "1")?);
-    assert!(rt; is_written(alloc, &first, "4.1")?);
-    assert!(rt; is_written(alloc, &greatest, "4294967295.65535")?);
-    assert!(rt; is_written(alloc, &ConfId::Regular(first), "r4.1")?);
-    assert!(rt; is_written(alloc, &last, "t8.1/12")?);
-    assert!(rt; is_written(alloc, &sent, "4.1#7")?);
-    assert!(rt; is_written(alloc, &entry, "2@50")?);
-    assert!(rt; is_written(alloc, &Service::Agreed, "a")?);
-    assert!(rt; is_written(alloc, &Service::Safe, "s")?);
+    let alloc: Global = rt.alloc();
+    assert_eq!(rt;
+        written_names(alloc)?.as_str(),
+        "1 4.1 4294967295.65535 r4.1 t8.1/12 4.1#7 2@50"
+    );
     Ok(())
 }
 
 #[test]
-fn configurations_are_told_apart(rt: HostRuntime) -> Result<(), Fail> {
-    let regular = ConfId::Regular(ring(4, 1).ok_or("4.1")?);
-    let last = transitional(4, 1, 1).ok_or("t4.1/1")?;
-    let other = transitional(4, 1, 2).ok_or("t4.1/2")?;
-    assert!(rt; last.is(&last));
-    assert!(rt; regular.is(&regular));
-    assert!(rt; !last.is(&other));
-    assert!(rt; !last.is(&regular));
-    assert!(rt; regular.is_below(&last));
-    assert!(rt; last.is_below(&other));
-    assert!(rt; !other.is_below(&last));
+fn services_are_written(rt: HostRuntime) -> Result<(), Fail> {
+    let alloc: Global = rt.alloc();
+    let text = format!(in alloc; "{} {}", Service::Agreed, Service::Safe)?;
+    assert_eq!(rt; text.as_str(), "a s");
     Ok(())
 }
 
 #[test]
-fn names_are_ordered_by_their_first_part(rt: HostRuntime) -> Result<(), Fail> {
-    let low = ring(4, 9).ok_or("4.9")?;
-    let high = ring(5, 1).ok_or("5.1")?;
-    assert!(rt; low.is_below(&high));
-    assert!(rt; !high.is_below(&low));
-    let early = message(4, 9, 3).ok_or("4.9#3")?;
-    assert!(rt; early.is_below(&message(4, 9, 4).ok_or("4.9#4")?));
-    assert!(rt; early.is_below(&message(5, 1, 1).ok_or("5.1#1")?));
-    let entry = place(1, 9).ok_or("1@9")?;
-    assert!(rt; entry.is_below(&place(2, 1).ok_or("2@1")?));
-    assert!(rt; !entry.is_below(&entry));
-    Ok(())
+fn configurations_are_told_apart(rt: HostRuntime) {
+    let regular = ConfId::Regular(ring(4, 1));
+    let last = transitional(4, 1, 1);
+    let other = transitional(4, 1, 2);
+    for (left, right, is_same, is_below) in [
+        (&last, &last, true, false),
+        (&regular, &regular, true, false),
+        (&last, &other, false, true),
+        (&last, &regular, false, false),
+        (&regular, &last, false, true),
+        (&other, &last, false, false),
+    ] {
+        assert_eq!(rt; (left.is(right), left.is_below(right)), (is_same, is_below));
+    }
+}
+
+#[test]
+fn rings_are_ordered_by_their_number(rt: HostRuntime) {
+    let (low, high) = (ring(4, 9), ring(5, 1));
+    assert_eq!(rt; (low.is_below(&high), high.is_below(&low)), (true, false));
+}
+
+#[test]
+fn messages_are_ordered_by_their_ring(rt: HostRuntime) {
+    let early = message(4, 9, 3);
+    for (late, is_below) in [
+        (message(4, 9, 4), true),
+        (message(5, 1, 1), true),
+        (early, false),
+    ] {
+        assert_eq!(rt; early.is_below(&late), is_below);
+    }
+}
+
+#[test]
+fn places_are_ordered_by_their_process(rt: HostRuntime) {
+    let entry = place(1, 9);
+    for (late, is_below) in [(place(2, 1), true), (entry, false)] {
+        assert_eq!(rt; entry.is_below(&late), is_below);
+    }
 }
 
 fn memory(text: &str) -> FromRead<&[u8]> {
     FromRead::new(text.as_bytes())
 }
 
+#[derive(Drop)]
+struct Names {
+    proc: ProcId,
+    ring: RingId,
+    first: ConfId,
+    last: ConfId,
+    message: MsgId,
+    place: Place,
+}
+
+fn read_names(source: &mut FromRead<&[u8]>) -> Result<Names, ReadError> {
+    Ok(Names {
+        proc: read_proc(source, b' ')?,
+        ring: read_ring(source, b' ')?,
+        first: read_conf(source, b' ')?,
+        last: read_conf(source, b' ')?,
+        message: read_message(source, b' ')?,
+        place: read_place(source, b' ')?,
+    })
+}
+
 #[test]
 fn names_are_read(rt: HostRuntime) -> Result<(), Fail> {
-    let mut source = memory("65535 4.1 r4.1 t8.1/12 4.1#7 2@50 entry 4294967295!");
-    assert_eq!(rt; read_proc(&mut source, b' ')?.number(), 65535);
-    assert_eq!(rt; Some(read_ring(&mut source, b' ')?), ring(4, 1));
-    let regular = ConfId::Regular(ring(4, 1).ok_or("4.1")?);
-    assert!(rt; read_conf(&mut source, b' ')?.is(&regular));
-    let last = transitional(8, 1, 12).ok_or("t8.1/12")?;
-    assert!(rt; read_conf(&mut source, b' ')?.is(&last));
-    assert_eq!(rt; Some(read_message(&mut source, b' ')?), message(4, 1, 7));
-    assert_eq!(rt; Some(read_place(&mut source, b' ')?), place(2, 50));
-    word(&mut source, b"entry", TextFault::Word)?;
-    assert_eq!(rt; next(&mut source)?, b' ');
-    assert_eq!(rt; number(&mut source, u32::MAX)?, (u32::MAX, b'!'));
+    let alloc: Global = rt.alloc();
+    let mut source = memory("65535 4.1 r4.1 t8.1/12 4.1#7 2@50 ");
+    let names = read_names(&mut source)?;
+    let (first, last) = (names.first, names.last);
+    let text = format!(in alloc;
+        "{} {} {first} {last} {} {}",
+        names.proc, names.ring, names.message, names.place
+    )?;
+    assert_eq!(rt; text.as_str(), "65535 4.1 r4.1 t8.1/12 4.1#7 2@50");
+    Ok(())
+}
+
+#[test]
+fn words_and_numbers_are_read(rt: HostRuntime) {
+    let mut source = memory("entry 4294967295!");
+    assert_eq!(rt; word(&mut source, b"entry", TextFault::Word), Ok(()));
+    assert_eq!(rt; next(&mut source), Ok(b' '));
+    assert_eq!(rt; number(&mut source, u32::MAX), Ok((u32::MAX, b'!')));
     assert_eq!(rt;
         next(&mut source),
         Err(ReadError::Text(TextFault::Truncated))
     );
-    Ok(())
 }
 
 fn fault<T: Drop>(answer: Result<T, ReadError>) -> Option<TextFault> {
@@ -154,47 +219,47 @@ fn rings_that_are_spelled_otherwise_are_refused(rt: HostRuntime) {
     }
 }
 
+#[derive(Clone, Copy)]
+enum Kind {
+    Conf,
+    Message,
+    Place,
+}
+
+fn fault_in(kind: Kind, text: &str) -> Option<TextFault> {
+    let mut source = memory(text);
+    match kind {
+        Kind::Conf => fault(read_conf(&mut source, b' ')),
+        Kind::Message => fault(read_message(&mut source, b' ')),
+        Kind::Place => fault(read_place(&mut source, b' ')),
+    }
+}
+
 #[test]
 fn other_names_that_are_spelled_otherwise_are_refused(rt: HostRuntime) {
-    for (text, want) in [
-        ("4.1 ", TextFault::Word),
-        ("R4.1 ", TextFault::Word),
-        ("t8.1 ", TextFault::Word),
-        ("t8.1/0 ", TextFault::Number),
-        ("r4.1/1 ", TextFault::Word),
-        ("t8.1/", TextFault::Truncated),
+    for (kind, text, want) in [
+        (Kind::Conf, "4.1 ", TextFault::Word),
+        (Kind::Conf, "R4.1 ", TextFault::Word),
+        (Kind::Conf, "t8.1 ", TextFault::Word),
+        (Kind::Conf, "t8.1/0 ", TextFault::Number),
+        (Kind::Conf, "r4.1/1 ", TextFault::Word),
+        (Kind::Conf, "t8.1/", TextFault::Truncated),
+        (Kind::Message, "4.1 7 ", TextFault::Word),
+        (Kind::Message, "4.1#0 ", TextFault::Number),
+        (Kind::Message, "4.1#4294967296 ", TextFault::Number),
+        (Kind::Message, "4.1#7", TextFault::Truncated),
+        (Kind::Place, "65536@1 ", TextFault::Number),
+        (Kind::Place, "1#1 ", TextFault::Word),
+        (Kind::Place, "1@4294967296 ", TextFault::Number),
+        (Kind::Place, "1@01 ", TextFault::Number),
+        (Kind::Place, "1@", TextFault::Truncated),
     ] {
-        assert_eq!(rt;
-            fault(read_conf(&mut memory(text), b' ')),
-            Some(want),
-            "in {text}"
-        );
+        assert_eq!(rt; fault_in(kind, text), Some(want), "in {text}");
     }
-    for (text, want) in [
-        ("4.1 7 ", TextFault::Word),
-        ("4.1#0 ", TextFault::Number),
-        ("4.1#4294967296 ", TextFault::Number),
-        ("4.1#7", TextFault::Truncated),
-    ] {
-        assert_eq!(rt;
-            fault(read_message(&mut memory(text), b' ')),
-            Some(want),
-            "in {text}"
-        );
-    }
-    for (text, want) in [
-        ("65536@1 ", TextFault::Number),
-        ("1#1 ", TextFault::Word),
-        ("1@4294967296 ", TextFault::Number),
-        ("1@01 ", TextFault::Number),
-        ("1@", TextFault::Truncated),
-    ] {
-        assert_eq!(rt;
-            fault(read_place(&mut memory(text), b' ')),
-            Some(want),
-            "in {text}"
-        );
-    }
+}
+
+#[test]
+fn words_and_bounds_that_differ_are_refused(rt: HostRuntime) {
     assert_eq!(rt;
         fault(word(&mut memory("exit"), b"entry", TextFault::Header)),
         Some(TextFault::Header)
@@ -206,14 +271,14 @@ fn other_names_that_are_spelled_otherwise_are_refused(rt: HostRuntime) {
 }
 
 #[test]
-fn a_source_fails_on_time(rt: HostRuntime) -> Result<(), Fail> {
+fn a_source_fails_on_time(rt: HostRuntime) {
     for calls in 0..6 {
         let mut source = Fused::new(memory("4.10 "), calls);
         let answer = read_ring(&mut source, b' ');
         if calls < 5 {
             assert_eq!(rt; answer, Err(ReadError::Read), "after {calls} calls");
         } else {
-            assert_eq!(rt; Some(answer?), ring(4, 10));
+            assert_eq!(rt; answer, Ok(ring(4, 10)));
         }
     }
     let mut source = Fused::new(memory("ab"), 1);
@@ -221,7 +286,6 @@ fn a_source_fails_on_time(rt: HostRuntime) -> Result<(), Fail> {
     assert_eq!(rt; source.byte(), Err(Failed));
     assert_eq!(rt; source.byte(), Err(Failed));
     assert_eq!(rt; source.into_inner().into_inner(), b"b".as_slice());
-    Ok(())
 }
 
 #[test]
@@ -329,63 +393,57 @@ fn a_buffer_is_filled_again(rt: HostRuntime) -> Result<(), Fail> {
 
 #[test]
 fn errors_are_told(rt: HostRuntime) -> Result<(), Fail> {
-    let alloc = rt.alloc();
-    assert!(rt; is_written(alloc, &Failed, "the stream failed")?);
-    assert!(rt;
-        is_written(
-            alloc,
-            &ReadError::Text(TextFault::Truncated),
-            "the text ends too soon"
-        )?
-    );
-    assert_eq!(rt; ReadError::from(AllocError), ReadError::Memory);
+    let alloc: Global = rt.alloc();
+    let end = ReadError::Text(TextFault::Truncated);
+    let text = format!(in alloc; "{Failed}: {end}")?;
+    assert_eq!(rt; text.as_str(), "the stream failed: the text ends too soon");
     Ok(())
 }
 
 #[test]
-fn laws_are_called() -> Result<(), Fail> {
+fn want_of_memory_is_told(rt: HostRuntime) {
+    assert_eq!(rt; ReadError::from(AllocError), ReadError::Memory);
+}
+
+#[test]
+fn laws_are_called() {
     number_spelling();
     process_spelling();
     ring_spelling();
     conf_spelling();
     message_spelling();
     place_spelling();
-    process_fits(ProcId::of(1));
-    let first = ring(4, 1).ok_or("4.1")?;
-    ring_fits(&first);
-    let last = transitional(8, 1, 12).ok_or("t8.1/12")?;
-    conf_fits(&last);
-    let sent = message(4, 1, 7).ok_or("4.1#7")?;
-    message_fits(&sent);
-    let entry = place(2, 50).ok_or("2@50")?;
-    place_fits(&entry);
+    process_fits(proc(1));
+    ring_fits(&ring(4, 1));
+    conf_fits(&transitional(8, 1, 12));
+    message_fits(&message(4, 1, 7));
+    place_fits(&place(2, 50));
     ring_order();
     conf_order();
     message_order();
     place_order();
-    Ok(())
+}
+
+fn put_names<S: Sink>(sink: &mut S, pieces: &mut Pieces) -> Result<(), Failed> {
+    pieces.put_ring(sink, ring(4, 1))?;
+    pieces.put(sink, b" ")?;
+    pieces.put_conf(sink, &ConfId::Regular(ring(4, 1)))?;
+    pieces.put(sink, b" ")?;
+    pieces.put_conf(sink, &transitional(8, 1, 12))?;
+    pieces.put(sink, b" ")?;
+    pieces.put_message(sink, message(4294967295, 1, 7))?;
+    pieces.put(sink, b" ")?;
+    pieces.put_place(sink, place(65535, 50))?;
+    pieces.put(sink, b" ")?;
+    pieces.put_number(sink, 10)
 }
 
 #[test]
 fn names_are_gathered_in_pieces(rt: HostRuntime) -> Result<(), Fail> {
-    let alloc = rt.alloc();
-    let first = ring(4, 1).ok_or("4.1")?;
-    let last = transitional(8, 1, 12).ok_or("t8.1/12")?;
-    let sent = message(4294967295, 1, 7).ok_or("4294967295.1#7")?;
-    let entry = place(65535, 50).ok_or("65535@50")?;
+    let alloc: Global = rt.alloc();
     let mut sink = ToWrite::new(Vec::new(alloc));
     let mut pieces = Pieces::new(alloc)?;
-    pieces.put_ring(&mut sink, first)?;
-    pieces.put(&mut sink, b" ")?;
-    pieces.put_conf(&mut sink, &ConfId::Regular(first))?;
-    pieces.put(&mut sink, b" ")?;
-    pieces.put_conf(&mut sink, &last)?;
-    pieces.put(&mut sink, b" ")?;
-    pieces.put_message(&mut sink, sent)?;
-    pieces.put(&mut sink, b" ")?;
-    pieces.put_place(&mut sink, entry)?;
-    pieces.put(&mut sink, b" ")?;
-    pieces.put_number(&mut sink, 10)?;
+    put_names(&mut sink, &mut pieces)?;
     pieces.flush(&mut sink)?;
     pieces.flush(&mut sink)?;
     assert_eq!(rt;

@@ -3,7 +3,7 @@ use std::alloc::{AllocError, Global};
 use std::test::Fail;
 use totem_ids::{ProcId, Service};
 use totem_net::{
-    Address, Delivery, Fate, Fates, Plan, Quiet, Turns, Ways, copies_wait_their_time, fate,
+    Address, Delivery, Fate, Fates, Plan, Quiet, Start, Turns, Ways, copies_wait_their_time, fate,
     no_copy_is_lost,
 };
 

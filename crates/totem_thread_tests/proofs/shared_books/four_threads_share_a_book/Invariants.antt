@@ -1,5 +1,5 @@
 use Rattle.std.proofs.Common.{[], ◌∷◌}
-use Rattle.totem_books.proofs.shared_tests.four_threads_share_a_book.Given as goal
+use Rattle.totem_thread_tests.proofs.shared_books.four_threads_share_a_book.Given as goal
 
 abbrev pub ghosts-share_among_four-L-Ledger : goal.ghosts-share_among_four-L-Ledger
 ghosts-share_among_four-L-Ledger g a = record { name = a.blank.name; parts = a.blank.parts }

@@ -1,5 +1,5 @@
 use Rattle.std.proofs.Common.{[], ◌∷◌}
-use Rattle.totem_books.proofs.shared_tests.a_call_answers_as_a_book_does.Given as goal
+use Rattle.totem_thread_tests.proofs.shared_books.a_call_answers_as_a_book_does.Given as goal
 
 abbrev pub ghosts-call_alone-L-Ledger : goal.ghosts-call_alone-L-Ledger
 ghosts-call_alone-L-Ledger g a = record { name = a.blank.name; parts = a.blank.parts }
