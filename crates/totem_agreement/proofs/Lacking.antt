@@ -202,7 +202,7 @@ pub delivered_by : (run : List Log) (c : RingId) (stays : List Stay) (stay : Sta
 delivered_by run c stays stay m o facts among is h = let found = found_there o (DeliversHere stay m) is h in (found.0, here_delivers run c stay m found.0 (facts.each stay among) found.1)
 
 -- gaps
-gap_at : (run : List Log) (c : RingId) (p i : ℕ) (rest : List Place) → BreaksGapIn run c (place p i ∷ rest) → (j q k : ℕ) × (rest ≡ place p j ∷ place q k ∷ []) × IsGap run c p i j q k
+pub gap_at : (run : List Log) (c : RingId) (p i : ℕ) (rest : List Place) → BreaksGapIn run c (place p i ∷ rest) → (j q k : ℕ) × (rest ≡ place p j ∷ place q k ∷ []) × IsGap run c p i j q k
 gap_at run c p i [] h = absurd h
 gap_at run c p i (f ∷ []) h = absurd h
 gap_at run c p i (f ∷ g ∷ []) (a, is, (j, is_f, (k, is_g, (same, gap)))) = (j, g.proc, k, placed, (let at : a ≡ i = omega arith in rw at at gap))
@@ -247,7 +247,7 @@ gap_of run c m p i j (g ∷ []) sending delivers of (a, is, (lt, (n, later, (k, 
 gap_of run c m p i j (g ∷ h ∷ rest) sending delivers of (a, is, (lt, (n, later, one))) = absurd one
 
 -- the later delivery stands in the same stay
-within : (run : List Log) (c : RingId) (stays : List Stay) (stay : Stay) (n : MsgId) (j : ℕ) → Facts run c stays → IsAmong stays stay → DeliversIn (log_of run stay.proc) c n j → IsInside stay j
+pub within : (run : List Log) (c : RingId) (stays : List Stay) (stay : Stay) (n : MsgId) (j : ℕ) → Facts run c stays → IsAmong stays stay → DeliversIn (log_of run stay.proc) c n j → IsInside stay j
 within run c stays stay n j facts among (d, at, belongs) =
     let bounds = (facts.each stay among).is.here j d (Deliver n d, at, refl) belongs in record { after = bounds.0; until = bounds.1 }
 

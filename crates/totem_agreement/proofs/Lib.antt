@@ -25,3 +25,4 @@ pub mod Adding
 pub mod Pend
 pub mod PendOrder
 pub mod Pacing
+pub mod Trailing

@@ -1,20 +1,23 @@
 //! 6.3: who delivers a later message delivers the earlier one too, where its sender is still a member
 //! (docs/SPECIFICATIONS.md, "6 Total order", "Passes").
-ghost use Rattle.std.specs.Prelude.{◌≡◌, ◌↔◌, ◌<◌, IsTrue, IfOk};
-ghost use Rattle.std.specs.Bool.{OnTrue};
+ghost use Rattle.std.specs.Prelude.{◌≡◌, ◌↔◌, ◌⊎◌, ◌<◌, ◌≤◌, IsTrue, IfOk, MatchOption};
+ghost use Rattle.std.specs.Bool.{OnTrue, OnFalse};
 ghost use Rattle.totem_evs.specs.Events.{log_of};
+ghost use Rattle.totem_evs.specs.Following.{HasDelivered};
+ghost use Rattle.totem_passes.specs.Search.{NoneFrom, IsLeastFrom};
 ghost use Rattle.totem_evs.specs.RingFaults.{BreaksGapIn};
 ghost use Rattle.totem_evs.specs.Answers.{FindsIn};
 ghost use Rattle.totem_agreement.specs.Acts.{IsAmong};
 ghost use Rattle.totem_agreement.specs.Search.{IsInside};
-ghost use Rattle.totem_agreement.specs.Gaps.{IsOneLack, IsLater, IsEverywhere, TellsMember};
+ghost use Rattle.totem_agreement.specs.Gaps.{IsOneLack, IsLater, IsEverywhere, TellsMember, IsApart, IsBeyond, AreLasts, IsSettled};
 
-use crate::search::{Finder, Relation, first_found, least, least_in, only};
+use crate::search::{Finder, Relation, first_found, least_found, least_in, only, place_at};
 use crate::stay::Stay;
 use crate::stays::Stays;
 use std::alloc::{AllocError, Global};
 use totem_evs::{Entry, Places, SpecNo};
 use totem_ids::{MsgId, Place, ProcId};
+use totem_passes::begin_with;
 
 /// The deliveries of a later message by processes that do not deliver the earlier one, where its sender is a member.
 #[derive(Clone, Copy)]
@@ -147,9 +150,132 @@ impl Relation for Gaps<'_, '_> {
     }
 }
 
+/// Whether the follower delivers the message that stands at this index of the leader's stay, if one does.
+fn is_common(stays: &Stays, leader: &Stay, follower: &Stay, at: usize) -> bool
+    requires leader { IsAmong stays.now.list.items leader.now }
+    requires follower { IsAmong stays.now.list.items follower.now }
+    requires inside { IsInside leader.now at }
+    ensures { OnFalse result (IsApart stays.now.run.now.logs stays.now.ring leader.now.proc follower.now.proc at) }
+{
+    let Entry::Deliver(message, _) = stays.entry_in(leader, at) else {
+        return false;
+    };
+    match stays.delivery_of(follower, message) {
+        Some(_) => true,
+        None => false,
+    }
+}
+
+/// Behind this index the leader delivers nothing that the follower delivers too.
+fn last_common(stays: &Stays, leader: &Stay, follower: &Stay) -> usize
+    requires leader { IsAmong stays.now.list.items leader.now }
+    requires follower { IsAmong stays.now.list.items follower.now }
+    ensures { IsBeyond stays.now.run.now.logs stays.now.ring leader.now.proc follower.now.proc result }
+{
+    let mut next = leader.end;
+    'back: while leader.from + 1 < next {
+        let at = next - 1;
+        if is_common(stays, leader, follower, at) {
+            return at;
+        }
+        next = at;
+    }
+    leader.from
+}
+
+/// These for all followers of a leader.
+fn lasts_of(alloc: Global, stays: &Stays, leader: &Stay) -> Result<Vec<usize>, AllocError>
+    requires { IsAmong stays.now.list.items leader.now }
+    ensures { IfOk result (λ lasts. AreLasts stays.now.run.now.logs stays.now.ring stays.now.list.items leader.now.proc lasts.items) }
+{
+    let mut lasts = Vec::new(alloc);
+    for follower in &stays.list {
+        lasts.push(last_common(stays, leader, follower))?;
+    }
+    Ok(lasts)
+}
+
+/// Whether the follower delivers the leader's message, or delivers nothing that the leader delivers after it.
+fn keeps_up(stays: &Stays, follower: &Stay, last: usize, message: &MsgId, at: usize) -> bool
+    requires { IsAmong stays.now.list.items follower.now }
+    ensures { OnTrue result ((last ≤ at) ⊎ HasDelivered (log_of stays.now.run.now.logs follower.now.proc) stays.now.ring message.now) }
+{
+    if last <= at {
+        return true;
+    }
+    match stays.delivery_of(follower, message) {
+        Some(_) => true,
+        None => false,
+    }
+}
+
+/// Whether all followers do.
+fn all_keep_up(stays: &Stays, leader: &Stay, lasts: &[usize], message: &MsgId, at: usize) -> bool
+    requires { AreLasts stays.now.run.now.logs stays.now.ring stays.now.list.items leader.now.proc lasts.now }
+    ensures { OnTrue result (IsSettled stays.now.run.now.logs stays.now.ring stays.now.list.items leader.now.proc message.now at) }
+{
+    for (k, follower) in stays.list.iter().enumerate() {
+        if !keeps_up(stays, follower, lasts[k], message, at) {
+            return false;
+        }
+    }
+    true
+}
+
+/// The gaps of one leader after another.
+#[derive(Clone, Copy)]
+struct EachLeader<'s, 'r> {
+    gaps: Gaps<'s, 'r>,
+}
+
+impl EachLeader<'_, '_> {
+    /// How the least gap goes on that begins at this index of the leader's stay.
+    fn rest_at(
+        &self,
+        alloc: Global,
+        leader: &Stay,
+        lasts: &[usize],
+        at: usize,
+    ) -> Result<Option<Vec<Place>>, AllocError>
+        requires among { IsAmong self.now.gaps.stays.now.list.items leader.now }
+        requires inside { IsInside leader.now at }
+        requires lasts { AreLasts self.now.gaps.stays.now.run.now.logs self.now.gaps.stays.now.ring self.now.gaps.stays.now.list.items leader.now.proc lasts.now }
+        ensures { IfOk result (λ found. MatchOption found
+            (NoneFrom (BreaksGapIn self.now.gaps.stays.now.run.now.logs self.now.gaps.stays.now.ring) leader.now.proc at)
+            (λ rest. IsLeastFrom (BreaksGapIn self.now.gaps.stays.now.run.now.logs self.now.gaps.stays.now.ring) leader.now.proc at rest.items)) }
+    {
+        let stays = self.gaps.stays;
+        if let Entry::Deliver(message, _) = stays.entry_in(leader, at) {
+            if all_keep_up(stays, leader, lasts, message, at) {
+                return Ok(None);
+            }
+        }
+        self.gaps.rest(alloc, leader, at)
+    }
+}
+
+impl Finder for EachLeader<'_, '_> {
+    ghost among = { λ e. e.gaps.stays.now.list.items };
+
+    ghost reaches = { λ e. IsInside };
+
+    ghost holds = { λ e. BreaksGapIn e.gaps.stays.now.run.now.logs e.gaps.stays.now.ring };
+
+    fn find_in(&self, alloc: Global, stay: &Stay) -> Result<Option<Vec<Place>>, AllocError> {
+        let lasts = lasts_of(alloc, self.gaps.stays, stay)?;
+        for at in stay.from + 1..stay.end {
+            if let Some(rest) = self.rest_at(alloc, stay, &lasts, at)? {
+                return Ok(Some(begin_with(place_at(stay.proc, at), rest)?));
+            }
+        }
+        Ok(None)
+    }
+}
+
 /// The least events that break 6.3 in this configuration.
 pub fn find(alloc: Global, stays: &Stays) -> Result<Option<Places>, AllocError>
     ensures { IfOk result (FindsIn stays.now.run.now.logs stays.now.ring SpecNo.Gap) }
 {
-    least(&Gaps { stays }, alloc, stays)
+    let gaps = Gaps { stays };
+    least_found(&EachLeader { gaps }, alloc, stays)
 }

@@ -143,7 +143,20 @@ pub fn least<R: Relation>(
     requires begins { EachBeginsInside stays.now.list.items (R.holds relation.now) }
     ensures { IfOk result (λ found. MatchOption found (HoldsOfNone (R.holds relation.now)) (IsLeast (R.holds relation.now))) }
 {
-    match least_list(relation, alloc, stays)? {
+    least_found(&EachIndex { relation }, alloc, stays)
+}
+
+/// The least list that a finder finds, as places.
+pub fn least_found<F: Finder>(
+    finder: &F,
+    alloc: Global,
+    stays: &Stays,
+) -> Result<Option<Places>, AllocError>
+    requires among { F.among finder.now ≡ stays.now.list.items }
+    requires begins { EachBeginsWithin stays.now.list.items (F.reaches finder.now) (F.holds finder.now) }
+    ensures { IfOk result (λ found. MatchOption found (HoldsOfNone (F.holds finder.now)) (IsLeast (F.holds finder.now))) }
+{
+    match first_found(finder, alloc, stays)? {
         None => Ok(None),
         Some(list) => Ok(Some(Places::new(list))),
     }

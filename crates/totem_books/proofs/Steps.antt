@@ -7,8 +7,7 @@ use Rattle.totem_node.specs.Nodes.{Node, Stepped}
 use Rattle.totem_node.specs.Outcomes.{Outcome}
 use Rattle.totem_node.specs.Table.{step}
 use Rattle.totem_node.specs.Replay.{Answer, Life, lived, one_input}
-use Rattle.totem_books.specs.declared.taken.Taken.{Taken}
-use Rattle.totem_books.specs.Replies.{answer_of, entries_of}
+use Rattle.totem_books.specs.Replies.{entries_of}
 use Rattle.totem_books.specs.Calls.{Called, Receipt}
 use Rattle.totem_books.specs.Replay.{Start, replay, lived_back, answer_to, node_behind, IsReplay}
 use Rattle.totem_books.specs.History.{called}
@@ -49,13 +48,12 @@ one_call_more start calls node after log more i reply is node_is reply_is more_i
     }
 
 -- what was taken is stored
-pub goes_on : (start : Start) (calls more : List Called) (node after : Node) (log written : List Entry) (i : Input) (place : ℕ) (taken : Taken) → IsReplay start calls node log → IsTaken node i place taken
-    → IsAdded calls more log written taken.stub → after ≡ taken.node → IsReplay start more after written
-goes_on start calls more node after log written i place taken is t added after_is =
-    let reply = answer_of taken.reply in
-    let next : IsReplay start (calls ++ called i reply ∷ []) after (log ++ entries_of reply) = one_call_more start calls node after log (entries_of reply) i reply is (after_is ∙ t.node) t.reply refl in
-    let all : more ≡ calls ++ called i reply ∷ [] = added.call ∙ ap (λ (s : Receipt). calls ++ called s.input s.reply ∷ []) t.stub in
-    let log_is : written ≡ log ++ entries_of reply = added.entries ∙ ap (λ (s : Receipt). log ++ entries_of s.reply) t.stub in
+pub goes_on : (start : Start) (calls more : List Called) (node behind after : Node) (log written : List Entry) (i : Input) (place : ℕ) (stub : Receipt) (reply : Outcome Answer) → IsReplay start calls node log
+    → IsTaken node i place behind stub reply → IsAdded calls more log written stub → after ≡ behind → IsReplay start more after written
+goes_on start calls more node behind after log written i place stub reply is t added after_is =
+    let next : IsReplay start (calls ++ called i reply ∷ []) after (log ++ entries_of reply) = one_call_more start calls node after log (entries_of reply) i reply is (after_is ∙ t.node) t.answer refl in
+    let all : more ≡ calls ++ called i reply ∷ [] = added.call ∙ ap (λ (s : Receipt). calls ++ called s.input s.reply ∷ []) t.told in
+    let log_is : written ≡ log ++ entries_of reply = added.entries ∙ ap (λ (s : Receipt). log ++ entries_of s.reply) t.told in
     subst (λ (cs : List Called). IsReplay start cs after written) (sym all) (subst (λ (es : List Entry). IsReplay start (calls ++ called i reply ∷ []) after es) (sym log_is) next)
 
 -- the node that fell behind comes level with its copy

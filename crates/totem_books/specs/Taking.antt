@@ -3,19 +3,19 @@ use Rattle.std.specs.Prelude.{◌≡◌, ℕ, List, [], ◌∷◌, ◌++◌}
 use Rattle.totem_evs.specs.declared.entry.Entry.{Entry}
 use Rattle.totem_node.specs.declared.input.Input.{Input}
 use Rattle.totem_node.specs.Nodes.{Node}
+use Rattle.totem_node.specs.Outcomes.{Outcome}
+use Rattle.totem_node.specs.Replay.{Answer}
 use Rattle.totem_node.specs.Table.{step}
-use Rattle.totem_books.specs.declared.taken.Taken.{Taken}
-use Rattle.totem_books.specs.Replies.{answer_of, entries_of}
+use Rattle.totem_books.specs.Replies.{entries_of}
 use Rattle.totem_books.specs.Calls.{Called, Receipt}
 use Rattle.totem_books.specs.Replay.{answer_to, node_behind}
 use Rattle.totem_books.specs.History.{called, receipt}
 
 -- the node took the input, as the call of this place
-pub record IsTaken (before : Node) (i : Input) (place : ℕ) (taken : Taken) : Type 0 where
-  pub node : taken.node ≡ node_behind before (step before i)
-  pub input : taken.input ≡ i
-  pub reply : answer_of taken.reply ≡ answer_to (step before i)
-  pub stub : taken.stub ≡ receipt place i (answer_of taken.reply)
+pub record IsTaken (before : Node) (i : Input) (place : ℕ) (behind : Node) (stub : Receipt) (reply : Outcome Answer) : Type 0 where
+  pub node : behind ≡ node_behind before (step before i)
+  pub answer : reply ≡ answer_to (step before i)
+  pub told : stub ≡ receipt place i reply
 
 -- the call of this receipt was added to the calls, and its entries to the log
 pub record IsAdded (calls more : List Called) (log written : List Entry) (stub : Receipt) : Type 0 where

@@ -10,7 +10,6 @@ use crate::closed::ClosedBook;
 use crate::giving::give_and_store;
 use crate::level::Level;
 use crate::reply::Reply;
-use crate::taken::Taken;
 use std::alloc::{AllocError, Global};
 use std::marker::Model;
 use totem_evs::{Entry, Members};
@@ -92,14 +91,10 @@ impl Book {
         if self.calls.len() >= MOST || self.entries.len() >= MOST {
             return Err(BookFault::Long);
         }
-        let copy = self.node.copy(alloc)?;
-        let Taken {
-            node,
-            input,
-            stub,
-            reply,
-        } = give_and_store(alloc, &mut self.calls, &mut self.entries, copy, input)?;
-        self.node.follow(alloc, node, input);
+        let mut copy = self.node.copy(alloc)?;
+        let (calls, log) = (&mut self.calls, &mut self.entries);
+        let (stub, reply) = give_and_store(alloc, calls, log, &mut copy, &input)?;
+        self.node.follow(alloc, copy, input);
         Ok((stub, reply))
     }
 

@@ -60,8 +60,9 @@ impl Level {
 fn caught_up(alloc: Global, node: NodeCore, input: Input) -> Option<NodeCore>
     ensures { IfSome result (λ n. n ≡ node_behind node (step node input)) }
 {
-    match stepped(alloc, node, input) {
-        Ok((node, _reply)) => Some(node),
+    let mut node = node;
+    match stepped(alloc, &mut node, input) {
+        Ok(_reply) => Some(node),
         Err(_) => None,
     }
 }

@@ -19,7 +19,6 @@ mod seat;
 mod settle;
 mod shared;
 mod stepping;
-mod taken;
 
 pub use book::Book;
 pub use book_fault::BookFault;

@@ -79,17 +79,37 @@ impl NodeCore {
         Ok((node, change))
     }
 
+    /// Copies of what it is doing, and of its ring.
+    fn rings(&self, alloc: Global) -> Result<(State, RingState), AllocError>
+        ensures { IfOk result (λ r. (r.0 ≡ self.now.state) × (r.1 ≡ self.now.installed)) }
+    {
+        let state = self.state.try_clone(alloc)?;
+        let installed = self.installed.try_clone(alloc)?;
+        Ok((state, installed))
+    }
+
+    /// Copies of what waits, and of whom it owes messages.
+    fn owed(&self, alloc: Global) -> Result<(Vec<Body>, Processes), AllocError>
+        ensures { IfOk result (λ r. (r.0.items ≡ self.now.waiting) × (r.1 ≡ self.now.obligation)) }
+    {
+        let waiting = copies_of(alloc, &self.waiting)?;
+        let obligation = self.obligation.try_clone(alloc)?;
+        Ok((waiting, obligation))
+    }
+
     pub fn try_clone(&self, alloc: Global) -> Result<NodeCore, AllocError>
         ensures { IfOk result (λ n. n ≡ self.now) }
     {
+        let (waiting, obligation) = self.owed(alloc)?;
+        let (state, installed) = self.rings(alloc)?;
         Ok(NodeCore {
             me: self.me,
-            state: self.state.try_clone(alloc)?,
-            installed: self.installed.try_clone(alloc)?,
-            waiting: copies_of(alloc, &self.waiting)?,
+            state,
+            installed,
+            waiting,
             quiet: self.quiet,
             seq: self.seq,
-            obligation: self.obligation.try_clone(alloc)?,
+            obligation,
             filled: self.filled,
             crashed: self.crashed,
         })

@@ -1,4 +1,4 @@
-use Rattle.std.proofs.Common.{rules, arith}
+use Rattle.std.proofs.Common.{rules}
 use Rattle.totem_agreement.proofs.Listing.{found_next, all_found_of}
 use Rattle.totem_agreement.proofs.pass.pass_d.Goals as goal
 
