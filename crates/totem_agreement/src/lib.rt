@@ -9,6 +9,7 @@ mod comings;
 mod entries;
 mod findings;
 mod gap;
+mod hints;
 mod installed;
 mod jobs;
 mod kept;

@@ -1,9 +1,11 @@
 //! The part of a log that stands in a regular configuration and in what follows it.
 ghost use Rattle.std.specs.Prelude.{◌≡◌, ◌↔◌, ◌<◌, IsTrue, length};
+ghost use Rattle.std.specs.Bool.{OnTrue};
 ghost use Rattle.totem_agreement.specs.Stays.{IsNextOrEnd, AreNextTwo};
+ghost use Rattle.totem_agreement.specs.Acts.{DeliversHere};
 
 use totem_evs::{Entry, Log};
-use totem_ids::ProcId;
+use totem_ids::{MsgId, ProcId};
 
 /// The stay of a process: its log changes to the regular configuration at `from` and to what follows that at `turn`, and
 /// the entries before `end` are those that stand in these two. Where nothing follows, `turn` is `end`.
@@ -22,6 +24,19 @@ impl Stay<'_> {
         ensures { IsTrue result ↔ (self.now.end ≡ length self.now.log.now) }
     {
         self.end == self.log.len()
+    }
+
+    /// Whether the entry at this index stands in the stay and delivers the message.
+    pub fn delivers_at(&self, at: usize, message: &MsgId) -> bool
+        ensures { OnTrue result (DeliversHere self.now message.now at) }
+    {
+        if at <= self.from || at >= self.end {
+            return false;
+        }
+        match self.log.get(at) {
+            Some(Entry::Deliver(found, _)) => *found == *message,
+            _ => false,
+        }
     }
 }
 

@@ -10,6 +10,7 @@ ghost use Rattle.totem_agreement.specs.Reached.{IsSafeIn, AreMembersAt};
 ghost use Rattle.totem_agreement.specs.Acts.{IsAmong, NeverComes, DeliversHere, DeliversNot, IsSendingOf, NobodySent};
 
 use crate::arrival::Arrival;
+use crate::hints::Hints;
 use crate::kept::{Delivery, Kept};
 use crate::stay::{Stay, stay_from};
 use std::alloc::{AllocError, Global};
@@ -30,6 +31,7 @@ pub struct Stays<'r> {
     pub run: &'r Run,
     pub ring: RingId,
     pub list: Vec<Stay<'r>>,
+    hints: Hints,
     kept: Kept,
     ghost meets: { ∥ MeetsPasses run.now.logs ∥₁ },
     ghost are: { ∥ AreStays run.now.logs ring list.items ∥₁ },
@@ -72,10 +74,12 @@ impl<'r> Stays<'r> {
             list.extend_from_slice(&[stay])?;
         }
         let kept = Kept::of(alloc, &list)?;
+        let hints = Hints::of(alloc, &list)?;
         Ok(Stays {
             run,
             ring,
             list,
+            hints,
             kept,
         })
     }
@@ -96,6 +100,19 @@ impl<'r> Stays<'r> {
 
     /// Where the process of this stay delivers the message, in the regular configuration or in what follows it.
     pub fn delivery_of(&self, stay: &Stay, message: &MsgId) -> Option<usize>
+        requires { IsAmong self.now.list.items stay.now }
+        ensures found { IfSome result (DeliversHere stay.now message.now) }
+        ensures none { IfNone result (DeliversNot stay.now.log.now self.now.ring message.now) }
+    {
+        let hint = self.hints.hint(stay, message);
+        if stay.delivers_at(hint, message) {
+            return Some(hint);
+        }
+        self.kept_delivery(stay, message)
+    }
+
+    /// The same, by what is kept of all deliveries.
+    fn kept_delivery(&self, stay: &Stay, message: &MsgId) -> Option<usize>
         requires { IsAmong self.now.list.items stay.now }
         ensures found { IfSome result (DeliversHere stay.now message.now) }
         ensures none { IfNone result (DeliversNot stay.now.log.now self.now.ring message.now) }

@@ -2,7 +2,7 @@ use Rattle.std.proofs.Common.{sym, ◌∙◌}
 use Rattle.totem_ids.specs.contracts.message.MsgIdOrd.TheImpl as message
 use Rattle.totem_agreement.specs.contracts.kept.DeliveryOrd.TheImpl as delivery
 use Rattle.totem_agreement.proofs.Answering.{delivery_found, delivery_none, where_some, where_none}
-use Rattle.totem_agreement.proofs.stays.Stays.delivery_of.Goals as goal
+use Rattle.totem_agreement.proofs.stays.Stays.kept_delivery.Goals as goal
 
 pub returns-clause-found : goal.returns-clause-found
 returns-clause-found c =

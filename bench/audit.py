@@ -1,0 +1,243 @@
+#!/usr/bin/env python3
+"""Times `totem audit` on families of runs.
+
+For each family and each size it makes a run, lets the program judge it, and prints a line: the entries, the verdict, the least
+wall time of a few tries, the peak memory, what that is for an entry, and how often the time of the size before it was needed.
+A family whose time grows much faster than its entries is a defect.
+
+    ./totem help > /dev/null                       # proves and builds the program, once
+    bench/audit.py                                 # the table
+    bench/audit.py --families well8,fails --sizes 10000,40000,160000
+    bench/audit.py --workers 4                     # the last pass by four threads
+    bench/audit.py --write fails --sizes 1000      # the run itself, for other programs
+
+The runs are a function of the seed. Times of a machine that does other work swing by half: compare lines of one table.
+"""
+
+import argparse
+import os
+import random
+import subprocess
+import sys
+import tempfile
+import time
+from pathlib import Path
+
+PROGRAM = Path(__file__).resolve().parent.parent / "crates/totem/out/totem"
+
+
+class Ring:
+    """The messages of one ring: its number, its members, and who sends what in which service, in batches as a token gives them."""
+
+    def __init__(self, rng, number, members, messages):
+        self.number, self.members = number, members
+        self.name = f"{number}.{members[0]}"
+        self.batches, at = [], 1
+        while at <= messages:
+            size = min(rng.randint(1, 8), messages + 1 - at)
+            services = ["s" if rng.random() < 0.2 else "a" for _ in range(size)]
+            self.batches.append((members[len(self.batches) % len(members)], at, services))
+            at += size
+
+    def change(self):
+        return f"conf r{self.name} {' '.join(map(str, self.members))}"
+
+    def between(self, following):
+        """The transitional change of all members to the ring that follows."""
+        return f"conf t{following.name}/{self.members[0]} {' '.join(map(str, self.members))}"
+
+    def send(self, number, service):
+        return f"send r{self.name} {service} {self.name}#{number}"
+
+    def delivery(self, number):
+        return f"dlv r{self.name} {self.name}#{number}"
+
+    def life(self, member, delivers=lambda number, sender: True, sends=True):
+        """The lines of one member: its own batches where their turn comes, and what it delivers of all of them."""
+        lines = [self.change()]
+        for sender, first, services in self.batches:
+            numbers = range(first, first + len(services))
+            if sender == member and sends:
+                lines += [self.send(number, service) for number, service in zip(numbers, services)]
+            lines += [self.delivery(number) for number in numbers if delivers(number, sender)]
+        return lines
+
+
+def text_of(logs):
+    """The run's text: each log is a process, its lines and its closing word."""
+    lines = ["totem-run 1"]
+    for process, body, ending in logs:
+        lines += [f"log {process}", *body, ending]
+    return "\n".join([*lines, "end", ""])
+
+
+def all_well(count):
+    def family(rng, entries):
+        ring = Ring(rng, 4, list(range(1, count + 1)), entries // (count + 1))
+        return [(member, ring.life(member), "open") for member in ring.members]
+
+    return family
+
+
+def many_rings(messages):
+    """Eight members that go from ring to ring, with so many messages on each."""
+
+    def family(rng, entries):
+        members = list(range(1, 9))
+        count = max(1, entries // (16 + 9 * messages))
+        rings = [Ring(rng, 4 * (place + 1), members, messages) for place in range(count)]
+        logs = []
+        for member in members:
+            lines = []
+            for place, ring in enumerate(rings):
+                lines += ring.life(member)
+                if place + 1 < count:
+                    lines.append(ring.between(rings[place + 1]))
+            logs.append((member, lines, "open"))
+        return logs
+
+    return family
+
+
+def one_stays_behind(count, share, ending):
+    """The last of so many members sends nothing, and delivers this share of the messages (none: two)."""
+
+    def family(rng, entries):
+        messages = entries // count
+        ring = Ring(rng, 4, list(range(1, count + 1)), messages)
+        ring.batches = [(1 + place % (count - 1), first, ["a"] * len(services)) for place, (_, first, services) in enumerate(ring.batches)]
+        reach = max(2, int(share * messages))
+        logs = [(member, ring.life(member), "open") for member in ring.members[:-1]]
+        last = ring.life(count, lambda number, _: number <= reach)
+        return [*logs, (count, [*last, f"fail r{ring.name}"] if ending == "failed" else last, ending)]
+
+    return family
+
+
+def each_for_itself(rng, entries):
+    """Two logs that fail, each of which delivers what it sent itself and nothing else."""
+    ring = Ring(rng, 4, [1, 2], entries // 2)
+    ring.batches = [(sender, first, ["a"] * len(services)) for sender, first, services in ring.batches]
+    return [
+        (member, [*ring.life(member, lambda _, sender, me=member: sender == me), f"fail r{ring.name}"], "failed")
+        for member in ring.members
+    ]
+
+
+def broken_at_the_end(kind):
+    """Three members of which the last one misses a message at the end, so that a specification is broken."""
+
+    def family(rng, entries):
+        messages = max(4, entries // 4)
+        ring = Ring(rng, 4, [1, 2, 3], messages)
+        services = "s" if kind == "7.1" else "a"
+        ring.batches = [(1 + place % 2, first, ["a"] * len(given)) for place, (_, first, given) in enumerate(ring.batches)]
+        sender, first, given = ring.batches[-1]
+        ring.batches[-1] = (sender, first, [*given[:-1], services])
+        missed = messages - 1 if kind == "6.3" else messages
+        logs = [[ring.life(member), "open"] for member in (1, 2)]
+        logs.append([ring.life(3, lambda number, _: number != missed), "open"])
+        following = Ring(rng, 8, [1, 2, 3], 0)
+        if kind == "4":
+            for lines, _ in logs:
+                lines += [ring.between(following), following.change()]
+        if kind == "7.1":
+            alone = Ring(rng, 8, [3], 0)
+            logs[2][0] += [f"conf t{alone.name}/3 3", alone.change()]
+        return [(member, lines, ending) for member, (lines, ending) in zip(ring.members, logs)]
+
+    return family
+
+
+FAMILIES = {
+    "well3": ("3 logs, all well", all_well(3)),
+    "well8": ("8 logs, all well", all_well(8)),
+    "well32": ("32 logs, all well", all_well(32)),
+    "rings100": ("8 logs, 100 messages on each ring", many_rings(100)),
+    "rings1": ("8 logs, one message on each ring", many_rings(1)),
+    "fails": ("3 logs, one failed early", one_stays_behind(3, 0, "failed")),
+    "lags": ("8 logs, one lags from the start", one_stays_behind(8, 0, "open")),
+    "half": ("3 logs, one lags from the middle", one_stays_behind(3, 0.5, "open")),
+    "alone": ("2 logs that fail, each delivers its own", each_for_itself),
+    "gap": ("6.3 broken at the end", broken_at_the_end("6.3")),
+    "atomicity": ("4 broken at the end", broken_at_the_end("4")),
+    "safety": ("7.1 broken at the end", broken_at_the_end("7.1")),
+}
+
+
+def judged(words, run, limit):
+    """The verdict, the wall time and the peak memory in MiB of one audit; no verdict where it takes longer than the limit."""
+    with tempfile.TemporaryFile() as out:
+        run.seek(0)
+        start = time.perf_counter()
+        process = subprocess.Popen(["timeout", str(limit), *words], stdin=run, stdout=out, stderr=subprocess.DEVNULL)
+        _, status, used = os.wait4(process.pid, 0)
+        took = time.perf_counter() - start
+        process.returncode = os.waitstatus_to_exitcode(status)
+        if process.returncode == 124:
+            return None, took, 0
+        if process.returncode not in (0, 1):
+            sys.exit(f"audit.py: {' '.join(words)} ended with status {process.returncode}")
+        out.seek(0)
+        verdict, first = out.readline().decode().strip(), out.readline().decode().strip()
+        fault = f" ({' '.join(first.split()[1:2])})" if verdict == "verdict no" else ""
+        return verdict.removeprefix("verdict ") + fault, took, used.ru_maxrss / 1024
+
+
+def lines_of(name, arguments):
+    what, family = FAMILIES[name]
+    before = None
+    for size in arguments.sizes:
+        with tempfile.TemporaryFile() as run:
+            logs = family(random.Random(arguments.seed), size)
+            entries = sum(len(body) for _, body, _ in logs)
+            run.write(text_of(logs).encode())
+            words = [str(arguments.program), "audit", "--workers", str(arguments.workers)]
+            tries = []
+            for _ in range(arguments.tries):
+                tries.append(judged(words, run, arguments.limit))
+                if tries[-1][0] is None or tries[-1][1] > 5:
+                    break
+        verdict, took, _ = min(tries, key=lambda it: it[1])
+        if verdict is None:
+            yield f"| {what} | {entries:,} | - | above {arguments.limit} s | | | |"
+            return
+        memory = max(it[2] for it in tries)
+        growth = f"{took / before[1]:.1f} for {entries / before[0]:.1f}" if before else ""
+        yield f"| {what} | {entries:,} | {verdict} | {took:.3f} s | {memory:.0f} MiB | {memory * 2**20 / entries:.0f} | {growth} |"
+        before = entries, took
+
+
+def numbers(text):
+    return [int(it) for it in text.split(",")]
+
+
+def main():
+    parser = argparse.ArgumentParser(description=__doc__, formatter_class=argparse.RawDescriptionHelpFormatter)
+    parser.add_argument("--program", type=Path, default=PROGRAM, help="the built program")
+    parser.add_argument("--families", default=",".join(FAMILIES), help="which, parted by commas: " + ", ".join(FAMILIES))
+    parser.add_argument("--sizes", type=numbers, default=[20_000, 80_000, 320_000], help="about how many entries, parted by commas")
+    parser.add_argument("--workers", type=int, default=1)
+    parser.add_argument("--tries", type=int, default=3, help="the least time of so many counts")
+    parser.add_argument("--limit", type=int, default=60, help="seconds behind which an audit is given up")
+    parser.add_argument("--seed", type=int, default=1)
+    parser.add_argument("--write", metavar="FAMILY", help="writes the run of the first size, and judges nothing")
+    arguments = parser.parse_args()
+    names = [arguments.write] if arguments.write else arguments.families.split(",")
+    for name in names:
+        if name not in FAMILIES:
+            parser.error(f"there is no family {name}: {', '.join(FAMILIES)}")
+    if arguments.write:
+        sys.stdout.write(text_of(FAMILIES[arguments.write][1](random.Random(arguments.seed), arguments.sizes[0])))
+        return
+    if not os.access(arguments.program, os.X_OK):
+        parser.error(f"{arguments.program} is not built: ./totem help builds it")
+    print("| Run | Entries | Verdict | Time | Peak memory | Bytes an entry | Times the time, for times the entries |")
+    print("|---|---|---|---|---|---|---|")
+    for name in names:
+        for line in lines_of(name, arguments):
+            print(line, flush=True)
+
+
+if __name__ == "__main__":
+    main()
