@@ -11,7 +11,7 @@ A family whose time grows much faster than its entries is a defect.
     bench/audit.py --workers 4                     # the last pass by four threads
     bench/audit.py --write fails --sizes 1000      # the run itself, for other programs
 
-The runs are a function of the seed. Times of a machine that does other work swing by half: compare lines of one table.
+The runs are a function of the seed. A peak of less than 10 MiB is that of what starts the program. Times of a machine that does other work swing by half: compare lines of one table.
 """
 
 import argparse
@@ -20,7 +20,6 @@ import random
 import subprocess
 import sys
 import tempfile
-import time
 from pathlib import Path
 
 PROGRAM = Path(__file__).resolve().parent.parent / "crates/totem/out/totem"
@@ -165,23 +164,35 @@ FAMILIES = {
 }
 
 
+# Starts the program from a small process of its own, since a child is counted with the memory of whoever starts it. Tells the
+# status, the seconds and the KiB at the peak.
+STARTER = """
+import os, sys, time
+start = time.perf_counter()
+child = os.fork()
+if child == 0:
+    os.dup2(os.open(os.devnull, os.O_WRONLY), 2)
+    os.execvp("timeout", ["timeout", *sys.argv[1:]])
+_, status, used = os.wait4(child, 0)
+print(os.waitstatus_to_exitcode(status), time.perf_counter() - start, used.ru_maxrss, file=sys.stderr)
+"""
+
+
 def judged(words, run, limit):
     """The verdict, the wall time and the peak memory in MiB of one audit; no verdict where it takes longer than the limit."""
     with tempfile.TemporaryFile() as out:
         run.seek(0)
-        start = time.perf_counter()
-        process = subprocess.Popen(["timeout", str(limit), *words], stdin=run, stdout=out, stderr=subprocess.DEVNULL)
-        _, status, used = os.wait4(process.pid, 0)
-        took = time.perf_counter() - start
-        process.returncode = os.waitstatus_to_exitcode(status)
-        if process.returncode == 124:
+        started = [sys.executable, "-S", "-c", STARTER, str(limit), *words]
+        told = subprocess.run(started, stdin=run, stdout=out, stderr=subprocess.PIPE, text=True, check=True).stderr.split()
+        status, took, memory = int(told[0]), float(told[1]), int(told[2])
+        if status == 124:
             return None, took, 0
-        if process.returncode not in (0, 1):
-            sys.exit(f"audit.py: {' '.join(words)} ended with status {process.returncode}")
+        if status not in (0, 1):
+            sys.exit(f"audit.py: {' '.join(words)} ended with status {status}")
         out.seek(0)
         verdict, first = out.readline().decode().strip(), out.readline().decode().strip()
         fault = f" ({' '.join(first.split()[1:2])})" if verdict == "verdict no" else ""
-        return verdict.removeprefix("verdict ") + fault, took, used.ru_maxrss / 1024
+        return verdict.removeprefix("verdict ") + fault, took, memory / 1024
 
 
 def lines_of(name, arguments):
