@@ -11,7 +11,8 @@ A family whose time grows much faster than its entries is a defect.
     bench/audit.py --workers 4                     # the last pass by four threads
     bench/audit.py --write fails --sizes 1000      # the run itself, for other programs
 
-The runs are a function of the seed. A peak of less than 10 MiB is that of what starts the program. Times of a machine that does other work swing by half: compare lines of one table.
+The runs are a function of the seed. A peak of less than 10 MiB is that of what starts the program. Times of a machine that
+does other work swing by half: compare lines of one table.
 """
 
 import argparse
