@@ -24,5 +24,5 @@ pub mod Waits
 pub mod Adding
 pub mod Pend
 pub mod PendOrder
-pub mod Pacing
+pub mod Suspecting
 pub mod Trailing

@@ -11,5 +11,5 @@ pub mod Causality
 pub mod Gaps
 pub mod Jobs
 pub mod Partings
-pub mod Pace
+pub mod Suspects
 pub mod Findings

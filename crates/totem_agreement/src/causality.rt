@@ -1,6 +1,6 @@
 //! 5: what a process sent or delivered before it sent a message is delivered before that message, one hop at a time
 //! (docs/SPECIFICATIONS.md, "5 Causal delivery", "Passes").
-ghost use Rattle.std.specs.Prelude.{◌≡◌, ◌↔◌, ◌<◌, IsTrue, IfOk};
+ghost use Rattle.std.specs.Prelude.{◌≡◌, ◌↔◌, ◌<◌, IsTrue, IfOk, length};
 ghost use Rattle.totem_passes.specs.Search.{place};
 ghost use Rattle.totem_evs.specs.RingFaults.{BreaksCausalityIn};
 ghost use Rattle.totem_evs.specs.RingAgreement.{IsHop};
@@ -8,12 +8,14 @@ ghost use Rattle.totem_evs.specs.Answers.{FindsIn};
 ghost use Rattle.totem_agreement.specs.Acts.{IsAmong};
 ghost use Rattle.totem_agreement.specs.Search.{IsInside};
 ghost use Rattle.totem_agreement.specs.Causality.{IsOneSurprise, IsEffect};
+ghost use Rattle.totem_agreement.specs.Suspects.{AreSuspects};
 
-use crate::pace::is_causal;
 use crate::search::{Finder, Relation, first_found, least, least_list, only};
 use crate::stay::Stay;
 use crate::stays::Stays;
+use crate::suspects::suspects_of;
 use std::alloc::{AllocError, Global};
+use std::collections::BTreeSet;
 use totem_evs::{Entry, Places, SpecNo};
 use totem_ids::{MsgId, Place, ProcId};
 
@@ -97,10 +99,12 @@ impl Relation for Effects<'_, '_, '_> {
     }
 }
 
-/// The sends of causes.
-#[derive(Clone, Copy)]
+/// The sends of causes. Those that are no suspects have no effect that comes without them.
+#[derive(Drop)]
 struct Causes<'s, 'r> {
     stays: &'s Stays<'r>,
+    suspects: BTreeSet<MsgId>,
+    ghost are: { ∥ AreSuspects ⟦<MsgId as Ord>⟧.cmp suspects stays.now.run.now.logs stays.now.ring stays.now.list.items (length stays.now.list.items) ∥₁ },
 }
 
 impl Relation for Causes<'_, '_> {
@@ -117,6 +121,9 @@ impl Relation for Causes<'_, '_> {
         let Entry::Send(cause, _, _) = self.stays.entry_in(stay, at) else {
             return Ok(None);
         };
+        if !self.suspects.contains(cause) {
+            return Ok(None);
+        }
         let effects = Effects {
             stays: self.stays,
             cause,
@@ -131,8 +138,6 @@ impl Relation for Causes<'_, '_> {
 pub fn find(alloc: Global, stays: &Stays) -> Result<Option<Places>, AllocError>
     ensures { IfOk result (FindsIn stays.now.run.now.logs stays.now.ring SpecNo.Causality) }
 {
-    if is_causal(stays) {
-        return Ok(None);
-    }
-    least(&Causes { stays }, alloc, stays)
+    let suspects = suspects_of(alloc, stays)?;
+    least(&Causes { stays, suspects }, alloc, stays)
 }

@@ -14,7 +14,6 @@ mod installed;
 mod jobs;
 mod kept;
 mod own;
-mod pace;
 mod pass;
 mod pendings;
 mod safety;
@@ -22,6 +21,7 @@ mod search;
 mod standing;
 mod stay;
 mod stays;
+mod suspects;
 mod waitings;
 
 pub use findings::Findings;
