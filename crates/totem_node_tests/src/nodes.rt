@@ -158,154 +158,177 @@ fn push_out(alloc: Global, text: &mut String, out: &StepOut) -> Result<(), Alloc
     Ok(())
 }
 
-/// One step: what it writes, does on rings and sends, or its fault.
+/// What a step writes, does on rings and sends, or its fault.
+fn push_answer(
+    alloc: Global,
+    text: &mut String,
+    answer: Result<StepOut, NodeFault>,
+) -> Result<(), AllocError> {
+    match answer {
+        Ok(out) => push_out(alloc, text, &out),
+        Err(fault) => text.push_str(fault.name()),
+    }
+}
+
+fn push_copy(alloc: Global, text: &mut String, out: &StepOut) -> Result<(), AllocError> {
+    let copy = out.try_clone(alloc)?;
+    push_out(alloc, text, &copy)
+}
+
+/// What the copy of a step writes, does on rings and sends, or the step's fault.
+fn push_copied_answer(
+    alloc: Global,
+    text: &mut String,
+    answer: Result<StepOut, NodeFault>,
+) -> Result<(), AllocError> {
+    match answer {
+        Ok(out) => push_copy(alloc, text, &out),
+        Err(fault) => text.push_str(fault.name()),
+    }
+}
+
+fn copied_input(alloc: Global, word: &str) -> Result<Input, Fail> {
+    let given = input(alloc, word)?;
+    Ok(given.try_clone(alloc)?)
+}
+
+/// One step.
 fn push_step(
     alloc: Global,
     text: &mut String,
     node: &mut NodeCore,
     word: &str,
 ) -> Result<(), Fail> {
-    match node.step(alloc, input(alloc, word)?) {
-        Ok(out) => push_out(alloc, text, &out)?,
-        Err(fault) => text.push_str(fault.name())?,
+    let answer = node.step(alloc, input(alloc, word)?);
+    Ok(push_answer(alloc, text, answer)?)
+}
+
+/// One step with a copy of its input, told by its copy.
+fn push_copied_step(
+    alloc: Global,
+    text: &mut String,
+    node: &mut NodeCore,
+    word: &str,
+) -> Result<(), Fail> {
+    let answer = node.step(alloc, copied_input(alloc, word)?);
+    Ok(push_copied_answer(alloc, text, answer)?)
+}
+
+/// The node takes these inputs, one a word. Each step has `/ ` in front. A word behind `copied-` goes by copies.
+fn push_steps(
+    alloc: Global,
+    text: &mut String,
+    node: &mut NodeCore,
+    words: &str,
+) -> Result<(), Fail> {
+    for word in words.split_whitespace() {
+        text.push_str("/ ")?;
+        match word.strip_prefix("copied-") {
+            Some(copied) => push_copied_step(alloc, text, node, copied)?,
+            None => push_step(alloc, text, node, word)?,
+        }
     }
     Ok(())
 }
 
-/// The node takes these inputs, one a word. Each step has `/ ` in front.
-fn steps(alloc: Global, node: &mut NodeCore, words: &str) -> Result<String, Fail> {
-    let mut text = String::new(alloc);
-    for word in words.split_whitespace() {
-        text.push_str("/ ")?;
-        push_step(alloc, &mut text, node, word)?;
-    }
-    Ok(text)
-}
-
-/// Process 1 of ring 4.1, which has the processes 1 to `count`, and its first entry.
-fn node(alloc: Global, count: u16) -> Result<(NodeCore, Entry), Fail> {
-    let members = first(alloc, count)?;
-    Ok(NodeCore::new(alloc, proc(1), ring(4), members.as_slice())?)
-}
-
-/// The steps of such a node.
-fn life(alloc: Global, count: u16, words: &str) -> Result<String, Fail> {
-    let (mut node, _change) = node(alloc, count)?;
-    steps(alloc, &mut node, words)
-}
-
-/// The steps of a copy of such a node.
-fn life_of_a_copy(alloc: Global, count: u16, words: &str) -> Result<String, Fail> {
-    let (node, _change) = node(alloc, count)?;
+/// The node's copy takes these inputs.
+fn push_steps_of_a_copy(
+    alloc: Global,
+    text: &mut String,
+    node: &NodeCore,
+    words: &str,
+) -> Result<(), Fail> {
     let mut copy = node.try_clone(alloc)?;
-    steps(alloc, &mut copy, words)
+    push_steps(alloc, text, &mut copy, words)
 }
 
-/// The text of such a node's first entry.
-fn first_entry(alloc: Global, count: u16) -> Result<String, Fail> {
-    let (_node, change) = node(alloc, count)?;
+/// A node's first entry and its steps. Behind the word `copy` the steps are those of its copy.
+fn told(alloc: Global, node: &mut NodeCore, change: &Entry, words: &str) -> Result<String, Fail> {
     let mut text = String::new(alloc);
-    push_entry(alloc, &mut text, &change)?;
-    Ok(text)
-}
-
-/// The text of a step's copy.
-fn copied_step(alloc: Global, words: &str) -> Result<String, Fail> {
-    let (mut node, _change) = node(alloc, 2)?;
-    let mut text = String::new(alloc);
-    for word in words.split_whitespace() {
-        let given = input(alloc, word)?.try_clone(alloc)?;
-        if let Ok(out) = node.step(alloc, given) {
-            push_out(alloc, &mut text, &out.try_clone(alloc)?)?;
-        }
+    push_entry(alloc, &mut text, change)?;
+    match words.strip_prefix("copy ") {
+        Some(rest) => push_steps_of_a_copy(alloc, &mut text, node, rest)?,
+        None => push_steps(alloc, &mut text, node, words)?,
     }
     Ok(text)
 }
 
-/// What these inputs make a node tell.
+/// What process 1 of ring 4.1, which has the processes 1 to `count`, tells.
+fn life(alloc: Global, count: u16, words: &str) -> Result<String, Fail> {
+    let members = first(alloc, count)?;
+    let (mut node, change) = NodeCore::new(alloc, proc(1), ring(4), members.as_slice())?;
+    told(alloc, &mut node, &change, words)
+}
+
+/// What these inputs make a node tell, behind its first entry.
 struct Row {
     members: u16,
     inputs: &'static str,
     told: &'static str,
 }
 
-const LIVES: [Row; 7] = [
+const LIVES: [Row; 10] = [
     Row {
         members: 2,
         inputs: "submit1 token timer",
-        told: "/ / send r4.1 a 4.1#1; dlv r4.1 4.1#1; submit 4.1; token 4.1; all message; 2 token; / resend 4.1; 2 token; ",
+        told: "conf r4.1 1 2; / / send r4.1 a 4.1#1; dlv r4.1 4.1#1; submit 4.1; token 4.1; all message; 2 token; / resend 4.1; 2 token; ",
     },
     Row {
         members: 2,
         inputs: "crash submit1 token timer crash commit from7",
-        told: "/ fail r4.1; / Stopped/ Stopped/ Stopped/ Stopped/ Stopped/ Stopped",
+        told: "conf r4.1 1 2; / fail r4.1; / Stopped/ Stopped/ Stopped/ Stopped/ Stopped/ Stopped",
     },
     Row {
         members: 2,
         inputs: "token from2 token commit",
-        told: "/ token 4.1; 2 token; / OtherRing/ Repeat/ Stale",
+        told: "conf r4.1 1 2; / token 4.1; 2 token; / OtherRing/ Repeat/ Stale",
     },
     Row {
         members: 32,
         inputs: "from33",
-        told: "/ Stranger",
+        told: "conf r4.1 1 2 3 4 5 6 7 8 9 10 11 12 13 14 15 16 17 18 19 20 21 22 23 24 25 26 27 28 29 30 31 32; / Stranger",
     },
     Row {
         members: 2,
         inputs: "from7",
-        told: "/ all join 4: 1 2 7 but; ",
+        told: "conf r4.1 1 2; / all join 4: 1 2 7 but; ",
     },
     Row {
         members: 2,
         inputs: "submit1024 submit1025",
-        told: "/ / Range",
+        told: "conf r4.1 1 2; / / Range",
     },
     Row {
         members: 3,
         inputs: "timer timer timer timer timer",
-        told: "/ resend 4.1; / resend 4.1; / all join 4: 1 2 3 but; / all join 4: 1 2 3 but; / all join 4: 1 2 3 but 2 3; 1 commit; ",
+        told: "conf r4.1 1 2 3; / resend 4.1; / resend 4.1; / all join 4: 1 2 3 but; / all join 4: 1 2 3 but; / all join 4: 1 2 3 but 2 3; 1 commit; ",
+    },
+    // A 17th message does not wait.
+    Row {
+        members: 2,
+        inputs: "submit1 submit1 submit1 submit1 submit1 submit1 submit1 submit1 submit1 submit1 submit1 submit1 submit1 submit1 submit1 submit1 submit1",
+        told: "conf r4.1 1 2; / / / / / / / / / / / / / / / / / Full",
+    },
+    // A copy answers alike.
+    Row {
+        members: 2,
+        inputs: "copy token",
+        told: "conf r4.1 1 2; / token 4.1; 2 token; ",
+    },
+    // A step and its input are copied.
+    Row {
+        members: 2,
+        inputs: "copied-submit1 copied-token",
+        told: "conf r4.1 1 2; / / send r4.1 a 4.1#1; dlv r4.1 4.1#1; submit 4.1; token 4.1; all message; 2 token; ",
     },
 ];
 
 #[test]
-fn a_node_tells_its_steps(rt: HostRuntime) -> Result<(), Fail> {
+fn a_node_tells_its_first_entry_and_its_steps(rt: HostRuntime) -> Result<(), Fail> {
     for row in &LIVES {
         let told = life(rt.alloc(), row.members, row.inputs)?;
         assert_eq!(rt; told.as_str(), row.told, "steps of {}", row.inputs);
     }
-    Ok(())
-}
-
-#[test]
-fn a_node_begins_with_a_change(rt: HostRuntime) -> Result<(), Fail> {
-    let text = first_entry(rt.alloc(), 2)?;
-    assert_eq!(rt; text.as_str(), "conf r4.1 1 2; ");
-    Ok(())
-}
-
-#[test]
-fn a_17th_message_does_not_wait(rt: HostRuntime) -> Result<(), Fail> {
-    let words =
-        "submit1 submit1 submit1 submit1 submit1 submit1 submit1 submit1 submit1 submit1 submit1 submit1 submit1 submit1 submit1 submit1 submit1";
-    let told = life(rt.alloc(), 2, words)?;
-    assert_eq!(rt; told.as_str(), "/ / / / / / / / / / / / / / / / / Full");
-    Ok(())
-}
-
-#[test]
-fn a_copy_answers_alike(rt: HostRuntime) -> Result<(), Fail> {
-    let told = life_of_a_copy(rt.alloc(), 2, "token")?;
-    assert_eq!(rt; told.as_str(), "/ token 4.1; 2 token; ");
-    Ok(())
-}
-
-#[test]
-fn a_step_and_its_input_are_copied(rt: HostRuntime) -> Result<(), Fail> {
-    let told = copied_step(rt.alloc(), "submit1 token")?;
-    assert_eq!(rt;
-        told.as_str(),
-        "send r4.1 a 4.1#1; dlv r4.1 4.1#1; submit 4.1; token 4.1; all message; 2 token; "
-    );
     Ok(())
 }
 
@@ -322,8 +345,7 @@ fn faults_have_numbers_and_names(rt: HostRuntime) -> Result<(), Fail> {
         (NodeFault::Memory, "Memory"),
     ];
     for (at, (fault, name)) in faults.iter().enumerate() {
-        assert_eq!(rt; fault.number() as usize, at + 1);
-        assert_eq!(rt; fault.name(), *name);
+        assert_eq!(rt; (fault.number() as usize, fault.name()), (at + 1, *name));
     }
     let shown = format!(in rt.alloc(); "{}", NodeFault::Full)?;
     assert_eq!(rt; shown.as_str(), "16 messages wait");

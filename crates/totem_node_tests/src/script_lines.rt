@@ -1,6 +1,5 @@
 //! What lines say, and the fault of each line that says nothing.
 use std::alloc::Global;
-use std::test::Fail;
 use totem_ids::{ProcId, RingId, Service};
 use totem_script::{Command, Keyword, LineFault, Parts, read_command};
 
@@ -22,115 +21,154 @@ fn other_fault(
     None
 }
 
+// The one number of a command that has no lists and no text, behind its word; 0 where it has none.
+fn number_in(command: &Command) -> Option<(&'static str, u32)> {
+    match command {
+        Command::Run { times } => Some(("run", *times)),
+        Command::Drop { place } => Some(("drop", *place)),
+        Command::Repeat { place } => Some(("repeat", *place)),
+        Command::Timer { proc } => Some(("timer", u32::from(proc.number()))),
+        Command::Crash { proc } => Some(("crash", u32::from(proc.number()))),
+        Command::Join => Some(("join", 0)),
+        Command::End => Some(("end", 0)),
+        _ => None,
+    }
+}
+
+fn number_of(alloc: Global, line: &str) -> Option<(&'static str, u32)> {
+    match read(alloc, line) {
+        Ok(command) => number_in(&command),
+        Err(_) => None,
+    }
+}
+
+// The first line of these that has another word or number.
+fn other_number(
+    alloc: Global,
+    lines: &[(&'static str, (&'static str, u32))],
+) -> Option<&'static str> {
+    for (line, wanted) in lines {
+        if number_of(alloc, line) != Some(*wanted) {
+            return Some(*line);
+        }
+    }
+    None
+}
+
+// Whether the line says that a ring has these members, at least one.
+fn makes_ring(alloc: Global, line: &str, wanted: RingId, procs: &[ProcId]) -> bool {
+    let command = read(alloc, line);
+    match &command {
+        Ok(Command::Ring { ring, members }) => {
+            *ring == wanted && !members.is_empty() && members.as_slice() == procs
+        }
+        _ => false,
+    }
+}
+
+// Whether the line says that a client asks this process to send these bytes.
+fn submits(alloc: Global, line: &str, to: ProcId, wanted: Service, bytes: &[u8]) -> bool {
+    let command = read(alloc, line);
+    match &command {
+        Ok(
+            Command::Submit {
+                proc,
+                service,
+                payload,
+            },
+        ) => *proc == to && *service == wanted && payload.as_slice() == bytes,
+        _ => false,
+    }
+}
+
+// Whether the line cuts the ring into these two groups.
+fn cuts_in_two(alloc: Global, line: &str, left: &[ProcId], right: &[ProcId]) -> bool {
+    let command = read(alloc, line);
+    match &command {
+        Ok(Command::Cut { groups }) => match groups.as_slice() {
+            [first, second] => first.as_slice() == left && second.as_slice() == right,
+            _ => false,
+        },
+        _ => false,
+    }
+}
+
+// How many groups the line makes, if it is a cut.
+fn groups_of(alloc: Global, line: &str) -> Option<usize> {
+    let command = read(alloc, line);
+    match &command {
+        Ok(Command::Cut { groups }) => Some(groups.as_slice().len()),
+        _ => None,
+    }
+}
+
 #[test]
 fn a_text_is_cut_at_a_byte(rt: HostRuntime) {
     let mut parts = Parts::new(b"ab c", b' ');
-    assert!(rt; !parts.is_empty());
-    assert!(rt; parts.next() == Some(b"ab".as_slice()));
-    assert!(rt; parts.next() == Some(b"c".as_slice()));
-    assert!(rt; parts.is_empty());
-    assert!(rt; parts.next().is_none());
+    let is_empty = parts.is_empty();
+    let two = [parts.next(), parts.next()];
+    assert_eq!(rt;
+        (is_empty, two),
+        (false, [Some(b"ab".as_slice()), Some(b"c".as_slice())])
+    );
+    assert_eq!(rt; (parts.is_empty(), parts.next()), (true, None));
 }
 
 #[test]
 fn a_keyword_is_a_whole_word(rt: HostRuntime) {
-    assert_eq!(rt; Keyword::of(b"repeat"), Some(Keyword::Repeat));
-    assert_eq!(rt; Keyword::of(b"repeats"), None);
-    assert_eq!(rt; Keyword::of(b""), None);
+    let read = [
+        Keyword::of(b"repeat"),
+        Keyword::of(b"repeats"),
+        Keyword::of(b""),
+    ];
+    assert_eq!(rt; read, [Some(Keyword::Repeat), None, None]);
 }
 
 #[test]
-fn a_ring_has_members(rt: HostRuntime) -> Result<(), Fail> {
-    let Command::Ring { ring, members } = read(rt.alloc(), "ring 4.1 1 2 3")? else {
-        return Err("another command was read".into());
+fn a_ring_has_members(rt: HostRuntime) {
+    let ring = RingId {
+        seq: 4,
+        rep: ProcId::of(1),
     };
-    assert_eq!(rt;
-        ring,
-        RingId {
-            seq: 4,
-            rep: ProcId::of(1)
-        }
+    let members = [ProcId::of(1), ProcId::of(2), ProcId::of(3)];
+    assert!(rt; makes_ring(rt.alloc(), "ring 4.1 1 2 3", ring, &members));
+}
+
+#[test]
+fn a_client_asks_for_a_word(rt: HostRuntime) {
+    let last = ProcId::of(65_535);
+    assert!(rt;
+        submits(
+            rt.alloc(),
+            "submit 65535 s a1z",
+            last,
+            Service::Safe,
+            b"a1z"
+        )
     );
-    assert!(rt; !members.is_empty());
-    assert_eq!(rt;
-        members.as_slice(),
-        [ProcId::of(1), ProcId::of(2), ProcId::of(3)].as_slice()
-    );
-    Ok(())
+}
+
+// Numbers of times and of places go to 100000.
+const NUMBERS: [(&str, (&str, u32)); 7] = [
+    ("run 100000", ("run", 100_000)),
+    ("drop 2", ("drop", 2)),
+    ("repeat 1", ("repeat", 1)),
+    ("timer 3", ("timer", 3)),
+    ("crash 1", ("crash", 1)),
+    ("join", ("join", 0)),
+    ("end", ("end", 0)),
+];
+
+#[test]
+fn a_command_has_a_number_or_stands_alone(rt: HostRuntime) {
+    assert_eq!(rt; other_number(rt.alloc(), &NUMBERS), None);
 }
 
 #[test]
-fn a_client_asks_for_a_word(rt: HostRuntime) -> Result<(), Fail> {
-    let Command::Submit {
-        proc,
-        service,
-        payload,
-    } = read(rt.alloc(), "submit 65535 s a1z")?
-    else {
-        return Err("another command was read".into());
-    };
-    assert_eq!(rt; proc, ProcId::of(65_535));
-    assert_eq!(rt; service, Service::Safe);
-    assert_eq!(rt; payload.as_slice(), b"a1z".as_slice());
-    Ok(())
-}
-
-#[test]
-fn numbers_go_to_100000(rt: HostRuntime) -> Result<(), Fail> {
-    let Command::Run { times } = read(rt.alloc(), "run 100000")? else {
-        return Err("another command was read".into());
-    };
-    assert_eq!(rt; times, 100_000);
-    let Command::Drop { place } = read(rt.alloc(), "drop 2")? else {
-        return Err("another command was read".into());
-    };
-    assert_eq!(rt; place, 2);
-    let Command::Repeat { place } = read(rt.alloc(), "repeat 1")? else {
-        return Err("another command was read".into());
-    };
-    assert_eq!(rt; place, 1);
-    Ok(())
-}
-
-#[test]
-fn a_cut_has_groups(rt: HostRuntime) -> Result<(), Fail> {
-    let Command::Cut { groups } = read(rt.alloc(), "cut 3 1 / 2")? else {
-        return Err("another command was read".into());
-    };
-    let [first, second] = groups.as_slice() else {
-        return Err("not two groups".into());
-    };
-    assert_eq!(rt; first.as_slice(), [ProcId::of(3), ProcId::of(1)].as_slice());
-    assert_eq!(rt; second.as_slice(), [ProcId::of(2)].as_slice());
-    let Command::Cut { groups } = read(rt.alloc(), "cut 1")? else {
-        return Err("another command was read".into());
-    };
-    assert_eq!(rt; groups.as_slice().len(), 1);
-    Ok(())
-}
-
-#[test]
-fn a_timer_and_a_crash_have_a_process(rt: HostRuntime) -> Result<(), Fail> {
-    let Command::Timer { proc } = read(rt.alloc(), "timer 3")? else {
-        return Err("another command was read".into());
-    };
-    assert_eq!(rt; proc, ProcId::of(3));
-    let Command::Crash { proc } = read(rt.alloc(), "crash 1")? else {
-        return Err("another command was read".into());
-    };
-    assert_eq!(rt; proc, ProcId::of(1));
-    Ok(())
-}
-
-#[test]
-fn a_join_and_the_end_stand_alone(rt: HostRuntime) -> Result<(), Fail> {
-    let Command::Join = read(rt.alloc(), "join")? else {
-        return Err("another command was read".into());
-    };
-    let Command::End = read(rt.alloc(), "end")? else {
-        return Err("another command was read".into());
-    };
-    Ok(())
+fn a_cut_has_groups(rt: HostRuntime) {
+    let left = [ProcId::of(3), ProcId::of(1)];
+    assert!(rt; cuts_in_two(rt.alloc(), "cut 3 1 / 2", &left, &[ProcId::of(2)]));
+    assert_eq!(rt; groups_of(rt.alloc(), "cut 1"), Some(1));
 }
 
 // The first unfit byte is where a number is wanted, or takes one out of its range.
@@ -183,11 +221,8 @@ fn the_first_unfit_byte_tells_the_fault(rt: HostRuntime) {
 }
 
 #[test]
-fn a_payload_may_have_64_letters(rt: HostRuntime) -> Result<(), Fail> {
+fn a_payload_may_have_64_letters(rt: HostRuntime) {
     let line = "submit 1 a 0123456789abcdef0123456789abcdef0123456789abcdef0123456789abcdef";
-    let Command::Submit { payload, .. } = read(rt.alloc(), line)? else {
-        return Err("another command was read".into());
-    };
-    assert_eq!(rt; payload.as_slice().len(), 64);
-    Ok(())
+    let letters = b"0123456789abcdef0123456789abcdef0123456789abcdef0123456789abcdef";
+    assert!(rt; submits(rt.alloc(), line, ProcId::of(1), Service::Agreed, letters));
 }
