@@ -4,7 +4,7 @@ ghost use Rattle.std.specs.Prelude.{◌≡◌};
 use bytes::Bytes;
 use std::alloc::{AllocError, Global};
 use std::test::Fail;
-use totem_books::{Book, BookFault, CloseFault, Reply, Stub};
+use totem_books::{Book, BookFault, Call, CloseFault, Reply, Stub};
 use totem_evs::{Entry, Members};
 use totem_ids::{ProcId, RingId, Service};
 use totem_node::Input;
@@ -77,10 +77,25 @@ pub(crate) fn told_by(alloc: Global, reply: &Reply) -> Result<String, AllocError
     }
 }
 
-/// A book of process 1.
-pub(crate) fn book(alloc: Global) -> Result<Book, Fail> {
-    let members = two(alloc)?;
-    Ok(Book::new(alloc, ProcId::of(1), ring(), members.as_slice())?)
+/// What was told in a book's life, each answer with `| ` behind it, and the replies of its calls.
+#[derive(Drop)]
+pub(crate) struct Life {
+    pub text: String,
+    pub replies: Vec<Reply>,
+}
+
+impl Life {
+    pub(crate) fn new(alloc: Global) -> Life {
+        Life {
+            text: String::new(alloc),
+            replies: Vec::new(alloc),
+        }
+    }
+
+    pub(crate) fn tell(&mut self, answer: &str) -> Result<(), AllocError> {
+        self.text.push_str(answer)?;
+        self.text.push_str("| ")
+    }
 }
 
 /// Where the receipt stands, what the reply says, and whether the receipt says so too.
@@ -90,57 +105,56 @@ fn line(alloc: Global, stub: &Stub, reply: &Reply) -> Result<String, AllocError>
     format!(in alloc; "{} {sure} {text}", stub.at)
 }
 
-fn apply(alloc: Global, book: &mut Book, input: Input) -> Result<String, AllocError> {
+fn note(alloc: Global, life: &mut Life, stub: &Stub, reply: Reply) -> Result<(), AllocError> {
+    let line = line(alloc, stub, &reply)?;
+    life.replies.push(reply)?;
+    life.tell(&line)
+}
+
+fn apply(alloc: Global, life: &mut Life, book: &mut Book, input: Input) -> Result<(), AllocError> {
     match book.apply(alloc, input) {
-        Ok((stub, reply)) => line(alloc, &stub, &reply),
-        Err(fault) => String::from_str(alloc, fault.name()),
+        Ok((stub, reply)) => note(alloc, life, &stub, reply),
+        Err(fault) => life.tell(fault.name()),
     }
 }
 
-#[test]
-fn a_book_keeps_calls_and_log(rt: HostRuntime) -> Result<(), Fail> {
-    let alloc: Global = rt.alloc();
-    let mut book = book(alloc)?;
-    assert_eq!(rt; told(alloc, book.log())?.as_str(), "conf r4.1 1 2; ");
-    assert_eq!(rt; book.calls().len(), 0);
-    assert_eq!(rt; apply(alloc, &mut book, submit())?.as_str(), "1 true ");
-    let visit = apply(alloc, &mut book, start(alloc))?;
-    assert_eq!(rt;
-        visit.as_str(),
-        "2 true send r4.1 a 4.1#1; dlv r4.1 4.1#1; "
-    );
-    assert_eq!(rt;
-        apply(alloc, &mut book, start(alloc))?.as_str(),
-        "3 true Repeat"
-    );
-    assert_eq!(rt;
-        apply(alloc, &mut book, Input::Crash)?.as_str(),
-        "4 true fail r4.1; "
-    );
-    assert_eq!(rt; book.calls().len(), 4);
-    assert_eq!(rt;
-        told(alloc, book.log())?.as_str(),
-        "conf r4.1 1 2; send r4.1 a 4.1#1; dlv r4.1 4.1#1; fail r4.1; "
-    );
-    Ok(())
+/// Whether the copy of a call is of this receipt.
+fn is_copied(alloc: Global, call: &Call, stub: &Stub) -> Result<bool, AllocError> {
+    Ok(call.try_clone(alloc)?.is_of(stub))
 }
 
-#[test]
-fn calls_and_receipts_are_copied(rt: HostRuntime) -> Result<(), Fail> {
-    let alloc: Global = rt.alloc();
-    let mut book = book(alloc)?;
-    let Ok((stub, reply)) = book.apply(alloc, start(alloc)) else {
-        panic!(rt; "refused");
-    };
-    let copy = stub.try_clone(alloc)?;
-    assert_eq!(rt;
-        line(alloc, &copy, &reply.try_clone(alloc)?)?.as_str(),
-        "1 true "
-    );
-    for call in book.calls() {
-        assert!(rt; call.try_clone(alloc)?.is_of(&copy));
+/// The line of a receipt and a reply, and of each call whether its copy is of the receipt.
+fn told_of_calls(
+    alloc: Global,
+    calls: &[Call],
+    stub: &Stub,
+    reply: &Reply,
+) -> Result<String, AllocError> {
+    let mut text = line(alloc, stub, reply)?;
+    for call in calls {
+        let is_of = is_copied(alloc, call, stub)?;
+        text.push_str(format!(in alloc; "{is_of} ")?.as_str())?;
     }
-    Ok(())
+    Ok(text)
+}
+
+/// What the copies of a receipt, of a reply and of the calls tell.
+fn told_of_copies(
+    alloc: Global,
+    calls: &[Call],
+    stub: &Stub,
+    reply: &Reply,
+) -> Result<String, AllocError> {
+    let reply = reply.try_clone(alloc)?;
+    told_of_calls(alloc, calls, &stub.try_clone(alloc)?, &reply)
+}
+
+/// The first token comes. Tells what the copies tell that are made then.
+fn copy(alloc: Global, life: &mut Life, book: &mut Book) -> Result<(), AllocError> {
+    match book.apply(alloc, start(alloc)) {
+        Ok((stub, reply)) => { life.tell(&told_of_copies(alloc, book.calls(), &stub, &reply)?) }
+        Err(fault) => life.tell(fault.name()),
+    }
 }
 
 /// So many calls of a node that has crashed; a word for the first that is refused.
@@ -151,14 +165,78 @@ fn fill(alloc: Global, book: &mut Book, calls: u32) -> Result<(), BookFault> {
     Ok(())
 }
 
+/// So many calls of a node that has crashed. Tells why the first is refused that is.
+fn tell_fill(
+    alloc: Global,
+    life: &mut Life,
+    book: &mut Book,
+    calls: u32,
+) -> Result<(), AllocError> {
+    match fill(alloc, book, calls) {
+        Ok(()) => life.tell("taken"),
+        Err(fault) => life.tell(fault.name()),
+    }
+}
+
+/// One step: what this word stands for.
+fn step(alloc: Global, life: &mut Life, book: &mut Book, word: &str) -> Result<(), AllocError> {
+    match word {
+        "submit" => apply(alloc, life, book, submit()),
+        "first" => apply(alloc, life, book, start(alloc)),
+        "crash" => apply(alloc, life, book, Input::Crash),
+        "copy" => copy(alloc, life, book),
+        "million" => tell_fill(alloc, life, book, 1_000_000),
+        "once" => tell_fill(alloc, life, book, 1),
+        "calls" => life.tell(&format!(in alloc; "{}", book.calls().len())?),
+        "log" => life.tell(&told(alloc, book.log())?),
+        _ => life.tell("no such word"),
+    }
+}
+
+fn all_steps(alloc: Global, book: &mut Book, words: &str) -> Result<Life, Fail> {
+    let mut life = Life::new(alloc);
+    for word in words.split_whitespace() {
+        step(alloc, &mut life, book, word)?;
+    }
+    Ok(life)
+}
+
+fn life_of(alloc: Global, members: &Members, words: &str) -> Result<Life, Fail> {
+    let mut book = Book::new(alloc, ProcId::of(1), ring(), members.as_slice())?;
+    all_steps(alloc, &mut book, words)
+}
+
+/// What a book of process 1 tells, step by step.
+fn text(alloc: Global, words: &str) -> Result<String, Fail> {
+    Ok(life_of(alloc, &two(alloc)?, words)?.text)
+}
+
+/// The replies of a book of process 1, step by step.
+pub(crate) fn replies(alloc: Global, words: &str) -> Result<Vec<Reply>, Fail> {
+    Ok(life_of(alloc, &two(alloc)?, words)?.replies)
+}
+
+#[test]
+fn a_book_keeps_calls_and_log(rt: HostRuntime) -> Result<(), Fail> {
+    let text = text(rt.alloc(), "log calls submit first first crash calls log")?;
+    assert_eq!(rt;
+        text.as_str(),
+        "conf r4.1 1 2; | 0| 1 true | 2 true send r4.1 a 4.1#1; dlv r4.1 4.1#1; | 3 true Repeat| 4 true fail r4.1; | 4| conf r4.1 1 2; send r4.1 a 4.1#1; dlv r4.1 4.1#1; fail r4.1; | "
+    );
+    Ok(())
+}
+
+#[test]
+fn calls_and_receipts_are_copied(rt: HostRuntime) -> Result<(), Fail> {
+    let text = text(rt.alloc(), "copy")?;
+    assert_eq!(rt; text.as_str(), "1 true true | ");
+    Ok(())
+}
+
 #[test]
 fn a_full_book_takes_no_call(rt: HostRuntime) -> Result<(), Fail> {
-    let alloc: Global = rt.alloc();
-    let mut book = book(alloc)?;
-    assert!(rt; fill(alloc, &mut book, 1_000_000).is_ok());
-    assert_eq!(rt; book.calls().len(), 1_000_000);
-    assert_eq!(rt; fill(alloc, &mut book, 1), Err(BookFault::Long));
-    assert_eq!(rt; book.calls().len(), 1_000_000);
+    let text = text(rt.alloc(), "million calls once calls")?;
+    assert_eq!(rt; text.as_str(), "taken| 1000000| Long| 1000000| ");
     Ok(())
 }
 

@@ -7,16 +7,16 @@ use std::thread;
 use std::thread::Threads;
 use totem_ids::{ProcId, Service};
 use totem_net::{
-    ClientWord, Fates, Network, NodeEnds, PacketWord, Plan, Start, ThreadEnd, TimerWord,
+    ClientWord, Fates, Network, NodeEnds, Pacer, PacketWord, Plan, Start, Switch, ThreadEnd,
+    TimerWord,
 };
 
 /// The packets that a receiving thread is given, and a full stop at its stop word.
 fn received<R: Wait>(
     rt: &R,
-    alloc: Global,
     words: &Receiver<PacketWord>,
-) -> Result<Vec<u8>, AllocError> {
-    let mut all = Vec::new(alloc);
+    all: &mut Vec<u8>,
+) -> Result<(), AllocError> {
     for _ in rt.forever() {
         match words.recv(rt) {
             Ok(PacketWord::Packet(packet)) => all.extend_from_slice(packet.as_slice())?,
@@ -27,16 +27,15 @@ fn received<R: Wait>(
             Err(_) => break,
         }
     }
-    Ok(all)
+    Ok(())
 }
 
 /// As many letters `t` as a timer thread is given timers, and a full stop at its stop word.
 fn timed<R: Wait>(
     rt: &R,
-    alloc: Global,
     words: &Receiver<TimerWord>,
-) -> Result<Vec<u8>, AllocError> {
-    let mut all = Vec::new(alloc);
+    all: &mut Vec<u8>,
+) -> Result<(), AllocError> {
     for _ in rt.forever() {
         match words.recv(rt) {
             Ok(TimerWord::Timer) => all.push(b't')?,
@@ -47,7 +46,7 @@ fn timed<R: Wait>(
             Err(_) => break,
         }
     }
-    Ok(all)
+    Ok(())
 }
 
 fn letter(service: Service) -> u8 {
@@ -60,10 +59,9 @@ fn letter(service: Service) -> u8 {
 /// The services that a client thread is asked for, and a full stop at its stop word. It broadcasts a packet each time.
 fn asked<R: Wait>(
     rt: &R,
-    alloc: Global,
-    end: ThreadEnd<ClientWord>,
-) -> Result<Vec<u8>, AllocError> {
-    let mut all = Vec::new(alloc);
+    end: &ThreadEnd<ClientWord>,
+    all: &mut Vec<u8>,
+) -> Result<(), AllocError> {
     for _ in rt.forever() {
         match end.words.recv(rt) {
             Ok(ClientWord::Submit(service)) => {
@@ -77,7 +75,7 @@ fn asked<R: Wait>(
             Err(_) => break,
         }
     }
-    Ok(all)
+    Ok(())
 }
 
 fn network(alloc: Global, ticks: u32) -> Result<Network, Fail> {
@@ -86,100 +84,169 @@ fn network(alloc: Global, ticks: u32) -> Result<Network, Fail> {
     Ok(Network::new(alloc, 3, ticks, Fates::new(1, plan), first)?)
 }
 
-/// Each node broadcasts its number; the second also sends itself a packet.
-fn send_some<R: Wait>(
+/// A node broadcasts its number; the second also sends itself a packet.
+fn send_some<R: Wait>(rt: &R, alloc: Global, ends: &NodeEnds) -> Result<(), AllocError> {
+    let outlet = &ends.receiving.outlet;
+    let name = ends.node.number().to_be_bytes();
+    outlet.send_to_all(rt, Bytes::copy_from_slice(alloc, &name[1..])?)?;
+    if ends.node.number() == 2 {
+        outlet.send_to(rt, ends.node, Bytes::from_static(b"t"))?;
+    }
+    Ok(())
+}
+
+/// Each node sends. Their packets to come are kept, and nothing to send more by.
+fn all_send<R: Wait>(
     rt: &R,
     alloc: Global,
     nodes: Vec<NodeEnds>,
 ) -> Result<Vec<Receiver<PacketWord>>, AllocError> {
     let mut words = Vec::new(alloc);
     for ends in nodes {
-        let ThreadEnd {
-            words: received,
-            outlet,
-        } = ends.receiving;
-        let name = ends.node.number().to_be_bytes();
-        outlet.send_to_all(rt, Bytes::copy_from_slice(alloc, &name[1..])?)?;
-        if ends.node.number() == 2 {
-            outlet.send_to(rt, ends.node, Bytes::from_static(b"t"))?;
-        }
-        words.push(received)?;
+        send_some(rt, alloc, &ends)?;
+        let receiving = ends.receiving;
+        words.push(receiving.words)?;
     }
     Ok(words)
 }
 
-#[test]
-fn packets_go_through_the_switch(rt: HostRuntime) -> Result<(), Fail> {
+fn all_received<R: Wait>(
+    rt: &R,
+    alloc: Global,
+    words: &[Receiver<PacketWord>],
+) -> Result<Vec<u8>, AllocError> {
+    let mut all = Vec::new(alloc);
+    for words in words {
+        received(rt, words, &mut all)?;
+    }
+    Ok(all)
+}
+
+/// What the nodes are given of each other's packets, by a switch that runs once all are sent.
+fn all_switched<R: Wait>(rt: &R, alloc: Global) -> Result<Vec<u8>, Fail> {
     let Network {
         switch,
         pacer,
         nodes,
-    } = network(rt.alloc(), 8)?;
+    } = network(alloc, 8)?;
     drop(pacer);
-    let words = send_some(&rt, rt.alloc(), nodes)?;
-    switch.run(&rt, rt.alloc())?;
-    let mut all = Vec::new(rt.alloc());
-    for words in &words {
-        all.append(&mut received(&rt, rt.alloc(), words)?)?;
-    }
+    let words = all_send(rt, alloc, nodes);
+    switch.run(rt, alloc)?;
+    Ok(all_received(rt, alloc, &words?)?)
+}
+
+#[test]
+fn packets_go_through_the_switch(rt: HostRuntime) -> Result<(), Fail> {
+    let all = all_switched(&rt, rt.alloc())?;
     assert_eq!(rt; all.as_slice(), b"1\x02\x03.\x01t\x03.\x01\x02.".as_slice());
     Ok(())
 }
 
-/// Runs all threads of a network; answers what the client threads and the timer threads were given, and the
-/// ends of what the receiving threads were.
-fn all_given<R: Threads + Wait + Sync>(
+/// A thread of a node.
+#[derive(Clone, Copy)]
+enum Part {
+    Client,
+    Timer,
+    Receiving,
+}
+
+/// What a thread of the node at this place is given.
+#[derive(Drop)]
+struct Given {
+    part: Part,
+    place: usize,
+    all: Vec<u8>,
+}
+
+impl Given {
+    /// Takes its words until the stop word. At want of memory it ends at once, without a full stop.
+    fn take<R: Wait>(&mut self, rt: &R, nodes: &[NodeEnds]) -> Result<(), AllocError> {
+        let Some(ends) = nodes.get(self.place) else {
+            return Ok(());
+        };
+        match self.part {
+            Part::Client => asked(rt, &ends.client, &mut self.all),
+            Part::Timer => timed(rt, &ends.timer.words, &mut self.all),
+            Part::Receiving => received(rt, &ends.receiving.words, &mut self.all),
+        }
+    }
+
+    /// All that a client or a timer thread was given, and the end of what a receiving one was.
+    fn told(&self) -> &[u8] {
+        match self.part {
+            Part::Receiving => &self.all[self.all.len().saturating_sub(1)..],
+            _ => &self.all,
+        }
+    }
+}
+
+/// The threads of three nodes, before they are given anything.
+fn nothing_given(alloc: Global) -> Result<Vec<Given>, AllocError> {
+    let mut given = Vec::new(alloc);
+    for part in [Part::Client, Part::Timer, Part::Receiving] {
+        for place in 0..3 {
+            given.push(Given {
+                part,
+                place,
+                all: Vec::new(alloc),
+            })?;
+        }
+    }
+    Ok(given)
+}
+
+/// Runs all threads of a network.
+fn run_all<R: Threads + Wait + Sync>(
     rt: &R,
     alloc: Global,
-    network: Network,
-) -> Result<Vec<u8>, AllocError> {
-    let Network {
-        switch,
-        pacer,
-        nodes,
-    } = network;
+    switch: Switch,
+    pacer: Pacer,
+    nodes: &[NodeEnds],
+    given: &mut [Given],
+) -> Result<(), AllocError> {
+    let threads = given.iter_mut();
     thread::scope(
         thread::scope_env(),
         rt,
-        move |scope| -> Result<Vec<u8>, AllocError> {
-            let mut clients = Vec::new(alloc);
-            let mut timers = Vec::new(alloc);
-            let mut receivers = Vec::new(alloc);
-            for ends in nodes {
-                let NodeEnds {
-                    node: _,
-                    receiving,
-                    timer,
-                    client,
-                } = ends;
-                clients.push(scope.spawn(move || asked(rt, alloc, client))?)?;
-                timers.push(scope.spawn(move || timed(rt, alloc, &timer.words))?)?;
-                receivers.push(scope.spawn(move || received(rt, alloc, &receiving.words))?)?;
+        move |scope| -> Result<(), AllocError> {
+            scope.spawn(move || pacer.run(rt))?;
+            let switching = scope.spawn(move || switch.run(rt, alloc))?;
+            for one in threads {
+                scope.spawn(move || one.take(rt, nodes))?;
             }
-            let pacing = scope.spawn(move || pacer.run(rt))?;
-            switch.run(rt, alloc)?;
-            pacing.join(rt);
-            let mut all = Vec::new(alloc);
-            for handle in clients {
-                all.append(&mut handle.join(rt)?)?;
-            }
-            for handle in timers {
-                all.append(&mut handle.join(rt)?)?;
-            }
-            for handle in receivers {
-                if let Some(last) = handle.join(rt)?.last() {
-                    all.push(*last)?;
-                }
-            }
-            Ok(all)
+            switching.join(rt)
         },
     )
 }
 
+fn give_all<R: Threads + Wait + Sync>(
+    rt: &R,
+    alloc: Global,
+    given: &mut [Given],
+) -> Result<(), Fail> {
+    let Network {
+        switch,
+        pacer,
+        nodes,
+    } = network(alloc, 48)?;
+    Ok(run_all(rt, alloc, switch, pacer, &nodes, given)?)
+}
+
+/// What the client threads and the timer threads of a network are given, and the ends of what the receiving threads
+/// are.
+fn all_given<R: Threads + Wait + Sync>(rt: &R, alloc: Global) -> Result<Vec<u8>, Fail> {
+    let mut given = nothing_given(alloc)?;
+    give_all(rt, alloc, &mut given)?;
+    let mut all = Vec::new(alloc);
+    for one in &given {
+        all.extend_from_slice(one.told())?;
+    }
+    Ok(all)
+}
+
 #[test]
 fn each_thread_has_its_words(rt: HostRuntime) -> Result<(), Fail> {
-    let network = network(rt.alloc(), 48)?;
-    let all = all_given(&rt, rt.alloc(), network)?;
+    let all = all_given(&rt, rt.alloc())?;
     assert_eq!(rt; all.as_slice(), b"as.sa.as.tt.tt.tt....".as_slice());
     Ok(())
 }

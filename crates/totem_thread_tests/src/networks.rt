@@ -28,16 +28,36 @@ fn handed(alloc: Global, deliveries: &[Delivery]) -> Result<String, AllocError> 
     Ok(text)
 }
 
-/// What one packet makes be handed on.
-fn passed(
-    alloc: Global,
-    ways: &mut Ways,
-    address: &Address,
-    packet: &[u8],
-) -> Result<String, AllocError> {
-    let packet = Bytes::copy_from_slice(alloc, packet)?;
-    let deliveries = ways.carry(alloc, address, &packet)?;
-    handed(alloc, deliveries.as_slice())
+/// For whom a packet is: a node, or behind `-` all but one.
+fn address(to: &str) -> Option<Address> {
+    match to.strip_prefix('-') {
+        Some(sender) => Some(Address::AllBut(ProcId::new(sender.parse().ok()?)?)),
+        None => Some(Address::One(ProcId::new(to.parse().ok()?)?)),
+    }
+}
+
+/// One packet, `>`, and for whom it is: adds what is handed on.
+fn pass(alloc: Global, ways: &mut Ways, text: &mut String, word: &str) -> Result<(), Fail> {
+    let (packet, to) = word.split_once('>').ok_or("no receiver")?;
+    let address = address(to).ok_or("no process has the number 0")?;
+    let packet = Bytes::copy_from_slice(alloc, packet.as_bytes())?;
+    let deliveries = ways.carry(alloc, &address, &packet)?;
+    text.push_str(&handed(alloc, deliveries.as_slice())?)?;
+    Ok(text.push_str("| ")?)
+}
+
+fn all_passed(alloc: Global, ways: &mut Ways, words: &str) -> Result<String, Fail> {
+    let mut text = String::new(alloc);
+    for word in words.split_whitespace() {
+        pass(alloc, ways, &mut text, word)?;
+    }
+    Ok(text)
+}
+
+/// What each packet makes be handed on, on the ways to so many nodes.
+fn carried(alloc: Global, nodes: u16, fates: Fates, words: &str) -> Result<String, Fail> {
+    let mut ways = Ways::new(alloc, nodes, fates)?;
+    all_passed(alloc, &mut ways, words)
 }
 
 #[test]
@@ -76,41 +96,23 @@ fn fates_are_those_of_the_generators_words(rt: HostRuntime) -> Result<(), Fail> 
 #[test]
 fn copies_let_further_packets_by(rt: HostRuntime) -> Result<(), Fail> {
     let plan = Plan::new(10, 20, 3).ok_or("a plan")?;
-    let mut ways = Ways::new(rt.alloc(), 1, Fates::new(1, plan))?;
-    let to = Address::One(node(1)?);
-    assert_eq!(rt; passed(rt.alloc(), &mut ways, &to, b"a")?.as_str(), "");
-    assert_eq!(rt; passed(rt.alloc(), &mut ways, &to, b"b")?.as_str(), "1b ");
+    let words = "a>1 b>1 c>1 d>1 e>1 f>1 g>1 h>1";
+    let text = carried(rt.alloc(), 1, Fates::new(1, plan), words)?;
     assert_eq!(rt;
-        passed(rt.alloc(), &mut ways, &to, b"c")?.as_str(),
-        "1c 1b "
-    );
-    assert_eq!(rt; passed(rt.alloc(), &mut ways, &to, b"d")?.as_str(), "1a ");
-    assert_eq!(rt; passed(rt.alloc(), &mut ways, &to, b"e")?.as_str(), "");
-    assert_eq!(rt; passed(rt.alloc(), &mut ways, &to, b"f")?.as_str(), "1c ");
-    assert_eq!(rt;
-        passed(rt.alloc(), &mut ways, &to, b"g")?.as_str(),
-        "1d 1e "
-    );
-    assert_eq!(rt;
-        passed(rt.alloc(), &mut ways, &to, b"h")?.as_str(),
-        "1f 1g "
+        text.as_str(),
+        "| 1b | 1c 1b | 1a | | 1c | 1d 1e | 1f 1g | "
     );
     Ok(())
 }
 
 #[test]
 fn broadcasts_go_to_all_others(rt: HostRuntime) -> Result<(), Fail> {
+    let two = node(2)?;
+    let (own, all) = (Address::One(two), Address::AllBut(two));
+    assert_eq!(rt; (own.is_for(two), all.is_for(two)), (true, false));
     let plan = Plan::new(0, 0, 0).ok_or("a plan")?;
-    let mut ways = Ways::new(rt.alloc(), 3, Fates::new(7, plan))?;
-    let all = Address::AllBut(node(2)?);
-    assert_eq!(rt;
-        passed(rt.alloc(), &mut ways, &all, b"m")?.as_str(),
-        "1m 3m "
-    );
-    let own = Address::One(node(2)?);
-    assert!(rt; own.is_for(node(2)?));
-    assert!(rt; !all.is_for(node(2)?));
-    assert_eq!(rt; passed(rt.alloc(), &mut ways, &own, b"t")?.as_str(), "2t ");
+    let text = carried(rt.alloc(), 3, Fates::new(7, plan), "m>-2 t>2")?;
+    assert_eq!(rt; text.as_str(), "1m 3m | 2t | ");
     Ok(())
 }
 

@@ -24,21 +24,6 @@ fn three_nodes(ticks: u32, lose: u8, repeat: u8, hold: u8) -> Option<RunPlan>
     RunPlan::new(3, ticks, 1, Plan::new(lose, repeat, hold)?)
 }
 
-fn books_of<S: Start, R: Threads + Wait + Sync>(
-    rt: &R,
-    alloc: Global,
-    plan: Option<RunPlan>,
-    start: &S,
-) -> Result<Vec<ClosedBook>, Fail>
-    requires { IfSome plan IsInRange }
-{
-    let Some(plan) = plan else {
-        return Err(Fail::from("no plan"));
-    };
-    let (_, books) = run_nodes(rt, alloc, plan, start)?;
-    Ok(books)
-}
-
 /// How many calls of these books a timer made, and a client.
 fn turns(books: &[ClosedBook]) -> (usize, usize) {
     let mut timers = 0usize;
@@ -128,15 +113,50 @@ fn all_given(alloc: Global, books: &[ClosedBook]) -> Result<(usize, bool), Alloc
     Ok((unsent, each))
 }
 
+/// What the books of a run show.
+#[derive(Clone, Copy)]
+struct Findings {
+    books: usize,
+    /// How many calls timers made, and clients.
+    turns: (usize, usize),
+    /// How much of what was given nobody sent.
+    unsent: usize,
+    /// Whether each node took something of another.
+    each: bool,
+}
+
+fn found_in(alloc: Global, books: &[ClosedBook]) -> Result<Findings, AllocError> {
+    let (unsent, each) = all_given(alloc, books)?;
+    Ok(Findings {
+        books: books.len(),
+        turns: turns(books),
+        unsent,
+        each,
+    })
+}
+
+fn found_in_run<S: Start, R: Threads + Wait + Sync>(
+    rt: &R,
+    alloc: Global,
+    plan: Option<RunPlan>,
+    start: &S,
+) -> Result<Findings, Fail>
+    requires { IfSome plan IsInRange }
+{
+    let Some(plan) = plan else {
+        return Err(Fail::from("no plan"));
+    };
+    let (_, books) = run_nodes(rt, alloc, plan, start)?;
+    Ok(found_in(alloc, &books)?)
+}
+
 #[test]
 fn words_and_packets_are_those_of_a_network(rt: HostRuntime) -> Result<(), Fail> {
-    let alloc: Global = rt.alloc();
     for _ in 0..10 {
-        let books = books_of(&rt, alloc, three_nodes(4000, 0, 0, 0), &Quiet)?;
-        assert_eq!(rt; turns(&books), (500, 500));
-        let (unsent, each) = all_given(alloc, &books)?;
-        assert_eq!(rt; unsent, 1, "the first token alone was sent by nobody");
-        if each {
+        let found = found_in_run(&rt, rt.alloc(), three_nodes(4000, 0, 0, 0), &Quiet)?;
+        assert_eq!(rt; found.turns, (500, 500));
+        assert_eq!(rt; found.unsent, 1, "the first token alone was sent by nobody");
+        if found.each {
             return Ok(());
         }
     }
@@ -145,8 +165,8 @@ fn words_and_packets_are_those_of_a_network(rt: HostRuntime) -> Result<(), Fail>
 
 #[test]
 fn a_network_that_loses_has_each_word_too(rt: HostRuntime) -> Result<(), Fail> {
-    let books = books_of(&rt, rt.alloc(), three_nodes(800, 10, 20, 3), &Quiet)?;
-    assert_eq!(rt; turns(&books), (100, 100));
+    let found = found_in_run(&rt, rt.alloc(), three_nodes(800, 10, 20, 3), &Quiet)?;
+    assert_eq!(rt; found.turns, (100, 100));
     Ok(())
 }
 
@@ -183,8 +203,8 @@ fn nodes_run_side_by_side(rt: HostRuntime) -> Result<(), Fail> {
         begun: Mutex::new(0),
         let_go: Mutex::new(0),
     };
-    let books = books_of(&rt, rt.alloc(), three_nodes(8, 0, 0, 0), &together)?;
-    assert_eq!(rt; books.len(), 3);
+    let found = found_in_run(&rt, rt.alloc(), three_nodes(8, 0, 0, 0), &together)?;
+    assert_eq!(rt; found.books, 3);
     assert_eq!(rt; *together.begun.lock(&rt), 3);
     assert_eq!(rt; *together.let_go.lock(&rt), 0);
     Ok(())

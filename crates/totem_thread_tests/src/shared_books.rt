@@ -1,16 +1,15 @@
 //! Books that threads share.
-ghost use Rattle.std.specs.Prelude.{◌≡◌};
+ghost use Rattle.std.specs.Prelude.{◌≡◌, ◌<◌, ◌≤◌};
 
-use crate::books::{book, ring, start, submit, told, told_by, two};
+use crate::books::{Life, replies, ring, start, submit, told, told_by, two};
 use std::alloc::{AllocError, Global};
 use std::marker::Brand;
-use std::process::Abort;
 use std::sync::Wait;
 use std::sync::ledger::Blank;
 use std::test::*;
 use std::thread;
 use std::thread::Threads;
-use totem_books::{BookName, CloseFault, ClosedBook, Seat, SharedBook, Stub};
+use totem_books::{BookName, CloseRefused, ClosedBook, Reply, Seat, SharedBook, Stub};
 use totem_evs::Members;
 use totem_ids::ProcId;
 use totem_node::Input;
@@ -28,19 +27,14 @@ fn make_calls<L: BookName, R: Wait>(
     rt: &R,
     alloc: Global,
     book: &SharedBook<L>,
-    seat: Seat<L>,
+    seat: &mut Seat<L>,
     thread: usize,
-) -> Seat<L> {
-    let mut seat = seat;
+) {
     for _ in 0..250 {
-        if book
-            .call(rt, alloc, &mut seat, input_of(alloc, thread))
-            .is_err()
-        {
+        if book.call(rt, alloc, seat, input_of(alloc, thread)).is_err() {
             break;
         }
     }
-    seat
 }
 
 /// A thread for each seat makes 250 calls.
@@ -48,27 +42,19 @@ fn all_calls<L: BookName + Send + Sync, R: Threads + Wait + Sync>(
     rt: &R,
     alloc: Global,
     book: &SharedBook<L>,
-    seats: Vec<Seat<L>>,
-) -> Result<Vec<Seat<L>>, AllocError> {
-    thread::scope(
-        thread::scope_env(),
-        rt,
-        |scope| -> Result<Vec<Seat<L>>, AllocError> {
-            let mut running = Vec::new(alloc);
-            let mut back = Vec::new(alloc);
-            for seat in seats {
-                let thread = running.len();
-                match scope.spawn(move || make_calls(rt, alloc, book, seat, thread)) {
-                    Ok(handle) => running.push(handle)?,
-                    Err(_) => return Err(AllocError),
-                }
+    seats: &mut [Seat<L>],
+) -> Result<(), AllocError> {
+    thread::scope(thread::scope_env(), rt, |scope| -> Result<(), AllocError> {
+        for (thread, seat) in seats.iter_mut().enumerate() {
+            if scope
+                .spawn(move || make_calls(rt, alloc, book, seat, thread))
+                .is_err()
+            {
+                return Err(AllocError);
             }
-            for handle in running {
-                back.push(handle.join(rt))?;
-            }
-            Ok(back)
-        },
-    )
+        }
+        Ok(())
+    })
 }
 
 fn is_rising(stubs: &[Stub]) -> bool {
@@ -82,110 +68,248 @@ fn is_rising(stubs: &[Stub]) -> bool {
     true
 }
 
-/// How many calls a book had that was closed, or why it wasn't.
-fn calls_of(closed: Result<ClosedBook, CloseFault>) -> Result<usize, CloseFault> {
-    match closed {
-        Ok(book) => Ok(book.calls().len()),
-        Err(fault) => Err(fault),
-    }
-}
-
-#[test]
-fn four_threads_share_a_book(rt: HostRuntime) -> Result<(), Fail> {
-    let alloc: Global = rt.alloc();
-    let members = two(alloc)?;
-    share_among_four::<Brand, _>(&rt, alloc, Blank::new(4), &members)
-}
-
-fn share_among_four<L: BookName + Send + Sync, R: Threads + Wait + Abort + Sync>(
-    rt: &R,
+/// How many receipts each seat has, and whether they stand in their order.
+fn tell_seats<L: BookName>(
     alloc: Global,
-    blank: Blank,
-    members: &Members,
-) -> Result<(), Fail>
-    requires ledger { (blank.name ≡ L.name) × (blank.parts ≡ L.parts) × (L.parts ≡ 4) }
-    requires start { (L.me ≡ 1) × (L.ring ≡ record { seq = 4; rep = 1 }) × (L.members ≡ members.now) }
-{
-    let me = ProcId::of(1);
-    let (book, seats) = SharedBook::<L>::new(alloc, blank, me, ring(), members.as_slice(), 4)?;
-    let mut back = all_calls(rt, alloc, &book, seats)?;
-    for seat in &back {
-        assert_eq!(rt; seat.stubs().len(), 250);
-        assert!(rt; is_rising(seat.stubs()));
+    life: &mut Life,
+    seats: &[Seat<L>],
+) -> Result<(), AllocError> {
+    for seat in seats {
+        let count = seat.stubs().len();
+        let rising = is_rising(seat.stubs());
+        life.tell(&format!(in alloc; "{count} {rising}")?)?;
     }
-    let Some(left_out) = back.pop() else {
-        panic!(rt; "no seat");
-    };
-    let Err(refused) = book.close(alloc, back) else {
-        panic!(rt; "closed without a seat");
-    };
-    assert_eq!(rt; refused.fault, CloseFault::SeatMissing);
-    let mut seats = refused.seats;
-    assert_eq!(rt; seats.len(), 3);
-    seats.push(left_out)?;
-    let closed = refused
-        .book
-        .close(alloc, seats)
-        .map_err(|refused| refused.fault);
-    assert_eq!(rt; calls_of(closed), Ok(1000));
     Ok(())
 }
 
-#[test]
-fn a_call_answers_as_a_book_does(rt: HostRuntime) -> Result<(), Fail> {
-    let alloc: Global = rt.alloc();
-    let members = two(alloc)?;
-    call_alone::<Brand, _>(&rt, alloc, Blank::new(1), &members)
+fn note(alloc: Global, life: &mut Life, reply: Reply) -> Result<(), AllocError> {
+    let text = told_by(alloc, &reply)?;
+    life.replies.push(reply)?;
+    life.tell(&text)
 }
 
-fn call_alone<L: BookName + Send + Sync, R: Wait + Abort>(
+/// The first seat makes a call.
+fn call<L: BookName, R: Wait>(
+    rt: &R,
+    alloc: Global,
+    life: &mut Life,
+    book: &SharedBook<L>,
+    seats: &mut [Seat<L>],
+    input: Input,
+) -> Result<(), AllocError> {
+    let Some(seat) = seats.first_mut() else {
+        return life.tell("no seat");
+    };
+    match book.call(rt, alloc, seat, input) {
+        Ok(reply) => note(alloc, life, reply),
+        Err(fault) => life.tell(fault.name()),
+    }
+}
+
+/// One step: what this word stands for.
+fn step<L: BookName + Send + Sync, R: Threads + Wait + Sync>(
+    rt: &R,
+    alloc: Global,
+    life: &mut Life,
+    book: &SharedBook<L>,
+    seats: &mut [Seat<L>],
+    word: &str,
+) -> Result<(), AllocError> {
+    match word {
+        "submit" => call(rt, alloc, life, book, seats, submit()),
+        "first" => call(rt, alloc, life, book, seats, start(alloc)),
+        "threads" => all_calls(rt, alloc, book, seats),
+        "seats" => tell_seats(alloc, life, seats),
+        _ => life.tell("no such word"),
+    }
+}
+
+fn all_steps<L: BookName + Send + Sync, R: Threads + Wait + Sync>(
+    rt: &R,
+    alloc: Global,
+    life: &mut Life,
+    book: &SharedBook<L>,
+    seats: &mut [Seat<L>],
+    words: &str,
+) -> Result<(), AllocError> {
+    for word in words.split_whitespace() {
+        step(rt, alloc, life, book, seats, word)?;
+    }
+    Ok(())
+}
+
+/// How many calls a closed book has. The log too where one seat made them: several threads have no set order.
+fn tell_closed(
+    alloc: Global,
+    life: &mut Life,
+    closed: &ClosedBook,
+    seats: usize,
+) -> Result<(), AllocError> {
+    life.tell(&format!(in alloc; "{}", closed.calls().len())?)?;
+    if seats == 1 {
+        life.tell(&told(alloc, closed.log())?)?;
+    }
+    Ok(())
+}
+
+fn close<L: BookName>(
+    alloc: Global,
+    life: &mut Life,
+    book: SharedBook<L>,
+    seats: Vec<Seat<L>>,
+) -> Result<(), AllocError> {
+    let count = seats.len();
+    match book.close(alloc, seats) {
+        Ok(closed) => tell_closed(alloc, life, &closed, count),
+        Err(refused) => life.tell(refused.fault.name()),
+    }
+}
+
+/// Why a book was not closed, and how many seats came back. Puts one more to them.
+fn put_back<L: BookName>(
+    alloc: Global,
+    life: &mut Life,
+    refused: &mut CloseRefused<L>,
+    seat: Option<Seat<L>>,
+) -> Result<(), AllocError> {
+    let count = refused.seats.len();
+    if let Some(seat) = seat {
+        refused.seats.push(seat)?;
+    }
+    life.tell(&format!(in alloc; "{} {count}", refused.fault.name())?)
+}
+
+fn close_again<L: BookName>(
+    alloc: Global,
+    life: &mut Life,
+    refused: CloseRefused<L>,
+    seat: Option<Seat<L>>,
+) -> Result<(), AllocError> {
+    let mut refused = refused;
+    let put = put_back(alloc, life, &mut refused, seat);
+    put.and(close(alloc, life, refused.book, refused.seats))
+}
+
+/// Closes the book without its last seat, and then with it.
+fn close_twice<L: BookName>(
+    alloc: Global,
+    life: &mut Life,
+    book: SharedBook<L>,
+    seats: Vec<Seat<L>>,
+) -> Result<(), AllocError> {
+    let mut seats = seats;
+    let last = seats.pop();
+    match book.close(alloc, seats) {
+        Ok(_) => life.tell("closed without a seat"),
+        Err(refused) => close_again(alloc, life, refused, last),
+    }
+}
+
+/// What a shared book of process 1 with so many seats tells step by step, and when it is closed. The words are a `String`, since a
+/// call can pick no ghost members where the signature has a `&str`.
+fn live<L: BookName + Send + Sync, R: Threads + Wait + Sync>(
     rt: &R,
     alloc: Global,
     blank: Blank,
     members: &Members,
-) -> Result<(), Fail>
-    requires ledger { (blank.name ≡ L.name) × (blank.parts ≡ L.parts) × (L.parts ≡ 1) }
+    count: u64,
+    words: &String,
+    life: &mut Life,
+) -> Result<(), AllocError>
+    requires ledger { (blank.name ≡ L.name) × (blank.parts ≡ L.parts) × (L.parts ≡ count) }
+    requires seats { (0 < count) × (count ≤ 64) }
     requires start { (L.me ≡ 1) × (L.ring ≡ record { seq = 4; rep = 1 }) × (L.members ≡ members.now) }
 {
     let me = ProcId::of(1);
-    let (shared, mut seats) = SharedBook::<L>::new(
+    let (book, mut seats) = SharedBook::<L>::new(
         alloc,
         blank,
         me,
         ring(),
         members.as_slice(),
-        1,
+        count,
     )?;
-    let mut alone = book(alloc)?;
-    let Some(mut seat) = seats.pop() else {
-        panic!(rt; "no seat");
-    };
-    for want in ["", "send r4.1 a 4.1#1; dlv r4.1 4.1#1; "] {
-        let next = if want.is_empty() {
-            submit()
-        } else {
-            start(alloc)
-        };
-        let again = next.try_clone(alloc)?;
-        let Ok(reply) = shared.call(rt, alloc, &mut seat, next) else {
-            panic!(rt; "no call");
-        };
-        let Ok((_, other)) = alone.apply(alloc, again) else {
-            panic!(rt; "no apply");
-        };
-        assert_eq!(rt; told_by(alloc, &reply)?.as_str(), want);
-        assert!(rt; reply.is(&other));
-    }
-    seats.push(seat)?;
-    match shared.close(alloc, seats) {
-        Ok(closed) => {
-            assert_eq!(rt; closed.calls().len(), 2);
-            assert_eq!(rt;
-                told(alloc, closed.log())?.as_str(),
-                "conf r4.1 1 2; send r4.1 a 4.1#1; dlv r4.1 4.1#1; "
-            );
+    let done = all_steps(rt, alloc, life, &book, &mut seats, words);
+    done.and(close_twice(alloc, life, book, seats))
+}
+
+fn life_of<R: Threads + Wait + Sync>(
+    rt: &R,
+    alloc: Global,
+    count: u64,
+    words: &str,
+) -> Result<Life, Fail>
+    requires { (0 < count) × (count ≤ 64) }
+{
+    let members = two(alloc)?;
+    let words = format!(in alloc; "{words}")?;
+    let mut life = Life::new(alloc);
+    live::<Brand, _>(
+        rt,
+        alloc,
+        Blank::new(count),
+        &members,
+        count,
+        &words,
+        &mut life,
+    )?;
+    Ok(life)
+}
+
+/// How many replies these are and those, and how many are the same.
+fn compared(these: &[Reply], those: &[Reply]) -> (usize, usize, usize) {
+    let mut same = 0usize;
+    for (this, that) in these.iter().zip(those) {
+        if this.is(that) {
+            same = same.saturating_add(1);
         }
-        Err(refused) => assert_eq!(rt; refused.fault, CloseFault::SeatMissing),
     }
+    (these.len(), those.len(), same)
+}
+
+/// What a shared book with so many seats tells.
+fn text<R: Threads + Wait + Sync>(
+    rt: &R,
+    alloc: Global,
+    count: u64,
+    words: &str,
+) -> Result<String, Fail>
+    requires { (0 < count) × (count ≤ 64) }
+{
+    Ok(life_of(rt, alloc, count, words)?.text)
+}
+
+#[test]
+fn four_threads_share_a_book(rt: HostRuntime) -> Result<(), Fail> {
+    let text = text(&rt, rt.alloc(), 4, "threads seats")?;
+    assert_eq!(rt;
+        text.as_str(),
+        "250 true| 250 true| 250 true| 250 true| SeatMissing 3| 1000| "
+    );
+    Ok(())
+}
+
+/// A shared book with one seat: what it tells, and its replies beside those of a book that nobody shares.
+fn beside_a_book<R: Threads + Wait + Sync>(
+    rt: &R,
+    alloc: Global,
+    words: &str,
+) -> Result<(String, (usize, usize, usize)), Fail> {
+    let alone = replies(alloc, words)?;
+    let life = life_of(rt, alloc, 1, words)?;
+    let compared = compared(&life.replies, &alone);
+    Ok((life.text, compared))
+}
+
+#[test]
+fn a_call_answers_as_a_book_does(rt: HostRuntime) -> Result<(), Fail> {
+    let (text, compared) = beside_a_book(&rt, rt.alloc(), "submit first")?;
+    assert_eq!(rt;
+        (text.as_str(), compared),
+        (
+            "| send r4.1 a 4.1#1; dlv r4.1 4.1#1; | SeatMissing 0| 2| conf r4.1 1 2; send r4.1 a 4.1#1; dlv r4.1 4.1#1; | ",
+            (2, 2, 2)
+        )
+    );
     Ok(())
 }
