@@ -26,3 +26,8 @@ pub mod Pend
 pub mod PendOrder
 pub mod Suspecting
 pub mod Trailing
+pub mod Ranks
+pub mod Replaying
+pub mod Taking
+pub mod Whole
+pub mod Uniformity

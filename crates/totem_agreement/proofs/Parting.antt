@@ -32,7 +32,7 @@ use Rattle.totem_agreement.proofs.Rests.{nothing_here, only_here, begins_at}
 use Rattle.totem_agreement.proofs.Causing.{not_in}
 
 -- the next change after the one to c, and after the one to what follows it
-next_of_from : (log : List Entry) (c : RingId) (from turn end k : ℕ) → IsStay log c from turn end → IsNextChange log from k → k ≡ turn
+pub next_of_from : (log : List Entry) (c : RingId) (from turn end k : ℕ) → IsStay log c from turn end → IsNextChange log from k → k ≡ turn
 next_of_from log c from turn end k is next = elim (below_or_not turn (length log)) [
   | inl lt ↦ one_next log from k turn next (is.next lt).1
   | inr past ↦ (
@@ -47,7 +47,7 @@ next_of_from log c from turn end k is next = elim (below_or_not turn (length log
       )
 ]
 
-next_of_turn : (log : List Entry) (c : RingId) (from turn end k : ℕ) → IsStay log c from turn end → turn < end → IsNextChange log turn k → k ≡ end
+pub next_of_turn : (log : List Entry) (c : RingId) (from turn end k : ℕ) → IsStay log c from turn end → turn < end → IsNextChange log turn k → k ≡ end
 next_of_turn log c from turn end k is lt next =
     let change = next.change in
     let within = change_within log k change.0 change.1 in
@@ -65,7 +65,7 @@ next_of_turn log c from turn end k is lt next =
     ]
 
 -- what follows c stands at the turn
-turn_of : (run : List Log) (c : RingId) (stays : List Stay) (stay : Stay) (x : ConfId) → Facts run c stays → IsAmong stays stay → Follows (log_of run stay.proc) c x → ChangesTo (log_of run stay.proc) stay.turn x × (stay.turn < stay.end)
+pub turn_of : (run : List Log) (c : RingId) (stays : List Stay) (stay : Stay) (x : ConfId) → Facts run c stays → IsAmong stays stay → Follows (log_of run stay.proc) c x → ChangesTo (log_of run stay.proc) stay.turn x × (stay.turn < stay.end)
 turn_of run c stays stay x facts among f =
     let of = facts.each stay among in
     let from = facts.meets.one.once stay.proc f.from stay.from (Regular c) f.first.change of.is.change in
@@ -263,7 +263,7 @@ origin run c stays p q i x facts f change = elim (last_before (log_of run q) i) 
           transitional = f.transitional;
         }
 
-goes_along : (run : List Log) (c : RingId) (stays : List Stay) (p q k : ℕ) (x d : ConfId) → Facts run c stays → Com (log_of run p) c x → GoesAt (log_of run q) x d k → Com (log_of run q) c x
+pub goes_along : (run : List Log) (c : RingId) (stays : List Stay) (p q k : ℕ) (x d : ConfId) → Facts run c stays → Com (log_of run p) c x → GoesAt (log_of run q) x d k → Com (log_of run q) c x
 goes_along run c stays p q k x d facts (inl same) goes = inl same
 goes_along run c stays p q k x d facts (inr f) (i, change, next, to) = inr (origin run c stays p q i x facts f change)
 

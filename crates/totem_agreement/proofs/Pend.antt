@@ -247,3 +247,6 @@ all_rings cmp run rings n s t are end empty h = record { each = λ x. (λ has. e
 
     from : (x : Pending) → IsPending run x.proc x.msg → Between (PendingAt run rings) 0 n x
     from x p = (let came = came_to (log_of run x.proc) p.ring p.still_open in at_index x p ((are.exact p.ring).1 (record { proc = x.proc; index = came.0; change = came.1 })))
+
+pub none_of_ring : (cmp : Pending → Pending → Ordering) (run : List Log) (rings : List RingId) (c ring : RingId) (k : ℕ) (s : BTreeSet Pending) → slice_get rings k ≡ Some ring → c ≡ ring → ((x : Pending) → IsPendingIn run c x → ⊥) → Adds cmp (PendingAt run rings k) s s
+none_of_ring cmp run rings c ring k s at is never = of_one_ring cmp run run rings c ring k s s at refl is (adds_nothing cmp (IsPendingIn run c) s never)

@@ -1,6 +1,6 @@
 -- What one job finds: for each specification of the last pass the least events that break it in one regular configuration,
 -- or that the run meets it there (docs/SPECIFICATIONS.md, "Passes").
-use Rattle.std.specs.Prelude.{◌≡◌, ◌++◌, List, []}
+use Rattle.std.specs.Prelude.{◌≡◌, ◌++◌, List, [], None}
 use Rattle.totem_ids.specs.declared.ring.RingId.{RingId}
 use Rattle.totem_evs.specs.declared.log.Log.{Log}
 use Rattle.totem_evs.specs.declared.spec.SpecNo.TheVariants as spec
@@ -17,6 +17,15 @@ pub record AreFindings (run : List Log) (c : RingId) (findings : Findings) : Typ
   pub gap : FindsIn run c spec.Gap findings.gap
   pub safety : FindsIn run c spec.Safety findings.safety
   pub installed : FindsIn run c spec.Installed findings.installed
+
+-- nothing is broken
+pub record AreNone (findings : Findings) : Type 0 where
+  pub own : findings.own ≡ None
+  pub atomicity : findings.atomicity ≡ None
+  pub causality : findings.causality ≡ None
+  pub gap : findings.gap ≡ None
+  pub safety : findings.safety ≡ None
+  pub installed : findings.installed ≡ None
 
 -- nothing is found yet
 pub record IsNothing (found : Found) : Type 0 where

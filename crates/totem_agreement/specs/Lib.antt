@@ -13,3 +13,4 @@ pub mod Jobs
 pub mod Partings
 pub mod Suspects
 pub mod Findings
+pub mod Uniform

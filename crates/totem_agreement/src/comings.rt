@@ -2,6 +2,7 @@
 ghost use Rattle.std.specs.Prelude.{◌≡◌, ◌<◌, ◌≤◌, List, length};
 
 use crate::arrival::Arrival;
+use crate::stay::{Stay, stay_from};
 use std::alloc::{AllocError, Global};
 use std::collections::{BTreeMap, BTreeSet};
 use totem_evs::{Entry, Run};
@@ -49,6 +50,7 @@ impl Comings {
     ghost use Rattle.std.specs.BTreeSet as sorted;
     ghost use Rattle.totem_evs.specs.Answers.{AreRings, MeetsPasses};
     ghost use Rattle.totem_agreement.specs.Arrivals.{AreArrivals};
+    ghost use Rattle.totem_agreement.specs.Stays.{AreStays};
     ghost use Rattle.totem_agreement.specs.Comings.{HoldsComings};
 
     fn new(alloc: Global) -> Comings
@@ -83,12 +85,7 @@ impl Comings {
     }
 
     /// The changes to the regular configuration of this ring, log by log.
-    pub fn arrivals(
-        &self,
-        alloc: Global,
-        run: &Run,
-        ring: RingId,
-    ) -> Result<Vec<Arrival>, AllocError>
+    fn arrivals(&self, alloc: Global, run: &Run, ring: RingId) -> Result<Vec<Arrival>, AllocError>
         requires comings { HoldsComings ⟦<RingId as Ord>⟧.cmp ⟦<Visit as Ord>⟧.cmp self.now.rings self.now.indices run.now.logs }
         requires meets { MeetsPasses run.now.logs }
         ensures { IfOk result (λ list. AreArrivals run.now.logs ring list.items) }
@@ -102,5 +99,26 @@ impl Comings {
             }
         }
         Ok(arrivals)
+    }
+
+    /// The stays in the regular configuration of this ring, log by log.
+    pub fn stays<'r>(
+        &self,
+        alloc: Global,
+        run: &'r Run,
+        ring: RingId,
+    ) -> Result<Vec<Stay<'r>>, AllocError>
+        requires comings { HoldsComings ⟦<RingId as Ord>⟧.cmp ⟦<Visit as Ord>⟧.cmp self.now.rings self.now.indices run.now.logs }
+        requires meets { MeetsPasses run.now.logs }
+        ensures { IfOk result (λ list. AreStays run.now.logs ring list.items) }
+    {
+        let arrivals = self.arrivals(alloc, run, ring)?;
+        let mut list = Vec::new(alloc);
+        let logs = run.logs.as_slice();
+        for arrival in &arrivals {
+            let stay = stay_from(&logs[arrival.log], arrival.at);
+            list.extend_from_slice(&[stay])?;
+        }
+        Ok(list)
     }
 }

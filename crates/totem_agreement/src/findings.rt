@@ -24,6 +24,24 @@ pub struct Findings {
     pub installed: Option<Places>,
 }
 
+impl Findings {
+    ghost use Rattle.totem_agreement.specs.Findings.{AreNone};
+
+    /// Nothing is broken.
+    pub fn none() -> Findings
+        ensures { AreNone result }
+    {
+        Findings {
+            own: None,
+            atomicity: None,
+            causality: None,
+            gap: None,
+            safety: None,
+            installed: None,
+        }
+    }
+}
+
 /// The job of one regular configuration.
 pub fn findings_in(alloc: Global, stays: &Stays) -> Result<Findings, AllocError>
     ensures { IfOk result (AreFindings stays.now.run.now.logs stays.now.ring) }

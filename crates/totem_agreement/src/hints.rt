@@ -26,8 +26,8 @@ fn span(stay: &Stay) -> (usize, u32, u32) {
     let mut count = 0usize;
     let mut least = u32::MAX;
     let mut greatest = 0;
-    for entry in stay.log.iter().take(stay.end).skip(stay.from) {
-        if let Entry::Deliver(message, _) = entry {
+    for at in stay.from..stay.end {
+        if let Some(Entry::Deliver(message, _)) = stay.log.get(at) {
             count = count.saturating_add(1);
             least = least.min(message.number);
             greatest = greatest.max(message.number);
@@ -69,8 +69,8 @@ impl Row {
 
     /// Notes the deliveries of the stay.
     fn fill(&mut self, stay: &Stay) {
-        for (at, entry) in stay.log.iter().enumerate().take(stay.end).skip(stay.from) {
-            if let Entry::Deliver(message, _) = entry {
+        for at in stay.from..stay.end {
+            if let Some(Entry::Deliver(message, _)) = stay.log.get(at) {
                 self.note(message, u32::try_from(at).unwrap_or(0));
             }
         }

@@ -6,6 +6,7 @@ ghost use Rattle.totem_agreement.specs.Jobs.{AreJobs, AreFindingsAt};
 use crate::comings::Comings;
 use crate::findings::{Findings, findings_in};
 use crate::stays::Stays;
+use crate::uniform::is_uniform;
 use std::alloc::{AllocError, Global};
 use totem_evs::Run;
 use totem_ids::RingId;
@@ -42,8 +43,11 @@ impl<'r> Jobs<'r> {
         ensures { IfOk result (AreFindingsAt self.now.run.now.logs self.now.rings.items index) }
     {
         let ring = self.rings[index];
-        let arrivals = self.comings.arrivals(alloc, self.run, ring)?;
-        let stays = Stays::build(alloc, self.run, ring, &arrivals)?;
+        let list = self.comings.stays(alloc, self.run, ring)?;
+        if is_uniform(alloc, &list)? {
+            return Ok(Findings::none());
+        }
+        let stays = Stays::build(alloc, self.run, ring, list)?;
         findings_in(alloc, &stays)
     }
 }

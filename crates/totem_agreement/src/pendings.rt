@@ -11,6 +11,7 @@ use crate::comings::Comings;
 use crate::standing::has_failed;
 use crate::stay::Stay;
 use crate::stays::Stays;
+use crate::uniform::is_complete;
 use std::alloc::{AllocError, Global};
 use std::collections::BTreeSet;
 use totem_evs::{Entry, Pending, Run};
@@ -104,9 +105,11 @@ pub fn pending(alloc: Global, run: &Run) -> Result<Vec<Pending>, AllocError>
     let rings = comings.rings(alloc)?;
     let mut set = BTreeSet::new(alloc);
     for ring in &rings {
-        let arrivals = comings.arrivals(alloc, run, *ring)?;
-        let stays = Stays::build(alloc, run, *ring, &arrivals)?;
-        add_pending(&mut set, &stays)?;
+        let list = comings.stays(alloc, run, *ring)?;
+        if !is_complete(alloc, &list)? {
+            let stays = Stays::build(alloc, run, *ring, list)?;
+            add_pending(&mut set, &stays)?;
+        }
     }
     in_order(alloc, &set)
 }

@@ -2,17 +2,15 @@
 ghost use Rattle.std.specs.Prelude.{◌≡◌, ◌↔◌, IsTrue, IfSome, IfNone, IfOk};
 ghost use Rattle.totem_evs.specs.Answers.{MeetsPasses};
 ghost use Rattle.totem_evs.specs.Missing.{members_of};
-ghost use Rattle.totem_agreement.specs.Arrivals.{AreArrivals};
 ghost use Rattle.totem_agreement.specs.Stays.{AreStays};
 ghost use Rattle.totem_agreement.specs.Kept.{AreKept};
 ghost use Rattle.totem_agreement.specs.Search.{IsInside};
 ghost use Rattle.totem_agreement.specs.Reached.{IsSafeIn, AreMembersAt};
 ghost use Rattle.totem_agreement.specs.Acts.{IsAmong, NeverComes, DeliversHere, DeliversNot, IsSendingOf, NobodySent};
 
-use crate::arrival::Arrival;
 use crate::hints::Hints;
 use crate::kept::{Delivery, Kept};
-use crate::stay::{Stay, stay_from};
+use crate::stay::Stay;
 use std::alloc::{AllocError, Global};
 use totem_evs::{Entry, Run};
 use totem_ids::{MsgId, ProcId, RingId, Service};
@@ -45,7 +43,7 @@ fn is_safe_service(service: Service) -> bool
 }
 
 /// The members of a change.
-fn members_of(entry: &Entry) -> &[ProcId]
+pub fn members_of(entry: &Entry) -> &[ProcId]
     ensures { result.now ≡ members_of entry.now }
 {
     match entry {
@@ -55,24 +53,18 @@ fn members_of(entry: &Entry) -> &[ProcId]
 }
 
 impl<'r> Stays<'r> {
-    /// The stays in the regular configuration of this ring, to which the logs change at these places.
+    /// These stays, which are those in the regular configuration of the ring.
     pub fn build(
         alloc: Global,
         run: &'r Run,
         ring: RingId,
-        arrivals: &[Arrival],
+        list: Vec<Stay<'r>>,
     ) -> Result<Stays<'r>, AllocError>
         requires meets { MeetsPasses run.now.logs }
-        requires arrivals { AreArrivals run.now.logs ring arrivals.now }
+        requires are { AreStays run.now.logs ring list.items }
         ensures logs { IfOk result (λ stays. stays.run.now.logs ≡ run.now.logs) }
         ensures ring { IfOk result (λ stays. stays.ring ≡ ring) }
     {
-        let mut list = Vec::new(alloc);
-        let logs = run.logs.as_slice();
-        for arrival in arrivals {
-            let stay = stay_from(&logs[arrival.log], arrival.at);
-            list.extend_from_slice(&[stay])?;
-        }
         let kept = Kept::of(alloc, &list)?;
         let hints = Hints::of(alloc, &list)?;
         Ok(Stays {
