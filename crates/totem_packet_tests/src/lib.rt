@@ -4,6 +4,8 @@
 #[cfg(test)]
 mod names;
 #[cfg(test)]
+mod old_rings;
+#[cfg(test)]
 mod packet_bytes;
 #[cfg(test)]
 mod packet_parts;
@@ -13,3 +15,7 @@ mod packet_sizes;
 mod packet_values;
 #[cfg(test)]
 mod process_sets;
+#[cfg(test)]
+mod streams;
+#[cfg(test)]
+mod tables;

@@ -1,7 +1,9 @@
 //! Packets against their bytes, written out by hand.
+use crate::packet_sizes;
 use crate::packet_values::{is_shown_alike, ring, set};
 use bytes::Bytes;
 use std::alloc::{AllocError, Global};
+use std::fmt::Debug;
 use std::test::Fail;
 use totem_ids::{ProcId, Service};
 use totem_packets::{
@@ -42,45 +44,47 @@ const COMMIT: [u8; 34] = [
     2, 0,
 ];
 
-/// A packet, by the name that `packet` knows, and its bytes.
-struct Spelled {
-    name: &'static str,
-    bytes: &'static [u8],
-}
-
-const PACKETS: [Spelled; 8] = [
-    Spelled {
-        name: "token",
-        bytes: &TOKEN,
-    },
-    Spelled {
-        name: "agreed message",
-        bytes: &MESSAGE,
-    },
-    Spelled {
-        name: "safe message",
-        bytes: &SAFE,
-    },
-    Spelled {
-        name: "agreed old message",
-        bytes: &OLD,
-    },
-    Spelled {
-        name: "safe old message",
-        bytes: &OLD_SAFE,
-    },
-    Spelled {
-        name: "mark",
-        bytes: &MARK,
-    },
-    Spelled {
-        name: "join",
-        bytes: &JOIN,
-    },
-    Spelled {
-        name: "commit token",
-        bytes: &COMMIT,
-    },
+/// A packet's name, which `packet` knows, and its bytes; packets of other names are read.
+const PACKETS: [(&str, &[u8]); 16] = [
+    ("token", &TOKEN),
+    ("agreed message", &MESSAGE),
+    ("safe message", &SAFE),
+    ("agreed old message", &OLD),
+    ("safe old message", &OLD_SAFE),
+    ("mark", &MARK),
+    ("join", &JOIN),
+    ("commit token", &COMMIT),
+    // 4.1#1 of 2, safe, `x`
+    (
+        "message that was read",
+        &[1, 0, 0, 0, 4, 0, 1, 0, 0, 0, 1, 0, 2, 1, 0, 1, 120],
+    ),
+    // all hold what is told up to 2, and 3 is asked for
+    (
+        "token that was read",
+        &[
+            2, 0, 0, 0, 4, 0, 1, 0, 0, 0, 0, 0, 0, 0, 1, 0, 0, 0, 3, 0, 0, 0, 2, 0, 0, 1, 0, 0, 0,
+            3,
+        ],
+    ),
+    // 1 would be with 2, which failed; it knows ring number 4
+    (
+        "join that was read",
+        &[3, 0, 1, 0, 0, 0, 4, 2, 0, 1, 0, 2, 1, 0, 2],
+    ),
+    // ring 4.1 of 2, in the second round; it reports ring 4.1, holds up to 3, handed up 2, and is obliged for 1 and 2
+    (
+        "commit token that was read",
+        &[
+            4, 0, 0, 0, 4, 0, 1, 2, 1, 0, 2, 1, 0, 0, 0, 4, 0, 1, 0, 0, 0, 3, 0, 0, 0, 2, 2, 0, 1,
+            0, 2,
+        ],
+    ),
+    // the largest packets have their bytes with them
+    ("largest token", &[]),
+    ("largest message", &[]),
+    ("largest commit token", &[]),
+    ("largest join", &[]),
 ];
 
 fn token(alloc: Global) -> Result<Packet, Fail> {
@@ -141,8 +145,8 @@ fn join(alloc: Global) -> Result<Packet, Fail> {
     Ok(Packet::Join(Join {
         sender: ProcId::of(1),
         seq: Number::of(8),
-        processes: set(alloc, &[1, 2, 3])?,
-        failed: set(alloc, &[3])?,
+        processes: set(alloc, "1-3")?,
+        failed: set(alloc, "3")?,
     }))
 }
 
@@ -154,7 +158,7 @@ fn reporting(alloc: Global) -> Result<CommitMember, Fail> {
             ring: ring(4),
             aru: 5,
             delivered: 4,
-            obligation: set(alloc, &[1, 3])?,
+            obligation: set(alloc, "1,3")?,
         }),
     })
 }
@@ -173,8 +177,8 @@ fn commit(alloc: Global) -> Result<Packet, Fail> {
     }))
 }
 
-/// The packet of this name.
-fn packet(alloc: Global, name: &str) -> Result<Packet, Fail> {
+/// The packet of this name; where it is none, the one that is read from the bytes.
+fn packet(alloc: Global, name: &str, bytes: &[u8]) -> Result<Packet, Fail> {
     match name {
         "token" => token(alloc),
         "agreed message" => app(Service::Agreed, b"x"),
@@ -183,42 +187,9 @@ fn packet(alloc: Global, name: &str) -> Result<Packet, Fail> {
         "safe old message" => old_hi(Service::Safe),
         "mark" => Ok(mark()),
         "join" => join(alloc),
-        _ => commit(alloc),
+        "commit token" => commit(alloc),
+        _ => Ok(Packet::decode(alloc, bytes)?),
     }
-}
-
-fn is_encoded(alloc: Global, packet: &Packet, bytes: &[u8]) -> Result<bool, AllocError> {
-    Ok(packet.encode(alloc)?.as_slice() == bytes)
-}
-
-fn is_decoded(alloc: Global, packet: &Packet, bytes: &[u8]) -> Result<bool, Fail> {
-    let read = Packet::decode(alloc, bytes)?;
-    Ok(is_shown_alike(alloc, packet, &read)?)
-}
-
-fn is_copied(alloc: Global, packet: &Packet) -> Result<bool, AllocError> {
-    is_shown_alike(alloc, packet, &packet.try_clone(alloc)?)
-}
-
-/// Whether the packet has these bytes, is read from them, and is equal to its copy.
-pub(crate) fn is_spelled(alloc: Global, packet: &Packet, bytes: &[u8]) -> Result<bool, Fail> {
-    let is_encoded = is_encoded(alloc, packet, bytes)?;
-    let is_decoded = is_decoded(alloc, packet, bytes)?;
-    Ok(is_encoded && is_decoded && is_copied(alloc, packet)?)
-}
-
-/// The same, of the packet of this name.
-fn is_spelled_so(alloc: Global, name: &str, bytes: &[u8]) -> Result<bool, Fail> {
-    is_spelled(alloc, &packet(alloc, name)?, bytes)
-}
-
-#[test]
-fn packets_have_their_bytes(rt: HostRuntime) -> Result<(), Fail> {
-    for row in &PACKETS {
-        let is_spelled = is_spelled_so(rt.alloc(), row.name, row.bytes)?;
-        assert!(rt; is_spelled, "the {}", row.name);
-    }
-    Ok(())
 }
 
 /// Why these bytes are no packet.
@@ -236,95 +207,194 @@ fn is_short_before(alloc: Global, bytes: &[u8]) -> bool {
     true
 }
 
-/// Why the bytes with one byte more are no packet.
-fn fault_behind(alloc: Global, bytes: &[u8]) -> Result<Option<PacketFault>, AllocError> {
+/// Whether the bytes with one byte more are Trailing.
+fn is_trailing_behind(alloc: Global, bytes: &[u8]) -> Result<bool, AllocError> {
     let mut more = bytes.to_vec(alloc)?;
     more.push(0)?;
-    Ok(fault_of(alloc, &more))
+    Ok(fault_of(alloc, &more) == Some(PacketFault::Trailing))
 }
 
-/// Whether each proper beginning of the bytes is Short, and with one byte more they are Trailing.
-pub(crate) fn ends_there(alloc: Global, bytes: &[u8]) -> Result<bool, AllocError> {
-    let behind = fault_behind(alloc, bytes)?;
-    Ok(is_short_before(alloc, bytes) && behind == Some(PacketFault::Trailing))
+fn is_encoded(alloc: Global, packet: &Packet, bytes: &[u8]) -> Result<bool, AllocError> {
+    Ok(packet.encode(alloc)?.as_slice() == bytes)
+}
+
+fn is_decoded(alloc: Global, packet: &Packet, bytes: &[u8]) -> Result<bool, AllocError> {
+    match Packet::decode(alloc, bytes) {
+        Ok(read) => is_shown_alike(alloc, packet, &read),
+        Err(_) => Ok(false),
+    }
+}
+
+/// Whether a copy is shown as what it was made of.
+fn is_copy<T: Debug + Drop>(
+    alloc: Global,
+    value: &T,
+    copy: Result<T, AllocError>,
+) -> Result<bool, AllocError> {
+    match copy {
+        Ok(copy) => is_shown_alike(alloc, value, &copy),
+        Err(fault) => Err(fault),
+    }
+}
+
+fn is_message_copied(alloc: Global, message: &Message) -> Result<bool, AllocError> {
+    if is_copy(alloc, &message.body, message.body.try_clone())? {
+        return is_copy(alloc, message, message.try_clone());
+    }
+    Ok(false)
+}
+
+fn is_member_copied(alloc: Global, member: &CommitMember) -> Result<bool, AllocError> {
+    if let Some(report) = &member.report {
+        if !is_copy(alloc, report, report.try_clone(alloc))? {
+            return Ok(false);
+        }
+    }
+    is_copy(alloc, member, member.try_clone(alloc))
+}
+
+fn is_commit_token_copied(alloc: Global, token: &CommitToken) -> Result<bool, AllocError> {
+    for member in token.members.as_slice() {
+        if !is_member_copied(alloc, member)? {
+            return Ok(false);
+        }
+    }
+    is_copy(alloc, token, token.try_clone(alloc))
+}
+
+/// Whether the copy of what the packet carries, and of each of its parts, is equal to it.
+fn is_part_copied(alloc: Global, packet: &Packet) -> Result<bool, AllocError> {
+    match packet {
+        Packet::Message(message) => is_message_copied(alloc, message),
+        Packet::Token(token) => is_copy(alloc, token, token.try_clone(alloc)),
+        Packet::Join(join) => is_copy(alloc, join, join.try_clone(alloc)),
+        Packet::Commit(token) => is_commit_token_copied(alloc, token),
+    }
+}
+
+/// What is told of a packet and its bytes.
+const ALL_HOLDS: &str =
+    "encoded true, decoded true, copied true, in parts true, short true, trailing true";
+
+/// Whether the packet has these bytes, is read from them, and is equal to its copy, as are its parts; whether each proper
+/// beginning of the bytes is Short, and whether with one byte more they are Trailing.
+pub(crate) fn told_of_bytes(alloc: Global, packet: &Packet, bytes: &[u8]) -> Result<String, Fail> {
+    let is_encoded = is_encoded(alloc, packet, bytes)?;
+    let is_decoded = is_decoded(alloc, packet, bytes)?;
+    let is_copied = is_copy(alloc, packet, packet.try_clone(alloc))?;
+    let in_parts = is_part_copied(alloc, packet)?;
+    let is_short = is_short_before(alloc, bytes);
+    let is_trailing = is_trailing_behind(alloc, bytes)?;
+    let told = format!(in alloc;
+        "encoded {is_encoded}, decoded {is_decoded}, copied {is_copied}, in parts {in_parts}, short {is_short}, trailing {is_trailing}"
+    )?;
+    Ok(told)
+}
+
+/// The same, of the packet of this name.
+fn told(alloc: Global, name: &str, bytes: &[u8]) -> Result<String, Fail> {
+    if bytes.is_empty() {
+        return packet_sizes::told(alloc, name);
+    }
+    let packet = packet(alloc, name, bytes)?;
+    told_of_bytes(alloc, &packet, bytes)
 }
 
 #[test]
-fn cut_packets_are_short(rt: HostRuntime) -> Result<(), Fail> {
-    for row in &PACKETS {
-        assert!(rt; ends_there(rt.alloc(), row.bytes)?, "the {}", row.name);
+fn packets_have_their_bytes(rt: HostRuntime) -> Result<(), Fail> {
+    for (name, bytes) in &PACKETS {
+        let told = told(rt.alloc(), name, bytes)?;
+        assert_eq!(rt; told.as_str(), ALL_HOLDS, "the {name}");
     }
     Ok(())
 }
 
-#[test]
-fn first_bytes_of_no_kind(rt: HostRuntime) {
-    for first in [0, 5, 255] {
-        assert_eq!(rt; fault_of(rt.alloc(), &[first]), Some(PacketFault::Kind));
-        assert_eq!(rt;
-            fault_of(rt.alloc(), &[first, 0, 0]),
-            Some(PacketFault::Kind)
-        );
-    }
-}
-
-/// Bytes that have a wrong value at their end.
-const WRONG: [&[u8]; 19] = [
-    // a message: the ring's number, its representative, the number, the sender, the kind, the length
-    &[1, 0, 0, 0, 0],
-    &[1, 0, 0, 0, 4, 0, 0],
-    &[1, 0, 0, 0, 4, 0, 1, 0, 0, 0, 0],
-    &[1, 0, 0, 0, 4, 0, 1, 0, 0, 0, 1, 0, 0],
-    &[1, 0, 0, 0, 4, 0, 1, 0, 0, 0, 1, 0, 1, 5],
-    &[1, 0, 0, 0, 4, 0, 1, 0, 0, 0, 1, 0, 1, 0, 4, 1],
+/// Bytes that are no packet, why they are none, and why they are none without their last byte.
+const NO_PACKETS: [(&[u8], &str); 26] = [
+    // first bytes of no kind
+    (&[0], "Kind Short"),
+    (&[0, 0, 0], "Kind Kind"),
+    (&[5], "Kind Short"),
+    (&[5, 0, 0], "Kind Kind"),
+    (&[255], "Kind Short"),
+    (&[255, 0, 0], "Kind Kind"),
+    // a token that asks for 65 numbers and has one
+    (
+        &[
+            2, 0, 0, 0, 4, 0, 1, 0, 0, 0, 0, 0, 0, 0, 4, 0, 0, 0, 2, 0, 0, 0, 0, 0, 3, 65, 0, 0, 0,
+            1,
+        ],
+        "Range Range",
+    ),
+    // wrong values at the end: of a message the ring's number, its representative, the number, the sender, the kind, the length
+    (&[1, 0, 0, 0, 0], "Range Short"),
+    (&[1, 0, 0, 0, 4, 0, 0], "Range Short"),
+    (&[1, 0, 0, 0, 4, 0, 1, 0, 0, 0, 0], "Range Short"),
+    (&[1, 0, 0, 0, 4, 0, 1, 0, 0, 0, 1, 0, 0], "Range Short"),
+    (&[1, 0, 0, 0, 4, 0, 1, 0, 0, 0, 1, 0, 1, 5], "Range Short"),
+    (
+        &[1, 0, 0, 0, 4, 0, 1, 0, 0, 0, 1, 0, 1, 0, 4, 1],
+        "Range Short",
+    ),
     // a token: its count of passes, 65 numbers, a number 0, a number that does not rise
-    &[2, 0, 0, 0, 4, 0, 1, 0, 0, 0, 0, 0, 0, 0, 0],
-    &[
-        2, 0, 0, 0, 4, 0, 1, 0, 0, 0, 0, 0, 0, 0, 4, 0, 0, 0, 2, 0, 0, 0, 0, 0, 3, 65,
-    ],
-    &[
-        2, 0, 0, 0, 4, 0, 1, 0, 0, 0, 0, 0, 0, 0, 4, 0, 0, 0, 2, 0, 0, 0, 0, 0, 0, 1, 0, 0, 0, 0,
-    ],
-    &[
-        2, 0, 0, 0, 4, 0, 1, 0, 0, 0, 0, 0, 0, 0, 4, 0, 0, 0, 2, 0, 0, 0, 0, 0, 0, 2, 0, 0, 0, 2,
-        0, 0, 0, 2,
-    ],
+    (
+        &[2, 0, 0, 0, 4, 0, 1, 0, 0, 0, 0, 0, 0, 0, 0],
+        "Range Short",
+    ),
+    (
+        &[
+            2, 0, 0, 0, 4, 0, 1, 0, 0, 0, 0, 0, 0, 0, 4, 0, 0, 0, 2, 0, 0, 0, 0, 0, 3, 65,
+        ],
+        "Range Short",
+    ),
+    (
+        &[
+            2, 0, 0, 0, 4, 0, 1, 0, 0, 0, 0, 0, 0, 0, 4, 0, 0, 0, 2, 0, 0, 0, 0, 0, 0, 1, 0, 0, 0,
+            0,
+        ],
+        "Range Short",
+    ),
+    (
+        &[
+            2, 0, 0, 0, 4, 0, 1, 0, 0, 0, 0, 0, 0, 0, 4, 0, 0, 0, 2, 0, 0, 0, 0, 0, 0, 2, 0, 0, 0,
+            2, 0, 0, 0, 2,
+        ],
+        "Range Short",
+    ),
     // a join: its number, 33 processes, processes that do not rise
-    &[3, 0, 1, 0, 0, 0, 0],
-    &[3, 0, 1, 0, 0, 0, 8, 33],
-    &[3, 0, 1, 0, 0, 0, 8, 2, 0, 2, 0, 1],
+    (&[3, 0, 1, 0, 0, 0, 0], "Range Short"),
+    (&[3, 0, 1, 0, 0, 0, 8, 33], "Range Short"),
+    (&[3, 0, 1, 0, 0, 0, 8, 2, 0, 2, 0, 1], "Range Short"),
     // a commit token: rounds 0 and 3, no member, 33 members, a byte before the report
-    &[4, 0, 0, 0, 8, 0, 1, 0],
-    &[4, 0, 0, 0, 8, 0, 1, 3],
-    &[4, 0, 0, 0, 8, 0, 1, 2, 0],
-    &[4, 0, 0, 0, 8, 0, 1, 2, 33],
-    &[4, 0, 0, 0, 8, 0, 1, 2, 2, 0, 1, 2],
+    (&[4, 0, 0, 0, 8, 0, 1, 0], "Range Short"),
+    (&[4, 0, 0, 0, 8, 0, 1, 3], "Range Short"),
+    (&[4, 0, 0, 0, 8, 0, 1, 2, 0], "Range Short"),
+    (&[4, 0, 0, 0, 8, 0, 1, 2, 33], "Range Short"),
+    (&[4, 0, 0, 0, 8, 0, 1, 2, 2, 0, 1, 2], "Range Short"),
     // its second member is not above the first
-    &[4, 0, 0, 0, 8, 0, 1, 2, 2, 0, 1, 0, 0, 1],
+    (&[4, 0, 0, 0, 8, 0, 1, 2, 2, 0, 1, 0, 0, 1], "Range Short"),
 ];
 
-/// Whether these bytes are refused as Range, and without their last one as Short.
-fn is_wrong_at_its_end(alloc: Global, bytes: &[u8]) -> bool {
-    let Some((_, front)) = bytes.split_last() else {
-        return false;
-    };
-    fault_of(alloc, bytes) == Some(PacketFault::Range)
-        && fault_of(alloc, front) == Some(PacketFault::Short)
-}
-
-#[test]
-fn wrong_values_are_known_at_once(rt: HostRuntime) {
-    for bytes in WRONG {
-        assert!(rt;
-            is_wrong_at_its_end(rt.alloc(), bytes),
-            "the bytes {bytes:?}"
-        );
+fn fault_name(alloc: Global, bytes: &[u8]) -> &'static str {
+    match Packet::decode(alloc, bytes) {
+        Ok(_) => "none",
+        Err(fault) => fault.name(),
     }
 }
 
+fn fault_names(alloc: Global, bytes: &[u8]) -> Result<String, AllocError> {
+    let front = match bytes.split_last() {
+        None => bytes,
+        Some((_, front)) => front,
+    };
+    format!(in alloc; "{} {}", fault_name(alloc, bytes), fault_name(alloc, front))
+}
+
 #[test]
-fn a_token_for_65_numbers(rt: HostRuntime) {
-    let mut bytes = TOKEN;
-    bytes[25] = 65;
-    assert_eq!(rt; fault_of(rt.alloc(), &bytes), Some(PacketFault::Range));
+fn wrong_values_are_known_at_once(rt: HostRuntime) -> Result<(), Fail> {
+    for (bytes, wanted) in &NO_PACKETS {
+        let names = fault_names(rt.alloc(), bytes)?;
+        assert_eq!(rt; names.as_str(), *wanted, "the bytes {bytes:?}");
+    }
+    Ok(())
 }

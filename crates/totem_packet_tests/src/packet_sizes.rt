@@ -1,20 +1,14 @@
 //! The largest packets against their bytes.
-use crate::packet_bytes::{OLD, ends_there, is_spelled, old};
-use crate::packet_values::{proc, ring};
+use crate::packet_bytes::{OLD, old, told_of_bytes};
+use crate::packet_values::{proc, ring, set};
 use bytes::Bytes;
 use std::alloc::{AllocError, Global};
 use std::test::Fail;
 use totem_ids::{ProcId, RingId, Service};
 use totem_packets::{
-    CommitMember, CommitMembers, CommitToken, Join, Number, Packet, Payload, Processes, Report,
-    Requests, Round, Token, TokenSeq,
+    CommitMember, CommitMembers, CommitToken, Join, Number, Packet, Payload, Report, Requests,
+    Round, Token, TokenSeq,
 };
-
-/// Whether the packet has these bytes, and ends where they do.
-fn is_all_of(alloc: Global, packet: &Packet, bytes: &[u8]) -> Result<bool, Fail> {
-    let ends_there = ends_there(alloc, bytes)?;
-    Ok(ends_there && is_spelled(alloc, packet, bytes)?)
-}
 
 /// A token that asks for the last 64 numbers.
 fn largest_token(alloc: Global) -> Result<Packet, Fail> {
@@ -47,14 +41,6 @@ fn largest_token_bytes(alloc: Global) -> Result<Vec<u8>, AllocError> {
     Ok(bytes)
 }
 
-#[test]
-fn the_largest_token(rt: HostRuntime) -> Result<(), Fail> {
-    let alloc = rt.alloc();
-    let bytes = largest_token_bytes(alloc)?;
-    assert!(rt; is_all_of(alloc, &largest_token(alloc)?, &bytes)?);
-    Ok(())
-}
-
 /// An old message of 1,024 bytes.
 fn largest_message(alloc: Global) -> Result<Packet, Fail> {
     let text = vec![in alloc; 7; 1_024]?;
@@ -67,23 +53,6 @@ fn largest_message_bytes(alloc: Global) -> Result<Vec<u8>, AllocError> {
     bytes.extend_from_slice(&[4, 0])?;
     bytes.extend_from_slice(&[7; 1_024])?;
     Ok(bytes)
-}
-
-#[test]
-fn the_largest_message(rt: HostRuntime) -> Result<(), Fail> {
-    let alloc = rt.alloc();
-    let bytes = largest_message_bytes(alloc)?;
-    assert!(rt; is_all_of(alloc, &largest_message(alloc)?, &bytes)?);
-    Ok(())
-}
-
-/// 32 processes: 1 to 32.
-fn all_processes(alloc: Global) -> Result<Processes, Fail> {
-    let mut procs = Vec::new(alloc);
-    for number in 1..33u16 {
-        procs.push(ProcId::of(number))?;
-    }
-    Ok(Processes::new(procs)?)
 }
 
 /// Appends how many the processes 1 to 32 are, and their numbers.
@@ -103,7 +72,7 @@ fn largest_member(alloc: Global, number: u16) -> Result<CommitMember, Fail> {
             ring: ring(4),
             aru: 0,
             delivered: 4_294_967_295,
-            obligation: all_processes(alloc)?,
+            obligation: set(alloc, "1-32")?,
         }),
     })
 }
@@ -131,20 +100,12 @@ fn largest_commit_token_bytes(alloc: Global) -> Result<Vec<u8>, AllocError> {
     Ok(bytes)
 }
 
-#[test]
-fn the_largest_commit_token(rt: HostRuntime) -> Result<(), Fail> {
-    let alloc = rt.alloc();
-    let bytes = largest_commit_token_bytes(alloc)?;
-    assert!(rt; is_all_of(alloc, &largest_commit_token(alloc)?, &bytes)?);
-    Ok(())
-}
-
 fn largest_join(alloc: Global) -> Result<Packet, Fail> {
     Ok(Packet::Join(Join {
         sender: ProcId::of(65_535),
         seq: Number::of(4_294_967_295),
-        processes: all_processes(alloc)?,
-        failed: all_processes(alloc)?,
+        processes: set(alloc, "1-32")?,
+        failed: set(alloc, "1-32")?,
     }))
 }
 
@@ -155,10 +116,29 @@ fn largest_join_bytes(alloc: Global) -> Result<Vec<u8>, AllocError> {
     Ok(bytes)
 }
 
-#[test]
-fn the_largest_join(rt: HostRuntime) -> Result<(), Fail> {
-    let alloc = rt.alloc();
-    let bytes = largest_join_bytes(alloc)?;
-    assert!(rt; is_all_of(alloc, &largest_join(alloc)?, &bytes)?);
-    Ok(())
+/// The packet of this name.
+fn largest(alloc: Global, name: &str) -> Result<Packet, Fail> {
+    match name {
+        "largest token" => largest_token(alloc),
+        "largest message" => largest_message(alloc),
+        "largest commit token" => largest_commit_token(alloc),
+        _ => largest_join(alloc),
+    }
+}
+
+/// The bytes of the packet of this name.
+fn largest_bytes(alloc: Global, name: &str) -> Result<Vec<u8>, AllocError> {
+    match name {
+        "largest token" => largest_token_bytes(alloc),
+        "largest message" => largest_message_bytes(alloc),
+        "largest commit token" => largest_commit_token_bytes(alloc),
+        _ => largest_join_bytes(alloc),
+    }
+}
+
+/// What is told of the packet of this name and its bytes.
+pub(crate) fn told(alloc: Global, name: &str) -> Result<String, Fail> {
+    let bytes = largest_bytes(alloc, name)?;
+    let packet = largest(alloc, name)?;
+    told_of_bytes(alloc, &packet, &bytes)
 }

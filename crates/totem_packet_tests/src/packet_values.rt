@@ -1,9 +1,11 @@
 //! What the tests of several modules need.
 use std::alloc::{AllocError, Global};
 use std::fmt::Debug;
-use std::test::Fail;
 use totem_ids::{ProcId, RingId};
-use totem_packets::Processes;
+use totem_packets::{Processes, SetFault};
+
+/// What is asked, in words, and what is told then.
+pub type Case = (&'static str, &'static str);
 
 pub fn proc(number: u16) -> ProcId {
     ProcId::of(number.max(1))
@@ -17,16 +19,69 @@ pub fn ring(seq: u32) -> RingId {
     }
 }
 
-pub fn procs(alloc: Global, numbers: &[u16]) -> Result<Vec<ProcId>, AllocError> {
+/// Adds the number of a text such as `7`, or the numbers of one such as `1-32`.
+fn push_range(list: &mut Vec<u32>, text: &str) -> Result<(), AllocError> {
+    let (low, high) = text.split_once('-').unwrap_or((text, text));
+    let last = high.parse::<u32>().unwrap_or(0);
+    for number in low.parse::<u32>().unwrap_or(0)..last.saturating_add(1) {
+        list.push(number)?;
+    }
+    Ok(())
+}
+
+/// The numbers of a text such as `1,5-7`; an empty one has none.
+pub fn numbers(alloc: Global, text: &str) -> Result<Vec<u32>, AllocError> {
     let mut list = Vec::new(alloc);
-    for number in numbers {
-        list.push(proc(*number))?;
+    if !text.is_empty() {
+        for range in text.split(',') {
+            push_range(&mut list, range)?;
+        }
     }
     Ok(list)
 }
 
-pub fn set(alloc: Global, numbers: &[u16]) -> Result<Processes, Fail> {
-    Ok(Processes::new(procs(alloc, numbers)?)?)
+pub fn procs(alloc: Global, text: &str) -> Result<Vec<ProcId>, AllocError> {
+    let mut list = Vec::new(alloc);
+    for number in &numbers(alloc, text)? {
+        list.push(proc(u16::try_from(*number).unwrap_or(0)))?;
+    }
+    Ok(list)
+}
+
+/// The set of these processes; none, where they do not rise.
+pub fn set(alloc: Global, text: &str) -> Result<Processes, AllocError> {
+    match Processes::new(procs(alloc, text)?) {
+        Ok(set) => Ok(set),
+        Err(_) => Ok(Processes::none(alloc)),
+    }
+}
+
+/// Adds a piece of text.
+pub fn push(text: &mut String, piece: Result<String, AllocError>) -> Result<(), AllocError> {
+    match piece {
+        Ok(piece) => text.push_str(piece.as_str()),
+        Err(fault) => Err(fault),
+    }
+}
+
+/// Adds the processes' numbers, each with a space in front.
+pub fn push_procs(alloc: Global, text: &mut String, procs: &[ProcId]) -> Result<(), AllocError> {
+    for proc in procs {
+        push(text, format!(in alloc; " {proc}"))?;
+    }
+    Ok(())
+}
+
+/// Adds the processes of a set, or why there is none.
+pub fn push_made(
+    alloc: Global,
+    text: &mut String,
+    made: Result<Processes, SetFault>,
+) -> Result<(), AllocError> {
+    match made {
+        Ok(processes) => push_procs(alloc, text, processes.as_slice()),
+        Err(fault) => push(text, format!(in alloc; " {fault}")),
+    }
 }
 
 /// Whether both are shown by the same text.

@@ -3,12 +3,12 @@
 //! On 4.1 there were 1, 2 and 4. Message 1 is agreed by 1 and both hold it; 2 is agreed by 4 and 1 alone holds it; 3 is safe by
 //! 2 and both hold it; nobody holds 4; 5 is agreed by 4 and 1 alone holds it; 6 is agreed by 2, who alone holds it. So the
 //! least aru is 1, the greatest delivered number 2, and O has 1 and 2.
-use crate::recovery_samples::{four, hear_all, lines, member, state, token};
+use crate::recovery_samples::{begun_with, heard_ring, push_left, ring_of, ring_with};
+use crate::values::{Case, proc, push, ring};
 use std::alloc::{AllocError, Global};
 use std::test::Fail;
-use totem_ids::{ProcId, RingId, Service};
-use totem_packets::{Body, CommitToken, Message, Packet, Token};
-use totem_recover::{Recovery, is_ready};
+use totem_packets::{Body, Message, Packet, Token};
+use totem_recover::Recovery;
 use totem_ring::{RingOut, RingState, To, first_token};
 
 /// A member, with its old ring and the new one.
@@ -19,50 +19,18 @@ struct Node {
     recovery: Recovery,
 }
 
-/// Ring 8.3, from which member 3 comes.
-fn eight_of_three() -> RingId {
-    RingId {
-        seq: 8,
-        rep: ProcId::of(3),
-    }
-}
-
-/// Ring 12.1.
-fn twelve() -> RingId {
-    RingId {
-        seq: 12,
-        rep: ProcId::of(1),
-    }
-}
-
-fn commit_token(alloc: Global) -> Result<CommitToken, Fail> {
-    let mut members = Vec::new(alloc);
-    members.push(member(alloc, ProcId::of(1), four(), 3, 2, &[])?)?;
-    members.push(member(alloc, ProcId::of(2), four(), 1, 1, &[])?)?;
-    members.push(member(alloc, ProcId::of(3), eight_of_three(), 1, 1, &[])?)?;
-    token(twelve(), members)
-}
-
-fn begun(alloc: Global, me: ProcId, prev: &RingState) -> Result<Recovery, Fail> {
-    let token = commit_token(alloc)?;
-    if !is_ready(me, prev, &token) {
-        return Err("it may not begin".into());
-    }
-    Ok(Recovery::new(alloc, me, prev, &token)?)
-}
-
 /// A member who comes from a ring of these, with these messages of it.
-fn member_of(
+fn make_node(
     alloc: Global,
-    me: ProcId,
-    old: RingId,
-    members: &[u16],
-    messages: &[(u32, u16, Service)],
+    me: u16,
+    old: &str,
+    members: &str,
+    messages: &str,
 ) -> Result<Node, Fail> {
-    let mut prev = state(alloc, me, old, members)?;
-    hear_all(alloc, &mut prev, messages)?;
-    let recovery = begun(alloc, me, &prev)?;
-    let ring = state(alloc, me, twelve(), &[1, 2, 3])?;
+    let me = proc(me);
+    let prev = heard_ring(alloc, me, ring_of(old), members, messages)?;
+    let recovery = begun_with(alloc, me, &prev, ring(12), "1:4.1:3:2 2:4.1:1:1 3:8.3:1:1")?;
+    let ring = ring_with(alloc, me, ring(12), "1-3")?;
     Ok(Node {
         prev,
         ring,
@@ -70,27 +38,18 @@ fn member_of(
     })
 }
 
-const OF_ONE: [(u32, u16, Service); 4] = [
-    (1, 1, Service::Agreed),
-    (2, 4, Service::Agreed),
-    (3, 2, Service::Safe),
-    (5, 4, Service::Agreed),
+/// Each member's number, its old ring, the members of that, and the messages that it has of it.
+const MEMBERS: [(u16, &str, &str, &str); 3] = [
+    (1, "4.1", "1,2,4", "1:1 2:4 3:2:safe 5:4"),
+    (2, "4.1", "1,2,4", "1:1 3:2:safe 6:2"),
+    (3, "8.3", "3", "1:3"),
 ];
-
-const OF_TWO: [(u32, u16, Service); 3] = [
-    (1, 1, Service::Agreed),
-    (3, 2, Service::Safe),
-    (6, 2, Service::Agreed),
-];
-
-const OF_THREE: [(u32, u16, Service); 1] = [(1, 3, Service::Agreed)];
 
 fn three_members(alloc: Global) -> Result<Vec<Node>, Fail> {
-    let three = eight_of_three();
     let mut nodes = Vec::new(alloc);
-    nodes.push(member_of(alloc, ProcId::of(1), four(), &[1, 2, 4], &OF_ONE)?)?;
-    nodes.push(member_of(alloc, ProcId::of(2), four(), &[1, 2, 4], &OF_TWO)?)?;
-    nodes.push(member_of(alloc, ProcId::of(3), three, &[3], &OF_THREE)?)?;
+    for (me, old, members, messages) in &MEMBERS {
+        nodes.push(make_node(alloc, *me, old, members, messages)?)?;
+    }
     Ok(nodes)
 }
 
@@ -148,11 +107,6 @@ impl Node {
         }
         Ok(())
     }
-
-    fn left(&self, alloc: Global) -> Result<String, AllocError> {
-        let entries = self.recovery.finish(alloc, &self.prev)?;
-        lines(alloc, &entries)
-    }
 }
 
 /// The token that a visit passed on.
@@ -172,14 +126,6 @@ struct World {
 }
 
 impl World {
-    fn new(alloc: Global) -> Result<World, Fail> {
-        Ok(World {
-            nodes: three_members(alloc)?,
-            token: first_token(alloc, twelve()),
-            done_at: Vec::new(alloc),
-        })
-    }
-
     /// The token comes to the member whose turn it is.
     fn visit(&mut self, alloc: Global, turn: usize) -> Result<RingOut, Fail> {
         let Some(node) = self.nodes.get_mut(turn % 3) else {
@@ -208,79 +154,91 @@ impl World {
     }
 }
 
-/// The members after so many turns of the token.
-fn after_turns(alloc: Global, turns: usize) -> Result<World, Fail> {
-    let mut world = World::new(alloc)?;
-    for turn in 0..turns {
-        world.turn(alloc, turn)?;
-    }
-    Ok(world)
-}
-
 /// Of each member its number, the last mark, and how many processes it owes messages.
-fn marks(alloc: Global, nodes: &[Node]) -> Result<String, AllocError> {
-    let mut text = String::new(alloc);
+fn push_marks(alloc: Global, text: &mut String, nodes: &[Node]) -> Result<(), AllocError> {
     for node in nodes {
         let last = node.recovery.last_mark(&node.ring).unwrap_or(0);
         let owed = node.recovery.obligation().as_slice().len();
-        text.push_str(format!(in alloc; "{}: {last} {owed}; ", node.ring.me())?.as_str())?;
+        push(
+            text,
+            format!(in alloc; "{}: {last} {owed}; ", node.ring.me()),
+        )?;
     }
-    Ok(text)
+    Ok(())
 }
 
 /// What each member writes as it leaves its old ring.
-fn all_left(alloc: Global, nodes: &[Node]) -> Result<String, AllocError> {
-    let mut text = String::new(alloc);
+fn push_all_left(alloc: Global, text: &mut String, nodes: &[Node]) -> Result<(), AllocError> {
     for node in nodes {
-        text.push_str(node.left(alloc)?.as_str())?;
+        push_left(alloc, text, &node.recovery, &node.prev)?;
         text.push_str("/ ")?;
     }
-    Ok(text)
+    Ok(())
 }
 
-/// How many members are done.
-fn done(nodes: &[Node]) -> usize {
+/// At which turns a member was done, and how many are.
+fn push_done(alloc: Global, text: &mut String, world: &World) -> Result<(), AllocError> {
+    for turn in &world.done_at {
+        push(text, format!(in alloc; "{turn} "))?;
+    }
     let mut count = 0usize;
-    for node in nodes {
+    for node in &world.nodes {
         if node.recovery.is_done(&node.ring) {
             count = count.saturating_add(1);
         }
     }
-    count
+    push(text, format!(in alloc; "by {count}"))
 }
 
-/// Each sends its list: 1 to 4 are of 1, 5 to 7 of 2, 8 of 3. Whoever comes last holds all marks, and owes messages to itself.
-#[test]
-fn whoever_comes_last_holds_all_marks(rt: HostRuntime) -> Result<(), Fail> {
-    let world = after_turns(rt.alloc(), 3)?;
-    let text = marks(rt.alloc(), &world.nodes)?;
-    assert_eq!(rt; text.as_str(), "1: 8 0; 2: 8 0; 3: 8 1; ");
-    Ok(())
+/// What is asked by a word.
+fn push_asked(
+    alloc: Global,
+    text: &mut String,
+    world: &World,
+    word: &str,
+) -> Result<(), AllocError> {
+    match word {
+        "marks" => push_marks(alloc, text, &world.nodes),
+        "left" => push_all_left(alloc, text, &world.nodes),
+        _ => push_done(alloc, text, world),
+    }
 }
 
-#[test]
-fn nobody_is_done_in_the_first_round(rt: HostRuntime) -> Result<(), Fail> {
-    let world = after_turns(rt.alloc(), 3)?;
-    assert_eq!(rt; world.done_at.len(), 0);
-    Ok(())
+/// So many turns of the token, and then what is asked.
+fn turns(alloc: Global, world: &mut World, turns: usize, asked: &str) -> Result<String, Fail> {
+    for turn in 0..turns {
+        world.turn(alloc, turn)?;
+    }
+    let mut text = String::new(alloc);
+    push_asked(alloc, &mut text, world, asked)?;
+    Ok(text)
 }
 
-/// Who has seen the token leave twice with the last number is done: first the third, then the others.
-#[test]
-fn the_third_is_done_first(rt: HostRuntime) -> Result<(), Fail> {
-    let world = after_turns(rt.alloc(), 9)?;
-    assert_eq!(rt; world.done_at.as_slice(), [5, 6, 7, 8].as_slice());
-    assert_eq!(rt; done(&world.nodes), 3);
-    Ok(())
+pub(crate) fn told(alloc: Global, words: &str) -> Result<String, Fail> {
+    let (count, asked) = words.split_once(' ').unwrap_or((words, ""));
+    let mut world = World {
+        nodes: three_members(alloc)?,
+        token: first_token(alloc, ring(12)),
+        done_at: Vec::new(alloc),
+    };
+    turns(
+        alloc,
+        &mut world,
+        count.parse::<usize>().unwrap_or(0),
+        asked,
+    )
 }
 
-#[test]
-fn two_rings_become_one(rt: HostRuntime) -> Result<(), Fail> {
-    let world = after_turns(rt.alloc(), 9)?;
-    let text = all_left(rt.alloc(), &world.nodes)?;
-    assert_eq!(rt;
-        text.as_str(),
-        "conf t12.1/1 1 2; dlv t12.1/1 4.1#3; dlv t12.1/1 4.1#6; conf r12.1 1 2 3; / dlv r4.1 4.1#2; conf t12.1/1 1 2; dlv t12.1/1 4.1#3; dlv t12.1/1 4.1#6; conf r12.1 1 2 3; / conf t12.1/3 3; conf r12.1 1 2 3; / "
-    );
-    Ok(())
-}
+/// So many turns of the token, and what is asked then.
+pub(crate) const EXCHANGES: [Case; 4] = [
+    // each sends its list: 1 to 4 are of 1, 5 to 7 of 2, 8 of 3; whoever comes last holds all marks, and owes messages to itself
+    ("3 marks", "1: 8 0; 2: 8 0; 3: 8 1; "),
+    // nobody is done in the first round
+    ("3 done", "by 0"),
+    // who has seen the token leave twice with the last number is done: first the third, then the others
+    ("9 done", "5 6 7 8 by 3"),
+    (
+        "9 left",
+        "conf t12.1/1 1 2; dlv t12.1/1 4.1#3; dlv t12.1/1 4.1#6; conf r12.1 1 2 3; / dlv r4.1 4.1#2; conf t12.1/1 1 2; dlv t12.1/1 4.1#3; dlv t12.1/1 4.1#6; conf r12.1 1 2 3; / conf t12.1/3 3; conf r12.1 1 2 3; / ",
+    ),
+];

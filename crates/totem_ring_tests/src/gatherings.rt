@@ -1,47 +1,23 @@
 //! Gatherings by direct calls: Joins as words, and what is asked of a gathering as text.
+use crate::values::{Case, part, proc, push, push_procs, set};
 use std::alloc::{AllocError, Global};
-use std::test::Fail;
-use totem_ids::ProcId;
 use totem_member::{Gather, GatherOut, MemberFault};
 use totem_packets::{Join, Number, Processes, SetFault};
 
-fn proc(number: u16) -> ProcId {
-    ProcId::of(number.max(1))
+/// Process `me` gathers with these.
+fn gather(alloc: Global, me: u16, base: &str) -> Result<Gather, SetFault> {
+    let base = set(alloc, base)?;
+    Gather::new(alloc, proc(me), &base, Number::of(4))
 }
 
-/// The processes of these digits.
-fn set(alloc: Global, digits: &str) -> Result<Processes, Fail> {
-    let mut list = Vec::new(alloc);
-    for digit in digits.bytes() {
-        list.push(proc(u16::from(digit.saturating_sub(b'0'))))?;
-    }
-    Ok(Processes::new(list)?)
-}
-
-/// The processes from 1 to this one.
-fn first(alloc: Global, last: u16) -> Result<Processes, Fail> {
-    let mut list = Vec::new(alloc);
-    for value in 0..last {
-        list.push(proc(value.saturating_add(1)))?;
-    }
-    Ok(Processes::new(list)?)
-}
-
-/// Process 1 gathers with these.
-fn gather(alloc: Global, base: &str) -> Result<Gather, Fail> {
-    Ok(Gather::new(alloc, proc(1), &set(alloc, base)?, Number::of(4))?)
-}
-
-/// The Join of a word such as `4:2:12:3`: it knows of ring 4, is of 2, and tells that 1 and 2 are known and 3 failed.
-fn join_of(alloc: Global, word: &str) -> Result<Join, Fail> {
-    let (seq, word) = word.split_once(':').unwrap_or(("", ""));
-    let (sender, word) = word.split_once(':').unwrap_or(("", ""));
-    let (processes, failed) = word.split_once(':').unwrap_or(("", ""));
+/// The Join of a word such as `4:2:1,2:3`: it knows of ring 4, is of 2, and tells that 1 and 2 are known and 3 failed.
+fn join_of(alloc: Global, word: &str) -> Result<Join, AllocError> {
+    let processes = set(alloc, part(word, 2))?;
     Ok(Join {
-        sender: proc(sender.parse::<u16>().unwrap_or(0)),
-        seq: Number::of(seq.parse::<u32>().unwrap_or(0).max(1)),
-        processes: set(alloc, processes)?,
-        failed: set(alloc, failed)?,
+        sender: proc(part(word, 1).parse::<u16>().unwrap_or(0)),
+        seq: Number::of(part(word, 0).parse::<u32>().unwrap_or(0).max(1)),
+        processes,
+        failed: set(alloc, part(word, 3))?,
     })
 }
 
@@ -52,23 +28,16 @@ struct Step {
     out: GatherOut,
 }
 
-fn push_set(alloc: Global, text: &mut String, set: &Processes) -> Result<(), AllocError> {
-    for proc in set.as_slice() {
-        text.push_str(format!(in alloc; " {proc}")?.as_str())?;
-    }
-    Ok(())
-}
-
 fn push_maybe(alloc: Global, text: &mut String, set: &Option<Processes>) -> Result<(), AllocError> {
     match set {
         None => text.push_str(" none"),
-        Some(set) => push_set(alloc, text, set),
+        Some(set) => push_procs(alloc, text, set.as_slice()),
     }
 }
 
 fn push_gathered(alloc: Global, text: &mut String, gathering: &Gather) -> Result<(), AllocError> {
     let members = gathering.gathered(alloc)?;
-    push_set(alloc, text, &members)
+    push_procs(alloc, text, members.as_slice())
 }
 
 fn push_consensus(alloc: Global, text: &mut String, gathering: &Gather) -> Result<(), AllocError> {
@@ -76,11 +45,16 @@ fn push_consensus(alloc: Global, text: &mut String, gathering: &Gather) -> Resul
     push_maybe(alloc, text, &members)
 }
 
+fn copied_join(alloc: Global, gathering: &Gather) -> Result<Join, AllocError> {
+    let copy = gathering.try_clone(alloc)?;
+    copy.join(alloc)
+}
+
 /// The Join of a copy: its sender, and who is known.
 fn push_join(alloc: Global, text: &mut String, gathering: &Gather) -> Result<(), AllocError> {
-    let join = gathering.try_clone(alloc)?.join(alloc)?;
-    text.push_str(format!(in alloc; " {}:", join.sender)?.as_str())?;
-    push_set(alloc, text, &join.processes)
+    let join = copied_join(alloc, gathering)?;
+    push(text, format!(in alloc; " {}:", join.sender))?;
+    push_procs(alloc, text, join.processes.as_slice())
 }
 
 /// The members of a copy of what a step gave.
@@ -97,10 +71,10 @@ fn push_asked(
     word: &str,
 ) -> Result<(), AllocError> {
     match word {
-        "me" => text.push_str(format!(in alloc; " {}", gathering.me())?.as_str()),
-        "seq" => text.push_str(format!(in alloc; " {}", gathering.seq().get())?.as_str()),
-        "known" => push_set(alloc, text, gathering.processes()),
-        "failed" => push_set(alloc, text, gathering.failed()),
+        "me" => push_procs(alloc, text, &[gathering.me()]),
+        "seq" => push(text, format!(in alloc; " {}", gathering.seq().get())),
+        "known" => push_procs(alloc, text, gathering.processes().as_slice()),
+        "failed" => push_procs(alloc, text, gathering.failed().as_slice()),
         "gathered" => push_gathered(alloc, text, gathering),
         "consensus" => push_consensus(alloc, text, gathering),
         "join" => push_join(alloc, text, gathering),
@@ -123,8 +97,9 @@ impl Step {
         }
     }
 
-    fn hears(&mut self, alloc: Global, text: &mut String, join: &Join) -> Result<(), AllocError> {
-        let answer = self.gathering.on_join(alloc, join);
+    fn hears(&mut self, alloc: Global, text: &mut String, word: &str) -> Result<(), AllocError> {
+        let join = join_of(alloc, word)?;
+        let answer = self.gathering.on_join(alloc, &join);
         self.takes(text, answer)
     }
 
@@ -143,133 +118,79 @@ impl Step {
         }
     }
 
+    fn tells(&self, alloc: Global, text: &mut String, word: &str) -> Result<(), AllocError> {
+        text.push_str(word)?;
+        self.asked(alloc, text, word)?;
+        text.push_str("; ")
+    }
+
     /// One word: `timeout`, a Join, or what is asked.
-    fn does(&mut self, alloc: Global, text: &mut String, word: &str) -> Result<(), Fail> {
+    fn does(&mut self, alloc: Global, text: &mut String, word: &str) -> Result<(), AllocError> {
         if word == "timeout" {
-            self.ends(alloc, text)?;
-        } else if word.contains(':') {
-            self.hears(alloc, text, &join_of(alloc, word)?)?;
-        } else {
-            text.push_str(word)?;
-            self.asked(alloc, text, word)?;
-            text.push_str("; ")?;
+            return self.ends(alloc, text);
         }
-        Ok(())
+        if word.contains(':') {
+            return self.hears(alloc, text, word);
+        }
+        self.tells(alloc, text, word)
+    }
+
+    fn lives(&mut self, alloc: Global, words: &str) -> Result<String, AllocError> {
+        let mut text = String::new(alloc);
+        for word in words.split_whitespace() {
+            self.does(alloc, &mut text, word)?;
+        }
+        Ok(text)
     }
 }
 
 /// Process 1 gathers with these, and does and tells what the words say.
-fn life(alloc: Global, base: &str, words: &str) -> Result<String, Fail> {
-    let mut step = Step {
-        gathering: gather(alloc, base)?,
-        out: GatherOut {
-            again: false,
-            members: None,
-        },
-    };
-    let mut text = String::new(alloc);
-    for word in words.split_whitespace() {
-        step.does(alloc, &mut text, word)?;
+fn life(alloc: Global, base: &str, words: &str) -> Result<String, AllocError> {
+    match gather(alloc, 1, base) {
+        Ok(gathering) => begun(alloc, gathering, words),
+        Err(fault) => format!(in alloc; "{fault:?}"),
     }
-    Ok(text)
 }
 
-#[test]
-fn a_gathering_begins_with_me(rt: HostRuntime) -> Result<(), Fail> {
-    let told = life(
-        rt.alloc(),
-        "2",
-        "me seq known failed gathered consensus join",
-    )?;
-    assert_eq!(rt;
-        told.as_str(),
-        "me 1; seq 4; known 1 2; failed; gathered 1 2; consensus none; join 1: 1 2; "
-    );
-    Ok(())
+fn begun(alloc: Global, gathering: Gather, words: &str) -> Result<String, AllocError> {
+    let out = GatherOut {
+        again: false,
+        members: None,
+    };
+    Step { gathering, out }.lives(alloc, words)
 }
 
-#[test]
-fn two_agree(rt: HostRuntime) -> Result<(), Fail> {
-    let told = life(rt.alloc(), "2", "4:2:12: again copied members")?;
-    assert_eq!(rt; told.as_str(), "again no; copied 1 2; members 1 2; ");
-    Ok(())
-}
-
-#[test]
-fn news_are_told_anew(rt: HostRuntime) -> Result<(), Fail> {
-    let told = life(rt.alloc(), "2", "8:3:34:4 again members known failed seq")?;
-    assert_eq!(rt;
-        told.as_str(),
-        "again yes; members none; known 1 2 3 4; failed 4; seq 8; "
-    );
-    Ok(())
-}
-
-#[test]
-fn a_silent_member_is_given_up(rt: HostRuntime) -> Result<(), Fail> {
-    let told = life(
-        rt.alloc(),
-        "23",
-        "4:2:123: members timeout again failed members 4:2:123:3 members",
-    )?;
-    assert_eq!(rt;
-        told.as_str(),
-        "members none; again yes; failed 3; members none; members 1 2; "
-    );
-    Ok(())
-}
-
-#[test]
-fn who_fails_me_has_failed(rt: HostRuntime) -> Result<(), Fail> {
-    let told = life(
-        rt.alloc(),
-        "2",
-        "4:2:127:1 again known failed members 4:2:12:",
-    )?;
-    assert_eq!(rt;
-        told.as_str(),
-        "again yes; known 1 2; failed 2; members 1; Stranger"
-    );
-    Ok(())
-}
-
-/// Process `me` gathers with 1 to 32.
-fn gather_32(alloc: Global, me: u16) -> Result<Result<Gather, SetFault>, Fail> {
-    let base = first(alloc, 32)?;
-    Ok(Gather::new(alloc, proc(me), &base, Number::of(4)))
-}
-
-#[test]
-fn thirty_three_do_not_gather(rt: HostRuntime) -> Result<(), Fail> {
-    let answer = gather_32(rt.alloc(), 33)?;
-    assert!(rt; matches!(answer, Err(SetFault::TooMany)));
-    Ok(())
+/// How process `me` gathers with 1 to 32.
+fn gathers_with_32(alloc: Global, me: u16) -> Result<String, AllocError> {
+    match gather(alloc, me, "1-32") {
+        Ok(gathering) => format!(in alloc; "{} gathers", gathering.me()),
+        Err(fault) => format!(in alloc; "{fault:?}"),
+    }
 }
 
 /// The Join of a process that knows of itself alone.
-fn join_of_one(alloc: Global, me: u16) -> Result<Join, Fail> {
-    let base = Processes::none(alloc);
-    Ok(Gather::new(alloc, proc(me), &base, Number::of(4))?.join(alloc)?)
+fn join_of_one(alloc: Global, me: u16) -> Result<Join, SetFault> {
+    let gathering = gather(alloc, me, "")?;
+    Ok(gathering.join(alloc)?)
 }
 
-/// Whether 32 processes hear of this one, or why not.
-fn heard_by_32(alloc: Global, other: u16) -> Result<Option<MemberFault>, Fail> {
-    let join = join_of_one(alloc, other)?;
-    let mut gathering = gather_32(alloc, 32)??;
-    Ok(match gathering.on_join(alloc, &join) {
-        Ok(_) => None,
-        Err(fault) => Some(fault),
-    })
+fn hear_one(alloc: Global, gathering: &mut Gather, me: u16) -> Result<String, SetFault> {
+    let join = join_of_one(alloc, me)?;
+    let answer = match gathering.on_join(alloc, &join) {
+        Ok(_) => "heard",
+        Err(fault) => fault.name(),
+    };
+    Ok(String::from_str(alloc, answer)?)
 }
 
-#[test]
-fn a_33rd_is_not_heard(rt: HostRuntime) -> Result<(), Fail> {
-    assert_eq!(rt; heard_by_32(rt.alloc(), 33)?, Some(MemberFault::Stranger));
-    Ok(())
+/// How 32 processes, who gather, hear of this one.
+fn heard_by_32(alloc: Global, me: u16) -> Result<String, SetFault> {
+    let mut gathering = gather(alloc, 32, "1-32")?;
+    hear_one(alloc, &mut gathering, me)
 }
 
 /// The Joins of all.
-fn joins(alloc: Global, all: &[Gather]) -> Result<Vec<Join>, Fail> {
+fn joins(alloc: Global, all: &[Gather]) -> Result<Vec<Join>, AllocError> {
     let mut joins = Vec::new(alloc);
     for gathering in all {
         joins.push(gathering.join(alloc)?)?;
@@ -278,40 +199,30 @@ fn joins(alloc: Global, all: &[Gather]) -> Result<Vec<Join>, Fail> {
 }
 
 /// It takes a Join; whether it agrees on this set then.
-fn agrees_after(
-    alloc: Global,
-    gathering: &mut Gather,
-    join: &Join,
-    all: &Processes,
-) -> Result<bool, Fail> {
-    Ok(match gathering.on_join(alloc, join)?.members {
-        None => false,
-        Some(members) => members.is(all),
-    })
+fn agrees_after(alloc: Global, gathering: &mut Gather, join: &Join, all: &Processes) -> bool {
+    match gathering.on_join(alloc, join) {
+        Ok(out) => out.members.as_ref().is_some_and(|members| members.is(all)),
+        Err(_) => false,
+    }
 }
 
 /// It takes the Joins of all others; whether at last it agrees on this set.
-fn agrees_on(
-    alloc: Global,
-    gathering: &mut Gather,
-    joins: &[Join],
-    all: &Processes,
-) -> Result<bool, Fail> {
+fn agrees_on(alloc: Global, gathering: &mut Gather, joins: &[Join], all: &Processes) -> bool {
     let mut agrees = false;
     for join in joins {
         if join.sender != gathering.me() {
-            agrees = agrees_after(alloc, gathering, join, all)?;
+            agrees = agrees_after(alloc, gathering, join, all);
         }
     }
-    Ok(agrees)
+    agrees
 }
 
 /// Each takes the Joins of all others; how many at last agree on this set.
-fn agreed(alloc: Global, gathers: &mut [Gather], all: &Processes) -> Result<u32, Fail> {
+fn agreed(alloc: Global, gathers: &mut [Gather], all: &Processes) -> Result<u32, AllocError> {
     let joins = joins(alloc, gathers)?;
     let mut count = 0u32;
     for gathering in gathers {
-        if agrees_on(alloc, gathering, &joins, all)? {
+        if agrees_on(alloc, gathering, &joins, all) {
             count = count.saturating_add(1);
         }
     }
@@ -319,46 +230,105 @@ fn agreed(alloc: Global, gathers: &mut [Gather], all: &Processes) -> Result<u32,
 }
 
 /// How many agree on this set after three rounds of Joins.
-fn agreed_at_last(alloc: Global, gathers: &mut [Gather], all: &Processes) -> Result<u32, Fail> {
+fn agreed_at_last(
+    alloc: Global,
+    gathers: &mut [Gather],
+    all: &Processes,
+) -> Result<String, AllocError> {
     agreed(alloc, gathers, all)?;
     agreed(alloc, gathers, all)?;
-    agreed(alloc, gathers, all)
+    format!(in alloc; "{} agree", agreed(alloc, gathers, all)?)
 }
 
 /// Each begins alone.
-fn alone(alloc: Global, all: &Processes) -> Result<Vec<Gather>, Fail> {
+fn alone(alloc: Global, all: &Processes) -> Result<Vec<Gather>, SetFault> {
+    let none = Processes::none(alloc);
     let mut gathers = Vec::new(alloc);
     for me in all.as_slice() {
-        gathers.push(Gather::new(alloc, *me, &Processes::none(alloc), Number::of(4))?)?;
+        gathers.push(Gather::new(alloc, *me, &none, Number::of(4))?)?;
     }
     Ok(gathers)
 }
 
-/// How many of 1 to the last, who begin alone, agree on all of these at last.
-fn agree_at_last(alloc: Global, last: u16) -> Result<u32, Fail> {
-    let all = first(alloc, last)?;
-    let mut gathers = alone(alloc, &all)?;
-    agreed_at_last(alloc, &mut gathers, &all)
+/// How many of these, who begin alone, agree on all of these at last.
+fn agree_at_last(alloc: Global, all: &Processes) -> Result<String, SetFault> {
+    let mut gathers = alone(alloc, all)?;
+    Ok(agreed_at_last(alloc, &mut gathers, all)?)
 }
 
-#[test]
-fn all_agree_on_one_set(rt: HostRuntime) -> Result<(), Fail> {
-    assert_eq!(rt; agree_at_last(rt.alloc(), 2)?, 2);
-    assert_eq!(rt; agree_at_last(rt.alloc(), 3)?, 3);
-    assert_eq!(rt; agree_at_last(rt.alloc(), 32)?, 32);
-    Ok(())
+const FAULTS: [MemberFault; 4] = [
+    MemberFault::Stranger,
+    MemberFault::Stale,
+    MemberFault::Range,
+    MemberFault::Memory,
+];
+
+/// The numbers and the names of all faults.
+fn faults(alloc: Global) -> Result<String, AllocError> {
+    let mut text = String::new(alloc);
+    for fault in &FAULTS {
+        push(
+            &mut text,
+            format!(in alloc; "{} {} ", fault.number(), fault.name()),
+        )?;
+    }
+    Ok(text)
 }
 
-#[test]
-fn faults_have_numbers_and_names(rt: HostRuntime) {
-    let faults = [
-        (MemberFault::Stranger, 1, "Stranger"),
-        (MemberFault::Stale, 2, "Stale"),
-        (MemberFault::Range, 3, "Range"),
-        (MemberFault::Memory, 4, "Memory"),
-    ];
-    for (fault, number, name) in faults {
-        assert_eq!(rt; fault.number(), number);
-        assert_eq!(rt; fault.name(), name);
+fn or_fault(alloc: Global, answer: Result<String, SetFault>) -> Result<String, AllocError> {
+    match answer {
+        Ok(text) => Ok(text),
+        Err(fault) => format!(in alloc; "{fault:?}"),
     }
 }
+
+/// What the first word stands for: a process that gathers with 1 to 32, one that they hear of, processes that are to agree, and
+/// else with whom 1 gathers, and what it does.
+pub(crate) fn told(alloc: Global, words: &str) -> Result<String, AllocError> {
+    let (first, rest) = words.split_once(' ').unwrap_or((words, ""));
+    let number = rest.parse::<u16>().unwrap_or(0);
+    match first {
+        "faults" => faults(alloc),
+        "gathers" => gathers_with_32(alloc, number),
+        "heard" => or_fault(alloc, heard_by_32(alloc, number)),
+        "agree" => {
+            let all = set(alloc, rest)?;
+            or_fault(alloc, agree_at_last(alloc, &all))
+        }
+        base => life(alloc, base, rest),
+    }
+}
+
+pub(crate) const GATHERINGS: [Case; 11] = [
+    ("faults", "1 Stranger 2 Stale 3 Range 4 Memory "),
+    // a gathering begins with me
+    (
+        "2 me seq known failed gathered consensus join",
+        "me 1; seq 4; known 1 2; failed; gathered 1 2; consensus none; join 1: 1 2; ",
+    ),
+    // two agree
+    (
+        "2 4:2:1,2: again copied members",
+        "again no; copied 1 2; members 1 2; ",
+    ),
+    // news are told anew
+    (
+        "2 8:3:3,4:4 again members known failed seq",
+        "again yes; members none; known 1 2 3 4; failed 4; seq 8; ",
+    ),
+    // a silent member is given up
+    (
+        "2,3 4:2:1-3: members timeout again failed members 4:2:1-3:3 members",
+        "members none; again yes; failed 3; members none; members 1 2; ",
+    ),
+    // who fails me has failed
+    (
+        "2 4:2:1,2,7:1 again known failed members 4:2:1,2:",
+        "again yes; known 1 2; failed 2; members 1; Stranger",
+    ),
+    ("gathers 33", "TooMany"),
+    ("heard 33", "Stranger"),
+    ("agree 1-2", "2 agree"),
+    ("agree 1-3", "3 agree"),
+    ("agree 1-32", "32 agree"),
+];

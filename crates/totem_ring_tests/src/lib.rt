@@ -17,3 +17,7 @@ mod ring_samples;
 mod rings;
 #[cfg(test)]
 mod schedules;
+#[cfg(test)]
+mod tables;
+#[cfg(test)]
+mod values;

@@ -1,122 +1,58 @@
 //! The finish that is worked out by hand, and each call on a state made for it.
 use crate::recovery_samples::{
-    app, eight, four, hear, hear_all, lines, member, message, state, token,
+    begun_with, hear, heard_ring, message, push_left, ring_of, ring_with, token,
 };
+use crate::values::{Case, part, proc, push_number, push_procs, push_truth, ring, say};
 use std::alloc::{AllocError, Global};
+use std::fmt::Display;
 use std::test::Fail;
-use totem_ids::{ProcId, RingId, Service};
-use totem_packets::{Body, CommitToken, Packet};
+use totem_ids::{ProcId, Service};
+use totem_packets::{Body, Packet};
 use totem_recover::{
     Recovery, a_member_owes_itself, is_ready, members_leave_alike, owed_are_delivered,
 };
 use totem_ring::{RingOut, RingState, To};
 
-/// 3 is safe by 3 and 5 safe by 2, the others are agreed; there is a gap at 7.
-const OLD_MESSAGES: [(u32, u16, Service); 8] = [
-    (1, 1, Service::Agreed),
-    (2, 2, Service::Agreed),
-    (3, 3, Service::Safe),
-    (4, 1, Service::Agreed),
-    (5, 2, Service::Safe),
-    (6, 1, Service::Agreed),
-    (8, 1, Service::Agreed),
-    (9, 3, Service::Agreed),
-];
-
-/// Ring 4.1 of 1, 2 and 3, seen by 1, who holds nothing yet.
-fn old_ring(alloc: Global) -> Result<RingState, Fail> {
-    state(alloc, ProcId::of(1), four(), &[1, 2, 3])
+/// Ring 4.1 of 1, 2 and 3, seen by 1, once these messages were heard.
+fn old_ring(alloc: Global, messages: &str) -> Result<RingState, Fail> {
+    heard_ring(alloc, proc(1), ring(4), "1-3", messages)
 }
 
-/// The token of ring 8.1 of 1 and 2, who come from 4.1; 2 handed up to 3.
-fn commit_token(alloc: Global) -> Result<CommitToken, Fail> {
-    let mut members = Vec::new(alloc);
-    members.push(member(alloc, ProcId::of(1), four(), 6, 2, &[])?)?;
-    members.push(member(alloc, ProcId::of(2), four(), 6, 3, &[])?)?;
-    token(eight(), members)
+/// The recovery of 1 with the token of ring 8.1 of these members.
+fn begun(alloc: Global, prev: &RingState, members: &str) -> Result<Recovery, Fail> {
+    begun_with(alloc, proc(1), prev, ring(8), members)
 }
 
-fn begun(alloc: Global, prev: &RingState, token: &CommitToken) -> Result<Recovery, Fail> {
-    let me = ProcId::of(1);
-    if !is_ready(me, prev, token) {
-        return Err("it may not begin".into());
-    }
-    Ok(Recovery::new(alloc, me, prev, token)?)
+/// How far messages are handed up once these were heard.
+fn handed(alloc: Global, messages: &str) -> Result<u32, Fail> {
+    let prev = old_ring(alloc, messages)?;
+    Ok(prev.handed())
 }
 
-fn begun_from(alloc: Global, prev: &RingState) -> Result<Recovery, Fail> {
-    begun(alloc, prev, &commit_token(alloc)?)
+/// What is written as the ring is left once these were heard. 1 and 2 come from 4.1, and 2 handed up to 3.
+fn left(alloc: Global, messages: &str) -> Result<String, Fail> {
+    let prev = old_ring(alloc, messages)?;
+    let recovery = begun(alloc, &prev, "1:4.1:6:2 2:4.1:6:3")?;
+    told_left(alloc, &recovery, &prev)
 }
 
-/// What is written as the ring is left.
-fn left(alloc: Global, prev: &RingState) -> Result<String, Fail> {
-    let recovery = begun_from(alloc, prev)?;
-    let entries = recovery.finish(alloc, prev)?;
-    Ok(lines(alloc, &entries)?)
+fn told_left(alloc: Global, recovery: &Recovery, prev: &RingState) -> Result<String, Fail> {
+    let mut text = String::new(alloc);
+    push_left(alloc, &mut text, recovery, prev)?;
+    Ok(text)
 }
 
-/// The old ring once these messages were heard.
-fn old_ring_with(alloc: Global, messages: &[(u32, u16, Service)]) -> Result<RingState, Fail> {
-    let mut prev = old_ring(alloc)?;
-    hear_all(alloc, &mut prev, messages)?;
-    Ok(prev)
+fn is_ready_for(alloc: Global, me: ProcId, prev: &RingState, members: &str) -> Result<bool, Fail> {
+    let token = token(alloc, ring(8), members)?;
+    Ok(is_ready(me, prev, &token))
 }
 
-#[test]
-fn a_safe_message_is_not_handed_up_at_once(rt: HostRuntime) -> Result<(), Fail> {
-    let prev = old_ring_with(rt.alloc(), &OLD_MESSAGES)?;
-    assert_eq!(rt; prev.handed(), 2);
-    Ok(())
-}
-
-#[test]
-fn the_old_ring_is_left(rt: HostRuntime) -> Result<(), Fail> {
-    let text = left(rt.alloc(), &old_ring_with(rt.alloc(), &OLD_MESSAGES)?)?;
-    assert_eq!(rt;
-        text.as_str(),
-        "dlv r4.1 4.1#3; dlv r4.1 4.1#4; conf t8.1/1 1 2; dlv t8.1/1 4.1#5; dlv t8.1/1 4.1#6; dlv t8.1/1 4.1#8; conf r8.1 1 2; "
-    );
-    Ok(())
-}
-
-/// The old ring with a mark of 3, and then an agreed message of 2.
-fn old_ring_with_mark(alloc: Global) -> Result<RingState, Fail> {
-    let mut prev = old_ring(alloc)?;
-    hear(alloc, &mut prev, 1, 3, Body::Mark)?;
-    hear(alloc, &mut prev, 2, 2, app(Service::Agreed))?;
-    Ok(prev)
-}
-
-#[test]
-fn marks_write_no_entries(rt: HostRuntime) -> Result<(), Fail> {
-    let text = left(rt.alloc(), &old_ring_with_mark(rt.alloc())?)?;
-    assert_eq!(rt;
-        text.as_str(),
-        "dlv r4.1 4.1#2; conf t8.1/1 1 2; conf r8.1 1 2; "
-    );
-    Ok(())
-}
-
-/// Ring 4.1 with messages 1 to 22.
-fn long_ring(alloc: Global) -> Result<RingState, Fail> {
-    let mut prev = old_ring(alloc)?;
-    for number in 1..23u32 {
-        hear(alloc, &mut prev, number, 2, app(Service::Agreed))?;
-    }
-    Ok(prev)
-}
-
-/// The token of ring 8.1 of 1, who holds 22 messages and owed some to 3, and of 2, who has the aru 2.
-fn long_token(alloc: Global) -> Result<CommitToken, Fail> {
-    let mut members = Vec::new(alloc);
-    members.push(member(alloc, ProcId::of(1), four(), 22, 22, &[3])?)?;
-    members.push(member(alloc, ProcId::of(2), four(), 2, 2, &[])?)?;
-    token(eight(), members)
-}
-
-/// A recovery of 1, who holds messages 1 to 22 of ring 4.1; 2 has the aru 2. Before, 1 owed messages to 3.
-fn long_recovery(alloc: Global) -> Result<Recovery, Fail> {
-    begun(alloc, &long_ring(alloc)?, &long_token(alloc)?)
+/// Whether the process of a word such as `1:4.1` may begin from this ring of 1, 2 and 3, as 1 sees it, with these members.
+fn may_begin(alloc: Global, words: &str) -> Result<bool, Fail> {
+    let (word, members) = words.split_once(' ').unwrap_or((words, ""));
+    let prev = ring_with(alloc, proc(1), ring_of(part(word, 1)), "1-3")?;
+    let me = proc(part(word, 0).parse::<u16>().unwrap_or(0));
+    is_ready_for(alloc, me, &prev, members)
 }
 
 /// The number on the old ring that a body carries; 0 is a mark.
@@ -128,45 +64,26 @@ fn number_in(body: &Body) -> u32 {
     }
 }
 
-fn push_number(alloc: Global, text: &mut String, number: u32) -> Result<(), AllocError> {
-    text.push_str(format!(in alloc; " {number}")?.as_str())
-}
-
 fn push_numbers(alloc: Global, text: &mut String, bodies: &[Body]) -> Result<(), AllocError> {
     for body in bodies {
-        push_number(alloc, text, number_in(body))?;
+        push_number(alloc, text, u64::from(number_in(body)))?;
     }
     Ok(())
 }
 
-fn push_processes(
-    alloc: Global,
-    text: &mut String,
-    processes: &[ProcId],
-) -> Result<(), AllocError> {
-    for proc in processes {
-        push_number(alloc, text, u32::from(proc.number()))?;
-    }
-    Ok(())
-}
-
-fn push_truth(text: &mut String, holds: bool) -> Result<(), AllocError> {
-    text.push_str(if holds { " yes" } else { " no" })
-}
-
-fn to_all(number: u32, sender: u16, body: Body) -> Result<(To, Packet), Fail> {
-    Ok((
+fn to_all(number: u32, sender: u16, body: Body) -> (To, Packet) {
+    (
         To::All,
-        Packet::Message(message(eight(), number, sender, body)?),
-    ))
+        Packet::Message(message(ring(8), number, sender, body)),
+    )
 }
 
 /// What a visit of 1 sends: message 1 of 2, who asked for it, and the numbers from `first` on and below `end`.
-fn sent(alloc: Global, first: u32, end: u32) -> Result<RingOut, Fail> {
+fn sent(alloc: Global, first: u32, end: u32) -> Result<RingOut, AllocError> {
     let mut packets = Vec::new(alloc);
-    packets.push(to_all(1, 2, Body::Mark)?)?;
+    packets.push(to_all(1, 2, Body::Mark))?;
     for number in first..end {
-        packets.push(to_all(number, 1, app(Service::Agreed))?)?;
+        packets.push(to_all(number, 1, say(Service::Agreed)))?;
     }
     Ok(RingOut {
         packets,
@@ -182,14 +99,6 @@ struct Life {
 }
 
 impl Life {
-    /// The ring holds nothing yet.
-    fn new(alloc: Global) -> Result<Life, Fail> {
-        Ok(Life {
-            recovery: long_recovery(alloc)?,
-            ring: state(alloc, ProcId::of(1), eight(), &[1, 2])?,
-        })
-    }
-
     /// The list that goes on is that of a copy.
     fn copies(&mut self, alloc: Global) -> Result<(), AllocError> {
         let copy = self.recovery.try_clone(alloc)?;
@@ -205,7 +114,7 @@ impl Life {
     fn last(&self, alloc: Global, text: &mut String) -> Result<(), AllocError> {
         match self.recovery.last_mark(&self.ring) {
             None => text.push_str(" none"),
-            Some(number) => push_number(alloc, text, number),
+            Some(number) => push_number(alloc, text, u64::from(number)),
         }
     }
 
@@ -215,166 +124,120 @@ impl Life {
             "next" => self.next(alloc, text),
             "last" => self.last(alloc, text),
             "done" => push_truth(text, self.recovery.is_done(&self.ring)),
-            "owed" => push_processes(alloc, text, self.recovery.obligation().as_slice()),
+            "owed" => push_procs(alloc, text, self.recovery.obligation().as_slice()),
             _ => text.push_str(" no such word"),
         }
     }
 
-    /// A visit that sends these numbers is noted. Tells whether it is done.
-    fn visits(
-        &mut self,
-        alloc: Global,
-        text: &mut String,
-        first: u32,
-        end: u32,
-    ) -> Result<(), Fail> {
-        let out = sent(alloc, first, end)?;
-        let done = self.recovery.on_ring(&self.ring, &out);
-        Ok(push_truth(text, done)?)
+    /// A visit that sends the numbers of a word such as `2:18`, from 2 on and below 18, is noted. Tells whether it is done.
+    fn visits(&mut self, alloc: Global, text: &mut String, word: &str) -> Result<(), AllocError> {
+        let first = part(word, 0).parse::<u32>().unwrap_or(0);
+        let out = sent(alloc, first, part(word, 1).parse::<u32>().unwrap_or(0))?;
+        push_truth(text, self.recovery.on_ring(&self.ring, &out))
     }
 
-    /// A word with two numbers: a visit of these, or a message of this number that this process sent.
-    fn does(
-        &mut self,
-        alloc: Global,
-        text: &mut String,
-        verb: &str,
-        numbers: (u32, u16),
-    ) -> Result<(), Fail> {
-        let (number, other) = numbers;
-        match verb {
-            "visit" => self.visits(alloc, text, number, u32::from(other)),
-            "mark" => hear(alloc, &mut self.ring, number, other, Body::Mark),
-            "agreed" => hear(alloc, &mut self.ring, number, other, app(Service::Agreed)),
-            _ => Ok(text.push_str(" no such word")?),
-        }
-    }
-
-    fn word(&mut self, alloc: Global, text: &mut String, word: &str) -> Result<(), Fail> {
+    /// A visit, a message that comes, a copy that goes on, or what is asked.
+    fn does(&mut self, alloc: Global, text: &mut String, word: &str) -> Result<(), Fail> {
         match word.split_once(':') {
-            Some((verb, numbers)) => self.does(alloc, text, verb, pair(numbers)),
+            Some(("visit", numbers)) => Ok(self.visits(alloc, text, numbers)?),
+            Some((_, message)) => hear(alloc, &mut self.ring, message),
             None if word == "copy" => Ok(self.copies(alloc)?),
             None => Ok(self.asked(alloc, text, word)?),
         }
     }
 
-    /// The word, and what it tells.
-    fn tells(&mut self, alloc: Global, text: &mut String, word: &str) -> Result<(), Fail> {
-        text.push_str(word)?;
-        self.word(alloc, text, word)?;
-        Ok(text.push_str("; ")?)
+    /// Each word, and what it tells.
+    fn tells(&mut self, alloc: Global, words: &str) -> Result<String, Fail> {
+        let mut text = String::new(alloc);
+        for word in words.split_whitespace() {
+            text.push_str(word)?;
+            self.does(alloc, &mut text, word)?;
+            text.push_str("; ")?;
+        }
+        Ok(text)
     }
 }
 
-/// Two numbers with `:` between them.
-fn pair(numbers: &str) -> (u32, u16) {
-    let (first, second) = numbers.split_once(':').unwrap_or(("", ""));
+/// The messages 1 to 22 of 2.
+const LONG: &str =
+    "1:2 2:2 3:2 4:2 5:2 6:2 7:2 8:2 9:2 10:2 11:2 12:2 13:2 14:2 15:2 16:2 17:2 18:2 19:2 20:2 21:2 22:2";
+
+/// The recovery of 1, who holds messages 1 to 22 of ring 4.1; 2 has the aru 2. Before, 1 owed messages to 3.
+fn long_recovery(alloc: Global) -> Result<Recovery, Fail> {
+    let prev = old_ring(alloc, LONG)?;
+    begun(alloc, &prev, "1:4.1:22:22:3 2:4.1:2:2")
+}
+
+/// That recovery, with ring 8.1 of 1 and 2, which holds nothing yet: what these words do and tell.
+fn long(alloc: Global, words: &str) -> Result<String, Fail> {
+    let recovery = long_recovery(alloc)?;
+    let ring = ring_with(alloc, proc(1), ring(8), "1,2")?;
+    Life { recovery, ring }.tells(alloc, words)
+}
+
+fn shown<T: Display + Drop>(alloc: Global, answer: Result<T, Fail>) -> Result<String, Fail> {
+    match answer {
+        Ok(value) => Ok(format!(in alloc; "{value}")?),
+        Err(fault) => Err(fault),
+    }
+}
+
+pub(crate) fn told(alloc: Global, words: &str) -> Result<String, Fail> {
+    let (kind, rest) = words.split_once(' ').unwrap_or((words, ""));
+    match kind {
+        "handed" => shown(alloc, handed(alloc, rest)),
+        "may_begin" => shown(alloc, may_begin(alloc, rest)),
+        "left" => left(alloc, rest),
+        _ => long(alloc, rest),
+    }
+}
+
+pub(crate) const RECOVERIES: [Case; 13] = [
+    // a safe message is not handed up at once
+    ("handed 1:1 2:2 3:3:safe 4:1 5:2:safe 6:1 8:1 9:3", "2"),
+    // 3 is safe by 3 and 5 safe by 2, the others are agreed; there is a gap at 7
     (
-        first.parse::<u32>().unwrap_or(0),
-        second.parse::<u16>().unwrap_or(0),
-    )
-}
-
-/// What these words do and tell, each word and what it tells.
-fn told(alloc: Global, words: &str) -> Result<String, Fail> {
-    let mut life = Life::new(alloc)?;
-    let mut text = String::new(alloc);
-    for word in words.split_whitespace() {
-        life.tells(alloc, &mut text, word)?;
-    }
-    Ok(text)
-}
-
-#[test]
-fn a_long_list_is_sent_in_parts(rt: HostRuntime) -> Result<(), Fail> {
-    let text = told(rt.alloc(), "next visit:2:18 next")?;
-    assert_eq!(rt;
-        text.as_str(),
-        "next 3 4 5 6 7 8 9 10 11 12 13 14 15 16 17 18; visit:2:18 no; next 19 20 21 22 0; "
-    );
-    Ok(())
-}
-
-#[test]
-fn a_copy_goes_on_alike(rt: HostRuntime) -> Result<(), Fail> {
-    let text = told(rt.alloc(), "visit:2:18 copy next")?;
-    assert_eq!(rt; text.as_str(), "visit:2:18 no; copy; next 19 20 21 22 0; ");
-    Ok(())
-}
-
-#[test]
-fn what_is_asked_for_again_is_not_one_more(rt: HostRuntime) -> Result<(), Fail> {
-    let text = told(rt.alloc(), "visit:2:18 visit:15:20 next visit:20:23 next")?;
-    assert_eq!(rt;
-        text.as_str(),
-        "visit:2:18 no; visit:15:20 no; next 21 22 0; visit:20:23 no; next; "
-    );
-    Ok(())
-}
-
-/// There are two marks of 1, one of 2, and message 2 is not there.
-#[test]
-fn the_least_mark_counts(rt: HostRuntime) -> Result<(), Fail> {
-    let text = told(rt.alloc(), "mark:1:1 mark:3:2 mark:4:1 last done")?;
-    assert_eq!(rt;
-        text.as_str(),
-        "mark:1:1; mark:3:2; mark:4:1; last 3; done no; "
-    );
-    Ok(())
-}
-
-#[test]
-fn messages_are_owed_once_the_aru_is_at_the_marks(rt: HostRuntime) -> Result<(), Fail> {
-    let text = told(
-        rt.alloc(),
-        "mark:1:1 mark:3:2 mark:4:1 visit:2:2 owed agreed:2:2 visit:2:2 owed",
-    )?;
-    assert_eq!(rt;
-        text.as_str(),
-        "mark:1:1; mark:3:2; mark:4:1; visit:2:2 no; owed 3; agreed:2:2; visit:2:2 no; owed 1 2 3; "
-    );
-    Ok(())
-}
-
-/// Whether this process may begin from this ring of 1, 2 and 3, as 1 sees it.
-fn may_begin(alloc: Global, me: ProcId, old: RingId) -> Result<bool, Fail> {
-    let token = commit_token(alloc)?;
-    let prev = state(alloc, ProcId::of(1), old, &[1, 2, 3])?;
-    Ok(is_ready(me, &prev, &token))
-}
-
-#[test]
-fn a_recovery_may_not_begin(rt: HostRuntime) -> Result<(), Fail> {
-    assert_eq!(rt; may_begin(rt.alloc(), ProcId::of(1), four())?, true);
-    assert_eq!(rt; may_begin(rt.alloc(), ProcId::of(3), four())?, false);
-    assert_eq!(rt; may_begin(rt.alloc(), ProcId::of(1), eight())?, false);
-    Ok(())
-}
-
-/// The token of ring 8.1 of 1 alone, who owes messages to the processes from 2 on and below `end`.
-fn owing_token(alloc: Global, end: u16) -> Result<CommitToken, Fail> {
-    let mut owed = Vec::new(alloc);
-    for number in 2..end {
-        owed.push(number)?;
-    }
-    let mut members = Vec::new(alloc);
-    members.push(member(alloc, ProcId::of(1), four(), 0, 0, &owed)?)?;
-    token(eight(), members)
-}
-
-/// Whether 1 may begin with that token.
-fn may_owe(alloc: Global, end: u16) -> Result<bool, Fail> {
-    let token = owing_token(alloc, end)?;
-    let prev = old_ring(alloc)?;
-    Ok(is_ready(ProcId::of(1), &prev, &token))
-}
-
-#[test]
-fn an_obligation_has_at_most_32_processes(rt: HostRuntime) -> Result<(), Fail> {
-    assert_eq!(rt; may_owe(rt.alloc(), 33)?, true);
-    assert_eq!(rt; may_owe(rt.alloc(), 34)?, false);
-    Ok(())
-}
+        "left 1:1 2:2 3:3:safe 4:1 5:2:safe 6:1 8:1 9:3",
+        "dlv r4.1 4.1#3; dlv r4.1 4.1#4; conf t8.1/1 1 2; dlv t8.1/1 4.1#5; dlv t8.1/1 4.1#6; dlv t8.1/1 4.1#8; conf r8.1 1 2; ",
+    ),
+    // a mark of 3 writes no entry
+    (
+        "left 1:3:mark 2:2",
+        "dlv r4.1 4.1#2; conf t8.1/1 1 2; conf r8.1 1 2; ",
+    ),
+    // a long list is sent in parts
+    (
+        "long next visit:2:18 next",
+        "next 3 4 5 6 7 8 9 10 11 12 13 14 15 16 17 18; visit:2:18 no; next 19 20 21 22 0; ",
+    ),
+    // a copy goes on alike
+    (
+        "long visit:2:18 copy next",
+        "visit:2:18 no; copy; next 19 20 21 22 0; ",
+    ),
+    // what is asked for again is not one more
+    (
+        "long visit:2:18 visit:15:20 next visit:20:23 next",
+        "visit:2:18 no; visit:15:20 no; next 21 22 0; visit:20:23 no; next; ",
+    ),
+    // the least mark counts: there are two marks of 1, one of 2, and message 2 is not there
+    (
+        "long hear:1:1:mark hear:3:2:mark hear:4:1:mark last done",
+        "hear:1:1:mark; hear:3:2:mark; hear:4:1:mark; last 3; done no; ",
+    ),
+    // messages are owed once the aru is at the marks
+    (
+        "long hear:1:1:mark hear:3:2:mark hear:4:1:mark visit:2:2 owed hear:2:2 visit:2:2 owed",
+        "hear:1:1:mark; hear:3:2:mark; hear:4:1:mark; visit:2:2 no; owed 3; hear:2:2; visit:2:2 no; owed 1 2 3; ",
+    ),
+    // a recovery begins for a member, and from its ring
+    ("may_begin 1:4.1 1:4.1:6:2 2:4.1:6:3", "true"),
+    ("may_begin 3:4.1 1:4.1:6:2 2:4.1:6:3", "false"),
+    ("may_begin 1:8.1 1:4.1:6:2 2:4.1:6:3", "false"),
+    // an obligation has at most 32 processes, 1 among them
+    ("may_begin 1:4.1 1:4.1:0:0:2-32", "true"),
+    ("may_begin 1:4.1 1:4.1:0:0:2-33", "false"),
+];
 
 #[test]
 fn laws_do_nothing() {

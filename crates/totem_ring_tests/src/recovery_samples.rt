@@ -1,152 +1,167 @@
 //! Rings, messages and commit tokens for the tests, and the lines that entries are written as.
-use bytes::Bytes;
+use crate::values::{part, proc, procs, push, push_procs, say, set, state};
 use std::alloc::{AllocError, Global};
 use std::test::Fail;
 use totem_evs::Entry;
 use totem_ids::{ProcId, RingId, Service};
 use totem_packets::{
-    Body, CommitMember, CommitMembers, CommitToken, Message, Number, Payload, Processes, Report,
-    Round,
+    Body, CommitMember, CommitMembers, CommitToken, Message, Number, Report, Round,
 };
+use totem_recover::{Recovery, is_ready};
 use totem_ring::RingState;
 
-/// Ring 4.1, from which members 1 and 2 come.
-pub fn four() -> RingId {
+/// The ring of a text such as `4.1`.
+pub fn ring_of(text: &str) -> RingId {
+    let (seq, rep) = text.split_once('.').unwrap_or((text, ""));
     RingId {
-        seq: 4,
-        rep: ProcId::of(1),
+        seq: seq.parse::<u32>().unwrap_or(0).max(1),
+        rep: proc(rep.parse::<u16>().unwrap_or(0)),
     }
 }
 
-/// Ring 8.1.
-pub fn eight() -> RingId {
-    RingId {
-        seq: 8,
-        rep: ProcId::of(1),
-    }
-}
-
-pub fn proc(number: u16) -> Result<ProcId, Fail> {
-    Ok(ProcId::new(number).ok_or("a process")?)
-}
-
-pub fn procs(alloc: Global, numbers: &[u16]) -> Result<Vec<ProcId>, Fail> {
-    let mut list = Vec::new(alloc);
-    for number in numbers {
-        list.push(proc(*number)?)?;
-    }
-    Ok(list)
-}
-
-pub fn app(service: Service) -> Body {
-    Body::App {
-        service,
-        payload: Payload::of(Bytes::from_static(b"x")),
-    }
-}
-
-pub fn message(ring: RingId, number: u32, sender: u16, body: Body) -> Result<Message, Fail> {
-    let Some(number) = Number::new(number) else {
-        return Err("no number".into());
-    };
-    let Some(sender) = ProcId::new(sender) else {
-        return Err("no process".into());
-    };
-    Ok(Message {
+pub fn message(ring: RingId, number: u32, sender: u16, body: Body) -> Message {
+    Message {
         ring,
-        number,
-        sender,
+        number: Number::of(number.max(1)),
+        sender: proc(sender),
         body,
-    })
-}
-
-pub fn state(alloc: Global, me: ProcId, ring: RingId, members: &[u16]) -> Result<RingState, Fail> {
-    let members = procs(alloc, members)?;
-    if members.is_empty() {
-        return Err("no members".into());
     }
-    Ok(RingState::new(alloc, me, ring, &members)?)
 }
 
-/// A message comes.
-pub fn hear(
-    alloc: Global,
-    state: &mut RingState,
-    number: u32,
-    sender: u16,
-    body: Body,
-) -> Result<(), Fail> {
-    let message = message(state.ring(), number, sender, body)?;
+fn body(name: &str) -> Body {
+    match name {
+        "mark" => Body::Mark,
+        "safe" => say(Service::Safe),
+        _ => say(Service::Agreed),
+    }
+}
+
+/// The message of a word such as `3:2:safe` comes: number 3 of 2, safe.
+pub fn hear(alloc: Global, state: &mut RingState, word: &str) -> Result<(), Fail> {
+    let number = part(word, 0).parse::<u32>().unwrap_or(0);
+    let sender = part(word, 1).parse::<u16>().unwrap_or(0);
+    let message = message(state.ring(), number, sender, body(part(word, 2)));
     state.on_message(alloc, &message)?;
     Ok(())
 }
 
-/// Clients' messages come, each with its number, its sender and its service.
-pub fn hear_all(
-    alloc: Global,
-    state: &mut RingState,
-    messages: &[(u32, u16, Service)],
-) -> Result<(), Fail> {
-    for (number, sender, service) in messages {
-        hear(alloc, state, *number, *sender, app(*service))?;
+/// Clients' messages come, one a word.
+fn hear_all(alloc: Global, state: &mut RingState, words: &str) -> Result<(), Fail> {
+    for word in words.split_whitespace() {
+        hear(alloc, state, word)?;
     }
     Ok(())
 }
 
-/// The member's report: its old ring, its aru, what it delivered, to whom it owes messages.
-pub fn member(
-    alloc: Global,
-    number: ProcId,
-    ring: RingId,
-    aru: u32,
-    delivered: u32,
-    obligation: &[u16],
-) -> Result<CommitMember, Fail> {
-    let report = Report {
-        ring,
-        aru,
-        delivered,
-        obligation: Processes::new(procs(alloc, obligation)?)?,
-    };
+/// The member of a word such as `1:4.1:6:2:3`, with its report: it comes from ring 4.1, has the aru 6, delivered up to 2 and owes
+/// messages to 3.
+fn member(alloc: Global, word: &str) -> Result<CommitMember, AllocError> {
     Ok(CommitMember {
-        proc: number,
-        report: Some(report),
+        proc: proc(part(word, 0).parse::<u16>().unwrap_or(0)),
+        report: Some(Report {
+            ring: ring_of(part(word, 1)),
+            aru: part(word, 2).parse::<u32>().unwrap_or(0),
+            delivered: part(word, 3).parse::<u32>().unwrap_or(0),
+            obligation: set(alloc, part(word, 4))?,
+        }),
     })
 }
 
-pub fn token(ring: RingId, members: Vec<CommitMember>) -> Result<CommitToken, Fail> {
+fn members(alloc: Global, words: &str) -> Result<Vec<CommitMember>, AllocError> {
+    let mut list = Vec::new(alloc);
+    for word in words.split_whitespace() {
+        list.push(member(alloc, word)?)?;
+    }
+    Ok(list)
+}
+
+/// The token of this ring with these members, once all have reported.
+pub fn token(alloc: Global, ring: RingId, words: &str) -> Result<CommitToken, Fail> {
     Ok(CommitToken {
         ring,
         round: Round::Second,
-        members: CommitMembers::new(members)?,
+        members: CommitMembers::new(members(alloc, words)?)?,
     })
 }
 
-/// The entries as lines of a run's text, with `; ` for a line's end.
-pub fn lines(alloc: Global, entries: &[Entry]) -> Result<String, AllocError> {
-    let mut text = String::new(alloc);
-    for entry in entries {
-        push_line(alloc, &mut text, entry)?;
-        text.push_str("; ")?;
+/// A ring of these processes, seen by one who holds nothing yet.
+pub fn ring_with(
+    alloc: Global,
+    me: ProcId,
+    ring: RingId,
+    members: &str,
+) -> Result<RingState, AllocError> {
+    let procs = procs(alloc, members)?;
+    state(alloc, me, ring, &procs)
+}
+
+/// The same once these messages were heard.
+pub fn heard_ring(
+    alloc: Global,
+    me: ProcId,
+    ring: RingId,
+    members: &str,
+    messages: &str,
+) -> Result<RingState, Fail> {
+    let mut state = ring_with(alloc, me, ring, members)?;
+    hear_all(alloc, &mut state, messages)?;
+    Ok(state)
+}
+
+/// The recovery of `me` with the token of this ring and these members.
+pub fn begun_with(
+    alloc: Global,
+    me: ProcId,
+    prev: &RingState,
+    ring: RingId,
+    members: &str,
+) -> Result<Recovery, Fail> {
+    let token = token(alloc, ring, members)?;
+    begun(alloc, me, prev, &token)
+}
+
+fn begun(
+    alloc: Global,
+    me: ProcId,
+    prev: &RingState,
+    token: &CommitToken,
+) -> Result<Recovery, Fail> {
+    if !is_ready(me, prev, token) {
+        return Err("it may not begin".into());
     }
-    Ok(text)
+    Ok(Recovery::new(alloc, me, prev, token)?)
 }
 
 fn push_line(alloc: Global, text: &mut String, entry: &Entry) -> Result<(), AllocError> {
     match entry {
         Entry::Conf(conf, members) => {
-            text.push_str(format!(in alloc; "conf {conf}")?.as_str())?;
-            for proc in members.as_slice() {
-                text.push_str(format!(in alloc; " {proc}")?.as_str())?;
-            }
-            Ok(())
+            push(text, format!(in alloc; "conf {conf}"))?;
+            push_procs(alloc, text, members.as_slice())
         }
-        Entry::Deliver(message, conf) => {
-            text.push_str(format!(in alloc; "dlv {conf} {message}")?.as_str())
-        }
+        Entry::Deliver(message, conf) => push(text, format!(in alloc; "dlv {conf} {message}")),
         Entry::Send(message, conf, service) => {
-            text.push_str(format!(in alloc; "send {conf} {service} {message}")?.as_str())
+            push(text, format!(in alloc; "send {conf} {service} {message}"))
         }
-        Entry::Fail(conf) => text.push_str(format!(in alloc; "fail {conf}")?.as_str()),
+        Entry::Fail(conf) => push(text, format!(in alloc; "fail {conf}")),
     }
+}
+
+/// Adds the entries as lines of a run's text, with `; ` for a line's end.
+fn push_lines(alloc: Global, text: &mut String, entries: &[Entry]) -> Result<(), AllocError> {
+    for entry in entries {
+        push_line(alloc, text, entry)?;
+        text.push_str("; ")?;
+    }
+    Ok(())
+}
+
+/// Adds what is written as a ring is left.
+pub fn push_left(
+    alloc: Global,
+    text: &mut String,
+    recovery: &Recovery,
+    prev: &RingState,
+) -> Result<(), AllocError> {
+    let entries = recovery.finish(alloc, prev)?;
+    push_lines(alloc, text, &entries)
 }

@@ -1,64 +1,21 @@
 //! Members of a ring for the tests: what they do as words, and what is asked of them as text.
-use bytes::Bytes;
+use crate::values::{is_shown_alike, proc, procs, push, push_number, ring, say, state};
 use std::alloc::{AllocError, Global};
-use std::test::Fail;
 use totem_ids::{ProcId, RingId, Service};
-use totem_packets::{Body, Message, Packet, Payload, Token};
+use totem_packets::{Body, Message, Packet, Token};
 use totem_ring::{MOST_WAITING, RingFault, RingOut, RingState, RingUndo, To, first_token};
 
-pub fn proc(number: u16) -> ProcId {
-    ProcId::of(number.max(1))
-}
-
-/// A ring with the representative 1.
-pub fn ring(seq: u32) -> RingId {
-    RingId {
-        seq: seq.max(1),
-        rep: proc(1),
-    }
-}
-
-pub fn say(service: Service) -> Body {
-    Body::App {
-        service,
-        payload: Payload::of(Bytes::from_static(b"x")),
-    }
-}
-
-/// The processes from 1 to this one.
-fn procs(alloc: Global, last: u16) -> Result<Vec<ProcId>, AllocError> {
-    let mut list = Vec::new(alloc);
-    for value in 0..last {
-        list.push(proc(value.saturating_add(1)))?;
-    }
-    Ok(list)
-}
-
-/// A member of ring 4.1 of these processes.
-fn state(alloc: Global, me: ProcId, members: &[ProcId]) -> Result<RingState, Fail> {
-    if members.is_empty() {
-        return Err(Fail::from("no member"));
-    }
-    Ok(RingState::new(alloc, me, ring(4), members)?)
-}
-
-/// Member `me` of ring 4.1 of the processes 1 to `count`.
-pub fn member(alloc: Global, me: u16, count: u16) -> Result<RingState, Fail> {
-    let members = procs(alloc, count)?;
-    state(alloc, proc(me), &members)
-}
-
-/// The members of ring 4.1 of the processes 1 to `count`.
-fn members(alloc: Global, count: u16) -> Result<Vec<RingState>, Fail> {
+/// All members of ring 4.1 of these processes.
+fn members(alloc: Global, procs: &[ProcId]) -> Result<Vec<RingState>, AllocError> {
     let mut members = Vec::new(alloc);
-    for value in 0..count {
-        members.push(member(alloc, value.saturating_add(1), count)?)?;
+    for me in procs {
+        members.push(state(alloc, *me, ring(4), procs)?)?;
     }
     Ok(members)
 }
 
 /// A token's token_seq, seq, aru and aru_id, and the least number that it asks for; 0 is none.
-pub fn numbers_of(token: &Token) -> [u64; 5] {
+fn numbers_of(token: &Token) -> [u64; 5] {
     let aru_id = match token.aru_id {
         None => 0,
         Some(proc) => u64::from(proc.number()),
@@ -83,6 +40,17 @@ fn counts_of(state: &RingState) -> [u64; 4] {
         u64::from(state.my_aru()),
         u64::from(state.handed()),
         state.waiting().len() as u64,
+    ]
+}
+
+/// Who a member is, its ring's number and representative, and how many members the ring has.
+fn who(state: &RingState) -> [u64; 4] {
+    let ring = state.ring();
+    [
+        u64::from(state.me().number()),
+        u64::from(ring.seq),
+        u64::from(ring.rep.number()),
+        state.members().len() as u64,
     ]
 }
 
@@ -195,6 +163,7 @@ fn alone(alloc: Global, state: &mut RingState, word: &str) -> Told {
         "up" => Told::Count(u64::from(state.handed())),
         "waiting" => Told::Count(state.waiting().len() as u64),
         "counts" => Told::Counts(counts_of(state)),
+        "who" => Told::Counts(who(state)),
         _ => Told::Refusal("no such word"),
     }
 }
@@ -246,6 +215,17 @@ fn number(out: &RingOut) -> Told {
     }
 }
 
+/// 1, if what was sent and handed up and its copy show the same.
+fn shown(alloc: Global, out: &RingOut) -> Told {
+    let Ok(copy) = out.try_clone(alloc) else {
+        return Told::Refusal("no memory");
+    };
+    match is_shown_alike(alloc, out, &copy) {
+        Ok(is_alike) => Told::Count(u64::from(is_alike)),
+        Err(_) => Told::Refusal("no memory"),
+    }
+}
+
 /// The message gets this sender, or its ring gets this number.
 fn alter(out: &mut RingOut, word: &str, value: u16) -> Told {
     let Some(message) = message_in(out) else {
@@ -267,15 +247,13 @@ struct World {
 }
 
 impl World {
-    fn new(alloc: Global, count: u16) -> Result<World, Fail> {
+    fn new(alloc: Global, procs: &[ProcId]) -> Result<World, AllocError> {
+        let members = members(alloc, procs)?;
         let out = RingOut {
             packets: Vec::new(alloc),
             handed: Vec::new(alloc),
         };
-        Ok(World {
-            members: members(alloc, count)?,
-            out,
-        })
+        Ok(World { members, out })
     }
 
     fn takes(&mut self, answer: Result<RingOut, RingFault>) -> Told {
@@ -349,13 +327,11 @@ impl World {
             "next" => next(&self.out),
             "numbers" => numbers(&self.out),
             "number" => number(&self.out),
+            "shown" => shown(alloc, &self.out),
+            "fresh" => Told::Numbers(numbers_of(&first_token(alloc, ring(4)))),
             _ => self.alone(alloc, word, at),
         }
     }
-}
-
-fn push_number(alloc: Global, text: &mut String, number: u64) -> Result<(), AllocError> {
-    text.push_str(format!(in alloc; " {number}")?.as_str())
 }
 
 fn push_numbers(alloc: Global, text: &mut String, numbers: &[u64]) -> Result<(), AllocError> {
@@ -373,16 +349,15 @@ fn push_told(alloc: Global, text: &mut String, word: &str, told: Told) -> Result
     }
     match told {
         Told::Nothing => Ok(()),
-        Told::Refusal(name) => text.push_str(format!(in alloc; " {name}; ")?.as_str()),
+        Told::Refusal(name) => push(text, format!(in alloc; " {name}; ")),
         Told::Count(count) => push_numbers(alloc, text, &[count]),
         Told::Counts(counts) => push_numbers(alloc, text, &counts),
         Told::Numbers(numbers) => push_numbers(alloc, text, &numbers),
     }
 }
 
-/// The steps of members 1 to `count` of ring 4.1. A word is what is done, `:`, and the member's number.
-pub fn life(alloc: Global, count: u16, words: &str) -> Result<String, Fail> {
-    let mut world = World::new(alloc, count)?;
+/// What each word tells. A word is what is done, `:`, and the member's number.
+fn steps(alloc: Global, world: &mut World, words: &str) -> Result<String, AllocError> {
     let mut text = String::new(alloc);
     for word in words.split_whitespace() {
         let (verb, number) = word.split_once(':').unwrap_or((word, "0"));
@@ -390,4 +365,11 @@ pub fn life(alloc: Global, count: u16, words: &str) -> Result<String, Fail> {
         push_told(alloc, &mut text, word, told)?;
     }
     Ok(text)
+}
+
+/// The steps of the members of ring 4.1 of these processes.
+pub fn life(alloc: Global, members: &str, words: &str) -> Result<String, AllocError> {
+    let procs = procs(alloc, members)?;
+    let mut world = World::new(alloc, &procs)?;
+    steps(alloc, &mut world, words)
 }

@@ -1,184 +1,8 @@
 //! Rings by direct calls.
-use crate::ring_samples::{life, member, numbers_of, proc, ring, say};
+use crate::ring_samples::life;
+use crate::values::{Case, is_shown_alike, proc, push, ring};
 use std::alloc::{AllocError, Global};
-use std::test::Fail;
-use totem_ids::Service;
-use totem_ring::{Act, RingFault, RingMove, RingOut, first_token, one_order};
-
-#[test]
-fn a_new_member_knows_its_ring(rt: HostRuntime) -> Result<(), Fail> {
-    let two = member(rt.alloc(), 2, 3)?;
-    assert_eq!(rt;
-        (two.me(), two.ring(), two.members().len()),
-        (proc(2), ring(4), 3)
-    );
-    Ok(())
-}
-
-#[test]
-fn a_new_ring_holds_nothing(rt: HostRuntime) -> Result<(), Fail> {
-    let told = life(rt.alloc(), 3, "counts:2 resends:2")?;
-    assert_eq!(rt; told.as_str(), "counts:2 0 0 0 0; resends:2 0; ");
-    Ok(())
-}
-
-#[test]
-fn the_first_token_has_no_numbers(rt: HostRuntime) {
-    let alloc = rt.alloc();
-    assert_eq!(rt; numbers_of(&first_token(alloc, ring(4))), [1, 0, 0, 0, 0]);
-}
-
-/// In the first turn member 3 misses message 1.
-#[test]
-fn the_third_member_asks_for_what_was_lost(rt: HostRuntime) -> Result<(), Fail> {
-    let told = life(
-        rt.alloc(),
-        3,
-        "agreed:1 agreed:2 first:1 message:2 token:2 message:1 message:3 token:3 next numbers counts:1 counts:2 counts:3",
-    )?;
-    assert_eq!(rt;
-        told.as_str(),
-        "next 1; numbers 4 2 0 3 1; counts:1 2 2 2 0; counts:2 2 2 2 0; counts:3 1 0 0 0; "
-    );
-    Ok(())
-}
-
-#[test]
-fn what_was_lost_is_sent_again(rt: HostRuntime) -> Result<(), Fail> {
-    let told = life(
-        rt.alloc(),
-        3,
-        "agreed:1 agreed:2 first:1 message:2 token:2 message:1 message:3 token:3 token:1 number handed:3 counts:3",
-    )?;
-    assert_eq!(rt; told.as_str(), "number 1; handed:3 2; counts:3 2 2 2 0; ");
-    Ok(())
-}
-
-#[test]
-fn a_repeated_token_gives_no_number(rt: HostRuntime) -> Result<(), Fail> {
-    let told = life(
-        rt.alloc(),
-        2,
-        "agreed:1 first:1 agreed:1 first:1 counts:1 resend:1 next numbers",
-    )?;
-    assert_eq!(rt;
-        told.as_str(),
-        "first:1 Repeat; counts:1 1 1 1 1; next 2; numbers 2 1 1 0 0; "
-    );
-    Ok(())
-}
-
-#[test]
-fn a_safe_message_waits_for_the_second_visit(rt: HostRuntime) -> Result<(), Fail> {
-    let told = life(
-        rt.alloc(),
-        2,
-        "safe:1 first:1 message:2 token:2 up:1 up:2 token:1 up:1 up:2 token:2 up:1 up:2",
-    )?;
-    assert_eq!(rt;
-        told.as_str(),
-        "up:1 0; up:2 0; up:1 1; up:2 0; up:1 1; up:2 1; "
-    );
-    Ok(())
-}
-
-#[test]
-fn a_sign_of_arrival_ends_the_resending(rt: HostRuntime) -> Result<(), Fail> {
-    let told = life(
-        rt.alloc(),
-        2,
-        "agreed:2 first:1 resends:1 token:2 message:1 resends:1",
-    )?;
-    assert_eq!(rt; told.as_str(), "resends:1 1; resends:1 0; ");
-    Ok(())
-}
-
-#[test]
-fn what_is_adopted_is_held_and_not_handed_up(rt: HostRuntime) -> Result<(), Fail> {
-    let told = life(
-        rt.alloc(),
-        2,
-        "agreed:1 first:1 adopt:2 adopt:2 counts:2 copied:2",
-    )?;
-    assert_eq!(rt;
-        told.as_str(),
-        "adopt:2 Repeat; counts:2 1 1 0 0; copied:2 1 1 0 0; "
-    );
-    Ok(())
-}
-
-#[test]
-fn a_visit_is_taken_back(rt: HostRuntime) -> Result<(), Fail> {
-    let told = life(
-        rt.alloc(),
-        2,
-        "agreed:1 token_back:1 counts:1 resends:1 first:1 numbers",
-    )?;
-    assert_eq!(rt;
-        told.as_str(),
-        "token_back:1 1 1 1 0; counts:1 0 0 0 1; resends:1 0; numbers 2 1 1 0 0; "
-    );
-    Ok(())
-}
-
-#[test]
-fn a_message_and_a_mark_are_taken_back(rt: HostRuntime) -> Result<(), Fail> {
-    let told = life(
-        rt.alloc(),
-        2,
-        "agreed:1 first:1 message_back:2 counts:2 mark_back:2 counts:2",
-    )?;
-    assert_eq!(rt;
-        told.as_str(),
-        "message_back:2 1 1 1 0; counts:2 0 0 0 0; mark_back:2 0 0 0 1; counts:2 0 0 0 0; "
-    );
-    Ok(())
-}
-
-#[test]
-fn messages_are_refused_by_name(rt: HostRuntime) -> Result<(), Fail> {
-    let told = life(
-        rt.alloc(),
-        2,
-        "agreed:1 first:1 message:1 sender:3 message:2 ring:8 message:2 adopt:2 counts:2",
-    )?;
-    assert_eq!(rt;
-        told.as_str(),
-        "message:1 Repeat; message:2 Range; message:2 OtherRing; adopt:2 OtherRing; counts:2 0 0 0 0; "
-    );
-    Ok(())
-}
-
-#[test]
-fn tokens_are_refused_by_name(rt: HostRuntime) -> Result<(), Fail> {
-    let told = life(rt.alloc(), 2, "other:2 first:2")?;
-    assert_eq!(rt; told.as_str(), "other:2 OtherRing; first:2 Range; ");
-    Ok(())
-}
-
-/// What a member broadcasts and passes on at its first visit.
-fn visit(alloc: Global) -> Result<RingOut, Fail> {
-    let mut one = member(alloc, 1, 2)?;
-    one.submit(say(Service::Agreed))?;
-    Ok(one.on_token(alloc, &first_token(alloc, ring(4)))?)
-}
-
-fn shown_visit(alloc: Global) -> Result<String, Fail> {
-    let out = visit(alloc)?;
-    Ok(format!(in alloc; "{out:?}")?)
-}
-
-fn shown_copy_of_a_visit(alloc: Global) -> Result<String, Fail> {
-    let copy = visit(alloc)?.try_clone(alloc)?;
-    Ok(format!(in alloc; "{copy:?}")?)
-}
-
-#[test]
-fn what_was_sent_and_its_copy_show_the_same(rt: HostRuntime) -> Result<(), Fail> {
-    let shown = shown_visit(rt.alloc())?;
-    assert_eq!(rt; shown.as_str(), shown_copy_of_a_visit(rt.alloc())?.as_str());
-    Ok(())
-}
+use totem_ring::{Act, RingFault, RingMove, first_token, one_order};
 
 /// Member 1 takes the first token.
 fn step(alloc: Global) -> RingMove {
@@ -188,50 +12,116 @@ fn step(alloc: Global) -> RingMove {
     }
 }
 
-fn shown_step(alloc: Global) -> Result<String, AllocError> {
-    let step = step(alloc);
-    format!(in alloc; "{step:?}")
+fn is_copied(alloc: Global, step: &RingMove) -> Result<bool, AllocError> {
+    let copy = step.try_clone(alloc)?;
+    is_shown_alike(alloc, step, &copy)
 }
 
-fn shown_copy_of_a_step(alloc: Global) -> Result<String, AllocError> {
-    let copy = step(alloc).try_clone(alloc)?;
-    format!(in alloc; "{copy:?}")
+/// Whether a move and its copy show the same.
+fn is_move_copied(alloc: Global) -> Result<bool, AllocError> {
+    is_copied(alloc, &step(alloc))
 }
 
-#[test]
-fn a_move_and_its_copy_show_the_same(rt: HostRuntime) -> Result<(), Fail> {
-    let shown = shown_step(rt.alloc())?;
-    assert_eq!(rt; shown.as_str(), shown_copy_of_a_step(rt.alloc())?.as_str());
-    Ok(())
+fn copied_move(alloc: Global) -> Result<String, AllocError> {
+    let is_copied = is_move_copied(alloc)?;
+    format!(in alloc; "{is_copied}")
 }
 
-#[test]
-fn the_seventeenth_body_finds_no_room(rt: HostRuntime) -> Result<(), Fail> {
-    let told = life(rt.alloc(), 2, "fill:1 mark:1 waiting:1")?;
-    assert_eq!(rt; told.as_str(), "mark:1 Full; waiting:1 16; ");
-    Ok(())
-}
+const FAULTS: [RingFault; 5] = [
+    RingFault::OtherRing,
+    RingFault::Repeat,
+    RingFault::Range,
+    RingFault::Full,
+    RingFault::Memory,
+];
 
-#[test]
-fn faults_have_their_numbers_and_names(rt: HostRuntime) {
-    let faults = [
-        RingFault::OtherRing,
-        RingFault::Repeat,
-        RingFault::Range,
-        RingFault::Full,
-        RingFault::from(AllocError),
-    ];
-    let names = ["OtherRing", "Repeat", "Range", "Full", "Memory"];
-    for (at, (fault, name)) in faults.iter().zip(names.iter()).enumerate() {
-        assert_eq!(rt; fault.number() as usize, at + 1);
-        assert_eq!(rt; fault.name(), *name);
+/// What a fault means, what the want of memory is, and the numbers and the names of all faults.
+fn faults(alloc: Global) -> Result<String, AllocError> {
+    let memory = RingFault::from(AllocError).name();
+    let mut text = format!(in alloc; "{}; {memory}; ", RingFault::Full)?;
+    for fault in &FAULTS {
+        push(
+            &mut text,
+            format!(in alloc; "{} {}; ", fault.number(), fault.name()),
+        )?;
     }
-    one_order();
+    Ok(text)
 }
 
+/// The members of ring 4.1, and what they do.
+pub(crate) fn told(alloc: Global, words: &str) -> Result<String, AllocError> {
+    let (members, steps) = words.split_once(' ').unwrap_or((words, ""));
+    match members {
+        "faults" => faults(alloc),
+        "move" => copied_move(alloc),
+        _ => life(alloc, members, steps),
+    }
+}
+
+pub(crate) const RINGS: [Case; 16] = [
+    (
+        "faults",
+        "16 bodies wait; Memory; 1 OtherRing; 2 Repeat; 3 Range; 4 Full; 5 Memory; ",
+    ),
+    ("move", "true"),
+    // a new member knows its ring, and the first token has no numbers
+    ("1-3 who:2 fresh", "who:2 2 4 1 3; fresh 1 0 0 0 0; "),
+    // what was sent and its copy show the same
+    ("1-2 agreed:1 first:1 shown", "shown 1; "),
+    // a new ring holds nothing
+    ("1-3 counts:2 resends:2", "counts:2 0 0 0 0; resends:2 0; "),
+    // the third member asks for what was lost: in the first turn member 3 misses message 1.
+    (
+        "1-3 agreed:1 agreed:2 first:1 message:2 token:2 message:1 message:3 token:3 next numbers counts:1 counts:2 counts:3",
+        "next 1; numbers 4 2 0 3 1; counts:1 2 2 2 0; counts:2 2 2 2 0; counts:3 1 0 0 0; ",
+    ),
+    // what was lost is sent again
+    (
+        "1-3 agreed:1 agreed:2 first:1 message:2 token:2 message:1 message:3 token:3 token:1 number handed:3 counts:3",
+        "number 1; handed:3 2; counts:3 2 2 2 0; ",
+    ),
+    // a repeated token gives no number
+    (
+        "1-2 agreed:1 first:1 agreed:1 first:1 counts:1 resend:1 next numbers",
+        "first:1 Repeat; counts:1 1 1 1 1; next 2; numbers 2 1 1 0 0; ",
+    ),
+    // a safe message waits for the second visit
+    (
+        "1-2 safe:1 first:1 message:2 token:2 up:1 up:2 token:1 up:1 up:2 token:2 up:1 up:2",
+        "up:1 0; up:2 0; up:1 1; up:2 0; up:1 1; up:2 1; ",
+    ),
+    // a sign of arrival ends the resending
+    (
+        "1-2 agreed:2 first:1 resends:1 token:2 message:1 resends:1",
+        "resends:1 1; resends:1 0; ",
+    ),
+    // what is adopted is held and not handed up
+    (
+        "1-2 agreed:1 first:1 adopt:2 adopt:2 counts:2 copied:2",
+        "adopt:2 Repeat; counts:2 1 1 0 0; copied:2 1 1 0 0; ",
+    ),
+    // a visit is taken back
+    (
+        "1-2 agreed:1 token_back:1 counts:1 resends:1 first:1 numbers",
+        "token_back:1 1 1 1 0; counts:1 0 0 0 1; resends:1 0; numbers 2 1 1 0 0; ",
+    ),
+    // a message and a mark are taken back
+    (
+        "1-2 agreed:1 first:1 message_back:2 counts:2 mark_back:2 counts:2",
+        "message_back:2 1 1 1 0; counts:2 0 0 0 0; mark_back:2 0 0 0 1; counts:2 0 0 0 0; ",
+    ),
+    // messages are refused by name
+    (
+        "1-2 agreed:1 first:1 message:1 sender:3 message:2 ring:8 message:2 adopt:2 counts:2",
+        "message:1 Repeat; message:2 Range; message:2 OtherRing; adopt:2 OtherRing; counts:2 0 0 0 0; ",
+    ),
+    // tokens are refused by name
+    ("1-2 other:2 first:2", "other:2 OtherRing; first:2 Range; "),
+    // the seventeenth body finds no room
+    ("1-2 fill:1 mark:1 waiting:1", "mark:1 Full; waiting:1 16; "),
+];
+
 #[test]
-fn a_fault_shows_what_it_means(rt: HostRuntime) -> Result<(), Fail> {
-    let shown = format!(in rt.alloc(); "{}", RingFault::Full)?;
-    assert_eq!(rt; shown.as_str(), "16 bodies wait");
-    Ok(())
+fn laws_do_nothing() {
+    one_order();
 }

@@ -1,10 +1,11 @@
 //! A ring under loss, repetition and reordering.
 ghost use Rattle.std.specs.Prelude.{◌<◌};
 
+use crate::values::{procs, ring, state};
 use bytes::Bytes;
-use std::alloc::Global;
+use std::alloc::{AllocError, Global};
 use std::test::Fail;
-use totem_ids::{ProcId, RingId, Service};
+use totem_ids::Service;
 use totem_packets::{Body, Message, Packet, Payload};
 use totem_ring::{RingOut, RingState, first_token};
 
@@ -53,22 +54,8 @@ struct Member {
 }
 
 impl Member {
-    fn new(alloc: Global, me: ProcId, members: &[ProcId]) -> Result<Member, Fail> {
-        if members.is_empty() {
-            return Err(Fail::from("no member"));
-        }
-        let ring = RingId {
-            seq: 4,
-            rep: ProcId::of(1),
-        };
-        Ok(Member {
-            state: RingState::new(alloc, me, ring, members)?,
-            up: Vec::new(alloc),
-        })
-    }
-
     /// Notes what a step handed up, and adds what it sent.
-    fn note(&mut self, out: RingOut, sent: &mut Vec<Packet>) -> Result<(), Fail> {
+    fn note(&mut self, out: RingOut, sent: &mut Vec<Packet>) -> Result<(), AllocError> {
         for message in out.handed {
             self.up.push(message)?;
         }
@@ -84,7 +71,7 @@ impl Member {
         alloc: Global,
         packet: &Packet,
         sent: &mut Vec<Packet>,
-    ) -> Result<bool, Fail> {
+    ) -> Result<bool, AllocError> {
         let answer = match packet {
             Packet::Message(message) => self.state.on_message(alloc, message),
             Packet::Token(token) => self.state.on_token(alloc, token),
@@ -108,40 +95,46 @@ struct World {
     visits: u64,
 }
 
+/// All members, who hold nothing yet.
+fn members(alloc: Global) -> Result<Vec<Member>, AllocError> {
+    let procs = procs(alloc, "1-32")?;
+    let mut members = Vec::new(alloc);
+    for me in &procs {
+        members.push(Member {
+            state: state(alloc, *me, ring(4), &procs)?,
+            up: Vec::new(alloc),
+        })?;
+    }
+    Ok(members)
+}
+
 impl World {
-    fn new(alloc: Global) -> Result<World, Fail> {
-        let mut procs = Vec::new(alloc);
-        for number in 0..MEMBERS {
-            procs.push(ProcId::of(number + 1))?;
-        }
-        let mut members = Vec::new(alloc);
-        for proc in &procs {
-            members.push(Member::new(alloc, *proc, &procs)?)?;
-        }
-        let ring = RingId {
-            seq: 4,
-            rep: ProcId::of(1),
-        };
+    fn new(alloc: Global) -> Result<World, AllocError> {
         let mut sent = Vec::new(alloc);
-        sent.push(Packet::Token(first_token(alloc, ring)))?;
+        sent.push(Packet::Token(first_token(alloc, ring(4))))?;
         Ok(World {
-            members,
+            members: members(alloc)?,
             sent,
             newest: 0,
             visits: 0,
         })
     }
 
-    /// A packet comes to a member; whether it was taken. Either may be missing.
-    fn comes(&mut self, alloc: Global, at: usize, to: usize) -> Result<bool, Fail> {
+    /// A packet comes to a member; whether it was taken. The member may be missing.
+    fn hears(&mut self, alloc: Global, packet: &Packet, to: usize) -> Result<bool, AllocError> {
+        match self.members.get_mut(to) {
+            Some(member) => member.hear(alloc, packet, &mut self.sent),
+            None => Ok(false),
+        }
+    }
+
+    /// The same of a packet that was sent; it may be missing too.
+    fn comes(&mut self, alloc: Global, at: usize, to: usize) -> Result<bool, AllocError> {
         let packet = match self.sent.get(at) {
             Some(packet) => packet.try_clone(alloc)?,
             None => return Ok(false),
         };
-        let Some(member) = self.members.get_mut(to) else {
-            return Ok(false);
-        };
-        member.hear(alloc, &packet, &mut self.sent)
+        self.hears(alloc, &packet, to)
     }
 
     /// A member submits or sends its token again.
@@ -151,7 +144,7 @@ impl World {
         };
         if dice.roll(3) == 0 {
             let out = member.state.on_resend(alloc)?;
-            return member.note(out, &mut self.sent);
+            return Ok(member.note(out, &mut self.sent)?);
         }
         let byte = dice.roll(256) as u8;
         let service = dice.service();
@@ -160,7 +153,7 @@ impl World {
     }
 
     /// The newest token comes to the member whose turn it is, and what that one sends to most of the others.
-    fn turns(&mut self, alloc: Global, dice: &mut Dice) -> Result<(), Fail> {
+    fn turns(&mut self, alloc: Global, dice: &mut Dice) -> Result<(), AllocError> {
         let before = self.sent.len();
         let taker = (self.visits % u64::from(MEMBERS)) as usize;
         if !self.comes(alloc, self.newest, taker)? {
@@ -187,7 +180,7 @@ impl World {
                 let _ = self.comes(alloc, at, member)?;
                 Ok(())
             }
-            _ => self.turns(alloc, dice),
+            _ => Ok(self.turns(alloc, dice)?),
         }
     }
 }

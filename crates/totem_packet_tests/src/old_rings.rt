@@ -1,0 +1,143 @@
+//! What the reports of a commit token say of an old ring: members as words, and answers as text.
+use crate::packet_values::{Case, numbers, proc, push, push_made, push_procs, ring, set};
+use std::alloc::{AllocError, Global};
+use totem_packets::{CommitMember, CommitMembers, Processes, Report};
+
+/// The report of the old ring's number, up to where messages are held and up to where they were handed up; none where these
+/// three are not there.
+fn report(numbers: &[u32], obligation: Processes) -> Option<Report> {
+    let [seq, aru, delivered] = numbers else {
+        return None;
+    };
+    Some(Report {
+        ring: ring(*seq),
+        aru: *aru,
+        delivered: *delivered,
+        obligation,
+    })
+}
+
+/// The member of a word such as `2:4,7,5:1,3`: 2 comes from ring 4.1, holds all up to 7, handed up all up to 5, and is obliged for
+/// 1 and 3. The word `2` has no report.
+fn member(alloc: Global, word: &str) -> Result<CommitMember, AllocError> {
+    let (number, rest) = word.split_once(':').unwrap_or((word, ""));
+    let (reported, obligation) = rest.split_once(':').unwrap_or(("", ""));
+    let numbers = numbers(alloc, reported)?;
+    Ok(CommitMember {
+        proc: proc(number.parse::<u16>().unwrap_or(0)),
+        report: report(&numbers, set(alloc, obligation)?),
+    })
+}
+
+fn member_list(alloc: Global, words: &str) -> Result<Vec<CommitMember>, AllocError> {
+    let mut list = Vec::new(alloc);
+    for word in words.split_whitespace() {
+        list.push(member(alloc, word)?)?;
+    }
+    Ok(list)
+}
+
+/// How far the members have come that come from the old ring of this number, and how many they are obliged for.
+fn push_counts(
+    alloc: Global,
+    text: &mut String,
+    members: &CommitMembers,
+    old: u32,
+) -> Result<(), AllocError> {
+    let old = ring(old);
+    let aru = members.least_aru(&old);
+    let delivered = members.greatest_delivered(&old);
+    let obliged = members.obligation_len(&old);
+    push(text, format!(in alloc; " {aru} {delivered} {obliged}"))
+}
+
+fn push_truth(text: &mut String, holds: bool) -> Result<(), AllocError> {
+    text.push_str(if holds { " yes" } else { " no" })
+}
+
+fn push_all(alloc: Global, text: &mut String, members: &CommitMembers) -> Result<(), AllocError> {
+    let all = members.processes(alloc)?;
+    push_procs(alloc, text, all.as_slice())
+}
+
+/// Who comes from the old ring of this number.
+fn push_from(
+    alloc: Global,
+    text: &mut String,
+    members: &CommitMembers,
+    old: u32,
+) -> Result<(), AllocError> {
+    let from = members.transitional_set(alloc, &ring(old))?;
+    push_procs(alloc, text, from.as_slice())
+}
+
+/// Whether these are the members.
+fn push_are(
+    alloc: Global,
+    text: &mut String,
+    members: &CommitMembers,
+    given: &str,
+) -> Result<(), AllocError> {
+    let set = set(alloc, given)?;
+    push_truth(text, members.are(&set))
+}
+
+/// What is asked by a word, of these processes, of this one or of the old ring of this number.
+fn push_answer(
+    alloc: Global,
+    text: &mut String,
+    members: &CommitMembers,
+    asked: &str,
+    given: &str,
+) -> Result<(), AllocError> {
+    let number = given.parse::<u16>().unwrap_or(0);
+    let old = u32::from(number);
+    match asked {
+        "all" => push_all(alloc, text, members),
+        "are" => push_are(alloc, text, members, given),
+        "filled" => push_truth(text, members.is_filled()),
+        "from_four" => push_truth(text, members.is_from(&ring(4), proc(number))),
+        "counts" => push_counts(alloc, text, members, old),
+        "from" => push_from(alloc, text, members, old),
+        _ => push_made(alloc, text, members.obligation_union(alloc, &ring(old))),
+    }
+}
+
+/// What the members tell: each word, and its answer.
+fn answers(alloc: Global, members: &CommitMembers, words: &str) -> Result<String, AllocError> {
+    let mut text = String::new(alloc);
+    for word in words.split_whitespace() {
+        let (asked, given) = word.split_once(':').unwrap_or((word, ""));
+        text.push_str(word)?;
+        push_answer(alloc, &mut text, members, asked, given)?;
+        text.push_str("; ")?;
+    }
+    Ok(text)
+}
+
+/// The members, then `?` and what is asked.
+pub(crate) fn told(alloc: Global, words: &str) -> Result<String, AllocError> {
+    let (given, asked) = words.split_once('?').unwrap_or((words, ""));
+    match CommitMembers::new(member_list(alloc, given)?) {
+        Ok(members) => answers(alloc, &members, asked),
+        Err(refused) => format!(in alloc; "{refused}"),
+    }
+}
+
+pub(crate) const OLD_RINGS: [Case; 4] = [
+    // 1 and 3 come from ring 4.1, 2 from ring 8.1
+    (
+        "1:4,7,5:1,3,6 2:8,1,9:2,8 3:4,4,6:3,4 ? all from:4 obliged:4 are:1,2,3 are:1,2 are:1,2,4 filled",
+        "all 1 2 3; from:4 1 3; obliged:4 1 3 4 6; are:1,2,3 yes; are:1,2 no; are:1,2,4 no; filled yes; ",
+    ),
+    // the least that is held, the most that was handed up, and how many are obliged for
+    (
+        "1:4,7,5:1,3,6 2:8,1,9:2,8 3:4,4,6:3,4 ? from_four:3 from_four:2 counts:4 counts:12",
+        "from_four:3 yes; from_four:2 no; counts:4 4 6 4; counts:12 0 0 0; ",
+    ),
+    ("1 ? filled from:4", "filled no; from:4; "),
+    (
+        "1:4,0,0:10-34 2:4,0,0:30-54 ? counts:4 obliged:4",
+        "counts:4 0 0 47; obliged:4 there are more than 32 processes; ",
+    ),
+];

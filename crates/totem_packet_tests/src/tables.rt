@@ -1,0 +1,40 @@
+//! The tables of questions and answers, and the one test that goes over them.
+use crate::names::NAMES;
+use crate::old_rings::OLD_RINGS;
+use crate::packet_parts::PARTS;
+use crate::packet_values::Case;
+use crate::process_sets::SETS;
+use crate::streams::STREAMS;
+use crate::{names, old_rings, packet_parts, process_sets, streams};
+use std::alloc::{AllocError, Global};
+use std::test::Fail;
+
+/// The answer to a question on this topic.
+fn told(alloc: Global, topic: &str, words: &str) -> Result<String, AllocError> {
+    match topic {
+        "names" => names::answer(alloc, words),
+        "streams" => streams::told(alloc, words),
+        "parts" => packet_parts::told(alloc, words),
+        "sets" => process_sets::told(alloc, words),
+        _ => old_rings::told(alloc, words),
+    }
+}
+
+const TABLES: [(&str, &[Case]); 5] = [
+    ("names", &NAMES),
+    ("streams", &STREAMS),
+    ("parts", &PARTS),
+    ("sets", &SETS),
+    ("old rings", &OLD_RINGS),
+];
+
+#[test]
+fn questions_have_their_answers(rt: HostRuntime) -> Result<(), Fail> {
+    for (topic, cases) in &TABLES {
+        for (words, wanted) in *cases {
+            let told = told(rt.alloc(), topic, words)?;
+            assert_eq!(rt; told.as_str(), *wanted, "{topic}: {words}");
+        }
+    }
+    Ok(())
+}

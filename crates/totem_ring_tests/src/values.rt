@@ -1,0 +1,106 @@
+//! What the tests of several modules need.
+use bytes::Bytes;
+use std::alloc::{AllocError, Global};
+use std::fmt::Debug;
+use totem_ids::{ProcId, RingId, Service};
+use totem_packets::{Body, Payload, Processes};
+use totem_ring::RingState;
+
+/// What is done and asked, in words, and what is told then.
+pub type Case = (&'static str, &'static str);
+
+pub fn proc(number: u16) -> ProcId {
+    ProcId::of(number.max(1))
+}
+
+/// A ring with the representative 1.
+pub fn ring(seq: u32) -> RingId {
+    RingId {
+        seq: seq.max(1),
+        rep: proc(1),
+    }
+}
+
+/// Adds the process of a text such as `7`, or the processes of one such as `1-32`.
+fn push_range(list: &mut Vec<ProcId>, text: &str) -> Result<(), AllocError> {
+    let (low, high) = text.split_once('-').unwrap_or((text, text));
+    let last = high.parse::<u16>().unwrap_or(0);
+    for number in low.parse::<u16>().unwrap_or(0)..last.saturating_add(1) {
+        list.push(proc(number))?;
+    }
+    Ok(())
+}
+
+/// The processes of a text such as `1,5-7`; an empty one has none.
+pub fn procs(alloc: Global, text: &str) -> Result<Vec<ProcId>, AllocError> {
+    let mut list = Vec::new(alloc);
+    if !text.is_empty() {
+        for range in text.split(',') {
+            push_range(&mut list, range)?;
+        }
+    }
+    Ok(list)
+}
+
+/// The set of these processes; none, where they do not rise.
+pub fn set(alloc: Global, text: &str) -> Result<Processes, AllocError> {
+    match Processes::new(procs(alloc, text)?) {
+        Ok(set) => Ok(set),
+        Err(_) => Ok(Processes::none(alloc)),
+    }
+}
+
+/// The part of a word behind so many `:`.
+pub fn part(word: &str, at: usize) -> &str {
+    word.split(':').nth(at).unwrap_or("")
+}
+
+/// A client's body `x`.
+pub fn say(service: Service) -> Body {
+    Body::App {
+        service,
+        payload: Payload::of(Bytes::from_static(b"x")),
+    }
+}
+
+/// A member of a ring of these processes, or of itself where there are none. It holds nothing yet.
+pub fn state(
+    alloc: Global,
+    me: ProcId,
+    ring: RingId,
+    members: &[ProcId],
+) -> Result<RingState, AllocError> {
+    if members.is_empty() {
+        return RingState::new(alloc, me, ring, &[me]);
+    }
+    RingState::new(alloc, me, ring, members)
+}
+
+pub fn push_number(alloc: Global, text: &mut String, number: u64) -> Result<(), AllocError> {
+    push(text, format!(in alloc; " {number}"))
+}
+
+pub fn push_procs(alloc: Global, text: &mut String, procs: &[ProcId]) -> Result<(), AllocError> {
+    for proc in procs {
+        push_number(alloc, text, u64::from(proc.number()))?;
+    }
+    Ok(())
+}
+
+pub fn push_truth(text: &mut String, holds: bool) -> Result<(), AllocError> {
+    text.push_str(if holds { " yes" } else { " no" })
+}
+
+/// Whether both are shown by the same text.
+pub fn is_shown_alike<T: Debug>(alloc: Global, value: &T, other: &T) -> Result<bool, AllocError> {
+    let shown = format!(in alloc; "{value:?}")?;
+    Ok(shown == format!(in alloc; "{other:?}")?)
+}
+
+/// Adds a piece of text.
+pub fn push(text: &mut String, piece: Result<String, AllocError>) -> Result<(), AllocError> {
+    match piece {
+        Ok(piece) => text.push_str(piece.as_str()),
+        Err(fault) => Err(fault),
+    }
+}
