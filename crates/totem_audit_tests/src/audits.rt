@@ -1,277 +1,264 @@
-//! The audit of small runs, with the faults that docs/SPECIFICATIONS.md gives for them.
-ghost use Rattle.std.specs.Prelude.{◌<◌};
-
+//! The audit and the first passes of small runs, with the faults that docs/SPECIFICATIONS.md gives for them.
+use crate::values::{is_told, push_fault};
 use std::alloc::{AllocError, Global};
-use std::test::Fail;
 use totem_audit::{Verdict, Workers, audit};
-use totem_evs::{Entries, Entry, Log, Members, Run};
-use totem_ids::{ConfId, MsgId, ProcId, RingId, Service};
+use totem_evs::{Fault, Run, read_run};
+use totem_ids::FromRead;
+use totem_passes::{pass_a, pass_b};
+use totem_table::{Table, is_once, numbers_tell_confs, numbers_tell_messages};
 
-fn ring(seq: u32) -> RingId
-    requires { 0 < seq }
-{
-    RingId {
-        seq,
-        rep: ProcId::of(1),
+/// Each fault, with `; ` in front.
+fn push_faults(text: &mut String, faults: &[Fault]) -> Result<(), AllocError> {
+    for fault in faults {
+        text.push_str("; ")?;
+        push_fault(text, fault)?;
     }
+    Ok(())
 }
 
-fn regular(seq: u32) -> ConfId
-    requires { 0 < seq }
-{
-    ConfId::Regular(ring(seq))
-}
-
-fn transitional(next: u32) -> ConfId
-    requires { 0 < next }
-{
-    ConfId::Transitional {
-        next: ring(next),
-        least: ProcId::of(1),
-    }
-}
-
-fn message(number: u32) -> MsgId
-    requires { 0 < number }
-{
-    MsgId {
-        ring: ring(4),
-        number,
-    }
-}
-
-fn procs(alloc: Global, numbers: &[u16]) -> Result<Vec<ProcId>, AllocError> {
-    let mut list = Vec::new(alloc);
-    for number in numbers {
-        if let Some(proc) = ProcId::new(*number) {
-            list.push(proc)?;
+fn push_verdict(text: &mut String, verdict: &Verdict) -> Result<(), AllocError> {
+    match verdict {
+        Verdict::Yes { .. } => text.push_str("yes"),
+        Verdict::No { faults } => {
+            text.push_str("no")?;
+            push_faults(text, faults)
         }
     }
-    Ok(list)
 }
 
-fn change(alloc: Global, conf: ConfId, members: &[u16]) -> Result<Entry, Fail> {
-    Ok(Entry::Conf(conf, Members::new(procs(alloc, members)?)?))
+/// A copy of the run's verdict.
+fn copied_verdict(alloc: Global, run: &Run) -> Result<Verdict, AllocError> {
+    audit(alloc, run)?.try_clone(alloc)
 }
 
-fn send(number: u32) -> Entry
-    requires { 0 < number }
-{
-    Entry::Send(message(number), regular(4), Service::Agreed)
+fn push_audit(alloc: Global, text: &mut String, run: &Run) -> Result<(), AllocError> {
+    push_verdict(text, &copied_verdict(alloc, run)?)
 }
 
-fn deliver(number: u32) -> Entry
-    requires { 0 < number }
-{
-    Entry::Deliver(message(number), regular(4))
-}
-
-/// What the audit says of the run in which process 1 records the first entries, and process 2 the others, if any.
-fn report(alloc: Global, first: Vec<Entry>, second: Vec<Entry>) -> Result<String, Fail> {
-    let mut logs = Vec::new(alloc);
-    logs.push(Log::new(ProcId::of(1), Entries::new(first)?))?;
-    if !second.is_empty() {
-        logs.push(Log::new(ProcId::of(2), Entries::new(second)?))?;
+/// The audit of the run's first log alone.
+fn push_audit_of_first(alloc: Global, text: &mut String, run: Run) -> Result<(), AllocError> {
+    let mut logs = run.into_logs();
+    logs.truncate(1);
+    match Run::new(logs) {
+        Ok(run) => push_audit(alloc, text, &run),
+        Err(refused) => write!(text, "{refused}"),
     }
-    let run = Run::new(logs)?;
-    let verdict = audit(alloc, &run)?.try_clone(alloc)?;
-    let Verdict::No { faults } = verdict else {
-        return Ok(format!(in alloc; "yes")?);
+}
+
+fn push_passes(alloc: Global, text: &mut String, run: &Run) -> Result<(), AllocError> {
+    text.push_str("a")?;
+    push_faults(text, &pass_a(alloc, run)?)?;
+    text.push_str(" b")?;
+    push_faults(text, &pass_b(alloc, run)?)
+}
+
+/// Whether each message is sent once and delivered once in each log, and the numbers of the entries, log by log.
+fn push_numbers(alloc: Global, text: &mut String, run: &Run) -> Result<(), AllocError> {
+    let Some(table) = Table::build(alloc, run)? else {
+        return text.push_str("no table");
     };
-    let mut text = format!(in alloc; "no")?;
-    for fault in &faults {
-        text.push_str(format!(in alloc; "; {}", fault.spec)?.as_str())?;
-        for place in fault.places.as_slice() {
-            text.push_str(format!(in alloc; " {place}")?.as_str())?;
+    numbers_tell_messages(run, &table);
+    numbers_tell_confs(run, &table);
+    let once = is_once(alloc, run, &table)?;
+    write!(text, "{once}")?;
+    for row in &table.rows {
+        text.push_str(";")?;
+        for number in row.as_slice() {
+            write!(text, " {number}")?;
         }
+    }
+    Ok(())
+}
+
+/// Who judges a run: the audit, the audit of its first log alone, the first two passes, or the table of its numbers.
+enum Judge {
+    Audit,
+    AuditOfFirst,
+    Passes,
+    Numbers,
+}
+
+fn push_judged(
+    alloc: Global,
+    text: &mut String,
+    run: Run,
+    judge: &Judge,
+) -> Result<(), AllocError> {
+    match judge {
+        Judge::Audit => push_audit(alloc, text, &run),
+        Judge::AuditOfFirst => push_audit_of_first(alloc, text, run),
+        Judge::Passes => push_passes(alloc, text, &run),
+        Judge::Numbers => push_numbers(alloc, text, &run),
+    }
+}
+
+/// What is said of the run of these logs, or why there is no such run.
+fn told(alloc: Global, logs: &str, judge: &Judge) -> Result<String, AllocError> {
+    let bytes = format!(in alloc; "totem-run 1\n{logs}end\n")?;
+    let mut text = String::new(alloc);
+    match read_run(alloc, &mut FromRead::new(bytes.as_bytes())) {
+        Ok(run) => push_judged(alloc, &mut text, run, judge)?,
+        Err(fault) => text.push_str(fault.name())?,
     }
     Ok(text)
 }
 
+/// What holds, the logs of a run, and what is said of it.
+struct Row {
+    rule: &'static str,
+    logs: &'static str,
+    judge: Judge,
+    told: &'static str,
+}
+
+const RUNS: [Row; 20] = [
+    Row {
+        rule: "the numbers of messages and configurations are in their order",
+        logs: "log 1\nconf r4.1 1 2\nsend r4.1 a 4.1#2\nsend r4.1 a 4.1#1\ndlv r4.1 4.1#2\nopen\n\
+        log 2\nconf r4.1 1 2\ndlv r4.1 4.1#1\ndlv r4.1 4.1#2\nfail r4.1\nfailed\n",
+        judge: Judge::Numbers,
+        told: "true; 0 1 0 1; 0 0 1 0",
+    },
+    Row {
+        rule: "a message that is delivered twice is not delivered once",
+        logs: "log 1\nconf r4.1 1\nsend r4.1 a 4.1#1\ndlv r4.1 4.1#1\ndlv r4.1 4.1#1\nopen\n",
+        judge: Judge::Numbers,
+        told: "false; 0 0 0 0",
+    },
+    Row {
+        rule: "a good run",
+        logs: "log 1\nconf r4.1 1 2\nsend r4.1 a 4.1#1\nconf t8.1/1 1 2\ndlv t8.1/1 4.1#1\nconf r8.1 1 2\nfail r8.1\nfailed\n\
+        log 2\nconf r4.1 1 2\nconf t8.1/1 1 2\ndlv t8.1/1 4.1#1\nopen\n",
+        judge: Judge::Audit,
+        told: "yes",
+    },
+    Row {
+        rule: "deliveries on both sides of a change",
+        logs: "log 1\nconf r4.1 1 2\nsend r4.1 a 4.1#1\ndlv r4.1 4.1#1\nconf t8.1/1 1 2\nconf r8.1 1 2\nopen\n\
+        log 2\nconf r4.1 1 2\nconf t8.1/1 1 2\ndlv t8.1/1 4.1#1\nconf r8.1 1 2\nopen\n",
+        judge: Judge::Audit,
+        told: "no; 6.1 1@3 1@4 2@2 2@3",
+    },
+    Row {
+        rule: "a delivery of what was not sent",
+        logs: "log 1\nconf r4.1 1 2\nopen\n\
+        log 2\nconf r4.1 1 2\ndlv r4.1 4.1#1\nopen\n",
+        judge: Judge::Audit,
+        told: "no; 1.3 2@2",
+    },
+    Row {
+        rule: "a delivery once more, two changes later",
+        logs: "log 1\nconf r4.1 1\nsend r4.1 a 4.1#1\ndlv r4.1 4.1#1\nconf t8.1/1 1\nconf r8.1 1\nconf t12.1/1 1\ndlv t12.1/1 4.1#1\nopen\n",
+        judge: Judge::Audit,
+        told: "no; 1.4 1@3 1@7",
+    },
+    Row {
+        rule: "two sends of one process",
+        logs: "log 1\nconf r4.1 1\nsend r4.1 a 4.1#1\nsend r4.1 a 4.1#1\nopen\n",
+        judge: Judge::Audit,
+        told: "no; 1.4 1@2 1@3",
+    },
+    Row {
+        rule: "two sends of two processes",
+        logs: "log 1\nconf r4.1 1 2\nsend r4.1 a 4.1#1\nsend r4.1 a 4.1#2\nopen\n\
+        log 2\nconf r4.1 1 2\nsend r4.1 a 4.1#3\nsend r4.1 a 4.1#2\ndlv r4.1 4.1#2\nopen\n",
+        judge: Judge::Audit,
+        told: "no; 1.4 1@3 2@3",
+    },
+    Row {
+        rule: "a send in a transitional configuration",
+        logs: "log 1\nconf r4.1 1\nconf t8.1/1 1\nsend t8.1/1 s 4.1#1\nopen\n",
+        judge: Judge::Audit,
+        told: "no; 1.4 1@3",
+    },
+    Row {
+        rule: "a send behind a failure",
+        logs: "log 1\nconf r4.1 1\nfail r4.1\nsend r4.1 a 4.1#1\nopen\n",
+        judge: Judge::Audit,
+        told: "no; 2.2 1@3",
+    },
+    Row {
+        rule: "a delivery in another configuration than it says",
+        logs: "log 1\nconf r8.1 1\ndlv r4.1 4.1#1\nopen\n",
+        judge: Judge::Audit,
+        told: "no; 2.2 1@2",
+    },
+    Row {
+        rule: "one configuration with two lists of members",
+        logs: "log 1\nconf r4.1 1 2\nopen\n\
+        log 2\nconf r4.1 2\nopen\n",
+        judge: Judge::Audit,
+        told: "no; 2.3 1@1 2@1",
+    },
+    Row {
+        rule: "a configuration without the process itself",
+        logs: "log 1\nconf r4.1 2\nopen\n\
+        log 2\nconf r4.1 2\nopen\n",
+        judge: Judge::AuditOfFirst,
+        told: "no; 2.3 1@1",
+    },
+    Row {
+        rule: "a regular configuration behind a regular one",
+        logs: "log 1\nconf r4.1 1\nconf r8.1 1\nopen\n",
+        judge: Judge::Audit,
+        told: "no; 2.4 1@1 1@2",
+    },
+    Row {
+        rule: "a transitional configuration first",
+        logs: "log 1\nconf t8.1/1 1\nconf r8.1 1\nopen\n",
+        judge: Judge::Audit,
+        told: "no; 2.4 1@1",
+    },
+    Row {
+        rule: "one transitional configuration behind two regular ones",
+        logs: "log 1\nconf r4.1 1 2\nconf t8.1/1 1 2\nconf r8.1 1 2\nopen\n\
+        log 2\nconf r5.1 1 2\nconf t8.1/1 1 2\nconf r8.1 1 2\nopen\n",
+        judge: Judge::Audit,
+        told: "no; 2.4 1@1 1@2 2@1 2@2",
+    },
+    Row {
+        rule: "the faults of a pass stand in order",
+        logs: "log 1\nconf r4.1 2\nfail r4.1\nsend r4.1 a 4.1#1\nsend r4.1 a 4.1#1\nconf r8.1 1\nopen\n\
+        log 2\nconf r4.1 2\nopen\n",
+        judge: Judge::AuditOfFirst,
+        told: "no; 1.4 1@3 1@4; 2.2 1@3; 2.3 1@1; 2.4 1@1 1@5",
+    },
+    Row {
+        rule: "sent and delivered once",
+        logs: "log 1\nconf r4.1 1\nsend r4.1 a 4.1#1\nconf t8.1/1 1\ndlv t8.1/1 4.1#1\nopen\n",
+        judge: Judge::Passes,
+        told: "a b",
+    },
+    Row {
+        rule: "sent twice",
+        logs: "log 1\nconf r4.1 1\nsend r4.1 a 4.1#1\nsend r4.1 a 4.1#1\nconf t8.1/1 1\ndlv t8.1/1 4.1#1\nopen\n",
+        judge: Judge::Passes,
+        told: "a; 1.4 1@2 1@3 b",
+    },
+    Row {
+        rule: "not sent",
+        logs: "log 1\nconf r4.1 1\nconf t8.1/1 1\ndlv t8.1/1 4.1#1\nopen\n",
+        judge: Judge::Passes,
+        told: "a b; 1.3 1@3",
+    },
+];
+
 #[test]
-fn a_good_run_gets_a_yes(rt: HostRuntime) -> Result<(), Fail> {
-    let alloc = rt.alloc();
-    let first = vec![in alloc;
-        change(alloc, regular(4), &[1, 2])?,
-        send(1),
-        change(alloc, transitional(8), &[1, 2])?,
-        Entry::Deliver(message(1), transitional(8)),
-        change(alloc, regular(8), &[1, 2])?,
-        Entry::Fail(regular(8)),
-    ]?;
-    let second = vec![in alloc;
-        change(alloc, regular(4), &[1, 2])?,
-        change(alloc, transitional(8), &[1, 2])?,
-        Entry::Deliver(message(1), transitional(8)),
-    ]?;
-    assert_eq!(rt; report(alloc, first, second)?.as_str(), "yes");
+fn small_runs_are_judged(rt: HostRuntime) -> Result<(), AllocError> {
+    for row in &RUNS {
+        let told = told(rt.alloc(), row.logs, &row.judge)?;
+        is_told(&rt, &told, row.told, row.rule);
+    }
     Ok(())
 }
 
-#[test]
-fn deliveries_on_both_sides_of_a_change_break_6_1(rt: HostRuntime) -> Result<(), Fail> {
-    let alloc = rt.alloc();
-    let first = vec![in alloc;
-        change(alloc, regular(4), &[1, 2])?,
-        send(1),
-        deliver(1),
-        change(alloc, transitional(8), &[1, 2])?,
-        change(alloc, regular(8), &[1, 2])?,
-    ]?;
-    let second = vec![in alloc;
-        change(alloc, regular(4), &[1, 2])?,
-        change(alloc, transitional(8), &[1, 2])?,
-        Entry::Deliver(message(1), transitional(8)),
-        change(alloc, regular(8), &[1, 2])?,
-    ]?;
-    assert_eq!(rt;
-        report(alloc, first, second)?.as_str(),
-        "no; 6.1 1@3 1@4 2@2 2@3"
-    );
-    Ok(())
-}
-
-#[test]
-fn what_was_not_sent_breaks_1_3(rt: HostRuntime) -> Result<(), Fail> {
-    let alloc = rt.alloc();
-    let first = vec![in alloc; change(alloc, regular(4), &[1, 2])?]?;
-    let second = vec![in alloc; change(alloc, regular(4), &[1, 2])?, deliver(1)]?;
-    assert_eq!(rt; report(alloc, first, second)?.as_str(), "no; 1.3 2@2");
-    let first = vec![in alloc;
-        change(alloc, regular(4), &[1])?,
-        send(1),
-        deliver(1),
-        change(alloc, transitional(8), &[1])?,
-        change(alloc, regular(8), &[1])?,
-        change(alloc, transitional(12), &[1])?,
-        Entry::Deliver(message(1), transitional(12)),
-    ]?;
-    assert_eq!(rt;
-        report(alloc, first, Vec::new(alloc))?.as_str(),
-        "no; 1.4 1@3 1@7"
-    );
-    Ok(())
-}
-
-#[test]
-fn what_happens_twice_breaks_1_4(rt: HostRuntime) -> Result<(), Fail> {
-    let alloc = rt.alloc();
-    let first = vec![in alloc; change(alloc, regular(4), &[1])?, send(1), send(1)]?;
-    assert_eq!(rt;
-        report(alloc, first, Vec::new(alloc))?.as_str(),
-        "no; 1.4 1@2 1@3"
-    );
-    let first = vec![in alloc; change(alloc, regular(4), &[1, 2])?, send(1), send(2)]?;
-    let second = vec![in alloc;
-        change(alloc, regular(4), &[1, 2])?,
-        send(3),
-        send(2),
-        deliver(2),
-    ]?;
-    assert_eq!(rt; report(alloc, first, second)?.as_str(), "no; 1.4 1@3 2@3");
-    let first = vec![in alloc;
-        change(alloc, regular(4), &[1])?,
-        change(alloc, transitional(8), &[1])?,
-        Entry::Send(message(1), transitional(8), Service::Safe),
-    ]?;
-    assert_eq!(rt;
-        report(alloc, first, Vec::new(alloc))?.as_str(),
-        "no; 1.4 1@3"
-    );
-    Ok(())
-}
-
-#[test]
-fn what_stands_elsewhere_breaks_2_2(rt: HostRuntime) -> Result<(), Fail> {
-    let alloc = rt.alloc();
-    let first = vec![in alloc;
-        change(alloc, regular(4), &[1])?,
-        Entry::Fail(regular(4)),
-        send(1),
-    ]?;
-    assert_eq!(rt;
-        report(alloc, first, Vec::new(alloc))?.as_str(),
-        "no; 2.2 1@3"
-    );
-    let first = vec![in alloc; change(alloc, regular(8), &[1])?, deliver(1)]?;
-    assert_eq!(rt;
-        report(alloc, first, Vec::new(alloc))?.as_str(),
-        "no; 2.2 1@2"
-    );
-    Ok(())
-}
-
-#[test]
-fn one_configuration_in_two_forms_breaks_2_3(rt: HostRuntime) -> Result<(), Fail> {
-    let alloc = rt.alloc();
-    let first = vec![in alloc; change(alloc, regular(4), &[1, 2])?]?;
-    let second = vec![in alloc; change(alloc, regular(4), &[2])?]?;
-    assert_eq!(rt; report(alloc, first, second)?.as_str(), "no; 2.3 1@1 2@1");
-    let first = vec![in alloc; change(alloc, regular(4), &[2])?]?;
-    assert_eq!(rt;
-        report(alloc, first, Vec::new(alloc))?.as_str(),
-        "no; 2.3 1@1"
-    );
-    Ok(())
-}
-
-#[test]
-fn wrong_turns_break_2_4(rt: HostRuntime) -> Result<(), Fail> {
-    let alloc = rt.alloc();
-    let first = vec![in alloc;
-        change(alloc, regular(4), &[1])?,
-        change(alloc, regular(8), &[1])?,
-    ]?;
-    assert_eq!(rt;
-        report(alloc, first, Vec::new(alloc))?.as_str(),
-        "no; 2.4 1@1 1@2"
-    );
-    let first = vec![in alloc;
-        change(alloc, transitional(8), &[1])?,
-        change(alloc, regular(8), &[1])?,
-    ]?;
-    assert_eq!(rt;
-        report(alloc, first, Vec::new(alloc))?.as_str(),
-        "no; 2.4 1@1"
-    );
-    let first = vec![in alloc;
-        change(alloc, regular(4), &[1, 2])?,
-        change(alloc, transitional(8), &[1, 2])?,
-        change(alloc, regular(8), &[1, 2])?,
-    ]?;
-    let second = vec![in alloc;
-        change(alloc, regular(5), &[1, 2])?,
-        change(alloc, transitional(8), &[1, 2])?,
-        change(alloc, regular(8), &[1, 2])?,
-    ]?;
-    assert_eq!(rt;
-        report(alloc, first, second)?.as_str(),
-        "no; 2.4 1@1 1@2 2@1 2@2"
-    );
-    Ok(())
-}
-
-#[test]
-fn a_pass_lists_each_specification_in_order(rt: HostRuntime) -> Result<(), Fail> {
-    let alloc = rt.alloc();
-    let first = vec![in alloc;
-        change(alloc, regular(4), &[2])?,
-        Entry::Fail(regular(4)),
-        send(1),
-        send(1),
-        change(alloc, regular(8), &[1])?,
-    ]?;
-    assert_eq!(rt;
-        report(alloc, first, Vec::new(alloc))?.as_str(),
-        "no; 1.4 1@3 1@4; 2.2 1@3; 2.3 1@1; 2.4 1@1 1@5"
-    );
-    Ok(())
+fn counted(count: u32) -> Option<u32> {
+    Some(Workers::new(count)?.count())
 }
 
 #[test]
 fn workers_are_1_to_64(rt: HostRuntime) {
-    assert!(rt; Workers::new(0).is_none());
-    assert!(rt; Workers::new(65).is_none());
+    let counts = [counted(0), counted(1), counted(64), counted(65)];
+    assert_eq!(rt; counts, [None, Some(1), Some(64), None]);
     assert_eq!(rt; Workers::new(1), Some(Workers::one()));
-    assert_eq!(rt; Workers::new(64).map(|workers| workers.count()), Some(64));
 }

@@ -1,156 +1,251 @@
 //! Runs and certificates from their texts, and what the checker says of them.
-use std::alloc::Global;
-use std::test::Fail;
+use crate::values::{is_told, push_fault};
+use std::alloc::{AllocError, Global};
 use totem_cert::{Certificate, read_cert};
-use totem_check::{CertificateFault, CheckFault, certified, check};
-use totem_evs::{Run, SpecNo, read_run};
-use totem_ids::{FromRead, Place, ProcId};
+use totem_check::{Accepted, CertificateFault, CheckFault, certified, check};
+use totem_evs::{Run, read_run};
+use totem_ids::FromRead;
 
-const RUN: &str = "totem-run 1\n\
-    log 1\nconf r4.1 1 2\nsend r4.1 a 4.1#1\ndlv r4.1 4.1#1\nopen\n\
-    log 2\nconf r4.1 1 2\ndlv r4.1 4.1#1\nopen\n\
-    end\n";
-
-const TWO_SENDS: &str = "totem-run 1\n\
-    log 1\nconf r4.1 1 2\nsend r4.1 a 4.1#1\nopen\n\
-    log 2\nconf r4.1 1 2\nsend r4.1 a 4.1#2\nopen\n\
-    end\n";
-
-fn run_of(alloc: Global, text: &str) -> Result<Run, Fail> {
-    let mut source = FromRead::new(text.as_bytes());
-    Ok(read_run(alloc, &mut source)?)
-}
-
-fn certificate_of(alloc: Global, first: &str, second: &str) -> Result<Certificate, Fail> {
-    let text = format!(in alloc; "totem-cert 1\npos {first}\npos {second}\nend\n")?;
-    let mut source = FromRead::new(text.as_bytes());
-    Ok(read_cert(alloc, &mut source)?)
-}
-
-#[test]
-fn a_run_is_accepted(rt: HostRuntime) -> Result<(), Fail> {
-    let alloc = rt.alloc();
-    let run = run_of(alloc, RUN)?;
-    let certificate = certificate_of(alloc, "1 1 2 3", "2 1 3")?;
-    assert_eq!(rt; certified(&run, &certificate), Ok(()));
-    check(alloc, &run, &certificate)?;
-    let wide = certificate_of(alloc, "1 5 70 4294967295", "2 5 4294967295")?;
-    check(alloc, &run, &wide)?;
-    let empty = Certificate::new(Vec::new(alloc))?;
-    let none = run_of(alloc, "totem-run 1\nend\n")?;
-    check(alloc, &none, &empty)?;
-    Ok(())
-}
-
-#[test]
-fn what_is_open_is_listed(rt: HostRuntime) -> Result<(), Fail> {
-    let alloc = rt.alloc();
-    let text = "totem-run 1\n\
-        log 1\nconf r4.1 1 2\nsend r4.1 a 4.1#1\nfail r4.1\nfailed\n\
-        log 2\nconf r4.1 1 2\nopen\n\
-        end\n";
-    let run = run_of(alloc, text)?;
-    let certificate = certificate_of(alloc, "1 1 2 3", "2 1")?;
-    let accepted = check(alloc, &run, &certificate)?.try_clone(alloc)?;
-    assert_eq!(rt; accepted.pending.len(), 1);
-    assert_eq!(rt; accepted.pending[0].proc, ProcId::of(2));
-    assert_eq!(rt; accepted.waiting.len(), 1);
-    assert_eq!(rt; accepted.waiting[0].other, ProcId::of(1));
-    Ok(())
-}
-
-#[test]
-fn certificates_are_refused(rt: HostRuntime) -> Result<(), Fail> {
-    let alloc = rt.alloc();
-    let cases = [
-        (RUN, "1 1 2", "2 1 3", CertificateFault::Count),
-        (RUN, "1 1 2 3", "3 1 3", CertificateFault::Count),
-        (RUN, "1 1 4 3", "2 1 3", CertificateFault::NotRising),
-        (RUN, "1 1 2 2", "2 1 2", CertificateFault::NotRising),
-        (RUN, "1 1 2 3", "2 1 2", CertificateFault::SendNotBefore),
-        (RUN, "1 1 2 3", "2 1 4", CertificateFault::TwinsDiffer),
-        (RUN, "1 2 3 4", "2 1 4", CertificateFault::TwinsDiffer),
-        (
-            TWO_SENDS,
-            "1 1 2",
-            "2 1 2",
-            CertificateFault::SharedPosition,
-        ),
-    ];
-    for (text, first, second, fault) in cases {
-        let run = run_of(alloc, text)?;
-        let certificate = certificate_of(alloc, first, second)?;
-        assert_eq!(rt;
-            certified(&run, &certificate),
-            Err(fault),
-            "{first}, {second}"
-        );
-        let refused = check(alloc, &run, &certificate).err().ok_or("refused")?;
-        assert_eq!(rt; refused.number(), CheckFault::from(fault).number());
-        assert_eq!(rt; refused.name(), CheckFault::from(fault).name());
+/// What certification says, and the check's fault that stands for it.
+fn push_certified(
+    text: &mut String,
+    answer: Result<(), CertificateFault>,
+) -> Result<(), AllocError> {
+    match answer {
+        Ok(()) => text.push_str("certified; "),
+        Err(fault) => {
+            let stands_for = CheckFault::from(fault);
+            write!(
+                text,
+                "{fault:?} {} {}; ",
+                stands_for.name(),
+                stands_for.number()
+            )
+        }
     }
-    let run = run_of(alloc, RUN)?;
-    let empty = Certificate::new(Vec::new(alloc))?;
-    assert_eq!(rt; certified(&run, &empty), Err(CertificateFault::Count));
-    Ok(())
 }
 
-#[test]
-fn broken_runs_are_refused(rt: HostRuntime) -> Result<(), Fail> {
-    let alloc = rt.alloc();
-    let cases = [
-        (
-            "totem-run 1\nlog 1\nconf r4.1 1 2\nopen\nlog 2\nconf r4.1 1 2\ndlv r4.1 4.1#1\nopen\nend\n",
-            "1 1",
-            "2 1 2",
-            SpecNo::Unsent,
-            2,
-            2,
-        ),
-        (
-            "totem-run 1\nlog 1\nconf r4.1 1 2\nconf r8.1 1 2\nopen\nlog 2\nconf r4.1 1 2\nopen\nend\n",
-            "1 1 2",
-            "2 1",
-            SpecNo::Turns,
-            1,
-            1,
-        ),
-    ];
-    for (text, first, second, spec, proc, at) in cases {
-        let run = run_of(alloc, text)?;
-        let certificate = certificate_of(alloc, first, second)?;
-        let Err(CheckFault::Broken(fault)) = check(alloc, &run, &certificate) else {
-            return Err("a broken run".into());
-        };
-        assert_eq!(rt; fault.spec, spec);
-        let place = Place::new(ProcId::new(proc).ok_or("a process")?, at).ok_or("a place")?;
-        assert_eq!(rt; fault.places.as_slice().first().copied(), Some(place));
+/// Who has something pending, and for whom others wait.
+fn push_accepted(text: &mut String, accepted: &Accepted) -> Result<(), AllocError> {
+    text.push_str("yes")?;
+    for pending in &accepted.pending {
+        write!(text, ", pending at {}", pending.proc)?;
+    }
+    for waiting in &accepted.waiting {
+        write!(text, ", waiting for {}", waiting.other)?;
     }
     Ok(())
 }
 
-#[test]
-fn faults_have_numbers_names_and_texts(rt: HostRuntime) -> Result<(), Fail> {
-    let alloc = rt.alloc();
-    let run = run_of(alloc, TWO_SENDS)?;
-    let certificate = certificate_of(alloc, "1 1 2", "2 1 2")?;
-    let fault = check(alloc, &run, &certificate).err().ok_or("refused")?;
-    let cases = [
-        (CheckFault::Count, "Count"),
-        (CheckFault::NotRising, "NotRising"),
-        (CheckFault::SendNotBefore, "SendNotBefore"),
-        (CheckFault::TwinsDiffer, "TwinsDiffer"),
-        (fault.try_clone(alloc)?, "SharedPosition"),
-    ];
-    for (place, (fault, name)) in cases.iter().enumerate() {
-        assert_eq!(rt; usize::from(fault.number()), place + 1);
-        assert_eq!(rt; fault.name(), *name);
+/// A fault's name and number, and of a broken run what it breaks.
+fn push_check_fault(text: &mut String, fault: &CheckFault) -> Result<(), AllocError> {
+    write!(text, "{} {}", fault.name(), fault.number())?;
+    match fault {
+        CheckFault::Broken(broken) => {
+            text.push_str(": ")?;
+            push_fault(text, broken)
+        }
+        _ => Ok(()),
     }
-    assert_eq!(rt; CheckFault::Memory.number(), 7);
-    let text = fault.to_string(alloc)?;
-    assert_eq!(rt;
-        text.as_str(),
-        "two entries of different classes share a number"
-    );
+}
+
+/// What a copy of the check's answer says.
+fn push_checked(
+    alloc: Global,
+    text: &mut String,
+    answer: &Result<Accepted, CheckFault>,
+) -> Result<(), AllocError> {
+    match answer {
+        Ok(accepted) => push_accepted(text, &accepted.try_clone(alloc)?),
+        Err(fault) => push_check_fault(text, &fault.try_clone(alloc)?),
+    }
+}
+
+fn push_both(
+    alloc: Global,
+    text: &mut String,
+    run: &Run,
+    certificate: &Certificate,
+) -> Result<(), AllocError> {
+    push_certified(text, certified(run, certificate))?;
+    push_checked(alloc, text, &check(alloc, run, certificate))
+}
+
+/// What is said of the run with a certificate of these lines.
+fn push_with_lines(
+    alloc: Global,
+    text: &mut String,
+    run: &Run,
+    lines: &str,
+) -> Result<(), AllocError> {
+    let bytes = format!(in alloc; "totem-cert 1\n{lines}end\n")?;
+    match read_cert(alloc, &mut FromRead::new(bytes.as_bytes())) {
+        Ok(certificate) => push_both(alloc, text, run, &certificate),
+        Err(fault) => text.push_str(fault.name()),
+    }
+}
+
+/// What certification and the check say of the run of these logs with a certificate of these lines.
+fn told(alloc: Global, logs: &str, lines: &str) -> Result<String, AllocError> {
+    let bytes = format!(in alloc; "totem-run 1\n{logs}end\n")?;
+    let mut text = String::new(alloc);
+    match read_run(alloc, &mut FromRead::new(bytes.as_bytes())) {
+        Ok(run) => push_with_lines(alloc, &mut text, &run, lines)?,
+        Err(fault) => text.push_str(fault.name())?,
+    }
+    Ok(text)
+}
+
+const DELIVERED: &str = "log 1\nconf r4.1 1 2\nsend r4.1 a 4.1#1\ndlv r4.1 4.1#1\nopen\n\
+    log 2\nconf r4.1 1 2\ndlv r4.1 4.1#1\nopen\n";
+
+const TWO_SENDS: &str = "log 1\nconf r4.1 1 2\nsend r4.1 a 4.1#1\nopen\n\
+    log 2\nconf r4.1 1 2\nsend r4.1 a 4.1#2\nopen\n";
+
+const LEFT_OPEN: &str = "log 1\nconf r4.1 1 2\nsend r4.1 a 4.1#1\nfail r4.1\nfailed\n\
+    log 2\nconf r4.1 1 2\nopen\n";
+
+const NOT_SENT: &str = "log 1\nconf r4.1 1 2\nopen\n\
+    log 2\nconf r4.1 1 2\ndlv r4.1 4.1#1\nopen\n";
+
+const NO_TURNS: &str = "log 1\nconf r4.1 1 2\nconf r8.1 1 2\nopen\n\
+    log 2\nconf r4.1 1 2\nopen\n";
+
+/// The logs of a run, the lines of a certificate, and what is said of them.
+struct Row {
+    about: &'static str,
+    logs: &'static str,
+    lines: &'static str,
+    told: &'static str,
+}
+
+const ROWS: [Row; 15] = [
+    Row {
+        about: "a certificate",
+        logs: DELIVERED,
+        lines: "pos 1 1 2 3\npos 2 1 3\n",
+        told: "certified; yes",
+    },
+    Row {
+        about: "a certificate with gaps",
+        logs: DELIVERED,
+        lines: "pos 1 5 70 4294967295\npos 2 5 4294967295\n",
+        told: "certified; yes",
+    },
+    Row {
+        about: "no logs and no lines",
+        logs: "",
+        lines: "",
+        told: "certified; yes",
+    },
+    Row {
+        about: "something is left open",
+        logs: LEFT_OPEN,
+        lines: "pos 1 1 2 3\npos 2 1\n",
+        told: "certified; yes, pending at 2, waiting for 1",
+    },
+    Row {
+        about: "a line with a number too few",
+        logs: DELIVERED,
+        lines: "pos 1 1 2\npos 2 1 3\n",
+        told: "Count Count 1; Count 1",
+    },
+    Row {
+        about: "a line of another process",
+        logs: DELIVERED,
+        lines: "pos 1 1 2 3\npos 3 1 3\n",
+        told: "Count Count 1; Count 1",
+    },
+    Row {
+        about: "no lines",
+        logs: DELIVERED,
+        lines: "",
+        told: "Count Count 1; Count 1",
+    },
+    Row {
+        about: "numbers that fall",
+        logs: DELIVERED,
+        lines: "pos 1 1 4 3\npos 2 1 3\n",
+        told: "NotRising NotRising 2; NotRising 2",
+    },
+    Row {
+        about: "two numbers alike in a line",
+        logs: DELIVERED,
+        lines: "pos 1 1 2 2\npos 2 1 2\n",
+        told: "NotRising NotRising 2; NotRising 2",
+    },
+    Row {
+        about: "a delivery with the number of its send",
+        logs: DELIVERED,
+        lines: "pos 1 1 2 3\npos 2 1 2\n",
+        told: "SendNotBefore SendNotBefore 3; SendNotBefore 3",
+    },
+    Row {
+        about: "twin deliveries with two numbers",
+        logs: DELIVERED,
+        lines: "pos 1 1 2 3\npos 2 1 4\n",
+        told: "TwinsDiffer TwinsDiffer 4; TwinsDiffer 4",
+    },
+    Row {
+        about: "twin changes with two numbers",
+        logs: DELIVERED,
+        lines: "pos 1 2 3 4\npos 2 1 4\n",
+        told: "TwinsDiffer TwinsDiffer 4; TwinsDiffer 4",
+    },
+    Row {
+        about: "two sends with one number",
+        logs: TWO_SENDS,
+        lines: "pos 1 1 2\npos 2 1 2\n",
+        told: "SharedPosition SharedPosition 5; SharedPosition 5",
+    },
+    Row {
+        about: "a delivery of what was not sent",
+        logs: NOT_SENT,
+        lines: "pos 1 1\npos 2 1 2\n",
+        told: "certified; Broken 6: 1.3 2@2",
+    },
+    Row {
+        about: "a regular configuration behind a regular one",
+        logs: NO_TURNS,
+        lines: "pos 1 1 2\npos 2 1\n",
+        told: "certified; Broken 6: 2.4 1@1 1@2",
+    },
+];
+
+#[test]
+fn runs_are_checked_with_certificates(rt: HostRuntime) -> Result<(), AllocError> {
+    for row in &ROWS {
+        let told = told(rt.alloc(), row.logs, row.lines)?;
+        is_told(&rt, &told, row.told, row.about);
+    }
+    Ok(())
+}
+
+/// The faults but that of a broken run.
+fn faults_told(alloc: Global) -> Result<String, AllocError> {
+    let faults = [
+        CheckFault::Count,
+        CheckFault::NotRising,
+        CheckFault::SendNotBefore,
+        CheckFault::TwinsDiffer,
+        CheckFault::SharedPosition,
+        CheckFault::Memory,
+    ];
+    let mut text = String::new(alloc);
+    for fault in &faults {
+        push_check_fault(&mut text, fault)?;
+        text.push_str("; ")?;
+    }
+    write!(text, "{}", CheckFault::SharedPosition)?;
+    Ok(text)
+}
+
+#[test]
+fn faults_have_numbers_names_and_texts(rt: HostRuntime) -> Result<(), AllocError> {
+    let wanted =
+        "Count 1; NotRising 2; SendNotBefore 3; TwinsDiffer 4; SharedPosition 5; Memory 7; \
+        two entries of different classes share a number";
+    let told = faults_told(rt.alloc())?;
+    is_told(&rt, &told, wanted, "faults");
     Ok(())
 }

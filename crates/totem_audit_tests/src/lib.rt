@@ -6,6 +6,6 @@ mod audits;
 #[cfg(test)]
 mod checks;
 #[cfg(test)]
-mod passes;
-#[cfg(test)]
 mod stitches;
+#[cfg(test)]
+mod values;

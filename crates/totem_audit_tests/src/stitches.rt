@@ -1,33 +1,65 @@
 //! The tables of small runs, their answers read off the text by docs/SPECIFICATIONS.md, "Following".
-ghost use Rattle.std.specs.Prelude.{◌<◌};
-
-use std::alloc::Global;
-use std::test::Fail;
-use totem_evs::{Run, RunFault, read_run};
+use crate::values::is_told;
+use std::alloc::{AllocError, Global};
+use std::fmt::Display;
+use totem_evs::read_run;
 use totem_ids::{ConfId, FromRead, ProcId, RingId};
 use totem_stitch::Stitch;
 
-fn ring(seq: u32) -> RingId
-    requires { 0 < seq }
-{
-    RingId {
-        seq,
-        rep: ProcId::of(1),
-    }
-}
-
 /// The transitional configuration before the regular one of this ring, with 1 as its least member.
-fn toward(seq: u32) -> ConfId
-    requires { 0 < seq }
-{
+fn toward(next: RingId) -> ConfId {
     ConfId::Transitional {
-        next: ring(seq),
+        next,
         least: ProcId::of(1),
     }
 }
 
-fn run(alloc: Global, text: &str) -> Result<Run, RunFault> {
-    read_run(alloc, &mut FromRead::new(text.as_bytes()))
+fn push_name<T: Display>(text: &mut String, name: &Option<T>) -> Result<(), AllocError> {
+    match name {
+        Some(name) => write!(text, "{name}"),
+        None => text.push_str("none"),
+    }
+}
+
+/// A question to the tables: what follows a ring, what comes before the transitional configuration of a ring, or before the
+/// regular one.
+enum Question {
+    Follow,
+    BeforeTransitional,
+    BeforeRegular,
+}
+
+/// A question about the ring of this number at this process, and the answer.
+struct Row {
+    about: &'static str,
+    run: &'static str,
+    question: Question,
+    proc: u16,
+    ring: u32,
+    told: &'static str,
+}
+
+fn push_answer(text: &mut String, stitch: &Stitch, row: &Row) -> Result<(), AllocError> {
+    let proc = ProcId::of(row.proc.max(1));
+    let ring = RingId {
+        seq: row.ring.max(1),
+        rep: ProcId::of(1),
+    };
+    match row.question {
+        Question::Follow => push_name(text, &stitch.follow(proc, ring)),
+        Question::BeforeTransitional => push_name(text, &stitch.before(proc, toward(ring))),
+        Question::BeforeRegular => push_name(text, &stitch.before(proc, ConfId::Regular(ring))),
+    }
+}
+
+/// What the tables of a run answer, or why there is no such run.
+fn told(alloc: Global, row: &Row) -> Result<String, AllocError> {
+    let mut text = String::new(alloc);
+    match read_run(alloc, &mut FromRead::new(row.run.as_bytes())) {
+        Ok(run) => push_answer(&mut text, &Stitch::build(alloc, &run)?, row)?,
+        Err(fault) => text.push_str(fault.name())?,
+    }
+    Ok(text)
 }
 
 /// Processes 1 and 2 leave 3 behind, and move on once more.
@@ -56,38 +88,8 @@ open
 end
 ";
 
-#[test]
-fn what_follows_is_the_next_configuration(rt: HostRuntime) -> Result<(), Fail> {
-    let run = run(rt.alloc(), THREE_RINGS)?;
-    let stitch = Stitch::build(rt.alloc(), &run)?;
-    assert_eq!(rt; stitch.follow(ProcId::of(1), ring(4)), Some(toward(8)));
-    assert_eq!(rt; stitch.follow(ProcId::of(2), ring(8)), Some(toward(12)));
-    assert_eq!(rt; stitch.follow(ProcId::of(1), ring(12)), None);
-    assert_eq!(rt; stitch.follow(ProcId::of(1), ring(16)), None);
-    assert_eq!(rt; stitch.follow(ProcId::of(3), ring(4)), None);
-    assert_eq!(rt; stitch.follow(ProcId::of(4), ring(4)), None);
-    Ok(())
-}
-
-#[test]
-fn what_it_follows_is_the_one_before(rt: HostRuntime) -> Result<(), Fail> {
-    let run = run(rt.alloc(), THREE_RINGS)?;
-    let stitch = Stitch::build(rt.alloc(), &run)?;
-    assert_eq!(rt; stitch.before(ProcId::of(1), toward(8)), Some(ring(4)));
-    assert_eq!(rt; stitch.before(ProcId::of(2), toward(12)), Some(ring(8)));
-    assert_eq!(rt; stitch.before(ProcId::of(1), toward(16)), None);
-    assert_eq!(rt;
-        stitch.before(ProcId::of(1), ConfId::Regular(ring(8))),
-        None
-    );
-    assert_eq!(rt; stitch.before(ProcId::of(3), toward(8)), None);
-    assert_eq!(rt; stitch.before(ProcId::of(4), toward(8)), None);
-    Ok(())
-}
-
-#[test]
-fn the_first_change_counts(rt: HostRuntime) -> Result<(), Fail> {
-    let text = "totem-run 1
+/// A ring is left twice: the first change counts.
+const LEFT_TWICE: &str = "totem-run 1
 log 1
 conf r4.1 1
 conf t8.1/1 1
@@ -97,17 +99,9 @@ conf t12.1/1 1
 open
 end
 ";
-    let run = run(rt.alloc(), text)?;
-    let stitch = Stitch::build(rt.alloc(), &run)?;
-    assert_eq!(rt; stitch.follow(ProcId::of(1), ring(4)), Some(toward(8)));
-    assert_eq!(rt; stitch.follow(ProcId::of(1), ring(8)), None);
-    assert_eq!(rt; stitch.before(ProcId::of(1), toward(12)), None);
-    Ok(())
-}
 
-#[test]
-fn the_first_that_is_followed_counts(rt: HostRuntime) -> Result<(), Fail> {
-    let text = "totem-run 1
+/// A transitional configuration follows two rings: the first one counts.
+const FOLLOWS_TWICE: &str = "totem-run 1
 log 1
 conf r8.1 1
 conf t12.1/1 1
@@ -116,9 +110,151 @@ conf t12.1/1 1
 open
 end
 ";
-    let run = run(rt.alloc(), text)?;
-    let stitch = Stitch::build(rt.alloc(), &run)?;
-    assert_eq!(rt; stitch.follow(ProcId::of(1), ring(4)), Some(toward(12)));
-    assert_eq!(rt; stitch.before(ProcId::of(1), toward(12)), Some(ring(8)));
+
+const ROWS: [Row; 17] = [
+    Row {
+        about: "three rings: what follows ring 4 at 1",
+        run: THREE_RINGS,
+        question: Question::Follow,
+        proc: 1,
+        ring: 4,
+        told: "t8.1/1",
+    },
+    Row {
+        about: "three rings: what follows ring 8 at 2",
+        run: THREE_RINGS,
+        question: Question::Follow,
+        proc: 2,
+        ring: 8,
+        told: "t12.1/1",
+    },
+    Row {
+        about: "three rings: what follows ring 12 at 1",
+        run: THREE_RINGS,
+        question: Question::Follow,
+        proc: 1,
+        ring: 12,
+        told: "none",
+    },
+    Row {
+        about: "three rings: what follows ring 16 at 1",
+        run: THREE_RINGS,
+        question: Question::Follow,
+        proc: 1,
+        ring: 16,
+        told: "none",
+    },
+    Row {
+        about: "three rings: what follows ring 4 at 3",
+        run: THREE_RINGS,
+        question: Question::Follow,
+        proc: 3,
+        ring: 4,
+        told: "none",
+    },
+    Row {
+        about: "three rings: what follows ring 4 at 4",
+        run: THREE_RINGS,
+        question: Question::Follow,
+        proc: 4,
+        ring: 4,
+        told: "none",
+    },
+    Row {
+        about: "three rings: what is before the transitional one of ring 8 at 1",
+        run: THREE_RINGS,
+        question: Question::BeforeTransitional,
+        proc: 1,
+        ring: 8,
+        told: "4.1",
+    },
+    Row {
+        about: "three rings: what is before the transitional one of ring 12 at 2",
+        run: THREE_RINGS,
+        question: Question::BeforeTransitional,
+        proc: 2,
+        ring: 12,
+        told: "8.1",
+    },
+    Row {
+        about: "three rings: what is before the transitional one of ring 16 at 1",
+        run: THREE_RINGS,
+        question: Question::BeforeTransitional,
+        proc: 1,
+        ring: 16,
+        told: "none",
+    },
+    Row {
+        about: "three rings: what is before the regular one of ring 8 at 1",
+        run: THREE_RINGS,
+        question: Question::BeforeRegular,
+        proc: 1,
+        ring: 8,
+        told: "none",
+    },
+    Row {
+        about: "three rings: what is before the transitional one of ring 8 at 3",
+        run: THREE_RINGS,
+        question: Question::BeforeTransitional,
+        proc: 3,
+        ring: 8,
+        told: "none",
+    },
+    Row {
+        about: "three rings: what is before the transitional one of ring 8 at 4",
+        run: THREE_RINGS,
+        question: Question::BeforeTransitional,
+        proc: 4,
+        ring: 8,
+        told: "none",
+    },
+    Row {
+        about: "a ring left twice: what follows ring 4 at 1",
+        run: LEFT_TWICE,
+        question: Question::Follow,
+        proc: 1,
+        ring: 4,
+        told: "t8.1/1",
+    },
+    Row {
+        about: "a ring left twice: what follows ring 8 at 1",
+        run: LEFT_TWICE,
+        question: Question::Follow,
+        proc: 1,
+        ring: 8,
+        told: "none",
+    },
+    Row {
+        about: "a ring left twice: what is before the transitional one of ring 12 at 1",
+        run: LEFT_TWICE,
+        question: Question::BeforeTransitional,
+        proc: 1,
+        ring: 12,
+        told: "none",
+    },
+    Row {
+        about: "one that follows twice: what follows ring 4 at 1",
+        run: FOLLOWS_TWICE,
+        question: Question::Follow,
+        proc: 1,
+        ring: 4,
+        told: "t12.1/1",
+    },
+    Row {
+        about: "one that follows twice: what is before the transitional one of ring 12 at 1",
+        run: FOLLOWS_TWICE,
+        question: Question::BeforeTransitional,
+        proc: 1,
+        ring: 12,
+        told: "8.1",
+    },
+];
+
+#[test]
+fn tables_tell_what_follows_and_what_comes_before(rt: HostRuntime) -> Result<(), AllocError> {
+    for row in &ROWS {
+        let told = told(rt.alloc(), row)?;
+        is_told(&rt, &told, row.told, row.about);
+    }
     Ok(())
 }

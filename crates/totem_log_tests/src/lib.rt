@@ -2,16 +2,20 @@
 #![tactic(auto)]
 
 #[cfg(test)]
-mod certificate_parts;
+mod lists;
 #[cfg(test)]
-mod certificate_texts;
+mod logs;
 #[cfg(test)]
-mod certificate_values;
+mod made_lists;
+#[cfg(test)]
+mod made_texts;
+#[cfg(test)]
+mod names;
 #[cfg(test)]
 mod positions;
 #[cfg(test)]
-mod run_parts;
+mod sources;
 #[cfg(test)]
-mod run_reading;
+mod texts;
 #[cfg(test)]
-mod run_writing;
+mod values;

@@ -1,23 +1,14 @@
 //! Positions and closed lists of small runs, with the numbers and faults that docs/SPECIFICATIONS.md gives for them.
-use crate::certificate_values::certificate_text;
+use crate::values::{is_told, push_fault, push_lines};
 use std::alloc::{AllocError, Global};
-use std::test::Fail;
 use totem_cert::{Order, positions};
-use totem_evs::{Fault, Run, read_run};
+use totem_evs::{Run, read_run};
 use totem_ids::FromRead;
 
-fn fault_text(alloc: Global, fault: &Fault) -> Result<String, AllocError> {
-    let mut text = format!(in alloc; "fault {}", fault.spec)?;
-    for place in fault.places.as_slice() {
-        text.push_str(format!(in alloc; " {place}")?.as_str())?;
-    }
-    Ok(text)
-}
-
-fn order_text(alloc: Global, order: &Order) -> Result<String, AllocError> {
+fn push_order(text: &mut String, order: &Order) -> Result<(), AllocError> {
     match order {
-        Order::Positions(certificate) => certificate_text(alloc, certificate),
-        Order::Cycle(fault) => fault_text(alloc, fault),
+        Order::Positions(certificate) => push_lines(text, certificate.as_slice()),
+        Order::Cycle(fault) => push_fault(text, fault),
     }
 }
 
@@ -26,15 +17,19 @@ fn copied_order(alloc: Global, run: &Run) -> Result<Order, AllocError> {
     positions(alloc, run)?.try_clone(alloc)
 }
 
-fn run_of(alloc: Global, logs: &str) -> Result<Run, Fail> {
-    let text = format!(in alloc; "totem-run 1\n{logs}end\n")?;
-    Ok(read_run(alloc, &mut FromRead::new(text.as_bytes()))?)
+fn push_order_of(alloc: Global, text: &mut String, run: &Run) -> Result<(), AllocError> {
+    push_order(text, &copied_order(alloc, run)?)
 }
 
-/// The order of a run of these logs, as text.
-fn told(alloc: Global, logs: &str) -> Result<String, Fail> {
-    let run = run_of(alloc, logs)?;
-    Ok(order_text(alloc, &copied_order(alloc, &run)?)?)
+/// The order of a run of these logs, or why there is no such run.
+fn told(alloc: Global, logs: &str) -> Result<String, AllocError> {
+    let bytes = format!(in alloc; "totem-run 1\n{logs}end\n")?;
+    let mut text = String::new(alloc);
+    match read_run(alloc, &mut FromRead::new(bytes.as_bytes())) {
+        Ok(run) => push_order_of(alloc, &mut text, &run)?,
+        Err(fault) => text.push_str(fault.name())?,
+    }
+    Ok(text)
 }
 
 /// What holds, the logs of a run, and the text of their order.
@@ -98,10 +93,10 @@ const RUNS: [Row; 8] = [
 ];
 
 #[test]
-fn small_runs_have_their_positions_or_closed_lists(rt: HostRuntime) -> Result<(), Fail> {
+fn small_runs_have_their_positions_or_closed_lists(rt: HostRuntime) -> Result<(), AllocError> {
     for row in &RUNS {
         let told = told(rt.alloc(), row.logs)?;
-        assert_eq!(rt; told.as_str(), row.order, "{}", row.rule);
+        is_told(&rt, &told, row.order, row.rule);
     }
     Ok(())
 }

@@ -1,0 +1,18 @@
+//! Values told as text, and what was told compared with what was wanted.
+use std::alloc::AllocError;
+use std::process::Abort;
+use totem_evs::Fault;
+
+/// Stops the test where something else was told than was wanted.
+pub fn is_told(rt: &impl Abort, told: &str, wanted: &str, about: &str) {
+    assert_eq!(rt; told, wanted, "{about}");
+}
+
+/// A fault's specification and its places.
+pub fn push_fault(text: &mut String, fault: &Fault) -> Result<(), AllocError> {
+    write!(text, "{}", fault.spec)?;
+    for place in fault.places.as_slice() {
+        write!(text, " {place}")?;
+    }
+    Ok(())
+}

@@ -1,0 +1,120 @@
+//! Numbers, lines, certificates and members: each constructor and each copy, and what is refused.
+use crate::values::{push_lines, push_processes};
+use std::alloc::{AllocError, Global};
+use totem_cert::{Certificate, Line, Lines, Numbers};
+use totem_evs::{Members, Refused};
+use totem_ids::ProcId;
+
+pub fn proc(number: u16) -> ProcId {
+    ProcId::of(number.max(1))
+}
+
+/// The rule that a list breaks, and how many come back.
+pub fn refusal<V: Drop>(alloc: Global, refused: &Refused<Vec<V>>) -> Result<String, AllocError> {
+    format!(in alloc; "{:?} of {}", refused.fault, refused.value.len())
+}
+
+/// Numbers that are taken, and their copy.
+fn taken_numbers(alloc: Global, numbers: Numbers) -> Result<String, AllocError> {
+    let copy = numbers.try_clone(alloc)?;
+    let list = numbers.into_vec();
+    format!(in alloc; "{list:?} {:?}", copy.as_slice())
+}
+
+/// These numbers, so many times.
+pub fn numbers(alloc: Global, list: &[u16], times: usize) -> Result<Vec<u32>, AllocError> {
+    let mut numbers = Vec::new(alloc);
+    for _ in 0..times {
+        for number in list {
+            numbers.push(u32::from(*number))?;
+        }
+    }
+    Ok(numbers)
+}
+
+pub fn numbers_told(alloc: Global, list: Vec<u32>) -> Result<String, AllocError> {
+    match Numbers::new(list) {
+        Ok(numbers) => taken_numbers(alloc, numbers),
+        Err(refused) => format!(in alloc; "{:?} of {}", refused.fault, refused.value.len()),
+    }
+}
+
+/// What the refusal of these numbers says.
+pub fn numbers_refusal(alloc: Global, list: Vec<u32>) -> Result<String, AllocError> {
+    match Numbers::new(list) {
+        Ok(_) => String::from_str(alloc, "taken"),
+        Err(refused) => refused.to_string(alloc),
+    }
+}
+
+fn push_line(alloc: Global, list: &mut Vec<Line>, proc: ProcId) -> Result<(), AllocError> {
+    let numbers = [u32::from(proc.number()), 4294967295].to_vec(alloc)?;
+    if let Ok(numbers) = Numbers::new(numbers) {
+        list.push(Line { proc, numbers })?;
+    }
+    Ok(())
+}
+
+/// A line for each of these processes, with its number and the greatest number.
+fn lines(alloc: Global, procs: &[u16]) -> Result<Vec<Line>, AllocError> {
+    let mut list = Vec::new(alloc);
+    for number in procs {
+        push_line(alloc, &mut list, proc(*number))?;
+    }
+    Ok(list)
+}
+
+/// The copy of lines that are taken, and the lines.
+fn taken_lines(alloc: Global, lines: Lines) -> Result<String, AllocError> {
+    let copy = lines.try_clone(alloc)?;
+    let mut text = String::new(alloc);
+    push_lines(&mut text, copy.as_slice())?;
+    push_lines(&mut text, &lines.into_vec())?;
+    Ok(text)
+}
+
+pub fn lines_told(alloc: Global, procs: &[u16]) -> Result<String, AllocError> {
+    match Lines::new(lines(alloc, procs)?) {
+        Ok(lines) => taken_lines(alloc, lines),
+        Err(refused) => refusal(alloc, &refused),
+    }
+}
+
+/// How many lines a certificate's copy has, in two ways, and the certificate.
+fn taken_certificate(alloc: Global, certificate: Certificate) -> Result<String, AllocError> {
+    let copy = certificate.try_clone(alloc)?;
+    let counts = (copy.lines.as_slice().len(), copy.as_slice().len());
+    format!(in alloc; "{counts:?} {}", certificate.into_vec().len())
+}
+
+pub fn certificate_told(alloc: Global, procs: &[u16]) -> Result<String, AllocError> {
+    match Certificate::new(lines(alloc, procs)?) {
+        Ok(certificate) => taken_certificate(alloc, certificate),
+        Err(refused) => refusal(alloc, &refused),
+    }
+}
+
+pub fn procs(alloc: Global, numbers: &[u16]) -> Result<Vec<ProcId>, AllocError> {
+    let mut list = Vec::new(alloc);
+    for number in numbers {
+        list.push(proc(*number))?;
+    }
+    Ok(list)
+}
+
+/// The copy of members that are taken, whether 3 and 2 are among them, and how many there are.
+fn taken_members(alloc: Global, members: Members) -> Result<String, AllocError> {
+    let copy = members.try_clone(alloc)?;
+    let mut text = String::new(alloc);
+    push_processes(&mut text, copy.as_slice())?;
+    let has = (members.contains(proc(3)), members.contains(proc(2)));
+    write!(text, " {has:?} {}", members.into_vec().len())?;
+    Ok(text)
+}
+
+pub fn members_told(alloc: Global, numbers: &[u16]) -> Result<String, AllocError> {
+    match Members::new(procs(alloc, numbers)?) {
+        Ok(members) => taken_members(alloc, members),
+        Err(refused) => refusal(alloc, &refused),
+    }
+}

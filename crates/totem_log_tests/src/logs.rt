@@ -1,0 +1,152 @@
+//! Entries, logs, runs and faults: each constructor and each copy, and what is refused.
+use crate::lists::{proc, procs, refusal};
+use crate::values::{push_fault, push_log};
+use std::alloc::{AllocError, Global};
+use std::fmt::Debug;
+use totem_evs::{Entries, Entry, Fault, Log, Logs, Members, Places, Run, SpecNo};
+use totem_ids::{ConfId, MsgId, Place, ProcId, RingId, Service};
+
+fn ring() -> RingId {
+    RingId {
+        seq: 4,
+        rep: proc(1),
+    }
+}
+
+fn conf() -> ConfId {
+    ConfId::Regular(ring())
+}
+
+fn message() -> MsgId {
+    MsgId {
+        ring: ring(),
+        number: 1,
+    }
+}
+
+/// The change to ring 4.1, of processes 1 and 2, with the word `change`; what is sent and delivered there with `send` and
+/// `deliver`, and a failure with any other word.
+fn push_entry(alloc: Global, list: &mut Vec<Entry>, word: &str) -> Result<(), AllocError> {
+    let entry = match word {
+        "send" => Entry::Send(message(), conf(), Service::Safe),
+        "deliver" => Entry::Deliver(message(), conf()),
+        "change" => match Members::new(procs(alloc, &[1, 2])?) {
+            Ok(members) => Entry::Conf(conf(), members),
+            Err(_) => Entry::Fail(conf()),
+        },
+        _ => Entry::Fail(conf()),
+    };
+    list.push(entry)?;
+    Ok(())
+}
+
+fn entries(alloc: Global, words: &str) -> Result<Vec<Entry>, AllocError> {
+    let mut list = Vec::new(alloc);
+    for word in words.split_whitespace() {
+        push_entry(alloc, &mut list, word)?;
+    }
+    Ok(list)
+}
+
+/// A log of these entries, if there are some.
+fn push_log_of(
+    alloc: Global,
+    logs: &mut Vec<Log>,
+    proc: ProcId,
+    words: &str,
+) -> Result<(), AllocError> {
+    if let Ok(entries) = Entries::new(entries(alloc, words)?) {
+        logs.push(Log::new(proc, entries))?;
+    }
+    Ok(())
+}
+
+/// A log for each of these processes, of these entries.
+pub fn logs(alloc: Global, numbers: &[u16], words: &str) -> Result<Vec<Log>, AllocError> {
+    let mut logs = Vec::new(alloc);
+    for number in numbers {
+        push_log_of(alloc, &mut logs, proc(*number), words)?;
+    }
+    Ok(logs)
+}
+
+/// How many logs are copied, and the logs.
+fn taken_logs(alloc: Global, logs: Logs) -> Result<String, AllocError> {
+    let copy = logs.try_clone(alloc)?;
+    let mut text = format!(in alloc; "{}: ", copy.into_vec().len())?;
+    for log in logs.as_slice() {
+        push_log(&mut text, log)?;
+    }
+    Ok(text)
+}
+
+pub fn logs_told(alloc: Global, list: Vec<Log>) -> Result<String, AllocError> {
+    match Logs::new(list) {
+        Ok(logs) => taken_logs(alloc, logs),
+        Err(refused) => refusal(alloc, &refused),
+    }
+}
+
+fn are_shown_alike<T: Debug>(alloc: Global, value: &T, other: &T) -> Result<bool, AllocError> {
+    let shown = format!(in alloc; "{value:?}")?;
+    Ok(shown == format!(in alloc; "{other:?}")?)
+}
+
+/// How many logs a run has, whether its copy is shown alike, and how many it gives back.
+fn taken_run(alloc: Global, run: Run) -> Result<String, AllocError> {
+    let copy = run.try_clone(alloc)?;
+    let alike = are_shown_alike(alloc, &run, &copy)?;
+    let count = run.logs.as_slice().len();
+    format!(in alloc; "{count} {alike} {}", run.into_logs().len())
+}
+
+pub fn run_told(alloc: Global, list: Vec<Log>) -> Result<String, AllocError> {
+    match Run::new(list) {
+        Ok(run) => taken_run(alloc, run),
+        Err(refused) => refusal(alloc, &refused),
+    }
+}
+
+/// So many failures as entries.
+pub fn entries_told(alloc: Global, count: usize) -> Result<String, AllocError> {
+    let mut list = Vec::new(alloc);
+    for _ in 0..count {
+        list.push(Entry::Fail(conf()))?;
+    }
+    match Entries::new(list) {
+        Ok(entries) => format!(in alloc; "{}", entries.into_vec().len()),
+        Err(refused) => refusal(alloc, &refused),
+    }
+}
+
+/// Whether the copies of a change and a failure are shown alike, and whether they are failures.
+pub fn copied_entries_told(alloc: Global) -> Result<String, AllocError> {
+    let mut text = String::new(alloc);
+    for entry in &entries(alloc, "change fail")? {
+        let alike = are_shown_alike(alloc, entry, &entry.try_clone(alloc)?)?;
+        write!(text, "{alike} {}; ", entry.is_failure())?;
+    }
+    Ok(text)
+}
+
+/// The copy of a fault, and how many places the copy of its places has.
+fn push_copied_fault(alloc: Global, text: &mut String, fault: &Fault) -> Result<(), AllocError> {
+    let copy = fault.try_clone(alloc)?;
+    push_fault(text, &copy)?;
+    let places = copy.places.try_clone(alloc)?;
+    write!(text, ", {}", places.into_vec().len())
+}
+
+pub fn copied_fault_told(alloc: Global) -> Result<String, AllocError> {
+    let place = Place {
+        proc: proc(2),
+        at: 2,
+    };
+    let fault = Fault {
+        spec: SpecNo::Unsent,
+        places: Places::new([place].to_vec(alloc)?),
+    };
+    let mut text = String::new(alloc);
+    push_copied_fault(alloc, &mut text, &fault)?;
+    Ok(text)
+}

@@ -1,0 +1,189 @@
+//! The numbers, names and texts of faults and specifications, and what comes before what.
+use crate::values::is_told;
+use std::alloc::{AllocError, Global};
+use totem_cert::CertFault;
+use totem_evs::{ListFault, Pending, Refused, RunFault, SpecNo, Waiting};
+use totem_ids::{ConfId, MsgId, ProcId, RingId};
+
+const CERT_FAULTS: [CertFault; 9] = [
+    CertFault::Header,
+    CertFault::Word,
+    CertFault::Number,
+    CertFault::Order,
+    CertFault::Truncated,
+    CertFault::TooMany,
+    CertFault::End,
+    CertFault::Read,
+    CertFault::Memory,
+];
+
+fn cert_faults_told(alloc: Global) -> Result<String, AllocError> {
+    let mut text = String::new(alloc);
+    for fault in &CERT_FAULTS {
+        write!(text, "{} {}; ", fault.number(), fault.name())?;
+    }
+    Ok(text)
+}
+
+fn run_faults_told(alloc: Global) -> Result<String, AllocError> {
+    let missing = RunFault::MissingLog(ProcId::of(3));
+    let faults = [
+        RunFault::Header,
+        RunFault::Word,
+        RunFault::Number,
+        RunFault::Order,
+        RunFault::Members,
+        RunFault::End,
+        RunFault::Truncated,
+        RunFault::TooMany,
+        missing,
+        RunFault::Read,
+        RunFault::Memory,
+    ];
+    let mut text = String::new(alloc);
+    for fault in &faults {
+        write!(text, "{} {}; ", fault.number(), fault.name())?;
+    }
+    Ok(text)
+}
+
+fn refused(fault: ListFault) -> Refused<u8> {
+    Refused { fault, value: 1 }
+}
+
+fn texts_told(alloc: Global) -> Result<String, AllocError> {
+    format!(in alloc;
+        "{}; {}; {}; {}; {}; {}",
+        CertFault::Order,
+        RunFault::MissingLog(ProcId::of(3)),
+        RunFault::Word,
+        refused(ListFault::Empty),
+        refused(ListFault::TooMany(32)),
+        refused(ListFault::NotRising(2))
+    )
+}
+
+const SPECIFICATIONS: [SpecNo; 13] = [
+    SpecNo::Cycle,
+    SpecNo::Unsent,
+    SpecNo::Twice,
+    SpecNo::Misplaced,
+    SpecNo::Configuration,
+    SpecNo::Turns,
+    SpecNo::OwnDelivery,
+    SpecNo::Atomicity,
+    SpecNo::Causality,
+    SpecNo::Order,
+    SpecNo::Gap,
+    SpecNo::Safety,
+    SpecNo::Installed,
+];
+
+/// Each number, with `<` in front where it comes after the one before.
+fn specifications_told(alloc: Global) -> Result<String, AllocError> {
+    let mut text = String::new(alloc);
+    let mut before = None;
+    for spec in SPECIFICATIONS {
+        let sign = if before < Some(spec) { "<" } else { "?" };
+        write!(text, "{sign} {spec} ")?;
+        before = Some(spec);
+    }
+    Ok(text)
+}
+
+fn ring() -> RingId {
+    RingId {
+        seq: 4,
+        rep: ProcId::of(1),
+    }
+}
+
+/// What this process has not delivered, by its number in ring 4.1.
+fn pending(proc: u16, number: u32) -> Pending {
+    Pending {
+        proc: ProcId::of(proc.max(1)),
+        msg: MsgId {
+            ring: ring(),
+            number: number.max(1),
+        },
+    }
+}
+
+/// That process 1 waits for this one.
+fn waiting(other: u16) -> Waiting {
+    Waiting {
+        proc: ProcId::of(1),
+        conf: ConfId::Regular(ring()),
+        other: ProcId::of(other.max(1)),
+    }
+}
+
+/// Whether what is pending and who waits is ordered by the process first, and then by what stands behind it.
+fn order_told(alloc: Global) -> Result<String, AllocError> {
+    let pending = pending(1, 9) < pending(2, 1);
+    let waiting = waiting(2) < waiting(3);
+    format!(in alloc; "{pending} {waiting}")
+}
+
+enum Topic {
+    CertFaults,
+    RunFaults,
+    Texts,
+    Specifications,
+    Order,
+}
+
+fn told(alloc: Global, topic: &Topic) -> Result<String, AllocError> {
+    match topic {
+        Topic::CertFaults => cert_faults_told(alloc),
+        Topic::RunFaults => run_faults_told(alloc),
+        Topic::Texts => texts_told(alloc),
+        Topic::Specifications => specifications_told(alloc),
+        Topic::Order => order_told(alloc),
+    }
+}
+
+/// What is told of a topic.
+struct Row {
+    about: &'static str,
+    topic: Topic,
+    told: &'static str,
+}
+
+const ROWS: [Row; 5] = [
+    Row {
+        about: "the faults of certificates",
+        topic: Topic::CertFaults,
+        told: "1 Header; 2 Word; 3 Number; 4 Order; 5 Truncated; 6 TooMany; 7 End; 8 Read; 9 Memory; ",
+    },
+    Row {
+        about: "the faults of runs",
+        topic: Topic::RunFaults,
+        told: "1 Header; 2 Word; 3 Number; 4 Order; 5 Members; 6 End; 7 Truncated; 8 TooMany; 9 MissingLog; 10 Read; 11 Memory; ",
+    },
+    Row {
+        about: "the texts of faults",
+        topic: Topic::Texts,
+        told: "a line whose process is not above the one before; process 3 has no log; a byte that does not fit; \
+            there is none; there are more than 32; the one at index 2 is not above the one before",
+    },
+    Row {
+        about: "specifications have their numbers, and rise",
+        topic: Topic::Specifications,
+        told: "< 1.1 < 1.3 < 1.4 < 2.2 < 2.3 < 2.4 < 3 < 4 < 5 < 6.1 < 6.3 < 7.1 < 7.2 ",
+    },
+    Row {
+        about: "what is unsettled is ordered by process first",
+        topic: Topic::Order,
+        told: "true true",
+    },
+];
+
+#[test]
+fn names_and_texts_are_as_written(rt: HostRuntime) -> Result<(), AllocError> {
+    for row in &ROWS {
+        let told = told(rt.alloc(), &row.topic)?;
+        is_told(&rt, &told, row.told, row.about);
+    }
+    Ok(())
+}

@@ -1,0 +1,73 @@
+//! Values told as text, and what was told compared with what was wanted.
+use std::alloc::AllocError;
+use std::process::Abort;
+use totem_cert::Line;
+use totem_evs::{Ending, Entry, Fault, Log};
+use totem_ids::ProcId;
+
+/// Stops the test where something else was told than was wanted.
+pub fn is_told(rt: &impl Abort, told: &str, wanted: &str, about: &str) {
+    assert_eq!(rt; told, wanted, "{about}");
+}
+
+fn push_numbers(text: &mut String, numbers: &[u32]) -> Result<(), AllocError> {
+    for number in numbers {
+        write!(text, " {number}")?;
+    }
+    text.push_str(";")
+}
+
+/// Each line of a certificate, with `;` behind. Of more than twenty numbers only how many there are.
+pub fn push_lines(text: &mut String, lines: &[Line]) -> Result<(), AllocError> {
+    for line in lines {
+        write!(text, "pos {}", line.proc)?;
+        let numbers = line.numbers.as_slice();
+        match numbers.len() {
+            0..=20 => push_numbers(text, numbers)?,
+            count => write!(text, " {count} numbers;")?,
+        }
+    }
+    Ok(())
+}
+
+/// Each process, with a space in front.
+pub fn push_processes(text: &mut String, procs: &[ProcId]) -> Result<(), AllocError> {
+    for proc in procs {
+        write!(text, " {proc}")?;
+    }
+    Ok(())
+}
+
+fn push_entry(text: &mut String, entry: &Entry) -> Result<(), AllocError> {
+    match entry {
+        Entry::Conf(conf, members) => {
+            write!(text, "conf {conf}")?;
+            push_processes(text, members.as_slice())?;
+        }
+        Entry::Send(message, conf, service) => write!(text, "send {conf} {service} {message}")?,
+        Entry::Deliver(message, conf) => write!(text, "dlv {conf} {message}")?,
+        Entry::Fail(conf) => write!(text, "fail {conf}")?,
+    }
+    text.push_str("; ")
+}
+
+/// A log's process, its entries and how it ends.
+pub fn push_log(text: &mut String, log: &Log) -> Result<(), AllocError> {
+    write!(text, "log {}: ", log.proc)?;
+    for entry in log.entries.as_slice() {
+        push_entry(text, entry)?;
+    }
+    text.push_str(match log.ending {
+        Ending::Standing => "open. ",
+        Ending::Failed => "failed. ",
+    })
+}
+
+/// A fault's specification and its places.
+pub fn push_fault(text: &mut String, fault: &Fault) -> Result<(), AllocError> {
+    write!(text, "fault {}", fault.spec)?;
+    for place in fault.places.as_slice() {
+        write!(text, " {place}")?;
+    }
+    Ok(())
+}
