@@ -57,7 +57,7 @@ const OPTIONS: [NumberOption; 6] = [
         least: 1,
         most: 1_000_000,
         default: "4000",
-        help: "How many ticks, from 1 to 1000000; at every eighth a node's timer runs out and its client sends",
+        help: "How many ticks, from 1 to 1000000; at every eighth a node's timer runs out and its client sends; a tick takes 2 to 10 KB of memory, and up to 100 where nodes gather",
     },
     NumberOption {
         name: "seed",
@@ -89,7 +89,7 @@ const OPTIONS: [NumberOption; 6] = [
         least: 0,
         most: 255,
         default: "0",
-        help: "By how many further packets a copy is held back at most, up to 255",
+        help: "By how many further packets a copy is held back at most, up to 255; from 2 on a lone token waits for packets that do not come, and nodes mostly gather",
     },
 ];
 
@@ -108,7 +108,7 @@ impl NumberOption {
 pub fn run_command<'a>(alloc: Global) -> Result<Command<'a>, AllocError> {
     let mut command = Command::new(alloc, "run")
         .about("Runs nodes in threads, and writes the run that they record")
-        .after_help("Example: totem run --lose 10 --repeat 20 --hold 3 | totem audit");
+        .after_help("Example: totem run --lose 1 --repeat 5 --hold 1 | totem audit");
     for option in &OPTIONS {
         command = command.arg(option.arg(alloc))?;
     }

@@ -8,3 +8,4 @@ pub mod Waiting
 pub mod Ways
 pub mod Settling
 pub mod Turns
+pub mod Debts

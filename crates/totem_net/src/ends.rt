@@ -1,6 +1,6 @@
 //! What the three threads of a node hold of the network.
 use crate::address::Address;
-use crate::sending::give;
+use crate::sending::{give, insist};
 use crate::words::{ClientWord, Inbound, PacketWord, TimerWord};
 use bytes::Bytes;
 use crossbeam_channel::{Receiver, Sender};
@@ -12,15 +12,27 @@ use totem_ids::ProcId;
 #[derive(Drop)]
 pub struct Outlet {
     node: ProcId,
+    /// Whether its thread is given the words of a turn.
+    of_turn: bool,
     inbound: Sender<Inbound>,
 }
 
 impl Outlet {
-    pub(crate) fn new(node: ProcId, inbound: &Sender<Inbound>) -> Result<Outlet, AllocError> {
+    pub(crate) fn new(
+        node: ProcId,
+        of_turn: bool,
+        inbound: &Sender<Inbound>,
+    ) -> Result<Outlet, AllocError> {
         Ok(Outlet {
             node,
+            of_turn,
             inbound: inbound.clone()?,
         })
+    }
+
+    /// Another outlet of this node.
+    pub fn try_clone(&self) -> Result<Outlet, AllocError> {
+        Outlet::new(self.node, self.of_turn, &self.inbound)
     }
 
     /// Sends an encoded packet to every other node. Once the switch has ended it goes nowhere, which is no error.
@@ -39,6 +51,20 @@ impl Outlet {
     ) -> Result<(), AllocError> {
         let address = Address::One(receiver);
         give(rt, &self.inbound, Inbound::Packet { address, packet })
+    }
+
+    /// Tells the switch that a word has been dealt with. What came of it goes before.
+    pub fn tell_done<R: Wait>(&self, rt: &R) {
+        let done = Inbound::Done {
+            node: self.node,
+            of_turn: self.of_turn,
+        };
+        insist(rt, &self.inbound, done);
+    }
+
+    /// Tells the switch that a thread of this node takes no more words: from then on no tick waits for this node.
+    pub fn tell_gone<R: Wait>(&self, rt: &R) {
+        insist(rt, &self.inbound, Inbound::Gone(self.node));
     }
 }
 

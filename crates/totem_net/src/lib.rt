@@ -3,6 +3,7 @@
 
 mod address;
 mod copies;
+mod debt;
 mod delivery;
 mod ends;
 mod fates;

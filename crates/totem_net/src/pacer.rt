@@ -1,8 +1,8 @@
 //! The ticks.
+use crate::sending::insist;
 use crate::words::{Inbound, Pace};
-use crossbeam_channel::{Receiver, SendError, Sender};
+use crossbeam_channel::{Receiver, Sender};
 use std::sync::Wait;
-use std::thread;
 
 /// What the pacing thread holds.
 #[derive(Drop)]
@@ -16,28 +16,16 @@ impl Pacer {
         Pacer { inbound, paces }
     }
 
-    /// Sends a tick and waits for its answer before the next, until the ticks are used up or the switch is gone.
+    /// Sends a tick and waits for its answer before the next, until the ticks are used up or the switch is gone. Without
+    /// ticks the switch would wait for ever, so none is given up for want of memory.
     pub fn run<R: Wait>(self, rt: &R) {
         for _ in rt.forever() {
-            if !self.tick(rt) {
+            if !insist(rt, &self.inbound, Inbound::Tick) {
                 return;
             }
             if !matches!(self.paces.recv(rt), Ok(Pace::On)) {
                 return;
             }
         }
-    }
-
-    /// Sends a tick, and says whether there is a switch to take it. One that finds no memory is sent again: without
-    /// ticks the switch would wait for ever.
-    fn tick<R: Wait>(&self, rt: &R) -> bool {
-        for _ in rt.forever() {
-            match self.inbound.send(rt, Inbound::Tick) {
-                Ok(()) => return true,
-                Err(SendError::Disconnected(_)) => return false,
-                Err(SendError::OutOfMemory(_)) => thread::yield_now(),
-            }
-        }
-        unreachable!()
     }
 }

@@ -1,6 +1,7 @@
 //! The switch's side of one node.
 ghost use Rattle.std.specs.Prelude.{◌≡◌, IfOk};
 
+use crate::debt::Debt;
 use crate::ends::{NodeEnds, Outlet, ThreadEnd};
 use crate::sending::give;
 use crate::words::{ClientWord, Inbound, PacketWord, TimerWord};
@@ -10,12 +11,15 @@ use std::alloc::{AllocError, Global};
 use std::sync::Wait;
 use totem_ids::{ProcId, Service};
 
-/// The channels to a node's threads.
+/// The channels to a node's threads, and what it has still to deal with of what it was given.
 #[derive(Drop)]
 pub struct Port {
     packets: Sender<PacketWord>,
     timer: Sender<TimerWord>,
     client: Sender<ClientWord>,
+    debt: Debt,
+    /// What of that is of its turns.
+    turn: Debt,
 }
 
 impl Port {
@@ -34,34 +38,63 @@ impl Port {
             node,
             receiving: ThreadEnd {
                 words: received,
-                outlet: Outlet::new(node, inbound)?,
+                outlet: Outlet::new(node, false, inbound)?,
             },
             timer: ThreadEnd {
                 words: timed,
-                outlet: Outlet::new(node, inbound)?,
+                outlet: Outlet::new(node, true, inbound)?,
             },
             client: ThreadEnd {
                 words: asked,
-                outlet: Outlet::new(node, inbound)?,
+                outlet: Outlet::new(node, true, inbound)?,
             },
         };
         let port = Port {
             packets,
             timer,
             client,
+            debt: Debt::Words(0),
+            turn: Debt::Words(0),
         };
         Ok((port, ends))
     }
 
     /// Hands a packet on to the receiving thread.
-    pub fn hand_on<R: Wait>(&self, rt: &R, packet: Bytes) -> Result<(), AllocError> {
+    pub fn hand_on<R: Wait>(&mut self, rt: &R, packet: Bytes) -> Result<(), AllocError> {
+        self.debt = self.debt.given(1);
         give(rt, &self.packets, PacketWord::Packet(packet))
     }
 
     /// The node's turn: a word for its timer thread, and one for its client thread.
-    pub fn take_turn<R: Wait>(&self, rt: &R, service: Service) -> Result<(), AllocError> {
+    pub fn take_turn<R: Wait>(&mut self, rt: &R, service: Service) -> Result<(), AllocError> {
+        self.debt = self.debt.given(2);
+        self.turn = self.turn.given(2);
         give(rt, &self.timer, TimerWord::Timer)?;
         give(rt, &self.client, ClientWord::Submit(service))
+    }
+
+    /// How many words there are to wait for.
+    pub fn left(&self) -> u64 {
+        self.debt.left()
+    }
+
+    /// Whether there are words of a turn among them.
+    pub fn has_turn(&self) -> bool {
+        self.turn.left() > 0
+    }
+
+    /// The node has dealt with one.
+    pub fn done(&mut self, of_turn: bool) {
+        self.debt = self.debt.done();
+        if of_turn {
+            self.turn = self.turn.done();
+        }
+    }
+
+    /// The node takes no more words.
+    pub fn gone(&mut self) {
+        self.debt = Debt::Gone;
+        self.turn = Debt::Gone;
     }
 
     /// A stop word for each thread. A thread that can't be sent one, for want of memory, sees the channel's end.

@@ -2,6 +2,7 @@
 use crossbeam_channel::{SendError, Sender};
 use std::alloc::AllocError;
 use std::sync::Wait;
+use std::thread;
 
 /// Sends a word. Where nobody listens any more it is dropped, which is no error.
 pub fn give<T: Drop, R: Wait>(rt: &R, to: &Sender<T>, word: T) -> Result<(), AllocError> {
@@ -9,4 +10,20 @@ pub fn give<T: Drop, R: Wait>(rt: &R, to: &Sender<T>, word: T) -> Result<(), All
         Err(SendError::OutOfMemory(_)) => Err(AllocError),
         _ => Ok(()),
     }
+}
+
+/// Sends a word for which others wait, and says whether somebody listens. One that finds no memory is sent again.
+pub fn insist<T: Drop, R: Wait>(rt: &R, to: &Sender<T>, word: T) -> bool {
+    let mut word = word;
+    for _ in rt.forever() {
+        match to.send(rt, word) {
+            Ok(()) => return true,
+            Err(SendError::Disconnected(_)) => return false,
+            Err(SendError::OutOfMemory(back)) => {
+                word = back;
+                thread::yield_now();
+            }
+        }
+    }
+    unreachable!()
 }

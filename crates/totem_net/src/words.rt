@@ -1,7 +1,7 @@
 //! What goes over the channels of a run in threads.
 use crate::address::Address;
 use bytes::Bytes;
-use totem_ids::Service;
+use totem_ids::{ProcId, Service};
 
 /// What comes to the switch, over its one inbound channel.
 #[derive(Debug, Drop)]
@@ -10,6 +10,10 @@ pub enum Inbound {
     Packet { address: Address, packet: Bytes },
     /// The pacing thread's tick. The switch answers it by a `Pace`.
     Tick,
+    /// This node has dealt with a word, one of its turn or a packet, and what came of it was sent before.
+    Done { node: ProcId, of_turn: bool },
+    /// This node takes no more words, or not of each kind.
+    Gone(ProcId),
 }
 
 /// What the switch answers to a tick.

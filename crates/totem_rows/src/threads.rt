@@ -1,5 +1,7 @@
 //! Runs that nodes in threads record.
 use crate::table::run;
+use std::alloc::{AllocError, Global};
+use std::collections::BTreeMap;
 use std::process::Abort;
 use std::sync::Wait;
 use std::test::Fail;
@@ -9,19 +11,29 @@ use totem_cluster::{BookTrouble, IoFault, RunPlan, run_threads, tell_fault};
 use totem_ids::ToWrite;
 use totem_net::{Plan, Quiet};
 
-/// The run that these words make is read and judged, whatever the verdict.
-fn is_judged<T: Threads + Wait + Abort + Sync>(
+/// The run that these words make is read and judged, and the checker accepts a yes. Answers the audit's status and the run.
+fn judged<T: Threads + Wait + Abort + Sync>(
     rt: &T,
-    alloc: std::alloc::Global,
+    alloc: Global,
     words: &str,
-) -> Result<(), Fail> {
+) -> Result<(u8, String), Fail> {
     let made = run(rt, alloc, words, "")?;
     assert_eq!(rt; made.status, 0, "status of {words}");
     assert_eq!(rt; made.errors.as_str(), "", "errors of {words}");
-    let judged = run(rt, alloc, "audit", made.output.as_str())?;
-    assert!(rt; judged.status <= 1, "status of the audit of {words}");
-    assert!(rt; judged.output.starts_with("verdict "), "audit of {words}");
-    Ok(())
+    let report = run(rt, alloc, "audit", made.output.as_str())?;
+    let Some((_, positions)) = report.output.split_once("totem-cert 1\n") else {
+        assert_eq!(rt; report.status, 1, "status of the audit of {words}");
+        assert!(rt;
+            report.output.starts_with("verdict no\n"),
+            "audit of {words}"
+        );
+        return Ok((1, made.output));
+    };
+    assert_eq!(rt; report.status, 0, "status of the audit of {words}");
+    let both = format!(in alloc; "{}totem-cert 1\n{positions}", made.output)?;
+    let checked = run(rt, alloc, "check", both.as_str())?;
+    assert_eq!(rt; checked.status, 0, "status of the check of {words}");
+    Ok((0, made.output))
 }
 
 #[test]
@@ -32,8 +44,110 @@ fn a_run_of_threads_is_read_and_judged(rt: HostRuntime) -> Result<(), Fail> {
         "run --nodes 1 --ticks 80",
         "run --nodes 8 --ticks 800 --seed 18446744073709551615",
     ] {
-        is_judged(&rt, rt.alloc(), words)?;
+        judged(&rt, rt.alloc(), words)?;
     }
+    Ok(())
+}
+
+/// A no is no failure: it is printed with its run, for people to look at.
+#[test]
+fn rough_runs_are_judged(rt: HostRuntime) -> Result<(), Fail> {
+    let alloc = rt.alloc();
+    for seed in 1..=10u8 {
+        for weather in [
+            "--nodes 3 --lose 5",
+            "--nodes 3 --lose 2 --repeat 5 --hold 1",
+            "--nodes 8 --lose 2 --repeat 5 --hold 1",
+            "--nodes 16 --lose 1 --repeat 5 --hold 1",
+        ] {
+            let words = format!(in alloc; "run --ticks 240 --seed {seed} {weather}")?;
+            let (status, run) = judged(&rt, alloc, words.as_str())?;
+            if status == 1 {
+                println!(rt; "a no: {words}\n{run}")?;
+            }
+        }
+    }
+    Ok(())
+}
+
+/// What a run's text tells.
+struct Tally {
+    changes: usize,
+    sent: usize,
+    /// How many messages are delivered so many times.
+    by_all: usize,
+}
+
+fn tallied(alloc: Global, nodes: usize, text: &str) -> Result<Tally, AllocError> {
+    let mut deliveries = BTreeMap::new(alloc);
+    let (mut changes, mut sent, mut by_all) = (0usize, 0usize, 0usize);
+    for line in text.lines() {
+        let mut words = line.split_whitespace();
+        match (words.next(), words.nth(1)) {
+            (Some("conf"), _) => changes = changes.saturating_add(1),
+            (Some("send"), _) => sent = sent.saturating_add(1),
+            (Some("dlv"), Some(message)) => {
+                let before = deliveries.get(message).copied().unwrap_or(0usize);
+                deliveries.insert(message, before.saturating_add(1))?;
+                if before.saturating_add(1) == nodes {
+                    by_all = by_all.saturating_add(1);
+                }
+            }
+            _ => {}
+        }
+    }
+    Ok(Tally {
+        changes,
+        sent,
+        by_all,
+    })
+}
+
+/// How many messages the clients submit where no ticks are given.
+const SUBMITTED: usize = 500;
+
+/// Nothing where of ten messages at least so many are taken, and of ten that are taken at least so many delivered by each of
+/// so many nodes, which stay in one configuration where nothing is lost or held. Else what came of the run.
+fn told<T: Threads + Wait + Sync>(
+    rt: &T,
+    alloc: Global,
+    nodes: usize,
+    weather: &str,
+    of_ten: usize,
+) -> Result<String, Fail> {
+    let words = format!(in alloc; "run --nodes {nodes} {weather}")?;
+    let made = run(rt, alloc, words.as_str(), "")?;
+    let Tally {
+        changes,
+        sent,
+        by_all,
+    } = tallied(alloc, nodes, made.output.as_str())?;
+    let stays = changes == nodes || !weather.is_empty();
+    let taken = sent.saturating_mul(10) >= SUBMITTED.saturating_mul(of_ten);
+    if stays && taken && by_all.saturating_mul(10) >= sent.saturating_mul(of_ten) {
+        return Ok(String::new(alloc));
+    }
+    Ok(format!(in alloc; "{words}: {changes} changes, {sent} sent, {by_all} by all;")?)
+}
+
+#[test]
+fn messages_are_delivered_by_all(rt: HostRuntime) -> Result<(), Fail> {
+    let alloc = rt.alloc();
+    let mut all = String::new(alloc);
+    for (nodes, weather, of_ten) in [
+        (3, "", 9),
+        (8, "", 9),
+        (16, "", 9),
+        (32, "", 9),
+        (3, "--lose 1 --repeat 1", 8),
+        (8, "--lose 1 --repeat 1", 8),
+        (16, "--lose 1 --repeat 1", 8),
+        (3, "--lose 1 --repeat 5 --hold 1", 8),
+        (8, "--lose 1 --repeat 5 --hold 1", 8),
+    ] {
+        all.push_str(told(&rt, alloc, nodes, weather, of_ten)?.as_str())?;
+    }
+    assert_eq!(rt; all.as_str(), "");
     Ok(())
 }
 

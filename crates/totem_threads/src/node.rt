@@ -13,7 +13,7 @@ use std::thread;
 use std::thread::Threads;
 use totem_books::{BookFault, BookName, ClosedBook, Seat, SharedBook};
 use totem_evs::Members;
-use totem_net::{NodeEnds, Start};
+use totem_net::{NodeEnds, Outlet, Start};
 
 /// The three seats.
 fn three<L: BookName>(seats: Vec<Seat<L>>) -> (Seat<L>, Seat<L>, Seat<L>)
@@ -26,6 +26,12 @@ fn three<L: BookName>(seats: Vec<Seat<L>>) -> (Seat<L>, Seat<L>, Seat<L>)
     (first, second, third)
 }
 
+/// What a node answers of which a thread can't be made.
+fn unmade<R: Wait>(rt: &R, outlet: &Outlet) -> BookFault {
+    outlet.tell_gone(rt);
+    BookFault::Memory
+}
+
 /// Runs the node's threads to their ends, and answers their seats.
 fn serve_all<L: BookName + Send + Sync, S: Start, R: Threads + Wait + Sync>(
     rt: &R,
@@ -33,6 +39,7 @@ fn serve_all<L: BookName + Send + Sync, S: Start, R: Threads + Wait + Sync>(
     book: &SharedBook<L>,
     seats: Vec<Seat<L>>,
     ends: NodeEnds,
+    outlet: &Outlet,
     start: &S,
 ) -> Result<Vec<Seat<L>>, BookFault>
     requires { vec_len seats ≡ 3 }
@@ -51,13 +58,13 @@ fn serve_all<L: BookName + Send + Sync, S: Start, R: Threads + Wait + Sync>(
             let Ok(receiver) = scope.spawn(move || receive(
                 rt, alloc, book, first, receiving, node, start,
             )) else {
-                return Err(BookFault::Memory);
+                return Err(unmade(rt, outlet));
             };
             let Ok(timing) = scope.spawn(move || serve(rt, alloc, book, second, timer)) else {
-                return Err(BookFault::Memory);
+                return Err(unmade(rt, outlet));
             };
             let Ok(asking) = scope.spawn(move || serve(rt, alloc, book, third, client)) else {
-                return Err(BookFault::Memory);
+                return Err(unmade(rt, outlet));
             };
             let mut back = Vec::with_capacity(alloc, 3)?;
             back.push(receiver.join(rt)?)?;
@@ -75,6 +82,7 @@ fn keep_book<L: BookName + Send + Sync, S: Start, R: Threads + Wait + Sync>(
     blank: Blank,
     members: &Members,
     ends: NodeEnds,
+    outlet: &Outlet,
     start: &S,
 ) -> Result<ClosedBook, ThreadsFault>
     requires ledger { (blank.name ≡ L.name) × (blank.parts ≡ L.parts) × (L.parts ≡ 3) }
@@ -92,7 +100,7 @@ fn keep_book<L: BookName + Send + Sync, S: Start, R: Threads + Wait + Sync>(
         members.as_slice(),
         3,
     )?;
-    let back = serve_all(rt, alloc, &book, seats, ends, start)?;
+    let back = serve_all(rt, alloc, &book, seats, ends, outlet, start)?;
     match book.close(alloc, back) {
         Ok(closed) => Ok(closed),
         Err(refused) => Err(ThreadsFault::from(refused.fault)),
@@ -100,6 +108,22 @@ fn keep_book<L: BookName + Send + Sync, S: Start, R: Threads + Wait + Sync>(
 }
 
 /// One of so many nodes, from its first word to its last.
+fn run_to_end<S: Start, R: Threads + Wait + Sync>(
+    rt: &R,
+    alloc: Global,
+    nodes: u16,
+    ends: NodeEnds,
+    outlet: &Outlet,
+    start: &S,
+) -> Result<ClosedBook, ThreadsFault>
+    requires { (0 < nodes) × (nodes ≤ 32) }
+    ensures { IfOk result (λ book. book.start ≡ start_of nodes ends.node) }
+{
+    let members = first_members(alloc, nodes)?;
+    keep_book::<Brand, S, R>(rt, alloc, Blank::new(3), &members, ends, outlet, start)
+}
+
+/// Runs one of so many nodes, and tells that it is gone.
 pub fn run_node<S: Start, R: Threads + Wait + Sync>(
     rt: &R,
     alloc: Global,
@@ -110,6 +134,11 @@ pub fn run_node<S: Start, R: Threads + Wait + Sync>(
     requires { (0 < nodes) × (nodes ≤ 32) }
     ensures { IfOk result (λ book. book.start ≡ start_of nodes ends.node) }
 {
-    let members = first_members(alloc, nodes)?;
-    keep_book::<Brand, S, R>(rt, alloc, Blank::new(3), &members, ends, start)
+    let Ok(outlet) = ends.receiving.outlet.try_clone() else {
+        ends.receiving.outlet.tell_gone(rt);
+        return Err(ThreadsFault::Memory);
+    };
+    let ended = run_to_end(rt, alloc, nodes, ends, &outlet, start);
+    outlet.tell_gone(rt);
+    ended
 }

@@ -92,7 +92,7 @@ fn run_network<S: Start, R: Threads + Wait + Sync>(
             let Ok(pacing) = scope.spawn(move || pacer.run(rt)) else {
                 return Err(ThreadsFault::Memory);
             };
-            let served = switch.run(rt, alloc);
+            let served = switch.run_in_pace(rt, alloc);
             pacing.join(rt);
             let books = joined(rt, alloc, running)?;
             served?;

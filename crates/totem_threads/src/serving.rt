@@ -8,8 +8,34 @@ use totem_books::{BookFault, BookName, Seat, SharedBook};
 use totem_ids::ProcId;
 use totem_net::{PacketWord, Start, ThreadEnd};
 
-/// Gives the node what each word asks, and sends what it answers, until a stop word comes or the switch is gone. Answers
-/// the seat, with the receipts of these calls.
+/// Gives the node what each word asks, sends what it answers, and tells that the word has been dealt with, until a stop
+/// word comes or the switch is gone.
+fn deal<L: BookName, W: Word, R: Wait>(
+    rt: &R,
+    alloc: Global,
+    book: &SharedBook<L>,
+    seat: &mut Seat<L>,
+    end: &ThreadEnd<W>,
+) -> Result<(), BookFault> {
+    for _ in rt.forever() {
+        let Ok(word) = end.words.recv(rt) else {
+            break;
+        };
+        match word.asked(alloc)? {
+            Asked::Input(input) => {
+                let reply = book.call(rt, alloc, seat, input)?;
+                send(rt, alloc, &end.outlet, &reply)?;
+            }
+            Asked::Nothing => {}
+            Asked::Stop => break,
+        }
+        end.outlet.tell_done(rt);
+    }
+    Ok(())
+}
+
+/// Deals with a thread's words to their end, and answers the seat, with the receipts of its calls. At a fault it tells
+/// that its node is gone.
 pub fn serve<L: BookName, W: Word, R: Wait>(
     rt: &R,
     alloc: Global,
@@ -18,20 +44,13 @@ pub fn serve<L: BookName, W: Word, R: Wait>(
     end: ThreadEnd<W>,
 ) -> Result<Seat<L>, BookFault> {
     let mut seat = seat;
-    for _ in rt.forever() {
-        let Ok(word) = end.words.recv(rt) else {
-            break;
-        };
-        match word.asked(alloc)? {
-            Asked::Input(input) => {
-                let reply = book.call(rt, alloc, &mut seat, input)?;
-                send(rt, alloc, &end.outlet, &reply)?;
-            }
-            Asked::Nothing => {}
-            Asked::Stop => break,
+    match deal(rt, alloc, book, &mut seat, &end) {
+        Ok(()) => Ok(seat),
+        Err(fault) => {
+            end.outlet.tell_gone(rt);
+            Err(fault)
         }
     }
-    Ok(seat)
 }
 
 /// The receiving thread tells that its node has begun, and then does as the others.

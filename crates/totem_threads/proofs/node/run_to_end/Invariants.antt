@@ -1,5 +1,5 @@
 use Rattle.totem_threads.specs.Starts.{first_ring}
-use Rattle.totem_threads.proofs.node.run_node.Given as goal
+use Rattle.totem_threads.proofs.node.run_to_end.Given as goal
 
 abbrev pub ghosts-keep_book-L-Ledger : goal.ghosts-keep_book-L-Ledger
 ghosts-keep_book-L-Ledger g a = record { name = a.blank.name; parts = a.blank.parts }
