@@ -1,6 +1,6 @@
 //! A quick test of 3 to 7 in one regular configuration: it is uniform where all processes deliver one sequence of messages, each as
 //! far as it went, and each message was sent before what comes later in that was delivered by its sender
-//! (docs/SPECIFICATIONS.md, "Passes"). It takes one walk through each stay.
+//! (docs/DECISIONS.md, "The audit"). It takes one walk through each stay.
 ghost use Rattle.std.specs.Prelude.{◌≡◌, ◌↔◌, IsTrue, IfOk, IfSome, All, Contains, length};
 ghost use Rattle.std.specs.Bool.{OnTrue};
 ghost use Rattle.totem_evs.specs.Missing.{members_of};
