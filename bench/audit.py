@@ -99,6 +99,36 @@ def many_rings(messages):
     return family
 
 
+def parts_and_joins(count):
+    """Members that part into two halves and join again, twice. The last hundred messages of the whole are not delivered before they part:
+    each half then delivers those that it sent."""
+
+    def family(rng, entries):
+        members = list(range(1, count + 1))
+        halves = [members[: count // 2], members[count // 2 :]]
+        messages = entries // (4 * (count + 1))
+        reach = max(1, messages - 100)
+        wholes = [Ring(rng, number, members, messages) for number in (4, 12)]
+        parts = [[Ring(rng, number, half, messages) for half in halves] for number in (8, 16)]
+        logs = []
+        for member in members:
+            side = member > count // 2
+            half, lines = halves[side], []
+            for place, whole in enumerate(wholes):
+                part = parts[place][side]
+                if place:
+                    lines.append(parts[place - 1][side].between(whole))
+                lines += whole.life(member, lambda number, _: number <= reach)
+                lines.append(part.between(part))
+                later = whole.life(member, lambda number, sender, half=half: number > reach and sender in half, sends=False)[1:]
+                lines += [line.replace(f"dlv r{whole.name} ", f"dlv t{part.name}/{half[0]} ") for line in later]
+                lines += part.life(member)
+            logs.append((member, lines, "open"))
+        return logs
+
+    return family
+
+
 def one_stays_behind(count, share, ending):
     """The last of so many members sends nothing, and delivers this share of the messages (none: two)."""
 
@@ -155,6 +185,8 @@ FAMILIES = {
     "well32": ("32 logs, all well", all_well(32)),
     "rings100": ("8 logs, 100 messages on each ring", many_rings(100)),
     "rings1": ("8 logs, one message on each ring", many_rings(1)),
+    "parts8": ("8 logs that part and join again", parts_and_joins(8)),
+    "parts32": ("32 logs that part and join again", parts_and_joins(32)),
     "fails": ("3 logs, one failed early", one_stays_behind(3, 0, "failed")),
     "lags": ("8 logs, one lags from the start", one_stays_behind(8, 0, "open")),
     "half": ("3 logs, one lags from the middle", one_stays_behind(3, 0.5, "open")),

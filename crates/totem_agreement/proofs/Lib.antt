@@ -30,4 +30,10 @@ pub mod Ranks
 pub mod Replaying
 pub mod Taking
 pub mod Whole
+pub mod Placing
+pub mod Jointly
+pub mod Completing
 pub mod Uniformity
+pub mod Owing
+pub mod GoingTogether
+pub mod Settling

@@ -1,11 +1,14 @@
 -- Taking sends one after the other, as the messages of a sequence ask for them.
-use Rattle.std.proofs.Common.{◌≡◌, ℕ, zero, ◌+◌, ◌<◌, ◌≤◌, inl, inr, List, length, slice_get, slice_index_or, slice_set, replicate, Some, sym, ◌∙◌, arith}
+use Rattle.std.proofs.Common.{◌≡◌, ℕ, zero, ◌+◌, ◌<◌, ◌≤◌, inl, inr, List, [], ◌∷◌, ◌++◌, length, slice_get, slice_index_or, slice_set, replicate, Some, refl, sym, ◌∙◌, ap, arith, length-append}
 use Rattle.std.proofs.lemmas.List.{get_or-replicate, length-replicate, get_or_past, length-set, get_or-set_same, get_or-set_other}
+use Rattle.std.proofs.lemmas.Option.{slice_get_within}
 use Rattle.totem_ids.specs.declared.message.MsgId.{MsgId}
 use Rattle.totem_evs.proofs.LogOf.{less_or_not}
 use Rattle.totem_agreement.specs.declared.replay.Sent.{Sent}
 use Rattle.totem_agreement.specs.declared.replay.Replay.{Replay}
-use Rattle.totem_agreement.specs.Uniform.{IsBelow, SendsNext, IsTaken, AreTakenUpTo}
+use Rattle.totem_agreement.specs.declared.origins.Origin.{Origin}
+use Rattle.totem_agreement.specs.Uniform.{IsBelow, SendsNext, IsOrigin, OriginsUpTo}
+use Rattle.totem_agreement.proofs.Replaying.{before_push, stands_before, stands_last}
 
 -- one number of a list is greater by one, and the others are as they were
 pub record IsOneMore (old new : List ℕ) (k : ℕ) : Type 0 where
@@ -19,11 +22,17 @@ zeros n i = elim (less_or_not i n) [
   | inr more ↦ (let long = length-replicate {A = ℕ} n 0 in get_or_past (replicate n 0) i 0 (elim more [ inl gt ↦ omega (arith, long) | inr same ↦ omega (arith, long) ]))
 ]
 
-pub nothing_taken : (replays : List Replay) (messages : List MsgId) (taken : List ℕ) → taken ≡ replicate (length replays) 0 → AreTakenUpTo replays messages taken 0
-nothing_taken replays messages taken is = rw is (record {
+no_origin : (k : ℕ) (o : Origin) → slice_get [] k ≡ Some o → ⊥
+no_origin k o at = cc
+
+pub no_origins : (replays : List Replay) (messages : List MsgId) (taken : List ℕ) → taken ≡ replicate (length replays) 0 → OriginsUpTo replays messages [] taken 0
+no_origins replays messages taken is = rw is (record {
   long = sym (length-replicate {A = ℕ} (length replays) 0);
-  each = λ k m lt at. absurd (omega arith);
-  all = λ k replay j s at lt is. absurd (let zero = zeros (length replays) k in omega (arith, lt, zero));
+  count = refl;
+  each = λ k m o at_m at. absurd (no_origin k o at);
+  within = λ k o at. absurd (no_origin k o at);
+  rising = λ k l o p at_o at_p lt same. absurd (no_origin k o at_o);
+  all = λ k replay j s at lt is. absurd (let none = zeros (length replays) k in omega (arith, lt, none));
 })
 
 -- a number is raised
@@ -34,9 +43,6 @@ is_one_more old k x lt is = record {
   others = λ i other. get_or-set_other old k i x 0 other;
 }
 
-raised : (messages : List MsgId) (n : ℕ) (m : MsgId) → IsBelow messages n m → IsBelow messages (n + 1) m
-raised messages n m h = record { place = h.place; below = (let below = h.below in omega arith); is = h.is }
-
 grows : (old new : List ℕ) (k i : ℕ) → IsOneMore old new k → slice_index_or old i 0 ≤ slice_index_or new i 0
 grows old new k i more = elim (less_or_not i k) [
   | inl lt ↦ (let same = more.others i (λ e. omega (arith, lt, e)) in omega (arith, same))
@@ -46,64 +52,76 @@ grows old new k i more = elim (less_or_not i k) [
   ]
 ]
 
-pub one_more_taken : (replays : List Replay) (messages : List MsgId) (old new : List ℕ) (n k : ℕ) (m : MsgId) → slice_get messages n ≡ Some m → SendsNext replays old n m k → IsOneMore old new k → AreTakenUpTo replays messages old n
-    → AreTakenUpTo replays messages new (n + 1)
-one_more_taken replays messages old new n k m stands next more before = record { long = before.long ∙ sym more.long; each = each; all = all }
+-- one more origin keeps those before
+raised : (messages : List MsgId) (origins : List Origin) (o : Origin) (n k : ℕ) (m : MsgId) → IsBelow messages origins n k m → IsBelow messages (origins ++ (o ∷ [])) (n + 1) k m
+raised messages origins o n k m h = record { place = h.place; below = (let below = h.below in omega arith); is = h.is; origin = h.origin; listed = stands_before origins o h.place h.origin h.listed; stay = h.stay }
+
+kept : (messages : List MsgId) (origins : List Origin) (o : Origin) (n k : ℕ) (m : MsgId) → IsBelow messages origins n k m → IsBelow messages (origins ++ (o ∷ [])) n k m
+kept messages origins o n k m h = record { place = h.place; below = h.below; is = h.is; origin = h.origin; listed = stands_before origins o h.place h.origin h.listed; stay = h.stay }
+
+pub one_more_origin : (replays : List Replay) (messages : List MsgId) (origins : List Origin) (old new : List ℕ) (n : ℕ) (m : MsgId) (o : Origin) → slice_get messages n ≡ Some m → SendsNext replays old n m o → IsOneMore old new o.stay
+    → OriginsUpTo replays messages origins old n → OriginsUpTo replays messages (origins ++ (o ∷ [])) new (n + 1)
+one_more_origin replays messages origins old new n m o stands next more before = record { long = before.long ∙ sym more.long; count = count; each = each; within = within; rising = rising; all = all }
   where
-    taken : IsTaken replays messages new n m
-    taken = record {
-      index = k;
+    count : length (origins ++ (o ∷ [])) ≡ n + 1
+    count = length-append origins (o ∷ []) ∙ ap (λ k. k + 1) before.count
+
+    newest : (q : MsgId) → slice_get messages n ≡ Some q → IsOrigin replays messages (origins ++ (o ∷ [])) n q o
+    newest q at = let same : m ≡ q = cc in record {
       replay = next.replay;
       stands = next.stands;
-      at = slice_index_or old k 0;
-      within = (let here = more.here in omega (arith, here));
-      sent = next.next.sent;
       is = next.next.stands;
-      message = next.next.message;
+      message = next.next.message ∙ same;
       early = next.next.early;
-      front = λ j s lt is. before.all k next.replay j s next.stands lt is;
+      front = λ j s lt is. kept messages origins o n o.stay s.message (before.all o.stay next.replay j s next.stands (let index = next.index in omega (arith, lt, index)) is);
     }
 
-    each : (i : ℕ) (o : MsgId) → i < n + 1 → slice_get messages i ≡ Some o → IsTaken replays messages new i o
-    each i o lt at = elim (less_or_not i n) [
-      | inl below ↦ (let h = before.each i o below at in record {
-        index = h.index;
-        replay = h.replay;
-        stands = h.stands;
-        at = h.at;
-        within = (let within = h.within in let up = grows old new k h.index more in omega (arith, within, up));
-        sent = h.sent;
-        is = h.is;
-        message = h.message;
-        early = h.early;
-        front = h.front;
-      })
-      | inr rest ↦ elim rest [
-        | inl over ↦ absurd (omega arith)
-        | inr same ↦ (let there : slice_get messages n ≡ Some o = rw same at at in let one : m ≡ o = cc in rw (same, ← one) taken)
+    each : (k : ℕ) (q : MsgId) (p : Origin) → slice_get messages k ≡ Some q → slice_get (origins ++ (o ∷ [])) k ≡ Some p → IsOrigin replays messages (origins ++ (o ∷ [])) k q p
+    each k q p at_q at_p = elim (before_push origins o k p at_p) [
+      | inl inside ↦ (let h = before.each k q p at_q inside in record { replay = h.replay; stands = h.stands; is = h.is; message = h.message; early = h.early; front = λ j s lt is. kept messages origins o k p.stay s.message (h.front j s lt is) })
+      | inr (last, same) ↦ rw (last, before.count, ← same) (newest q (rw (last, before.count) at at_q))
+    ]
+
+    within : (k : ℕ) (p : Origin) → slice_get (origins ++ (o ∷ [])) k ≡ Some p → p.index < slice_index_or new p.stay 0
+    within k p at_p = elim (before_push origins o k p at_p) [
+      | inl inside ↦ (let lt = before.within k p inside in let up = grows old new o.stay p.stay more in omega (arith, lt, up))
+      | inr (last, same) ↦ rw (← same) (let index = next.index in let here = more.here in omega (arith, index, here))
+    ]
+
+    rising : (k l : ℕ) (p q : Origin) → slice_get (origins ++ (o ∷ [])) k ≡ Some p → slice_get (origins ++ (o ∷ [])) l ≡ Some q → k < l → p.stay ≡ q.stay → p.index < q.index
+    rising k l p q at_p at_q lt same = elim (before_push origins o k p at_p) [
+      | inl inside ↦ elim (before_push origins o l q at_q) [
+        | inl also ↦ before.rising k l p q inside also lt same
+        | inr (last, is) ↦ (let one : p.stay ≡ o.stay = rw is same in let under = before.within k p inside in let index = next.index in
+            let there : p.index < slice_index_or old o.stay 0 = rw one at under in rw (← is) (omega (arith, there, index)))
+      ]
+      | inr (last, is) ↦ elim (before_push origins o l q at_q) [
+        | inl also ↦ absurd (let inside = slice_get_within origins l q also in omega (arith, inside, last, lt))
+        | inr (end, equal) ↦ absurd (omega (arith, last, end, lt))
       ]
     ]
 
-    last : (replay : Replay) (s : Sent) → slice_get replays k ≡ Some replay → slice_get replay.sends.items (slice_index_or old k 0) ≡ Some s → IsBelow messages (n + 1) s.message
+    last : (replay : Replay) (s : Sent) → slice_get replays o.stay ≡ Some replay → slice_get replay.sends.items (slice_index_or old o.stay 0) ≡ Some s → IsBelow messages (origins ++ (o ∷ [])) (n + 1) o.stay s.message
     last replay s at is =
         let one : next.replay ≡ replay = (let here = next.stands in cc) in
-        let sent : slice_get replay.sends.items (slice_index_or old k 0) ≡ Some next.next.sent = rw one at next.next.stands in
-        let same : next.next.sent ≡ s = cc in
+        let index = next.index in
+        let sent : slice_get replay.sends.items (slice_index_or old o.stay 0) ≡ Some o.sent = rw (one, index) at next.next.stands in
+        let same : o.sent ≡ s = cc in
         let message : s.message ≡ m = rw same at next.next.message in
-        record { place = n; below = omega arith; is = rw message stands }
+        record { place = n; below = omega arith; is = rw message stands; origin = o; listed = rw (← before.count) (stands_last origins o); stay = refl }
 
-    all : (i : ℕ) (replay : Replay) (j : ℕ) (s : Sent) → slice_get replays i ≡ Some replay → j < slice_index_or new i 0 → slice_get replay.sends.items j ≡ Some s → IsBelow messages (n + 1) s.message
-    all i replay j s at lt is = elim (less_or_not i k) [
-      | inl under ↦ (let same = more.others i (λ e. omega (arith, under, e)) in raised messages n s.message (before.all i replay j s at (omega (arith, lt, same)) is))
+    all : (i : ℕ) (replay : Replay) (j : ℕ) (s : Sent) → slice_get replays i ≡ Some replay → j < slice_index_or new i 0 → slice_get replay.sends.items j ≡ Some s → IsBelow messages (origins ++ (o ∷ [])) (n + 1) i s.message
+    all i replay j s at lt is = elim (less_or_not i o.stay) [
+      | inl under ↦ (let same = more.others i (λ e. omega (arith, under, e)) in raised messages origins o n i s.message (before.all i replay j s at (omega (arith, lt, same)) is))
       | inr rest ↦ elim rest [
-        | inl over ↦ (let same = more.others i (λ e. omega (arith, over, e)) in raised messages n s.message (before.all i replay j s at (omega (arith, lt, same)) is))
-        | inr here ↦ at_k (rw here at at) (rw here at lt)
+        | inl over ↦ (let same = more.others i (λ e. omega (arith, over, e)) in raised messages origins o n i s.message (before.all i replay j s at (omega (arith, lt, same)) is))
+        | inr here ↦ rw here (at_k (rw here at at) (rw here at lt))
       ]
     ]
       where
-        at_k : slice_get replays k ≡ Some replay → j < slice_index_or new k 0 → IsBelow messages (n + 1) s.message
-        at_k stands lt = let here = more.here in elim (less_or_not j (slice_index_or old k 0)) [
-          | inl below ↦ raised messages n s.message (before.all k replay j s stands below is)
+        at_k : slice_get replays o.stay ≡ Some replay → j < slice_index_or new o.stay 0 → IsBelow messages (origins ++ (o ∷ [])) (n + 1) o.stay s.message
+        at_k stands lt = let here = more.here in elim (less_or_not j (slice_index_or old o.stay 0)) [
+          | inl below ↦ raised messages origins o n o.stay s.message (before.all o.stay replay j s stands below is)
           | inr rest ↦ elim rest [
             | inl over ↦ absurd (omega (arith, lt, here, over))
             | inr same ↦ last replay s stands (rw same at is)

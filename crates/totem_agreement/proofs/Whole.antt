@@ -1,12 +1,11 @@
 -- Whether all stays went as far as they ought to, stay by stay and member by member.
 use Rattle.std.proofs.Common.{◌≡◌, ℕ, ◌+◌, ◌<◌, ◌≤◌, inl, inr, List, length, slice_get, slice_index_or, Some, ap, ◌∙◌, arith}
 use Rattle.std.proofs.lemmas.Option.{slice_get-get_or, slice_get_within}
-use Rattle.totem_ids.specs.declared.message.MsgId.{MsgId}
 use Rattle.totem_evs.proofs.LogOf.{less_or_not}
 use Rattle.totem_agreement.specs.declared.stay.Stay.{Stay}
 use Rattle.totem_agreement.specs.declared.replay.Replay.{Replay}
 use Rattle.totem_agreement.specs.Stays.{HasStay}
-use Rattle.totem_agreement.specs.Uniform.{IsWhole, HasAll, HasMembers, EachWhole, EachComplete}
+use Rattle.totem_agreement.specs.Uniform.{HasAll, EachComplete}
 
 -- there are stays of the first n members
 pub record HaveUpTo (stays : List Stay) (members : List ℕ) (n : ℕ) : Type 0 where
@@ -28,40 +27,11 @@ have_all stays members n end h = record {
   each = λ q (k, lt, same). h.each k q (omega arith) (slice_get-get_or members k q lt ∙ ap Some same);
 }
 
--- the first n stays are whole
-pub record WholeUpTo (messages : List MsgId) (regular : ℕ) (stays : List Stay) (replays : List Replay) (taken : List ℕ) (n : ℕ) : Type 0 where
-  pub each : (k : ℕ) (stay : Stay) (replay : Replay) → k < n → slice_get stays k ≡ Some stay → slice_get replays k ≡ Some replay
-      → IsWhole messages regular stay replay (slice_index_or taken k 0) × HasMembers stays stay
-
-pub none_whole : (messages : List MsgId) (regular : ℕ) (stays : List Stay) (replays : List Replay) (taken : List ℕ) → WholeUpTo messages regular stays replays taken 0
-none_whole messages regular stays replays taken = record { each = λ k stay replay lt at_stay at. absurd (omega arith) }
-
-pub one_more_whole : (messages : List MsgId) (regular : ℕ) (stays : List Stay) (replays : List Replay) (taken : List ℕ) (n : ℕ) (stay : Stay) (replay : Replay) → slice_get stays n ≡ Some stay → slice_get replays n ≡ Some replay
-    → IsWhole messages regular stay replay (slice_index_or taken n 0) → HasMembers stays stay → WholeUpTo messages regular stays replays taken n → WholeUpTo messages regular stays replays taken (n + 1)
-one_more_whole messages regular stays replays taken n stay replay at_stay at_replay whole members before = record {
-  each = λ k s r lt at_s at_r. elim (less_or_not k n) [
-    | inl under ↦ before.each k s r under at_s at_r
-    | inr rest ↦ elim rest [
-      | inl over ↦ absurd (omega arith)
-      | inr here ↦ (let there : slice_get stays n ≡ Some s = rw here at at_s in
-          let also : slice_get replays n ≡ Some r = rw here at at_r in
-          let one : stay ≡ s = cc in
-          let other : replay ≡ r = cc in
-          rw (here, ← one, ← other) (whole, members))
-    ]
-  ];
-}
-
-pub all_whole : (messages : List MsgId) (regular : ℕ) (stays : List Stay) (replays : List Replay) (taken : List ℕ) (n : ℕ) → length stays ≤ n → WholeUpTo messages regular stays replays taken n → EachWhole messages regular stays replays taken
-all_whole messages regular stays replays taken n end h = record {
-  each = λ k stay replay at_stay at_replay. h.each k stay replay (let within = slice_get_within stays k stay at_stay in omega (arith, within)) at_stay at_replay;
-}
-
 -- the first n replays are complete
 pub record CompleteUpTo (replays : List Replay) (messages : ℕ) (taken : List ℕ) (n : ℕ) : Type 0 where
-  pub each : (k : ℕ) (replay : Replay) → k < n → slice_get replays k ≡ Some replay → (messages ≤ replay.count) × (length replay.sends.items ≤ slice_index_or taken k 0)
+  pub each : (k : ℕ) (replay : Replay) → k < n → slice_get replays k ≡ Some replay → (messages ≤ length replay.places.items) × (length replay.sends.items ≤ slice_index_or taken k 0)
 
-pub one_more_complete : (replays : List Replay) (messages : ℕ) (taken : List ℕ) (n : ℕ) (replay : Replay) → slice_get replays n ≡ Some replay → messages ≤ replay.count → length replay.sends.items ≤ slice_index_or taken n 0
+pub one_more_complete : (replays : List Replay) (messages : ℕ) (taken : List ℕ) (n : ℕ) (replay : Replay) → slice_get replays n ≡ Some replay → messages ≤ length replay.places.items → length replay.sends.items ≤ slice_index_or taken n 0
     → CompleteUpTo replays messages taken n → CompleteUpTo replays messages taken (n + 1)
 one_more_complete replays messages taken n replay at count sends before = record {
   each = λ k r lt at_r. elim (less_or_not k n) [

@@ -14,3 +14,4 @@ pub mod Partings
 pub mod Suspects
 pub mod Findings
 pub mod Uniform
+pub mod Owed

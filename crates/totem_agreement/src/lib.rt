@@ -2,6 +2,7 @@
 //! follows it; and what a run leaves open (docs/SPECIFICATIONS.md, "Passes", "Pending and waiting").
 #![tactic(auto)]
 
+mod alike;
 mod arrival;
 mod atomicity;
 mod causality;
@@ -14,6 +15,7 @@ mod installed;
 mod jobs;
 mod kept;
 mod origins;
+mod owed;
 mod own;
 mod pass;
 mod pendings;

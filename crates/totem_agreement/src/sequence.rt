@@ -5,31 +5,31 @@ use std::alloc::{AllocError, Global};
 use totem_evs::Entry;
 use totem_ids::MsgId;
 
-/// The messages in the order of their delivery. The first `regular` ones are delivered in the regular configuration, the others
-/// in what follows it.
-#[derive(Drop)]
-pub struct Sequence {
-    pub messages: Vec<MsgId>,
-    pub regular: usize,
+/// The message that the log of this stay delivers at an index, if it delivers there.
+fn delivered_at(stay: &Stay, at: usize) -> Option<MsgId> {
+    match stay.log.get(at) {
+        Some(Entry::Deliver(message, _)) => Some(*message),
+        _ => None,
+    }
 }
 
-/// How many messages the stay delivers.
-fn deliveries(stay: &Stay) -> usize {
+/// How many messages the stay delivers from its beginning up to this index.
+fn deliveries(stay: &Stay, end: usize) -> usize {
     let mut count = 0usize;
-    for at in stay.from..stay.end {
-        if let Some(Entry::Deliver(_, _)) = stay.log.get(at) {
+    for at in stay.from..end {
+        if let Some(_) = delivered_at(stay, at) {
             count = count.saturating_add(1);
         }
     }
     count
 }
 
-/// The stay that delivers most, or none where there are no stays.
-fn fullest<'s, 'r>(stays: &'s [Stay<'r>]) -> Option<&'s Stay<'r>> {
+/// The stay that delivers most, or most in the regular configuration, or none where there are no stays.
+fn fullest<'s, 'r>(stays: &'s [Stay<'r>], regular: bool) -> Option<&'s Stay<'r>> {
     let mut most = 0;
     let mut found = stays.first();
     for stay in stays {
-        let count = deliveries(stay);
+        let count = deliveries(stay, if regular { stay.turn } else { stay.end });
         if count > most {
             most = count;
             found = Some(stay);
@@ -39,18 +39,54 @@ fn fullest<'s, 'r>(stays: &'s [Stay<'r>]) -> Option<&'s Stay<'r>> {
 }
 
 /// What the stay that delivers most delivers.
-pub fn sequence_of(alloc: Global, stays: &[Stay]) -> Result<Sequence, AllocError> {
+pub fn sequence_of(alloc: Global, stays: &[Stay]) -> Result<Vec<MsgId>, AllocError> {
     let mut messages = Vec::new(alloc);
-    let mut regular = 0;
-    if let Some(stay) = fullest(stays) {
+    if let Some(stay) = fullest(stays, false) {
         for at in stay.from..stay.end {
-            if let Some(Entry::Deliver(message, _)) = stay.log.get(at) {
-                messages.push(*message)?;
-                if at < stay.turn {
-                    regular = messages.len();
-                }
+            if let Some(message) = delivered_at(stay, at) {
+                messages.push(message)?;
             }
         }
     }
-    Ok(Sequence { messages, regular })
+    Ok(messages)
+}
+
+/// What the stays deliver behind the regular configuration, in the order of the messages, each as often as it is delivered there.
+fn delivered_later(alloc: Global, stays: &[Stay]) -> Result<Vec<MsgId>, AllocError> {
+    let mut later = Vec::new(alloc);
+    for stay in stays {
+        for at in stay.turn..stay.end {
+            if let Some(message) = delivered_at(stay, at) {
+                later.push(message)?;
+            }
+        }
+    }
+    later.sort()?;
+    Ok(later)
+}
+
+/// What the stay that delivers most in the regular configuration delivers there, and then what comes behind that in the order of the
+/// messages and is delivered by any stay behind the regular configuration.
+pub fn ordered_sequence(alloc: Global, stays: &[Stay]) -> Result<Vec<MsgId>, AllocError> {
+    let mut messages = Vec::new(alloc);
+    let mut last = None;
+    if let Some(stay) = fullest(stays, true) {
+        for at in stay.from..stay.turn {
+            if let Some(message) = delivered_at(stay, at) {
+                messages.push(message)?;
+                last = Some(message);
+            }
+        }
+    }
+    for message in delivered_later(alloc, stays)? {
+        let is_new = match &last {
+            Some(before) => before.is_below(&message),
+            None => true,
+        };
+        if is_new {
+            messages.push(message)?;
+            last = Some(message);
+        }
+    }
+    Ok(messages)
 }

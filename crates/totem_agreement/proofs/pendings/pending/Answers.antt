@@ -6,7 +6,7 @@ use Rattle.totem_agreement.proofs.Adding.{between_more}
 use Rattle.totem_agreement.proofs.Ringing.{are_rings}
 use Rattle.totem_agreement.specs.Uniform.{IsComplete}
 use Rattle.totem_agreement.proofs.Facts.{facts}
-use Rattle.totem_agreement.proofs.Uniformity.{none_pending}
+use Rattle.totem_agreement.proofs.Completing.{none_pending}
 use Rattle.totem_agreement.proofs.Pend.{PendingAt, of_one_ring, none_of_ring, all_rings}
 use Rattle.totem_agreement.proofs.pendings.pending.Goals.{then-not-branch+in_ok-stays+in_ok-add_pending, else-not-branch}
 use Rattle.totem_agreement.proofs.PendOrder.{are_pending_if_ok, empty_has_none}

@@ -2,4 +2,4 @@ use Rattle.totem_agreement.proofs.Replaying.{Replayed}
 use Rattle.totem_agreement.proofs.replay.replayed.Given as goal
 
 abbrev pub invariant-loop-at : goal.invariant-loop-at
-invariant-loop-at l = Replayed l.sequence.messages.items l.sequence.regular l.stay l.at l.count l.sends.items
+invariant-loop-at l = Replayed l.messages l.stay l.at l.next l.regular l.places.items l.sends.items
