@@ -18,3 +18,4 @@ pub mod Originating
 pub mod Exact
 pub mod QuickSends
 pub mod QuickTest
+pub mod KnownSending

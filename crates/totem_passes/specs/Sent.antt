@@ -3,11 +3,12 @@ use Rattle.std.specs.Prelude.{◌≡◌, ℕ, List}
 use Rattle.totem_ids.specs.declared.conf.ConfId.{ConfId}
 use Rattle.totem_ids.specs.declared.conf.ConfId.TheVariants.{Regular, Transitional}
 use Rattle.totem_ids.specs.declared.message.MsgId.{MsgId}
+use Rattle.totem_ids.specs.declared.message.Service.{Service}
 use Rattle.totem_ids.specs.declared.ring.RingId.{RingId}
 use Rattle.totem_evs.specs.declared.entry.Entry.{Entry}
 use Rattle.totem_evs.specs.declared.entry.Entry.TheVariants.{Conf, Send, Deliver, Fail}
 use Rattle.totem_evs.specs.declared.log.Log.{Log}
-use Rattle.totem_evs.specs.Events.{ChangesTo, WasSentIn}
+use Rattle.totem_evs.specs.Events.{ChangesTo, Delivers, WasSentIn, log_of}
 use Rattle.totem_evs.specs.Following.{Com}
 
 -- a change to x
@@ -24,6 +25,19 @@ pub record NeverChangesTo (log : List Entry) (x : ConfId) : Type 0 where
 -- m was sent in d, or in the regular configuration that d follows in this log
 abbrev pub WasSentTo : List Log → List Entry → MsgId → ConfId → Type 0
 WasSentTo run log m d = (c : RingId) × WasSentIn run m (Regular c) × Com log c d
+
+-- the entry sends m in the regular configuration c
+pub record IsSendIn (entry : Entry) (m : MsgId) (c : RingId) : Type 0 where
+  pub service : Service
+  pub is : entry ≡ Send m (Regular c) service
+
+-- what this entry of p's log delivers was sent for it
+pub record IsSentBy (run : List Log) (p : ℕ) (entry : Entry) : Type 0 where
+  pub each : (m : MsgId) (d : ConfId) → entry ≡ Deliver m d → WasSentTo run (log_of run p) m d
+
+-- what the entry at i of the log delivers was sent for it
+pub record IsSentHere (run : List Log) (p : ℕ) (log : List Entry) (i : ℕ) : Type 0 where
+  pub each : (m : MsgId) (d : ConfId) → Delivers log i m d → WasSentTo run log m d
 
 -- a send of m in d, or in the regular configuration that d follows in this log
 abbrev pub IsSendTo : List Entry → MsgId → ConfId → ℕ → ℕ → Entry → Type 0

@@ -7,6 +7,7 @@ mod follow;
 mod followed;
 mod forms;
 mod kinds;
+mod known_sends;
 mod met;
 mod misplaced;
 mod origins;

@@ -11,6 +11,7 @@ ghost use Rattle.totem_passes.specs.Followed.{AreFollowed};
 
 use crate::follow::is_in;
 use crate::followed::Followed;
+use crate::known_sends::is_met;
 use crate::register::enter_run;
 use crate::search::{Relation, least};
 use crate::sending::Sending;
@@ -149,6 +150,9 @@ impl Relation for Unsent<'_> {
 pub fn find(alloc: Global, run: &Run) -> Result<Option<Places>, AllocError>
     ensures { IfOk result (Finds run.now.logs SpecNo.Unsent) }
 {
+    if is_met(alloc, run)? {
+        return Ok(None);
+    }
     let mut sendings = Sendings::new(alloc);
     enter_run(&mut sendings, alloc, run)?;
     let mut followed = Followed::new(alloc);
