@@ -1,4 +1,4 @@
-//! The command `totem`: its words and the standard streams go to the program.
+//! The command `totem`: hands its words and the standard streams to the program.
 #![tactic(auto)]
 
 use std::io;
@@ -10,7 +10,7 @@ fn out_of_memory<E: Sink>(errors: &mut E) -> ExitCode {
     ExitCode::from(tell_fault(errors, &IoFault::Memory))
 }
 
-/// Words that are no text, or for which there was no memory.
+/// Answers words that are no text, or for which there was no memory.
 fn no_words<E: Sink>(error: &io::Error, errors: &mut E) -> ExitCode {
     if error.kind() == io::ErrorKind::OutOfMemory {
         return out_of_memory(errors);

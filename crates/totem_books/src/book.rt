@@ -16,10 +16,10 @@ use totem_evs::{Entry, Members};
 use totem_ids::{ProcId, RingId};
 use totem_node::{Input, NodeCore};
 
-/// How many calls, or entries, a book stores before it is full.
+/// How many calls, and how many entries, make a book full.
 const MOST: usize = 1_000_000;
 
-/// A node with its calls and its log. Contracts see with what the node began, and the calls.
+/// A node with its calls and its log. Contracts see the calls, and what the node began with.
 #[derive(Debug, Drop)]
 pub struct Book {
     me: ProcId,
@@ -42,8 +42,8 @@ impl Model for Book {
 }
 
 impl Book {
-    /// A book without calls, of a node that starts on this ring. The members are 1 to 32 processes, strictly rising, with `me`
-    /// among them.
+    /// Makes the book of a node that starts on this ring, without calls. The members are 1 to 32 processes, strictly
+    /// rising, and are expected to have `me` among them.
     pub fn new(
         alloc: Global,
         me: ProcId,
@@ -72,14 +72,15 @@ impl Book {
         &self.calls
     }
 
-    /// The entries: the first change, and what the calls wrote.
+    /// Returns the entries: the first change, and then what the calls wrote.
     pub fn log(&self) -> &[Entry]
         ensures { result.now ≡ log_of self.now }
     {
         &self.entries
     }
 
-    /// Gives the node one input and stores the call. At a fault nothing changes and nothing is stored.
+    /// Gives the node one input and stores the call. Returns the receipt of the call and the reply. `Long` if the book
+    /// is full. At a fault nothing changes and nothing is stored.
     pub fn apply(&mut self, alloc: Global, input: Input) -> Result<(Stub, Reply), BookFault>
         ensures history { IfOk result (λ r. self.new ≡ followed_by self.old (called input (answer_of r.1))) }
         ensures reply { IfOk result (λ r. answer_of r.1 ≡ answer self.old input) }
@@ -98,7 +99,7 @@ impl Book {
         Ok((stub, reply))
     }
 
-    /// The same book, which takes no more calls.
+    /// Turns the book into one that takes no more calls.
     pub(crate) fn into_closed(self) -> ClosedBook
         ensures start { result.start ≡ self.start }
         ensures calls { result.calls ≡ self.calls }

@@ -16,7 +16,7 @@ pub enum BookFault {
 }
 
 impl BookFault {
-    /// Its number, from 1 on in the order above.
+    /// Returns the fault's number, counted from 1 in the order above.
     pub fn number(&self) -> u8
         ensures { result ≡ book_number self.now }
     {
@@ -26,7 +26,7 @@ impl BookFault {
         }
     }
 
-    /// Its name.
+    /// Returns the fault's name.
     pub fn name(&self) -> &'static str
         ensures { result.now ≡ book_name self.now }
     {

@@ -1,4 +1,4 @@
-//! Calls of a node, and the receipts that their callers keep.
+//! Calls of a node, and the receipts that the callers keep.
 ghost use Rattle.std.specs.Prelude.{◌≡◌, ◌↔◌, IsTrue, IfOk};
 
 use crate::comparing::Same;
@@ -7,14 +7,14 @@ use std::alloc::{AllocError, Global};
 use std::marker::Model;
 use totem_node::Input;
 
-/// An input, and what the node answered.
+/// An input, and what the node answered to it.
 #[derive(Debug, Drop)]
 pub struct Call {
     pub input: Input,
     pub reply: Reply,
 }
 
-/// The receipt of a call: its place among all calls of the node, from 1, with its input and reply.
+/// The receipt of a call: its place among all calls of the node, counted from 1, with its input and reply.
 #[derive(Debug, Drop)]
 pub struct Stub {
     pub at: u64,
@@ -43,7 +43,7 @@ impl Model for Stub {
 impl Call {
     ghost use Rattle.totem_books.specs.History.{called};
 
-    /// Whether the receipt has its input and its reply.
+    /// Returns whether the receipt has this call's input and reply.
     pub fn is_of(&self, stub: &Stub) -> bool
         ensures { IsTrue result ↔ (self.now ≡ called stub.now.input stub.now.reply) }
     {
@@ -63,7 +63,7 @@ impl Call {
 impl Stub {
     ghost use Rattle.totem_books.specs.History.{called};
 
-    /// A copy of the call that it is of.
+    /// Returns a copy of the call that the receipt is of.
     pub(crate) fn call(&self, alloc: Global) -> Result<Call, AllocError>
         ensures { IfOk result (λ call. call ≡ called self.now.input self.now.reply) }
     {

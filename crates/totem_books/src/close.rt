@@ -1,4 +1,4 @@
-//! The end of a shared book, once its seats came back.
+//! The end of a shared book, once its seats have come back.
 ghost use Rattle.std.specs.Prelude.{◌≡◌, ◌<◌, List, IfOk, IfErr, vec_len, length};
 ghost use Rattle.totem_books.specs.Calls.{Called};
 ghost use Rattle.totem_books.specs.Replay.{IsRecorded, IsPlayed};
@@ -14,7 +14,7 @@ use crate::shared::SharedBook;
 use std::alloc::Global;
 use std::sync::Mutex;
 
-/// Why a book wasn't closed, with the book and the seats, which may be tried again.
+/// Why a book was not closed. The book and the seats are given back, so that closing may be tried again.
 #[derive(Drop)]
 pub struct CloseRefused<L: BookName> {
     pub fault: CloseFault,
@@ -23,7 +23,7 @@ pub struct CloseRefused<L: BookName> {
 }
 
 impl<L: BookName> SharedBook<L> {
-    /// Ends the book where all its seats came back, and each has the receipts of its calls. It waits for nobody.
+    /// Closes the book if all its seats have come back and each has the receipts of its calls. Waits for nobody.
     pub fn close(self, alloc: Global, seats: Vec<Seat<L>>) -> Result<ClosedBook, CloseRefused<L>>
         ensures shares { IfOk result (λ b. length b.calls ≡ shares_in seats.items) }
         ensures receipts { IfOk result (λ b. length b.calls ≡ receipts_in seats.items) }

@@ -1,10 +1,10 @@
-//! Why a book isn't closed.
+//! Why a book was not closed.
 ghost use Rattle.std.specs.Prelude.{◌≡◌};
 ghost use Rattle.totem_books.specs.Faults.{close_number, close_name};
 
 use thiserror::Error;
 
-/// Why a book isn't closed (docs/PROTOCOL.md, "Books").
+/// Why a book was not closed (docs/PROTOCOL.md, "Books").
 #[derive(Clone, Copy, Debug, PartialEq, Eq, Error)]
 pub enum CloseFault {
     #[error("a seat is missing")]
@@ -16,7 +16,7 @@ pub enum CloseFault {
 }
 
 impl CloseFault {
-    /// Its number, from 1 on in the order above.
+    /// Returns the fault's number, counted from 1 in the order above.
     pub fn number(&self) -> u8
         ensures { result ≡ close_number self.now }
     {
@@ -27,7 +27,7 @@ impl CloseFault {
         }
     }
 
-    /// Its name.
+    /// Returns the fault's name.
     pub fn name(&self) -> &'static str
         ensures { result.now ≡ close_name self.now }
     {

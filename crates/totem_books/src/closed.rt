@@ -31,21 +31,21 @@ impl Model for ClosedBook {
 }
 
 impl ClosedBook {
-    /// The node whose book it is.
+    /// Returns the node whose book it is.
     pub fn me(&self) -> ProcId
         ensures { result ≡ self.now.start.me }
     {
         self.me
     }
 
-    /// The ring on which the node began.
+    /// Returns the ring on which the node began.
     pub fn ring(&self) -> RingId
         ensures { result ≡ self.now.start.ring }
     {
         self.ring
     }
 
-    /// The members of that ring.
+    /// Returns the members of that ring.
     pub fn members(&self) -> &[ProcId]
         ensures value { result.now ≡ self.now.start.members }
         ensures members { IsMembers self.now.start.members }
@@ -59,7 +59,7 @@ impl ClosedBook {
         self.calls.as_slice()
     }
 
-    /// The entries: the first change, and what the calls wrote.
+    /// Returns the entries: the first change, and then what the calls wrote.
     pub fn log(&self) -> &[Entry]
         ensures value { result.now ≡ self.now.log }
         ensures replay { IsRecorded self.now.start self.now.calls self.now.log }

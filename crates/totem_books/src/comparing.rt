@@ -1,4 +1,4 @@
-//! Whether two values are the same, as contracts can use it.
+//! Compares values in a form that contracts can use.
 ghost use Rattle.std.specs.Prelude.{◌≡◌, ◌↔◌, IsTrue};
 
 mod events;
@@ -8,13 +8,13 @@ mod names;
 mod packets;
 mod steps;
 
-/// What is compared by value: `==`, as contracts can use it.
+/// Values that can be compared in contracts, as by `==`.
 pub trait Same {
     fn same(&self, other: &Self) -> bool
         ensures { IsTrue result ↔ (self.now ≡ other.now) };
 }
 
-/// Whether two lists have the same items in the same order.
+/// Returns whether two lists have the same items in the same order.
 pub fn same_items<T: Same>(these: &[T], those: &[T]) -> bool
     ensures { IsTrue result ↔ (these.now ≡ those.now) }
 {

@@ -11,7 +11,7 @@ use std::alloc::{AllocError, Global};
 use totem_evs::Entry;
 use totem_node::{Input, NodeCore};
 
-/// The receipt of the call of this place.
+/// Makes the receipt of the call at this place.
 fn receipt_of(alloc: Global, place: u64, input: &Input, reply: &Reply) -> Result<Stub, AllocError>
     ensures { IfOk result (λ stub. stub ≡ receipt place input.now (answer_of reply.now)) }
 {
@@ -24,7 +24,7 @@ fn receipt_of(alloc: Global, place: u64, input: &Input, reply: &Reply) -> Result
     })
 }
 
-/// Gives the node the input, as the call of this place.
+/// Gives the node the input, as the call at this place.
 fn give(
     alloc: Global,
     node: &mut NodeCore,
@@ -56,7 +56,7 @@ fn add(
     Ok(())
 }
 
-/// Gives the node the input, and stores the call. At a fault nothing is stored, but the node may have taken the input.
+/// Gives the node the input and stores the call. At a fault nothing is stored, but the node may have taken the input.
 pub fn give_and_store(
     alloc: Global,
     calls: &mut Vec<Call>,

@@ -1,4 +1,4 @@
-//! What lies under a shared book's lock.
+//! What lies under the lock of a shared book.
 ghost use Rattle.std.specs.Prelude.{◌≡◌, ◌<◌, ◌+◌, Err, IfOk, IfErr, OnOk, OnErr, length};
 ghost use Rattle.totem_books.specs.Replies.{answer_of};
 ghost use Rattle.totem_books.specs.History.{start_with, answer, called, receipt, followed_by, IsFull};
@@ -13,7 +13,7 @@ use std::sync::ledger;
 use std::sync::ledger::Share;
 use totem_node::Input;
 
-/// A book that begins as its name says, and the ledger's total: the number of its calls.
+/// A book that begins as its name says, with the total of the ledger, which is the number of its calls.
 #[derive(Drop)]
 pub struct Kept<L: BookName> {
     pub book: Book,
@@ -23,7 +23,7 @@ pub struct Kept<L: BookName> {
 }
 
 impl<L: BookName> Kept<L> {
-    /// One call more, which is counted in the share. At a fault nothing changes.
+    /// Makes one call more, and counts it in the share. At a fault nothing changes.
     pub fn apply(
         &mut self,
         alloc: Global,

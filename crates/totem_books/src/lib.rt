@@ -1,4 +1,4 @@
-//! Books: what a node was given and what it answered, call by call, and the receipts of those who called.
+//! Books: what a node was given and what it answered, call by call, and the receipts that the callers keep.
 #![tactic(auto)]
 
 mod book;

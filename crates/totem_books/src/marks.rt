@@ -1,4 +1,4 @@
-//! Marks of the places that receipts are of.
+//! Marks of the places that receipts have.
 ghost use Rattle.std.specs.Prelude.{◌≡◌, MatchBool, IfOk, All, length, replicate, false};
 ghost use Rattle.totem_books.specs.Receipts.{count_at, count_in, receipts_in, IsInReach, Marks, MarksTwice};
 
@@ -7,7 +7,7 @@ use crate::name::BookName;
 use crate::seat::Seat;
 use std::alloc::{AllocError, Global};
 
-/// So many places, none of them marked.
+/// Returns marks for so many places, none of them set.
 pub fn no_marks(alloc: Global, places: usize) -> Result<Vec<bool>, AllocError>
     ensures { IfOk result (λ marks. marks.items ≡ replicate places false) }
 {
@@ -15,7 +15,7 @@ pub fn no_marks(alloc: Global, places: usize) -> Result<Vec<bool>, AllocError>
     Ok(marks)
 }
 
-/// Marks the places of the receipts, and answers whether none was marked already.
+/// Marks the places of the receipts, and returns whether none of these was marked before.
 pub fn mark(marks: &mut [bool], stubs: &[Stub]) -> bool
     requires { All (IsInReach (length marks.old)) stubs.now }
     ensures { MatchBool result (Marks marks.old marks.new (λ place. count_at place stubs.now) (length stubs.now))
@@ -31,7 +31,7 @@ pub fn mark(marks: &mut [bool], stubs: &[Stub]) -> bool
     true
 }
 
-/// The same, for the receipts of all seats.
+/// Does the same for the receipts of all seats.
 pub fn mark_seats<L: BookName>(marks: &mut [bool], seats: &[Seat<L>]) -> bool
     requires { All (λ seat. All (IsInReach (length marks.old)) seat.stubs) seats.now }
     ensures { MatchBool result (Marks marks.old marks.new (λ place. count_in place seats.now) (receipts_in seats.now))

@@ -1,8 +1,8 @@
-//! What a shared book is named by.
+//! How a shared book is named.
 use std::marker::Brand;
 use std::sync::ledger::Ledger;
 
-/// The name of a shared book: a ledger, and with what the book's node begins. It is a type, and no value of it is made; a
+/// The name of a shared book: a ledger, and what the book's node begins with. It is a type of which no value is made; a
 /// function that is generic over it is called at `Brand`.
 pub trait BookName: Ledger {
     ghost use Rattle.std.specs.Prelude.{ℕ, List};

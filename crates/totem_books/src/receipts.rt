@@ -1,4 +1,4 @@
-//! Whether receipts are those of a list of calls.
+//! Tests whether receipts are those of a list of calls.
 ghost use Rattle.std.specs.Prelude.{◌≡◌, ◌↔◌, IsTrue, IfOk, All, length};
 ghost use Rattle.totem_books.specs.Receipts.{Fits, FitRising, receipts_in, Agree, Covers};
 
@@ -9,7 +9,7 @@ use crate::name::BookName;
 use crate::seat::Seat;
 use std::alloc::{AllocError, Global};
 
-/// Whether the call at its place has the receipt's input and reply.
+/// Returns whether the call at the receipt's place has its input and its reply.
 pub fn fits(calls: &[Call], stub: &Stub) -> bool
     ensures { IsTrue result ↔ Fits calls.now stub.now }
 {
@@ -22,7 +22,7 @@ pub fn fits(calls: &[Call], stub: &Stub) -> bool
     }
 }
 
-/// Whether one seat's receipts stand at rising places, with their inputs and replies.
+/// Returns whether one seat's receipts stand at rising places and have the inputs and replies of the calls there.
 pub fn fit_rising(calls: &[Call], stubs: &[Stub]) -> bool
     ensures { IsTrue result ↔ FitRising calls.now 0 stubs.now }
 {
@@ -36,7 +36,7 @@ pub fn fit_rising(calls: &[Call], stubs: &[Stub]) -> bool
     true
 }
 
-/// Whether each seat's do.
+/// Returns whether this holds of each seat's receipts.
 fn each_fits<L: BookName>(calls: &[Call], seats: &[Seat<L>]) -> bool
     ensures { IsTrue result ↔ All (λ seat. FitRising calls.now 0 seat.stubs) seats.now }
 {
@@ -48,7 +48,7 @@ fn each_fits<L: BookName>(calls: &[Call], seats: &[Seat<L>]) -> bool
     true
 }
 
-/// Whether the seats' receipts are those of the calls. Where they are as many, each call has one.
+/// Returns whether the seats' receipts are those of the calls. If there are as many receipts as calls, each call has one.
 pub fn agree<L: BookName>(
     alloc: Global,
     calls: &[Call],

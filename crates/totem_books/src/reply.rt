@@ -6,7 +6,7 @@ use std::alloc::{AllocError, Global};
 use totem_evs::Entry;
 use totem_node::{NodeFault, StepOut};
 
-/// What a node answered to an input: what its step gave, or why the step was refused.
+/// A node's answer to an input: what its step gave, or why the step was refused.
 #[derive(Debug, Drop)]
 pub enum Reply {
     Done(StepOut),
@@ -25,7 +25,7 @@ impl Reply {
         })
     }
 
-    /// Whether the two say the same.
+    /// Returns whether the two replies say the same.
     pub fn is(&self, other: &Reply) -> bool
         ensures { IsTrue result ↔ (answer_of self.now ≡ answer_of other.now) }
     {
@@ -40,7 +40,7 @@ impl Reply {
         }
     }
 
-    /// A copy of the entries that it adds to the log.
+    /// Returns a copy of the entries that the reply adds to the log.
     pub(crate) fn entries(&self, alloc: Global) -> Result<Vec<Entry>, AllocError>
         ensures { IfOk result (λ entries. entries.items ≡ entries_of (answer_of self.now)) }
     {

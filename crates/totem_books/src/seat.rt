@@ -7,8 +7,8 @@ use std::alloc::Global;
 use std::marker::Model;
 use std::sync::ledger::Share;
 
-/// What a thread needs to make calls of a shared book, with the receipts of those it made. It has one part of the book's
-/// ledger, and a share of the calls: as many as its receipts.
+/// What a thread needs to make calls of a shared book, with the receipts of the calls that it made. A seat has one part
+/// of the book's ledger, and a share of the calls that is as large as the number of its receipts.
 #[derive(Drop)]
 pub struct Seat<L: BookName> {
     pub(crate) stubs: Vec<Stub>,
@@ -27,7 +27,7 @@ impl<L: BookName> Model for Seat<L> {
 }
 
 impl<L: BookName> Seat<L> {
-    /// A seat that has made no call.
+    /// Makes a seat that has made no call.
     pub(crate) fn new(alloc: Global, share: Share<L>) -> Seat<L>
         requires { (share.parts ≡ 1) × (share.amount ≡ 0) }
         ensures stubs { result.stubs ≡ [] }
@@ -39,7 +39,7 @@ impl<L: BookName> Seat<L> {
         }
     }
 
-    /// The receipts of its calls, in their order.
+    /// Returns the receipts of the seat's calls, in their order.
     pub fn stubs(&self) -> &[Stub]
         ensures value { result.now ≡ self.now.stubs }
         ensures share { self.now.share ≡ length self.now.stubs }

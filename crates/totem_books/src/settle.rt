@@ -1,4 +1,4 @@
-//! The seats' receipts against what lay under the lock.
+//! Compares the seats' receipts with what lay under the lock.
 ghost use Rattle.std.specs.Prelude.{◌≡◌, ◌<◌, ◌≤◌, IfOk, IfErr, vec_len, length};
 ghost use Rattle.totem_books.specs.History.{start_with};
 ghost use Rattle.totem_books.specs.Receipts.{Agree, Covers, receipts_in, shares_in};
@@ -12,7 +12,7 @@ use crate::seat::Seat;
 use std::alloc::Global;
 use std::sync::ledger::Share;
 
-/// What lay under the lock and the seats, where they don't settle.
+/// What lay under the lock and the seats, given back because they don't agree or memory was refused.
 #[derive(Drop)]
 pub struct Unsettled<L: BookName> {
     pub fault: CloseFault,
@@ -20,7 +20,7 @@ pub struct Unsettled<L: BookName> {
     pub seats: Vec<Seat<L>>,
 }
 
-/// All seats' shares in one. They add up to the receipts, and there are no more parts than the ledger has.
+/// Merges the shares of all seats. They add up to the receipts, and there are no more parts than the ledger has.
 pub fn merged<L: BookName>(seats: Vec<Seat<L>>) -> Share<L>
     requires some { 0 < vec_len seats }
     requires whole { 0 < L.parts }
@@ -42,7 +42,7 @@ pub fn merged<L: BookName>(seats: Vec<Seat<L>>) -> Share<L>
     all
 }
 
-/// Compares the seats' receipts with what lay under the lock.
+/// Compares the seats' receipts with what lay under the lock, and closes the book if they agree.
 pub fn settle<L: BookName>(
     alloc: Global,
     kept: Kept<L>,

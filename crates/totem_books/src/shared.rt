@@ -26,8 +26,8 @@ pub(crate) struct Count<L: Ledger> {
     pub ghost some: { 0 < seats },
 }
 
-/// A book that threads share, each by a seat of its own. While nobody has the lock, the log and the stored replies are the
-/// replay of the stored inputs, and the ledger counts the calls.
+/// A book that threads share, each by a seat of its own. While nobody has the lock, the log and the stored replies are
+/// the replay of the stored inputs, and the ledger counts the calls.
 #[derive(Drop)]
 pub struct SharedBook<L: BookName> {
     pub(crate) lock: Mutex<Kept<L>>,
@@ -35,8 +35,8 @@ pub struct SharedBook<L: BookName> {
 }
 
 impl<L: BookName> SharedBook<L> {
-    /// A book without calls, of a node that starts on this ring, and its seats: 1 to 64, one for each part of the blank. A
-    /// refusal ends the ledger.
+    /// Makes a book without calls, of a node that starts on this ring, and its seats: 1 to 64, one for each part of the
+    /// blank. If memory is refused the ledger ends.
     pub fn new(
         alloc: Global,
         blank: Blank,
@@ -70,7 +70,7 @@ impl<L: BookName> SharedBook<L> {
         Ok((SharedBook { lock, count }, empty))
     }
 
-    /// Gives the node one input, and keeps the receipt in the seat. It waits for the lock. At a fault the seat is unchanged.
+    /// Waits for the lock, gives the node one input, and puts the receipt into the seat. At a fault the seat is unchanged.
     pub fn call(
         &self,
         rt: &impl Wait,

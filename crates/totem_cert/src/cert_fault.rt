@@ -1,11 +1,11 @@
-//! Why a certificate was not read.
+//! Why a certificate could not be read.
 ghost use Rattle.std.specs.Prelude.{◌≡◌};
 ghost use Rattle.totem_cert.specs.CertFaults.{fault_number, fault_name, cert_fault};
 
 use thiserror::Error;
 use totem_ids::{ReadError, TextFault};
 
-/// Why a certificate was not read.
+/// Why a certificate could not be read (docs/SPECIFICATIONS.md, "Certificate text").
 #[derive(Clone, Copy, Debug, PartialEq, Eq, Error)]
 pub enum CertFault {
     #[error("the text does not begin with the line `totem-cert 1`")]
@@ -20,7 +20,7 @@ pub enum CertFault {
     Truncated,
     #[error("more than 32 lines, or 1000000 numbers in one")]
     TooMany,
-    /// No reader of a certificate alone gives this: it is for who wants the end of the input behind it.
+    /// The reader of certificates never gives this. It is for callers that want the input to end behind the certificate.
     #[error("bytes behind the last line")]
     End,
     #[error("the source failed")]
@@ -30,7 +30,7 @@ pub enum CertFault {
 }
 
 impl CertFault {
-    /// Its number, from 1 on in the order above.
+    /// Returns the fault's number, counted from 1 in the order above.
     pub fn number(&self) -> u8
         ensures { result ≡ fault_number self.now }
     {
@@ -47,7 +47,7 @@ impl CertFault {
         }
     }
 
-    /// Its name.
+    /// Returns the fault's name.
     pub fn name(&self) -> &'static str
         ensures { result.now ≡ fault_name self.now }
     {

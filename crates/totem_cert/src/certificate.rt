@@ -8,7 +8,7 @@ use std::alloc::{AllocError, Global};
 use std::marker::Model;
 use totem_evs::Refused;
 
-/// Numbers for the events of a run, a line for each log. Which runs it certifies is not its own matter.
+/// Numbers for the events of a run, with a line for each log. A certificate does not know which runs it certifies.
 #[derive(Debug, Drop)]
 pub struct Certificate {
     pub lines: Lines,
@@ -24,7 +24,7 @@ impl Model for Certificate {
 }
 
 impl Certificate {
-    /// The certificate of these lines; a refusal gives the list back.
+    /// Makes the certificate of these lines. A refusal gives the list back with the first rule that it breaks.
     pub fn new(lines: Vec<Line>) -> Result<Certificate, Refused<Vec<Line>>>
         ensures { MatchResult result (λ c. (c ≡ lines.items) × IsCertificate lines.items)
             (λ r. (r.value.items ≡ lines.items) × Refuses 0 32 IsBelowLine lines.items r.fault) }
@@ -33,7 +33,7 @@ impl Certificate {
         Ok(Certificate { lines })
     }
 
-    /// The certificate of lines that are known to keep the rules.
+    /// Makes the certificate of lines that are known to keep the rules.
     pub fn of(lines: Vec<Line>) -> Certificate
         requires { IsCertificate lines.items }
         ensures { result ≡ lines.items }
@@ -50,7 +50,7 @@ impl Certificate {
         self.lines.as_slice()
     }
 
-    /// The lines, without taking memory.
+    /// Returns the lines as a vector, without taking memory.
     pub fn into_vec(self) -> Vec<Line>
         ensures { result.items ≡ self }
     {

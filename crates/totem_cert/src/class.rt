@@ -4,7 +4,7 @@ ghost use Rattle.totem_cert.specs.Progress.{AreAlike, IsMate};
 use totem_evs::Entry;
 use totem_ids::ProcId;
 
-/// Whether two entries belong to one class wherever they stand.
+/// Returns whether two entries belong to one class wherever they stand.
 fn are_alike(entry: &Entry, other: &Entry) -> bool
     ensures { IsTrue result ↔ AreAlike entry.now other.now }
 {
@@ -15,7 +15,7 @@ fn are_alike(entry: &Entry, other: &Entry) -> bool
     }
 }
 
-/// Whether the entry at an index of a process's log is in the class of the other one.
+/// Returns whether the entry at index `at` of a process's log is in the class of the other one.
 pub fn is_mate(
     proc: ProcId,
     at: usize,

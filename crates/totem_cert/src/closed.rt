@@ -7,7 +7,7 @@ use crate::visit::Visit;
 use std::alloc::{AllocError, Global};
 use totem_ids::Place;
 
-/// What stands behind a step in forward order.
+/// Returns the event from which the step comes that is next to step `i` in forward order.
 fn before(visits: &[Visit], again: usize, i: usize) -> Place
     requires from { again ≤ i }
     requires within { i < length visits.now }
@@ -18,7 +18,7 @@ fn before(visits: &[Visit], again: usize, i: usize) -> Place
     visit.from
 }
 
-/// Writes a step, its second event only where another one stands behind it.
+/// Appends the two events of a step. The second is left out where the next step comes from it.
 fn write_step(places: &mut Vec<Place>, visit: &Visit, before: &Place) -> Result<(), AllocError>
     ensures { OnOk result (places.new.items ≡ places.old.items ++ (visit.now.from ∷ unless visit.now.to before.now)) }
 {
@@ -29,7 +29,7 @@ fn write_step(places: &mut Vec<Place>, visit: &Visit, before: &Place) -> Result<
     Ok(())
 }
 
-/// The steps of a round in forward order.
+/// Returns the events of a round's steps in forward order.
 pub fn forward(alloc: Global, visits: &[Visit], again: usize) -> Result<Vec<Place>, AllocError>
     requires { again < length visits.now }
     ensures { IfOk result (λ places. IsForwardFrom visits.now again again places.items) }
@@ -52,7 +52,7 @@ fn is_at_most(e: &Place, f: &Place) -> bool
     p < q || (p == q && e.at <= f.at)
 }
 
-/// Where the least place stands.
+/// Returns the index of the least place.
 fn least_of(places: &[Place]) -> usize
     requires { 0 < length places.now }
     ensures within { result < length places.now }
@@ -67,7 +67,7 @@ fn least_of(places: &[Place]) -> usize
     least
 }
 
-/// The same list, begun at its least place.
+/// Returns the same list, begun at its least place.
 pub fn turned(alloc: Global, places: &[Place]) -> Result<Vec<Place>, AllocError>
     requires { 0 < length places.now }
     ensures turned { IfOk result (λ list. IsTurned places.now list.items) }

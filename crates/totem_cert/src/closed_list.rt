@@ -14,7 +14,7 @@ use std::alloc::{AllocError, Global};
 use totem_evs::{Fault, Places, Run, SpecNo};
 use totem_ids::Place;
 
-/// The least event that is left.
+/// Returns the least event that has no number.
 fn least_left(run: &Run, lines: &[OpenLine], k: usize) -> Place
     requires sound { IsSound run.now.logs lines.now }
     requires none { NoneReady run.now.logs lines.now }
@@ -28,7 +28,7 @@ fn least_left(run: &Run, lines: &[OpenLine], k: usize) -> Place
     }
 }
 
-/// The specification that a closed list breaks.
+/// Returns the specification that a closed list breaks: 6.1 or 1.1.
 fn broken_by(run: &Run, places: &[Place]) -> SpecNo
     ensures { IsBrokenBy run.now.logs result places.now }
 {
@@ -39,7 +39,7 @@ fn broken_by(run: &Run, places: &[Place]) -> SpecNo
     }
 }
 
-/// The closed list where nothing is ready and the k-th log is the first that isn't numbered to its end.
+/// Returns the closed list as a fault. No class is ready, and the k-th log is the first that is not numbered to its end.
 pub fn closed_list(
     alloc: Global,
     run: &Run,

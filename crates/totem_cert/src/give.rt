@@ -9,7 +9,7 @@ use std::alloc::AllocError;
 use totem_evs::{Entry, Log, Run};
 use totem_ids::ProcId;
 
-/// Whether the head of a log is in the class of the entry at an index of the process's log.
+/// Returns whether the head of a log is in the class of the entry at index `at` of the process's log.
 fn is_head_mate(proc: ProcId, at: usize, entry: &Entry, log: &Log, line: &OpenLine) -> bool
     ensures { IsTrue result ↔ HeadIsMate proc at entry.now log.now line.now }
 {
@@ -22,7 +22,7 @@ fn is_head_mate(proc: ProcId, at: usize, entry: &Entry, log: &Log, line: &OpenLi
     }
 }
 
-/// Gives each entry of a class its number, where the class is the next one.
+/// Gives the number to each entry of the class that is next.
 pub fn give(
     run: &Run,
     lines: &mut Vec<OpenLine>,
@@ -46,7 +46,7 @@ pub fn give(
     Ok(())
 }
 
-/// Gives the class of a log's head the next number.
+/// Gives the next number to the class of a log's head.
 pub fn give_next(
     run: &Run,
     lines: &mut Vec<OpenLine>,

@@ -1,4 +1,4 @@
-//! Readers of lines up to their numbers, and of the last line.
+//! Readers of a line of a certificate up to its numbers, and of the last line.
 ghost use Rattle.std.specs.Prelude.{ℕ, ◌<◌, IfOk, Bool};
 ghost use Rattle.totem_ids.specs.Sources.{Reads, seen};
 ghost use Rattle.totem_evs.specs.NextLines.{MayBegin};
@@ -46,8 +46,8 @@ fn read_last<S: Source>(source: &mut S) -> Result<Option<ProcId>, ReadError>
     Ok(None)
 }
 
-/// The next line up to its numbers, whose process is above `last`, or the last line; none where the certificate is
-/// `full`.
+/// Reads the next line up to its numbers and returns its process, which has to be above `last`, or reads the last line
+/// and returns `None`. If the certificate is `full`, no line may begin.
 #[tactic(auto, using(totem_evs::proofs::ReaderSteps::reader_steps), unfolding(crate::specs::CertGrammar::head_at))]
 pub fn read_head<S: Source>(
     source: &mut S,

@@ -1,4 +1,4 @@
-//! What keeps a class from being ready, found among the entries with its key.
+//! Finds what keeps a class from being ready, among the entries with its key.
 ghost use Rattle.std.specs.Prelude.{◌≡◌, ◌↔◌, IsTrue, IfSome, IfNone};
 ghost use Rattle.totem_cert.specs.Keys.{KeysRise};
 ghost use Rattle.totem_cert.specs.Keepers.{given_at, StandsBehind, MemberKeeps, KeepsAt, NoneKeepsFrom, IsEnd};
@@ -7,7 +7,7 @@ use crate::index::Index;
 use crate::key::{Key, Member};
 use crate::open_line::OpenLine;
 
-/// How many entries of a log have a number.
+/// Returns how many entries of the log at this index have a number.
 pub fn given_at(lines: &[OpenLine], log: usize) -> usize
     ensures { result ≡ given_at lines.now log }
 {
@@ -23,7 +23,7 @@ fn stands_behind(shares: bool, given: usize, at: usize) -> bool
     if shares { given < at } else { given <= at }
 }
 
-/// Whether an entry keeps the class of a key from being ready.
+/// Returns whether an entry keeps the class of a key from being ready.
 fn keeps(lines: &[OpenLine], key: &Key, member: &Member) -> bool
     ensures { IsTrue result ↔ MemberKeeps lines.now key.now member.now }
 {
@@ -31,7 +31,7 @@ fn keeps(lines: &[OpenLine], key: &Key, member: &Member) -> bool
     member.key.is(key) && stands_behind(member.shares, given, member.at)
 }
 
-/// Where the members may end that have the key of an entry.
+/// Returns where the members may end that have the key of an entry.
 fn noted_end(index: &Index, log: usize, at: usize) -> usize {
     match index.ends.get(log) {
         Some(row) => match row.get(at) {
@@ -42,7 +42,7 @@ fn noted_end(index: &Index, log: usize, at: usize) -> usize {
     }
 }
 
-/// Where the members end that have a key, which the entry at this index of this log has.
+/// Returns where the members with a key end. The entry at index `at` of this log has the key.
 #[tactic(auto, using(crate::proofs::Scanning::end_here, crate::proofs::Scanning::end_of_all))]
 pub fn end_of(index: &Index, key: &Key, log: usize, at: usize) -> usize
     requires { KeysRise index.now.members.items }
@@ -56,7 +56,8 @@ pub fn end_of(index: &Index, key: &Key, log: usize, at: usize) -> usize
     }
 }
 
-/// An entry that keeps the class of a key from being ready; the one that did so last is asked first.
+/// Returns the index of a member that keeps the class of a key from being ready, if one does. Asks first the one that
+/// did so `last`.
 #[tactic(auto, using(crate::proofs::Scanning::keeps_here, crate::proofs::Scanning::none_yet, crate::proofs::Scanning::none_more, crate::proofs::Scanning::none_below))]
 pub fn keeper(
     index: &Index,

@@ -1,5 +1,5 @@
 ghost use Rattle.std.specs.Prelude.{◌≡◌, ◌↔◌, IsTrue};
-ghost use Rattle.totem_cert.specs.Keys.{KeyBelow, key_of, class_key, shares};
+ghost use Rattle.totem_cert.specs.Keys.{KeyBelow, class_key, shares};
 
 use totem_evs::Entry;
 use totem_ids::{ConfId, MsgId};
@@ -12,7 +12,7 @@ pub enum Key {
 }
 
 impl Key {
-    /// Whether this is the other key: `==`, as contracts can use it.
+    /// Returns whether the two keys are equal: `==` in a form that contracts can use.
     pub fn is(&self, other: &Key) -> bool
         ensures { IsTrue result ↔ (self.now ≡ other.now) }
     {
@@ -23,26 +23,14 @@ impl Key {
         }
     }
 
-    /// Whether this one comes before the other: `<`, as contracts can use it.
+    /// Returns whether this key comes before the other: `<` in a form that contracts can use.
     pub fn is_below(&self, other: &Key) -> bool
         ensures { IsTrue result ↔ KeyBelow self.now other.now }
     {
         *self < *other
     }
 
-    /// The message or the configuration that an entry names.
-    pub fn of(entry: &Entry) -> Option<Key>
-        ensures { result ≡ key_of entry.now }
-    {
-        match entry {
-            Entry::Conf(conf, _) => Some(Key::Conf(*conf)),
-            Entry::Send(message, _, _) => Some(Key::Message(*message)),
-            Entry::Deliver(message, _) => Some(Key::Message(*message)),
-            Entry::Fail(_) => None,
-        }
-    }
-
-    /// The key of an entry's class; none where the entry is alone in its class.
+    /// Returns the key of an entry's class, or `None` if the entry is alone in its class.
     pub fn of_class(entry: &Entry) -> Option<Key>
         ensures { result ≡ class_key entry.now }
     {
@@ -54,17 +42,17 @@ impl Key {
     }
 }
 
-/// An entry with a key, by its log and its index there.
+/// An entry that has a key, with its log and its index there.
 #[derive(Clone, Copy, Debug, PartialEq, Eq, PartialOrd, Ord)]
 pub struct Member {
     pub key: Key,
-    /// Whether the entry is in the class of its key; else it sends the message.
+    /// Whether the entry is in the class of its key. Otherwise it sends the message.
     pub shares: bool,
     pub log: usize,
     pub at: usize,
 }
 
-/// Whether an entry is in the class of its key.
+/// Returns whether an entry is in the class of its key.
 pub fn shares(entry: &Entry) -> bool
     ensures { result ≡ shares entry.now }
 {

@@ -1,4 +1,4 @@
-//! Certificates: numbers for the events of a run, given, read and written.
+//! Certificates, which number the events of a run: how they are made, read and written.
 #![tactic(auto)]
 
 mod cert_fault;

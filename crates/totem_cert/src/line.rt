@@ -22,7 +22,7 @@ impl Model for Line {
 }
 
 impl Line {
-    /// What the types of its parts keep, this passes on.
+    /// Tells contracts the rules that the types of the line's parts keep.
     pub(crate) fn keeps_its_rules(&self)
         ensures { IsLine self.now }
     {

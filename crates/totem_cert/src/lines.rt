@@ -7,10 +7,10 @@ use std::alloc::{AllocError, Global};
 use std::marker::Model;
 use totem_evs::{ListFault, Refused};
 
-/// How many lines a certificate may have.
+/// How many lines a certificate may have at most.
 const MOST: usize = 32;
 
-/// The lines of one certificate: 0 to 32, their processes strictly rising.
+/// The lines of one certificate: 0 to 32 of them, their processes strictly rising.
 #[derive(Debug, Drop)]
 pub struct Lines {
     list: Vec<Line>,
@@ -54,7 +54,7 @@ fn keep_their_rules(list: &[Line])
 }
 
 impl Lines {
-    /// The lines of this list; a refusal gives the list back.
+    /// Makes the lines from this list. A refusal gives the list back with the first rule that it breaks.
     pub fn new(list: Vec<Line>) -> Result<Lines, Refused<Vec<Line>>>
         ensures { MatchResult result (λ l. (l ≡ list.items) × IsCertificate list.items)
             (λ r. (r.value.items ≡ list.items) × Refuses 0 32 IsBelowLine list.items r.fault) }
@@ -70,7 +70,7 @@ impl Lines {
         Err(Refused { fault, value: list })
     }
 
-    /// The lines of a list that is known to keep the rules.
+    /// Makes the lines from a list that is known to keep the rules.
     pub fn of(list: Vec<Line>) -> Lines
         requires { IsCertificate list.items }
         ensures { result ≡ list.items }
@@ -85,7 +85,7 @@ impl Lines {
         &self.list
     }
 
-    /// The lines, without taking memory.
+    /// Returns the lines as a vector, without taking memory.
     pub fn into_vec(self) -> Vec<Line>
         ensures { result.items ≡ self }
     {

@@ -10,7 +10,7 @@ use crate::ready::first_ready;
 use std::alloc::{AllocError, Global};
 use totem_evs::{Log, Run};
 
-/// A line for each log, without numbers.
+/// Returns a line without numbers for each log.
 fn started(alloc: Global, logs: &[Log]) -> Result<Vec<OpenLine>, AllocError>
     ensures { IfOk result (λ lines. lines.items ≡ map empty_line logs.now) }
 {
@@ -35,7 +35,7 @@ pub fn number_all(alloc: Global, run: &Run, index: &Index) -> Result<Vec<OpenLin
     Ok(lines)
 }
 
-/// The first log that has an entry without a number.
+/// Returns the index of the first log that has an entry without a number.
 pub fn first_left(run: &Run, lines: &[OpenLine]) -> Option<usize>
     requires { IsSound run.now.logs lines.now }
     ensures found { IfSome result (λ k. IsFirstLeft run.now.logs lines.now k) }

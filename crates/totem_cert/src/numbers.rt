@@ -7,10 +7,10 @@ use std::fmt;
 use std::marker::Model;
 use thiserror::Error as ThisError;
 
-/// How many numbers a line may have.
+/// How many numbers a line may have at most.
 const MOST: usize = 1_000_000;
 
-/// The first rule of a line's numbers that is broken. Elements count from 0.
+/// The first rule that the numbers of a line break. Indices count from 0.
 #[derive(Clone, Copy, Debug, PartialEq, Eq, ThisError)]
 pub enum NumbersFault {
     #[error("there is none")]
@@ -21,7 +21,7 @@ pub enum NumbersFault {
     Zero(usize),
 }
 
-/// Numbers that were not taken, given back with the rule that they break.
+/// Numbers that were refused, given back with the rule that they break.
 #[derive(Debug, Drop)]
 pub struct RefusedNumbers {
     pub fault: NumbersFault,
@@ -67,7 +67,7 @@ fn first_zero(list: &[u32]) -> Option<usize>
 }
 
 impl Numbers {
-    /// The numbers of this list; a refusal gives the list back.
+    /// Makes the numbers of a line from this list. A refusal gives the list back with the first rule that it breaks.
     pub fn new(list: Vec<u32>) -> Result<Numbers, RefusedNumbers>
         ensures { MatchResult result (λ n. (n ≡ list.items) × IsNumbers list.items)
             (λ r. (r.value.items ≡ list.items) × RefusesNumbers list.items r.fault) }
@@ -84,7 +84,7 @@ impl Numbers {
         Err(RefusedNumbers { fault, value: list })
     }
 
-    /// The numbers of a list that is known to keep the rules.
+    /// Makes the numbers from a list that is known to keep the rules.
     pub fn of(list: Vec<u32>) -> Numbers
         requires { IsNumbers list.items }
         ensures { result ≡ list.items }
@@ -99,7 +99,7 @@ impl Numbers {
         &self.list
     }
 
-    /// The numbers, without taking memory.
+    /// Returns the numbers as a vector, without taking memory.
     pub fn into_vec(self) -> Vec<u32>
         ensures { result.items ≡ self }
     {

@@ -7,7 +7,7 @@ use std::alloc::{AllocError, Global};
 use std::marker::Model;
 use totem_ids::ProcId;
 
-/// The numbers that a log's entries have so far, from the first entry on.
+/// The numbers that the entries of a log have so far, from the first entry on.
 #[derive(Debug, Drop)]
 pub struct OpenLine {
     proc: ProcId,
@@ -44,7 +44,7 @@ impl OpenLine {
         &self.numbers
     }
 
-    /// Gives the next entry its number. At `Err` nothing changed.
+    /// Gives the next entry its number. At `Err` nothing has changed.
     pub fn push(&mut self, number: u32) -> Result<(), AllocError>
         ensures ok { OnOk result (self.new ≡ record self.old { numbers = self.old.numbers ++ number ∷ [] }) }
         ensures err { OnErr result (self.new ≡ self.old) }
@@ -53,7 +53,7 @@ impl OpenLine {
         Ok(())
     }
 
-    /// The line as a certificate has it.
+    /// Returns the line as it stands in a certificate.
     pub fn close(self) -> Line
         requires { IsLine self }
         ensures { result ≡ self }

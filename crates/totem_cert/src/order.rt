@@ -11,7 +11,7 @@ use crate::open_line::OpenLine;
 use std::alloc::{AllocError, Global};
 use totem_evs::{Fault, Run};
 
-/// The positions of a run's events, or why they have none.
+/// The positions of a run's events, or the closed list because of which they have none.
 #[derive(Debug, Drop)]
 pub enum Order {
     Positions(Certificate),
@@ -29,7 +29,7 @@ impl Order {
     }
 }
 
-/// The certificate of lines to which nothing is to be added.
+/// Makes the certificate of lines in which every entry has its number.
 fn certificate(alloc: Global, run: &Run, lines: Vec<OpenLine>) -> Result<Certificate, AllocError>
     requires sound { IsSound run.now.logs lines.items }
     requires full { IsFull run.now.logs lines.items }
@@ -43,8 +43,8 @@ fn certificate(alloc: Global, run: &Run, lines: Vec<OpenLine>) -> Result<Certifi
     Ok(Certificate::of(list))
 }
 
-/// A number for each event: again and again the ready class that holds the least place gets the next one
-/// (docs/SPECIFICATIONS.md, "Positions"). Where classes are left and none is ready, a closed list of steps.
+/// Gives each event a number: again and again the ready class that holds the least place gets the next one
+/// (docs/SPECIFICATIONS.md, "Positions"). If classes are left and none is ready, names a closed list of steps instead.
 pub fn positions(alloc: Global, run: &Run) -> Result<Order, AllocError>
     ensures { IfOk result (λ order. IsOrder run.now.logs order) }
 {

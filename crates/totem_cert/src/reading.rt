@@ -63,7 +63,7 @@ fn read_text<S: Source>(alloc: Global, source: &mut S) -> Result<Certificate, Re
     Ok(Certificate { lines })
 }
 
-/// Reads a certificate, from the first byte to the line `end`, and leaves what follows unread.
+/// Reads a certificate from the first byte to the line `end`, and leaves unread what follows.
 pub fn read_cert<S: Source>(alloc: Global, source: &mut S) -> Result<Certificate, CertFault>
     ensures { ReadsCert (seen S.remaining S.failures source.old)
         (seen S.remaining S.failures source.new) result }

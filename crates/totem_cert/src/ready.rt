@@ -12,7 +12,7 @@ use crate::key::Key;
 use crate::open_line::OpenLine;
 use totem_evs::{Log, Run};
 
-/// What kept the head of a log back last; where that is not known, any number.
+/// Returns what kept the head of a log back last. Where that is not known it may be any number.
 fn noted(held: &[usize], k: usize) -> usize {
     match held.get(k) {
         Some(s) => *s,
@@ -26,7 +26,7 @@ fn note(held: &mut [usize], k: usize, s: usize) {
     }
 }
 
-/// Whether a log has a head without a number whose class is ready.
+/// Returns whether a log has a head, its first entry without a number, and the class of that head is ready.
 fn is_head_ready(
     run: &Run,
     index: &Index,
@@ -60,7 +60,7 @@ fn is_head_ready(
     }
 }
 
-/// The first log whose head is ready. What kept a head back is noted, and asked first the next time.
+/// Returns the index of the first log whose head is ready. Notes what keeps the others back, to ask that first the next time.
 pub fn first_ready(
     run: &Run,
     index: &Index,

@@ -24,7 +24,7 @@ struct Standing<'a> {
     entry: &'a Entry,
 }
 
-/// How many entries of a process have a number.
+/// Returns how many entries of a process have a number.
 #[tactic(auto, using(crate::proofs::Given::numbers_of_here, crate::proofs::Given::numbers_of_more, crate::proofs::Given::numbers_of_end))]
 pub fn given(lines: &[OpenLine], proc: ProcId) -> usize
     ensures { result ≡ length (numbers_of lines.now proc) }
@@ -37,7 +37,7 @@ pub fn given(lines: &[OpenLine], proc: ProcId) -> usize
     0
 }
 
-/// What stands at an index of a process's log.
+/// Returns the entry at an index of a process's log.
 pub fn entry_at(run: &Run, proc: ProcId, at: usize) -> Option<&Entry>
     ensures { option_copied result ≡ slice_get (log_of run.now.logs proc) at }
 {
@@ -54,7 +54,7 @@ pub fn entry_at(run: &Run, proc: ProcId, at: usize) -> Option<&Entry>
     None
 }
 
-/// Where a process's log stands among the logs; any number where it has none.
+/// Returns the index of a process's log among the logs, or any number if it has none.
 fn log_index(run: &Run, proc: ProcId) -> usize {
     for (k, log) in run.logs.as_slice().iter().enumerate() {
         if log.proc == proc {
@@ -64,7 +64,7 @@ fn log_index(run: &Run, proc: ProcId) -> usize {
     0
 }
 
-/// The least send without a number of the message that an entry delivers; the entry stands at an index of the k-th log.
+/// Returns the least send without a number of the message that an entry delivers. The entry stands at index `at` of the k-th log.
 fn open_send(
     run: &Run,
     index: &Index,
@@ -85,7 +85,7 @@ fn open_send(
     }
 }
 
-/// An entry that is alone in its class, where it is held up.
+/// Returns the place of an entry that is alone in its class, if it is held up.
 fn held_alone(lines: &[OpenLine], proc: ProcId, at: usize, waits: bool) -> Option<Place>
     requires { at < 1000000 }
     ensures found { IfSome result (λ e. (e ≡ place proc at) × (IsTrue waits ⊎ (length (numbers_of lines.now proc) < at))) }
@@ -101,8 +101,8 @@ fn held_alone(lines: &[OpenLine], proc: ProcId, at: usize, waits: bool) -> Optio
     }
 }
 
-/// The least event of a class that is held up, `waits` saying whether the class waits for a send; an entry of the class
-/// stands at an index of the k-th log, which is the process's.
+/// Returns the least event of a class that is held up. `waits` says whether the class waits for a send. An entry of the
+/// class stands in the k-th log, at the process and the index that `left` has.
 fn held_mate(
     run: &Run,
     index: &Index,
@@ -125,7 +125,7 @@ fn held_mate(
     }
 }
 
-/// The step to the least event of its class that is held up.
+/// Returns the step to the least event of its class that is held up, from what holds it up.
 fn step_to(lines: &[OpenLine], send: Option<Place>, to: &Place) -> Visit
     requires { 0 < to.now.at }
     ensures to { result.to ≡ to.now }
@@ -148,7 +148,7 @@ fn step_to(lines: &[OpenLine], send: Option<Place>, to: &Place) -> Visit
     }
 }
 
-/// The step at the class of an entry that is left.
+/// Returns the step to the class of an entry that has no number.
 fn step_at(run: &Run, index: &Index, lines: &[OpenLine], left: &Place, standing: &Standing) -> Visit
     requires run { IsRun run.now.logs }
     requires index { IsIndex run.now.logs index.now.members.items }
@@ -172,7 +172,7 @@ fn step_at(run: &Run, index: &Index, lines: &[OpenLine], left: &Place, standing:
     }
 }
 
-/// The step at the class of an event that is left.
+/// Returns the step to the class of an event that has no number.
 pub fn step_of(run: &Run, index: &Index, lines: &[OpenLine], left: &Place) -> Visit
     requires run { IsRun run.now.logs }
     requires index { IsIndex run.now.logs index.now.members.items }

@@ -10,7 +10,7 @@ ghost use Rattle.totem_cert.specs.CertFronts.{IsWideFront, IsFirstWrong};
 ghost use Rattle.totem_cert.specs.CertText.{cert_text};
 ghost use Rattle.totem_cert.specs.Keeping.{IsCertificate};
 
-/// What the grammar reads as a certificate is its text.
+/// What the grammar reads as a certificate keeps the rules of a certificate, and the bytes that it read are its text.
 pub fn read_is_spelled()
     ensures { (lines : List Numbering) (bytes rest : List ℕ) → cert_at bytes ≡ Ok (lines, rest) → IsCertificate lines × (bytes ≡ cert_text lines ++ rest) }
 {}
@@ -25,17 +25,17 @@ pub fn no_text_begins_another()
     ensures { (a b : List Numbering) (more rest : List ℕ) → IsCertificate a → IsCertificate b → cert_text a ++ more ≡ cert_text b ++ rest → (a ≡ b) × (more ≡ rest) }
 {}
 
-/// Where the grammar gives a fault, no text of a certificate begins the bytes.
+/// If the grammar gives a fault, the bytes begin with no text of a certificate.
 pub fn a_fault_is_no_text()
     ensures { (bytes : List ℕ) (fault : TextFault) → cert_at bytes ≡ Err fault → (lines : List Numbering) (rest : List ℕ) → IsCertificate lines → bytes ≡ cert_text lines ++ rest → ⊥ }
 {}
 
-/// The grammar gives no fault of members, and none of bytes behind the last line.
+/// The grammar gives neither a fault of members nor one of bytes behind the last line.
 pub fn faults_are_its_own()
     ensures { (bytes : List ℕ) (fault : TextFault) → cert_at bytes ≡ Err fault → IsOwnFault fault }
 {}
 
-/// A fault, the end of the input aside, is that of the first byte with which a rule of the grammar is broken.
+/// A fault other than that of a text that ends too soon is the fault of the first byte that breaks a rule of the grammar.
 pub fn fault_is_first()
     ensures { (bytes : List ℕ) (fault : TextFault) → is_short fault ≡ false → cert_at bytes ≡ Err fault → FirstBreak cert_at bytes fault }
 {}
@@ -46,8 +46,8 @@ pub fn cut_text_goes_on()
     ensures { (bytes : List ℕ) → cert_at bytes ≡ Err Truncated → IsWideFront bytes }
 {}
 
-/// At each other fault, the first byte that breaks a rule of the grammar is one up to which some text of a certificate
-/// goes on, in the same sense, and with which no certificate's text begins.
+/// At each other fault, some text of a certificate goes on, in the same sense, from the bytes before the first one that
+/// breaks a rule of the grammar; with that byte no certificate's text begins.
 pub fn fault_byte_is_first()
     ensures { (bytes : List ℕ) (fault : TextFault) → cert_at bytes ≡ Err fault → is_short fault ≡ false → (break : FirstBreak cert_at bytes fault) × IsFirstWrong break.front break.byte }
 {}

@@ -16,7 +16,7 @@ fn message_of(entry: &Entry) -> Option<MsgId>
     }
 }
 
-/// The message that an event delivers.
+/// Returns the message that an event delivers, if it delivers one.
 fn delivered(run: &Run, e: &Place) -> Option<MsgId>
     ensures found { IfSome result (λ m. DeliversAt run.now.logs e.now m) }
     ensures none { IfNone result (NeverDelivers run.now.logs e.now) }
@@ -49,7 +49,7 @@ fn is_same(e: &Place, f: &Place) -> bool
     *e == *f
 }
 
-/// Whether two events are different deliveries of one message.
+/// Returns whether two events are different deliveries of one message.
 fn are_twins(run: &Run, e: &Place, f: &Place) -> bool
     ensures { IsTrue result ↔ AreTwinDeliveries run.now.logs e.now f.now }
 {
@@ -60,7 +60,7 @@ fn are_twins(run: &Run, e: &Place, f: &Place) -> bool
     and_not(same, one)
 }
 
-/// What follows in a closed list.
+/// Returns the place that follows the i-th in a closed list; after the last comes the first.
 fn next_of(places: &[Place], i: usize) -> Place
     requires { i < length places.now }
     ensures { StandsNext places.now i result }
@@ -72,7 +72,7 @@ fn next_of(places: &[Place], i: usize) -> Place
     }
 }
 
-/// Whether two neighbours of a closed list are different deliveries of one message.
+/// Returns whether two neighbours of a closed list are different deliveries of one message.
 pub fn has_twins(run: &Run, places: &[Place]) -> bool
     ensures { IsTrue result ↔ HasTwinDeliveries run.now.logs places.now }
 {

@@ -1,7 +1,7 @@
 use std::marker::Model;
 use totem_ids::Place;
 
-/// A step to an entry, from the one that holds it up.
+/// A step to an entry from the one that holds it up.
 #[derive(Clone, Copy, Debug)]
 pub struct Visit {
     pub from: Place,

@@ -15,14 +15,14 @@ use std::collections::BTreeMap;
 use totem_evs::Run;
 use totem_ids::Place;
 
-/// Steps from class to class, and the one to whose class they came back.
+/// Steps from class to class, until they came back to the class of step `again`.
 #[derive(Debug, Drop)]
 pub struct Round {
     pub visits: Vec<Visit>,
     pub again: usize,
 }
 
-/// Which step led to an event.
+/// Returns which step led to an event.
 fn visited(seen: &BTreeMap<Place, usize>, to: &Place) -> Option<usize>
     ensures { result ≡ get place_order seen.now to.now }
 {
@@ -36,7 +36,7 @@ fn note(seen: &mut BTreeMap<Place, usize>, to: Place, step: usize) -> Result<(),
     Ok(())
 }
 
-/// Goes from class to class, beginning at that of an event that is left, until a class comes twice.
+/// Goes from class to class, beginning at the class of an event without a number, until a class comes a second time.
 pub fn walk_round(
     alloc: Global,
     run: &Run,

@@ -1,4 +1,4 @@
-//! The first by its place of the entries with a key that are wanted.
+//! Finds the first by its place of the wanted entries that have a key.
 ghost use Rattle.std.specs.Prelude.{◌≡◌, ◌↔◌, ◌<◌, IsTrue, length};
 ghost use Rattle.totem_evs.specs.Runs.{IsRun};
 ghost use Rattle.totem_cert.specs.Keys.{KeysRise, IsIndex};
@@ -11,13 +11,13 @@ use crate::open_line::OpenLine;
 use totem_evs::Run;
 use totem_ids::Place;
 
-/// What is sought among the entries with a key.
+/// Which of the entries with a key are wanted.
 #[derive(Clone, Copy, Debug)]
 pub enum Wanted {
     /// Sends without a number.
     Sends,
-    /// Entries of the class that are held up: each, where the class waits for a send, else those whose entry before has
-    /// no number.
+    /// Entries of the class that are held up: all of them if the class waits for a send, and otherwise those behind an
+    /// entry without a number.
     Mates { waits: bool },
 }
 
@@ -74,7 +74,7 @@ fn best_with(
     }
 }
 
-/// The first by its place of the entries that are wanted of those with a key, which the entry at this index of this log has.
+/// Returns the first by its place of the wanted entries with a key. The entry at index `at` of this log has the key.
 #[tactic(auto, using(crate::proofs::Wanting::best_yet, crate::proofs::Wanting::best_more, crate::proofs::Wanting::best_below))]
 fn first_wanted(
     index: &Index,
@@ -100,7 +100,7 @@ fn first_wanted(
     best
 }
 
-/// The place of an entry of the run.
+/// Returns the place of an entry of the run.
 fn place_of(run: &Run, member: &Member) -> Place
     requires log { member.now.log < length run.now.logs }
     requires few { member.now.at < 1000000 }
@@ -113,7 +113,7 @@ fn place_of(run: &Run, member: &Member) -> Place
     }
 }
 
-/// The place of the first entry that is wanted of those with a key, which the entry at this index of this log has.
+/// Returns the place of the first wanted entry with a key. The entry at index `at` of this log has the key.
 pub fn first_place(
     run: &Run,
     index: &Index,

@@ -1,4 +1,4 @@
-//! The text of a certificate, written.
+//! Writes the text of a certificate.
 ghost use Rattle.std.specs.Prelude.{◌≡◌, []};
 ghost use Rattle.std.specs.List.{flat_map};
 ghost use Rattle.totem_ids.specs.Writing.{Writes, held};

@@ -3,8 +3,8 @@ ghost use Rattle.std.specs.Prelude.{◌≡◌, IfOk};
 use std::alloc::{AllocError, Global};
 use totem_evs::{Pending, Waiting};
 
-/// What the checker says of a run that meets the specifications and of a certificate for it: what is pending and who
-/// waits, in rising order.
+/// What the checker accepts: the certificate certifies the run, the run meets the specifications, and these lists, in
+/// rising order, say what is pending and who waits.
 #[derive(Debug, Drop)]
 pub struct Accepted {
     pub pending: Vec<Pending>,

@@ -1,4 +1,4 @@
-//! Whether a certificate certifies a run.
+//! Tests whether a certificate certifies a run.
 ghost use Rattle.std.specs.Prelude.{◌↔◌, IsOk};
 ghost use Rattle.totem_evs.specs.Certificates.{Certified};
 ghost use Rattle.totem_check.specs.Certifying.{Answers};
@@ -13,7 +13,8 @@ use crate::shares::Shares;
 use totem_cert::Certificate;
 use totem_evs::Run;
 
-/// Compares each two entries of the run, whose number is the square of the entries'. It takes no memory.
+/// Tests whether the certificate certifies the run. The fault is the first reason why it does not. Every two entries
+/// are compared, so the time grows with the square of the entries. Takes no memory.
 pub fn certified(run: &Run, certificate: &Certificate) -> Result<(), CertificateFault>
     ensures answer { Answers run.now.logs certificate.now result }
     ensures exact { IsOk result ↔ Certified run.now.logs certificate.now }

@@ -1,4 +1,4 @@
-//! Why a run was not accepted with a certificate.
+//! Why a run with a certificate was not accepted.
 ghost use Rattle.std.specs.Prelude.{◌≡◌, IfOk};
 ghost use Rattle.totem_check.specs.declared.check_fault.CheckFault.TheVariants.{Memory};
 ghost use Rattle.totem_check.specs.CheckFaults.{fault_number, fault_name};
@@ -8,7 +8,7 @@ use std::alloc::{AllocError, Global};
 use thiserror::Error;
 use totem_evs::Fault;
 
-/// Why a run was not accepted with a certificate. Each is looked for in the whole run before the next one is.
+/// Why a run with a certificate was not accepted. Each reason is looked for in the whole run before the next one is.
 #[derive(Debug, Drop, Error)]
 pub enum CheckFault {
     #[error("the lines do not match the logs and their entries")]
@@ -29,7 +29,7 @@ pub enum CheckFault {
 }
 
 impl CheckFault {
-    /// Its number, from 1 on in the order above.
+    /// Returns the fault's number, counted from 1 in the order above.
     pub fn number(&self) -> u8
         ensures { result ≡ fault_number self.now }
     {
@@ -44,7 +44,7 @@ impl CheckFault {
         }
     }
 
-    /// Its name.
+    /// Returns the fault's name.
     pub fn name(&self) -> &'static str
         ensures { result.now ≡ fault_name self.now }
     {

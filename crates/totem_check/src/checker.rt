@@ -22,7 +22,7 @@ fn first_of(mut faults: Vec<Fault>) -> Option<Fault>
     }
 }
 
-/// The first fault that the audit of the run lists, whose events some certificate orders: pass C finds none.
+/// Returns the first fault that the audit of the run would list. Some certificate orders the run's events, so pass C has none.
 fn first_fault(alloc: Global, run: &Run) -> Result<Option<Fault>, AllocError>
     requires { HasCertificate run.now.logs }
     ensures { IfOk result (IsFirst run.now.logs) }
@@ -36,8 +36,8 @@ fn first_fault(alloc: Global, run: &Run) -> Result<Option<Fault>, AllocError>
     Ok(first_of(pass_d(alloc, run)?))
 }
 
-/// Checks that a certificate certifies a run and that the run meets specifications 1 to 7 (docs/SPECIFICATIONS.md, "The
-/// checker"). Nothing else is asked: neither who made the certificate, nor what an audit said.
+/// Checks that the certificate certifies the run and that the run meets specifications 1 to 7 (docs/SPECIFICATIONS.md,
+/// "The checker"). It does not matter who made the certificate, or what an audit said.
 pub fn check(alloc: Global, run: &Run, certificate: &Certificate) -> Result<Accepted, CheckFault>
     ensures answer { Checks run.now.logs certificate.now result }
     ensures exact { RefusesRightly run.now.logs certificate.now result }

@@ -1,4 +1,4 @@
-//! Whether events of one class have one number.
+//! Tests whether events of one class have one number.
 ghost use Rattle.totem_check.specs.Kinds.{ClassIsOne, ClassIsSplit};
 
 use crate::each::Numbered;

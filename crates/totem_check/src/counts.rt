@@ -1,4 +1,4 @@
-//! Whether there is a line for each log, and a number for each entry.
+//! Tests whether there is a line for each log, and a number for each entry.
 ghost use Rattle.std.specs.Prelude.{◌↔◌, IsTrue, MatchBool};
 ghost use Rattle.totem_evs.specs.Certificates.{Matches};
 ghost use Rattle.totem_check.specs.Counts.{IsLineOf};
@@ -12,7 +12,7 @@ fn is_line_of(log: &Log, line: &Line) -> bool
     log.proc == line.proc && log.entries.as_slice().len() == line.numbers.as_slice().len()
 }
 
-/// Whether the lines match the logs.
+/// Returns whether the lines match the logs: the same processes, and as many numbers as entries.
 pub fn matches_logs(logs: &[Log], lines: &[Line]) -> bool
     ensures { MatchBool result (Matches logs.now lines.now) (Matches logs.now lines.now → ⊥) }
 {

@@ -1,4 +1,4 @@
-//! What is asked of each event of a run and its number.
+//! Puts a question to each event of a run, with its number.
 ghost use Rattle.std.specs.Prelude.{◌≡◌, ◌≤◌, ℕ, MatchBool, length};
 ghost use Rattle.totem_ids.specs.declared.place.Place.{Place};
 ghost use Rattle.totem_evs.specs.declared.entry.Entry.{Entry};
@@ -19,9 +19,9 @@ pub struct Numbered<'a> {
     pub number: u32,
 }
 
-/// What is asked of one event.
+/// A question about one event.
 pub trait Question {
-    /// What has to hold before it is asked.
+    /// What has to hold before the question may be asked.
     ghost ready: { Self → Type 0 };
 
     ghost holds: { Self → Place → Entry → ℕ → Type 0 };
@@ -59,7 +59,7 @@ fn every_in<Q: Question>(question: &Q, proc: ProcId, entries: &[Entry], numbers:
     true
 }
 
-/// Asks of each event of the run, whose logs the lines match.
+/// Returns whether the question is answered with yes for each event of the run. The lines have to match the logs.
 pub fn every<Q: Question>(question: &Q, logs: &[Log], lines: &[Line]) -> bool
     requires ready { Q.ready question.now }
     requires matches { Matches logs.now lines.now }

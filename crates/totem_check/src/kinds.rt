@@ -1,10 +1,10 @@
-//! What two entries have to do with each other.
+//! How two entries are related.
 ghost use Rattle.std.specs.Prelude.{◌↔◌, IsTrue};
 ghost use Rattle.totem_check.specs.Kinds.{AreOfOneClass, AreSendAndDelivery};
 
 use totem_evs::Entry;
 
-/// Whether these are changes to one configuration, or deliveries of one message.
+/// Returns whether the two are changes to one configuration, or deliveries of one message.
 pub fn are_of_one_class(one: &Entry, other: &Entry) -> bool
     ensures { IsTrue result ↔ AreOfOneClass one.now other.now }
 {
@@ -15,7 +15,7 @@ pub fn are_of_one_class(one: &Entry, other: &Entry) -> bool
     }
 }
 
-/// Whether these are a send and a delivery of its message.
+/// Returns whether the two are a send and a delivery of its message.
 pub fn are_send_and_delivery(one: &Entry, other: &Entry) -> bool
     ensures { IsTrue result ↔ AreSendAndDelivery one.now other.now }
 {

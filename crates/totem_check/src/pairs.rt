@@ -1,4 +1,4 @@
-//! What is asked of each two events of a run and their numbers, by plain loops.
+//! Puts a question to every two events of a run, with their numbers, by plain loops.
 ghost use Rattle.std.specs.Prelude.{ℕ, MatchBool};
 ghost use Rattle.std.specs.Bool.{OnFalse};
 ghost use Rattle.totem_ids.specs.declared.place.Place.{Place};
@@ -11,13 +11,13 @@ use crate::each::{Numbered, Question, every};
 use totem_cert::Line;
 use totem_evs::Log;
 
-/// What is asked of two events.
+/// A question about two events.
 pub trait Pair {
     ghost fits: { Self → Place → Entry → ℕ → Place → Entry → ℕ → Type 0 };
 
     ghost breaks: { Self → Place → Entry → ℕ → Place → Entry → ℕ → Type 0 };
 
-    /// Whether it asks anything of a pair that begins so.
+    /// Returns `false` only if the question is answered with yes for every pair that begins with this event.
     fn concerns(&self, first: &Numbered) -> bool
         ensures { OnFalse result ((f : Place) (y : Entry) (m : ℕ) → fits self.now first.now.place first.now.entry.now first.now.number f y m) };
 
@@ -78,7 +78,7 @@ impl<T: Pair> Question for Firsts<'_, '_, '_, T> {
     }
 }
 
-/// Asks of each two events of the run, whose logs the lines match.
+/// Returns whether the question is answered with yes for every two events of the run. The lines have to match the logs.
 pub fn every_pair<T: Pair>(pair: &T, logs: &[Log], lines: &[Line]) -> bool
     requires matches { Matches logs.now lines.now }
     requires run { IsRun logs.now }

@@ -1,4 +1,4 @@
-//! Whether the numbers of each log rise.
+//! Tests whether the numbers of each log rise.
 ghost use Rattle.std.specs.Prelude.{MatchBool, length};
 ghost use Rattle.totem_check.specs.Rising.{RisesBefore, FallsSomewhere, LinesRise, LineFalls};
 
@@ -15,7 +15,7 @@ fn rises(numbers: &[u32]) -> bool
     true
 }
 
-/// Whether the numbers of each line rise.
+/// Returns whether the numbers of each line rise strictly.
 pub fn all_rise(lines: &[Line]) -> bool
     ensures { MatchBool result (LinesRise lines.now (length lines.now)) (LineFalls lines.now) }
 {

@@ -1,4 +1,4 @@
-//! Whether sends are numbered below the deliveries of their messages.
+//! Tests whether each send has a number below those of the deliveries of its message.
 ghost use Rattle.totem_check.specs.Kinds.{SendIsBelow, SendIsNotBelow};
 
 use crate::each::Numbered;

@@ -1,4 +1,4 @@
-//! Whether events that are of no class share a number.
+//! Tests whether events that are not of one class share a number.
 ghost use Rattle.totem_check.specs.Kinds.{NumberIsOwn, NumberIsShared};
 
 use crate::each::Numbered;

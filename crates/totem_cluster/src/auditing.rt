@@ -17,7 +17,7 @@ use totem_audit::{OpenGate, Verdict, Workers, audit, audit_with};
 use totem_evs::{Run, RunFault, read_end, read_run};
 use totem_ids::{Sink, Source};
 
-/// Reads a run, with nothing after it.
+/// Reads a run that has nothing behind it.
 fn read_whole<R: Source>(alloc: Global, input: &mut R) -> Result<Run, RunFault>
     ensures { ReadsWhole (seen R.remaining R.failures input.old) (seen R.remaining R.failures input.new) result }
 {
@@ -26,7 +26,7 @@ fn read_whole<R: Source>(alloc: Global, input: &mut R) -> Result<Run, RunFault>
     Ok(run)
 }
 
-/// What a verdict comes to.
+/// Returns the outcome that a verdict has.
 fn outcome(verdict: &Verdict) -> Outcome
     ensures { Says (answer_of verdict.now) result }
 {
@@ -36,7 +36,7 @@ fn outcome(verdict: &Verdict) -> Outcome
     }
 }
 
-/// Judges the run. One worker is the thread that asks, and starts no other.
+/// Judges the run. With one worker the calling thread does all the work and starts no other.
 fn judge<T: Threads + Sync>(
     rt: &T,
     alloc: Global,
@@ -52,7 +52,8 @@ fn judge<T: Threads + Sync>(
     audit_with(rt, alloc, run, workers, &OpenGate)
 }
 
-/// Reads the text of a run to the end of the input, judges it, and writes the report, the same for every number of workers.
+/// Reads the text of a run to the end of the input, judges the run, and writes the report. The report is the same for
+/// every number of workers.
 pub fn audit_io<T: Threads + Wait + Sync, R: Source, W: Sink>(
     rt: &T,
     alloc: Global,

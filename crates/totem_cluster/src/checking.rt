@@ -13,7 +13,7 @@ use totem_check::{CheckFault, check};
 use totem_evs::read_run;
 use totem_ids::{Sink, Source};
 
-/// Reads a certificate, with nothing after it.
+/// Reads a certificate that has nothing behind it.
 fn read_last<R: Source>(alloc: Global, input: &mut R) -> Result<Certificate, CertFault>
     ensures { ReadsLast (seen R.remaining R.failures input.old) (seen R.remaining R.failures input.new) result }
 {
@@ -25,7 +25,8 @@ fn read_last<R: Source>(alloc: Global, input: &mut R) -> Result<Certificate, Cer
     }
 }
 
-/// Reads the text of a run and at once that of a certificate, to the end of the input, checks both, and writes the report.
+/// Reads the text of a run and, directly behind it, that of a certificate, to the end of the input. Checks both, and
+/// writes the report.
 pub fn check_io<R: Source, W: Sink>(
     alloc: Global,
     input: &mut R,

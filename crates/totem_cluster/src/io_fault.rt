@@ -8,28 +8,28 @@ use totem_evs::{RunFault, WriteFault};
 use totem_script::ScriptFault;
 use totem_threads::{BookTrouble, ThreadsFault};
 
-/// Why a call from stream to stream gave no outcome. Nothing was written, unless it is `Write`.
+/// Why a call from stream to stream gave no outcome. At every fault but `Write` nothing was written.
 #[derive(Debug, Drop, Error)]
 pub enum IoFault {
-    /// The run was refused, or its source failed; never `RunFault::Memory`.
+    /// The run was refused, or its source failed. Never with `RunFault::Memory`.
     #[error("the run was refused: {0}")]
     Run(RunFault),
-    /// The certificate could not be read, or its source failed; never `CertFault::Memory`.
+    /// The certificate could not be read, or its source failed. Never with `CertFault::Memory`.
     #[error("the certificate could not be read: {0}")]
     Cert(CertFault),
-    /// The certificate does not certify the run; never `CheckFault::Broken` or `CheckFault::Memory`.
+    /// The certificate does not certify the run. Never with `CheckFault::Broken` or `CheckFault::Memory`.
     #[error("the certificate was refused: {0}")]
     Refused(CheckFault),
-    /// The script makes no run, or its source failed; never with `ScriptFaultKind::Memory`.
+    /// The script makes no run, or its source failed. Never with `ScriptFaultKind::Memory`.
     #[error("the script was refused: {0}")]
     Script(ScriptFault),
-    /// A book of a run in threads took no further call, or wasn't closed.
+    /// A book of a run in threads took no further call, or was not closed.
     #[error("a book was refused: {0}")]
     Book(BookTrouble),
-    /// Memory was refused; in a run in threads also a thread.
+    /// Memory was refused or, in a run in threads, a thread could not be made.
     #[error("out of memory")]
     Memory,
-    /// How much went out is not known.
+    /// The output failed. How much went out is not known.
     #[error("write failed")]
     Write,
 }

@@ -1,5 +1,5 @@
-//! The program over any three streams: audits of runs, checks of their certificates, and runs that scripts or nodes in
-//! threads make.
+//! The program over any three streams: it audits runs, checks their certificates, and makes runs from scripts or with
+//! nodes in threads.
 #![tactic(auto)]
 
 mod auditing;

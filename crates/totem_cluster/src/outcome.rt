@@ -1,19 +1,19 @@
 ghost use Rattle.std.specs.Prelude.{◌≡◌};
 ghost use Rattle.totem_cluster.specs.Endings.{outcome_status};
 
-/// How a call ended that writes a report or a run.
+/// How a call that writes a report or a run ended.
 #[derive(Clone, Copy, Debug, PartialEq, Eq)]
 pub enum Outcome {
     /// The run meets the specifications.
     Yes,
-    /// The run breaks at least one.
+    /// The run breaks at least one specification.
     No,
     /// A run was made.
     Made,
 }
 
 impl Outcome {
-    /// The status of a program that ends with it.
+    /// Returns the status with which the program ends after this outcome.
     pub fn status(self) -> u8
         ensures { result ≡ outcome_status self }
     {

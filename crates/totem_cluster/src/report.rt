@@ -55,7 +55,7 @@ fn put_faults<S: Sink>(pieces: &mut Pieces, sink: &mut S, faults: &[Fault]) -> R
     Ok(())
 }
 
-/// The report of a no.
+/// Puts the report of a no.
 #[tactic(auto, using(totem_ids::proofs::Writers::wrote_then, totem_ids::proofs::Writers::wrote_failed))]
 fn put_no<S: Sink>(pieces: &mut Pieces, sink: &mut S, faults: &[Fault]) -> Result<(), Failed>
     ensures { Writes (held S.contents S.failures pieces.old sink.old)
@@ -84,7 +84,7 @@ fn put_report<S: Sink>(pieces: &mut Pieces, sink: &mut S, verdict: &Verdict) -> 
     }
 }
 
-/// The checker's yes.
+/// Puts the checker's yes.
 #[tactic(auto, using(totem_ids::proofs::Writers::wrote_then, totem_ids::proofs::Writers::wrote_failed))]
 fn put_accepted<S: Sink>(
     pieces: &mut Pieces,
@@ -116,7 +116,7 @@ pub fn write_report<S: Sink>(
     Ok(())
 }
 
-/// Writes the checker's yes.
+/// Writes the report of the checker's yes.
 pub fn write_accepted<S: Sink>(
     alloc: Global,
     accepted: &Accepted,

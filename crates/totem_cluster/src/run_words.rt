@@ -1,4 +1,4 @@
-//! The words of a run in threads.
+//! The words of the command line that ask for a run in threads.
 ghost use Rattle.std.specs.Prelude.{◌≡◌, ◌+◌, ◌≤◌, IfSome, IfNone};
 ghost use Rattle.totem_threads.specs.Starts.{IsInRange};
 ghost use Rattle.totem_cluster.specs.RunWords.{plan_of};
@@ -9,7 +9,7 @@ use std::alloc::{AllocError, Global};
 use totem_net::Plan;
 use totem_threads::RunPlan;
 
-/// The numbers of a run in threads.
+/// The numbers of a run in threads (docs/PROTOCOL.md, "A run in threads").
 #[derive(Clone, Copy, Debug, PartialEq, Eq)]
 pub struct RunWords {
     pub nodes: u16,
@@ -21,7 +21,8 @@ pub struct RunWords {
 }
 
 impl RunWords {
-    /// Their plan. There is none that loses and repeats more than a hundred of a hundred.
+    /// Returns the plan with these numbers, or `None` if they don't fit: `lose` and `repeat` together above 100, or one
+    /// out of its range.
     pub fn plan(&self) -> Option<RunPlan>
         ensures range { IfSome result IsInRange }
         ensures numbers { IfSome result (λ plan. plan ≡ plan_of self.now) }
@@ -32,7 +33,7 @@ impl RunWords {
     }
 }
 
-/// An option that takes a number in a range.
+/// An option of the command line that takes a number in a range.
 struct NumberOption {
     name: &'static str,
     letter: &'static str,
@@ -104,7 +105,7 @@ impl NumberOption {
     }
 }
 
-/// The command that runs nodes in threads.
+/// Returns the command that runs nodes in threads.
 pub fn run_command<'a>(alloc: Global) -> Result<Command<'a>, AllocError> {
     let mut command = Command::new(alloc, "run")
         .about("Runs nodes in threads, and writes the run that they record")
@@ -115,7 +116,7 @@ pub fn run_command<'a>(alloc: Global) -> Result<Command<'a>, AllocError> {
     Ok(command)
 }
 
-/// The numbers that the words of a run give.
+/// Returns the numbers that the words of a run give.
 pub fn run_words(matches: &ArgMatches<'_>) -> RunWords {
     RunWords {
         nodes: matches.get_one::<u16>("nodes").unwrap_or(3),

@@ -23,7 +23,7 @@ use totem_audit::Workers;
 use totem_evs::WriteFault;
 use totem_ids::{Sink, Source};
 
-/// The text for the person who typed the words.
+/// Returns the text for the person who typed the words.
 fn text_of(alloc: Global, error: &Error) -> Result<String, AllocError> {
     if error.kind() == ErrorKind::OutOfMemory {
         return Err(AllocError);
@@ -31,7 +31,7 @@ fn text_of(alloc: Global, error: &Error) -> Result<String, AllocError> {
     error.to_string(alloc)
 }
 
-/// Writes help or the version, and answers the status.
+/// Writes help or the version, and returns the status.
 fn show<W: Sink, E: Sink>(alloc: Global, text: &[u8], output: &mut W, errors: &mut E) -> u8
     ensures { Shows (held W.contents W.failures [] output.old) (held W.contents W.failures [] output.new)
         (bare E.contents E.failures errors.old) (bare E.contents E.failures errors.new) text.now result }
@@ -43,7 +43,7 @@ fn show<W: Sink, E: Sink>(alloc: Global, text: &[u8], output: &mut W, errors: &m
     }
 }
 
-/// Answers words that ask for help or the version, or for nothing that there is.
+/// Answers words that ask for help or the version, or for nothing that there is, and returns the status.
 fn explain<W: Sink, E: Sink>(alloc: Global, error: &Error, output: &mut W, errors: &mut E) -> u8
     ensures { Explains (kind_of error.now)
         (held W.contents W.failures [] output.old) (held W.contents W.failures [] output.new)
@@ -63,19 +63,19 @@ fn explain<W: Sink, E: Sink>(alloc: Global, error: &Error, output: &mut W, error
     }
 }
 
-/// So many workers; one where there can't be so many.
+/// Returns so many workers, or one if there can't be so many.
 fn as_many(workers: u32) -> Workers {
     Workers::new(workers).unwrap_or(Workers::one())
 }
 
-/// What is told of numbers of a run that don't fit together.
+/// What the person is told whose numbers for a run don't fit together.
 const UNFIT: &str = "\
 error: '--lose' and '--repeat' are together above 100
 
 For more information, try '--help'.
 ";
 
-/// Runs nodes in threads, where the numbers fit together, and answers the status.
+/// Runs nodes in threads if the numbers fit together, and returns the status.
 fn play<T: Threads + Wait + Sync, W: Sink, E: Sink>(
     rt: &T,
     alloc: Global,
@@ -96,7 +96,7 @@ fn play<T: Threads + Wait + Sync, W: Sink, E: Sink>(
     }
 }
 
-/// The program over any three streams; `words` has the program's name first. Answers the status with which to exit.
+/// The program over any three streams. The first of `words` is the program's name. Returns the status with which to exit.
 pub fn program<T: Threads + Wait + Sync, R: Source, W: Sink, E: Sink>(
     rt: &T,
     alloc: Global,

@@ -11,18 +11,18 @@ use totem_evs::{Run, write_run};
 use totem_ids::{Sink, Source};
 use totem_script::{ScriptFault, ScriptFaultKind, simulate};
 
-/// How many bytes are looked at: one more than a script may have.
+/// How many bytes are read: one more than a script may have.
 const MOST: usize = 65_537;
 
-/// What was read of a script.
+/// The bytes that were read of a script.
 #[derive(Debug, Drop)]
 pub struct Reading {
     bytes: Vec<u8>,
-    /// The source failed behind these bytes.
+    /// Whether the source failed behind these bytes.
     failed: bool,
 }
 
-/// Reads to the end of the input, and of a longer one as much as is looked at.
+/// Reads to the end of the input, but no more than `MOST` bytes.
 fn read_script<R: Source>(alloc: Global, input: &mut R) -> Result<Reading, AllocError>
     ensures { ReadsScript (seen R.remaining R.failures input.old) (seen R.remaining R.failures input.new) result }
 {
@@ -50,7 +50,7 @@ fn read_script<R: Source>(alloc: Global, input: &mut R) -> Result<Reading, Alloc
     })
 }
 
-/// The fault of a script that can't be read on behind these bytes.
+/// Returns the fault of a script that can't be read on behind these bytes.
 fn unread(bytes: &[u8]) -> ScriptFault
     requires { length bytes.now ≤ 65537 }
     ensures { result ≡ unread bytes.now }
@@ -62,7 +62,7 @@ fn unread(bytes: &[u8]) -> ScriptFault
     }
 }
 
-/// The fault of a script whose source failed behind these bytes: that of an earlier line, or that it can't be read.
+/// Returns the fault of a script whose source failed behind these bytes: that of an earlier line, or that it can't be read.
 fn fault_behind(alloc: Global, bytes: &[u8]) -> IoFault
     requires { length bytes.now ≤ 65537 }
     ensures { TellsBehind result bytes.now }
@@ -77,7 +77,7 @@ fn fault_behind(alloc: Global, bytes: &[u8]) -> IoFault
     }
 }
 
-/// The script's run, and what it is otherwise.
+/// Returns the run that a script makes.
 fn run_of(alloc: Global, script: &[u8]) -> Result<Run, IoFault>
     ensures { MakesRun result script.now }
 {
@@ -90,7 +90,7 @@ fn run_of(alloc: Global, script: &[u8]) -> Result<Run, IoFault>
     }
 }
 
-/// Reads a script, and writes the text of the run that it makes. A script that has no end is refused.
+/// Reads a script, and writes the text of the run that it makes. A script that never ends is refused.
 pub fn sim_io<R: Source, W: Sink>(
     alloc: Global,
     input: &mut R,

@@ -1,4 +1,4 @@
-//! What the program tells on its stream of errors. It takes no memory, and passes over a failure of that stream.
+//! What the program tells on its stream of errors. Telling takes no memory, and passes over a failure of that stream.
 ghost use Rattle.std.specs.Prelude.{◌≡◌, decimal};
 ghost use Rattle.totem_ids.specs.Writing.{Writes};
 ghost use Rattle.totem_cluster.specs.declared.io_fault.IoFault.TheVariants.{Book};
@@ -30,7 +30,7 @@ fn put_text<E: Sink>(errors: &mut E, text: &str) -> Result<(), Failed>
     put_bytes(errors, text.as_bytes())
 }
 
-/// What was refused, the number of the fault and its name.
+/// Writes what was refused, the number of the fault and its name.
 #[tactic(auto, using(totem_ids::proofs::Writers::wrote_then, totem_ids::proofs::Writers::wrote_failed))]
 fn put_refusal<E: Sink>(errors: &mut E, front: &str, number: u8, name: &str) -> Result<(), Failed>
     ensures { Writes (bare E.contents E.failures errors.old) (bare E.contents E.failures errors.new)
@@ -42,7 +42,7 @@ fn put_refusal<E: Sink>(errors: &mut E, front: &str, number: u8, name: &str) -> 
     put_text(errors, name)
 }
 
-/// The end of the line of a run's fault: its process, where it has one.
+/// Writes the end of the line of a run's fault: its process, if it names one.
 fn put_process<E: Sink>(errors: &mut E, fault: &RunFault) -> Result<(), Failed>
     ensures { Writes (bare E.contents E.failures errors.old) (bare E.contents E.failures errors.new) result (process_text fault.now) }
 {
@@ -128,7 +128,7 @@ fn put_fault<E: Sink>(errors: &mut E, fault: &IoFault) -> Result<(), Failed>
     }
 }
 
-/// The status of a script's fault.
+/// Returns the status of a script's fault.
 fn script_status(kind: ScriptFaultKind) -> u8
     ensures { result ≡ script_status kind }
 {
@@ -138,14 +138,14 @@ fn script_status(kind: ScriptFaultKind) -> u8
     }
 }
 
-/// Tells these bytes.
+/// Writes these bytes to the stream of errors.
 pub fn tell<E: Sink>(errors: &mut E, bytes: &[u8])
     ensures { Tells (bare E.contents E.failures errors.old) (bare E.contents E.failures errors.new) bytes.now }
 {
     let _ = put_bytes(errors, bytes);
 }
 
-/// Tells a fault, and answers its status.
+/// Tells a fault, and returns its status.
 pub fn tell_fault<E: Sink>(errors: &mut E, fault: &IoFault) -> u8
     ensures line { Tells (bare E.contents E.failures errors.old) (bare E.contents E.failures errors.new) (fault_line fault.now) }
     ensures status { result ≡ fault_status fault.now }

@@ -4,10 +4,10 @@ use clap::builder::ValueParser;
 use clap::{Arg, ArgMatches, Command, Error};
 use std::alloc::{AllocError, Global};
 
-/// What the words ask for.
+/// What the words of a command line ask for.
 #[derive(Clone, Copy, Debug, PartialEq, Eq)]
 pub enum Words {
-    /// The audit of the run on the standard input, by so many workers, 1 to 64.
+    /// The audit of the run on the standard input, by 1 to 64 workers.
     Audit { workers: u32 },
     /// The check of a run and its certificate.
     Check,
@@ -39,7 +39,7 @@ fn audit_command<'a>(alloc: Global) -> Result<Command<'a>, AllocError> {
         .arg(workers)
 }
 
-/// How many workers the words of an audit ask for.
+/// Returns how many workers the words of an audit ask for.
 fn workers_of(matches: &ArgMatches<'_>) -> u32 {
     matches.get_one::<u32>("workers").unwrap_or(1)
 }
@@ -68,7 +68,7 @@ fn command<'a>(alloc: Global) -> Result<Command<'a>, AllocError> {
         .subcommand(run_command(alloc)?)
 }
 
-/// Reads the words, the program's name first. An error has the text for the person who typed them.
+/// Reads the words, of which the first is the program's name. An error has the text for the person who typed them.
 pub fn read_words(alloc: Global, words: &[String]) -> Result<Words, Error> {
     let matches = command(alloc)?.try_get_matches_from(words)?;
     Ok(match matches.subcommand() {

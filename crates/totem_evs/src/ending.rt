@@ -1,4 +1,4 @@
-/// How a log ends: it is open, or its process failed.
+/// How a log ends: open, which is `Standing`, or with a failure of its process.
 #[derive(Clone, Copy, Debug, PartialEq, Eq, PartialOrd, Ord, Hash)]
 pub enum Ending {
     Standing,

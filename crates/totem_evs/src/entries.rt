@@ -7,10 +7,10 @@ use crate::refused::{ListFault, Refused};
 use std::alloc::{AllocError, Global};
 use std::marker::Model;
 
-/// How many entries a log may have.
+/// How many entries a log may have at most.
 const MOST: usize = 1_000_000;
 
-/// The entries of a log, from the first on: 1 to 1,000,000.
+/// The entries of a log from the first on, 1 to 1,000,000 of them.
 #[derive(Debug, Drop)]
 pub struct Entries {
     list: Vec<Entry>,
@@ -38,7 +38,7 @@ fn keep_their_rules(list: &[Entry])
 }
 
 impl Entries {
-    /// The entries of this list; a refusal gives the list back.
+    /// Makes the entries from this list. A refusal gives the list back with the first rule that it breaks.
     pub fn new(list: Vec<Entry>) -> Result<Entries, Refused<Vec<Entry>>>
         ensures { MatchResult result (λ e. (e ≡ list.items) × IsEntries list.items)
             (λ r. (r.value.items ≡ list.items) × Refuses 1 1000000 Anyhow list.items r.fault) }
@@ -54,7 +54,7 @@ impl Entries {
         Err(Refused { fault, value: list })
     }
 
-    /// The entries of a list that is known to keep the rules.
+    /// Makes the entries from a list that is known to keep the rules.
     pub fn of(list: Vec<Entry>) -> Entries
         requires { IsEntries list.items }
         ensures { result ≡ list.items }
@@ -69,7 +69,7 @@ impl Entries {
         &self.list
     }
 
-    /// The entries, without taking memory.
+    /// Returns the entries as a vector, without taking memory.
     pub fn into_vec(self) -> Vec<Entry>
         ensures { result.items ≡ self }
     {

@@ -6,21 +6,21 @@ use crate::members::Members;
 use std::alloc::{AllocError, Global};
 use totem_ids::{ConfId, MsgId, ProcId, Service, conf_fits, message_fits};
 
-/// One event of a process, as it recorded it.
+/// An entry of a log: one event of a process, as the process recorded it.
 #[derive(Debug, Drop)]
 pub enum Entry {
-    /// It changed to this configuration with these members.
+    /// The process changed to this configuration, which has these members.
     Conf(ConfId, Members),
-    /// It sent a message in this configuration.
+    /// The process sent a message in this configuration.
     Send(MsgId, ConfId, Service),
-    /// It delivered a message in this configuration.
+    /// The process delivered a message in this configuration.
     Deliver(MsgId, ConfId),
-    /// It failed in this configuration.
+    /// The process failed in this configuration.
     Fail(ConfId),
 }
 
 impl Entry {
-    /// Names are in range, and members rise: the types of its parts say so, and this passes it on.
+    /// Tells contracts that names are in range and members rise: the types of the entry's parts see to that.
     pub(crate) fn keeps_its_rule(&self)
         ensures { IsEntry self.now }
     {
@@ -47,7 +47,7 @@ impl Entry {
         matches!(self, Entry::Fail(_))
     }
 
-    /// The members that it names.
+    /// Returns the members that a change names, and no processes for any other entry.
     pub(crate) fn members(&self) -> &[ProcId]
         ensures { result.now ≡ members_of self.now }
     {

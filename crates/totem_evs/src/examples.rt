@@ -1,4 +1,4 @@
-//! The specifications tried on small runs, each claim the contract of a function that does nothing.
+//! The specifications, tried on small runs: each claim is the contract of a function that does nothing.
 ghost use Rattle.totem_evs.specs.ExampleClaims.{DeliveredBeforeSent, DeliveredNeverSent, DeliveredTwoRingsLater, SentTwice, GoesOnAfterAFailure, OneConfigurationTwice, RegularAfterRegular, SenderMovedOn, WentOnTogether, CauseNeverDelivered, TwoOrders, GapWhereTheSenderStayed, SafeWithAMemberThatMovedOn, SafeWithAMemberThatNeverCame, SafeWhereAMemberNeverCame, SentAndOpen, SentAndFailed, FailedWhileTheOtherWaits, OneMessageDeliveredByBoth, CertifiedByItsNumbers, NothingBreaks, NothingLeftOpen, SafeMessageOnTheWay, EachIsARun};
 
 /// Process 1 delivers a message before it sends it (1.1).
@@ -81,7 +81,7 @@ pub fn sent_and_open()
     ensures { SentAndOpen }
 {}
 
-/// Process 1 sends a message and fails: 2 may still deliver it, and 1 may not.
+/// Process 1 sends a message and fails: 2 may still deliver it, 1 may not.
 pub fn sent_and_failed()
     ensures { SentAndFailed }
 {}
@@ -91,7 +91,7 @@ pub fn failed_while_the_other_waits()
     ensures { FailedWhileTheOtherWaits }
 {}
 
-/// Process 1 sends a message, and 1 and 2 deliver it: virtually synchronous.
+/// Process 1 sends a message, and 1 and 2 deliver it: the run meets specifications 1 to 7.
 pub fn one_message_delivered_by_both()
     ensures { OneMessageDeliveredByBoth }
 {}
@@ -111,7 +111,8 @@ pub fn nothing_left_open()
     ensures { NothingLeftOpen }
 {}
 
-/// Process 1 sends a safe message, and 1 and 2 deliver it on their way to ring 8: certified, and virtually synchronous.
+/// Process 1 sends a safe message, and 1 and 2 deliver it on their way to ring 8: the run is certified and meets
+/// specifications 1 to 7.
 pub fn safe_message_on_the_way()
     ensures { SafeMessageOnTheWay }
 {}

@@ -5,7 +5,7 @@ use std::alloc::{AllocError, Global};
 use std::marker::Model;
 use totem_ids::Place;
 
-/// The events that show a fault, in the order that its specification gives them.
+/// The places of the events that show a fault, in the order that docs/SPECIFICATIONS.md, "Faults", gives them.
 #[derive(Debug, Drop)]
 pub struct Places {
     list: Vec<Place>,
@@ -33,7 +33,7 @@ impl Places {
         &self.list
     }
 
-    /// The places, without taking memory.
+    /// Returns the places as a vector, without taking memory.
     pub fn into_vec(self) -> Vec<Place>
         ensures { result.items ≡ self }
     {
@@ -50,7 +50,7 @@ impl Places {
     }
 }
 
-/// A specification that a run breaks, and the events that break it.
+/// A specification that a run breaks, and the places of the events that break it.
 #[derive(Debug, Drop)]
 pub struct Fault {
     pub spec: SpecNo,

@@ -1,4 +1,4 @@
-//! The logs that the parts of a run give.
+//! Gathers the logs of a run from its parts.
 ghost use Rattle.std.specs.Prelude.{◌≡◌, IfOk};
 ghost use Rattle.totem_evs.specs.Gathered.{none_gathered, gathered, MayGather};
 ghost use Rattle.totem_evs.specs.Runs.{IsRun};
@@ -13,7 +13,7 @@ use std::alloc::{AllocError, Global};
 use std::marker::Model;
 use totem_ids::ProcId;
 
-/// The logs that have ended, and of the one that has not its process and its entries.
+/// The logs that have ended, and of the log that has not ended its process and its entries.
 #[derive(Drop)]
 pub struct Gathered {
     logs: Vec<Log>,
@@ -30,7 +30,7 @@ impl Model for Gathered {
 }
 
 impl Gathered {
-    /// No part has come.
+    /// Returns the state before any part has come.
     pub fn new(alloc: Global) -> Gathered
         ensures { result ≡ none_gathered }
     {
@@ -41,7 +41,7 @@ impl Gathered {
         }
     }
 
-    /// A part has come.
+    /// Adds the part that comes next.
     pub fn with(self, alloc: Global, part: Part) -> Result<Gathered, AllocError>
         requires { MayGather self part }
         ensures { IfOk result (λ g. g ≡ gathered self part) }
@@ -83,7 +83,7 @@ impl Gathered {
         }
     }
 
-    /// The run of the logs.
+    /// Returns the run that has these logs.
     pub fn into_run(self) -> Run
         requires { IsRun self.logs }
         ensures { result.logs ≡ self.logs }

@@ -1,4 +1,4 @@
-//! Readers of the lines between logs. Each leaves what follows the line.
+//! Readers of the lines between logs. Each leaves unread what follows the line.
 ghost use Rattle.std.specs.Prelude.{ℕ, ◌<◌, IfOk, Bool};
 ghost use Rattle.totem_ids.specs.Sources.{Reads, seen};
 ghost use Rattle.totem_evs.specs.NextLines.{MayBegin};
@@ -7,7 +7,7 @@ ghost use Rattle.totem_evs.specs.RunGrammar.{log_proc_at, begin_at, end_at, head
 
 use totem_ids::{ProcId, ReadError, Source, TextFault, next, number, word};
 
-/// The first line.
+/// Reads the first line of a run.
 #[tactic(auto, unfolding(crate::specs::Parts::header_at))]
 pub fn read_header<S: Source>(source: &mut S) -> Result<(), ReadError>
     ensures { Reads (seen S.remaining S.failures source.old)
@@ -56,7 +56,8 @@ fn read_last<S: Source>(source: &mut S) -> Result<Option<ProcId>, ReadError>
     Ok(None)
 }
 
-/// The first line of the next log, whose process is above `last`, or the last line; no log where the run is `full`.
+/// Reads the first line of the next log and returns its process, which has to be above `last`, or reads the last line
+/// of the run and returns `None`. If the run is `full`, no log may begin.
 #[tactic(auto, using(crate::proofs::ReaderSteps::reader_steps), unfolding(crate::specs::RunGrammar::head_at))]
 pub fn read_head<S: Source>(
     source: &mut S,

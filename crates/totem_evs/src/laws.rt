@@ -3,7 +3,7 @@ ghost use Rattle.totem_evs.specs.Laws.{BreaksAreBreaks, CertifiedIsOrdered, Each
 ghost use Rattle.totem_evs.specs.OneHop.{ChainsAreFine};
 ghost use Rattle.totem_evs.specs.Meanings.{AnswersAreSound};
 
-/// What breaks a specification is no part of a run that meets them all.
+/// A run of which some events break a specification does not meet the specifications.
 pub fn breaks_are_breaks()
     ensures { BreaksAreBreaks }
 {}
@@ -13,7 +13,7 @@ pub fn each_log_is_ordered()
     ensures { EachLogIsOrdered }
 {}
 
-/// What precedes, or is preceded by, one change to a configuration stands so to each change to it (2.5), in every run.
+/// Whatever precedes one change to a configuration, or is preceded by it, stands so to every change to it (2.5), in every run.
 pub fn twins_agree()
     ensures { EachTwinsAgree }
 {}
@@ -28,8 +28,8 @@ pub fn chains_are_fine()
     ensures { ChainsAreFine }
 {}
 
-/// The written answer of a run means what it says: a yes that the run meets specifications 1 to 7, with a certificate and
-/// all that is left open; a no that its faults break theirs, so that the run does not meet the specifications.
+/// The written answer of a run means what it says: a yes that the run meets specifications 1 to 7, with a certificate
+/// and all that is left open; a no that each of its faults breaks its specification, so that the run does not meet them.
 pub fn answers_are_sound()
     ensures { AnswersAreSound }
 {}

@@ -1,4 +1,4 @@
-//! Readers of the lines of a log. Each leaves what follows the line.
+//! Readers of the lines of a log. Each leaves unread what follows the line.
 ghost use Rattle.std.specs.Prelude.{IfOk, Bool};
 ghost use Rattle.totem_ids.specs.Sources.{Reads, seen};
 ghost use Rattle.totem_evs.specs.NextLines.{MayFollow};
@@ -167,7 +167,8 @@ fn read_failure<S: Source>(source: &mut S, full: bool, failed: bool) -> Result<L
     read_ail(source, full, failed)
 }
 
-/// The next line of a log that has `some` entries, the last `failed` or not, and is `full` or not.
+/// Reads the next line of a log. `some` says that the log has an entry already, `failed` that the last one is a
+/// failure, and `full` that no further entry may come.
 #[tactic(auto, using(crate::proofs::ReaderSteps::reader_steps), unfolding(crate::specs::RunGrammar::line_at))]
 pub fn read_line<S: Source>(
     alloc: Global,

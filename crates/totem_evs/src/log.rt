@@ -9,7 +9,7 @@ use std::alloc::{AllocError, Global};
 use std::marker::Model;
 use totem_ids::{ProcId, process_fits};
 
-/// What one process recorded. It ends as failed exactly where its last entry is a failure.
+/// A log: what one process recorded. It ends as failed exactly where its last entry is a failure.
 #[derive(Debug, Drop)]
 pub struct Log {
     pub proc: ProcId,
@@ -38,7 +38,7 @@ fn ends_in_fail(entries: &[Entry]) -> bool
 }
 
 impl Log {
-    /// The log of these entries; how it ends follows from the last of them.
+    /// Makes the log of these entries. The last of them decides how the log ends.
     pub fn new(proc: ProcId, entries: Entries) -> Log
         ensures process { result.proc ≡ proc }
         ensures entries { result.entries ≡ entries }
@@ -56,7 +56,7 @@ impl Log {
         }
     }
 
-    /// What the types of its parts keep, this passes on.
+    /// Tells contracts the rules that the types of the log's parts keep.
     pub(crate) fn keeps_its_rules(&self)
         ensures { IsLog self.now }
     {

@@ -8,10 +8,10 @@ use crate::rising::first_fall;
 use std::alloc::{AllocError, Global};
 use std::marker::Model;
 
-/// How many logs a run may have.
+/// How many logs a run may have at most.
 const MOST: usize = 32;
 
-/// The logs of one run: 0 to 32, their processes strictly rising.
+/// The logs of one run: 0 to 32 of them, their processes strictly rising.
 #[derive(Debug, Drop)]
 pub struct Logs {
     list: Vec<Log>,
@@ -39,7 +39,7 @@ fn keep_their_rules(list: &[Log])
 }
 
 impl Logs {
-    /// The logs of this list; a refusal gives the list back.
+    /// Makes the logs from this list. A refusal gives the list back with the first rule that it breaks.
     pub fn new(list: Vec<Log>) -> Result<Logs, Refused<Vec<Log>>>
         ensures { MatchResult result (λ l. (l ≡ list.items) × IsRun list.items)
             (λ r. (r.value.items ≡ list.items) × Refuses 0 32 IsBelowLog list.items r.fault) }
@@ -55,7 +55,7 @@ impl Logs {
         Err(Refused { fault, value: list })
     }
 
-    /// The logs of a list that is known to keep the rules.
+    /// Makes the logs from a list that is known to keep the rules.
     pub fn of(list: Vec<Log>) -> Logs
         requires { IsRun list.items }
         ensures { result ≡ list.items }
@@ -70,7 +70,7 @@ impl Logs {
         &self.list
     }
 
-    /// The logs, without taking memory.
+    /// Returns the logs as a vector, without taking memory.
     pub fn into_vec(self) -> Vec<Log>
         ensures { result.items ≡ self }
     {

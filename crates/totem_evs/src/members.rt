@@ -8,7 +8,7 @@ use std::alloc::{AllocError, Global};
 use std::marker::Model;
 use totem_ids::ProcId;
 
-/// How many members a configuration may have.
+/// How many members a configuration may have at most.
 const MOST: usize = 32;
 
 /// The members of a configuration: 1 to 32 processes, strictly rising.
@@ -29,7 +29,7 @@ impl Model for Members {
 }
 
 impl Members {
-    /// The members that these processes are; a refusal gives the list back.
+    /// Makes the members from these processes. A refusal gives the list back with the first rule that it breaks.
     pub fn new(procs: Vec<ProcId>) -> Result<Members, Refused<Vec<ProcId>>>
         ensures { MatchResult result (λ m. (m ≡ procs.items) × IsMembers procs.items)
             (λ r. (r.value.items ≡ procs.items) × Refuses 1 32 IsBelow procs.items r.fault) }
@@ -49,7 +49,7 @@ impl Members {
         })
     }
 
-    /// The members that these processes are known to be.
+    /// Makes the members from processes that are known to keep the rules.
     pub fn of(procs: Vec<ProcId>) -> Members
         requires { IsMembers procs.items }
         ensures { result ≡ procs.items }
@@ -70,7 +70,7 @@ impl Members {
         self.procs.contains(&proc)
     }
 
-    /// The processes, without taking memory.
+    /// Returns the processes as a vector, without taking memory.
     pub fn into_vec(self) -> Vec<ProcId>
         ensures { result.items ≡ self }
     {

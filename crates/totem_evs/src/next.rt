@@ -1,11 +1,11 @@
 use crate::part::Part;
 use crate::run_reader::RunReader;
 
-/// What a reader of parts answers.
+/// What `RunReader::next` gives.
 #[derive(Debug, Drop)]
 pub enum Next {
-    /// A part, and the reader of what follows.
+    /// The next part, and the reader of what follows it.
     Part(Part, RunReader),
-    /// The run is at its end.
+    /// The run has ended.
     End,
 }

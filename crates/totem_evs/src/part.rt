@@ -2,21 +2,21 @@ use crate::ending::Ending;
 use crate::entry::Entry;
 use totem_ids::ProcId;
 
-/// A part of a run, as its text gives them one after the other.
+/// A part of a run. The text of a run gives its parts one after the other.
 #[derive(Debug, Drop)]
 pub enum Part {
-    /// The log of this process begins.
+    /// A log of this process begins.
     Log(ProcId),
-    /// The next entry of the log.
+    /// The log goes on with this entry.
     Entry(Entry),
-    /// The log ends.
+    /// The log ends in this way.
     Close(Ending),
 }
 
 impl Part {
     ghost use Rattle.totem_evs.specs.ReadState.{IsPart};
 
-    /// Its names are in range: the types of what it holds say so, and this passes it on.
+    /// Tells contracts that names are in range: the types of what the part holds see to that.
     pub(crate) fn keeps_its_rule(&self)
         ensures { IsPart self.now }
     {

@@ -1,8 +1,7 @@
 //! Laws of the parts of a run, each the contract of a function that does nothing.
 ghost use Rattle.totem_evs.specs.PartLaws.{PartsMakeTheRun, TextIsOfParts};
 
-/// What is read part by part, from the first line to the last one, is the run that is read at once, and these are its
-/// parts.
+/// The parts that are read one by one, from the first line to the last, are those of the run that is read at once.
 pub fn parts_make_the_run()
     ensures { PartsMakeTheRun }
 {}

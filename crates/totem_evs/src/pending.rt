@@ -1,13 +1,13 @@
 use totem_ids::{ConfId, MsgId, ProcId};
 
-/// A process that may still deliver a message: it is open where the message was sent.
+/// A process that has not delivered a message and is open where the message was sent: it may deliver it yet.
 #[derive(Clone, Copy, Debug, PartialEq, Eq, PartialOrd, Ord, Hash)]
 pub struct Pending {
     pub proc: ProcId,
     pub msg: MsgId,
 }
 
-/// A process that stands in a configuration in which another of its members does not.
+/// A process that stands in a configuration and waits for another member of it, which does not stand there.
 #[derive(Clone, Copy, Debug, PartialEq, Eq, PartialOrd, Ord, Hash)]
 pub struct Waiting {
     pub proc: ProcId,

@@ -12,10 +12,10 @@ use crate::stage::{OpenLog, Stage};
 use std::alloc::Global;
 use totem_ids::{ReadError, Source};
 
-/// How many logs a run may have.
+/// How many logs a run may have at most.
 const MOST_LOGS: u32 = 32;
 
-/// How many entries a log may have.
+/// How many entries a log may have at most.
 const MOST_ENTRIES: u32 = 1_000_000;
 
 // Where no log is open: a log begins, or the run ends.
@@ -51,7 +51,7 @@ fn read_within<S: Source>(
     }
 }
 
-/// The next part, or none at the last line.
+/// Reads the next part, or returns `None` once it has read the last line.
 pub fn read_part<S: Source>(
     alloc: Global,
     source: &mut S,

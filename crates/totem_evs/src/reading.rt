@@ -10,7 +10,8 @@ use crate::run_reader::RunReader;
 use std::alloc::Global;
 use totem_ids::Source;
 
-/// Reads a run, from the first byte to the line `end`, and leaves what follows unread. Each of its members has a log.
+/// Reads a run from the first byte to the line `end`, and leaves unread what follows. Each member of a configuration
+/// has a log in it, or the fault is `MissingLog`.
 pub fn read_run<S: Source>(alloc: Global, source: &mut S) -> Result<Run, RunFault>
     ensures { ReadsRun (seen S.remaining S.failures source.old)
         (seen S.remaining S.failures source.new) result }
@@ -28,7 +29,7 @@ pub fn read_run<S: Source>(alloc: Global, source: &mut S) -> Result<Run, RunFaul
     }
 }
 
-/// Reads the end of the input: `End` where a byte is there, which is taken.
+/// Reads the end of the input. If a byte is there, takes it and fails with `End`.
 pub fn read_end<S: Source>(source: &mut S) -> Result<(), RunFault>
     ensures { ReadsEnd (seen S.remaining S.failures source.old)
         (seen S.remaining S.failures source.new) result }

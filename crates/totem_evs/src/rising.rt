@@ -5,7 +5,7 @@ ghost use Rattle.totem_ids.specs.Texts.{IsProcess};
 
 use totem_ids::ProcId;
 
-/// What belongs to one process.
+/// A type whose values belong to one process each.
 pub trait OfProcess {
     ghost process_of: { Self → ℕ };
 
@@ -21,7 +21,8 @@ impl OfProcess for ProcId {
     }
 }
 
-/// Where the processes of a list stop rising strictly.
+/// Returns the index of the first element whose process is not above that of the one before it, or `None` if the
+/// processes rise strictly.
 pub fn first_fall<T: OfProcess>(list: &[T]) -> Option<usize>
     ensures found { IfSome result (λ at. FallsAt (λ a b. T.process_of a < T.process_of b) list.now at) }
     ensures rising { IfNone result (AllPairs (λ a b. T.process_of a < T.process_of b) list.now) }

@@ -7,14 +7,14 @@ use crate::logs::Logs;
 use crate::refused::Refused;
 use std::alloc::{AllocError, Global};
 
-/// What the processes of one run recorded.
+/// A run: the logs that its processes recorded.
 #[derive(Debug, Drop)]
 pub struct Run {
     pub logs: Logs,
 }
 
 impl Run {
-    /// The run of these logs; a refusal gives the list back.
+    /// Makes the run of these logs. A refusal gives the list back with the first rule that it breaks.
     pub fn new(logs: Vec<Log>) -> Result<Run, Refused<Vec<Log>>>
         ensures { MatchResult result (λ run. (run.logs ≡ logs.items) × IsRun logs.items)
             (λ r. (r.value.items ≡ logs.items) × Refuses 0 32 IsBelowLog logs.items r.fault) }
@@ -23,7 +23,7 @@ impl Run {
         Ok(Run { logs })
     }
 
-    /// The logs, without taking memory.
+    /// Returns the logs as a vector, without taking memory.
     pub fn into_logs(self) -> Vec<Log>
         ensures { result.items ≡ self.logs }
     {

@@ -1,4 +1,4 @@
-//! Why a run was not read.
+//! Why a run could not be read.
 ghost use Rattle.std.specs.Prelude.{◌≡◌};
 ghost use Rattle.totem_evs.specs.declared.run_fault.RunFault.TheVariants.{Memory};
 ghost use Rattle.totem_evs.specs.RunFaults.{fault_number, fault_name, run_fault};
@@ -7,7 +7,7 @@ use std::alloc::{AllocError, AllocFailed};
 use thiserror::Error;
 use totem_ids::{ProcId, ReadError, TextFault};
 
-/// Why a run was not read.
+/// Why a run could not be read (docs/SPECIFICATIONS.md, "Run text").
 #[derive(Clone, Copy, Debug, PartialEq, Eq, Error)]
 pub enum RunFault {
     #[error("the text does not begin with the line `totem-run 1`")]
@@ -35,7 +35,7 @@ pub enum RunFault {
 }
 
 impl RunFault {
-    /// Its number, from 1 on in the order above.
+    /// Returns the fault's number, counted from 1 in the order above.
     pub fn number(&self) -> u8
         ensures { result ≡ fault_number self.now }
     {
@@ -54,7 +54,7 @@ impl RunFault {
         }
     }
 
-    /// Its name.
+    /// Returns the fault's name.
     pub fn name(&self) -> &'static str
         ensures { result.now ≡ fault_name self.now }
     {

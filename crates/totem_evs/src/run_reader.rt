@@ -16,7 +16,7 @@ use std::fmt;
 use std::marker::Model;
 use totem_ids::{ProcId, Source};
 
-/// Reads a run part by part. It holds what the rules need, and no text.
+/// Reads a run part by part. It holds what the rules need, and none of the text.
 #[derive(Drop)]
 pub struct RunReader {
     alloc: Global,
@@ -59,7 +59,7 @@ impl RunReader {
     ghost use Rattle.totem_evs.specs.Reading.{BeginsRun, ReadsNext};
     ghost use Rattle.totem_evs.specs.declared.part.Part.TheVariants as parts;
 
-    /// Reads the first line.
+    /// Reads the first line, and returns the reader of what follows it.
     pub fn begin<S: Source>(alloc: Global, source: &mut S) -> Result<RunReader, RunFault>
         ensures { BeginsRun (seen S.remaining S.failures source.old)
             (seen S.remaining S.failures source.new) result }
@@ -147,8 +147,8 @@ impl RunReader {
         }
     }
 
-    /// The next part, with the reader of what follows it. A fault consumes the reader; that a member has no log shows at
-    /// the end.
+    /// Reads the next part, and returns it with the reader of what follows it. A fault consumes the reader. That a
+    /// member has no log is found at the end of the run.
     pub fn next<S: Source>(self, source: &mut S) -> Result<Next, RunFault>
         ensures { ReadsNext (seen S.remaining S.failures source.old)
             (seen S.remaining S.failures source.new) self result }

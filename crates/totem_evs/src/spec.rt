@@ -6,36 +6,36 @@ use std::fmt;
 /// A specification that a run may break, in the order in which faults are listed.
 #[derive(Clone, Copy, Debug, PartialEq, Eq, PartialOrd, Ord, Hash)]
 pub enum SpecNo {
-    /// 1.1, an event precedes itself.
+    /// 1.1: an event precedes itself.
     Cycle,
-    /// 1.3, a delivery of what was not sent there.
+    /// 1.3: a delivery of a message that was not sent for its configuration.
     Unsent,
-    /// 1.4, a message sent or delivered twice, or sent in a transitional configuration.
+    /// 1.4: a message sent twice, or delivered twice in one log, or sent in a transitional configuration.
     Twice,
-    /// 2.2, an entry where it may not stand.
+    /// 2.2: an entry that stands where it may not.
     Misplaced,
-    /// 2.3, one configuration in two forms.
+    /// 2.3: one configuration in two forms, twice in one log, or without the process that changes to it.
     Configuration,
-    /// 2.4, configurations that do not take turns.
+    /// 2.4: configurations that do not take turns, or do not fit together.
     Turns,
-    /// 3, a sender that does not deliver its own message.
+    /// 3: a sender that neither delivers its own message, nor failed nor is open there.
     OwnDelivery,
-    /// 4, processes that go on together and delivered differently.
+    /// 4: processes that go on together and have delivered different messages.
     Atomicity,
-    /// 5, a message delivered without what came before it.
+    /// 5: a message delivered without one whose send precedes its own.
     Causality,
-    /// 6.1, deliveries in different orders.
+    /// 6.1: deliveries in different orders.
     Order,
-    /// 6.3, a gap in the order.
+    /// 6.3: a gap in the order of deliveries, though the sender is still a member.
     Gap,
-    /// 7.1, a safe message that a member does not deliver.
+    /// 7.1: a safe message that a member does not deliver.
     Safety,
-    /// 7.2, a safe message delivered where a member never came.
+    /// 7.2: a safe message delivered in a configuration to which a member never came.
     Installed,
 }
 
 impl SpecNo {
-    /// Its number, as `1.4`.
+    /// Returns the number of the specification, as in `1.4`.
     pub fn number(self) -> &'static str
         ensures { result.now ≡ spec_text self }
     {

@@ -4,18 +4,18 @@ ghost use Rattle.std.specs.Prelude.{◌≡◌, ◌≤◌};
 use crate::entry::Entry;
 use totem_ids::ProcId;
 
-/// How far the reading of a run has come, as far as the text that follows depends on it.
+/// How far the reading of a run has come: as much of it as the rules for the text that follows need.
 #[derive(Clone, Copy, Debug, PartialEq, Eq)]
 pub struct Stage {
     /// How many logs have begun.
     pub logs: u32,
-    /// The process of the last of them, or 0.
+    /// The process of the last of these logs, or 0 before the first.
     pub last: u16,
-    /// The log that has begun and has no end yet.
+    /// The log that has begun and not ended.
     pub log: Option<OpenLog>,
 }
 
-/// A log that has no end yet.
+/// A log that has not ended.
 #[derive(Clone, Copy, Debug, PartialEq, Eq)]
 pub struct OpenLog {
     /// How many entries it has.
@@ -30,7 +30,7 @@ impl Stage {
     ghost use Rattle.totem_evs.specs.declared.part.Part.TheVariants as parts;
     ghost use Rattle.totem_evs.specs.Parts.{first_stage, next_stage};
 
-    /// Nothing but the first line has come.
+    /// Returns the stage after the first line of the run.
     pub fn first() -> Stage
         ensures { result ≡ first_stage }
     {
@@ -41,7 +41,7 @@ impl Stage {
         }
     }
 
-    /// A log has begun.
+    /// Returns the stage after the first line of a log of this process.
     pub fn with_log(self, proc: ProcId) -> Stage
         requires { self.logs ≤ 32 }
         ensures { result ≡ next_stage self (parts.Log proc) }
@@ -56,7 +56,7 @@ impl Stage {
         }
     }
 
-    /// An entry has come.
+    /// Returns the stage after this entry.
     pub fn with_entry(self, entry: &Entry) -> Stage
         requires { ForSome self.log (λ log. log.entries ≤ 1000000) }
         ensures { result ≡ next_stage self (parts.Entry entry.now) }
@@ -75,7 +75,7 @@ impl Stage {
         }
     }
 
-    /// The log has ended.
+    /// Returns the stage after the end of the log.
     pub fn without_log(self) -> Stage
         ensures { (ending : Ending) → result ≡ next_stage self (parts.Close ending) }
     {

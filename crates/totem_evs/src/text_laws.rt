@@ -9,7 +9,7 @@ ghost use Rattle.totem_evs.specs.RunText.{run_text};
 ghost use Rattle.totem_evs.specs.Runs.{IsRun};
 ghost use Rattle.totem_evs.specs.TextFronts.{IsWideFront, IsFirstWrong};
 
-/// What the grammar reads as a run is its text.
+/// What the grammar reads as a run keeps the rules of a run, and the bytes that it read are that run's text.
 pub fn read_is_spelled()
     ensures { (run : List Log) (bytes rest : List ℕ) → run_at bytes ≡ Ok (run, rest) → IsRun run × (bytes ≡ run_text run ++ rest) }
 {}
@@ -24,12 +24,12 @@ pub fn no_text_begins_another()
     ensures { (a b : List Log) (more rest : List ℕ) → IsRun a → IsRun b → run_text a ++ more ≡ run_text b ++ rest → (a ≡ b) × (more ≡ rest) }
 {}
 
-/// Where the grammar gives a fault, no text of a run begins the bytes.
+/// If the grammar gives a fault, the bytes begin with no text of a run.
 pub fn a_fault_is_no_text()
     ensures { (bytes : List ℕ) (fault : TextFault) → run_at bytes ≡ Err fault → (run : List Log) (rest : List ℕ) → IsRun run → bytes ≡ run_text run ++ rest → ⊥ }
 {}
 
-/// A fault, the end of the input aside, is that of the first byte with which a rule of the grammar is broken.
+/// A fault other than that of a text that ends too soon is the fault of the first byte that breaks a rule of the grammar.
 pub fn fault_is_first()
     ensures { (bytes : List ℕ) (fault : TextFault) → is_short fault ≡ false → run_at bytes ≡ Err fault → FirstBreak run_at bytes fault }
 {}
@@ -40,8 +40,8 @@ pub fn cut_text_goes_on()
     ensures { (bytes : List ℕ) → run_at bytes ≡ Err Truncated → IsWideFront bytes }
 {}
 
-/// At each other fault, the first byte that breaks a rule of the grammar is one up to which some text of a run goes on,
-/// in the same sense, and with which no run's text begins.
+/// At each other fault, some text of a run goes on, in the same sense, from the bytes before the first one that breaks
+/// a rule of the grammar; with that byte no run's text begins.
 pub fn fault_byte_is_first()
     ensures { (bytes : List ℕ) (fault : TextFault) → run_at bytes ≡ Err fault → is_short fault ≡ false → (break : FirstBreak run_at bytes fault) × IsFirstWrong break.front break.byte }
 {}

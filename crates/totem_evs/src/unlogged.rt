@@ -1,4 +1,4 @@
-//! Members that wait for their log.
+//! The members that have no log yet.
 ghost use Rattle.std.specs.Prelude.{◌≡◌, ◌≢◌, ℕ, ◌≤◌, ◌↔◌, ◌⊎◌, [], Contains, OnOk, OnErr, IfSome, IfNone};
 
 use std::alloc::{AllocError, Global};
@@ -6,7 +6,7 @@ use std::collections::BTreeSet;
 use std::marker::Model;
 use totem_ids::ProcId;
 
-/// Members that were named and have no log so far.
+/// The members that were named and have no log so far.
 #[derive(Debug, Drop)]
 pub struct Unlogged {
     procs: BTreeSet<ProcId>,
@@ -21,7 +21,7 @@ impl Model for Unlogged {
 }
 
 impl Unlogged {
-    /// None.
+    /// Returns the empty set.
     pub fn new(alloc: Global) -> Unlogged
         ensures { result ≡ [] }
     {
@@ -30,7 +30,7 @@ impl Unlogged {
         }
     }
 
-    /// One more waits; it may wait already.
+    /// Adds a process, which may be there already.
     pub fn add(&mut self, proc: ProcId) -> Result<(), AllocError>
         ensures { OnOk result ((q : ℕ) →
             Contains self.new q ↔ (Contains self.old q ⊎ (q ≡ proc))) }
@@ -39,14 +39,14 @@ impl Unlogged {
         Ok(())
     }
 
-    /// This one waits no more.
+    /// Removes a process.
     pub fn remove(&mut self, proc: ProcId)
         ensures { (q : ℕ) → Contains self.new q ↔ (Contains self.old q × (q ≢ proc)) }
     {
         self.procs.remove(&proc);
     }
 
-    /// The least that waits.
+    /// Returns the least process, or `None` if there is none.
     pub fn least(&self) -> Option<ProcId>
         ensures some { IfSome result (λ p. Contains self.now p) }
         ensures least { IfSome result (λ p. (q : ℕ) → Contains self.now q → p ≤ q) }

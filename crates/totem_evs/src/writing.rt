@@ -1,4 +1,4 @@
-//! The text of a run, written.
+//! Writes the text of a run.
 ghost use Rattle.std.specs.Prelude.{◌≡◌, [], ◌∷◌, ◌++◌, codes};
 ghost use Rattle.std.specs.List.{flat_map};
 ghost use Rattle.totem_ids.specs.Writing.{Writes, held};
@@ -15,13 +15,13 @@ use std::alloc::Global;
 use thiserror::Error;
 use totem_ids::{Failed, Pieces, Service, Sink};
 
-/// Why a text was not written.
+/// Why a text could not be written.
 #[derive(Clone, Copy, Debug, PartialEq, Eq, Error)]
 pub enum WriteFault {
-    /// Nothing was written.
+    /// Memory was refused, and nothing was written.
     #[error("out of memory")]
     Memory,
-    /// How much went out is not known.
+    /// The sink failed. How much went out is not known.
     #[error("write failed")]
     Write,
 }
@@ -47,7 +47,7 @@ fn put_service<S: Sink>(pieces: &mut Pieces, sink: &mut S, service: Service) -> 
     }
 }
 
-/// An entry, without the end of its line.
+/// Writes an entry without the end of its line.
 #[tactic(auto, using(totem_ids::proofs::Writers::wrote_then, totem_ids::proofs::Writers::wrote_failed))]
 fn put_entry<S: Sink>(pieces: &mut Pieces, sink: &mut S, entry: &Entry) -> Result<(), Failed>
     ensures { Writes (held S.contents S.failures pieces.old sink.old)

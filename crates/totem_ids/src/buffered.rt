@@ -1,4 +1,4 @@
-//! A source with a buffer.
+//! A source that reads through a buffer.
 ghost use Rattle.std.specs.Prelude.{◌≡◌, ◌<◌, ◌≤◌, length, IfOk};
 
 use crate::retry::read_retrying;
@@ -8,7 +8,7 @@ use std::io::Read;
 
 const SIZE: usize = 65536;
 
-/// A source over a reader, with a buffer of 64 KiB. A read that a signal interrupts is tried again.
+/// A source that reads from a reader through a buffer of 64 KiB. It tries a read again if a signal interrupts it.
 #[derive(Drop)]
 pub struct Buffered<R> {
     inner: R,
@@ -24,7 +24,7 @@ pub struct Buffered<R> {
 impl<R: Read + Drop> Buffered<R> {
     ghost use Rattle.totem_ids.specs.Wrapped.{buffered_left, buffered_failures};
 
-    /// A source that has read nothing yet.
+    /// Makes the buffer. Nothing is read from `inner` yet.
     pub fn new(alloc: Global, inner: R) -> Result<Buffered<R>, AllocError>
         ensures left { IfOk result (λ s. buffered_left R.remaining s ≡ R.remaining inner) }
         ensures failures { IfOk result (λ s. buffered_failures s ≡ 0) }

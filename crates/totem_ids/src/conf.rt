@@ -4,7 +4,7 @@ ghost use Rattle.totem_ids.specs.Orders.{ConfBelow};
 use crate::process::ProcId;
 use crate::ring::RingId;
 
-/// A configuration: the regular one of a ring, or a transitional one, by the next ring and its own least member.
+/// A configuration: the regular one of a ring, or a transitional one, named by the ring that comes next and its own least member.
 #[derive(Clone, Copy, Debug, PartialEq, Eq, PartialOrd, Ord, Hash)]
 pub enum ConfId {
     Regular(RingId),
@@ -12,7 +12,7 @@ pub enum ConfId {
 }
 
 impl ConfId {
-    /// Whether this is the other configuration: `==`, as contracts can use it.
+    /// Returns whether the two are the same configuration: `==` in a form that contracts can use.
     pub fn is(&self, other: &ConfId) -> bool
         ensures { IsTrue result ↔ (self.now ≡ other.now) }
     {
@@ -29,7 +29,7 @@ impl ConfId {
         }
     }
 
-    /// Whether this one comes before the other: `<`, as contracts can use it.
+    /// Returns whether this configuration comes before the other: `<` in a form that contracts can use.
     pub fn is_below(&self, other: &ConfId) -> bool
         ensures { IsTrue result ↔ ConfBelow self.now other.now }
     {

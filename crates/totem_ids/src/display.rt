@@ -1,4 +1,4 @@
-//! The one spelling of each name.
+//! `Display` for names: each writes its one spelling (docs/SPECIFICATIONS.md, "Names").
 ghost use Rattle.std.specs.Prelude.{Some, decimal};
 ghost use Rattle.totem_ids.specs.Texts.{ring_text, conf_text, message_text, place_text, service_text};
 
@@ -9,7 +9,7 @@ use crate::process::ProcId;
 use crate::ring::RingId;
 use std::fmt;
 
-/// The number, as `7`.
+/// Writes the number, as in `7`.
 impl fmt::Display for ProcId {
     ghost output = { λ p. Some (decimal p) };
 
@@ -19,7 +19,7 @@ impl fmt::Display for ProcId {
     }
 }
 
-/// The number and the representative, as `4.1`.
+/// Writes the number and the representative, as in `4.1`.
 impl fmt::Display for RingId {
     ghost output = { λ c. Some (ring_text c) };
 
@@ -30,7 +30,7 @@ impl fmt::Display for RingId {
     }
 }
 
-/// The ring, as `r4.1`, or the next ring and the least member, as `t8.1/1`.
+/// Writes the ring, as in `r4.1`, or the next ring and the least member, as in `t8.1/1`.
 impl fmt::Display for ConfId {
     ghost output = { λ c. Some (conf_text c) };
 
@@ -42,7 +42,7 @@ impl fmt::Display for ConfId {
     }
 }
 
-/// The ring and the number, as `4.1#7`.
+/// Writes the ring and the number, as in `4.1#7`.
 impl fmt::Display for MsgId {
     ghost output = { λ m. Some (message_text m) };
 
@@ -53,7 +53,7 @@ impl fmt::Display for MsgId {
     }
 }
 
-/// The process and the entry, as `2@5`.
+/// Writes the process and the entry, as in `2@5`.
 impl fmt::Display for Place {
     ghost output = { λ e. Some (place_text e) };
 
@@ -64,7 +64,7 @@ impl fmt::Display for Place {
     }
 }
 
-/// The letter `a` or `s`.
+/// Writes the letter `a` for agreed or `s` for safe.
 impl fmt::Display for Service {
     ghost output = { λ s. Some (service_text s) };
 

@@ -26,7 +26,7 @@ pub enum TextFault {
     TooMany,
 }
 
-/// Why a text was not read.
+/// Why a text could not be read.
 #[derive(Clone, Copy, Debug, PartialEq, Eq, Error)]
 pub enum ReadError {
     #[error("out of memory")]

@@ -1,4 +1,4 @@
-//! Streams that fail on time, for tests.
+//! Streams that fail after a given number of calls, for tests.
 ghost use Rattle.std.specs.Prelude.{◌≡◌, ◌↔◌, ◌-◌, ◌<◌, IsTrue, IsErr, IfOk, OnErr, OnOk};
 ghost use Rattle.std.specs.Io.KnownBytes.{Keeps, Appends};
 ghost use Rattle.totem_ids.specs.Streams.{Gives, failed_once};
@@ -6,7 +6,7 @@ ghost use Rattle.totem_ids.specs.Streams.{Gives, failed_once};
 use crate::sink::Sink;
 use crate::source::{Failed, Source};
 
-/// A source or a sink of which so many calls go to the stream inside, and each later call fails.
+/// A source or a sink that passes its first calls on to the stream inside, up to a given number, and fails at each later call.
 #[derive(Drop)]
 pub struct Fused<S> {
     inner: S,
@@ -17,7 +17,7 @@ pub struct Fused<S> {
 impl<S> Fused<S> {
     ghost use Rattle.totem_ids.specs.Wrapped.{stream_of, calls_left, fused_failures};
 
-    /// Lets this many calls through.
+    /// Wraps a stream and lets the first `calls` calls through to it.
     pub fn new(inner: S, calls: u64) -> Fused<S>
         ensures inner { stream_of result ≡ inner }
         ensures calls { calls_left result ≡ calls }
@@ -30,7 +30,7 @@ impl<S> Fused<S> {
         }
     }
 
-    /// The stream inside.
+    /// Returns the stream inside.
     pub fn into_inner(self) -> S
         ensures { result ≡ stream_of self }
     {

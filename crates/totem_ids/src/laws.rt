@@ -1,6 +1,6 @@
-//! What is spelled is what is read: for each kind of name one law, which relates its parser and its spelling. The
-//! readers answer what the parsers answer, and the displays write the spellings. Each value of a name's type has a
-//! spelling. And the orders of names are strict and total.
+//! Laws of names. For each kind of name one law relates its parser and its spelling: what is spelled is read, and what
+//! is read is spelled so. The readers answer what the parsers answer, and `Display` writes the spellings. Each value of
+//! a name's type has a spelling, and the orders of names are strict and total.
 ghost use Rattle.std.specs.Prelude.{◌^◌, ◌<◌, ◌≤◌, ℕ, decimal};
 ghost use Rattle.totem_ids.specs.Numbers.{number_to, proc_at};
 ghost use Rattle.totem_ids.specs.Orders.{RingBelow, ConfBelow, MessageBelow, PlaceBelow, IsStrictOrder};
@@ -14,7 +14,7 @@ use crate::place::Place;
 use crate::process::ProcId;
 use crate::ring::RingId;
 
-/// Numbers have one spelling: no zero in front.
+/// Numbers have one spelling: decimal, without leading zeros.
 #[tactic(auto, using(crate::proofs::Spellings::number_spells))]
 pub fn number_spelling()
     ensures { (max : ℕ) → 9 ≤ max → max < 2 ^ 32 → Spells (number_to max) decimal (IsUpTo max) }

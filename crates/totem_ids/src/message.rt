@@ -5,7 +5,7 @@ use crate::process::ProcId;
 use crate::ring::RingId;
 use std::marker::Model;
 
-/// A message, by the ring on which it was first sent and its number there, from 1 to 4294967295.
+/// A message, named by the ring on which it was first sent and its number there, from 1 to 4294967295.
 #[derive(Clone, Copy, Debug, PartialEq, Eq, PartialOrd, Ord, Hash)]
 pub struct MsgId {
     pub ring: RingId,
@@ -26,7 +26,7 @@ impl Model for MsgId {
 }
 
 impl MsgId {
-    /// The message of this ring and number; none has the number 0.
+    /// Returns the message with this ring and number, or `None` if the number is 0.
     pub fn new(ring: RingId, number: u32) -> Option<MsgId>
         ensures { MatchOption result (number ≡ 0) (λ m. (m.ring ≡ ring) × (m.number ≡ number)) }
     {
@@ -36,7 +36,7 @@ impl MsgId {
         Some(MsgId { ring, number })
     }
 
-    /// Whether this one comes before the other: `<`, as contracts can use it.
+    /// Returns whether this message comes before the other: `<` in a form that contracts can use.
     pub fn is_below(&self, other: &MsgId) -> bool
         ensures { IsTrue result ↔ MessageBelow self.now other.now }
     {
@@ -44,7 +44,8 @@ impl MsgId {
     }
 }
 
-/// When a message may be handed up: in its order, or only once all members hold it.
+/// When a message may be handed up: an agreed one in its turn, a safe one in its turn and only once all members are
+/// known to hold it.
 #[derive(Clone, Copy, Debug, PartialEq, Eq, PartialOrd, Ord, Hash)]
 pub enum Service {
     Agreed,

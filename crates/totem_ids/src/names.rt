@@ -1,4 +1,4 @@
-//! Readers of names. Each takes the byte `end` behind the name, and leaves what follows that.
+//! Readers of names. Each also takes the byte `end` behind the name, and leaves unread what follows that byte.
 ghost use Rattle.std.specs.Prelude.{◌≢◌, IfErr};
 ghost use Rattle.totem_ids.specs.Sources.{Reads, seen};
 ghost use Rattle.totem_ids.specs.Parsers.{ring_at, message_at, place_at, regular_at, transitional_at, conf_at};
@@ -12,7 +12,7 @@ use crate::reading::{next, number_to, read_proc};
 use crate::ring::RingId;
 use crate::source::Source;
 
-/// A ring, and the byte `end` behind it.
+/// Reads a ring and the byte `end` behind it.
 #[tactic(auto, using(crate::proofs::Readers::called, crate::proofs::Readers::failed, crate::proofs::Readers::begins), unfolding(crate::specs::Parsers::ring_at))]
 pub fn read_ring<S: Source>(source: &mut S, end: u8) -> Result<RingId, ReadError>
     ensures read { Reads (seen S.remaining S.failures source.old)
@@ -24,7 +24,7 @@ pub fn read_ring<S: Source>(source: &mut S, end: u8) -> Result<RingId, ReadError
     Ok(RingId { seq, rep })
 }
 
-/// A message, and the byte `end` behind it.
+/// Reads a message and the byte `end` behind it.
 #[tactic(auto, using(crate::proofs::Readers::called, crate::proofs::Readers::failed, crate::proofs::Readers::begins), unfolding(crate::specs::Parsers::message_at))]
 pub fn read_message<S: Source>(source: &mut S, end: u8) -> Result<MsgId, ReadError>
     ensures read { Reads (seen S.remaining S.failures source.old)
@@ -36,7 +36,7 @@ pub fn read_message<S: Source>(source: &mut S, end: u8) -> Result<MsgId, ReadErr
     Ok(MsgId { ring, number })
 }
 
-/// A place, and the byte `end` behind it.
+/// Reads a place and the byte `end` behind it.
 #[tactic(auto, using(crate::proofs::Readers::called, crate::proofs::Readers::failed, crate::proofs::Readers::begins), unfolding(crate::specs::Parsers::place_at))]
 pub fn read_place<S: Source>(source: &mut S, end: u8) -> Result<Place, ReadError>
     ensures read { Reads (seen S.remaining S.failures source.old)
@@ -69,7 +69,7 @@ fn read_transitional<S: Source>(source: &mut S, end: u8) -> Result<ConfId, ReadE
     Ok(ConfId::Transitional { next, least })
 }
 
-/// A configuration, and the byte `end` behind it.
+/// Reads a configuration and the byte `end` behind it.
 #[tactic(auto, using(crate::proofs::Readers::called, crate::proofs::Readers::failed, crate::proofs::Readers::begins, crate::proofs::Readers::chosen, crate::proofs::Readers::passed, crate::proofs::Readers::stops), unfolding(crate::specs::Parsers::conf_at))]
 pub fn read_conf<S: Source>(source: &mut S, end: u8) -> Result<ConfId, ReadError>
     ensures read { Reads (seen S.remaining S.failures source.old)

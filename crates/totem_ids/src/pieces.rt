@@ -1,4 +1,4 @@
-//! Text on its way to a sink.
+//! Text that is gathered on its way to a sink.
 ghost use Rattle.std.specs.Prelude.{◌≡◌, [], decimal, IfOk, OnOk};
 ghost use Rattle.totem_ids.specs.Writing.{Writes, held};
 
@@ -7,10 +7,10 @@ use crate::source::Failed;
 use std::alloc::{AllocError, Global};
 use std::marker::Model;
 
-/// How many bytes are gathered before they go out.
+/// How many bytes are gathered before they are handed to the sink.
 const PIECE: usize = 65536;
 
-/// Bytes gathered for a sink, which gets them in pieces of about 64 KiB. Whoever gathers flushes at the end.
+/// Gathers bytes and hands them to a sink in pieces of about 64 KiB. Whoever gathers has to flush at the end.
 #[derive(Drop)]
 pub struct Pieces {
     gathered: Vec<u8>,
@@ -25,7 +25,7 @@ impl Model for Pieces {
 }
 
 impl Pieces {
-    /// Nothing gathered yet, and room for a piece.
+    /// Makes a gatherer that holds nothing and has room for two pieces.
     pub fn new(alloc: Global) -> Result<Pieces, AllocError>
         ensures { IfOk result (λ p. p ≡ []) }
     {
@@ -34,7 +34,7 @@ impl Pieces {
         })
     }
 
-    /// Hands on all that is gathered. Where the sink fails, what is gathered stays.
+    /// Hands all gathered bytes to the sink. If the sink fails, they stay gathered.
     pub fn flush<S: Sink>(&mut self, sink: &mut S) -> Result<(), Failed>
         ensures written { Writes (held S.contents S.failures self.old sink.old)
             (held S.contents S.failures self.new sink.new) result [] }
@@ -45,7 +45,8 @@ impl Pieces {
         Ok(())
     }
 
-    /// Gathers these bytes. Where memory for them is refused, they go out at once.
+    /// Gathers these bytes, and first hands on what is gathered if that fills a piece. If memory for the bytes is
+    /// refused, they go to the sink at once.
     pub fn put<S: Sink>(&mut self, sink: &mut S, bytes: &[u8]) -> Result<(), Failed>
         ensures { Writes (held S.contents S.failures self.old sink.old)
             (held S.contents S.failures self.new sink.new) result bytes.now }

@@ -25,7 +25,7 @@ impl Model for Place {
 }
 
 impl Place {
-    /// The entry of this number; none has the number 0.
+    /// Returns the place with this process and entry, or `None` if the entry's number is 0.
     pub fn new(proc: ProcId, at: u32) -> Option<Place>
         ensures { MatchOption result (at ≡ 0) (λ e. (e.proc ≡ proc) × (e.at ≡ at)) }
     {
@@ -35,7 +35,7 @@ impl Place {
         Some(Place { proc, at })
     }
 
-    /// Whether this one comes before the other: `<`, as contracts can use it.
+    /// Returns whether this place comes before the other: `<` in a form that contracts can use.
     pub fn is_below(&self, other: &Place) -> bool
         ensures { IsTrue result ↔ PlaceBelow self.now other.now }
     {

@@ -2,7 +2,7 @@ ghost use Rattle.std.specs.Prelude.{◌≡◌, ℕ, ◌<◌, MatchOption};
 
 use std::marker::Model;
 
-/// A process, by its number from 1 to 65535.
+/// A process, named by its number from 1 to 65535.
 #[derive(Clone, Copy, Debug, PartialEq, Eq, PartialOrd, Ord, Hash)]
 pub struct ProcId {
     number: u16,
@@ -19,7 +19,7 @@ impl Model for ProcId {
 }
 
 impl ProcId {
-    /// The process of this number; none has the number 0.
+    /// Returns the process with this number, or `None` if the number is 0.
     pub fn new(number: u16) -> Option<ProcId>
         ensures { MatchOption result (number ≡ 0) (λ p. p ≡ number) }
     {
@@ -29,7 +29,7 @@ impl ProcId {
         Some(ProcId { number })
     }
 
-    /// The process of a number that is known not to be 0.
+    /// Returns the process with a number that is known not to be 0.
     pub fn of(number: u16) -> ProcId
         requires { 0 < number }
         ensures { result ≡ number }

@@ -1,4 +1,4 @@
-//! Readers of what all texts share: bytes, words and numbers. Each leaves what follows the bytes that it took.
+//! Readers of what all texts share: bytes, words and numbers. Each leaves unread what follows the bytes that it took.
 ghost use Rattle.std.specs.Prelude.{◌≡◌, ◌≢◌, ◌≤◌, ◌&&◌, ◌==◌, false, not, IfOk, IfErr};
 ghost use Rattle.totem_ids.specs.Sources.{Reads, seen, is_short};
 ghost use Rattle.totem_ids.specs.Numbers.{is_digit, byte_at, word_at, number_at, number_to, proc_at};
@@ -8,7 +8,7 @@ use crate::fault::{ReadError, TextFault};
 use crate::process::ProcId;
 use crate::source::Source;
 
-/// The next byte; `Truncated` at the end.
+/// Reads the next byte. At the end of the source the fault is `Truncated`.
 pub fn next<S: Source>(source: &mut S) -> Result<u8, ReadError>
     ensures read { Reads (seen S.remaining S.failures source.old)
         (seen S.remaining S.failures source.new) result byte_at }
@@ -21,7 +21,7 @@ pub fn next<S: Source>(source: &mut S) -> Result<u8, ReadError>
     }
 }
 
-/// A word; `fault` at the first byte that is another.
+/// Reads exactly this word. The first byte that differs from it is answered with `fault`.
 pub fn word<S: Source>(source: &mut S, word: &[u8], fault: TextFault) -> Result<(), ReadError>
     requires { is_short fault ≡ false }
     ensures read { Reads (seen S.remaining S.failures source.old)
@@ -50,7 +50,8 @@ fn begins_number(byte: u8) -> bool
     is_digit(byte) && byte != b'0'
 }
 
-/// A number from 1 to `max` with no zero in front, and the byte behind it; `Number` at the first byte of any other.
+/// Reads a number from 1 to `max`, without leading zeros, and returns it with the byte behind it. The fault is `Number`
+/// at the first byte with which no such number can go on.
 pub fn number<S: Source>(source: &mut S, max: u32) -> Result<(u32, u8), ReadError>
     requires { 9 ≤ max }
     ensures read { Reads (seen S.remaining S.failures source.old)
@@ -78,7 +79,7 @@ pub fn number<S: Source>(source: &mut S, max: u32) -> Result<(u32, u8), ReadErro
     }
 }
 
-/// A number with the byte `end` behind it; `Word` where another byte is there.
+/// Reads a number from 1 to `max` and the byte `end` behind it. If another byte stands there, the fault is `Word`.
 #[tactic(auto, using(crate::proofs::Readers::called, crate::proofs::Readers::failed, crate::proofs::Readers::begins, crate::proofs::Readers::chosen, crate::proofs::Readers::passed, crate::proofs::Readers::stops), unfolding(crate::specs::Numbers::number_to))]
 pub fn number_to<S: Source>(source: &mut S, max: u32, end: u8) -> Result<u32, ReadError>
     requires { 9 ≤ max }
@@ -94,7 +95,7 @@ pub fn number_to<S: Source>(source: &mut S, max: u32, end: u8) -> Result<u32, Re
     Ok(number)
 }
 
-/// A process with the byte `end` behind it.
+/// Reads a process and the byte `end` behind it.
 pub fn read_proc<S: Source>(source: &mut S, end: u8) -> Result<ProcId, ReadError>
     ensures read { Reads (seen S.remaining S.failures source.old)
         (seen S.remaining S.failures source.new) result (proc_at end) }

@@ -1,4 +1,4 @@
-//! Reads that go on after a signal.
+//! Reads that are tried again when a signal interrupts them.
 ghost use Rattle.std.specs.Prelude.{◌≢◌, IfErr};
 ghost use Rattle.std.specs.Io.{ReadsAtMost};
 ghost use Rattle.std.specs.Io.KnownBytes.{ReadConsumes};
@@ -7,7 +7,7 @@ ghost use Rattle.std.specs.IoError.{error_kind};
 use std::io;
 use std::io::{ErrorKind, Read};
 
-/// One read, tried again where a signal interrupts it.
+/// Reads once from the reader, and tries again as long as a signal interrupts the read.
 pub(crate) fn read_retrying<R: Read>(reader: &mut R, buffer: &mut [u8]) -> io::Result<usize>
     ensures bound { ReadsAtMost result buffer.new }
     ensures bytes { ReadConsumes (R.remaining reader.old)

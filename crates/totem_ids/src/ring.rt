@@ -4,7 +4,7 @@ ghost use Rattle.totem_ids.specs.Orders.{RingBelow};
 use crate::process::ProcId;
 use std::marker::Model;
 
-/// A ring, by its number from 1 to 4294967295 and its representative.
+/// A ring, named by its number from 1 to 4294967295 and its representative.
 #[derive(Clone, Copy, Debug, PartialEq, Eq, PartialOrd, Ord, Hash)]
 pub struct RingId {
     pub seq: u32,
@@ -27,7 +27,7 @@ impl Model for RingId {
 impl RingId {
     ghost use Rattle.totem_ids.specs.Names.{RingName};
 
-    /// The ring of this number and representative; none has the number 0.
+    /// Returns the ring with this number and representative, or `None` if the number is 0.
     pub fn new(seq: u32, rep: ProcId) -> Option<RingId>
         ensures { MatchOption result (seq ≡ 0) (λ r. (r.seq ≡ seq) × (r.rep ≡ rep)) }
     {
@@ -37,7 +37,7 @@ impl RingId {
         Some(RingId { seq, rep })
     }
 
-    /// Whether this one comes before the other: `<`, as contracts can use it.
+    /// Returns whether this ring comes before the other: `<` in a form that contracts can use.
     pub fn is_below(&self, other: &RingId) -> bool
         ensures { IsTrue result ↔ RingBelow self.now other.now }
     {

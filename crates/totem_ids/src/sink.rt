@@ -1,4 +1,4 @@
-//! Streams of bytes to write.
+//! Streams of bytes to write to. Contracts know what they hold and how often they failed.
 ghost use Rattle.std.specs.Prelude.{◌≡◌, ℕ, List, OnOk};
 ghost use Rattle.std.specs.declared.option.Option.{Option};
 ghost use Rattle.std.specs.Io.KnownBytes.{Appends};
@@ -7,12 +7,12 @@ ghost use Rattle.totem_ids.specs.Streams.{failed_once};
 use crate::source::Failed;
 use std::io::Write;
 
-/// A stream of bytes to write. What a call that failed has written is left open.
+/// A stream of bytes to write to. How many of its bytes a failed call has written is not known.
 pub trait Sink {
     /// The bytes that it holds, where they are known.
     ghost contents: { Self → Option (List ℕ) };
 
-    /// How often it has failed, as a counter of 64 bits has it.
+    /// How often it has failed. The count has 64 bits and wraps.
     ghost failures: { Self → ℕ };
 
     /// Writes all these bytes.
@@ -21,7 +21,7 @@ pub trait Sink {
         ensures failures { failures self.new ≡ failed_once result (failures self.old) };
 }
 
-/// A sink over a writer. A write that a signal interrupts is tried again.
+/// A sink that writes to a writer. It tries a write again if a signal interrupts it.
 #[derive(Drop)]
 pub struct ToWrite<W> {
     inner: W,
@@ -31,7 +31,7 @@ pub struct ToWrite<W> {
 impl<W> ToWrite<W> {
     ghost use Rattle.totem_ids.specs.Wrapped.{writer_of, write_failures};
 
-    /// A sink that has not failed yet.
+    /// Makes a sink over this writer that has not failed yet.
     pub fn new(inner: W) -> ToWrite<W>
         ensures inner { writer_of result ≡ inner }
         ensures failures { write_failures result ≡ 0 }
@@ -39,7 +39,7 @@ impl<W> ToWrite<W> {
         ToWrite { inner, failed: 0 }
     }
 
-    /// The writer.
+    /// Returns the writer.
     pub fn into_inner(self) -> W
         ensures { result ≡ writer_of self }
     {

@@ -1,4 +1,4 @@
-//! Streams of bytes that tell what they give and how often they failed.
+//! Streams of bytes to read from. Contracts know what they have left and how often they failed.
 ghost use Rattle.std.specs.Prelude.{◌≡◌, ℕ, List, IfOk, OnErr};
 ghost use Rattle.std.specs.declared.option.Option.{Option};
 ghost use Rattle.std.specs.Io.KnownBytes.{Keeps};
@@ -8,27 +8,27 @@ use crate::retry::read_retrying;
 use std::io::Read;
 use thiserror::Error;
 
-/// A stream failed.
+/// A stream has failed.
 #[derive(Clone, Copy, Debug, PartialEq, Eq, Error)]
 #[error("the stream failed")]
 pub struct Failed;
 
-/// A stream of bytes to read. After a failure it may be called again.
+/// A stream of bytes to read from. It may be called again after a failure.
 pub trait Source {
     /// The bytes that it has left, where they are known.
     ghost remaining: { Self → Option (List ℕ) };
 
-    /// How often it has failed, as a counter of 64 bits has it.
+    /// How often it has failed. The count has 64 bits and wraps.
     ghost failures: { Self → ℕ };
 
-    /// The next byte, or none at the end.
+    /// Reads the next byte. Returns `None` at the end.
     fn byte(&mut self) -> Result<Option<u8>, Failed>
         ensures byte { IfOk result (λ b. Gives (remaining self.old) (remaining self.new) b) }
         ensures err { OnErr result (Keeps (remaining self.old) (remaining self.new)) }
         ensures failures { failures self.new ≡ failed_once result (failures self.old) };
 }
 
-/// A source over a reader, a byte in each read. A read that a signal interrupts is tried again.
+/// A source that reads from a reader, one byte at a time. It tries a read again if a signal interrupts it.
 #[derive(Drop)]
 pub struct FromRead<R> {
     inner: R,
@@ -38,7 +38,7 @@ pub struct FromRead<R> {
 impl<R> FromRead<R> {
     ghost use Rattle.totem_ids.specs.Wrapped.{reader_of, read_failures};
 
-    /// A source that has not failed yet.
+    /// Makes a source over this reader that has not failed yet.
     pub fn new(inner: R) -> FromRead<R>
         ensures inner { reader_of result ≡ inner }
         ensures failures { read_failures result ≡ 0 }
@@ -46,7 +46,7 @@ impl<R> FromRead<R> {
         FromRead { inner, failed: 0 }
     }
 
-    /// The reader.
+    /// Returns the reader.
     pub fn into_inner(self) -> R
         ensures { result ≡ reader_of self }
     {

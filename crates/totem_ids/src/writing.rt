@@ -1,4 +1,4 @@
-//! Writers of numbers and names. Each gathers the one spelling of what it is given.
+//! Writers of numbers and names. Each puts the one spelling of what it is given into the gathered text.
 ghost use Rattle.std.specs.Prelude.{decimal};
 ghost use Rattle.totem_ids.specs.Writing.{Writes, held};
 ghost use Rattle.totem_ids.specs.Texts.{ring_text, conf_text, message_text, place_text};
@@ -12,7 +12,7 @@ use crate::sink::Sink;
 use crate::source::Failed;
 
 impl Pieces {
-    /// A number, in decimal.
+    /// Writes a number in decimal.
     pub fn put_number<S: Sink>(&mut self, sink: &mut S, number: u32) -> Result<(), Failed>
         ensures { Writes (held S.contents S.failures self.old sink.old)
             (held S.contents S.failures self.new sink.new) result (decimal number) }
@@ -21,7 +21,7 @@ impl Pieces {
         self.put(sink, digits.format(number).as_bytes())
     }
 
-    /// A ring.
+    /// Writes a ring, as in `4.1`.
     #[tactic(auto, using(crate::proofs::Writers::wrote_then, crate::proofs::Writers::wrote_failed))]
     pub fn put_ring<S: Sink>(&mut self, sink: &mut S, ring: RingId) -> Result<(), Failed>
         ensures { Writes (held S.contents S.failures self.old sink.old)
@@ -32,7 +32,7 @@ impl Pieces {
         self.put_number(sink, u32::from(ring.rep.number()))
     }
 
-    /// A configuration.
+    /// Writes a configuration, as in `r4.1` or `t8.1/1`.
     #[tactic(auto, using(crate::proofs::Writers::wrote_then, crate::proofs::Writers::wrote_failed))]
     pub fn put_conf<S: Sink>(&mut self, sink: &mut S, conf: &ConfId) -> Result<(), Failed>
         ensures { Writes (held S.contents S.failures self.old sink.old)
@@ -52,7 +52,7 @@ impl Pieces {
         }
     }
 
-    /// A message.
+    /// Writes a message, as in `4.1#7`.
     #[tactic(auto, using(crate::proofs::Writers::wrote_then, crate::proofs::Writers::wrote_failed))]
     pub fn put_message<S: Sink>(&mut self, sink: &mut S, message: MsgId) -> Result<(), Failed>
         ensures { Writes (held S.contents S.failures self.old sink.old)
@@ -63,7 +63,7 @@ impl Pieces {
         self.put_number(sink, message.number)
     }
 
-    /// A place.
+    /// Writes a place, as in `2@5`.
     #[tactic(auto, using(crate::proofs::Writers::wrote_then, crate::proofs::Writers::wrote_failed))]
     pub fn put_place<S: Sink>(&mut self, sink: &mut S, place: Place) -> Result<(), Failed>
         ensures { Writes (held S.contents S.failures self.old sink.old)

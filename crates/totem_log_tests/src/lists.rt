@@ -1,4 +1,4 @@
-//! Numbers, lines, certificates and members: each constructor and each copy, and what is refused.
+//! Numbers, lines, certificates and members: each constructor, each copy, and what is refused.
 use crate::values::{push_lines, push_processes};
 use std::alloc::{AllocError, Global};
 use totem_cert::{Certificate, Line, Lines, Numbers};
@@ -9,7 +9,7 @@ pub fn proc(number: u16) -> ProcId {
     ProcId::of(number.max(1))
 }
 
-/// The rule that a list breaks, and how many come back.
+/// Tells the rule that a list breaks, and how many elements come back.
 pub fn refusal<V: Drop>(alloc: Global, refused: &Refused<Vec<V>>) -> Result<String, AllocError> {
     format!(in alloc; "{:?} of {}", refused.fault, refused.value.len())
 }
@@ -21,7 +21,7 @@ fn taken_numbers(alloc: Global, numbers: Numbers) -> Result<String, AllocError> 
     format!(in alloc; "{list:?} {:?}", copy.as_slice())
 }
 
-/// These numbers, so many times.
+/// Returns these numbers, so many times over.
 pub fn numbers(alloc: Global, list: &[u16], times: usize) -> Result<Vec<u32>, AllocError> {
     let mut numbers = Vec::new(alloc);
     for _ in 0..times {
@@ -39,7 +39,7 @@ pub fn numbers_told(alloc: Global, list: Vec<u32>) -> Result<String, AllocError>
     }
 }
 
-/// What the refusal of these numbers says.
+/// Tells what the refusal of these numbers says.
 pub fn numbers_refusal(alloc: Global, list: Vec<u32>) -> Result<String, AllocError> {
     match Numbers::new(list) {
         Ok(_) => String::from_str(alloc, "taken"),

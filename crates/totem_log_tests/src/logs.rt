@@ -1,4 +1,4 @@
-//! Entries, logs, runs and faults: each constructor and each copy, and what is refused.
+//! Entries, logs, runs and faults: each constructor, each copy, and what is refused.
 use crate::lists::{proc, procs, refusal};
 use crate::values::{push_fault, push_log};
 use std::alloc::{AllocError, Global};
@@ -24,8 +24,8 @@ fn message() -> MsgId {
     }
 }
 
-/// The change to ring 4.1, of processes 1 and 2, with the word `change`; what is sent and delivered there with `send` and
-/// `deliver`, and a failure with any other word.
+/// Adds an entry of this word: `change` to ring 4.1 of processes 1 and 2, `send` and `deliver` of a message there, and
+/// a failure for any other word.
 fn push_entry(alloc: Global, list: &mut Vec<Entry>, word: &str) -> Result<(), AllocError> {
     let entry = match word {
         "send" => Entry::Send(message(), conf(), Service::Safe),
@@ -48,7 +48,7 @@ fn entries(alloc: Global, words: &str) -> Result<Vec<Entry>, AllocError> {
     Ok(list)
 }
 
-/// A log of these entries, if there are some.
+/// Adds a log of these entries, if there are any.
 fn push_log_of(
     alloc: Global,
     logs: &mut Vec<Log>,
@@ -61,7 +61,7 @@ fn push_log_of(
     Ok(())
 }
 
-/// A log for each of these processes, of these entries.
+/// Returns a log of these entries for each of these processes.
 pub fn logs(alloc: Global, numbers: &[u16], words: &str) -> Result<Vec<Log>, AllocError> {
     let mut logs = Vec::new(alloc);
     for number in numbers {
@@ -107,7 +107,7 @@ pub fn run_told(alloc: Global, list: Vec<Log>) -> Result<String, AllocError> {
     }
 }
 
-/// So many failures as entries.
+/// Tells what becomes of so many failures as the entries of a log.
 pub fn entries_told(alloc: Global, count: usize) -> Result<String, AllocError> {
     let mut list = Vec::new(alloc);
     for _ in 0..count {
@@ -119,7 +119,7 @@ pub fn entries_told(alloc: Global, count: usize) -> Result<String, AllocError> {
     }
 }
 
-/// Whether the copies of a change and a failure are shown alike, and whether they are failures.
+/// Tells whether the copies of a change and of a failure are shown alike, and whether they are failures.
 pub fn copied_entries_told(alloc: Global) -> Result<String, AllocError> {
     let mut text = String::new(alloc);
     for entry in &entries(alloc, "change fail")? {

@@ -8,8 +8,8 @@ use crate::logs::{
 use crate::values::is_told;
 use std::alloc::{AllocError, Global};
 
-/// What is made of numbers: they themselves, so many times, and what their refusal says; of processes lines, a certificate,
-/// members, logs, logs that fail, or a run. So many entries. Copies of entries and of a fault.
+/// What is made of a list. Of numbers: the numbers of a line, so many times over, or what their refusal says. Of processes: lines,
+/// a certificate, members, logs, logs that fail, or a run. Without a list: so many entries, or copies of entries and of a fault.
 enum What {
     Numbers,
     NumbersRefusal,
@@ -50,7 +50,7 @@ const FIRST_33: [u16; 33] = [
     27, 28, 29, 30, 31, 32, 33,
 ];
 
-/// What is made of a list, and what is told of it.
+/// What is made of a list, and what has to be told of it.
 struct Row {
     about: &'static str,
     what: What,

@@ -1,4 +1,4 @@
-//! Longer texts: what is read of them, and what goes out again.
+//! Longer texts: what is read of them, and what is written out again.
 use crate::texts::{CERTIFICATE, RUN, read};
 use crate::values::is_told;
 use std::alloc::{AllocError, Global};
@@ -53,8 +53,8 @@ fn written(alloc: Global, text: &str, calls: u64) -> &'static str {
     }
 }
 
-/// A text that begins so, has this piece so many times and ends so, and what is read of it. With a number of calls: what goes
-/// out of it to a sink that fails after them.
+/// A text that begins with `begin`, has `piece` so many times and ends with `rest`, and what is read of it. With a
+/// number of calls: what of it goes out to a sink that fails after so many.
 struct Made {
     about: &'static str,
     begin: &'static str,

@@ -79,7 +79,7 @@ const SPECIFICATIONS: [SpecNo; 13] = [
     SpecNo::Installed,
 ];
 
-/// Each number, with `<` in front where it comes after the one before.
+/// Tells each specification's number, with `<` in front of one that comes after the one before.
 fn specifications_told(alloc: Global) -> Result<String, AllocError> {
     let mut text = String::new(alloc);
     let mut before = None;
@@ -98,7 +98,7 @@ fn ring() -> RingId {
     }
 }
 
-/// What this process has not delivered, by its number in ring 4.1.
+/// Returns a message of ring 4.1 that this process has not delivered, as pending.
 fn pending(proc: u16, number: u32) -> Pending {
     Pending {
         proc: ProcId::of(proc.max(1)),
@@ -109,7 +109,7 @@ fn pending(proc: u16, number: u32) -> Pending {
     }
 }
 
-/// That process 1 waits for this one.
+/// Returns that process 1 waits for this one.
 fn waiting(other: u16) -> Waiting {
     Waiting {
         proc: ProcId::of(1),
@@ -118,7 +118,7 @@ fn waiting(other: u16) -> Waiting {
     }
 }
 
-/// Whether what is pending and who waits is ordered by the process first, and then by what stands behind it.
+/// Tells whether what is pending and who waits is ordered first by the process, and then by what stands behind it.
 fn order_told(alloc: Global) -> Result<String, AllocError> {
     let pending = pending(1, 9) < pending(2, 1);
     let waiting = waiting(2) < waiting(3);

@@ -32,7 +32,7 @@ fn told(alloc: Global, logs: &str) -> Result<String, AllocError> {
     Ok(text)
 }
 
-/// What holds, the logs of a run, and the text of their order.
+/// The rule that a row shows, the logs of a run, and the text of their order.
 struct Row {
     rule: &'static str,
     logs: &'static str,

@@ -1,4 +1,4 @@
-//! Sources of each kind, sources that fail, texts that are spoilt or cut, and runs that are read by parts.
+//! Sources of each kind, sources that fail, texts that are spoilt or cut, and runs that are read part by part.
 use crate::texts::{CERTIFICATE, RUN, certificate_told, push_end, run_told};
 use crate::values::is_told;
 use std::alloc::{AllocError, Global};
@@ -45,7 +45,7 @@ fn certificate_fault_name(alloc: Global, bytes: &[u8], calls: u64) -> &'static s
     }
 }
 
-/// The name of the fault of these bytes, from a source that fails after so many calls.
+/// Returns the name of the fault of these bytes, read from a source that fails after so many calls.
 fn fault_of(alloc: Global, bytes: &[u8], is_run: bool, calls: usize) -> &'static str {
     if is_run {
         run_fault_name(alloc, bytes, calls as u64)
@@ -54,8 +54,8 @@ fn fault_of(alloc: Global, bytes: &[u8], is_run: bool, calls: usize) -> &'static
     }
 }
 
-/// The faults of the text where the source fails here, where this byte is 0, and where the text is cut here. Nothing where they
-/// are Read, one of `forms` and Truncated.
+/// Adds three faults of the text: where the source fails at byte `at`, where this byte is 0, and where the text is cut
+/// there. Adds nothing if they are Read, one of `forms`, and Truncated.
 fn push_others(
     alloc: Global,
     text: &mut String,
@@ -78,7 +78,7 @@ fn push_others(
     Ok(())
 }
 
-/// The other faults of the text, at each of its bytes.
+/// Tells these faults of the text at each of its bytes.
 fn others_told(alloc: Global, given: &str, forms: &str) -> Result<String, AllocError> {
     let mut text = String::new(alloc);
     for at in 0..given.len() {
@@ -95,7 +95,7 @@ fn push_part(text: &mut String, part: &Part) -> Result<(), AllocError> {
     })
 }
 
-/// At most twenty parts, and what comes then.
+/// Adds at most twenty parts, and what comes then.
 fn push_parts<S: Source>(
     text: &mut String,
     source: &mut S,
@@ -131,8 +131,8 @@ fn read_as_certificate(alloc: Global, given: &str) -> Result<String, AllocError>
     certificate_told(alloc, &mut FromRead::new(given.as_bytes()))
 }
 
-/// A source that fails after so many calls, or that has a buffer; what is told of a run and of a certificate that are cut,
-/// spoilt or not given to the end, of a run's parts, and of a run that is read as a certificate.
+/// How a text is read: from a source that fails after so many calls or that has a buffer; a run or a certificate
+/// spoilt, cut or not given to the end at each byte; a run part by part; or a run as if it were a certificate.
 enum Way {
     Fused(usize),
     Buffered,

@@ -19,7 +19,7 @@ fn push_run_fault(text: &mut String, fault: &RunFault) -> Result<(), AllocError>
     }
 }
 
-/// What stands behind a run.
+/// Adds what stands behind a run.
 pub fn push_end<S: Source>(text: &mut String, source: &mut S) -> Result<(), AllocError> {
     match read_end(source) {
         Ok(()) => text.push_str("end "),
@@ -27,7 +27,7 @@ pub fn push_end<S: Source>(text: &mut String, source: &mut S) -> Result<(), Allo
     }
 }
 
-/// A run's logs, and twice what stands behind them. Of more than eight logs only how many there are.
+/// Adds a run's logs, or only how many there are if they are more than eight, and twice what stands behind them.
 fn push_run<S: Source>(text: &mut String, run: &Run, source: &mut S) -> Result<(), AllocError> {
     let logs = run.logs.as_slice();
     if logs.len() > 8 {
@@ -40,7 +40,7 @@ fn push_run<S: Source>(text: &mut String, run: &Run, source: &mut S) -> Result<(
     push_end(text, source)
 }
 
-/// The run that a source gives, or why it gives none.
+/// Tells the run that a source gives, or why it gives none.
 pub fn run_told<S: Source>(alloc: Global, source: &mut S) -> Result<String, AllocError> {
     let mut text = String::new(alloc);
     match read_run(alloc, source) {
@@ -50,7 +50,7 @@ pub fn run_told<S: Source>(alloc: Global, source: &mut S) -> Result<String, Allo
     Ok(text)
 }
 
-/// A certificate's lines, and the byte behind them. Of more than eight lines only how many there are.
+/// Adds a certificate's lines, or only how many there are if they are more than eight, and the byte behind them.
 fn push_certificate<S: Source>(
     text: &mut String,
     certificate: &Certificate,
@@ -68,7 +68,7 @@ fn push_certificate<S: Source>(
     }
 }
 
-/// The certificate that a source gives, or why it gives none.
+/// Tells the certificate that a source gives, or why it gives none.
 pub fn certificate_told<S: Source>(alloc: Global, source: &mut S) -> Result<String, AllocError> {
     let mut text = String::new(alloc);
     match read_cert(alloc, source) {
@@ -78,7 +78,7 @@ pub fn certificate_told<S: Source>(alloc: Global, source: &mut S) -> Result<Stri
     Ok(text)
 }
 
-/// What is read of a text.
+/// Tells what is read of a text.
 pub fn read(alloc: Global, text: &str) -> Result<String, AllocError> {
     let mut source = FromRead::new(text.as_bytes());
     if text.starts_with("totem-cert") {
@@ -88,7 +88,7 @@ pub fn read(alloc: Global, text: &str) -> Result<String, AllocError> {
     }
 }
 
-/// A text, and what is read of it: values and what stands behind them, or a fault.
+/// A text, and what has to be read of it: values and what stands behind them, or a fault.
 struct Example {
     text: &'static str,
     told: &'static str,

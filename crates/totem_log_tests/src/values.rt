@@ -1,11 +1,11 @@
-//! Values told as text, and what was told compared with what was wanted.
+//! Tells values as text, and compares what was told with what was wanted.
 use std::alloc::AllocError;
 use std::process::Abort;
 use totem_cert::Line;
 use totem_evs::{Ending, Entry, Fault, Log};
 use totem_ids::ProcId;
 
-/// Stops the test where something else was told than was wanted.
+/// Stops the test if something else was told than was wanted.
 pub fn is_told(rt: &impl Abort, told: &str, wanted: &str, about: &str) {
     assert_eq!(rt; told, wanted, "{about}");
 }
@@ -17,7 +17,7 @@ fn push_numbers(text: &mut String, numbers: &[u32]) -> Result<(), AllocError> {
     text.push_str(";")
 }
 
-/// Each line of a certificate, with `;` behind. Of more than twenty numbers only how many there are.
+/// Adds each line of a certificate with `;` behind it, or only how many numbers it has if they are more than twenty.
 pub fn push_lines(text: &mut String, lines: &[Line]) -> Result<(), AllocError> {
     for line in lines {
         write!(text, "pos {}", line.proc)?;
@@ -30,7 +30,7 @@ pub fn push_lines(text: &mut String, lines: &[Line]) -> Result<(), AllocError> {
     Ok(())
 }
 
-/// Each process, with a space in front.
+/// Adds each process with a space in front.
 pub fn push_processes(text: &mut String, procs: &[ProcId]) -> Result<(), AllocError> {
     for proc in procs {
         write!(text, " {proc}")?;
@@ -51,7 +51,7 @@ fn push_entry(text: &mut String, entry: &Entry) -> Result<(), AllocError> {
     text.push_str("; ")
 }
 
-/// A log's process, its entries and how it ends.
+/// Adds a log's process, its entries and how it ends.
 pub fn push_log(text: &mut String, log: &Log) -> Result<(), AllocError> {
     write!(text, "log {}: ", log.proc)?;
     for entry in log.entries.as_slice() {
@@ -63,7 +63,7 @@ pub fn push_log(text: &mut String, log: &Log) -> Result<(), AllocError> {
     })
 }
 
-/// A fault's specification and its places.
+/// Adds a fault's specification and its places.
 pub fn push_fault(text: &mut String, fault: &Fault) -> Result<(), AllocError> {
     write!(text, "fault {}", fault.spec)?;
     for place in fault.places.as_slice() {

@@ -1,4 +1,4 @@
-//! The commit token: made, filled and read.
+//! The commit token: how it is made, filled in and taken.
 ghost use Rattle.std.specs.Prelude.{◌≡◌, ◌<◌, IfOk, IsTrue, is_some, map, length};
 ghost use Rattle.totem_packets.specs.Sets.{has};
 ghost use Rattle.totem_member.specs.Commits.{first_commit, on_commit, report_of, same_report, is_report, is_filled_ring, filled_by, may_fill, may_enter, may_start, unfilled, entering};
@@ -10,10 +10,10 @@ use std::alloc::{AllocError, Global};
 use totem_ids::{ProcId, RingId};
 use totem_packets::{CommitMember, CommitMembers, CommitToken, Processes, Report, Round};
 
-/// How many processes an obligation union may have.
+/// How many processes an obligation union may have at most.
 const MOST: usize = 32;
 
-/// How much above the greatest number that is known the number of a new ring is.
+/// How far the number of a new ring is above the greatest ring number that its maker knows.
 const STEP: u32 = 4;
 
 fn same_report(a: &Report, b: &Report) -> bool
@@ -26,7 +26,7 @@ fn same_report(a: &Report, b: &Report) -> bool
         && a.obligation.is(&b.obligation)
 }
 
-/// Whether the process has reported.
+/// Returns whether this process has reported.
 fn has_reported(members: &[CommitMember], proc: ProcId) -> bool
     ensures { result ≡ is_some (report_of members.now proc) }
 {
@@ -38,7 +38,7 @@ fn has_reported(members: &[CommitMember], proc: ProcId) -> bool
     false
 }
 
-/// Whether the process has reported this.
+/// Returns whether this process has reported exactly this.
 fn has_reported_this(members: &[CommitMember], proc: ProcId, report: &Report) -> bool
     ensures { result ≡ is_report (report_of members.now proc) report.now }
 {
@@ -62,7 +62,7 @@ fn is_filled_ring(filled: &Option<RingId>, ring: &RingId) -> bool
     }
 }
 
-/// The members, with this one's report.
+/// Returns the members with the report of `proc` filled in.
 fn filled(
     alloc: Global,
     members: &CommitMembers,
@@ -88,7 +88,7 @@ fn filled(
     Ok(CommitMembers::of(filled))
 }
 
-/// Members that have not reported.
+/// Returns these processes as members that have not reported.
 fn unfilled(alloc: Global, members: &Processes) -> Result<CommitMembers, AllocError>
     requires { 0 < length members.now }
     ensures { IfOk result (λ r. r ≡ map unfilled members.now) }
@@ -104,8 +104,8 @@ fn unfilled(alloc: Global, members: &Processes) -> Result<CommitMembers, AllocEr
     Ok(CommitMembers::of(unfilled))
 }
 
-/// The commit token as the least member makes it, for a ring whose number is 4 above the greatest that it knows. The
-/// caller shows that it is a member: `view.members.contains(view.me)`.
+/// Makes the commit token, as the least member does. The number of its ring is 4 above the greatest that the member
+/// knows; `Range` if that would pass the greatest number. The caller has to know that `view.members` contains `view.me`.
 pub fn first_commit(
     alloc: Global,
     view: &CommitView,
@@ -162,7 +162,7 @@ fn may_start(token: &CommitToken, view: &CommitView) -> bool
         && !view.started
 }
 
-/// Recovery begins, unless the obligation union is too large.
+/// Begins the recovery and passes the token on in its second round. `Range` if the obligation union has more than 32 processes.
 fn entering(alloc: Global, token: &CommitToken, report: &Report) -> Result<CommitOut, MemberFault>
     ensures { IsAnswer result (entering token.now report.now) }
 {
@@ -179,7 +179,8 @@ fn entering(alloc: Global, token: &CommitToken, report: &Report) -> Result<Commi
     })
 }
 
-/// What a member does with a commit token. `report` is what it would report now.
+/// Takes a commit token in one of three ways, or refuses it (docs/PROTOCOL.md, "The commit token"). `report` is what
+/// the member would report now.
 pub fn on_commit(
     alloc: Global,
     token: &CommitToken,

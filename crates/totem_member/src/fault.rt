@@ -13,7 +13,7 @@ pub enum MemberFault {
     Stranger,
     #[error("it is of another gathering, or was taken before")]
     Stale,
-    /// The number of the new ring would pass its greatest value, or the obligation union 32 processes.
+    /// The number of the new ring would pass the greatest number, or the obligation union would have more than 32 processes.
     #[error("a value is out of range")]
     Range,
     #[error("out of memory")]
@@ -21,7 +21,7 @@ pub enum MemberFault {
 }
 
 impl MemberFault {
-    /// Its number, from 1 on in the order above.
+    /// Returns the fault's number, counted from 1 in the order above.
     pub fn number(&self) -> u8
         ensures { result ≡ fault_number self.now }
     {
@@ -33,7 +33,7 @@ impl MemberFault {
         }
     }
 
-    /// Its name.
+    /// Returns the fault's name.
     pub fn name(&self) -> &'static str
         ensures { result.now ≡ fault_name self.now }
     {

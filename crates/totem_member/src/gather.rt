@@ -13,10 +13,10 @@ use std::marker::Model;
 use totem_ids::ProcId;
 use totem_packets::{Join, Number, Processes, SetFault};
 
-/// How many processes may gather.
+/// How many processes may gather at most.
 const MOST: usize = 32;
 
-/// A process that looks for others to form a ring with.
+/// A process that looks for others with which to form a ring (docs/PROTOCOL.md, "Gathering").
 #[derive(Debug, Drop)]
 pub struct Gather {
     me: ProcId,
@@ -35,7 +35,7 @@ impl Model for Gather {
     ghost invariant = { λ g. IsStanding g.me g.sets };
 }
 
-/// A set for which there is room, so that only memory can lack.
+/// Drops the fault `TooMany` from the making of a set for which there is room, so that only want of memory is left.
 fn with_room(made: Result<Processes, SetFault>) -> Result<Processes, AllocError>
     requires { made ≡ Err TooMany → ⊥ }
     ensures { IfOk result (λ p. made ≡ Ok p) }
@@ -47,7 +47,7 @@ fn with_room(made: Result<Processes, SetFault>) -> Result<Processes, AllocError>
     }
 }
 
-/// Whether the sets that this process told last are these.
+/// Returns whether the sets that this process told last are equal to `sets`.
 fn noted_equal(noted: &[Noted], proc: ProcId, sets: &Sets) -> bool
     ensures { result ≡ noted_equal noted.now proc sets.now }
 {
@@ -56,7 +56,7 @@ fn noted_equal(noted: &[Noted], proc: ProcId, sets: &Sets) -> bool
         .any(|note| note.proc == proc && note.sets.are(sets))
 }
 
-/// A copy of each.
+/// Returns a copy of all that was noted.
 fn noted_all(alloc: Global, noted: &[Noted]) -> Result<Vec<Noted>, AllocError>
     ensures { IfOk result (λ v. v.items ≡ noted.now) }
 {
@@ -67,7 +67,7 @@ fn noted_all(alloc: Global, noted: &[Noted]) -> Result<Vec<Noted>, AllocError>
     Ok(list)
 }
 
-/// What was noted of all but this process.
+/// Returns a copy of what was noted of every process but this one.
 fn noted_of_others(alloc: Global, noted: &[Noted], proc: ProcId) -> Result<Vec<Noted>, AllocError>
     ensures { IfOk result (λ v. v.items ≡ filter (λ n. not (n.proc == proc)) noted.now) }
 {
@@ -81,7 +81,8 @@ fn noted_of_others(alloc: Global, noted: &[Noted], proc: ProcId) -> Result<Vec<N
 }
 
 impl Gather {
-    /// A gathering of these processes and me, of whom nobody was heard yet; TooMany where they are more than 32.
+    /// Begins a gathering of the processes of `base` and `me`, of which no other was heard so far. `TooMany` if they
+    /// are more than 32.
     pub fn new(alloc: Global, me: ProcId, base: &Processes, seq: Number) -> Result<Gather, SetFault>
         ensures { Begins result me base.now seq }
     {
@@ -107,7 +108,7 @@ impl Gather {
         })
     }
 
-    /// The type keeps this, and this passes it on.
+    /// Tells contracts the rule that the type keeps.
     fn keeps_its_rule(&self)
         ensures { IsGather self.now }
     {
@@ -122,28 +123,28 @@ impl Gather {
         self.me
     }
 
-    /// The greatest number of a ring that was heard of.
+    /// Returns the greatest ring number that this process has heard of.
     pub fn seq(&self) -> Number
         ensures { result ≡ self.now.seq }
     {
         self.seq
     }
 
-    /// Who is known.
+    /// Returns the processes that are thought of as reachable, with those of them that failed.
     pub fn processes(&self) -> &Processes
         ensures { result.now ≡ self.now.sets.processes }
     {
         &self.sets.processes
     }
 
-    /// Who of these failed.
+    /// Returns those of the processes that are thought to have failed.
     pub fn failed(&self) -> &Processes
         ensures { result.now ≡ self.now.sets.failed }
     {
         &self.sets.failed
     }
 
-    /// My Join.
+    /// Returns the Join that this process broadcasts.
     pub fn join(&self, alloc: Global) -> Result<Join, AllocError>
         ensures { IfOk result (λ told. told ≡ join self.now) }
     {
@@ -155,7 +156,7 @@ impl Gather {
         })
     }
 
-    /// Who would form a ring.
+    /// Returns the processes that would form a ring: all that are known and have not failed.
     pub fn gathered(&self, alloc: Global) -> Result<Processes, AllocError>
         ensures { IfOk result (λ m. m ≡ gathered self.now) }
     {
@@ -174,7 +175,7 @@ impl Gather {
         members.as_slice().iter().all(|proc| self.agrees(*proc))
     }
 
-    /// On whom there is consensus, if there is.
+    /// Returns the processes on which there is consensus, or `None` if there is none yet.
     pub fn consensus(&self, alloc: Global) -> Result<Option<Processes>, AllocError>
         ensures value { IfOk result (λ members. members ≡ consensus self.now) }
         ensures mine { IfOk result (λ members. IfSome members (λ m. IsTrue (has m self.now.me))) }
@@ -198,7 +199,7 @@ impl Gather {
             || self.sets.processes.union_len(&join.processes) > MOST
     }
 
-    /// My sets once a Join was heard.
+    /// Returns the process's own two sets after this Join.
     fn sets_after(&self, alloc: Global, join: &Join) -> Result<Sets, AllocError>
         requires { is_stranger self.now join.now ≡ false }
         ensures value { IfOk result (λ s. s ≡ (after_join self.now join.now).sets) }
@@ -220,7 +221,7 @@ impl Gather {
         })
     }
 
-    /// What is noted once a Join was heard.
+    /// Returns what is noted of each process after this Join.
     fn noted_after(&self, alloc: Global, join: &Join) -> Result<Vec<Noted>, AllocError>
         ensures { IfOk result (λ n. n.items ≡ (after_join self.now join.now).noted) }
     {
@@ -255,7 +256,7 @@ impl Gather {
         })
     }
 
-    /// Takes a Join.
+    /// Takes a Join that has come. `Stranger` if its sender can't be gathered with.
     pub fn on_join(&mut self, alloc: Global, join: &Join) -> Result<GatherOut, MemberFault>
         ensures step { IsStep self.old self.new result (on_join self.old join.now) }
         ensures mine { IfOk result (λ out. IfSome out.members (λ m. IsTrue (has m self.old.me))) }
@@ -270,7 +271,7 @@ impl Gather {
         Ok(GatherOut { again, members })
     }
 
-    /// Those of these processes that don't agree.
+    /// Returns those of these processes that don't agree with this one's sets.
     fn late(&self, alloc: Global, members: &Processes) -> Result<Processes, AllocError>
         ensures { IfOk result (λ late. late ≡ filter (λ p. not (agrees self.now p)) members.now) }
     {
@@ -283,7 +284,7 @@ impl Gather {
         Ok(Processes::of(late))
     }
 
-    /// My sets once those that don't agree are given up.
+    /// Returns the process's own two sets after those that don't agree have been given up.
     fn sets_without_late(&self, alloc: Global) -> Result<Sets, AllocError>
         ensures value { IfOk result (λ s. s ≡ (after_timeout self.now).sets) }
         ensures standing { IfOk result (λ s. IsStanding self.now.me s) }
@@ -308,7 +309,7 @@ impl Gather {
         })
     }
 
-    /// Gives up those that don't agree: each of them has failed.
+    /// Gives up the processes that don't agree, because time has passed: from now on they count as failed.
     pub fn on_timeout(&mut self, alloc: Global) -> Result<GatherOut, MemberFault>
         ensures step { IsStep self.old self.new result (Ok (on_timeout self.old)) }
         ensures mine { IfOk result (λ out. IfSome out.members (λ m. IsTrue (has m self.old.me))) }

@@ -8,13 +8,13 @@ use totem_packets::Processes;
 /// The two sets of a Join.
 #[derive(Debug, Drop)]
 pub struct Sets {
-    /// Who is known.
+    /// All processes that the sender knows.
     pub processes: Processes,
-    /// Who of these failed.
+    /// Those of them that failed.
     pub failed: Processes,
 }
 
-/// What a process told last.
+/// The sets that a process told last.
 #[derive(Debug, Drop)]
 pub struct Noted {
     pub proc: ProcId,
@@ -22,7 +22,7 @@ pub struct Noted {
 }
 
 impl Sets {
-    /// Whether these are the other sets.
+    /// Returns whether the two pairs of sets are equal.
     pub fn are(&self, other: &Sets) -> bool
         ensures { result ≡ same_sets self.now other.now }
     {

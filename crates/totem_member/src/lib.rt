@@ -1,4 +1,4 @@
-//! Membership: who gathers, and the commit token that forms a ring of them.
+//! Membership: which processes gather, and the commit token that forms a ring of them.
 #![tactic(auto)]
 
 mod commit;

@@ -4,7 +4,7 @@ use std::alloc::{AllocError, Global};
 use totem_ids::{ProcId, RingId};
 use totem_packets::{CommitToken, Number, Processes};
 
-/// Where a member stands that may take a commit token.
+/// The state of a member that may take a commit token.
 #[derive(Clone, Copy, Debug, PartialEq, Eq)]
 pub enum Phase {
     Gather,
@@ -12,42 +12,42 @@ pub enum Phase {
     Recovery,
 }
 
-/// What a member shows of itself to a commit token.
+/// What a member shows of itself when a commit token comes.
 #[derive(Debug, Drop)]
 pub struct CommitView {
     pub me: ProcId,
-    /// On whom there is consensus.
+    /// The processes on which there is consensus.
     pub members: Processes,
-    /// The greatest number of a ring that it knows.
+    /// The greatest ring number that it knows.
     pub seq: Number,
     /// The ring of the commit token that it made or filled last since it installed a ring.
     pub filled: Option<RingId>,
     pub phase: Phase,
-    /// Whether it took the first token of the new ring.
+    /// Whether it has taken the first token of the new ring.
     pub started: bool,
 }
 
-/// What a gathering process does next.
+/// What a gathering process has to do next.
 #[derive(Debug, Drop)]
 pub struct GatherOut {
-    /// Tell its Join anew.
+    /// Broadcast its Join anew.
     pub again: bool,
-    /// Form a ring of these: there is consensus on them.
+    /// Form a ring of these processes, on which there is consensus.
     pub members: Option<Processes>,
 }
 
-/// How a commit token was taken.
+/// How a member took a commit token.
 #[derive(Clone, Copy, Debug, PartialEq, Eq)]
 pub enum Act {
-    /// With a report more, it goes to the next member.
+    /// The member has filled in its report, and the token goes to the next member.
     Filled,
-    /// Recovery begins, and it goes to the next member in its second round.
+    /// The member begins its recovery, and the token goes to the next member in its second round.
     Entered,
-    /// It came back, and the first token of the new ring is taken.
+    /// The token has come back after its second round, and the member takes the first token of the new ring.
     Started,
 }
 
-/// A commit token that was taken, as it goes on.
+/// How a member took a commit token, and the token as it goes on.
 #[derive(Debug, Drop)]
 pub struct CommitOut {
     pub act: Act,

@@ -7,14 +7,14 @@ use totem_ids::ProcId;
 /// For whom a packet is.
 #[derive(Clone, Copy, Debug, PartialEq, Eq)]
 pub enum Address {
-    /// Every node but this one, its sender.
+    /// For every node but this one, its sender.
     AllBut(ProcId),
-    /// This node, who may be the sender itself.
+    /// For this node, which may be the sender itself.
     One(ProcId),
 }
 
 impl Address {
-    /// Whether it is for this node.
+    /// Returns whether the packet is for this node.
     pub fn is_for(&self, node: ProcId) -> bool
         ensures { result ≡ is_for self.now node }
     {

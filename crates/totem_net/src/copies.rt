@@ -1,6 +1,6 @@
 //! What becomes of one packet on its way to one receiver.
-/// How many copies of a packet go on to a receiver, none to two, and how many further packets for that receiver the
-/// first and the second have to let by.
+/// The fate of a packet on its way to one receiver: how many copies go on, none to two, and how many further packets
+/// for that receiver the first and the second copy let by.
 #[derive(Clone, Copy, Debug, PartialEq, Eq)]
 pub struct Fate {
     pub copies: u8,

@@ -1,17 +1,17 @@
-//! What a node has still to deal with.
+//! What a node still has to deal with.
 ghost use Rattle.std.specs.Prelude.{◌≡◌};
 ghost use Rattle.totem_net.specs.Debts.{left_of, given_more, one_less};
 
-/// How many of the words that a node was given it has still to deal with.
+/// How many of the words that a node was given it still has to deal with.
 #[derive(Clone, Copy, Debug, PartialEq, Eq)]
 pub enum Debt {
     Words(u64),
-    /// It takes no more words, and nobody waits for it.
+    /// The node takes no more words, and nobody waits for it.
     Gone,
 }
 
 impl Debt {
-    /// How many words there are to wait for.
+    /// Returns how many words there are to wait for.
     pub fn left(&self) -> u64
         ensures { result ≡ left_of self.now }
     {
@@ -21,7 +21,7 @@ impl Debt {
         }
     }
 
-    /// It is given so many more.
+    /// Returns the debt of a node that is given so many words more.
     pub fn given(&self, words: u64) -> Debt
         ensures { result ≡ given_more self.now words }
     {
@@ -31,7 +31,7 @@ impl Debt {
         }
     }
 
-    /// It has dealt with one.
+    /// Returns the debt of a node that has dealt with one word.
     pub fn done(&self) -> Debt
         ensures { result ≡ one_less self.now }
     {

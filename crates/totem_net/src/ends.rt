@@ -8,11 +8,11 @@ use std::alloc::AllocError;
 use std::sync::Wait;
 use totem_ids::ProcId;
 
-/// Where a node's thread puts the packets that the node sends.
+/// Where a thread of a node puts the packets that the node sends.
 #[derive(Drop)]
 pub struct Outlet {
     node: ProcId,
-    /// Whether its thread is given the words of a turn.
+    /// Whether the thread is given the words of a turn.
     of_turn: bool,
     inbound: Sender<Inbound>,
 }
@@ -30,19 +30,19 @@ impl Outlet {
         })
     }
 
-    /// Another outlet of this node.
+    /// Returns another outlet of this node.
     pub fn try_clone(&self) -> Result<Outlet, AllocError> {
         Outlet::new(self.node, self.of_turn, &self.inbound)
     }
 
-    /// Sends an encoded packet to every other node. Once the switch has ended it goes nowhere, which is no error.
+    /// Sends an encoded packet to every other node. Once the switch has ended the packet goes nowhere, which is no error.
     pub fn send_to_all<R: Wait>(&self, rt: &R, packet: Bytes) -> Result<(), AllocError> {
         let address = Address::AllBut(self.node);
         give(rt, &self.inbound, Inbound::Packet { address, packet })
     }
 
-    /// Sends an encoded packet to one node, which may be this one. Once the switch has ended it goes nowhere, which is
-    /// no error.
+    /// Sends an encoded packet to one node, which may be this one. Once the switch has ended the packet goes nowhere,
+    /// which is no error.
     pub fn send_to<R: Wait>(
         &self,
         rt: &R,
@@ -53,7 +53,7 @@ impl Outlet {
         give(rt, &self.inbound, Inbound::Packet { address, packet })
     }
 
-    /// Tells the switch that a word has been dealt with. What came of it goes before.
+    /// Tells the switch that a word has been dealt with. The thread sends what came of the word before it tells.
     pub fn tell_done<R: Wait>(&self, rt: &R) {
         let done = Inbound::Done {
             node: self.node,
@@ -62,21 +62,21 @@ impl Outlet {
         insist(rt, &self.inbound, done);
     }
 
-    /// Tells the switch that a thread of this node takes no more words: from then on no tick waits for this node.
+    /// Tells the switch that a thread of this node takes no more words. From then on no tick waits for this node.
     pub fn tell_gone<R: Wait>(&self, rt: &R) {
         insist(rt, &self.inbound, Inbound::Gone(self.node));
     }
 }
 
-/// What one thread of a node holds: its words, and where it puts packets. Where `words.recv` fails the switch is gone,
-/// which a thread takes for a stop word.
+/// What one thread of a node holds: the words that it is given, and where it puts packets. If `words.recv` fails the
+/// switch is gone, which a thread takes for a stop word.
 #[derive(Drop)]
 pub struct ThreadEnd<W: Drop> {
     pub words: Receiver<W>,
     pub outlet: Outlet,
 }
 
-/// What the three threads of a node hold.
+/// What the three threads of a node hold of the network.
 #[derive(Drop)]
 pub struct NodeEnds {
     pub node: ProcId,

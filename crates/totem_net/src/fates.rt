@@ -13,7 +13,7 @@ use rand_pcg::Pcg32;
 use std::alloc::AllocError;
 use std::marker::Model;
 
-/// The fates that the words of a generator give, in their order.
+/// The fates that the words of a generator give, one after another.
 #[derive(Debug, Drop)]
 pub struct Fates {
     words: Pcg32,
@@ -29,7 +29,7 @@ impl Model for Fates {
 }
 
 impl Fates {
-    /// The fates from a seed on.
+    /// Begins the fates that this seed gives under this plan.
     pub fn new(seed: u64, plan: Plan) -> Fates
         ensures generator { result.generator ≡ begun_with seed }
         ensures plan { result.plan ≡ plan }
@@ -40,7 +40,7 @@ impl Fates {
         }
     }
 
-    /// The same fates, once more.
+    /// Copies the fates: the copy draws the same ones.
     pub fn try_clone(&self) -> Result<Fates, AllocError>
         ensures { IfOk result (λ copy. copy ≡ self.now) }
     {
@@ -50,7 +50,7 @@ impl Fates {
         })
     }
 
-    /// The next one.
+    /// Draws the next fate.
     pub fn next(&mut self) -> Fate
         ensures value { result ≡ fate_of (pcg32 self.old.generator).0 self.old.plan }
         ensures words { self.new.generator ≡ (pcg32 self.old.generator).1 }
@@ -59,7 +59,7 @@ impl Fates {
         fate(self.words.next_word(), self.plan)
     }
 
-    /// The fate behind so many others. It draws them all: each is that of the generator's word of its own number.
+    /// Returns the fate that comes behind `before` others. Draws them all: the n-th fate is that of the generator's n-th word.
     #[tactic(auto, using(crate::proofs::Drawing::word_less, crate::proofs::Drawing::word_last))]
     pub fn nth(seed: u64, plan: Plan, before: u32) -> Fate
         ensures { result ≡ fate_of (word_at before (begun_with seed)) plan }

@@ -19,7 +19,7 @@ fn copies(word: u32, plan: Plan) -> u8
     1
 }
 
-/// The fate that a random word gives under a plan (docs/PROTOCOL.md, "The network").
+/// Returns the fate that a random word gives under a plan (docs/PROTOCOL.md, "The network").
 pub fn fate(word: u32, plan: Plan) -> Fate
     ensures { result ≡ fate_of word plan }
 {

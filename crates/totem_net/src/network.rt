@@ -14,18 +14,18 @@ use crossbeam_channel::unbounded;
 use std::alloc::{AllocError, Global};
 use totem_ids::ProcId;
 
-/// What the threads of a run hold: the switch's, the pacing one, and three for each node.
+/// What the threads of a run hold: that of the switch, the pacing one, and three for each node.
 #[derive(Drop)]
 pub struct Network {
     pub switch: Switch,
     pub pacer: Pacer,
-    /// In rising order of the nodes, which are 1 to their number.
+    /// The ends of the nodes in rising order. The nodes have the numbers from 1 on.
     pub nodes: Vec<NodeEnds>,
 }
 
 impl Network {
-    /// The network of so many nodes, for so many ticks. The first packet is handed on before anything else, to node 1
-    /// and without a fate.
+    /// Makes the network of so many nodes for so many ticks. The switch hands the packet `first` on before anything
+    /// else, to node 1 and without a fate.
     #[tactic(auto, using(crate::proofs::Numbers::ends_more))]
     pub fn new(
         alloc: Global,

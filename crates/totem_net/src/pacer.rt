@@ -1,4 +1,4 @@
-//! The ticks.
+//! The pacing thread, which sends the ticks.
 use crate::sending::insist;
 use crate::words::{Inbound, Pace};
 use crossbeam_channel::{Receiver, Sender};
@@ -16,8 +16,8 @@ impl Pacer {
         Pacer { inbound, paces }
     }
 
-    /// Sends a tick and waits for its answer before the next, until the ticks are used up or the switch is gone. Without
-    /// ticks the switch would wait for ever, so none is given up for want of memory.
+    /// Sends a tick and waits for its answer before the next, until the ticks are used up or the switch is gone. A tick
+    /// that finds no memory is sent again, since without ticks the switch would wait for ever.
     pub fn run<R: Wait>(self, rt: &R) {
         for _ in rt.forever() {
             if !insist(rt, &self.inbound, Inbound::Tick) {

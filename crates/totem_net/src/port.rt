@@ -11,19 +11,19 @@ use std::alloc::{AllocError, Global};
 use std::sync::Wait;
 use totem_ids::{ProcId, Service};
 
-/// The channels to a node's threads, and what it has still to deal with of what it was given.
+/// The channels to a node's threads, and how many of the words that it was given the node still has to deal with.
 #[derive(Drop)]
 pub struct Port {
     packets: Sender<PacketWord>,
     timer: Sender<TimerWord>,
     client: Sender<ClientWord>,
     debt: Debt,
-    /// What of that is of its turns.
+    /// How many of those are words of its turns.
     turn: Debt,
 }
 
 impl Port {
-    /// The port of a node, and what the node's threads hold.
+    /// Makes the port of a node, and the ends that the node's threads hold.
     pub fn new(
         alloc: Global,
         node: ProcId,
@@ -65,7 +65,7 @@ impl Port {
         give(rt, &self.packets, PacketWord::Packet(packet))
     }
 
-    /// The node's turn: a word for its timer thread, and one for its client thread.
+    /// Gives the node its turn: a word for its timer thread, and one for its client thread.
     pub fn take_turn<R: Wait>(&mut self, rt: &R, service: Service) -> Result<(), AllocError> {
         self.debt = self.debt.given(2);
         self.turn = self.turn.given(2);
@@ -73,17 +73,17 @@ impl Port {
         give(rt, &self.client, ClientWord::Submit(service))
     }
 
-    /// How many words there are to wait for.
+    /// Returns how many words there are to wait for.
     pub fn left(&self) -> u64 {
         self.debt.left()
     }
 
-    /// Whether there are words of a turn among them.
+    /// Returns whether words of a turn are among them.
     pub fn has_turn(&self) -> bool {
         self.turn.left() > 0
     }
 
-    /// The node has dealt with one.
+    /// Notes that the node has dealt with one word.
     pub fn done(&mut self, of_turn: bool) {
         self.debt = self.debt.done();
         if of_turn {
@@ -91,13 +91,13 @@ impl Port {
         }
     }
 
-    /// The node takes no more words.
+    /// Notes that the node takes no more words.
     pub fn gone(&mut self) {
         self.debt = Debt::Gone;
         self.turn = Debt::Gone;
     }
 
-    /// A stop word for each thread. A thread that can't be sent one, for want of memory, sees the channel's end.
+    /// Gives each thread a stop word. A thread that can't be sent one, for want of memory, sees its channel end.
     pub fn stop<R: Wait>(self, rt: &R) {
         let _ = give(rt, &self.packets, PacketWord::Stop);
         let _ = give(rt, &self.timer, TimerWord::Stop);

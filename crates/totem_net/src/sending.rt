@@ -4,7 +4,7 @@ use std::alloc::AllocError;
 use std::sync::Wait;
 use std::thread;
 
-/// Sends a word. Where nobody listens any more it is dropped, which is no error.
+/// Sends a word. If nobody listens any more it is dropped, which is no error.
 pub fn give<T: Drop, R: Wait>(rt: &R, to: &Sender<T>, word: T) -> Result<(), AllocError> {
     match to.send(rt, word) {
         Err(SendError::OutOfMemory(_)) => Err(AllocError),
@@ -12,7 +12,7 @@ pub fn give<T: Drop, R: Wait>(rt: &R, to: &Sender<T>, word: T) -> Result<(), All
     }
 }
 
-/// Sends a word for which others wait, and says whether somebody listens. One that finds no memory is sent again.
+/// Sends a word for which others wait, and tries again as long as memory is refused. Returns whether somebody listens.
 pub fn insist<T: Drop, R: Wait>(rt: &R, to: &Sender<T>, word: T) -> bool {
     let mut word = word;
     for _ in rt.forever() {

@@ -1,12 +1,12 @@
-//! What is told of the threads of a run.
+//! Who is told that the nodes of a run begin.
 use totem_ids::ProcId;
 
-/// Is told of each node, by its receiving thread, before that thread receives.
+/// Is told that a node begins, by the node's receiving thread before that thread receives.
 pub trait Start: Sync {
     fn begun(&self, node: ProcId);
 }
 
-/// Does nothing when a node begins.
+/// A `Start` that does nothing when a node begins.
 #[derive(Clone, Copy, Debug, PartialEq, Eq)]
 pub struct Quiet;
 

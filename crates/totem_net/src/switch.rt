@@ -13,13 +13,13 @@ use std::alloc::{AllocError, Global};
 use std::sync::Wait;
 use totem_ids::ProcId;
 
-/// What the switch's thread holds (docs/PROTOCOL.md, "The network"). Where it is dropped and not run, each thread of
+/// What the switch's thread holds (docs/PROTOCOL.md, "The network"). If it is dropped without being run, each thread of
 /// the network sees its channel end.
 #[derive(Drop)]
 pub struct Switch {
     pub(crate) inbound: Receiver<Inbound>,
     pub(crate) paces: Sender<Pace>,
-    /// In rising order of their nodes.
+    /// The ports of the nodes, in rising order.
     pub(crate) ports: Vec<Port>,
     pub(crate) ways: Ways,
     pub(crate) turns: Turns,
@@ -27,25 +27,25 @@ pub struct Switch {
     pub(crate) in_pace: bool,
     /// Whether the pacing thread waits for an answer.
     pub(crate) asked: bool,
-    /// With how many words the nodes have still to deal before the next tick comes.
+    /// How many words the nodes have to deal with before the next tick comes.
     pub(crate) awaited: u64,
-    /// What is handed on before anything else, to the first node.
+    /// The packet that is handed on before anything else, to the first node.
     pub(crate) first: Bytes,
 }
 
-/// How many words a node may have to deal with where ticks wait for it: a packet that finds so many is lost.
+/// How many words a node may still have to deal with when ticks wait for the nodes. A packet for a node that has so many is lost.
 const ROOM: u64 = 64;
 
 impl Switch {
-    /// Hands packets on and gives words, until the ticks are used up or nobody sends any more; then each thread is
-    /// given a stop word. At want of memory it stops them at once. Each tick is answered at once.
+    /// Hands packets on and gives words, until the ticks are used up or nobody sends any more; then gives each thread a
+    /// stop word. Answers each tick at once. If memory is refused it stops the threads at once.
     pub fn run<R: Wait>(self, rt: &R, alloc: Global) -> Result<(), AllocError> {
         self.run_to_end(rt, alloc)
     }
 
-    /// Does the same in pace with the nodes: a tick comes when they have dealt with as many words as they had to deal with
-    /// at the one before, or with as many as there are nodes, and with all those of a turn. Each of their threads tells of
-    /// each word that it has dealt with, and that its node is gone where it ends before its stop word.
+    /// Does the same in pace with the nodes (docs/PROTOCOL.md, "The network"). A tick comes once they have dealt with as many words
+    /// as they had left at the tick before, though with no more than there are nodes, and with all words of a turn. Each thread of
+    /// a node has to tell of each word that it has dealt with, and that its node is gone if it ends before its stop word.
     pub fn run_in_pace<R: Wait>(mut self, rt: &R, alloc: Global) -> Result<(), AllocError> {
         self.in_pace = true;
         self.run_to_end(rt, alloc)
@@ -86,7 +86,7 @@ impl Switch {
         Ok(())
     }
 
-    /// The first packet, without a fate.
+    /// Hands the first packet on, without a fate.
     fn begin<R: Wait>(&mut self, rt: &R) -> Result<(), AllocError> {
         let first = self.first.clone()?;
         match self.ports.first_mut() {
@@ -95,7 +95,7 @@ impl Switch {
         }
     }
 
-    /// One packet: what the ways hand on goes to the receiving threads.
+    /// Takes a packet, and hands what the ways make of it to the receiving threads.
     fn carry<R: Wait>(
         &mut self,
         rt: &R,
@@ -109,7 +109,7 @@ impl Switch {
         Ok(())
     }
 
-    /// In pace a packet that finds no room is lost.
+    /// Hands a packet on. In pace, one for a node that has no room for it is lost.
     fn hand_on<R: Wait>(&mut self, rt: &R, delivery: Delivery) -> Result<(), AllocError> {
         let room = if self.in_pace { ROOM } else { u64::MAX };
         match self.port(delivery.to) {
@@ -122,7 +122,7 @@ impl Switch {
         self.ports.get_mut(usize::from(node.number() - 1))
     }
 
-    /// Whether a tick comes. Where the nodes have nothing left to deal with, the pacing thread's word brings it.
+    /// Returns whether a tick comes. If the nodes have nothing left to deal with, the pacing thread's word brings it.
     fn is_due(&self) -> bool {
         if self.in_pace {
             return self.awaited == 0 && !self.has_turn() && (self.asked || self.left() > 0);
@@ -130,12 +130,12 @@ impl Switch {
         self.asked
     }
 
-    /// Whether a node has still to deal with words of its turn.
+    /// Returns whether a node still has to deal with words of its turn.
     fn has_turn(&self) -> bool {
         self.ports.iter().any(|port| port.has_turn())
     }
 
-    /// One tick: whose turn it is has a turn, and the pacing thread an answer.
+    /// Lets a tick pass: gives a node the turn that it brings, if any, and the pacing thread its answer.
     fn tick<R: Wait>(&mut self, rt: &R) -> Result<(), AllocError> {
         if let Some(turn) = self.turns.tick() {
             self.give_turn(rt, turn)?;
@@ -146,13 +146,13 @@ impl Switch {
         self.answer(rt)
     }
 
-    /// How many words the nodes have still to deal with.
+    /// Returns how many words the nodes still have to deal with.
     fn left(&self) -> u64 {
         let ports = self.ports.iter();
         ports.fold(0u64, |left, port| left.saturating_add(port.left()))
     }
 
-    /// A node has dealt with a word. Where it is gone nobody waited for that.
+    /// Notes that a node has dealt with a word. If the node is gone nothing changes, since nobody waited for that word.
     fn note_done(&mut self, node: ProcId, of_turn: bool) {
         let Some(port) = self.port(node) else {
             return;
@@ -170,7 +170,7 @@ impl Switch {
         self.awaited = self.awaited.min(self.left());
     }
 
-    /// Answers the pacing thread, where it waits for that.
+    /// Answers the pacing thread, if that waits for an answer.
     fn answer<R: Wait>(&mut self, rt: &R) -> Result<(), AllocError> {
         if !self.asked {
             return Ok(());

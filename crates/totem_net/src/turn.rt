@@ -1,4 +1,4 @@
-//! Whose turn it is at which tick.
+//! The turn of a node, which a tick brings.
 use totem_ids::{ProcId, Service};
 
 /// A node's turn: its timer runs out, and its client submits a message of this service.

@@ -6,10 +6,10 @@ use crate::turn::Turn;
 use std::marker::Model;
 use totem_ids::{ProcId, Service};
 
-/// How many ticks bring one turn.
+/// How many ticks there are to each turn.
 const TICKS_OF_A_TURN: u32 = 8;
 
-/// The ticks of a run of so many nodes, numbered from 1. Every eighth brings a turn.
+/// The ticks of a run with so many nodes, numbered from 1. Every eighth tick brings a turn.
 #[derive(Debug, Drop)]
 pub struct Turns {
     nodes: u16,
@@ -29,7 +29,7 @@ impl Model for Turns {
 }
 
 impl Turns {
-    /// Before the first of so many ticks.
+    /// Returns the state before the first of so many ticks.
     pub fn new(nodes: u16, ticks: u32) -> Turns
         requires { 0 < nodes }
         ensures nodes { result.nodes ≡ nodes }
@@ -43,7 +43,7 @@ impl Turns {
         }
     }
 
-    /// Whether the ticks are used up.
+    /// Returns whether the ticks are used up.
     pub fn are_over(&self) -> bool
         ensures { IsTrue result ↔ (self.now.passed ≡ self.now.ticks) }
     {
@@ -74,7 +74,7 @@ impl Turns {
         Some(self.nth((tick / TICKS_OF_A_TURN).saturating_sub(1)))
     }
 
-    /// The next tick, and whose turn it brings. When they are used up there is none, and nothing changes.
+    /// Lets the next tick pass, and returns the turn that it brings, if it brings one. If the ticks are used up, nothing changes.
     pub fn tick(&mut self) -> Option<Turn>
         ensures turn { result ≡ next_turn self.old }
         ensures count { self.new ≡ ticked self.old }

@@ -1,4 +1,4 @@
-//! The ways to all nodes.
+//! The ways of packets to all nodes.
 ghost use Rattle.std.specs.Prelude.{◌≡◌, ◌++◌, ◌<◌, ◌^◌, [], ◌+◌, length, IfOk, OnOk, OnErr, replicate};
 ghost use Rattle.totem_net.specs.Ways.{deliveries, handed_at, past, all_handed, all_held, past_all};
 ghost use Rattle.totem_net.specs.Settling.{changed_at, all_changed, settled};
@@ -13,7 +13,7 @@ use std::collections::VecDeque;
 use std::marker::Model;
 use totem_ids::ProcId;
 
-/// The ways to the nodes, which are 1 to their number, and the fates to come.
+/// The ways to the nodes, which have the numbers from 1 on, and the fates to come.
 #[derive(Debug, Drop)]
 pub struct Ways {
     wires: Vec<Wire>,
@@ -31,7 +31,7 @@ impl Model for Ways {
     ghost invariant = { λ w. length w.wires.items < 2 ^ 16 };
 }
 
-/// What a packet does: what is handed on, the ways that it changes, in rising order, and the fates to come.
+/// What a packet does: the deliveries that it causes, the ways that it changes, in rising order, and the fates to come.
 #[derive(Debug, Drop)]
 struct Effects {
     handed: Vec<Delivery>,
@@ -49,7 +49,7 @@ fn deliver(out: &mut Vec<Delivery>, to: ProcId, packets: Vec<Bytes>) -> Result<(
 }
 
 impl Effects {
-    /// The packet comes to a node's way, and passes it if it is for that node.
+    /// Lets the packet come to the way of a node. It passes that way if it is for the node.
     fn pass(
         &mut self,
         alloc: Global,
@@ -73,7 +73,7 @@ impl Effects {
 }
 
 impl Ways {
-    /// Ways on which nothing is held, to so many nodes.
+    /// Makes the ways to so many nodes, with nothing held on them.
     pub fn new(alloc: Global, nodes: u16, fates: Fates) -> Result<Ways, AllocError>
         ensures held { IfOk result (λ ways. ways.held ≡ replicate nodes []) }
         ensures fates { IfOk result (λ ways. ways.to_come ≡ fates) }
@@ -123,7 +123,8 @@ impl Ways {
         handed
     }
 
-    /// A packet goes to each node that it is for, in rising order, with a fate for each. Answers what is handed on.
+    /// Sends a packet to each node that it is for, in rising order, with a fate for each. Returns what is handed on. If
+    /// memory is refused, nothing changes.
     #[tactic(auto, using(crate::proofs::Walking::settled_of_changed))]
     pub fn carry(
         &mut self,

@@ -1,4 +1,4 @@
-//! The way to one receiver.
+//! The way of packets to one receiver.
 ghost use Rattle.std.specs.Prelude.{◌≡◌, ◌++◌, [], IfOk, OnOk};
 ghost use Rattle.totem_net.specs.Wires.{copies_made, due, kept, handed_on, still_held};
 
@@ -23,12 +23,12 @@ impl Model for Wire {
     ghost view = { λ w. w.held.items };
 }
 
-/// What a packet that arrives makes of a way.
+/// What comes of a packet that arrives on a way.
 #[derive(Debug, Drop)]
 pub struct Passage {
-    /// What is handed on to the receiver, in order.
+    /// The packets that are handed on to the receiver, in order.
     pub handed: Vec<Bytes>,
-    /// The way, as it is then.
+    /// The way as it is then.
     pub wire: Wire,
 }
 
@@ -70,7 +70,7 @@ fn keep(held: &mut Vec<HeldCopy>, copies: &[HeldCopy], passed: u8) -> Result<(),
 }
 
 impl Wire {
-    /// A way on which nothing is held.
+    /// Makes a way on which nothing is held.
     pub fn new(alloc: Global) -> Wire
         ensures { result ≡ [] }
     {
@@ -79,8 +79,8 @@ impl Wire {
         }
     }
 
-    /// A packet arrives with its fate. Its own copies that are not held go first, then the held ones that come due, in
-    /// the order in which they came.
+    /// Lets a packet arrive with its fate. First its own copies that are not held are handed on, then the held copies
+    /// that come due, in the order in which they came.
     pub fn pass(&self, alloc: Global, packet: &Bytes, fate: Fate) -> Result<Passage, AllocError>
         ensures handed { IfOk result (λ passage. passage.handed.items ≡ handed_on fate packet.now self.now) }
         ensures held { IfOk result (λ passage. passage.wire ≡ still_held fate packet.now self.now) }

@@ -3,20 +3,20 @@ use crate::address::Address;
 use bytes::Bytes;
 use totem_ids::{ProcId, Service};
 
-/// What comes to the switch, over its one inbound channel.
+/// What comes to the switch over its one inbound channel.
 #[derive(Debug, Drop)]
 pub enum Inbound {
     /// An encoded packet that a node sends.
     Packet { address: Address, packet: Bytes },
-    /// The pacing thread's tick. The switch answers it by a `Pace`.
+    /// A tick of the pacing thread, which the switch answers by a `Pace`.
     Tick,
-    /// This node has dealt with a word, one of its turn or a packet, and what came of it was sent before.
+    /// This node has dealt with a word, of its turn or a packet, and has sent what came of it before.
     Done { node: ProcId, of_turn: bool },
-    /// This node takes no more words, or not of each kind.
+    /// This node takes no more words, at least of one kind.
     Gone(ProcId),
 }
 
-/// What the switch answers to a tick.
+/// How the switch answers a tick.
 #[derive(Clone, Copy, Debug, PartialEq, Eq)]
 pub enum Pace {
     /// Another tick may come.

@@ -1,4 +1,4 @@
-//! What clients ask for, and the crash.
+//! What a client asks for, and the crash.
 ghost use Rattle.std.specs.Prelude.{◌≡◌, Ok, Err, IfSome};
 ghost use Rattle.totem_node.specs.Table.{on_submit, on_crash};
 ghost use Rattle.totem_node.specs.Lean.{submit_refused_at_once};
@@ -14,11 +14,11 @@ use totem_ids::{ConfId, Service};
 use totem_packets::{Body, Payload};
 use totem_ring::MOST_WAITING;
 
-/// How many bytes a payload may have.
+/// How many bytes a payload may have at most.
 const LONGEST: usize = 1024;
 
 impl NodeCore {
-    /// A client's message waits for the next visit.
+    /// Lets a client's message wait for the next visit. `Range` if its payload is too long, `Full` if 16 messages wait.
     pub(crate) fn on_submit(
         &mut self,
         alloc: Global,
@@ -41,7 +41,7 @@ impl NodeCore {
         Ok(StepOut::sending(alloc, Vec::new(alloc)))
     }
 
-    /// It fails in the configuration of its last change.
+    /// Lets the node fail in the configuration of its last change.
     pub(crate) fn on_crash(&mut self, alloc: Global) -> Result<StepOut, NodeFault>
         ensures { IsStep self.old self.new result (Ok (on_crash self.old)) }
     {

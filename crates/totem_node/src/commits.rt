@@ -1,4 +1,4 @@
-//! Commit tokens that come.
+//! How a node takes commit tokens.
 ghost use Rattle.std.specs.Prelude.{◌≡◌, ◌<◌, length, Err, IfOk, IfSome};
 ghost use Rattle.totem_packets.specs.declared.packet.Packet.TheVariants as packet;
 ghost use Rattle.totem_recover.specs.Exchange.{IsReady};
@@ -19,7 +19,7 @@ use totem_recover::Recovery;
 use totem_ring::RingState;
 
 impl NodeCore {
-    /// With its report more, the token goes on, and the node waits for it.
+    /// Returns the turn in which the node fills in its report, passes the token on and waits for it in Commit.
     fn filling(
         &self,
         alloc: Global,
@@ -40,7 +40,7 @@ impl NodeCore {
         })
     }
 
-    /// A member of the token's ring that recovers.
+    /// Returns the recovery that begins with this token, on the new ring as it has just begun.
     fn recovering(
         &self,
         alloc: Global,
@@ -60,7 +60,7 @@ impl NodeCore {
         })
     }
 
-    /// The node is a member of the new ring, and recovers.
+    /// Returns the turn in which the node becomes a member of the new ring and recovers.
     fn entering(
         &self,
         alloc: Global,
@@ -82,8 +82,8 @@ impl NodeCore {
         })
     }
 
-    /// A node that gathers, waits for the token or recovers takes it; there is no turn where the first token of the new ring is to
-    /// be taken.
+    /// Lets a node that gathers, commits or recovers take a commit token. Returns no turn where the first token of the
+    /// new ring is to be taken.
     fn commit_taken(
         &self,
         alloc: Global,
@@ -104,7 +104,7 @@ impl NodeCore {
         }
     }
 
-    /// A commit token has come; there is no turn where the first token of the new ring is to be taken.
+    /// Takes a commit token that has come. Returns no turn where the first token of the new ring is to be taken.
     pub(crate) fn on_commit(
         &self,
         alloc: Global,

@@ -1,4 +1,4 @@
-//! To gather, and what comes at consensus.
+//! How a node comes to gather, and what it does at consensus (docs/PROTOCOL.md, "The node").
 ghost use Rattle.std.specs.Prelude.{◌≡◌, ◌∷◌, [], IfOk, IsTrue};
 ghost use Rattle.std.specs.Option.{option_copied, option_to_list};
 ghost use Rattle.totem_packets.specs.Sets.{is_least, union};
@@ -18,14 +18,14 @@ use totem_member::{Gather, Phase, first_commit};
 use totem_packets::{CommitToken, Join, Number, Packet, Processes, SetFault};
 use totem_ring::To;
 
-/// The gathering's Join, for all.
+/// Returns the gathering's Join as a broadcast.
 pub fn join_broadcast(alloc: Global, gather: &Gather) -> Result<(To, Packet), AllocError>
     ensures { IfOk result (λ sending. sending ≡ join_broadcast gather.now) }
 {
     Ok((To::All, Packet::Join(gather.join(alloc)?)))
 }
 
-/// The commit token, for the next of its members.
+/// Returns the commit token on its way to the next of its members.
 pub fn commit_passed_on(
     alloc: Global,
     me: ProcId,
@@ -37,7 +37,7 @@ pub fn commit_passed_on(
     Ok((To::One(next), Packet::Commit(token)))
 }
 
-/// The Gather takes the Join that caused it, if any.
+/// Lets the gathering take the Join that caused it, if one did.
 fn taking(alloc: Global, mut gather: Gather, cause: Option<&Join>) -> Result<Gather, NodeFault>
     ensures { Gives result (taking gather (option_copied cause.entry)) }
 {
@@ -47,7 +47,7 @@ fn taking(alloc: Global, mut gather: Gather, cause: Option<&Join>) -> Result<Gat
     Ok(gather)
 }
 
-/// These processes as a set; more than 32 are too many.
+/// Returns these processes as a set. `TooMany` if they are more than 32.
 fn set_of(alloc: Global, procs: &[ProcId]) -> Result<Processes, SetFault>
     ensures { MakesBase result (set_of procs.now) }
 {
@@ -61,7 +61,7 @@ fn set_of(alloc: Global, procs: &[ProcId]) -> Result<Processes, SetFault>
     Ok(set)
 }
 
-/// One process more.
+/// Returns the set with one process more.
 fn with_one(alloc: Global, set: Processes, proc: ProcId) -> Result<Processes, SetFault>
     ensures { MakesBase result (union set (proc ∷ [])) }
 {
@@ -71,7 +71,7 @@ fn with_one(alloc: Global, set: Processes, proc: ProcId) -> Result<Processes, Se
     }
 }
 
-/// These and the gathered processes.
+/// Returns the set with the processes that the gathering would form a ring of.
 fn union(alloc: Global, set: Processes, gather: &Gather) -> Result<Processes, SetFault>
     ensures { MakesBase result (union set (gathered gather.now)) }
 {
@@ -83,7 +83,7 @@ fn union(alloc: Global, set: Processes, gather: &Gather) -> Result<Processes, Se
 }
 
 impl NodeCore {
-    /// The least member makes the commit token and sends it on.
+    /// Returns the turn in which the least member makes the commit token and sends it on.
     fn commit_begun(
         &self,
         alloc: Global,
@@ -107,7 +107,7 @@ impl NodeCore {
         })
     }
 
-    /// State Commit.
+    /// Returns the turn to Commit, in which the least member makes the commit token.
     fn at_consensus(
         &self,
         alloc: Global,
@@ -128,7 +128,7 @@ impl NodeCore {
         })
     }
 
-    /// The node gathers on with this count of timers, unless there is consensus.
+    /// Returns the turn to Commit if there is consensus, and otherwise one that goes on in Gather with this count of timers.
     pub(crate) fn look_at_consensus(
         &self,
         alloc: Global,
@@ -151,7 +151,7 @@ impl NodeCore {
         })
     }
 
-    /// The members of its installed ring, and this process.
+    /// Returns the members of the installed ring, and `extra` with them.
     fn known_with(&self, alloc: Global, extra: Option<ProcId>) -> Result<Processes, SetFault>
         ensures { MakesBase result (union (set_of self.now.installed.members) (option_to_list extra)) }
     {
@@ -165,7 +165,8 @@ impl NodeCore {
         }
     }
 
-    /// Whom the node knows of: its installed ring, this process, and M.
+    /// Returns the processes with which a new gathering begins: the members of the installed ring, `extra`, and in
+    /// Commit and Recovery also M.
     fn gather_base(&self, alloc: Global, extra: Option<ProcId>) -> Result<Processes, SetFault>
         ensures { MakesBase result (gather_base self.now (option_to_list extra)) }
     {
@@ -181,7 +182,8 @@ impl NodeCore {
         }
     }
 
-    /// The new Gather takes the Join, the Join is broadcast once, consensus is looked at.
+    /// Returns the turn with a new gathering: it takes the Join that caused it, its own Join is broadcast once, and
+    /// consensus is looked at.
     fn gathering_anew(
         &self,
         alloc: Global,
@@ -197,7 +199,7 @@ impl NodeCore {
         self.look_at_consensus(alloc, 0, gather, members, packets)
     }
 
-    /// The new Gather.
+    /// Begins a new gathering, with `extra` if that is given.
     fn new_gather(&self, alloc: Global, extra: Option<ProcId>) -> Result<Gather, NodeFault>
         ensures { Gives result (gather_begun self.now (option_to_list extra)) }
     {
@@ -211,7 +213,7 @@ impl NodeCore {
         }
     }
 
-    /// To gather, with this process and because of this Join, if there are any.
+    /// Returns the turn *to gather*, with the process `extra` and because of the Join `cause`, if they are given.
     pub(crate) fn to_gather(
         &self,
         alloc: Global,

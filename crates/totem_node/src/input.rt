@@ -9,18 +9,18 @@ use totem_packets::Packet;
 /// What may happen to a node.
 #[derive(Debug, Drop)]
 pub enum Input {
-    /// A client asks it to send this, of at most 1,024 bytes.
+    /// A client asks the node to send this payload of at most 1,024 bytes.
     Submit { service: Service, payload: Bytes },
     /// A packet has come.
     Packet(Packet),
-    /// Its timer has run out.
+    /// The node's timer has run out.
     Timer,
-    /// It fails.
+    /// The node fails.
     Crash,
 }
 
 impl Input {
-    /// A copy; it shares the bytes of a client's message.
+    /// Copies the input. The copy shares the bytes of a client's message.
     pub fn try_clone(&self, alloc: Global) -> Result<Input, AllocError>
         ensures { IfOk result (λ input. input ≡ self.now) }
     {

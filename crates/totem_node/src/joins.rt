@@ -1,4 +1,4 @@
-//! Joins that come.
+//! How a node takes Joins.
 ghost use Rattle.std.specs.Prelude.{◌≡◌, ◌&&◌, Err, IfSome};
 ghost use Rattle.totem_packets.specs.declared.packet.Packet.TheVariants as packet;
 ghost use Rattle.totem_packets.specs.Sets.{has, is_within};
@@ -17,14 +17,14 @@ use totem_ids::ProcId;
 use totem_member::Gather;
 use totem_packets::Join;
 
-/// Whether the process is one of these.
+/// Returns whether the process is one of these.
 pub fn is_among(procs: &[ProcId], proc: ProcId) -> bool
     ensures { result ≡ has procs.now proc }
 {
     procs.iter().any(|q| *q == proc)
 }
 
-/// Whether the process is one of the gathered ones.
+/// Returns whether the process is in M: known to the gathering, and not failed.
 #[tactic(auto, using(crate::proofs::Gathered::has_without))]
 fn is_gathered(gather: &Gather, proc: ProcId) -> bool
     ensures { result ≡ has (gathered gather.now) proc }
@@ -32,15 +32,15 @@ fn is_gathered(gather: &Gather, proc: ProcId) -> bool
     gather.processes().contains(proc) && !gather.failed().contains(proc)
 }
 
-/// Whether both sets of the Join are within the gathering's.
+/// Returns whether both sets of the Join are within those of the gathering.
 fn is_known(gather: &Gather, join: &Join) -> bool
     ensures { result ≡ (is_within join.now.processes gather.now.sets.processes && is_within join.now.failed gather.now.sets.failed) }
 {
     join.processes.is_within(gather.processes()) && join.failed.is_within(gather.failed())
 }
 
-/// Whether a Join says no more than the gathering knows: its sender is in M, its sets are within the Gather's, and its number
-/// is not above the Gather's.
+/// Returns whether the Join says nothing new: its sender is in M, its sets are within those of the gathering, and its
+/// number is not above the gathering's.
 fn says_nothing_new(gather: &Gather, join: &Join) -> bool
     ensures { result ≡ says_nothing_new gather.now join.now }
 {
@@ -50,7 +50,7 @@ fn says_nothing_new(gather: &Gather, join: &Join) -> bool
 }
 
 impl NodeCore {
-    /// Whether the Join was sent before its sender entered the installed ring.
+    /// Returns whether the Join was sent before its sender entered the installed ring.
     fn is_late(&self, join: &Join) -> bool
         ensures { result ≡ is_late self.now join.now }
     {
@@ -59,7 +59,7 @@ impl NodeCore {
             && join.seq.get() < self.installed.ring().seq
     }
 
-    /// In Gather.
+    /// Takes a Join in Gather.
     fn join_in_gather(&self, alloc: Global, gather: &Gather, join: &Join) -> Result<Turn, NodeFault>
         ensures { IsTurn result self.now (join_in_gather self.now gather.now join.now) }
     {
@@ -72,7 +72,7 @@ impl NodeCore {
         self.look_at_consensus(alloc, self.quiet, next, out.members, packets)
     }
 
-    /// In Commit and Recovery.
+    /// Takes a Join in Commit or Recovery.
     fn join_in_commit(&self, alloc: Global, gather: &Gather, join: &Join) -> Result<Turn, NodeFault>
         ensures turn { IsTurn result self.now (join_in_commit self.now gather.now join.now) }
         ensures at_once { IfSome (refused_as_known gather.now join.now) (λ fault. result ≡ Err fault) }
@@ -83,7 +83,7 @@ impl NodeCore {
         self.to_gather(alloc, None, Some(join))
     }
 
-    /// A Join has come.
+    /// Takes a Join that has come, and returns the turn that comes of it.
     pub(crate) fn on_join(&self, alloc: Global, join: &Join) -> Result<Turn, NodeFault>
         ensures turn { IsTurn result self.now (on_packet self.now (packet.Join join.now)) }
         ensures at_once { IfSome (join_refused_at_once self.now join.now) (λ fault. result ≡ Err fault) }

@@ -1,4 +1,4 @@
-//! Visits of a new ring, and the finish: the old ring is left, and the new one installed.
+//! Visits of a new ring, and the finish, with which the old ring is left and the new one installed.
 ghost use Rattle.std.specs.Prelude.{◌≡◌, ◌++◌, Err, IfOk, IfSome, OnOk, filter, nat_le, nat_lt};
 ghost use Rattle.totem_recover.specs.Finish.{deliveries};
 ghost use Rattle.totem_ring.specs.Refusals.{refusal_at_once};
@@ -24,7 +24,7 @@ use totem_packets::{Message, Processes, Token};
 use totem_recover::{Recovery, deliver};
 use totem_ring::{RingOut, RingState};
 
-/// Writes the deliveries of those messages whose number is at most `last`.
+/// Appends the deliveries of those messages whose number is at most `last`.
 fn write_up_to(
     entries: &mut Vec<Entry>,
     conf: &ConfId,
@@ -41,7 +41,7 @@ fn write_up_to(
     Ok(())
 }
 
-/// Writes the deliveries of those messages whose number is above `last`.
+/// Appends the deliveries of those messages whose number is above `last`.
 fn write_above(
     entries: &mut Vec<Entry>,
     conf: &ConfId,
@@ -68,7 +68,7 @@ fn append(entries: &mut Vec<Entry>, more: Vec<Entry>) -> Result<(), AllocError>
     Ok(())
 }
 
-/// What stands before the last mark, the finish, and what stands behind it.
+/// Returns what is handed up before the last mark as deliveries, then the finish, then what is handed up behind the mark.
 fn finishing_entries(
     alloc: Global,
     recovery: &Recovery,
@@ -87,7 +87,7 @@ fn finishing_entries(
     Ok(entries)
 }
 
-/// What is written of a visit that left the new ring so, and handed these messages up.
+/// Returns the entries of a visit that left the new ring in this state and handed these messages up.
 fn visit_entries(
     alloc: Global,
     recovery: &Recovery,
@@ -105,7 +105,7 @@ fn visit_entries(
     Ok(entries)
 }
 
-/// A visit of the new ring: what it gave, what is written of it, and to whom messages are owed after it.
+/// A visit of the new ring: what it gave, which entries are written of it, and to whom the node owes messages after it.
 #[derive(Debug, Drop)]
 pub struct NewVisit {
     out: RingOut,
@@ -115,7 +115,7 @@ pub struct NewVisit {
 }
 
 impl NewVisit {
-    /// What was taken, with what is written of it, and to whom messages are owed after it.
+    /// Makes this value of what the ring gave, with what is written of it.
     fn of(
         alloc: Global,
         recovery: &Recovery,
@@ -134,7 +134,7 @@ impl NewVisit {
     }
 }
 
-/// The new ring's token has come: the next bodies of the list are given to the ring before the visit.
+/// Takes the new ring's token. Before the visit the ring is given the next bodies of the list to send.
 #[tactic(auto, using(crate::proofs::Refusing::token_refused))]
 fn take_visit(
     alloc: Global,
@@ -161,7 +161,7 @@ fn take_visit(
 }
 
 impl NodeCore {
-    /// The new ring is installed.
+    /// Installs the new ring.
     fn install(&mut self, alloc: Global, ring: RingState)
         ensures { self.new ≡ installing self.old ring }
     {
@@ -171,7 +171,7 @@ impl NodeCore {
         self.filled = None;
     }
 
-    /// The recovery goes on, with its first token taken or not.
+    /// Goes on with the recovery. `started` says whether the new ring's first token was taken here.
     fn go_on(&mut self, mut x: Recovering, started: bool, obligation: Processes)
         ensures { self.new ≡ record self.old { state = InRecovery (starting_as x started); obligation = obligation } }
     {
@@ -180,7 +180,7 @@ impl NodeCore {
         self.obligation = obligation;
     }
 
-    /// The visit is noted: the recovery goes on, or every member's mark is handed up and the new ring is installed.
+    /// Notes the visit. Once every member's mark is handed up, installs the new ring; otherwise goes on with the recovery.
     fn note_visit(
         &mut self,
         alloc: Global,
@@ -215,8 +215,8 @@ impl NodeCore {
         told
     }
 
-    /// The new ring's token has come. The recovery was taken out of the state; `started` says whether its first token was taken
-    /// here, once this one is.
+    /// Takes the new ring's token. The caller has taken the recovery out of the state. `started` says whether, with
+    /// this token, the ring's first token has been taken here.
     pub(crate) fn visit_new(
         &mut self,
         alloc: Global,

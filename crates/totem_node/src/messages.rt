@@ -1,4 +1,4 @@
-//! Messages that come.
+//! How a node takes messages.
 ghost use Rattle.std.specs.Prelude.{◌≡◌, Err, IfOk, IfSome};
 ghost use Rattle.totem_ids.specs.declared.conf.ConfId.TheVariants.{Regular};
 ghost use Rattle.totem_recover.specs.Finish.{deliveries};
@@ -19,7 +19,7 @@ use std::mem;
 use totem_packets::Message;
 use totem_ring::{RingOut, RingState, is_same_ring};
 
-/// What a node tells of a message that a ring took.
+/// Returns what a node tells of a message that a ring took.
 pub fn tell(
     alloc: Global,
     ring: &RingState,
@@ -37,7 +37,7 @@ pub fn tell(
     })
 }
 
-/// A message comes to a ring.
+/// Lets a ring take a message that has come.
 fn take_message(alloc: Global, ring: &mut RingState, message: Message) -> Result<StepOut, NodeFault>
     ensures told { IsTold ring.old ring.new result (message_told ring.old message) }
     ensures at_once { IfSome (refused_by ring.old message) (λ fault. result ≡ Err fault) }
@@ -53,7 +53,7 @@ fn take_message(alloc: Global, ring: &mut RingState, message: Message) -> Result
 }
 
 impl NodeCore {
-    /// A message of the installed ring has come.
+    /// Takes a message of the installed ring.
     pub(crate) fn message_on_installed(
         &mut self,
         alloc: Global,
@@ -65,7 +65,7 @@ impl NodeCore {
         take_message(alloc, &mut self.installed, message)
     }
 
-    /// In Operational. The sender of a message of a foreign ring is met.
+    /// Takes a message in Operational. One of a foreign ring makes the node gather, with the message's sender.
     fn message_in_operational(
         &mut self,
         alloc: Global,
@@ -84,7 +84,7 @@ impl NodeCore {
         Ok(self.turn(alloc, turn))
     }
 
-    /// In Gather: of the installed ring, until a commit token was made or filled.
+    /// Takes a message in Gather: one of the installed ring, as long as the node has not made or filled a commit token.
     fn message_in_gather(&mut self, alloc: Global, message: Message) -> Result<StepOut, NodeFault>
         ensures step { IsStep self.old self.new result (message_in_gather self.old message) }
         ensures at_once { IfSome (refused_in_gather self.old message) (λ fault. result ≡ Err fault) }
@@ -96,7 +96,7 @@ impl NodeCore {
         self.message_on_installed(alloc, message)
     }
 
-    /// In Recovery, which was taken out of the state: of the new ring.
+    /// Takes a message in Recovery: one of the new ring. The caller has taken the recovery out of the state.
     fn message_in_recovery(
         &mut self,
         alloc: Global,
@@ -115,7 +115,7 @@ impl NodeCore {
         self.message_on_new(alloc, x, message)
     }
 
-    /// A message has come.
+    /// Takes a message that has come.
     pub(crate) fn on_message(
         &mut self,
         alloc: Global,

@@ -10,21 +10,23 @@ use totem_packets::{Body, Number, Processes};
 use totem_recover::copies_of;
 use totem_ring::RingState;
 
-/// A node: a machine over inputs, without clock, network or threads. A step that is refused leaves it as it was.
+/// A node: a machine over inputs, without clock, network or threads (docs/PROTOCOL.md, "The node"). A step that is
+/// refused leaves it as it was.
 #[derive(Debug, Drop)]
 pub struct NodeCore {
     pub(crate) me: ProcId,
     pub(crate) state: State,
     pub(crate) installed: RingState,
-    /// What waits for the next visit in Operational.
+    /// The messages of clients that wait for the next visit in Operational.
     pub(crate) waiting: Vec<Body>,
-    /// How many timers have run out since a token, or the gathering's last change.
+    /// How many timers were counted since the last visit, or since the node last began to gather, gave up those that
+    /// don't agree, or came to consensus.
     pub(crate) quiet: u8,
-    /// The greatest ring number made, filled or installed.
+    /// The greatest ring number that the node made, filled or installed.
     pub(crate) seq: Number,
-    /// To whom it owes messages.
+    /// The obligation set: the processes to which the node owes the delivery of their messages.
     pub(crate) obligation: Processes,
-    /// The ring of the commit token that it made or filled last since it installed a ring.
+    /// The ring of the commit token that the node made or filled last since it installed a ring.
     pub(crate) filled: Option<RingId>,
     pub(crate) crashed: bool,
 }
@@ -52,8 +54,8 @@ impl NodeCore {
     ghost use Rattle.totem_node.specs.Replay.{first_change};
     ghost use Rattle.totem_evs.specs.Members.{IsMembers};
 
-    /// A node that starts on this ring, and the change with which its log begins. The members are 1 to 32 processes, strictly
-    /// rising, with `me` among them.
+    /// Makes a node that starts on this ring, and returns with it the change with which its log begins. The members are
+    /// 1 to 32 processes, strictly rising, and are expected to have `me` among them.
     pub fn new(
         alloc: Global,
         me: ProcId,
@@ -79,7 +81,7 @@ impl NodeCore {
         Ok((node, change))
     }
 
-    /// Copies of what it is doing, and of its ring.
+    /// Returns copies of the node's state and of its installed ring.
     fn rings(&self, alloc: Global) -> Result<(State, RingState), AllocError>
         ensures { IfOk result (λ r. (r.0 ≡ self.now.state) × (r.1 ≡ self.now.installed)) }
     {
@@ -88,7 +90,7 @@ impl NodeCore {
         Ok((state, installed))
     }
 
-    /// Copies of what waits, and of whom it owes messages.
+    /// Returns copies of the waiting messages and of the obligation set.
     fn owed(&self, alloc: Global) -> Result<(Vec<Body>, Processes), AllocError>
         ensures { IfOk result (λ r. (r.0.items ≡ self.now.waiting) × (r.1 ≡ self.now.obligation)) }
     {

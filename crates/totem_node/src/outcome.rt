@@ -7,7 +7,7 @@ use totem_evs::Entry;
 use totem_packets::Packet;
 use totem_ring::To;
 
-/// What a step sent, wrote and did on rings, each in order.
+/// What a step has sent, written in the log and done on rings, each in order.
 #[derive(Debug, Drop)]
 pub struct StepOut {
     pub packets: Vec<(To, Packet)>,
@@ -16,7 +16,7 @@ pub struct StepOut {
 }
 
 impl StepOut {
-    /// A step that sends this, and does no more to rings or the log.
+    /// Returns the outcome of a step that sends these packets, and neither writes an entry nor steps on a ring.
     pub(crate) fn sending(alloc: Global, packets: Vec<(To, Packet)>) -> StepOut
         ensures packets { result.packets.items ≡ packets.items }
         ensures entries { result.entries.items ≡ [] }

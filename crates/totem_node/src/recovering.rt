@@ -1,4 +1,4 @@
-//! Messages of a new ring, before it is installed.
+//! Messages of a new ring that come before it is installed.
 ghost use Rattle.std.specs.Prelude.{◌≡◌, Err, IfOk, IfSome, MatchResult};
 ghost use Rattle.totem_ids.specs.declared.conf.ConfId.TheVariants.{Regular};
 ghost use Rattle.totem_recover.specs.Finish.{deliveries};
@@ -16,7 +16,7 @@ use std::alloc::{AllocError, Global};
 use totem_packets::{Body, Message};
 use totem_ring::{RingFault, RingOut, RingState};
 
-/// The old message that a message of the new ring carries.
+/// Returns the old ring's message that a message of the new ring carries, if it carries one.
 fn carried(body: &Body) -> Result<Option<Message>, AllocError>
     ensures { IfOk result (λ message. message ≡ carried body.now) }
 {
@@ -41,7 +41,7 @@ fn carried(body: &Body) -> Result<Option<Message>, AllocError>
     })
 }
 
-/// The installed ring adopts the message, or passes it over.
+/// Lets the installed ring adopt the message, or pass it over.
 fn adopt(installed: &mut RingState, message: Option<Message>) -> Result<(), AllocError>
     ensures { MatchResult result (λ u. installed.new ≡ adopting installed.old message) (λ e. installed.new ≡ installed.old) }
 {
@@ -55,7 +55,7 @@ fn adopt(installed: &mut RingState, message: Option<Message>) -> Result<(), Allo
     }
 }
 
-/// What a node tells of a message that the new ring took; the installed ring may adopt what it carries.
+/// Returns what a node tells of a message that the new ring took. The installed ring may adopt the message that it carries.
 fn tell_adopting(
     alloc: Global,
     installed: &mut RingState,
@@ -71,7 +71,7 @@ fn tell_adopting(
     Ok(told)
 }
 
-/// A message comes to the new ring.
+/// Lets the new ring take a message that has come.
 fn take_adopting(
     alloc: Global,
     installed: &mut RingState,
@@ -92,7 +92,7 @@ fn take_adopting(
 }
 
 impl NodeCore {
-    /// A message of the new ring has come. The recovery was taken out of the state.
+    /// Takes a message of the new ring. The caller has taken the recovery out of the state.
     pub(crate) fn message_on_new(
         &mut self,
         alloc: Global,

@@ -7,7 +7,7 @@ use std::alloc::{AllocError, Global};
 use totem_member::{CommitView, Gather, Phase};
 use totem_packets::{Number, Report};
 
-/// The greater of two numbers.
+/// Returns the greater of two numbers.
 fn greater(a: Number, b: Number) -> Number
     ensures { result ≡ max a b }
 {
@@ -15,7 +15,7 @@ fn greater(a: Number, b: Number) -> Number
 }
 
 impl NodeCore {
-    /// What it has of the installed ring.
+    /// Returns what the node reports of its installed ring.
     pub(crate) fn report(&self, alloc: Global) -> Result<Report, AllocError>
         ensures { IfOk result (λ r. r ≡ report self.now) }
     {
@@ -27,7 +27,7 @@ impl NodeCore {
         })
     }
 
-    /// What it shows to a commit token.
+    /// Returns what the node shows to a commit token.
     pub(crate) fn commit_view(
         &self,
         alloc: Global,

@@ -5,7 +5,7 @@ use std::alloc::{AllocError, Global};
 use totem_ids::RingId;
 use totem_ring::Act;
 
-/// What a node did on one of its rings.
+/// A step that a node took on one of its rings.
 #[derive(Debug, Drop)]
 pub struct RingStep {
     pub ring: RingId,

@@ -1,4 +1,4 @@
-//! What a node is doing.
+//! The state of a node.
 ghost use Rattle.std.specs.Prelude.{◌≡◌, IfOk};
 
 use std::alloc::{AllocError, Global};
@@ -6,27 +6,27 @@ use totem_member::Gather;
 use totem_recover::Recovery;
 use totem_ring::RingState;
 
-/// A recovery under way.
+/// A recovery that is under way.
 #[derive(Debug, Drop)]
 pub struct Recovering {
     pub gather: Gather,
-    /// The new ring.
+    /// The new ring, which is not installed yet.
     pub ring: RingState,
     pub recovery: Recovery,
-    /// Its first token was taken here.
+    /// Whether the new ring's first token was taken here.
     pub started: bool,
 }
 
-/// What a node is doing.
+/// What a node is doing (docs/PROTOCOL.md, "The node").
 #[derive(Debug, Drop)]
 pub enum State {
-    /// It sends and delivers on its installed ring.
+    /// The node sends and delivers on its installed ring.
     Operational,
-    /// It looks for others to form a ring with.
+    /// The node looks for others with which to form a ring.
     Gathering(Gather),
     /// There is consensus, and a commit token forms the ring.
     Committing(Gather),
-    /// The new ring settles what the old ones still owe.
+    /// On the new ring the members settle what the old rings still owe.
     InRecovery(Recovering),
 }
 

@@ -1,4 +1,4 @@
-//! The node step: each input to its room.
+//! The step of a node, which hands each input to its room.
 ghost use Rattle.std.specs.Prelude.{◌≡◌, Err, IfSome};
 ghost use Rattle.totem_packets.specs.declared.packet.Packet.TheVariants as packet;
 ghost use Rattle.totem_node.specs.Table.{starting, on_token, on_packet, step};
@@ -16,7 +16,7 @@ use totem_packets::{CommitToken, Join, Packet, Token};
 use totem_ring::first_token;
 
 impl NodeCore {
-    /// A token has come.
+    /// Takes a token that has come.
     fn on_token(&mut self, alloc: Global, token: &Token) -> Result<StepOut, NodeFault>
         ensures step { IsStep self.old self.new result (on_token self.old token.now self.old.state) }
         ensures at_once { IfSome (token_refused_at_once self.old token.now self.old.state) (λ fault. result ≡ Err fault) }
@@ -38,7 +38,7 @@ impl NodeCore {
         }
     }
 
-    /// The commit token came back: the first token of the new ring is taken at once.
+    /// Takes the first token of the new ring at once, because the commit token has come back.
     fn start(&mut self, alloc: Global) -> Result<StepOut, NodeFault>
         ensures { IsStep self.old self.new result (starting self.old self.old.state) }
     {
@@ -59,7 +59,7 @@ impl NodeCore {
         }
     }
 
-    /// A Join has come.
+    /// Takes a Join that has come.
     fn take_join(&mut self, alloc: Global, join: &Join) -> Result<StepOut, NodeFault>
         ensures step { IsStep self.old self.new result (on_packet self.old (packet.Join join.now)) }
         ensures at_once { IfSome (join_refused_at_once self.old join.now) (λ fault. result ≡ Err fault) }
@@ -70,7 +70,7 @@ impl NodeCore {
         }
     }
 
-    /// A commit token has come.
+    /// Takes a commit token that has come.
     fn take_commit(&mut self, alloc: Global, token: &CommitToken) -> Result<StepOut, NodeFault>
         ensures step { IsStep self.old self.new result (on_packet self.old (packet.Commit token.now)) }
         ensures at_once { IfSome (commit_refused_at_once self.old.state) (λ fault. result ≡ Err fault) }
@@ -81,7 +81,7 @@ impl NodeCore {
         self.start(alloc)
     }
 
-    /// A packet has come.
+    /// Takes a packet that has come.
     fn on_packet(&mut self, alloc: Global, packet: Packet) -> Result<StepOut, NodeFault>
         ensures step { IsStep self.old self.new result (on_packet self.old packet) }
         ensures at_once { IfSome (packet_refused_at_once self.old packet) (λ fault. result ≡ Err fault) }
@@ -94,8 +94,9 @@ impl NodeCore {
         }
     }
 
-    /// Takes an input. A step that is refused changes nothing. What is refused for what the input and the node show as they stand is
-    /// refused without any memory: a token that was taken before, a message of another ring, a message too many.
+    /// Takes an input (docs/PROTOCOL.md, "The node"). A step that is refused changes nothing. What the input and the
+    /// node show as they stand is refused without any memory, such as a token that was taken before, a message of
+    /// another ring, or a message too many ("Refused at once").
     pub fn step(&mut self, alloc: Global, input: Input) -> Result<StepOut, NodeFault>
         ensures step { IsStep self.old self.new result (step self.old input) }
         ensures at_once { IfSome (refused_at_once self.old input) (λ fault. result ≡ Err fault) }

@@ -1,4 +1,4 @@
-//! Timers that run out.
+//! How a node takes timers that run out.
 ghost use Rattle.std.specs.Prelude.{◌≡◌, IfOk};
 ghost use Rattle.totem_node.specs.Table.{late, on_timer};
 ghost use Rattle.totem_node.specs.Turns.{IsTurn, IsTimerTurn, IsCounting};
@@ -14,14 +14,14 @@ use crate::turn::Turn;
 use std::alloc::Global;
 use totem_member::Gather;
 
-/// How many timers are counted before one is a cause to gather.
+/// How many timers are only counted before the next one makes the node gather.
 const QUIET: u8 = 2;
 
-/// How many timers a gathering waits for answers.
+/// How many timers are only counted before a gathering gives up those that don't agree.
 const PATIENCE: u8 = 1;
 
 impl NodeCore {
-    /// In Gather: who doesn't agree in time is given up.
+    /// Returns the turn in which a gathering gives up those that did not agree in time.
     fn late(&self, alloc: Global, gather: &Gather) -> Result<Turn, NodeFault>
         ensures { IsTurn result self.now (late self.now gather.now) }
     {
@@ -32,7 +32,7 @@ impl NodeCore {
         self.look_at_consensus(alloc, 0, next, out.members, packets)
     }
 
-    /// What the timer is a cause for, if it isn't only counted.
+    /// Returns the turn that this timer causes, or `None` if it is only counted.
     fn timer_turn(&self, alloc: Global) -> Result<Option<Turn>, NodeFault>
         ensures { IsTimerTurn result self.now }
     {
@@ -48,7 +48,7 @@ impl NodeCore {
         Ok(Some(self.to_gather(alloc, None, None)?))
     }
 
-    /// What is sent as a timer is counted.
+    /// Returns what is sent when a timer is only counted.
     fn sent_again(&self, alloc: Global) -> Result<StepOut, NodeFault>
         ensures { IsCounting result self.now }
     {
@@ -64,7 +64,7 @@ impl NodeCore {
         }
     }
 
-    /// A timer has run out.
+    /// Takes a timer that has run out.
     pub(crate) fn on_timer(&mut self, alloc: Global) -> Result<StepOut, NodeFault>
         ensures { IsStep self.old self.new result (on_timer self.old self.old.state) }
     {

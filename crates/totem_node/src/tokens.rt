@@ -17,7 +17,7 @@ use totem_ids::ConfId;
 use totem_packets::{Body, Token};
 use totem_ring::{Act, RingState};
 
-/// What a node tells of a visit: sends, then deliveries.
+/// Returns what a node tells of a visit: the sends are written first, then the deliveries.
 fn tell_visit(conf: &ConfId, visited: Visited) -> Result<StepOut, AllocError>
     ensures { IfOk result (λ told. (told.packets.items ≡ visited.out.packets.items)
         × (told.entries.items ≡ visited.sends.items ++ deliveries conf.now visited.out.handed.items)
@@ -36,7 +36,7 @@ fn tell_visit(conf: &ConfId, visited: Visited) -> Result<StepOut, AllocError>
     })
 }
 
-/// A token comes to a ring to which these bodies are given.
+/// Gives these bodies to a ring, and lets it take a token that has come.
 #[tactic(auto, using(crate::proofs::Refusing::visit_refused))]
 fn take_token(
     alloc: Global,
@@ -61,7 +61,7 @@ fn take_token(
     }
 }
 
-/// The token that a ring passed on is sent again, if it was kept.
+/// Sends the token that the ring passed on again, if it is still kept.
 pub fn resend(alloc: Global, ring: &RingState) -> Result<StepOut, NodeFault>
     ensures { IsResent result ring.now }
 {
@@ -79,7 +79,7 @@ pub fn resend(alloc: Global, ring: &RingState) -> Result<StepOut, NodeFault>
 }
 
 impl NodeCore {
-    /// The installed ring's token has come.
+    /// Takes the installed ring's token.
     pub(crate) fn visit_installed(
         &mut self,
         alloc: Global,

@@ -1,4 +1,4 @@
-//! What is written of a ring's step.
+//! The entries and the steps that a node tells of a ring's step.
 ghost use Rattle.std.specs.Prelude.{◌≡◌, ◌+◌, ◌++◌, ◌<◌, ◌^◌, length, IfOk, OnOk};
 ghost use Rattle.totem_ids.specs.declared.conf.ConfId.TheVariants.{Regular};
 ghost use Rattle.totem_ring.specs.Visits.{numbered};
@@ -13,7 +13,7 @@ use totem_packets::{Body, Message, Token};
 use totem_recover::deliver;
 use totem_ring::{Act, RingState};
 
-/// Writes the deliveries of these messages, behind what stands there.
+/// Appends the deliveries of these messages.
 pub fn write_deliveries(
     entries: &mut Vec<Entry>,
     conf: &ConfId,
@@ -27,7 +27,7 @@ pub fn write_deliveries(
     Ok(())
 }
 
-/// The deliveries of these messages on their ring.
+/// Returns the deliveries of these messages in the regular configuration of their ring.
 pub fn deliveries_on(
     alloc: Global,
     ring: RingId,
@@ -40,7 +40,7 @@ pub fn deliveries_on(
     Ok(entries)
 }
 
-/// The sending of a client's message; the others have none.
+/// Returns the send of a client's message. Any other body has none.
 fn send(ring: RingId, number: u32, body: &Body) -> Option<Entry>
     requires { 0 < number }
     ensures { result ≡ send_of (Regular ring) ring number body.now }
@@ -56,7 +56,7 @@ fn send(ring: RingId, number: u32, body: &Body) -> Option<Entry>
     }
 }
 
-/// The sendings of what waits, when it gets the numbers behind `seq`.
+/// Returns the sends of the waiting bodies, which get the numbers behind the token's `seq`.
 pub fn visit_sends(alloc: Global, ring: &RingState, token: &Token) -> Result<Vec<Entry>, AllocError>
     requires { token.now.seq + length ring.now.waiting < 2 ^ 32 }
     ensures { IfOk result (λ entries. entries.items ≡ visit_sends ring.now token.now) }
@@ -72,7 +72,7 @@ pub fn visit_sends(alloc: Global, ring: &RingState, token: &Token) -> Result<Vec
     Ok(entries)
 }
 
-/// The step of a ring that takes this message.
+/// Returns the step of a ring that takes this message.
 pub fn message_steps(
     alloc: Global,
     ring: RingId,
@@ -88,7 +88,7 @@ pub fn message_steps(
     Ok(steps)
 }
 
-/// The steps of a ring to which these bodies are submitted, and which then takes this token.
+/// Returns the steps of a ring to which these bodies are submitted and which then takes this token.
 pub fn visit_steps(
     alloc: Global,
     ring: RingId,

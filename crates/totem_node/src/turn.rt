@@ -10,7 +10,7 @@ use totem_ids::RingId;
 use totem_packets::{Number, Packet};
 use totem_ring::To;
 
-/// What a step of membership makes of a node, and what it sends. It is made before anything changes.
+/// What a step of membership makes of a node, and what it sends. A turn is made as a whole before the node changes.
 #[derive(Debug, Drop)]
 pub struct Turn {
     pub state: State,
@@ -21,7 +21,7 @@ pub struct Turn {
 }
 
 impl NodeCore {
-    /// The node after the turn.
+    /// Applies the turn to the node, and returns what it sends.
     pub(crate) fn turn(&mut self, alloc: Global, turn: Turn) -> StepOut
         ensures node { self.new ≡ turned self.old turn }
         ensures packets { result.packets.items ≡ turn.packets.items }

@@ -1,4 +1,4 @@
-//! A token's visit, with what is written of it.
+//! The visit of a token, with what is written of it.
 ghost use Rattle.std.specs.Prelude.{◌≡◌, ◌+◌, None};
 ghost use Rattle.totem_ring.specs.declared.undo.RingUndo.TheVariants.{Submit as OfSubmit};
 ghost use Rattle.totem_ring.specs.Undoing.{taken_back};
@@ -13,16 +13,16 @@ use totem_evs::Entry;
 use totem_packets::{Body, Token};
 use totem_ring::{RingOut, RingState, RingUndo};
 
-/// A visit that was taken: what it gave, and what is written of it.
+/// A visit that a ring took: what it gave, and what is written of it.
 #[derive(Debug, Drop)]
 pub struct Visited {
     pub out: RingOut,
-    /// The sendings of what it numbered.
+    /// The sends of what the visit numbered.
     pub sends: Vec<Entry>,
     pub ring_steps: Vec<RingStep>,
 }
 
-/// What takes a visit back.
+/// What is needed to take a visit back.
 #[derive(Debug, Drop)]
 pub struct VisitUndo {
     undo: RingUndo,
@@ -31,7 +31,7 @@ pub struct VisitUndo {
 }
 
 impl VisitUndo {
-    /// The ring is again as it was before the visit, and before bodies were given to it.
+    /// Makes the ring what it was before the visit, and before bodies were given to it.
     pub fn take_back(self, ring: &mut RingState)
         ensures { ring.new ≡ taken_back (OfSubmit self.waited) (taken_back self.undo ring.old) }
     {
@@ -42,7 +42,7 @@ impl VisitUndo {
     }
 }
 
-/// The visit, when the ring was given these bodies, and `waited` before them.
+/// Lets the ring, which was given these bodies behind the `waited` ones that it had before, take the token.
 fn take(
     alloc: Global,
     ring: &mut RingState,
@@ -67,8 +67,8 @@ fn take(
     Ok((visited, VisitUndo { undo, waited }))
 }
 
-/// The token's visit, for which these bodies are given to the ring. The caller shows that nothing refuses the token at once:
-/// `RingState::token_refusal_at_once`.
+/// Gives these bodies to the ring, and lets it take the token. The caller has to know that nothing refuses the token at
+/// once (`RingState::token_refusal_at_once`).
 pub fn visit(
     alloc: Global,
     ring: &mut RingState,

@@ -1,4 +1,4 @@
-//! Nodes by direct calls: inputs as words, and each step as a line of text.
+//! Nodes, tested by direct calls: inputs are given as words, and each step is told as a line of text.
 use bytes::Bytes;
 use std::alloc::{AllocError, Global};
 use std::test::Fail;
@@ -31,7 +31,7 @@ fn submit(alloc: Global, bytes: usize) -> Result<Input, AllocError> {
     })
 }
 
-/// A client's message of ring 8.1, its first, sent by this process.
+/// Returns a client's message of this process, the first one on ring 8.1.
 fn foreign(sender: u16) -> Input {
     let body = Body::App {
         service: Service::Agreed,
@@ -45,7 +45,7 @@ fn foreign(sender: u16) -> Input {
     }))
 }
 
-/// A commit token of 1 alone.
+/// Returns a commit token with 1 as its only member.
 fn commit(alloc: Global) -> Result<Input, Fail> {
     let mut list = Vec::new(alloc);
     list.push(CommitMember {
@@ -60,8 +60,8 @@ fn commit(alloc: Global) -> Result<Input, Fail> {
     })))
 }
 
-/// What a word stands for: `submit` and how many bytes, `from` and who sent a message of ring 8.1, `token` for the first token
-/// of ring 4.1, `commit`, `crash`, and anything else for a timer.
+/// Returns the input that a word stands for: `submit` with a number of bytes, `from` with the sender of a message of
+/// ring 8.1, `token` for the first token of ring 4.1, `commit`, `crash`, and any other word for a timer.
 fn input(alloc: Global, word: &str) -> Result<Input, Fail> {
     if let Some(bytes) = word.strip_prefix("submit") {
         return Ok(submit(alloc, bytes.parse::<usize>().unwrap_or(0))?);
@@ -110,7 +110,7 @@ fn push_entry(alloc: Global, text: &mut String, entry: &Entry) -> Result<(), All
     text.push_str("; ")
 }
 
-/// What is sent, and to whom; of a Join its number and its sets.
+/// Adds to whom a packet is sent and what it is, with the number and the sets of a Join.
 fn push_packet(
     alloc: Global,
     text: &mut String,
@@ -203,7 +203,7 @@ fn push_step(
     Ok(push_answer(alloc, text, answer)?)
 }
 
-/// One step with a copy of its input, told by its copy.
+/// Takes one step with a copy of its input, and tells it by a copy of its outcome.
 fn push_copied_step(
     alloc: Global,
     text: &mut String,
@@ -214,7 +214,7 @@ fn push_copied_step(
     Ok(push_copied_answer(alloc, text, answer)?)
 }
 
-/// The node takes these inputs, one a word. Each step has `/ ` in front. A word behind `copied-` goes by copies.
+/// Gives the node these inputs, one for each word, with `/ ` in front of each step. A word behind `copied-` goes by copies.
 fn push_steps(
     alloc: Global,
     text: &mut String,
@@ -231,7 +231,7 @@ fn push_steps(
     Ok(())
 }
 
-/// The node's copy takes these inputs.
+/// Gives these inputs to a copy of the node.
 fn push_steps_of_a_copy(
     alloc: Global,
     text: &mut String,
@@ -242,7 +242,7 @@ fn push_steps_of_a_copy(
     push_steps(alloc, text, &mut copy, words)
 }
 
-/// A node's first entry and its steps. Behind the word `copy` the steps are those of its copy.
+/// Tells a node's first entry and its steps. Behind the word `copy` the steps are those of its copy.
 fn told(alloc: Global, node: &mut NodeCore, change: &Entry, words: &str) -> Result<String, Fail> {
     let mut text = String::new(alloc);
     push_entry(alloc, &mut text, change)?;
@@ -253,14 +253,14 @@ fn told(alloc: Global, node: &mut NodeCore, change: &Entry, words: &str) -> Resu
     Ok(text)
 }
 
-/// What process 1 of ring 4.1, which has the processes 1 to `count`, tells.
+/// Tells the life of process 1 on ring 4.1, which has the processes 1 to `count`.
 fn life(alloc: Global, count: u16, words: &str) -> Result<String, Fail> {
     let members = first(alloc, count)?;
     let (mut node, change) = NodeCore::new(alloc, proc(1), ring(4), members.as_slice())?;
     told(alloc, &mut node, &change, words)
 }
 
-/// What these inputs make a node tell, behind its first entry.
+/// How many members the ring has, the inputs that a node is given, and what it has to tell of them.
 struct Row {
     members: u16,
     inputs: &'static str,

@@ -1,4 +1,4 @@
-//! What lines say, and the fault of each line that says nothing.
+//! What lines of a script say, and the fault of each line that is no command.
 use std::alloc::Global;
 use totem_ids::{ProcId, RingId, Service};
 use totem_script::{Command, Keyword, LineFault, Parts, read_command};

@@ -1,4 +1,4 @@
-//! Whole scripts: the runs that they make, and the fault of each that makes none.
+//! Whole scripts: the run that each makes, or its fault if it makes none.
 use std::alloc::Global;
 use std::test::Fail;
 use totem_evs::write_run;

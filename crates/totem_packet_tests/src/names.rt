@@ -38,7 +38,7 @@ pub(crate) fn place(number: u16, at: u32) -> Place {
     }
 }
 
-/// The name as it is written, if there is one.
+/// Returns the name as it is written, if there is one.
 fn written<T: Display + Copy>(alloc: Global, name: Option<T>) -> Result<String, AllocError> {
     match name {
         None => String::from_str(alloc, "none"),
@@ -46,7 +46,7 @@ fn written<T: Display + Copy>(alloc: Global, name: Option<T>) -> Result<String, 
     }
 }
 
-/// The name of a text such as `ring 4`, of this kind and with this number.
+/// Makes the name of a text such as `ring 4`, of this kind and with this number.
 fn made(alloc: Global, text: &str) -> Result<String, AllocError> {
     let (kind, digits) = text.split_once(' ').unwrap_or((text, ""));
     let number = digits.parse::<u32>().unwrap_or(0);
@@ -97,7 +97,7 @@ fn told<T: Display + Drop>(
     }
 }
 
-/// The word `entry`, a byte, a number with the byte that ends it, and what comes then.
+/// Reads the word `entry`, a byte, a number with the byte that ends it, and what comes then.
 fn read_words(alloc: Global, text: &mut Text) -> Result<String, ReadError> {
     word(text, b"entry", TextFault::Header)?;
     let behind = next(text)?;
@@ -131,7 +131,7 @@ fn place_relation(text: &mut Text) -> Result<bool, ReadError> {
     Ok(left.is_below(&read_place(text, b' ')?))
 }
 
-/// What is told of two names of this kind.
+/// Tells how two names of this kind are related.
 fn related(alloc: Global, kind: &str, text: &mut Text) -> Result<String, AllocError> {
     match kind {
         "rings" => told(alloc, ring_relation(alloc, text)),
@@ -141,7 +141,7 @@ fn related(alloc: Global, kind: &str, text: &mut Text) -> Result<String, AllocEr
     }
 }
 
-/// What is read of this kind.
+/// Tells what is read of this kind.
 fn read(alloc: Global, kind: &str, text: &mut Text) -> Result<String, AllocError> {
     match kind {
         "process" => told(alloc, read_proc(text, b' ')),
@@ -155,7 +155,7 @@ fn read(alloc: Global, kind: &str, text: &mut Text) -> Result<String, AllocError
     }
 }
 
-/// What is made, written or read, and a text for it.
+/// Answers in text what is made, written or read.
 pub(crate) fn answer(alloc: Global, words: &str) -> Result<String, AllocError> {
     let (kind, text) = words.split_once(' ').unwrap_or((words, ""));
     match kind {

@@ -1,10 +1,10 @@
-//! What the reports of a commit token say of an old ring: members as words, and answers as text.
+//! What the reports of a commit token say of an old ring. Members are given in words, and answers as text.
 use crate::packet_values::{Case, numbers, proc, push, push_made, push_procs, ring, set};
 use std::alloc::{AllocError, Global};
 use totem_packets::{CommitMember, CommitMembers, Processes, Report};
 
-/// The report of the old ring's number, up to where messages are held and up to where they were handed up; none where these
-/// three are not there.
+/// Returns the report with the old ring's number, up to where messages are held, and up to where they were handed up.
+/// Without these three numbers there is no report.
 fn report(numbers: &[u32], obligation: Processes) -> Option<Report> {
     let [seq, aru, delivered] = numbers else {
         return None;
@@ -17,8 +17,8 @@ fn report(numbers: &[u32], obligation: Processes) -> Option<Report> {
     })
 }
 
-/// The member of a word such as `2:4,7,5:1,3`: 2 comes from ring 4.1, holds all up to 7, handed up all up to 5, and is obliged for
-/// 1 and 3. The word `2` has no report.
+/// Returns the member of a word such as `2:4,7,5:1,3`: 2 comes from ring 4.1, holds all messages up to 7, has handed up
+/// all up to 5, and owes messages to 1 and 3. The word `2` gives a member without a report.
 fn member(alloc: Global, word: &str) -> Result<CommitMember, AllocError> {
     let (number, rest) = word.split_once(':').unwrap_or((word, ""));
     let (reported, obligation) = rest.split_once(':').unwrap_or(("", ""));
@@ -37,7 +37,7 @@ fn member_list(alloc: Global, words: &str) -> Result<Vec<CommitMember>, AllocErr
     Ok(list)
 }
 
-/// How far the members have come that come from the old ring of this number, and how many they are obliged for.
+/// Adds how far the members from the old ring of this number have come, and to how many processes they owe messages.
 fn push_counts(
     alloc: Global,
     text: &mut String,
@@ -82,7 +82,7 @@ fn push_are(
     push_truth(text, members.are(&set))
 }
 
-/// What is asked by a word, of these processes, of this one or of the old ring of this number.
+/// Adds the answer to a word, of these processes, of this one or of the old ring of this number.
 fn push_answer(
     alloc: Global,
     text: &mut String,
@@ -115,7 +115,7 @@ fn answers(alloc: Global, members: &CommitMembers, words: &str) -> Result<String
     Ok(text)
 }
 
-/// The members, then `?` and what is asked.
+/// Answers what is asked, behind a `?`, of the members in front of it.
 pub(crate) fn told(alloc: Global, words: &str) -> Result<String, AllocError> {
     let (given, asked) = words.split_once('?').unwrap_or((words, ""));
     match CommitMembers::new(member_list(alloc, given)?) {

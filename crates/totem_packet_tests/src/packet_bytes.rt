@@ -1,4 +1,4 @@
-//! Packets against their bytes, written out by hand.
+//! Packets compared with their bytes, which are written out by hand.
 use crate::packet_sizes;
 use crate::packet_values::{is_shown_alike, ring, set};
 use bytes::Bytes;
@@ -11,7 +11,7 @@ use totem_packets::{
     Payload, Report, Requests, Round, Token, TokenSeq,
 };
 
-/// The token that the third process of ring 4.1 passes on: nobody holds message 1 yet.
+/// The token that the third process of ring 4.1 passes on when nobody holds message 1 yet.
 const TOKEN: [u8; 30] = [
     2, 0, 0, 0, 4, 0, 1, 0, 0, 0, 0, 0, 0, 0, 4, 0, 0, 0, 2, 0, 0, 0, 0, 0, 3, 1, 0, 0, 0, 1,
 ];
@@ -19,15 +19,15 @@ const TOKEN: [u8; 30] = [
 /// Message 4.1#1 of process 1, agreed, with the payload `x`.
 const MESSAGE: [u8; 17] = [1, 0, 0, 0, 4, 0, 1, 0, 0, 0, 1, 0, 1, 0, 0, 1, 120];
 
-/// The same, safe and with no bytes.
+/// The same message, but safe and without bytes.
 const SAFE: [u8; 16] = [1, 0, 0, 0, 4, 0, 1, 0, 0, 0, 1, 0, 1, 1, 0, 0];
 
-/// Message 8.1#3 of process 2: 4.1#5 of process 1 once more, agreed, `hi`.
+/// Message 8.1#3 of process 2, which carries 4.1#5 of process 1: agreed, `hi`.
 pub(crate) const OLD: [u8; 30] = [
     1, 0, 0, 0, 8, 0, 1, 0, 0, 0, 3, 0, 2, 2, 0, 0, 0, 4, 0, 1, 0, 0, 0, 5, 0, 1, 0, 2, 104, 105,
 ];
 
-/// The same, safe.
+/// The same message, but the carried one is safe.
 const OLD_SAFE: [u8; 30] = [
     1, 0, 0, 0, 8, 0, 1, 0, 0, 0, 3, 0, 2, 3, 0, 0, 0, 4, 0, 1, 0, 0, 0, 5, 0, 1, 0, 2, 104, 105,
 ];
@@ -35,16 +35,16 @@ const OLD_SAFE: [u8; 30] = [
 /// The mark of process 2, 8.1#4.
 const MARK: [u8; 14] = [1, 0, 0, 0, 8, 0, 1, 0, 0, 0, 4, 0, 2, 4];
 
-/// Process 1 would be with 2 and 3, of which 3 failed; it knows ring number 8.
+/// The Join of process 1, which knows 2 and 3, of which 3 failed, and ring number 8.
 const JOIN: [u8; 17] = [3, 0, 1, 0, 0, 0, 8, 3, 0, 1, 0, 2, 0, 3, 1, 0, 3];
 
-/// Ring 8.1 of 1, which reports ring 4.1, and of 2, which reports nothing yet.
+/// The commit token of ring 8.1 with 1, which reports ring 4.1, and 2, which has not reported yet.
 const COMMIT: [u8; 34] = [
     4, 0, 0, 0, 8, 0, 1, 1, 2, 0, 1, 1, 0, 0, 0, 4, 0, 1, 0, 0, 0, 5, 0, 0, 0, 4, 2, 0, 1, 0, 3, 0,
     2, 0,
 ];
 
-/// A packet's name, which `packet` knows, and its bytes; packets of other names are read.
+/// The name of a packet, which `packet` makes, and its bytes. A packet with another name is read from its bytes.
 const PACKETS: [(&str, &[u8]); 16] = [
     ("token", &TOKEN),
     ("agreed message", &MESSAGE),
@@ -112,7 +112,7 @@ fn app(service: Service, bytes: &'static [u8]) -> Result<Packet, Fail> {
     }))
 }
 
-/// 4.1#5 of process 1 with this payload, once more.
+/// Returns a message that carries 4.1#5 of process 1 with this payload.
 pub(crate) fn old(service: Service, payload: Payload) -> Packet {
     Packet::Message(Message {
         ring: ring(8),
@@ -177,7 +177,7 @@ fn commit(alloc: Global) -> Result<Packet, Fail> {
     }))
 }
 
-/// The packet of this name; where it is none, the one that is read from the bytes.
+/// Returns the packet of this name, or the one that is read from the bytes if there is no such name.
 fn packet(alloc: Global, name: &str, bytes: &[u8]) -> Result<Packet, Fail> {
     match name {
         "token" => token(alloc),
@@ -276,8 +276,8 @@ fn is_part_copied(alloc: Global, packet: &Packet) -> Result<bool, AllocError> {
 const ALL_HOLDS: &str =
     "encoded true, decoded true, copied true, in parts true, short true, trailing true";
 
-/// Whether the packet has these bytes, is read from them, and is equal to its copy, as are its parts; whether each proper
-/// beginning of the bytes is Short, and whether with one byte more they are Trailing.
+/// Tells whether the packet has these bytes, is read from them, and is equal to its copy, as are its parts; whether
+/// each proper beginning of the bytes is Short, and whether the bytes with one more are Trailing.
 pub(crate) fn told_of_bytes(alloc: Global, packet: &Packet, bytes: &[u8]) -> Result<String, Fail> {
     let is_encoded = is_encoded(alloc, packet, bytes)?;
     let is_decoded = is_decoded(alloc, packet, bytes)?;

@@ -1,4 +1,5 @@
-//! Each constructor of a part of a packet, what it gives back, and what refusals say: parts as words, and answers as text.
+//! Each constructor of a part of a packet, what it gives back, and what refusals say. Parts are given in words, and
+//! answers as text.
 use crate::packet_values::{Case, numbers, proc, procs, push, push_procs};
 use bytes::Bytes;
 use std::alloc::{AllocError, Global};
@@ -10,7 +11,7 @@ use totem_packets::{
     spelled_is_read, trailing_is_behind_a_packet,
 };
 
-/// How many come back, and why.
+/// Tells how many elements come back, and why they were refused.
 fn refusal(alloc: Global, fault: &ListFault, count: usize) -> Result<String, AllocError> {
     match fault {
         ListFault::Empty => format!(in alloc; "{count} back, none"),
@@ -154,7 +155,7 @@ fn listed(alloc: Global, kind: &str, given: &str) -> Result<String, AllocError> 
     told_of_list(alloc, kind, &numbers)
 }
 
-/// Parts that are known to keep the rules.
+/// Tells of parts that are known to keep the rules.
 fn known(alloc: Global) -> Result<String, AllocError> {
     let number = Number::of(7).get();
     let greatest = TokenSeq::of(18_446_744_073_709_551_615).get();
@@ -184,7 +185,7 @@ fn faults(alloc: Global) -> Result<String, AllocError> {
     Ok(text)
 }
 
-/// A kind of part, and what it is to be made of.
+/// Makes a part of this kind of what follows, and tells of it.
 pub(crate) fn told(alloc: Global, words: &str) -> Result<String, AllocError> {
     let (kind, given) = words.split_once(' ').unwrap_or((words, ""));
     match kind {

@@ -1,4 +1,4 @@
-//! The largest packets against their bytes.
+//! The largest packets, compared with their bytes.
 use crate::packet_bytes::{OLD, old, told_of_bytes};
 use crate::packet_values::{proc, ring, set};
 use bytes::Bytes;
@@ -55,7 +55,7 @@ fn largest_message_bytes(alloc: Global) -> Result<Vec<u8>, AllocError> {
     Ok(bytes)
 }
 
-/// Appends how many the processes 1 to 32 are, and their numbers.
+/// Appends the count of the processes 1 to 32, and then their numbers.
 fn push_all_processes(bytes: &mut Vec<u8>) -> Result<(), AllocError> {
     bytes.extend_from_slice(&[32])?;
     for process in 1..33u8 {
@@ -64,7 +64,7 @@ fn push_all_processes(bytes: &mut Vec<u8>) -> Result<(), AllocError> {
     Ok(())
 }
 
-/// A member that reports ring 4.1, where it handed up all that can be.
+/// Returns a member that reports ring 4.1, where it handed up all that can be.
 fn largest_member(alloc: Global, number: u16) -> Result<CommitMember, Fail> {
     Ok(CommitMember {
         proc: proc(number),
@@ -136,7 +136,7 @@ fn largest_bytes(alloc: Global, name: &str) -> Result<Vec<u8>, AllocError> {
     }
 }
 
-/// What is told of the packet of this name and its bytes.
+/// Tells of the packet of this name and its bytes.
 pub(crate) fn told(alloc: Global, name: &str) -> Result<String, Fail> {
     let bytes = largest_bytes(alloc, name)?;
     let packet = largest(alloc, name)?;

@@ -1,17 +1,17 @@
-//! What the tests of several modules need.
+//! What several modules of tests need.
 use std::alloc::{AllocError, Global};
 use std::fmt::Debug;
 use totem_ids::{ProcId, RingId};
 use totem_packets::{Processes, SetFault};
 
-/// What is asked, in words, and what is told then.
+/// What is asked, in words, and what has to be told.
 pub type Case = (&'static str, &'static str);
 
 pub fn proc(number: u16) -> ProcId {
     ProcId::of(number.max(1))
 }
 
-/// A ring with the representative 1.
+/// Returns a ring with the representative 1.
 pub fn ring(seq: u32) -> RingId {
     RingId {
         seq: seq.max(1),
@@ -29,7 +29,7 @@ fn push_range(list: &mut Vec<u32>, text: &str) -> Result<(), AllocError> {
     Ok(())
 }
 
-/// The numbers of a text such as `1,5-7`; an empty one has none.
+/// Returns the numbers of a text such as `1,5-7`; an empty text has none.
 pub fn numbers(alloc: Global, text: &str) -> Result<Vec<u32>, AllocError> {
     let mut list = Vec::new(alloc);
     if !text.is_empty() {
@@ -48,7 +48,7 @@ pub fn procs(alloc: Global, text: &str) -> Result<Vec<ProcId>, AllocError> {
     Ok(list)
 }
 
-/// The set of these processes; none, where they do not rise.
+/// Returns the set of these processes, or the empty one if they do not rise.
 pub fn set(alloc: Global, text: &str) -> Result<Processes, AllocError> {
     match Processes::new(procs(alloc, text)?) {
         Ok(set) => Ok(set),
@@ -84,7 +84,7 @@ pub fn push_made(
     }
 }
 
-/// Whether both are shown by the same text.
+/// Returns whether both values are shown by the same text.
 pub fn is_shown_alike<T: Debug>(alloc: Global, value: &T, other: &T) -> Result<bool, AllocError> {
     let shown = format!(in alloc; "{value:?}")?;
     Ok(shown == format!(in alloc; "{other:?}")?)

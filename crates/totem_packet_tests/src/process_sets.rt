@@ -1,4 +1,4 @@
-//! Sets of processes: questions in words, and answers as text.
+//! Sets of processes. Questions are given in words, and answers as text.
 use crate::packet_values::{Case, proc, push_made, push_procs, set};
 use std::alloc::{AllocError, Global};
 use totem_ids::ProcId;
@@ -18,7 +18,7 @@ fn size(alloc: Global, processes: &Processes) -> Result<String, AllocError> {
     }
 }
 
-/// What a set tells of a process: whether it is there, whether it is the least, and who follows it.
+/// Tells of a process whether it is in the set, whether it is the least, and who follows it.
 fn place(alloc: Global, processes: &Processes, proc: ProcId) -> Result<String, AllocError> {
     let is_there = processes.contains(proc);
     let is_least = processes.is_least(proc);
@@ -76,7 +76,7 @@ fn told_of_one(
     }
 }
 
-/// The set of these processes; `none` is made without a list.
+/// Returns the set of these processes; `none` is made without a list.
 fn named(alloc: Global, text: &str) -> Result<Processes, AllocError> {
     match text {
         "none" => Ok(Processes::none(alloc)),
@@ -84,7 +84,7 @@ fn named(alloc: Global, text: &str) -> Result<Processes, AllocError> {
     }
 }
 
-/// A word for what is asked, a set, and behind it a process or another set.
+/// Answers a word, behind which stand a set and then a process or another set.
 pub(crate) fn told(alloc: Global, words: &str) -> Result<String, AllocError> {
     let (asked, rest) = words.split_once(' ').unwrap_or((words, ""));
     let (left, right) = rest.split_once(' ').unwrap_or((rest, ""));

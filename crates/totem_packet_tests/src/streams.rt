@@ -1,4 +1,5 @@
-//! Sources and sinks that fail on time, as their readers and writers do, and in pieces: what each call gives, as text.
+//! Sources and sinks that fail on time, that fail as their readers and writers do, and that get pieces: what each call
+//! gives, as text.
 use crate::names::{memory, message, place, ring, transitional};
 use crate::packet_values::{Case, push};
 use std::alloc::{AllocError, Global};
@@ -8,7 +9,7 @@ use totem_ids::{
     Buffered, ConfId, Failed, FromRead, Fused, Pieces, Sink, Source, ToWrite, read_ring,
 };
 
-/// So many calls of a source: each byte, `.` at the end, and `!` where it fails.
+/// Calls a source so many times, and tells each byte, `.` at the end, and `!` where it fails.
 fn given<S: Source>(alloc: Global, source: &mut S, calls: u8) -> Result<String, AllocError> {
     let mut text = String::new(alloc);
     for _ in 0..calls {
@@ -29,7 +30,7 @@ fn fused_bytes(alloc: Global) -> Result<String, AllocError> {
     Ok(text)
 }
 
-/// What is read of a ring from a source that fails after so many calls.
+/// Tells what is read of a ring from a source that fails after so many calls.
 fn fused_ring(alloc: Global, calls: u64) -> Result<String, AllocError> {
     match read_ring(&mut Fused::new(memory("4.10 "), calls), b' ') {
         Ok(ring) => format!(in alloc; "{ring}"),
@@ -37,7 +38,7 @@ fn fused_ring(alloc: Global, calls: u64) -> Result<String, AllocError> {
     }
 }
 
-/// What a sink answers to these pieces: `+` where it takes one, and `!` where it fails.
+/// Tells what a sink answers to these pieces: `+` where it takes one, and `!` where it fails.
 fn answers<S: Sink>(alloc: Global, sink: &mut S, pieces: &[&str]) -> Result<String, AllocError> {
     let mut text = String::new(alloc);
     for piece in pieces {
@@ -54,7 +55,7 @@ fn push_bytes(text: &mut String, bytes: &[u8]) -> Result<(), AllocError> {
     Ok(())
 }
 
-/// What a sink that fails after two calls answers to four, and what it has then.
+/// Tells what a sink that fails after two calls answers to four, and what it holds then.
 fn fused_sink(alloc: Global) -> Result<String, AllocError> {
     let mut sink = Fused::new(ToWrite::new(Vec::new(alloc)), 2);
     let mut text = answers(alloc, &mut sink, &["4.", "1", "#7", "#7"])?;
@@ -192,7 +193,7 @@ fn put_lines<S: Sink>(sink: &mut S, pieces: &mut Pieces) -> Result<(), Failed> {
     Ok(())
 }
 
-/// A sink that fails at its second call has one piece, once 65 lines were put; the last one can't go out.
+/// Tells that a sink which fails at its second call holds one piece once 65 lines were put, and the last one can't go out.
 fn large_piece(alloc: Global) -> Result<String, AllocError> {
     let mut sink = Fused::new(ToWrite::new(Vec::new(alloc)), 1);
     let mut pieces = Pieces::new(alloc)?;

@@ -1,4 +1,4 @@
-//! The tables of questions and answers, and the one test that goes over them.
+//! The tables of questions and answers, and the one test that goes through them.
 use crate::names::NAMES;
 use crate::old_rings::OLD_RINGS;
 use crate::packet_parts::PARTS;
@@ -9,7 +9,7 @@ use crate::{names, old_rings, packet_parts, process_sets, streams};
 use std::alloc::{AllocError, Global};
 use std::test::Fail;
 
-/// The answer to a question on this topic.
+/// Returns the answer to a question on this topic.
 fn told(alloc: Global, topic: &str, words: &str) -> Result<String, AllocError> {
     match topic {
         "names" => names::answer(alloc, words),

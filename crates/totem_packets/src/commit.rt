@@ -4,14 +4,14 @@ use crate::commit_members::CommitMembers;
 use std::alloc::{AllocError, Global};
 use totem_ids::RingId;
 
-/// How often a commit token goes round: once to be filled in, and once filled.
+/// Which time a commit token goes round the ring: the first time it is filled in, the second time it is full.
 #[derive(Clone, Copy, Debug, PartialEq, Eq, PartialOrd, Ord, Hash)]
 pub enum Round {
     First,
     Second,
 }
 
-/// The commit token: it forms a ring of its members.
+/// The commit token, which forms a ring of the members that it names.
 #[derive(Debug, Drop)]
 pub struct CommitToken {
     pub ring: RingId,

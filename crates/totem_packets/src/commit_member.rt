@@ -5,18 +5,18 @@ use crate::processes::Processes;
 use std::alloc::{AllocError, Global};
 use totem_ids::{ProcId, RingId, ring_fits};
 
-/// What a member has of the ring that it comes from.
+/// What a member reports of the ring that it comes from (docs/PROTOCOL.md, "The commit token").
 #[derive(Debug, Drop)]
 pub struct Report {
     pub ring: RingId,
-    /// All messages up to here are held; 0 is none.
+    /// The member holds all messages up to this number; 0 means none.
     pub aru: u32,
-    /// All messages up to here were handed up; 0 is none.
+    /// The member has handed up all messages up to this number; 0 means none.
     pub delivered: u32,
     pub obligation: Processes,
 }
 
-/// A member of the ring that a commit token forms, and its report once it is filled in.
+/// A member of the ring that a commit token forms, with its report once that is filled in.
 #[derive(Debug, Drop)]
 pub struct CommitMember {
     pub proc: ProcId,
@@ -24,7 +24,7 @@ pub struct CommitMember {
 }
 
 impl Report {
-    /// The types of its parts keep the ranges, and this passes it on.
+    /// Tells contracts that each value of a report is in its range: the types of its parts see to that.
     pub fn keeps_its_rule(&self)
         ensures { IsReport self.now }
     {
@@ -47,7 +47,7 @@ impl Report {
 }
 
 impl CommitMember {
-    /// The types of its parts keep the ranges, and this passes it on.
+    /// Tells contracts that each value of a member is in its range: the types of its parts see to that.
     pub fn keeps_its_rule(&self)
         ensures { IsCommitMember self.now }
     {

@@ -8,7 +8,7 @@ use crate::rising::first_fall;
 use std::alloc::{AllocError, Global};
 use std::marker::Model;
 
-/// How many members a commit token may have.
+/// How many members a commit token may have at most.
 const MOST: usize = 32;
 
 /// The members of a commit token: 1 to 32, their processes strictly rising.
@@ -39,7 +39,7 @@ fn keep_their_rules(list: &[CommitMember])
 }
 
 impl CommitMembers {
-    /// The members of this list; a refusal gives the list back.
+    /// Makes the members from this list. A refusal gives the list back with the first rule that it breaks.
     pub fn new(list: Vec<CommitMember>) -> Result<CommitMembers, Refused<Vec<CommitMember>>>
         ensures { MatchResult result (λ m. (m ≡ list.items) × IsCommitMembers list.items)
             (λ r. (r.value.items ≡ list.items) × Refuses 1 32 IsBelowMember list.items r.fault) }
@@ -57,7 +57,7 @@ impl CommitMembers {
         Err(Refused { fault, value: list })
     }
 
-    /// The members of a list that is known to keep the rules.
+    /// Makes the members from a list that is known to keep the rules.
     pub fn of(list: Vec<CommitMember>) -> CommitMembers
         requires { IsCommitMembers list.items }
         ensures { result ≡ list.items }
@@ -72,7 +72,7 @@ impl CommitMembers {
         &self.list
     }
 
-    /// The members, without taking memory.
+    /// Returns the members as a vector, without taking memory.
     pub fn into_vec(self) -> Vec<CommitMember>
         ensures { result.items ≡ self }
     {

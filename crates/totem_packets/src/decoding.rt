@@ -49,7 +49,7 @@ fn join(alloc: Global, reader: &mut Reader) -> Result<Join, PacketFault>
     })
 }
 
-/// A packet; more bytes may follow.
+/// Reads a packet, behind which more bytes may follow.
 #[tactic(auto, using(crate::proofs::Falling::passes_on), unfolding(crate::specs::Grammar::packet_at, crate::specs::Grammar::packet_of, crate::specs::Grammar::message_packet_at, crate::specs::Grammar::token_packet_at, crate::specs::Grammar::join_packet_at, crate::specs::Grammar::commit_packet_at))]
 fn packet(alloc: Global, reader: &mut Reader) -> Result<Packet, PacketFault>
     ensures { Reads (λ x. x) result reader.new (packet_at reader.old) }
@@ -63,7 +63,7 @@ fn packet(alloc: Global, reader: &mut Reader) -> Result<Packet, PacketFault>
     }
 }
 
-/// The packet that all these bytes spell.
+/// Returns the packet that all these bytes spell.
 #[tactic(auto, using(crate::proofs::Falling::passes_on), unfolding(crate::specs::Grammar::decode_packet))]
 pub fn decode(alloc: Global, bytes: &[u8]) -> Result<Packet, PacketFault>
     ensures { Gives result (decode_packet bytes.now) }

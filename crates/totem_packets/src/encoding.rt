@@ -35,7 +35,7 @@ fn put_join(out: &mut Vec<u8>, join: &Join) -> Result<(), AllocError>
     put_process_set(out, &join.failed)
 }
 
-/// The bytes of the packet.
+/// Returns the bytes of the packet.
 #[tactic(auto, unfolding(crate::specs::Spelling::packet_bytes))]
 pub fn encode(alloc: Global, packet: &Packet) -> Result<Vec<u8>, AllocError>
     ensures { IfOk result (λ v. v.items ≡ packet_bytes packet.now) }

@@ -6,7 +6,7 @@ ghost use Rattle.totem_packets.specs.PacketFaults.{fault_number, fault_name};
 use std::alloc::{AllocError, AllocFailed};
 use thiserror::Error;
 
-/// Why bytes are not a packet: the first that is met from left to right.
+/// Why bytes are not a packet: the first fault that is met from left to right.
 #[derive(Clone, Copy, Debug, PartialEq, Eq, Error)]
 pub enum PacketFault {
     #[error("a field needs more bytes than there are")]
@@ -22,7 +22,7 @@ pub enum PacketFault {
 }
 
 impl PacketFault {
-    /// Its number, from 1 on in the order above.
+    /// Returns the fault's number, counted from 1 in the order above.
     pub fn number(&self) -> u8
         ensures { result ≡ fault_number self.now }
     {
@@ -35,7 +35,7 @@ impl PacketFault {
         }
     }
 
-    /// Its name.
+    /// Returns the fault's name.
     pub fn name(&self) -> &'static str
         ensures { result.now ≡ fault_name self.now }
     {

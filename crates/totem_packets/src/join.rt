@@ -5,11 +5,11 @@ use crate::processes::Processes;
 use std::alloc::{AllocError, Global};
 use totem_ids::ProcId;
 
-/// What a gathering process tells: with whom it would form a ring, and who of these failed.
+/// The Join of a process that gathers: with whom it would form a ring, and which of these it thinks have failed.
 #[derive(Debug, Drop)]
 pub struct Join {
     pub sender: ProcId,
-    /// The greatest number of a ring that the sender knows.
+    /// The greatest ring number that the sender has heard of.
     pub seq: Number,
     pub processes: Processes,
     pub failed: Processes,

@@ -8,7 +8,7 @@ ghost use Rattle.totem_packets.specs.Parsing.{AreBytes};
 ghost use Rattle.totem_packets.specs.Ranges.{IsPacket};
 ghost use Rattle.totem_packets.specs.Spelling.{packet_bytes};
 
-/// What the grammar reads as a packet is its spelling, and the packet's values are in range.
+/// The bytes that the grammar reads as a packet are the packet's spelling, and its values are in range.
 #[tactic(auto, using(crate::proofs::Decided::read_spelled))]
 pub fn read_is_spelled()
     ensures { (bytes : List ℕ) (packet : Packet) → AreBytes bytes → decode_packet bytes ≡ Ok packet → IsPacket packet × (bytes ≡ packet_bytes packet) }
@@ -26,13 +26,13 @@ pub fn no_packet_begins_another()
     ensures { (a b : Packet) (more rest : List ℕ) → IsPacket a → IsPacket b → packet_bytes a ++ more ≡ packet_bytes b ++ rest → (a ≡ b) × (more ≡ rest) }
 {}
 
-/// A packet that is cut is Short.
+/// What is left of a packet that is cut is Short.
 #[tactic(auto, using(crate::proofs::Decided::cut_is_short))]
 pub fn a_cut_packet_is_short()
     ensures { (packet : Packet) (front : List ℕ) (byte : ℕ) (rest : List ℕ) → IsPacket packet → packet_bytes packet ≡ front ++ byte ∷ rest → decode_packet front ≡ Err Short }
 {}
 
-/// At Short nothing is wrong with the bytes that are there: each beginning of them is Short too.
+/// At Short nothing is wrong with the bytes that are there: each of their beginnings is Short too.
 #[tactic(auto, using(crate::proofs::Decided::short_before))]
 pub fn short_has_nothing_wrong()
     ensures { (front rest : List ℕ) → decode_packet (front ++ rest) ≡ Err Short → decode_packet front ≡ Err Short }
@@ -44,20 +44,20 @@ pub fn kind_is_the_first_byte()
     ensures { (bytes : List ℕ) → (decode_packet bytes ≡ Err Kind) ↔ IsOfNoKind bytes }
 {}
 
-/// Range is the fault as soon as a field's value is known to be wrong: up to a byte nothing is, and with it all that
-/// may follow changes nothing.
+/// Range is the fault as soon as a field's value is known to be wrong: before some byte nothing is wrong, and from that
+/// byte on the fault is Range, whatever follows.
 #[tactic(auto, using(crate::proofs::Decided::range_is_first))]
 pub fn range_is_known_at_once()
     ensures { (bytes : List ℕ) → decode_packet bytes ≡ Err Range → IsFirstWrong bytes }
 {}
 
-/// Trailing is the fault exactly where more follows a packet.
+/// Trailing is the fault exactly where more bytes follow a packet.
 #[tactic(auto, using(crate::proofs::Decided::trailing_is_last))]
 pub fn trailing_is_behind_a_packet()
     ensures { (bytes : List ℕ) → AreBytes bytes → (decode_packet bytes ≡ Err Trailing) ↔ HasMore bytes }
 {}
 
-/// Memory is no fault of the bytes.
+/// The grammar never gives Memory: that is no fault of the bytes.
 #[tactic(auto, using(crate::proofs::Decided::never_memory))]
 pub fn memory_is_no_fault_of_bytes()
     ensures { (bytes : List ℕ) → decode_packet bytes ≢ Err Memory }

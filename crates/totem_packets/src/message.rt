@@ -5,10 +5,10 @@ use crate::payload::Payload;
 use std::alloc::AllocError;
 use totem_ids::{ProcId, RingId, Service};
 
-/// What a message says.
+/// What a message carries.
 #[derive(Debug, Drop)]
 pub enum Body {
-    /// What a client asked to send.
+    /// Words that a client asked to send.
     App {
         service: Service,
         payload: Payload,
@@ -21,11 +21,11 @@ pub enum Body {
         service: Service,
         payload: Payload,
     },
-    /// The sender has sent all its old messages.
+    /// A mark: the sender has sent all its messages of older rings.
     Mark,
 }
 
-/// A message of a ring.
+/// A message on a ring, with its number there.
 #[derive(Debug, Drop)]
 pub struct Message {
     pub ring: RingId,
@@ -35,7 +35,8 @@ pub struct Message {
 }
 
 impl Body {
-    /// A copy that shares the payload and takes no memory; it fails only where the count of owners is full.
+    /// Copies the body without taking memory, since the copies share the payload. Fails only where the payload can
+    /// count no further owner.
     pub fn try_clone(&self) -> Result<Body, AllocError>
         ensures { IfOk result (λ b. b ≡ self.now) }
     {
@@ -63,7 +64,8 @@ impl Body {
 }
 
 impl Message {
-    /// A copy that shares the payload and takes no memory; it fails only where the count of owners is full.
+    /// Copies the message without taking memory, since the copies share the payload. Fails only where the payload can
+    /// count no further owner.
     pub fn try_clone(&self) -> Result<Message, AllocError>
         ensures { IfOk result (λ m. m ≡ self.now) }
     {

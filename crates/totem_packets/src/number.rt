@@ -2,7 +2,7 @@ ghost use Rattle.std.specs.Prelude.{◌≡◌, ℕ, ◌<◌, MatchOption};
 
 use std::marker::Model;
 
-/// The number of a message on its ring, or of a ring: from 1 to 4294967295.
+/// The number of a message on its ring, or of a ring, from 1 to 4294967295.
 #[derive(Clone, Copy, Debug, PartialEq, Eq, PartialOrd, Ord, Hash)]
 pub struct Number {
     value: u32,
@@ -19,7 +19,7 @@ impl Model for Number {
 }
 
 impl Number {
-    /// The number of this value; none is 0.
+    /// Returns the number with this value, or `None` if the value is 0.
     pub fn new(value: u32) -> Option<Number>
         ensures { MatchOption result (value ≡ 0) (λ n. n ≡ value) }
     {
@@ -29,7 +29,7 @@ impl Number {
         Some(Number { value })
     }
 
-    /// The number of a value that is known not to be 0.
+    /// Returns the number with a value that is known not to be 0.
     pub fn of(value: u32) -> Number
         requires { 0 < value }
         ensures { result ≡ value }

@@ -1,4 +1,4 @@
-//! What the reports of a commit token say of an old ring.
+//! What the reports of a commit token say of an old ring (docs/PROTOCOL.md, "Recovery").
 ghost use Rattle.std.specs.Prelude.{◌≡◌, ◌≤◌, length, filter, not, IfOk};
 ghost use Rattle.totem_packets.specs.Sets.{has, same_processes, Makes};
 ghost use Rattle.totem_packets.specs.OldRings.{processes_of, is_filled, reports_ring, transitional_set, least_aru, greatest_delivered, obligation_union, obligation_from, is_obliged};
@@ -12,7 +12,7 @@ use std::alloc::{AllocError, Global};
 use totem_ids::{ProcId, RingId};
 
 impl CommitMember {
-    /// Whether it has reported this ring as the one that it comes from.
+    /// Returns whether this member has reported `old` as the ring that it comes from.
     pub fn reports_ring(&self, old: &RingId) -> bool
         ensures { result ≡ reports_ring old.now self.now.report }
     {
@@ -22,7 +22,7 @@ impl CommitMember {
         }
     }
 
-    /// The obligation set that it reported, if it comes from this ring, or else none.
+    /// Returns the obligation set that this member reported if it comes from the ring `old`, and no processes otherwise.
     fn obligation_from(&self, old: &RingId) -> &[ProcId]
         ensures value { result.now ≡ obligation_from old.now self.now.report }
         ensures few { length result.now ≤ 32 }
@@ -37,7 +37,7 @@ impl CommitMember {
 }
 
 impl CommitMembers {
-    /// Who the members are.
+    /// Returns the members' processes.
     pub fn processes(&self, alloc: Global) -> Result<Processes, AllocError>
         ensures { IfOk result (λ p. p ≡ processes_of self.now) }
     {
@@ -48,7 +48,7 @@ impl CommitMembers {
         Ok(Processes::of(list))
     }
 
-    /// Whether these are the members; it takes no memory.
+    /// Returns whether exactly these processes are the members. Takes no memory.
     pub fn are(&self, processes: &Processes) -> bool
         ensures { result ≡ same_processes (processes_of self.now) processes.now }
     {
@@ -65,14 +65,14 @@ impl CommitMembers {
         true
     }
 
-    /// Whether each member has reported.
+    /// Returns whether every member has reported.
     pub fn is_filled(&self) -> bool
         ensures { result ≡ is_filled self.now }
     {
         self.as_slice().iter().all(|member| member.report.is_some())
     }
 
-    /// Whether the process is a member and has reported this ring as the one that it comes from.
+    /// Returns whether the process is a member and has reported `old` as the ring that it comes from.
     pub fn is_from(&self, old: &RingId, proc: ProcId) -> bool
         ensures { result ≡ has (transitional_set old.now self.now) proc }
     {
@@ -84,7 +84,7 @@ impl CommitMembers {
         false
     }
 
-    /// The transitional set: the members that come from this ring.
+    /// Returns the transitional set: the members that come from the ring `old`.
     pub fn transitional_set(&self, alloc: Global, old: &RingId) -> Result<Processes, AllocError>
         ensures { IfOk result (λ p. p ≡ transitional_set old.now self.now) }
     {
@@ -97,7 +97,7 @@ impl CommitMembers {
         Ok(Processes::of(list))
     }
 
-    /// The least aru that members from this ring reported, 0 where none comes from it.
+    /// Returns the least aru that the members from the ring `old` reported, or 0 if none comes from it.
     pub fn least_aru(&self, old: &RingId) -> u32
         ensures { result ≡ least_aru old.now self.now }
     {
@@ -115,7 +115,7 @@ impl CommitMembers {
         least.unwrap_or(0)
     }
 
-    /// The greatest number that members from this ring reported as handed up, 0 where none comes from it.
+    /// Returns the greatest number that the members from the ring `old` reported as handed up, or 0 if none comes from it.
     pub fn greatest_delivered(&self, old: &RingId) -> u32
         ensures { result ≡ greatest_delivered old.now self.now }
     {
@@ -130,8 +130,8 @@ impl CommitMembers {
         greatest
     }
 
-    /// Whether the process comes from this ring, or is in an obligation set that one of these members reported who
-    /// come from it.
+    /// Returns whether the process comes from the ring `old`, or is in an obligation set that was reported by one of
+    /// the members of `front` that come from it.
     #[tactic(auto, unfolding(crate::specs::OldRings::is_obliged))]
     fn is_obliged(&self, old: &RingId, front: &[CommitMember], proc: ProcId) -> bool
         ensures { result ≡ is_obliged old.now self.now front.now proc }
@@ -149,8 +149,8 @@ impl CommitMembers {
         false
     }
 
-    /// How many processes of this member's obligation set are neither in the transitional set nor in an obligation
-    /// set of these members.
+    /// Counts the processes of this member's obligation set that are neither in the transitional set nor in an
+    /// obligation set that the members of `front` reported.
     fn newly_obliged(&self, old: &RingId, front: &[CommitMember], member: &CommitMember) -> usize
         ensures value { result ≡ length (filter (λ p. not (is_obliged old.now self.now front.now p)) (obligation_from old.now member.now.report)) }
         ensures few { result ≤ 32 }
@@ -165,7 +165,7 @@ impl CommitMembers {
         count
     }
 
-    /// How many members come from this ring.
+    /// Counts the members that come from the ring `old`.
     fn count_from(&self, old: &RingId) -> usize
         ensures value { result ≡ length (transitional_set old.now self.now) }
         ensures few { result ≤ 32 }
@@ -179,7 +179,7 @@ impl CommitMembers {
         count
     }
 
-    /// How many processes the obligation union has; it takes no memory.
+    /// Counts the processes of the obligation union, which may be more than 32. Takes no memory.
     pub fn obligation_len(&self, old: &RingId) -> usize
         ensures { result ≡ length (obligation_union old.now self.now) }
     {
@@ -191,7 +191,8 @@ impl CommitMembers {
         count
     }
 
-    /// The obligation union: the transitional set with all obligation sets that it reported.
+    /// Returns the obligation union: the transitional set of the ring `old` with all obligation sets that its members
+    /// reported. `TooMany` if that would be more than 32 processes.
     pub fn obligation_union(&self, alloc: Global, old: &RingId) -> Result<Processes, SetFault>
         ensures { Makes result (obligation_union old.now self.now) }
     {

@@ -10,7 +10,7 @@ use crate::ranges::keeps_its_ranges;
 use crate::token::Token;
 use std::alloc::{AllocError, Global};
 
-/// What nodes send to each other.
+/// A packet: what nodes send to each other.
 #[derive(Debug, Drop)]
 pub enum Packet {
     Message(Message),
@@ -26,7 +26,7 @@ impl Packet {
     ghost use Rattle.totem_packets.specs.Ranges.{IsPacket};
     ghost use Rattle.totem_packets.specs.Spelling.{packet_bytes};
 
-    /// The bytes of the packet.
+    /// Returns the bytes of the packet.
     #[tactic(auto, using(crate::proofs::Decided::spelled_read))]
     pub fn encode(&self, alloc: Global) -> Result<Vec<u8>, AllocError>
         ensures spelled { IfOk result (λ bytes. bytes.items ≡ packet_bytes self.now) }
@@ -38,7 +38,7 @@ impl Packet {
         encode(alloc, self)
     }
 
-    /// The packet that all these bytes spell, or the first fault from left to right.
+    /// Returns the packet that all these bytes spell, or the first fault that is met from left to right.
     #[tactic(auto, using(crate::proofs::Decided::spelled_read, crate::proofs::Decided::found))]
     pub fn decode(alloc: Global, bytes: &[u8]) -> Result<Packet, PacketFault>
         // What is decoded is spelled so, and is in range.

@@ -7,10 +7,10 @@ use bytes::Bytes;
 use std::alloc::AllocError;
 use std::marker::Model;
 
-/// How many bytes a message may carry.
+/// How many bytes a message may carry at most.
 const MOST: usize = 1_024;
 
-/// The bytes that a message carries: 0 to 1,024. Copies share them.
+/// The bytes that a message carries, 0 to 1,024 of them. Copies share them.
 #[derive(Debug, Drop)]
 pub struct Payload {
     bytes: Bytes,
@@ -28,7 +28,7 @@ impl Model for Payload {
 }
 
 impl Payload {
-    /// The payload of these bytes; a refusal gives them back.
+    /// Makes the payload of these bytes. A refusal gives them back.
     pub fn new(bytes: Bytes) -> Result<Payload, Refused<Bytes>>
         ensures { MatchResult result (λ p. (p ≡ bytes) × IsPayload bytes)
             (λ r. (r.value ≡ bytes) × Refuses 0 1024 Anyhow bytes r.fault) }
@@ -42,7 +42,7 @@ impl Payload {
         Ok(Payload { bytes })
     }
 
-    /// The payload of bytes that are known not to be too many.
+    /// Makes the payload of bytes that are known not to be too many.
     pub fn of(bytes: Bytes) -> Payload
         requires { IsPayload bytes }
         ensures { result ≡ bytes }
@@ -57,7 +57,7 @@ impl Payload {
         self.bytes.as_slice()
     }
 
-    /// The bytes, without taking memory.
+    /// Returns the bytes, without taking memory.
     pub fn into_bytes(self) -> Bytes
         ensures { result ≡ self }
     {
@@ -65,7 +65,8 @@ impl Payload {
         bytes
     }
 
-    /// A copy that shares the bytes and takes no memory; it fails only where the count of owners is full.
+    /// Copies the payload without taking memory, since the copies share the bytes. Fails only where the bytes can count
+    /// no further owner.
     pub fn try_clone(&self) -> Result<Payload, AllocError>
         ensures { IfOk result (λ p. p ≡ self.now) }
     {

@@ -8,10 +8,10 @@ use std::alloc::{AllocError, Global};
 use std::marker::Model;
 use totem_ids::ProcId;
 
-/// How many processes a set may have.
+/// How many processes a set may have at most.
 pub const MOST: usize = 32;
 
-/// A set of processes: 0 to 32, strictly rising.
+/// A set of 0 to 32 processes, kept as a strictly rising list.
 #[derive(Debug, Drop)]
 pub struct Processes {
     procs: Vec<ProcId>,
@@ -29,7 +29,7 @@ impl Model for Processes {
 }
 
 impl Processes {
-    /// The set of these processes; a refusal gives the list back.
+    /// Makes the set of these processes. A refusal gives the list back with the first rule that it breaks.
     pub fn new(procs: Vec<ProcId>) -> Result<Processes, Refused<Vec<ProcId>>>
         ensures { MatchResult result (λ p. (p ≡ procs.items) × IsProcesses procs.items)
             (λ r. (r.value.items ≡ procs.items) × Refuses 0 32 IsBelow procs.items r.fault) }
@@ -47,7 +47,7 @@ impl Processes {
         })
     }
 
-    /// The set of processes that are known to keep the rules.
+    /// Makes the set of processes that are known to keep the rules.
     pub fn of(procs: Vec<ProcId>) -> Processes
         requires { IsProcesses procs.items }
         ensures { result ≡ procs.items }
@@ -62,7 +62,7 @@ impl Processes {
         &self.procs
     }
 
-    /// The processes, without taking memory.
+    /// Returns the processes as a vector, without taking memory.
     pub fn into_vec(self) -> Vec<ProcId>
         ensures { result.items ≡ self }
     {

@@ -51,7 +51,7 @@ fn maybe_report(alloc: Global, reader: &mut Reader) -> Result<Option<Report>, Pa
     }
 }
 
-/// A member whose process is above this one.
+/// Reads a member whose process is above `least`.
 #[tactic(auto, using(crate::proofs::Falling::passes_on), unfolding(crate::specs::Grammar::member_at))]
 fn member(alloc: Global, reader: &mut Reader, least: u16) -> Result<CommitMember, PacketFault>
     ensures { Reads (λ x. x) result reader.new (member_at least reader.old) }
@@ -61,7 +61,7 @@ fn member(alloc: Global, reader: &mut Reader, least: u16) -> Result<CommitMember
     Ok(CommitMember { proc, report })
 }
 
-/// That many rising members.
+/// Reads `count` members whose processes rise strictly.
 fn member_list(
     alloc: Global,
     reader: &mut Reader,

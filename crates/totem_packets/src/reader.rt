@@ -13,7 +13,7 @@ use std::alloc::Global;
 use std::marker::Model;
 use totem_ids::{ProcId, RingId};
 
-/// The bytes of a packet that are still to be read. After a fault nothing is said of what is left.
+/// The bytes of a packet that are still to be read. After a fault it is open which bytes are left.
 #[derive(Drop)]
 pub struct Reader<'a> {
     rest: &'a [u8],
@@ -40,7 +40,7 @@ impl<'a> Reader<'a> {
         self.rest.is_empty()
     }
 
-    /// That many bytes.
+    /// Takes the next `count` bytes.
     #[tactic(auto, unfolding(crate::specs::Fields::bytes_at))]
     fn front(&mut self, count: usize) -> Result<&'a [u8], PacketFault>
         ensures reads { Reads (λ x. x.now) result self.new (bytes_at count self.old) }
@@ -89,7 +89,7 @@ impl<'a> Reader<'a> {
         ]))
     }
 
-    /// A number above this one.
+    /// Reads a number that has to be above `least`.
     #[tactic(auto, using(crate::proofs::Falling::passes_on), unfolding(crate::specs::Fields::above_at))]
     pub fn number(&mut self, least: u32) -> Result<Number, PacketFault>
         ensures { Reads (λ x. x) result self.new (above_at w32 least self.old) }
@@ -112,7 +112,7 @@ impl<'a> Reader<'a> {
         Ok(TokenSeq::of(number))
     }
 
-    /// A process whose number is above this one.
+    /// Reads a process whose number has to be above `least`.
     #[tactic(auto, using(crate::proofs::Falling::passes_on), unfolding(crate::specs::Fields::above_at))]
     pub fn process(&mut self, least: u16) -> Result<ProcId, PacketFault>
         ensures { Reads (λ x. x) result self.new (above_at w16 least self.old) }
@@ -124,7 +124,7 @@ impl<'a> Reader<'a> {
         Ok(ProcId::of(number))
     }
 
-    /// A process that may be missing.
+    /// Reads a process that may be missing: 0 stands for none.
     #[tactic(auto, using(crate::proofs::Falling::passes_on), unfolding(crate::specs::Fields::maybe_at))]
     pub fn maybe_process(&mut self) -> Result<Option<ProcId>, PacketFault>
         ensures { Reads (λ x. x) result self.new (maybe_at self.old) }
@@ -133,7 +133,7 @@ impl<'a> Reader<'a> {
         Ok(ProcId::new(number))
     }
 
-    /// A count of at most this.
+    /// Reads a count that may be at most `most`.
     #[tactic(auto, using(crate::proofs::Falling::passes_on), unfolding(crate::specs::Fields::up_to_at))]
     pub fn count(&mut self, most: u8) -> Result<u8, PacketFault>
         ensures { Reads (λ x. x) result self.new (up_to_at w8 most self.old) }
@@ -154,7 +154,7 @@ impl<'a> Reader<'a> {
         Ok(RingId { seq, rep })
     }
 
-    /// The length of a payload.
+    /// Reads the length of a payload.
     #[tactic(auto, using(crate::proofs::Falling::passes_on), unfolding(crate::specs::Fields::up_to_at))]
     fn length(&mut self) -> Result<u16, PacketFault>
         ensures reads { Reads (λ x. x) result self.new (up_to_at w16 1024 self.old) }

@@ -2,7 +2,7 @@ use std::error::Error;
 use std::fmt;
 use thiserror::Error as ThisError;
 
-/// The first rule of a list that is broken. Elements count from 0.
+/// The first rule that a list breaks. Indices count from 0.
 #[derive(Clone, Copy, Debug, PartialEq, Eq, ThisError)]
 pub enum ListFault {
     #[error("there is none")]
@@ -13,7 +13,7 @@ pub enum ListFault {
     NotRising(usize),
 }
 
-/// A value that was not taken, given back with the rule that it breaks.
+/// A value that was refused, given back with the rule that it breaks.
 #[derive(Debug, Drop)]
 pub struct Refused<V> {
     pub fault: ListFault,

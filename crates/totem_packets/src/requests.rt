@@ -8,7 +8,7 @@ use crate::rising::first_fall;
 use std::alloc::{AllocError, Global};
 use std::marker::Model;
 
-/// How many numbers a token may ask for.
+/// How many numbers a token may ask for at most.
 const MOST: usize = 64;
 
 /// The numbers that a token asks for: 0 to 64, strictly rising.
@@ -29,7 +29,7 @@ impl Model for Requests {
 }
 
 impl Requests {
-    /// The requests for these numbers; a refusal gives the list back.
+    /// Makes the requests for these numbers. A refusal gives the list back with the first rule that it breaks.
     pub fn new(numbers: Vec<Number>) -> Result<Requests, Refused<Vec<Number>>>
         ensures { MatchResult result (λ q. (q ≡ numbers.items) × IsRequests numbers.items)
             (λ r. (r.value.items ≡ numbers.items) × Refuses 0 64 IsBelow numbers.items r.fault) }
@@ -47,7 +47,7 @@ impl Requests {
         })
     }
 
-    /// The requests for numbers that are known to keep the rules.
+    /// Makes the requests for numbers that are known to keep the rules.
     pub fn of(numbers: Vec<Number>) -> Requests
         requires { IsRequests numbers.items }
         ensures { result ≡ numbers.items }
@@ -62,7 +62,7 @@ impl Requests {
         &self.numbers
     }
 
-    /// The numbers, without taking memory.
+    /// Returns the numbers as a vector, without taking memory.
     pub fn into_vec(self) -> Vec<Number>
         ensures { result.items ≡ self }
     {

@@ -8,11 +8,11 @@ use crate::commit_member::CommitMember;
 use crate::number::Number;
 use totem_ids::ProcId;
 
-/// What has a number by which it is ordered.
+/// A type whose values have a number by which lists of them are ordered.
 pub trait Numbered {
     ghost number_of: { Self → ℕ };
 
-    /// What is true of each number.
+    /// What holds of every value because its type keeps its range.
     ghost is_in_range: { Self → Type 0 };
 
     fn number(&self) -> u32
@@ -52,7 +52,7 @@ impl Numbered for CommitMember {
     }
 }
 
-/// Where the numbers of a list stop rising strictly.
+/// Returns the index of the first element whose number is not above the one before it, or `None` if the list rises strictly.
 pub fn first_fall<T: Numbered>(list: &[T]) -> Option<usize>
     ensures found { IfSome result (λ at. FallsAt (λ a b. T.number_of a < T.number_of b) list.now at) }
     ensures rising { IfNone result (AllPairs (λ a b. T.number_of a < T.number_of b) list.now) }

@@ -4,7 +4,7 @@ ghost use Rattle.totem_packets.specs.declared.set_fault.SetFault.TheVariants.{Me
 use std::alloc::{AllocError, AllocFailed};
 use thiserror::Error;
 
-/// Why a set of processes was not made.
+/// Why a set of processes could not be made.
 #[derive(Clone, Copy, Debug, PartialEq, Eq, Error)]
 pub enum SetFault {
     #[error("there are more than 32 processes")]

@@ -5,18 +5,18 @@ use crate::token_seq::TokenSeq;
 use std::alloc::{AllocError, Global};
 use totem_ids::{ProcId, RingId};
 
-/// The token of a ring: who has it may send.
+/// The token of a ring: the member that has it may send.
 #[derive(Debug, Drop)]
 pub struct Token {
     pub ring: RingId,
     pub token_seq: TokenSeq,
-    /// The greatest number given to a message; 0 is none.
+    /// The greatest number that was given to a message; 0 means none.
     pub seq: u32,
-    /// Up to here all members are taken to hold all messages; 0 is none.
+    /// All members are taken to hold all messages up to this number; 0 means none.
     pub aru: u32,
-    /// Who holds `aru` down.
+    /// The member that holds `aru` down, if one does.
     pub aru_id: Option<ProcId>,
-    /// The numbers that are asked for.
+    /// The numbers of the messages that members lack and ask for.
     pub rtr: Requests,
 }
 

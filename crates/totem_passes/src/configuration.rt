@@ -1,4 +1,4 @@
-//! 2.3: one configuration in one form (docs/SPECIFICATIONS.md, "2 Changes of configuration").
+//! 2.3: each configuration has one form (docs/SPECIFICATIONS.md, "2 Changes of configuration").
 ghost use Rattle.std.specs.Prelude.{◌≡◌, ◌↔◌, ◌<◌, IsTrue, IfOk};
 ghost use Rattle.totem_evs.specs.Answers.{Finds};
 ghost use Rattle.totem_passes.specs.Bad.{IsForeignChange, AreTwoForms};
@@ -13,7 +13,8 @@ use std::alloc::{AllocError, Global};
 use totem_evs::{Entry, Places, Run, SpecNo};
 use totem_ids::{ConfId, Place};
 
-/// Asks for changes by others than the members, and for two forms of one configuration.
+/// Looks for changes by processes that are no members, for two changes of one log to one configuration, and for two
+/// forms of a configuration.
 #[derive(Drop)]
 struct TwoForms<'r> {
     run: &'r Run,
@@ -63,7 +64,7 @@ impl Test for TwoForms<'_> {
     }
 }
 
-/// The least events that break 2.3.
+/// Finds the least events that break 2.3.
 pub fn find(alloc: Global, run: &Run) -> Result<Option<Places>, AllocError>
     ensures { IfOk result (Finds run.now.logs SpecNo.Configuration) }
 {

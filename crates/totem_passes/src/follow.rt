@@ -17,7 +17,7 @@ fn is_change_to(entry: &Entry, ring: &RingId) -> bool
     }
 }
 
-/// The first change of a log to the regular configuration of this ring.
+/// Returns the index of a log's first change to the regular configuration of this ring.
 fn first_change(log: &[Entry], ring: &RingId) -> Option<usize>
     ensures found { IfSome result (IsFirstChange log.now (ConfId.Regular ring.now)) }
     ensures within { IfSome result (λ i. i < length log.now) }
@@ -46,7 +46,7 @@ fn follows(log: &[Entry], ring: &RingId, conf: &ConfId) -> bool
     turn.next.is(conf)
 }
 
-/// Whether it is the regular configuration of the ring, or what follows that one in this log.
+/// Returns whether `conf` is the regular configuration of the ring, or what follows that one in this log.
 pub fn is_in(log: &[Entry], ring: &RingId, conf: &ConfId) -> bool
     ensures { IsTrue result ↔ Com log.now ring.now conf.now }
 {

@@ -1,4 +1,4 @@
-//! The regular configuration that each transitional one follows in a log (docs/SPECIFICATIONS.md, "Following").
+//! Which regular configuration each transitional one follows in a log (docs/SPECIFICATIONS.md, "Following").
 ghost use Rattle.std.specs.Prelude.{◌≡◌, ◌↔◌, IsTrue};
 ghost use Rattle.totem_passes.specs.Followed.{KnowsVisit, AreFollowed};
 
@@ -11,7 +11,8 @@ use std::collections::{BTreeMap, BTreeSet};
 use totem_evs::Entry;
 use totem_ids::{ConfId, ProcId, RingId};
 
-/// Who changed to which regular configuration, and the ring of the one that a transitional configuration follows.
+/// Which process changed to which regular configuration, and, for each process and transitional configuration, the ring
+/// of the regular one that it follows there.
 #[derive(Drop)]
 pub struct Followed {
     pub visits: BTreeSet<Visit>,

@@ -21,8 +21,8 @@ impl Same for Members {
     }
 }
 
-/// The place of each process's change to each configuration, and the members of each configuration, or that there are
-/// several.
+/// The place of each process's change to each configuration, and the members of each configuration. Where there are
+/// several, it keeps only that there are several.
 #[derive(Drop)]
 pub struct Forms {
     pub visits: Met<Visit, Place>,

@@ -1,4 +1,4 @@
-//! The first passes of the audit: each specification's room finds the least events that break it.
+//! The first passes of the audit. The room of each specification finds the least events that break it.
 #![tactic(auto)]
 
 mod configuration;

@@ -6,13 +6,13 @@ ghost use Rattle.totem_passes.specs.Met.{IsMet};
 use std::alloc::{AllocError, Global};
 use std::collections::BTreeMap;
 
-/// Values that can be told apart.
+/// Values that can be compared in contracts.
 pub trait Same {
     fn is_same(&self, other: &Self) -> bool
         ensures { IsTrue result ↔ (self.now ≡ other.now) };
 }
 
-/// The one value that was met under each key, or nothing where several were.
+/// The value that was met under each key, or `None` if several were.
 #[derive(Drop)]
 pub struct Met<K: Ord, V> {
     pub values: BTreeMap<K, Option<V>>,
@@ -27,7 +27,7 @@ impl<K: Ord + Drop, V: Same + Drop> Met<K, V> {
         }
     }
 
-    /// One more value under this key; where memory is wanting, all stays as it was.
+    /// Notes that this value was met under this key. If memory is refused, nothing changes.
     pub fn meet(&mut self, key: K, value: V) -> Result<(), AllocError>
         ensures met { OnOk result (IsMet K.cmp self.old.values self.new.values key value) }
         ensures err { OnErr result (IsUnchanged self.old.values self.new.values) }
@@ -46,7 +46,7 @@ impl<K: Ord + Drop, V: Same + Drop> Met<K, V> {
         Ok(())
     }
 
-    /// Whether this value, and no other, was met under this key.
+    /// Returns whether this value and no other was met under this key.
     pub fn is_only(&self, key: &K, value: &V) -> bool
         ensures { IsTrue result ↔ (get K.cmp self.now.values key.now ≡ Some (Some value.now)) }
     {

@@ -39,7 +39,7 @@ fn standing_after(standing: &Option<ConfId>, entry: &Entry) -> Option<ConfId>
     }
 }
 
-/// The first entry of a log that stands out of place.
+/// Returns the index of the first entry of a log that stands out of place.
 fn first_in(log: &[Entry]) -> Option<usize>
     ensures found { IfSome result (λ i. IsMisplaced log.now i) }
     ensures least { IfSome result (λ i. (k : ℕ) → k < i → IsMisplaced log.now k → ⊥) }
@@ -58,7 +58,7 @@ fn first_in(log: &[Entry]) -> Option<usize>
     None
 }
 
-/// The first event of a run that stands out of place.
+/// Returns the first event of a run that stands out of place.
 fn first_of(run: &Run) -> Option<Place>
     ensures least { IfSome result (λ e. IsLeastBreak run.now.logs SpecNo.Misplaced (e ∷ [])) }
     ensures none { IfNone result ((p : ℕ) → StaysInPlace (log_of run.now.logs p)) }
@@ -74,7 +74,7 @@ fn first_of(run: &Run) -> Option<Place>
     None
 }
 
-/// The least event that breaks 2.2.
+/// Finds the least event that breaks 2.2.
 pub fn find(alloc: Global, run: &Run) -> Result<Option<Places>, AllocError>
     ensures { IfOk result (Finds run.now.logs SpecNo.Misplaced) }
 {

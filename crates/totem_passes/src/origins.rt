@@ -1,4 +1,4 @@
-//! From which ring logs come to each configuration.
+//! From which rings logs come to each configuration.
 ghost use Rattle.totem_passes.specs.Origins.{KnowsOrigin};
 
 use crate::met::{Met, Same};
@@ -14,7 +14,8 @@ impl Same for RingId {
     }
 }
 
-/// The ring of the regular configuration from which logs come to each configuration, or that there are several.
+/// The ring of the regular configuration from which logs come to each configuration. Where there are several, it keeps
+/// only that there are several.
 #[derive(Drop)]
 pub struct Origins {
     pub rings: Met<ConfId, RingId>,

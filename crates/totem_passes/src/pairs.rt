@@ -1,4 +1,4 @@
-//! The least list of one entry that is bad alone, or of two that are bad together.
+//! Finds the least list of one entry that is bad alone, or of two that are bad together.
 ghost use Rattle.std.specs.Prelude.{◌≡◌, ◌↔◌, ℕ, ◌<◌, List, IsTrue, IfOk, MatchOption};
 ghost use Rattle.std.specs.Bool.{OnFalse};
 ghost use Rattle.totem_ids.specs.declared.place.Place.{Place};
@@ -21,7 +21,7 @@ pub struct Standing<'a> {
     pub entry: &'a Entry,
 }
 
-/// What is bad of one entry of a run, and of two.
+/// Says which entries of a run are bad alone, and which two are bad together.
 pub trait Test {
     /// The logs of the run.
     ghost of: { Self → List Log };
@@ -39,13 +39,13 @@ pub trait Test {
     fn is_pair(&self, first: &Standing, second: &Standing) -> bool
         ensures { IsTrue result ↔ pair self.now first.now.proc first.now.at first.now.entry.now second.now.proc second.now.at second.now.entry.now };
 
-    /// Whether an entry may be bad together with this one: a quick test, which spares the search for what is bad with none.
+    /// Returns `false` only if no entry is bad together with this one: a quick test, which then spares the search.
     fn may_pair(&self, first: &Standing) -> bool
         requires { first.now.at < 1000000 }
         ensures { OnFalse result (HoldsOfNone (IsOne (of self.now) (pair self.now first.now.proc first.now.at first.now.entry.now))) };
 }
 
-/// The entries that are bad together with this one.
+/// Looks for entries that are bad together with this one.
 #[derive(Clone, Copy)]
 struct Partners<'t, 'e, T> {
     test: &'t T,
@@ -107,7 +107,7 @@ impl<T: Test> Relation for OneOrTwo<'_, T> {
     }
 }
 
-/// The least list of one or two entries of its run that are bad by this test.
+/// Finds the least list of one or two entries of the run that are bad by this test.
 pub fn least_bad<T: Test>(test: &T, alloc: Global) -> Result<Option<Places>, AllocError>
     ensures { IfOk result (λ found. MatchOption found (HoldsOfNone (IsOneOrTwo (T.of test.now) (T.alone test.now) (T.pair test.now)))
         (IsLeast (IsOneOrTwo (T.of test.now) (T.alone test.now) (T.pair test.now)))) }

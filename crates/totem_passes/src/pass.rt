@@ -7,7 +7,7 @@ use crate::{configuration, misplaced, turns, twice, unsent};
 use std::alloc::{AllocError, Global};
 use totem_evs::{Fault, Places, Run, SpecNo};
 
-/// The faults with one more, if there is one.
+/// Appends a fault to the list, if one was found.
 pub fn with_found(
     mut faults: Vec<Fault>,
     spec: SpecNo,
@@ -21,8 +21,8 @@ pub fn with_found(
     Ok(faults)
 }
 
-/// Pass A: for each of 1.4, 2.2, 2.3 and 2.4 that the run breaks, in this order, its least events. Want of memory is no
-/// answer.
+/// Pass A: for each of 1.4, 2.2, 2.3 and 2.4 that the run breaks, in this order, its least events. `Err` is want of
+/// memory, and says nothing of the run.
 pub fn pass_a(alloc: Global, run: &Run) -> Result<Vec<Fault>, AllocError>
     ensures { IfOk result (λ faults. Lists run.now.logs pass_a faults.items) }
 {
@@ -36,8 +36,8 @@ pub fn pass_a(alloc: Global, run: &Run) -> Result<Vec<Fault>, AllocError>
     with_found(forms, SpecNo::Turns, turns::find(alloc, run)?)
 }
 
-/// Pass B: the least event that breaks 1.3, if one does. Want of memory is no answer. It serves runs that have passed A,
-/// which it judges in one walk; a run that breaks 2.3 or 2.4 may cost a search for each delivery.
+/// Pass B: the least event that breaks 1.3, if one does. `Err` is want of memory, and says nothing of the run. The pass is made
+/// for runs that have passed A, which it judges in one walk; in a run that breaks 2.3 or 2.4 each delivery may cost a search.
 pub fn pass_b(alloc: Global, run: &Run) -> Result<Vec<Fault>, AllocError>
     ensures { IfOk result (λ faults. Lists run.now.logs pass_b faults.items) }
 {

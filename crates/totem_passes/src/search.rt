@@ -1,4 +1,4 @@
-//! The least list of events of a run of which something holds, place by place.
+//! Finds the least list of events of a run for which something holds, place by place.
 ghost use Rattle.std.specs.Prelude.{◌≡◌, ◌<◌, ◌≤◌, IfOk, MatchOption, List, ◌∷◌, length};
 ghost use Rattle.totem_ids.specs.declared.place.Place.{Place};
 ghost use Rattle.totem_evs.specs.declared.log.Log.{Log};
@@ -11,13 +11,13 @@ use totem_ids::{Place, ProcId};
 
 /// A relation on lists of events of one run.
 pub trait Relation {
-    /// The run.
+    /// The logs of the run.
     ghost of: { Self → List Log };
 
-    /// What it says of a list of places.
+    /// What the relation says of a list of places.
     ghost holds: { Self → List Place → Type 0 };
 
-    /// How the least list goes on that begins at this entry of a process's log.
+    /// Returns how the least list goes on that begins with the entry at index `at` of a process's log, or `None` if none does.
     fn rest(
         &self,
         alloc: Global,
@@ -31,7 +31,7 @@ pub trait Relation {
         ensures { IfOk result (λ found. MatchOption found (NoneFrom (holds self.now) proc at) (λ rest. IsLeastFrom (holds self.now) proc at rest.items)) };
 }
 
-/// The list with this place before it.
+/// Returns the list with this place in front.
 pub fn begin_with(first: Place, mut rest: Vec<Place>) -> Result<Vec<Place>, AllocError>
     ensures { IfOk result (λ list. list.items ≡ first ∷ rest.items) }
 {
@@ -39,7 +39,7 @@ pub fn begin_with(first: Place, mut rest: Vec<Place>) -> Result<Vec<Place>, Allo
     Ok(rest)
 }
 
-/// The least list that begins in this log.
+/// Returns the least list that begins in this log.
 fn least_in<R: Relation>(
     relation: &R,
     alloc: Global,
@@ -63,7 +63,7 @@ fn least_in<R: Relation>(
     Ok(None)
 }
 
-/// The least list that begins with an event of the run.
+/// Returns the least list that begins with an event of the run, or `None` if there is none.
 pub fn least<R: Relation>(
     relation: &R,
     alloc: Global,

@@ -1,4 +1,4 @@
-//! The messages that were sent, each with its regular configuration.
+//! Which messages were sent in which regular configuration.
 ghost use Rattle.std.specs.Prelude.{◌≡◌, ◌↔◌, IsTrue};
 ghost use Rattle.std.specs.BTreeSet.{contains};
 ghost use Rattle.totem_passes.specs.Sendings.{KnowsSend, WereSent};
@@ -10,7 +10,7 @@ use std::collections::BTreeSet;
 use totem_evs::Entry;
 use totem_ids::{ConfId, ProcId};
 
-/// The sends in regular configurations.
+/// The sends in regular configurations: each message, with the ring.
 #[derive(Drop)]
 pub struct Sendings {
     pub sends: BTreeSet<Sending>,

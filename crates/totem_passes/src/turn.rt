@@ -7,7 +7,7 @@ ghost use Rattle.totem_passes.specs.Turns.{HasNoTurn, IsWrongTurn};
 use totem_evs::{Entry, Members};
 use totem_ids::ConfId;
 
-/// A change, and the next change after it.
+/// A change, and the next change of the same log.
 #[derive(Clone, Copy)]
 pub struct Turn<'a> {
     pub conf: &'a ConfId,
@@ -17,7 +17,7 @@ pub struct Turn<'a> {
     pub next_members: &'a Members,
 }
 
-/// The change at this index, if it is one, and the next one, if there is one.
+/// Returns the change at this index and the next one, or `None` unless there are both.
 pub fn turn_at(log: &[Entry], at: usize) -> Option<Turn<'_>>
     requires { at < length log.now }
     ensures found { IfSome result (λ turn. ChangesNext log.now at turn.next_at turn.conf.now turn.next.now turn.members.now turn.next_members.now) }
@@ -52,7 +52,7 @@ fn contains_all(members: &Members, others: &Members) -> bool
     true
 }
 
-/// Whether the second of these may not come next after the first.
+/// Returns whether the second change may not come next after the first.
 pub fn is_wrong(conf: &ConfId, members: &Members, next: &ConfId, next_members: &Members) -> bool
     ensures { IsTrue result ↔ IsWrongTurn conf.now members.now next.now next_members.now }
 {

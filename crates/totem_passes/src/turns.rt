@@ -1,4 +1,4 @@
-//! 2.4: regular and transitional configurations by turns (docs/SPECIFICATIONS.md, "2 Changes of configuration").
+//! 2.4: regular and transitional configurations take turns (docs/SPECIFICATIONS.md, "2 Changes of configuration").
 ghost use Rattle.std.specs.Prelude.{◌≡◌, ◌↔◌, ℕ, ◌<◌, IsTrue, IfOk, MatchOption, length};
 ghost use Rattle.totem_evs.specs.Events.{log_of, IsChange, IsTransitional};
 ghost use Rattle.totem_evs.specs.ChangeFaults.{BeginsTransitional};
@@ -16,8 +16,8 @@ use std::alloc::{AllocError, Global};
 use totem_evs::{Entry, Places, Run, SpecNo};
 use totem_ids::{ConfId, Place, ProcId, RingId};
 
-/// Whether a change stands before this index. The nearest entries are asked first, so that all the changes of a log that
-/// has one take no more than a walk along it.
+/// Returns whether a change stands before this index. It looks at the nearest entries first, so asking it for all
+/// changes of a log that has one takes no more than one walk along the log.
 fn has_change_before(log: &[Entry], at: usize) -> bool
     requires { at < length log.now }
     ensures { IsTrue result ↔ ((k : ℕ) × (k < at) × IsChange log.now k) }
@@ -30,7 +30,7 @@ fn has_change_before(log: &[Entry], at: usize) -> bool
     false
 }
 
-/// Whether the change at this index is the first of its log, and to a transitional configuration.
+/// Returns whether the change at this index is the first of its log, and to a transitional configuration.
 fn begins_transitional(log: &[Entry], at: usize) -> bool
     requires { at < length log.now }
     ensures { IsTrue result ↔ BeginsTransitional log.now at }
@@ -41,7 +41,7 @@ fn begins_transitional(log: &[Entry], at: usize) -> bool
     }
 }
 
-/// Whether it is the regular configuration of another ring.
+/// Returns whether `conf` is the regular configuration of another ring.
 fn is_of_other_ring(conf: &ConfId, ring: &RingId) -> bool
     ensures { IsTrue result ↔ IsOfOtherRing ring.now conf.now }
 {
@@ -51,7 +51,7 @@ fn is_of_other_ring(conf: &ConfId, ring: &RingId) -> bool
     }
 }
 
-/// The changes by which logs above `proc` come to a configuration from another ring.
+/// Looks for the changes by which logs above `proc` come to a configuration from another ring.
 #[derive(Clone, Copy)]
 struct OtherOrigins<'r, 'c> {
     run: &'r Run,
@@ -92,7 +92,7 @@ impl Relation for OtherOrigins<'_, '_> {
     }
 }
 
-/// What breaks 2.4, neighbours in their order.
+/// Looks for what breaks 2.4, with the places of neighbours in their order.
 #[derive(Drop)]
 struct Turns<'r> {
     run: &'r Run,
@@ -144,7 +144,7 @@ impl Relation for Turns<'_> {
     }
 }
 
-/// The least events that break 2.4.
+/// Finds the least events that break 2.4.
 pub fn find(alloc: Global, run: &Run) -> Result<Option<Places>, AllocError>
     ensures { IfOk result (Finds run.now.logs SpecNo.Turns) }
 {

@@ -1,4 +1,4 @@
-//! 1.4: each message once (docs/SPECIFICATIONS.md, "1 Basic delivery").
+//! 1.4: each message is sent and delivered once (docs/SPECIFICATIONS.md, "1 Basic delivery").
 ghost use Rattle.std.specs.Prelude.{◌≡◌, ◌↔◌, IsTrue, IfOk};
 ghost use Rattle.totem_evs.specs.Events.{IsTransitional};
 ghost use Rattle.std.specs.Bool.{OnTrue};
@@ -18,7 +18,7 @@ use totem_evs::{Entry, Places, Run, SpecNo};
 use totem_ids::{MsgId, Place};
 use totem_table::{Table, is_once};
 
-/// Asks for sends in transitional configurations, and for what is sent or delivered twice.
+/// Looks for sends in transitional configurations, and for what is sent or delivered twice.
 #[derive(Drop)]
 struct Twice<'r> {
     run: &'r Run,
@@ -74,7 +74,7 @@ impl Test for Twice<'_> {
     }
 }
 
-/// A quick test over the numbers of the messages. A no is not to be trusted.
+/// Returns `true` only if the run meets 1.4: a quick test over the numbers of the messages. `false` says nothing.
 fn is_met(alloc: Global, run: &Run) -> Result<bool, AllocError>
     ensures { IfOk result (λ met. OnTrue met (DeliversOnce run.now.logs)) }
 {
@@ -84,7 +84,7 @@ fn is_met(alloc: Global, run: &Run) -> Result<bool, AllocError>
     }
 }
 
-/// The least events that break 1.4.
+/// Finds the least events that break 1.4.
 pub fn find(alloc: Global, run: &Run) -> Result<Option<Places>, AllocError>
     ensures { IfOk result (Finds run.now.logs SpecNo.Twice) }
 {

@@ -1,4 +1,4 @@
-//! 1.3: what is delivered was sent for this configuration (docs/SPECIFICATIONS.md, "1 Basic delivery").
+//! 1.3: what is delivered was sent for its configuration (docs/SPECIFICATIONS.md, "1 Basic delivery").
 ghost use Rattle.std.specs.Prelude.{◌≡◌, ◌↔◌, ◌<◌, IsTrue, IfOk, MatchOption, length};
 ghost use Rattle.std.specs.Bool.{OnTrue};
 ghost use Rattle.totem_evs.specs.Events.{log_of, WasSentIn};
@@ -21,7 +21,7 @@ use std::alloc::{AllocError, Global};
 use totem_evs::{Entry, Places, Run, SpecNo};
 use totem_ids::{ConfId, MsgId, Place, ProcId, RingId};
 
-/// The sends for one delivery.
+/// Looks for the sends for which one delivery may stand.
 #[derive(Clone, Copy)]
 struct Sends<'r, 'l, 'm, 'c> {
     run: &'r Run,
@@ -63,7 +63,7 @@ impl Relation for Sends<'_, '_, '_, '_> {
     }
 }
 
-/// Whether a message that this log delivers in a configuration was sent for it.
+/// Returns whether a message that this log delivers in `conf` was sent for that configuration.
 fn was_sent(
     alloc: Global,
     run: &Run,
@@ -85,7 +85,7 @@ fn was_sent(
     }
 }
 
-/// The deliveries of what was not sent for them.
+/// Looks for deliveries of messages that were not sent for them.
 #[derive(Drop)]
 struct Unsent<'r> {
     run: &'r Run,
@@ -96,14 +96,14 @@ struct Unsent<'r> {
 }
 
 impl Unsent<'_> {
-    /// Whether the message is known to be sent in the regular configuration of this ring.
+    /// Returns `true` only if the message was sent in the regular configuration of this ring.
     fn was_sent_in(&self, message: MsgId, ring: RingId) -> bool
         ensures { OnTrue result (WasSentIn self.now.run.now.logs message (ConfId.Regular ring)) }
     {
         self.sendings.sends.contains(&Sending { message, ring })
     }
 
-    /// A quick test, which spares a search: whether what this process delivers is known to be sent for it.
+    /// Returns `true` only if what this process delivers in `conf` was sent for it: a quick test, which spares a search.
     fn is_sent(&self, proc: ProcId, message: MsgId, conf: &ConfId) -> bool
         ensures { OnTrue result (WasSentTo self.now.run.now.logs (log_of self.now.run.now.logs proc) message conf.now) }
     {
@@ -146,7 +146,7 @@ impl Relation for Unsent<'_> {
     }
 }
 
-/// The least events that break 1.3.
+/// Finds the least events that break 1.3.
 pub fn find(alloc: Global, run: &Run) -> Result<Option<Places>, AllocError>
     ensures { IfOk result (Finds run.now.logs SpecNo.Unsent) }
 {

@@ -10,11 +10,11 @@ use totem_ids::{ProcId, RingId};
 use totem_packets::{CommitMembers, CommitToken, Processes, SetFault};
 use totem_ring::RingState;
 
-/// How many processes a set may have.
+/// How many processes a set may have at most.
 const MOST: usize = 32;
 
-/// Whether a recovery may begin: the token reports for `me` the ring of `prev`, and O has at most 32 processes. It takes no
-/// memory.
+/// Returns whether a recovery may begin: the token reports for `me` the ring of `prev`, and O has at most 32 processes.
+/// Takes no memory.
 pub fn is_ready(me: ProcId, prev: &RingState, token: &CommitToken) -> bool
     ensures { IsTrue result ↔ IsReady me prev.now token.now }
 {
@@ -22,7 +22,7 @@ pub fn is_ready(me: ProcId, prev: &RingState, token: &CommitToken) -> bool
     token.members.is_from(&old, me) && token.members.obligation_len(&old) <= MOST
 }
 
-/// The members of the new ring.
+/// Returns the members of the new ring.
 pub(crate) fn members_of(alloc: Global, members: &CommitMembers) -> Result<Members, AllocError>
     ensures { IfOk result (λ m. m ≡ processes_of members.now) }
 {
@@ -32,7 +32,7 @@ pub(crate) fn members_of(alloc: Global, members: &CommitMembers) -> Result<Membe
     Ok(Members::of(procs.into_vec()))
 }
 
-/// The members that come from the ring of `me`.
+/// Returns the transitional set: the members that come from the ring `old`, as `me` does.
 pub(crate) fn transitional_of(
     alloc: Global,
     old: &RingId,
@@ -47,7 +47,7 @@ pub(crate) fn transitional_of(
     Ok(Members::of(procs.into_vec()))
 }
 
-/// To whom those owe messages who come from this ring.
+/// Returns the obligation union: the processes to which the members from the ring `old` owe the delivery of their messages.
 pub(crate) fn obliged_of(
     alloc: Global,
     old: &RingId,
@@ -63,7 +63,7 @@ pub(crate) fn obliged_of(
     }
 }
 
-/// The obligation set that this process reported.
+/// Returns the obligation set that this process reported.
 pub(crate) fn reported_obligation(
     alloc: Global,
     members: &CommitMembers,

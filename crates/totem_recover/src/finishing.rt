@@ -1,4 +1,4 @@
-//! What is written of the old ring (docs/PROTOCOL.md, "The finish").
+//! The entries that are written when the old ring is left (docs/PROTOCOL.md, "The finish").
 ghost use Rattle.std.specs.Prelude.{◌≡◌, ◌+◌, ◌++◌, ◌∷◌, [], IfOk, OnOk, length};
 ghost use Rattle.totem_ring.specs.Rings.{going_up};
 ghost use Rattle.totem_recover.specs.Exchange.{held_above};
@@ -11,7 +11,7 @@ use totem_ids::{ConfId, MsgId};
 use totem_packets::{Body, Message, Processes};
 use totem_ring::is_agreed;
 
-/// The delivery of a client's message; the others have none.
+/// Returns the delivery of a client's message. Any other message has none.
 fn delivery(conf: &ConfId, message: &Message) -> Option<Entry>
     ensures { result ≡ delivery conf.now message.now }
 {
@@ -28,7 +28,7 @@ fn delivery(conf: &ConfId, message: &Message) -> Option<Entry>
     }
 }
 
-/// Writes the delivery of a message, if it has one.
+/// Appends the delivery of a message, if it has one.
 pub fn deliver(entries: &mut Vec<Entry>, conf: &ConfId, message: &Message) -> Result<(), AllocError>
     ensures { OnOk result (entries.new.items ≡ entries.old.items ++ deliveries conf.now (message.now ∷ [])) }
 {
@@ -38,7 +38,7 @@ pub fn deliver(entries: &mut Vec<Entry>, conf: &ConfId, message: &Message) -> Re
     Ok(())
 }
 
-/// Writes the regular part, and answers the last number that it takes.
+/// Appends the deliveries of the regular part, and returns the last number that belongs to it.
 pub(crate) fn write_regular(
     entries: &mut Vec<Entry>,
     conf: &ConfId,
@@ -63,7 +63,7 @@ pub(crate) fn write_regular(
     Ok(last)
 }
 
-/// Writes the rest: before the first gap all, behind it only what those in O sent.
+/// Appends the deliveries of the rest: before the first gap all, behind it only those of messages that processes in O sent.
 pub(crate) fn write_rest(
     entries: &mut Vec<Entry>,
     conf: &ConfId,

@@ -1,4 +1,4 @@
-//! Marks: who has sent all its old messages (docs/PROTOCOL.md, "Recovery").
+//! Marks: each says that its sender has sent all its old messages (docs/PROTOCOL.md, "Recovery").
 ghost use Rattle.std.specs.Prelude.{◌≡◌, map};
 ghost use Rattle.totem_recover.specs.Exchange.{is_mark, mark_of, greatest_of_all, is_reached};
 
@@ -16,7 +16,7 @@ fn is_mark(body: &Body) -> bool
     }
 }
 
-/// The number of the process's mark.
+/// Returns the least number of a mark that this process sent.
 fn mark_of(held: &BTreeMap<u32, Message>, proc: ProcId) -> Option<u32>
     ensures { result ≡ mark_of held.now.entries proc }
 {
@@ -28,7 +28,7 @@ fn mark_of(held: &BTreeMap<u32, Message>, proc: ProcId) -> Option<u32>
     None
 }
 
-/// The number of the last mark, if each member's is held.
+/// Returns the number of the last of the members' marks, or `None` unless a mark of each member is held.
 pub(crate) fn last_mark(members: &[ProcId], held: &BTreeMap<u32, Message>) -> Option<u32>
     ensures { result ≡ greatest_of_all (map (mark_of held.now.entries) members.now) }
 {
@@ -39,7 +39,7 @@ pub(crate) fn last_mark(members: &[ProcId], held: &BTreeMap<u32, Message>) -> Op
     Some(last)
 }
 
-/// Whether this number is there, and is at most `top`.
+/// Returns whether there is this mark and its number is at most `top`.
 pub(crate) fn is_reached(mark: Option<u32>, top: u32) -> bool
     ensures { result ≡ is_reached mark top }
 {

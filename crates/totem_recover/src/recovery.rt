@@ -11,25 +11,25 @@ use totem_ids::{ConfId, ProcId, RingId};
 use totem_packets::{Body, CommitToken, Processes};
 use totem_ring::{RingOut, RingState};
 
-/// A member on its way from its old ring to a new one. Both rings' states stay with the caller.
+/// A member on its way from its old ring to a new one. The caller keeps the states of both rings.
 #[derive(Debug, Drop)]
 pub struct Recovery {
     me: ProcId,
     ring: RingId,
     members: Members,
-    /// The members that come from the same old ring.
+    /// The members of the new ring that come from this process's old ring.
     transitional: Members,
-    /// The greatest number that one of those handed up on the old ring.
+    /// The greatest number that one of these members reported as handed up on the old ring.
     high: u32,
-    /// To whom messages are owed once all marks are held.
+    /// The processes to which the delivery of their messages is owed once all marks are held.
     obliged: Processes,
-    /// To whom messages are owed until then.
+    /// The processes to which it is owed until then.
     obliged_before: Processes,
     holds_all_marks: bool,
     list: Vec<Body>,
-    /// How many bodies of the list were numbered by a visit.
+    /// How many bodies of the list visits have numbered.
     numbered: usize,
-    /// The greatest number of mine on the new ring that was noted.
+    /// The greatest number on the new ring that was noted as this process's own.
     sent: u32,
 }
 
@@ -58,8 +58,8 @@ impl Recovery {
     ghost use Rattle.totem_recover.specs.Exchange.{IsReady, new_recovery, next_bodies, on_ring, obligation_after, last_mark, is_done};
     ghost use Rattle.totem_recover.specs.Finish.{finish};
 
-    /// The recovery that begins as this commit token ends: from the ring of `prev` to that of the token. That it may begin is
-    /// what `is_ready` tests.
+    /// Begins the recovery to which this commit token leads, from the ring of `prev` to the ring of the token.
+    /// `is_ready` tests whether it may begin.
     pub fn new(
         alloc: Global,
         me: ProcId,
@@ -86,7 +86,7 @@ impl Recovery {
         })
     }
 
-    /// The next bodies of the list, 16 at most: what waits on the new ring at its next visit.
+    /// Returns copies of the next bodies of the list, 16 at most: they are to wait on the new ring for its next visit.
     pub fn next_bodies(&self, alloc: Global) -> Result<Vec<Body>, AllocError>
         ensures { IfOk result (λ bodies. bodies.items ≡ next_bodies self.now) }
     {
@@ -97,8 +97,8 @@ impl Recovery {
         copies_of(alloc, &left[..MOST_AT_A_VISIT])
     }
 
-    /// Notes a visit of the new ring's token: what it numbered, and who is owed messages. Answers whether the recovery is
-    /// done. It takes no memory.
+    /// Notes a visit of the new ring's token: which bodies it numbered, and what the obligation set is from now on.
+    /// Returns whether the recovery is done. Takes no memory.
     pub fn on_ring(&mut self, ring: &RingState, out: &RingOut) -> bool
         ensures after { self.new ≡ on_ring self.old ring.now out.now.packets.items }
         ensures done { result ≡ is_done self.new ring.now }
@@ -112,7 +112,7 @@ impl Recovery {
         is_reached(last, ring.handed())
     }
 
-    /// To whom this process owes messages.
+    /// Returns the obligation set: the processes to which this one owes the delivery of their messages.
     pub fn obligation(&self) -> &Processes
         ensures { result.now ≡ self.now.obligation }
     {
@@ -123,7 +123,7 @@ impl Recovery {
         }
     }
 
-    /// To whom it owes messages once a visit is noted that left the new ring in this state.
+    /// Returns the obligation set after a visit that left the new ring in this state.
     pub fn obligation_after(&self, ring: &RingState) -> &Processes
         ensures { result.now ≡ obligation_after self.now ring.now }
     {
@@ -134,21 +134,21 @@ impl Recovery {
         }
     }
 
-    /// The number of the last mark on the new ring, if every member's is held.
+    /// Returns the number of the last of the members' marks on the new ring, or `None` unless each member's mark is held.
     pub fn last_mark(&self, ring: &RingState) -> Option<u32>
         ensures { result ≡ last_mark self.now ring.now }
     {
         last_mark(self.members.as_slice(), ring.held())
     }
 
-    /// Whether every member's mark is handed up: the old ring can be left.
+    /// Returns whether every member's mark is handed up, so that the old ring can be left.
     pub fn is_done(&self, ring: &RingState) -> bool
         ensures { result ≡ is_done self.now ring.now }
     {
         is_reached(self.last_mark(ring), ring.handed())
     }
 
-    /// What is written when the old ring is left.
+    /// Returns the entries that are written when the old ring is left (docs/PROTOCOL.md, "The finish").
     pub fn finish(&self, alloc: Global, prev: &RingState) -> Result<Vec<Entry>, AllocError>
         ensures { IfOk result (λ entries. entries.items ≡ finish self.now prev.now) }
     {

@@ -9,10 +9,10 @@ use totem_ids::ProcId;
 use totem_packets::{Body, Message, Packet};
 use totem_ring::To;
 
-/// How many bodies a visit numbers at most.
+/// How many bodies one visit numbers at most.
 pub(crate) const MOST_AT_A_VISIT: usize = 16;
 
-/// A client's message as a body that carries it.
+/// Returns a body that carries this message of a client to the new ring. Any other message has none.
 fn sent_again(message: &Message) -> Result<Option<Body>, AllocError>
     ensures { IfOk result (λ body. body ≡ sent_again message.now) }
 {
@@ -29,7 +29,7 @@ fn sent_again(message: &Message) -> Result<Option<Body>, AllocError>
     })
 }
 
-/// The held messages above `low`, and one mark.
+/// Returns the list to send: the held messages above `low`, each as a body that carries it, and then one mark.
 pub(crate) fn list_to_send(
     alloc: Global,
     low: u32,
@@ -50,7 +50,7 @@ pub(crate) fn list_to_send(
     Ok(list)
 }
 
-/// Copies of these bodies.
+/// Returns copies of these bodies.
 pub fn copies_of(alloc: Global, bodies: &[Body]) -> Result<Vec<Body>, AllocError>
     ensures { IfOk result (λ copies. copies.items ≡ bodies.now) }
 {
@@ -61,7 +61,7 @@ pub fn copies_of(alloc: Global, bodies: &[Body]) -> Result<Vec<Body>, AllocError
     Ok(copies)
 }
 
-/// The number of a message that this process broadcast, if it is above `sent`.
+/// Returns the number of this packet if it is a broadcast message of process `me` with a number above `sent`.
 fn sent_anew(me: ProcId, sent: u32, to: &To, packet: &Packet) -> Option<u32>
     ensures { result ≡ sent_anew me sent (to.now, packet.now) }
 {
@@ -76,8 +76,8 @@ fn sent_anew(me: ProcId, sent: u32, to: &To, packet: &Packet) -> Option<u32>
     }
 }
 
-/// How many of these packets are messages that this process numbered above `sent`, and the greatest number among them and
-/// `sent`.
+/// Counts the broadcast messages of process `me` with numbers above `sent`. Returns the count, and the greatest of
+/// these numbers or `sent` itself.
 pub(crate) fn count_anew(me: ProcId, sent: u32, packets: &[(To, Packet)]) -> (usize, u32)
     ensures count { result.0 ≡ length (filter_map (sent_anew me sent) packets.now) }
     ensures greatest { result.1 ≡ fold max sent (filter_map (sent_anew me sent) packets.now) }

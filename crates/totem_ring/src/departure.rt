@@ -1,4 +1,4 @@
-//! What leaves a visit.
+//! What a visit sends, and the token as it leaves.
 ghost use Rattle.std.specs.Prelude.{◌≡◌, ◌++◌, ◌∷◌, [], IfOk};
 ghost use Rattle.totem_packets.specs.declared.packet.Packet.TheVariants.{Token as AToken};
 ghost use Rattle.totem_ring.specs.declared.outcome.To.TheVariants.{One as ToOne};
@@ -9,18 +9,19 @@ use std::alloc::{AllocError, Global};
 use totem_ids::ProcId;
 use totem_packets::{Message, Packet, Token};
 
-/// How a visit ends.
+/// How a visit ends: the token that leaves, and what the member sends and hands up.
 #[derive(Debug, Drop)]
 pub struct Departure {
     /// The token, as it leaves.
     pub leaving: Token,
-    /// Up to here safe messages may be handed up.
+    /// Safe messages may be handed up to this number.
     pub safe_to: u32,
     pub packets: Vec<(To, Packet)>,
     pub handed: Vec<Message>,
 }
 
-/// What a visit sends: what was asked for, what is new, and the token to the next member.
+/// Returns what a visit sends, in order: as broadcasts the messages that were asked for and then the new ones, and at
+/// last the token to the next member.
 pub fn sendings(
     alloc: Global,
     asked: Vec<Message>,
@@ -41,7 +42,7 @@ pub fn sendings(
     Ok(packets)
 }
 
-/// The aru and who holds it down, as they leave from `me`.
+/// Returns the aru and the aru_id with which the token leaves `me` (docs/PROTOCOL.md, "The ring", step 3 of a visit).
 pub fn set_aru(
     me: ProcId,
     my_aru: u32,

@@ -6,7 +6,7 @@ ghost use Rattle.totem_ring.specs.RingFaults.{fault_number, fault_name};
 use std::alloc::{AllocError, AllocFailed};
 use thiserror::Error;
 
-/// Why a step of a ring was refused: the first that holds, in this order.
+/// Why a step of a ring was refused. If several reasons hold, it is the first of them in this order.
 #[derive(Clone, Copy, Debug, PartialEq, Eq, Error)]
 pub enum RingFault {
     #[error("it is of another ring")]
@@ -22,7 +22,7 @@ pub enum RingFault {
 }
 
 impl RingFault {
-    /// Its number, from 1 on in the order above.
+    /// Returns the fault's number, counted from 1 in the order above.
     pub fn number(&self) -> u8
         ensures { result ≡ fault_number self.now }
     {
@@ -35,7 +35,7 @@ impl RingFault {
         }
     }
 
-    /// Its name.
+    /// Returns the fault's name.
     pub fn name(&self) -> &'static str
         ensures { result.now ≡ fault_name self.now }
     {

@@ -17,7 +17,7 @@ use totem_packets::{Message, Number};
 #[derive(Debug, Drop)]
 pub struct Held {
     messages: BTreeMap<u32, Message>,
-    /// All from 1 to here are held.
+    /// All messages from 1 to this number are held.
     aru: u32,
 }
 
@@ -55,7 +55,7 @@ impl Held {
         &self.messages
     }
 
-    /// The greatest n such that messages 1 to n are held.
+    /// Returns the greatest n such that messages 1 to n are held.
     pub fn aru(&self) -> u32
         ensures { result ≡ aru_of self.now }
     {
@@ -74,7 +74,7 @@ impl Held {
         self.messages.contains_key(&number)
     }
 
-    /// Whether a number above `seq` is held.
+    /// Returns whether a number above `seq` is held.
     pub fn holds_above(&self, seq: u32) -> bool
         ensures { result ≡ holds_above self.now seq }
     {
@@ -94,7 +94,8 @@ impl Held {
         Ok(())
     }
 
-    /// Holds copies of these messages, whose numbers are above `seq`, as no number held is: all of them, or none.
+    /// Holds copies of these messages, either all of them or none. Their numbers have to be above `seq`, and no held
+    /// number may be above it.
     pub fn hold_all(&mut self, seq: u32, messages: &[Message]) -> Result<(), AllocError>
         requires above { All (λ m. seq < m.number) messages.now }
         requires none_above { holds_above self.old seq ≡ false }
@@ -109,7 +110,7 @@ impl Held {
         Ok(())
     }
 
-    /// Forgets the message of this number.
+    /// Forgets the message with this number.
     pub fn forget(&mut self, number: Number)
         ensures { self.new ≡ without self.old number }
     {
@@ -118,7 +119,7 @@ impl Held {
         self.aru = self.aru.min(number - 1);
     }
 
-    /// Forgets what is held above `seq`.
+    /// Forgets the messages with numbers above `seq`.
     pub fn forget_above(&mut self, seq: u32)
         ensures { self.new ≡ up_to seq self.old }
     {
@@ -126,7 +127,7 @@ impl Held {
         self.aru = self.aru.min(seq);
     }
 
-    /// Copies of what is handed up now.
+    /// Returns copies of the messages that are handed up next, in order (docs/PROTOCOL.md, "The ring", "Hand up").
     pub fn going_up(
         &self,
         alloc: Global,
@@ -150,7 +151,7 @@ impl Held {
         Ok(up)
     }
 
-    /// Copies of the held messages that these numbers ask for.
+    /// Returns copies of those messages with these numbers that are held.
     pub fn asked(&self, alloc: Global, numbers: &[Number]) -> Result<Vec<Message>, AllocError>
         ensures { IfOk result (λ found. found.items ≡ filter_map (message_at self.now) numbers.now) }
     {

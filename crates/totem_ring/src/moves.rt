@@ -14,7 +14,7 @@ pub enum Act {
     Resend,
 }
 
-/// An act of a member.
+/// An act, and the member that does it.
 #[derive(Debug, Drop)]
 pub struct RingMove {
     pub proc: ProcId,

@@ -1,4 +1,4 @@
-//! What a step of a ring gives.
+//! What a step of a ring sends and hands up.
 ghost use Rattle.std.specs.Prelude.{◌≡◌, IfOk};
 
 use std::alloc::{AllocError, Global};
@@ -8,13 +8,13 @@ use totem_packets::{Message, Packet};
 /// Whom a packet is for.
 #[derive(Clone, Copy, Debug, PartialEq, Eq)]
 pub enum To {
-    /// Every other member.
+    /// For every other member.
     All,
-    /// This member, who may be the sender itself.
+    /// For this member, which may be the sender itself.
     One(ProcId),
 }
 
-/// What a step sent and handed up, each in order.
+/// What a step sends and hands up, each in order.
 #[derive(Debug, Drop)]
 pub struct RingOut {
     pub packets: Vec<(To, Packet)>,

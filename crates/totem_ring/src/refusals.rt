@@ -1,4 +1,4 @@
-//! What a step's refusal asks of its parts.
+//! Tests that decide whether a step is refused, or a message handed up.
 ghost use Rattle.std.specs.Prelude.{◌≡◌, ◌==◌, ◌<◌, position, length, IfSome};
 ghost use Rattle.totem_ring.specs.Rings.{same_ring, is_agreed};
 ghost use Rattle.totem_ring.specs.Refusals.{is_member, is_none_or_member, is_above};
@@ -6,7 +6,7 @@ ghost use Rattle.totem_ring.specs.Refusals.{is_member, is_none_or_member, is_abo
 use totem_ids::{ProcId, RingId, Service};
 use totem_packets::{Body, Number};
 
-/// How many bodies may wait.
+/// How many bodies may wait at most.
 pub const MOST_WAITING: usize = 16;
 
 pub fn is_same_ring(a: RingId, b: RingId) -> bool
@@ -21,7 +21,8 @@ pub fn is_member(members: &[ProcId], proc: ProcId) -> bool
     members.iter().any(|q| q.number() == proc.number())
 }
 
-/// Whether the message waits for its turn alone; a safe one waits until all may hold it. Old counts as agreed, Mark as safe.
+/// Returns whether a message with this body is handed up as soon as its turn comes. Any other is safe, and waits until
+/// all members are known to hold it. `Old` counts as agreed, `Mark` as safe.
 pub fn is_agreed(body: &Body) -> bool
     ensures { result ≡ is_agreed body.now }
 {
@@ -44,7 +45,7 @@ pub fn is_none_or_member(members: &[ProcId], proc: Option<ProcId>) -> bool
     }
 }
 
-/// Where this process stands among the members, from 0.
+/// Returns the index of this process among the members, or `None` if it is no member.
 pub fn place_of(members: &[ProcId], proc: ProcId) -> Option<usize>
     ensures place { result ≡ position (λ p. p == proc) members.now }
     ensures within { IfSome result (λ place. place < length members.now) }

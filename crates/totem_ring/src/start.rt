@@ -6,7 +6,7 @@ use std::alloc::Global;
 use totem_ids::RingId;
 use totem_packets::{Requests, Token, TokenSeq};
 
-/// The first token of a ring, made for its least member. It takes no memory.
+/// Returns the first token of a ring, made for its least member. Takes no memory.
 pub fn first_token(alloc: Global, ring: RingId) -> Token
     ensures { result ≡ first_token ring }
 {

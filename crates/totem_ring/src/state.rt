@@ -1,4 +1,4 @@
-//! A member's state on its ring, and its steps but the visit.
+//! A member's state on its ring, and all its steps but the visit of the token.
 ghost use Rattle.std.specs.Prelude.{◌≡◌, ◌+◌, ◌<◌, ◌++◌, length, take, IfOk, OnOk, MatchResult, Ok};
 ghost use Rattle.totem_ring.specs.Steps.{kept_after};
 ghost use Rattle.totem_ring.specs.Undoing.{kept_again};
@@ -16,7 +16,7 @@ use totem_packets::{Body, Message, Number, Packet, Token};
 
 mod visit;
 
-/// One member's state on its ring. A call that is refused leaves it as it was.
+/// One member's state on its ring (docs/PROTOCOL.md, "The ring"). A call that is refused leaves it as it was.
 #[derive(Debug, Drop)]
 pub struct RingState {
     me: ProcId,
@@ -24,11 +24,11 @@ pub struct RingState {
     members: Vec<ProcId>,
     held: Held,
     handed: u32,
-    /// Up to here safe messages may be handed up.
+    /// Safe messages may be handed up to this number.
     safe_to: u32,
     /// The aru with which the token last left here.
     sent_aru: u32,
-    /// The token_seq that was taken last.
+    /// The token_seq of the token that was taken last.
     last: u64,
     waiting: Vec<Body>,
     /// The token that was passed on last, while no sign of its arrival has come.
@@ -57,7 +57,7 @@ impl Model for RingState {
     ghost invariant = { λ s. 0 < length s.members.items };
 }
 
-/// Forgets the token if this number is above its `seq`, and gives it back.
+/// If this number is above the `seq` of the kept token, forgets that token and returns it.
 fn forget_below(kept: &mut Option<Token>, number: Number) -> Option<Token>
     ensures after { kept.new ≡ kept_after kept.old number }
     ensures again { kept_again result kept.new ≡ kept.old }
@@ -68,7 +68,7 @@ fn forget_below(kept: &mut Option<Token>, number: Number) -> Option<Token>
     None
 }
 
-/// Appends copies of these bodies, as many as there is memory for.
+/// Appends copies of these bodies. If memory is refused, those that were appended before it stay.
 fn put_all(waiting: &mut Vec<Body>, bodies: &[Body]) -> Result<(), AllocError>
     ensures all { OnOk result (waiting.new.items ≡ waiting.old.items ++ bodies.now) }
     ensures before { take (length waiting.old.items) waiting.new.items ≡ waiting.old.items }
@@ -87,7 +87,7 @@ impl RingState {
     ghost use Rattle.totem_ring.specs.Undoing.{AnswersUndoably, taken_back};
     ghost use Rattle.totem_ring.specs.Invariant.{RisesFrom};
 
-    /// The state of a member of a new ring. The members are strictly rising, with `me` among them.
+    /// Makes the state of a member of a new ring. The members are expected to rise strictly, with `me` among them.
     pub fn new(
         alloc: Global,
         me: ProcId,
@@ -123,7 +123,7 @@ impl RingState {
         self.ring
     }
 
-    /// The members, in the order in which the token passes them.
+    /// Returns the members, in the order in which the token passes them.
     pub fn members(&self) -> &[ProcId]
         ensures value { result.now ≡ self.now.members }
         ensures some { 0 < length self.now.members }
@@ -131,7 +131,7 @@ impl RingState {
         &self.members
     }
 
-    /// The messages that came or were sent here, by number.
+    /// Returns the messages that came or were sent here, by number.
     pub fn held(&self) -> &BTreeMap<u32, Message>
         ensures value { result.now.entries ≡ self.now.held }
         ensures rises { RisesFrom 0 self.now.held }
@@ -139,28 +139,28 @@ impl RingState {
         self.held.as_map()
     }
 
-    /// The greatest n such that messages 1 to n are held.
+    /// Returns the greatest n such that messages 1 to n are held.
     pub fn my_aru(&self) -> u32
         ensures { result ≡ aru_of self.now.held }
     {
         self.held.aru()
     }
 
-    /// The greatest number handed up.
+    /// Returns the greatest number that was handed up.
     pub fn handed(&self) -> u32
         ensures { result ≡ self.now.handed }
     {
         self.handed
     }
 
-    /// The bodies that wait for the next visit.
+    /// Returns the bodies that wait for the next visit.
     pub fn waiting(&self) -> &[Body]
         ensures { result.now ≡ self.now.waiting }
     {
         &self.waiting
     }
 
-    /// A client's body, or one of recovery, is to be sent: it waits for the next visit.
+    /// Lets a client's body, or one of a recovery, wait for the next visit. `Full` if 16 wait already.
     pub fn submit(&mut self, body: Body) -> Result<(), RingFault>
         ensures { AnswersNothing result self.old self.new (submit self.old body) }
     {
@@ -171,7 +171,7 @@ impl RingState {
         Ok(())
     }
 
-    /// These bodies wait for the next visit too: all of them, or none. Nothing counts here how many wait.
+    /// Lets these bodies wait for the next visit too, either all of them or none. How many wait is not limited here.
     pub fn give(&mut self, bodies: &[Body]) -> Result<(), AllocError>
         ensures { MatchResult result (λ u. self.new ≡ given self.old bodies.now) (λ e. self.new ≡ self.old) }
     {
@@ -198,7 +198,8 @@ impl RingState {
         None
     }
 
-    /// Holds a message of this ring that came on another way. Nothing is handed up, and the kept token stays.
+    /// Holds a message of this ring that did not come on the ring itself (docs/PROTOCOL.md, "The ring", "Adopt").
+    /// Nothing is handed up, and the kept token stays.
     pub fn adopt(&mut self, message: &Message) -> Result<(), RingFault>
         ensures { AnswersNothing result self.old self.new (adopt self.old message.now) }
     {
@@ -208,7 +209,7 @@ impl RingState {
         Ok(self.held.hold(message)?)
     }
 
-    /// A message has come. With the undo the step can be taken back.
+    /// Takes a message that has come, as `on_message` does. The undo that it gives can take the step back.
     pub fn take_message(
         &mut self,
         alloc: Global,
@@ -238,7 +239,7 @@ impl RingState {
         Ok((out, undo))
     }
 
-    /// A message has come.
+    /// Takes a message that has come: holds it, and hands up what may be handed up now.
     pub fn on_message(&mut self, alloc: Global, message: &Message) -> Result<RingOut, RingFault>
         ensures { Answers result self.old self.new (on_message self.old message.now) }
     {
@@ -246,8 +247,8 @@ impl RingState {
         Ok(out)
     }
 
-    /// Takes the last step back: what a caller does whose own growth fails after it. `take_message` and `take_token`
-    /// give the undo; for a submit or an adopt the caller writes it.
+    /// Takes the last step back, for a caller that is refused memory of its own after the step. `take_message` and
+    /// `take_token` give the undo; for a submit or an adopt the caller writes it.
     pub fn undo(&mut self, undo: RingUndo)
         ensures { self.new ≡ taken_back undo self.old }
     {
@@ -316,7 +317,7 @@ impl RingState {
         self.members[(place + 1) % self.members.len()]
     }
 
-    /// Time has passed: the kept token is sent again.
+    /// Sends the kept token to the next member again, because time has passed. Sends nothing if no token is kept.
     pub fn on_resend(&self, alloc: Global) -> Result<RingOut, RingFault>
         ensures { Answers result self.now self.now (Ok (on_resend self.now)) }
     {

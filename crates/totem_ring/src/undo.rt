@@ -1,13 +1,13 @@
-//! What takes a step back.
+//! How a step is taken back.
 
 use totem_packets::{Body, Number, Token};
 
-/// What a step changed, for `RingState::undo`: with it a caller whose own growth fails later takes the step back.
+/// What a step has changed. With it `RingState::undo` takes the step back, for a caller that is refused memory later.
 #[derive(Debug, Drop)]
 pub enum RingUndo {
     /// Bodies were submitted.
     Submit {
-        /// How many waited before.
+        /// How many bodies waited before.
         waited: usize,
     },
     /// A message came, or was adopted.
@@ -15,12 +15,12 @@ pub enum RingUndo {
         /// The number under which it is held now.
         number: Number,
         handed: u32,
-        /// The token that was kept and then forgotten.
+        /// The token that was kept until the message came.
         forgotten: Option<Token>,
     },
     /// A token came.
     Visit {
-        /// The greatest number given before.
+        /// The greatest number that was given before.
         seq: u32,
         handed: u32,
         safe_to: u32,

@@ -9,7 +9,7 @@ use std::alloc::AllocError;
 use std::collections::BTreeMap;
 use totem_packets::Message;
 
-/// The greatest number up to which all above `low` are there.
+/// Returns the greatest n such that all messages above `low` and up to n are there.
 pub fn whole_to(messages: &BTreeMap<u32, Message>, low: u32) -> u32
     requires { RisesFrom 0 messages.now.entries }
     ensures { IsWholeTo messages.now.entries low result }
@@ -35,7 +35,7 @@ pub fn put(
     Ok(())
 }
 
-/// Adds copies of these messages, whose numbers are above `seq`. At `Err` some may be there.
+/// Adds copies of these messages, whose numbers have to be above `seq`. At `Err` some of them may have been added.
 pub fn add_all(
     messages: &mut BTreeMap<u32, Message>,
     seq: u32,
@@ -53,7 +53,7 @@ pub fn add_all(
     Ok(())
 }
 
-/// Takes away what is above `seq`.
+/// Removes the messages with numbers above `seq`.
 pub fn cut_above(messages: &mut BTreeMap<u32, Message>, seq: u32)
     ensures { messages.new.entries ≡ filter (λ e. nat_le e.0 seq) messages.old.entries }
 {

@@ -5,7 +5,7 @@ use totem_ids::RingId;
 use totem_member::{CommitOut, CommitView, MemberFault, Phase, first_commit, on_commit};
 use totem_packets::{CommitToken, Number, Report, Round};
 
-/// How far a member is: the ring whose token it has filled, its phase, and whether it has started that ring.
+/// Returns how far a member is: the ring whose token it has filled, its phase, and whether it has started that ring.
 fn stage(name: &str) -> (Option<RingId>, Phase, bool) {
     match name {
         "filled" => (Some(ring(8)), Phase::Commit, false),
@@ -15,7 +15,8 @@ fn stage(name: &str) -> (Option<RingId>, Phase, bool) {
     }
 }
 
-/// The view of a word such as `2:1-3:8:filled`: 2 is one of 1 to 3, knows ring number 8, and has filled the token of ring 8.1.
+/// Returns the view of a word such as `2:1-3:8:filled`: member 2 of 1 to 3, which knows ring number 8 and has filled
+/// the token of ring 8.1.
 fn view(alloc: Global, word: &str) -> Result<CommitView, AllocError> {
     let (filled, phase, started) = stage(part(word, 3));
     Ok(CommitView {
@@ -28,7 +29,8 @@ fn view(alloc: Global, word: &str) -> Result<CommitView, AllocError> {
     })
 }
 
-/// The report of a member that comes from ring 4.1: behind its view a word may have another aru than 3, and its obligations.
+/// Returns the report of a member that comes from ring 4.1. Behind its view a word may give the aru, which is 3
+/// otherwise, and the obligation set.
 fn report(alloc: Global, word: &str) -> Result<Report, AllocError> {
     Ok(Report {
         ring: ring(4),
@@ -38,7 +40,7 @@ fn report(alloc: Global, word: &str) -> Result<Report, AllocError> {
     })
 }
 
-/// The commit token as this member makes it.
+/// Makes the commit token as this member does.
 fn make(alloc: Global, view: &CommitView, word: &str) -> Result<CommitToken, MemberFault> {
     let report = report(alloc, word)?;
     if !view.members.contains(view.me) {
@@ -62,7 +64,7 @@ fn take(
     on_commit(alloc, token, view, report)
 }
 
-/// How the member takes the token.
+/// Lets the member take the token.
 fn taken(alloc: Global, token: &CommitToken, word: &str) -> Result<CommitOut, MemberFault> {
     let view = view(alloc, word)?;
     take(alloc, token, &view, word)
@@ -78,13 +80,13 @@ fn take_by_copy(
     take(alloc, token, &copy, word)
 }
 
-/// How a copy of the member's view takes the token.
+/// Lets a copy of the member's view take the token.
 fn taken_by_copy(alloc: Global, token: &CommitToken, word: &str) -> Result<CommitOut, MemberFault> {
     let view = view(alloc, word)?;
     take_by_copy(alloc, token, &view, word)
 }
 
-/// A token's ring, its round, whether all have reported, and who has.
+/// Adds the token's ring, its round, whether all have reported, and who has.
 fn push_token(alloc: Global, text: &mut String, token: &CommitToken) -> Result<(), AllocError> {
     push(text, format!(in alloc; "{} {:?}", token.ring, token.round))?;
     push_truth(text, token.members.is_filled())?;
@@ -96,7 +98,7 @@ fn push_token(alloc: Global, text: &mut String, token: &CommitToken) -> Result<(
     Ok(())
 }
 
-/// What a member does, and in which round the token goes on.
+/// Adds what a member did, and in which round the token goes on.
 fn push_out(alloc: Global, text: &mut String, out: &CommitOut) -> Result<(), AllocError> {
     push(
         text,
@@ -104,13 +106,13 @@ fn push_out(alloc: Global, text: &mut String, out: &CommitOut) -> Result<(), All
     )
 }
 
-/// The same of a copy.
+/// Adds the same of a copy.
 fn push_copy(alloc: Global, text: &mut String, out: &CommitOut) -> Result<(), AllocError> {
     let copy = out.try_clone(alloc)?;
     push_out(alloc, text, &copy)
 }
 
-/// The token that was taken goes on; what the member does is told, and what a copy of its answer says.
+/// Lets the token that was taken go on, and adds what the member did, with what a copy of its answer says.
 fn push_answer(
     alloc: Global,
     text: &mut String,
@@ -127,7 +129,8 @@ fn push_answer(
     }
 }
 
-/// One word: `token` tells of the token, `second` sets its second round, and else a member takes it, behind `copied-` by a copy.
+/// Does what one word says: `token` tells of the token, `second` sets its second round, and any other word lets a
+/// member take it, behind `copied-` by a copy.
 fn push_step(
     alloc: Global,
     text: &mut String,
@@ -160,7 +163,7 @@ fn steps(alloc: Global, token: &mut CommitToken, words: &str) -> Result<String, 
     Ok(text)
 }
 
-/// The member of the first word makes the token, and the others take it.
+/// Lets the member of the first word make the token, and the others take it.
 pub(crate) fn told(alloc: Global, words: &str) -> Result<String, AllocError> {
     let (first, rest) = words.split_once(' ').unwrap_or((words, ""));
     match made(alloc, first) {

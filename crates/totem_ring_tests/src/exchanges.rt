@@ -1,8 +1,8 @@
-//! Two old rings become one: members 1 and 2 come from 4.1, member 3 from 8.3, and ring 12.1 is theirs.
+//! Two old rings become one: members 1 and 2 come from ring 4.1 and member 3 from 8.3, and all three form ring 12.1.
 //!
-//! On 4.1 there were 1, 2 and 4. Message 1 is agreed by 1 and both hold it; 2 is agreed by 4 and 1 alone holds it; 3 is safe by
-//! 2 and both hold it; nobody holds 4; 5 is agreed by 4 and 1 alone holds it; 6 is agreed by 2, who alone holds it. So the
-//! least aru is 1, the greatest delivered number 2, and O has 1 and 2.
+//! Ring 4.1 had the members 1, 2 and 4. Message 1 is agreed, of 1, and both hold it; 2 is agreed, of 4, and only 1
+//! holds it; 3 is safe, of 2, and both hold it; nobody holds 4; 5 is agreed, of 4, and only 1 holds it; 6 is agreed, of
+//! 2, and only 2 holds it. So the least aru is 1, the greatest delivered number 2, and O has 1 and 2.
 use crate::recovery_samples::{begun_with, heard_ring, push_left, ring_of, ring_with};
 use crate::values::{Case, proc, push, ring};
 use std::alloc::{AllocError, Global};
@@ -19,7 +19,7 @@ struct Node {
     recovery: Recovery,
 }
 
-/// A member who comes from a ring of these, with these messages of it.
+/// Makes a member that comes from an old ring of these processes, with these messages of it.
 fn make_node(
     alloc: Global,
     me: u16,
@@ -38,7 +38,7 @@ fn make_node(
     })
 }
 
-/// Each member's number, its old ring, the members of that, and the messages that it has of it.
+/// Each member's number, its old ring, the members of that ring, and the messages that it holds of it.
 const MEMBERS: [(u16, &str, &str, &str); 3] = [
     (1, "4.1", "1,2,4", "1:1 2:4 3:2:safe 5:4"),
     (2, "4.1", "1,2,4", "1:1 3:2:safe 6:2"),
@@ -53,7 +53,7 @@ fn three_members(alloc: Global) -> Result<Vec<Node>, Fail> {
     Ok(nodes)
 }
 
-/// The old message that this body carries.
+/// Returns the old ring's message that this body carries.
 fn carried(body: &Body) -> Result<Option<Message>, AllocError> {
     Ok(match body {
         Body::App { .. } => None,
@@ -77,7 +77,7 @@ fn carried(body: &Body) -> Result<Option<Message>, AllocError> {
 }
 
 impl Node {
-    /// The token comes. Answers what the visit sent, and whether the recovery is done.
+    /// Takes the token. Returns what the visit sent, and whether the recovery is done.
     fn visit(&mut self, alloc: Global, token: &Token) -> Result<(RingOut, bool), Fail> {
         for body in self.recovery.next_bodies(alloc)? {
             self.ring.submit(body)?;
@@ -87,7 +87,7 @@ impl Node {
         Ok((out, done))
     }
 
-    /// A message that another broadcast comes, and what it carries is adopted.
+    /// Takes a message that another member broadcast, and adopts what it carries.
     fn hear(&mut self, alloc: Global, message: &Message) -> Result<(), Fail> {
         self.ring.on_message(alloc, message)?;
         if let Some(old) = carried(&message.body)? {
@@ -96,7 +96,7 @@ impl Node {
         Ok(())
     }
 
-    /// What another's visit broadcast comes; what this member sent itself is a repeat to it.
+    /// Takes what another member's visit broadcast. What this member sent itself is a repeat to it.
     fn hear_all(&mut self, alloc: Global, out: &RingOut) -> Result<(), Fail> {
         for (to, packet) in &out.packets {
             if let (To::All, Packet::Message(message)) = (to, packet) {
@@ -109,7 +109,7 @@ impl Node {
     }
 }
 
-/// The token that a visit passed on.
+/// Returns the token that a visit passed on.
 fn passed_on(alloc: Global, out: &RingOut) -> Result<Token, Fail> {
     let Some((_, Packet::Token(token))) = out.packets.last() else {
         return Err("no token was passed on".into());
@@ -117,7 +117,7 @@ fn passed_on(alloc: Global, out: &RingOut) -> Result<Token, Fail> {
     Ok(token.try_clone(alloc)?)
 }
 
-/// The three members, the token that was passed on, and at which turns, from 0, a member was done.
+/// The three members, the token that was passed on last, and at which turns, counted from 0, a member was done.
 #[derive(Drop)]
 struct World {
     nodes: Vec<Node>,
@@ -126,7 +126,7 @@ struct World {
 }
 
 impl World {
-    /// The token comes to the member whose turn it is.
+    /// Lets the member whose turn it is take the token.
     fn visit(&mut self, alloc: Global, turn: usize) -> Result<RingOut, Fail> {
         let Some(node) = self.nodes.get_mut(turn % 3) else {
             return Err("no such member".into());
@@ -138,7 +138,7 @@ impl World {
         Ok(out)
     }
 
-    /// The others hear what a visit sent.
+    /// Lets the other members hear what a visit sent.
     fn hear(&mut self, alloc: Global, out: &RingOut) -> Result<(), Fail> {
         for node in self.nodes.iter_mut() {
             node.hear_all(alloc, out)?;
@@ -154,7 +154,7 @@ impl World {
     }
 }
 
-/// Of each member its number, the last mark, and how many processes it owes messages.
+/// Adds of each member its number, the last mark, and to how many processes it owes messages.
 fn push_marks(alloc: Global, text: &mut String, nodes: &[Node]) -> Result<(), AllocError> {
     for node in nodes {
         let last = node.recovery.last_mark(&node.ring).unwrap_or(0);
@@ -167,7 +167,7 @@ fn push_marks(alloc: Global, text: &mut String, nodes: &[Node]) -> Result<(), Al
     Ok(())
 }
 
-/// What each member writes as it leaves its old ring.
+/// Adds what each member writes as it leaves its old ring.
 fn push_all_left(alloc: Global, text: &mut String, nodes: &[Node]) -> Result<(), AllocError> {
     for node in nodes {
         push_left(alloc, text, &node.recovery, &node.prev)?;
@@ -176,7 +176,7 @@ fn push_all_left(alloc: Global, text: &mut String, nodes: &[Node]) -> Result<(),
     Ok(())
 }
 
-/// At which turns a member was done, and how many are.
+/// Adds at which turns a member was done, and how many members are.
 fn push_done(alloc: Global, text: &mut String, world: &World) -> Result<(), AllocError> {
     for turn in &world.done_at {
         push(text, format!(in alloc; "{turn} "))?;
@@ -190,7 +190,7 @@ fn push_done(alloc: Global, text: &mut String, world: &World) -> Result<(), Allo
     push(text, format!(in alloc; "by {count}"))
 }
 
-/// What is asked by a word.
+/// Adds what a word asks for.
 fn push_asked(
     alloc: Global,
     text: &mut String,
@@ -204,7 +204,7 @@ fn push_asked(
     }
 }
 
-/// So many turns of the token, and then what is asked.
+/// Passes the token for so many turns, and then answers what is asked.
 fn turns(alloc: Global, world: &mut World, turns: usize, asked: &str) -> Result<String, Fail> {
     for turn in 0..turns {
         world.turn(alloc, turn)?;
@@ -229,7 +229,7 @@ pub(crate) fn told(alloc: Global, words: &str) -> Result<String, Fail> {
     )
 }
 
-/// So many turns of the token, and what is asked then.
+/// How many turns the token is passed and what is asked then, and the answer.
 pub(crate) const EXCHANGES: [Case; 4] = [
     // each sends its list: 1 to 4 are of 1, 5 to 7 of 2, 8 of 3; whoever comes last holds all marks, and owes messages to itself
     ("3 marks", "1: 8 0; 2: 8 0; 3: 8 1; "),

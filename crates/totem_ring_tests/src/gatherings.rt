@@ -4,13 +4,14 @@ use std::alloc::{AllocError, Global};
 use totem_member::{Gather, GatherOut, MemberFault};
 use totem_packets::{Join, Number, Processes, SetFault};
 
-/// Process `me` gathers with these.
+/// Lets process `me` gather with these processes.
 fn gather(alloc: Global, me: u16, base: &str) -> Result<Gather, SetFault> {
     let base = set(alloc, base)?;
     Gather::new(alloc, proc(me), &base, Number::of(4))
 }
 
-/// The Join of a word such as `4:2:1,2:3`: it knows of ring 4, is of 2, and tells that 1 and 2 are known and 3 failed.
+/// Returns the Join of a word such as `4:2:1,2:3`: process 2 has heard of ring number 4, and tells that it knows 1 and
+/// 2, and that 3 failed.
 fn join_of(alloc: Global, word: &str) -> Result<Join, AllocError> {
     let processes = set(alloc, part(word, 2))?;
     Ok(Join {
@@ -50,20 +51,20 @@ fn copied_join(alloc: Global, gathering: &Gather) -> Result<Join, AllocError> {
     copy.join(alloc)
 }
 
-/// The Join of a copy: its sender, and who is known.
+/// Adds the Join of a copy of the gathering: its sender, and who is known.
 fn push_join(alloc: Global, text: &mut String, gathering: &Gather) -> Result<(), AllocError> {
     let join = copied_join(alloc, gathering)?;
     push(text, format!(in alloc; " {}:", join.sender))?;
     push_procs(alloc, text, join.processes.as_slice())
 }
 
-/// The members of a copy of what a step gave.
+/// Adds the members in a copy of what a step gave.
 fn push_copy(alloc: Global, text: &mut String, out: &GatherOut) -> Result<(), AllocError> {
     let copy = out.try_clone(alloc)?;
     push_maybe(alloc, text, &copy.members)
 }
 
-/// What is asked of a gathering by this word, and then told.
+/// Adds what this word asks of a gathering.
 fn push_asked(
     alloc: Global,
     text: &mut String,
@@ -108,7 +109,8 @@ impl Step {
         self.takes(text, answer)
     }
 
-    /// What this word asks: of the last step whether it has news and on whom there is consensus, and else of the gathering.
+    /// Adds what this word asks: of the last step whether its Join is to be broadcast anew and on whom there is
+    /// consensus, and otherwise of the gathering.
     fn asked(&self, alloc: Global, text: &mut String, word: &str) -> Result<(), AllocError> {
         match word {
             "again" => text.push_str(if self.out.again { " yes" } else { " no" }),
@@ -124,7 +126,7 @@ impl Step {
         text.push_str("; ")
     }
 
-    /// One word: `timeout`, a Join, or what is asked.
+    /// Does what one word says: `timeout`, a Join that comes, or a question.
     fn does(&mut self, alloc: Global, text: &mut String, word: &str) -> Result<(), AllocError> {
         if word == "timeout" {
             return self.ends(alloc, text);
@@ -144,7 +146,7 @@ impl Step {
     }
 }
 
-/// Process 1 gathers with these, and does and tells what the words say.
+/// Lets process 1 gather with these processes, does what the words say, and tells what they ask.
 fn life(alloc: Global, base: &str, words: &str) -> Result<String, AllocError> {
     match gather(alloc, 1, base) {
         Ok(gathering) => begun(alloc, gathering, words),
@@ -160,7 +162,7 @@ fn begun(alloc: Global, gathering: Gather, words: &str) -> Result<String, AllocE
     Step { gathering, out }.lives(alloc, words)
 }
 
-/// How process `me` gathers with 1 to 32.
+/// Tells how process `me` gathers with 1 to 32.
 fn gathers_with_32(alloc: Global, me: u16) -> Result<String, AllocError> {
     match gather(alloc, me, "1-32") {
         Ok(gathering) => format!(in alloc; "{} gathers", gathering.me()),
@@ -168,7 +170,7 @@ fn gathers_with_32(alloc: Global, me: u16) -> Result<String, AllocError> {
     }
 }
 
-/// The Join of a process that knows of itself alone.
+/// Returns the Join of a process that knows of itself alone.
 fn join_of_one(alloc: Global, me: u16) -> Result<Join, SetFault> {
     let gathering = gather(alloc, me, "")?;
     Ok(gathering.join(alloc)?)
@@ -183,13 +185,13 @@ fn hear_one(alloc: Global, gathering: &mut Gather, me: u16) -> Result<String, Se
     Ok(String::from_str(alloc, answer)?)
 }
 
-/// How 32 processes, who gather, hear of this one.
+/// Tells how process 32, which gathers with 1 to 32, hears of this one.
 fn heard_by_32(alloc: Global, me: u16) -> Result<String, SetFault> {
     let mut gathering = gather(alloc, 32, "1-32")?;
     hear_one(alloc, &mut gathering, me)
 }
 
-/// The Joins of all.
+/// Returns the Join of each gathering.
 fn joins(alloc: Global, all: &[Gather]) -> Result<Vec<Join>, AllocError> {
     let mut joins = Vec::new(alloc);
     for gathering in all {
@@ -198,7 +200,7 @@ fn joins(alloc: Global, all: &[Gather]) -> Result<Vec<Join>, AllocError> {
     Ok(joins)
 }
 
-/// It takes a Join; whether it agrees on this set then.
+/// Lets the gathering take a Join. Returns whether it has consensus on this set then.
 fn agrees_after(alloc: Global, gathering: &mut Gather, join: &Join, all: &Processes) -> bool {
     match gathering.on_join(alloc, join) {
         Ok(out) => out.members.as_ref().is_some_and(|members| members.is(all)),
@@ -206,7 +208,7 @@ fn agrees_after(alloc: Global, gathering: &mut Gather, join: &Join, all: &Proces
     }
 }
 
-/// It takes the Joins of all others; whether at last it agrees on this set.
+/// Lets the gathering take the Joins of all others. Returns whether it has consensus on this set at last.
 fn agrees_on(alloc: Global, gathering: &mut Gather, joins: &[Join], all: &Processes) -> bool {
     let mut agrees = false;
     for join in joins {
@@ -217,7 +219,7 @@ fn agrees_on(alloc: Global, gathering: &mut Gather, joins: &[Join], all: &Proces
     agrees
 }
 
-/// Each takes the Joins of all others; how many at last agree on this set.
+/// Lets each gathering take the Joins of all others. Returns how many have consensus on this set at last.
 fn agreed(alloc: Global, gathers: &mut [Gather], all: &Processes) -> Result<u32, AllocError> {
     let joins = joins(alloc, gathers)?;
     let mut count = 0u32;
@@ -229,7 +231,7 @@ fn agreed(alloc: Global, gathers: &mut [Gather], all: &Processes) -> Result<u32,
     Ok(count)
 }
 
-/// How many agree on this set after three rounds of Joins.
+/// Tells how many have consensus on this set after three rounds of Joins.
 fn agreed_at_last(
     alloc: Global,
     gathers: &mut [Gather],
@@ -240,7 +242,7 @@ fn agreed_at_last(
     format!(in alloc; "{} agree", agreed(alloc, gathers, all)?)
 }
 
-/// Each begins alone.
+/// Lets each process begin alone.
 fn alone(alloc: Global, all: &Processes) -> Result<Vec<Gather>, SetFault> {
     let none = Processes::none(alloc);
     let mut gathers = Vec::new(alloc);
@@ -250,7 +252,7 @@ fn alone(alloc: Global, all: &Processes) -> Result<Vec<Gather>, SetFault> {
     Ok(gathers)
 }
 
-/// How many of these, who begin alone, agree on all of these at last.
+/// Tells how many of these processes, which begin alone, have consensus on all of them at last.
 fn agree_at_last(alloc: Global, all: &Processes) -> Result<String, SetFault> {
     let mut gathers = alone(alloc, all)?;
     Ok(agreed_at_last(alloc, &mut gathers, all)?)
@@ -282,8 +284,8 @@ fn or_fault(alloc: Global, answer: Result<String, SetFault>) -> Result<String, A
     }
 }
 
-/// What the first word stands for: a process that gathers with 1 to 32, one that they hear of, processes that are to agree, and
-/// else with whom 1 gathers, and what it does.
+/// Tells what the words ask. The first word says which: a process gathers with 1 to 32, process 32 hears of another,
+/// some processes agree on one set, or 1 gathers with the processes that it names and does what the others say.
 pub(crate) fn told(alloc: Global, words: &str) -> Result<String, AllocError> {
     let (first, rest) = words.split_once(' ').unwrap_or((words, ""));
     let number = rest.parse::<u16>().unwrap_or(0);

@@ -1,4 +1,4 @@
-//! The finish that is worked out by hand, and each call on a state made for it.
+//! The finish that was worked out by hand, and each call of a recovery on a state that is made for it.
 use crate::recovery_samples::{
     begun_with, hear, heard_ring, message, push_left, ring_of, ring_with, token,
 };
@@ -13,23 +13,23 @@ use totem_recover::{
 };
 use totem_ring::{RingOut, RingState, To};
 
-/// Ring 4.1 of 1, 2 and 3, seen by 1, once these messages were heard.
+/// Returns ring 4.1 of 1, 2 and 3 as 1 sees it once these messages have come.
 fn old_ring(alloc: Global, messages: &str) -> Result<RingState, Fail> {
     heard_ring(alloc, proc(1), ring(4), "1-3", messages)
 }
 
-/// The recovery of 1 with the token of ring 8.1 of these members.
+/// Begins the recovery of 1 with the token of ring 8.1 of these members.
 fn begun(alloc: Global, prev: &RingState, members: &str) -> Result<Recovery, Fail> {
     begun_with(alloc, proc(1), prev, ring(8), members)
 }
 
-/// How far messages are handed up once these were heard.
+/// Returns up to which number messages are handed up once these have come.
 fn handed(alloc: Global, messages: &str) -> Result<u32, Fail> {
     let prev = old_ring(alloc, messages)?;
     Ok(prev.handed())
 }
 
-/// What is written as the ring is left once these were heard. 1 and 2 come from 4.1, and 2 handed up to 3.
+/// Tells what is written as the ring is left once these messages have come. 1 and 2 come from 4.1, and 2 has handed up to 3.
 fn left(alloc: Global, messages: &str) -> Result<String, Fail> {
     let prev = old_ring(alloc, messages)?;
     let recovery = begun(alloc, &prev, "1:4.1:6:2 2:4.1:6:3")?;
@@ -47,7 +47,8 @@ fn is_ready_for(alloc: Global, me: ProcId, prev: &RingState, members: &str) -> R
     Ok(is_ready(me, prev, &token))
 }
 
-/// Whether the process of a word such as `1:4.1` may begin from this ring of 1, 2 and 3, as 1 sees it, with these members.
+/// Returns whether the process of a word such as `1:4.1` may begin a recovery with these members. It comes from this
+/// ring of 1, 2 and 3, as 1 sees it.
 fn may_begin(alloc: Global, words: &str) -> Result<bool, Fail> {
     let (word, members) = words.split_once(' ').unwrap_or((words, ""));
     let prev = ring_with(alloc, proc(1), ring_of(part(word, 1)), "1-3")?;
@@ -55,7 +56,7 @@ fn may_begin(alloc: Global, words: &str) -> Result<bool, Fail> {
     is_ready_for(alloc, me, &prev, members)
 }
 
-/// The number on the old ring that a body carries; 0 is a mark.
+/// Returns the number on the old ring of the message that a body carries, or 0 for a mark.
 fn number_in(body: &Body) -> u32 {
     match body {
         Body::App { .. } => 1,
@@ -78,7 +79,7 @@ fn to_all(number: u32, sender: u16, body: Body) -> (To, Packet) {
     )
 }
 
-/// What a visit of 1 sends: message 1 of 2, who asked for it, and the numbers from `first` on and below `end`.
+/// Returns what a visit of 1 sends: message 1 of 2, which was asked for, and messages of its own from `first` on and below `end`.
 fn sent(alloc: Global, first: u32, end: u32) -> Result<RingOut, AllocError> {
     let mut packets = Vec::new(alloc);
     packets.push(to_all(1, 2, Body::Mark))?;
@@ -99,7 +100,7 @@ struct Life {
 }
 
 impl Life {
-    /// The list that goes on is that of a copy.
+    /// Goes on with a copy of the recovery.
     fn copies(&mut self, alloc: Global) -> Result<(), AllocError> {
         let copy = self.recovery.try_clone(alloc)?;
         self.recovery = copy;
@@ -118,7 +119,8 @@ impl Life {
         }
     }
 
-    /// What is asked by this word: the numbers that come next, the last mark, whether it is done, and whom messages are owed.
+    /// Adds what this word asks: the numbers that come next, the last mark, whether the recovery is done, and to whom
+    /// messages are owed.
     fn asked(&self, alloc: Global, text: &mut String, word: &str) -> Result<(), AllocError> {
         match word {
             "next" => self.next(alloc, text),
@@ -129,14 +131,14 @@ impl Life {
         }
     }
 
-    /// A visit that sends the numbers of a word such as `2:18`, from 2 on and below 18, is noted. Tells whether it is done.
+    /// Notes a visit that sends the numbers of a word such as `2:18`, from 2 on and below 18. Tells whether the recovery is done.
     fn visits(&mut self, alloc: Global, text: &mut String, word: &str) -> Result<(), AllocError> {
         let first = part(word, 0).parse::<u32>().unwrap_or(0);
         let out = sent(alloc, first, part(word, 1).parse::<u32>().unwrap_or(0))?;
         push_truth(text, self.recovery.on_ring(&self.ring, &out))
     }
 
-    /// A visit, a message that comes, a copy that goes on, or what is asked.
+    /// Does what a word says: a visit, a message that comes, going on with a copy, or a question.
     fn does(&mut self, alloc: Global, text: &mut String, word: &str) -> Result<(), Fail> {
         match word.split_once(':') {
             Some(("visit", numbers)) => Ok(self.visits(alloc, text, numbers)?),
@@ -162,13 +164,13 @@ impl Life {
 const LONG: &str =
     "1:2 2:2 3:2 4:2 5:2 6:2 7:2 8:2 9:2 10:2 11:2 12:2 13:2 14:2 15:2 16:2 17:2 18:2 19:2 20:2 21:2 22:2";
 
-/// The recovery of 1, who holds messages 1 to 22 of ring 4.1; 2 has the aru 2. Before, 1 owed messages to 3.
+/// Begins the recovery of 1, which holds messages 1 to 22 of ring 4.1. 2 has the aru 2, and before 1 owed messages to 3.
 fn long_recovery(alloc: Global) -> Result<Recovery, Fail> {
     let prev = old_ring(alloc, LONG)?;
     begun(alloc, &prev, "1:4.1:22:22:3 2:4.1:2:2")
 }
 
-/// That recovery, with ring 8.1 of 1 and 2, which holds nothing yet: what these words do and tell.
+/// Tells what these words do and ask of that recovery, with ring 8.1 of 1 and 2, which holds nothing yet.
 fn long(alloc: Global, words: &str) -> Result<String, Fail> {
     let recovery = long_recovery(alloc)?;
     let ring = ring_with(alloc, proc(1), ring(8), "1,2")?;

@@ -1,4 +1,4 @@
-//! Rings, messages and commit tokens for the tests, and the lines that entries are written as.
+//! Rings, messages and commit tokens for the tests, and entries as lines of text.
 use crate::values::{part, proc, procs, push, push_procs, say, set, state};
 use std::alloc::{AllocError, Global};
 use std::test::Fail;
@@ -10,7 +10,7 @@ use totem_packets::{
 use totem_recover::{Recovery, is_ready};
 use totem_ring::RingState;
 
-/// The ring of a text such as `4.1`.
+/// Returns the ring of a text such as `4.1`.
 pub fn ring_of(text: &str) -> RingId {
     let (seq, rep) = text.split_once('.').unwrap_or((text, ""));
     RingId {
@@ -36,7 +36,7 @@ fn body(name: &str) -> Body {
     }
 }
 
-/// The message of a word such as `3:2:safe` comes: number 3 of 2, safe.
+/// Lets the message of a word such as `3:2:safe` come: number 3, of process 2, safe.
 pub fn hear(alloc: Global, state: &mut RingState, word: &str) -> Result<(), Fail> {
     let number = part(word, 0).parse::<u32>().unwrap_or(0);
     let sender = part(word, 1).parse::<u16>().unwrap_or(0);
@@ -45,7 +45,7 @@ pub fn hear(alloc: Global, state: &mut RingState, word: &str) -> Result<(), Fail
     Ok(())
 }
 
-/// Clients' messages come, one a word.
+/// Lets clients' messages come, one for each word.
 fn hear_all(alloc: Global, state: &mut RingState, words: &str) -> Result<(), Fail> {
     for word in words.split_whitespace() {
         hear(alloc, state, word)?;
@@ -53,8 +53,8 @@ fn hear_all(alloc: Global, state: &mut RingState, words: &str) -> Result<(), Fai
     Ok(())
 }
 
-/// The member of a word such as `1:4.1:6:2:3`, with its report: it comes from ring 4.1, has the aru 6, delivered up to 2 and owes
-/// messages to 3.
+/// Returns the member of a word such as `1:4.1:6:2:3` with its report: it comes from ring 4.1, has the aru 6, has
+/// handed up to 2 and owes messages to 3.
 fn member(alloc: Global, word: &str) -> Result<CommitMember, AllocError> {
     Ok(CommitMember {
         proc: proc(part(word, 0).parse::<u16>().unwrap_or(0)),
@@ -75,7 +75,7 @@ fn members(alloc: Global, words: &str) -> Result<Vec<CommitMember>, AllocError> 
     Ok(list)
 }
 
-/// The token of this ring with these members, once all have reported.
+/// Returns the commit token of this ring with these members, all of which have reported.
 pub fn token(alloc: Global, ring: RingId, words: &str) -> Result<CommitToken, Fail> {
     Ok(CommitToken {
         ring,
@@ -84,7 +84,7 @@ pub fn token(alloc: Global, ring: RingId, words: &str) -> Result<CommitToken, Fa
     })
 }
 
-/// A ring of these processes, seen by one who holds nothing yet.
+/// Returns a ring of these processes as `me` sees it, holding nothing yet.
 pub fn ring_with(
     alloc: Global,
     me: ProcId,
@@ -95,7 +95,7 @@ pub fn ring_with(
     state(alloc, me, ring, &procs)
 }
 
-/// The same once these messages were heard.
+/// Returns such a ring once these messages have come.
 pub fn heard_ring(
     alloc: Global,
     me: ProcId,
@@ -108,7 +108,7 @@ pub fn heard_ring(
     Ok(state)
 }
 
-/// The recovery of `me` with the token of this ring and these members.
+/// Begins the recovery of `me` with the token of this ring and these members.
 pub fn begun_with(
     alloc: Global,
     me: ProcId,

@@ -1,11 +1,11 @@
-//! Members of a ring for the tests: what they do as words, and what is asked of them as text.
+//! Members of a ring for the tests: what they do is given in words, and what they are asked is told as text.
 use crate::values::{is_shown_alike, proc, procs, push, push_number, ring, say, state};
 use std::alloc::{AllocError, Global};
 use totem_ids::{ProcId, RingId, Service};
 use totem_packets::{Body, Message, Packet, Token};
 use totem_ring::{MOST_WAITING, RingFault, RingOut, RingState, RingUndo, To, first_token};
 
-/// All members of ring 4.1 of these processes.
+/// Returns the members of ring 4.1, which has these processes.
 fn members(alloc: Global, procs: &[ProcId]) -> Result<Vec<RingState>, AllocError> {
     let mut members = Vec::new(alloc);
     for me in procs {
@@ -33,7 +33,7 @@ fn numbers_of(token: &Token) -> [u64; 5] {
     ]
 }
 
-/// How many messages a member holds, its my_aru, what it handed up, and how many bodies wait.
+/// How many messages a member holds, its my_aru, up to where it handed up, and how many bodies wait.
 fn counts_of(state: &RingState) -> [u64; 4] {
     [
         state.held().len() as u64,
@@ -71,14 +71,14 @@ fn refusal(answer: Result<(), RingFault>) -> Told {
     }
 }
 
-/// A step is taken back. Tells the counts that it left.
+/// Takes a step back. Tells the counts that are left.
 fn taken_back(state: &mut RingState, undo: RingUndo) -> Told {
     let counts = counts_of(state);
     state.undo(undo);
     Told::Counts(counts)
 }
 
-/// As many bodies are submitted as may wait.
+/// Submits as many bodies as may wait.
 fn fill(state: &mut RingState) -> Told {
     for _ in 0..MOST_WAITING {
         if let Err(fault) = state.submit(say(Service::Agreed)) {
@@ -88,7 +88,7 @@ fn fill(state: &mut RingState) -> Told {
     Told::Nothing
 }
 
-/// A mark is submitted and taken back.
+/// Submits a mark and takes it back.
 fn mark_back(state: &mut RingState) -> Told {
     match state.submit(Body::Mark) {
         Ok(()) => taken_back(state, RingUndo::Submit { waited: 0 }),
@@ -96,7 +96,7 @@ fn mark_back(state: &mut RingState) -> Told {
     }
 }
 
-/// The first token of ring 4.1 comes and is taken back.
+/// Takes the first token of ring 4.1 and takes the visit back.
 fn token_back(alloc: Global, state: &mut RingState) -> Told {
     match state.take_token(alloc, &first_token(alloc, ring(4))) {
         Ok((_, undo)) => taken_back(state, undo),
@@ -104,7 +104,7 @@ fn token_back(alloc: Global, state: &mut RingState) -> Told {
     }
 }
 
-/// A message comes and is taken back.
+/// Takes a message and takes the step back.
 fn message_back(alloc: Global, state: &mut RingState, message: &Message) -> Told {
     match state.take_message(alloc, message) {
         Ok((_, undo)) => taken_back(state, undo),
@@ -112,7 +112,7 @@ fn message_back(alloc: Global, state: &mut RingState, message: &Message) -> Told
     }
 }
 
-/// A message comes. Tells how many it hands up.
+/// Takes a message. Tells how many messages that hands up.
 fn handed(alloc: Global, state: &mut RingState, message: &Message) -> Told {
     match state.on_message(alloc, message) {
         Ok(out) => Told::Count(out.handed.len() as u64),
@@ -120,7 +120,7 @@ fn handed(alloc: Global, state: &mut RingState, message: &Message) -> Told {
     }
 }
 
-/// A message comes to a member in the way that this word says.
+/// Lets a message come to a member in the way that this word says.
 fn hear(alloc: Global, state: &mut RingState, message: &Message, word: &str) -> Told {
     match word {
         "handed" => handed(alloc, state, message),
@@ -149,7 +149,7 @@ fn copied(alloc: Global, state: &RingState) -> Told {
     }
 }
 
-/// What a member does or is asked by this word, where no packet comes.
+/// Does what this word says where no packet comes, or tells what it asks.
 fn alone(alloc: Global, state: &mut RingState, word: &str) -> Told {
     match word {
         "agreed" => refusal(state.submit(say(Service::Agreed))),
@@ -226,7 +226,7 @@ fn shown(alloc: Global, out: &RingOut) -> Told {
     }
 }
 
-/// The message gets this sender, or its ring gets this number.
+/// Gives the message this sender, or its ring this number.
 fn alter(out: &mut RingOut, word: &str, value: u16) -> Told {
     let Some(message) = message_in(out) else {
         return Told::Refusal("no message");
@@ -266,7 +266,7 @@ impl World {
         }
     }
 
-    /// The first token of this ring comes to a member.
+    /// Lets a member take the first token of this ring.
     fn first(&mut self, alloc: Global, at: usize, ring: RingId) -> Told {
         let Some(member) = self.members.get_mut(at) else {
             return Told::Refusal("no member");
@@ -275,7 +275,7 @@ impl World {
         self.takes(answer)
     }
 
-    /// The token that was passed on comes to a member.
+    /// Lets a member take the token that was passed on.
     fn token(&mut self, alloc: Global, at: usize) -> Told {
         let Some(token) = token_of(&self.out) else {
             return Told::Refusal("no token");
@@ -287,7 +287,7 @@ impl World {
         self.takes(answer)
     }
 
-    /// A member sends its token again.
+    /// Lets a member send its token again.
     fn resend(&mut self, alloc: Global, at: usize) -> Told {
         let Some(member) = self.members.get(at) else {
             return Told::Refusal("no member");
@@ -296,7 +296,7 @@ impl World {
         self.takes(answer)
     }
 
-    /// The message that was broadcast first comes to a member.
+    /// Lets the message that was broadcast first come to a member.
     fn message(&mut self, alloc: Global, word: &str, at: usize) -> Told {
         let Some(message) = message_of(&self.out) else {
             return Told::Refusal("no message");
@@ -314,7 +314,7 @@ impl World {
         alone(alloc, member, word)
     }
 
-    /// One step: what this word stands for, at the member or with the value of this number.
+    /// Does one step: what this word stands for, at the member of this number or with this value.
     fn step(&mut self, alloc: Global, word: &str, value: u16) -> Told {
         let at = usize::from(value).saturating_sub(1);
         match word {
@@ -341,7 +341,7 @@ fn push_numbers(alloc: Global, text: &mut String, numbers: &[u64]) -> Result<(),
     text.push_str("; ")
 }
 
-/// What a step tells, behind its word; nothing where it tells nothing.
+/// Adds what a step tells behind its word, or nothing if it tells nothing.
 fn push_told(alloc: Global, text: &mut String, word: &str, told: Told) -> Result<(), AllocError> {
     match told {
         Told::Nothing => return Ok(()),
@@ -356,7 +356,7 @@ fn push_told(alloc: Global, text: &mut String, word: &str, told: Told) -> Result
     }
 }
 
-/// What each word tells. A word is what is done, `:`, and the member's number.
+/// Does and tells what each word says. A word is what is done, `:`, and the member's number.
 fn steps(alloc: Global, world: &mut World, words: &str) -> Result<String, AllocError> {
     let mut text = String::new(alloc);
     for word in words.split_whitespace() {
@@ -367,7 +367,7 @@ fn steps(alloc: Global, world: &mut World, words: &str) -> Result<String, AllocE
     Ok(text)
 }
 
-/// The steps of the members of ring 4.1 of these processes.
+/// Tells the steps of the members of ring 4.1, which has these processes.
 pub fn life(alloc: Global, members: &str, words: &str) -> Result<String, AllocError> {
     let procs = procs(alloc, members)?;
     let mut world = World::new(alloc, &procs)?;

@@ -1,10 +1,10 @@
-//! Rings by direct calls.
+//! Rings, tested by direct calls.
 use crate::ring_samples::life;
 use crate::values::{Case, is_shown_alike, proc, push, ring};
 use std::alloc::{AllocError, Global};
 use totem_ring::{Act, RingFault, RingMove, first_token, one_order};
 
-/// Member 1 takes the first token.
+/// Returns the move in which member 1 takes the first token.
 fn step(alloc: Global) -> RingMove {
     RingMove {
         proc: proc(1),
@@ -35,7 +35,7 @@ const FAULTS: [RingFault; 5] = [
     RingFault::Memory,
 ];
 
-/// What a fault means, what the want of memory is, and the numbers and the names of all faults.
+/// Tells the meaning of one fault, the name of want of memory, and the numbers and names of all faults.
 fn faults(alloc: Global) -> Result<String, AllocError> {
     let memory = RingFault::from(AllocError).name();
     let mut text = format!(in alloc; "{}; {memory}; ", RingFault::Full)?;
@@ -48,7 +48,7 @@ fn faults(alloc: Global) -> Result<String, AllocError> {
     Ok(text)
 }
 
-/// The members of ring 4.1, and what they do.
+/// Tells what the members of ring 4.1 do.
 pub(crate) fn told(alloc: Global, words: &str) -> Result<String, AllocError> {
     let (members, steps) = words.split_once(' ').unwrap_or((words, ""));
     match members {

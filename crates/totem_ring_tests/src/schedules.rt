@@ -1,4 +1,4 @@
-//! A ring under loss, repetition and reordering.
+//! One ring under loss, repetition and reordering.
 ghost use Rattle.std.specs.Prelude.{◌<◌};
 
 use crate::values::{procs, ring, state};
@@ -13,7 +13,7 @@ const MEMBERS: u16 = 32;
 
 const STEPS: u32 = 1_000;
 
-/// A linear congruential generator: the same rolls each time.
+/// A linear congruential generator, which gives the same rolls each time.
 #[derive(Clone, Copy)]
 struct Dice {
     state: u64,
@@ -65,7 +65,7 @@ impl Member {
         Ok(())
     }
 
-    /// A packet comes; whether it was taken.
+    /// Takes a packet. Returns whether it was not refused.
     fn hear(
         &mut self,
         alloc: Global,
@@ -90,7 +90,7 @@ impl Member {
 struct World {
     members: Vec<Member>,
     sent: Vec<Packet>,
-    /// Where the newest token stands among them, and how many visits it had.
+    /// Where the newest token stands among the packets. `visits` counts the visits that it had.
     newest: usize,
     visits: u64,
 }
@@ -120,7 +120,7 @@ impl World {
         })
     }
 
-    /// A packet comes to a member; whether it was taken. The member may be missing.
+    /// Lets a packet come to a member, which may be missing. Returns whether it was taken.
     fn hears(&mut self, alloc: Global, packet: &Packet, to: usize) -> Result<bool, AllocError> {
         match self.members.get_mut(to) {
             Some(member) => member.hear(alloc, packet, &mut self.sent),
@@ -128,7 +128,7 @@ impl World {
         }
     }
 
-    /// The same of a packet that was sent; it may be missing too.
+    /// Lets a packet that was sent come to a member; both may be missing. Returns whether it was taken.
     fn comes(&mut self, alloc: Global, at: usize, to: usize) -> Result<bool, AllocError> {
         let packet = match self.sent.get(at) {
             Some(packet) => packet.try_clone(alloc)?,
@@ -137,7 +137,7 @@ impl World {
         self.hears(alloc, &packet, to)
     }
 
-    /// A member submits or sends its token again.
+    /// Lets a member submit a body or send its token again.
     fn acts(&mut self, alloc: Global, dice: &mut Dice, to: usize) -> Result<(), Fail> {
         let Some(member) = self.members.get_mut(to) else {
             return Ok(());
@@ -152,7 +152,7 @@ impl World {
         Ok(())
     }
 
-    /// The newest token comes to the member whose turn it is, and what that one sends to most of the others.
+    /// Lets the newest token come to the member whose turn it is, and what that member sends to most of the others.
     fn turns(&mut self, alloc: Global, dice: &mut Dice) -> Result<(), AllocError> {
         let before = self.sent.len();
         let taker = (self.visits % u64::from(MEMBERS)) as usize;
@@ -192,7 +192,7 @@ fn word(message: &Message) -> &[u8] {
     }
 }
 
-/// Whether each message has its number, and is that of the other list where that goes so far.
+/// Returns whether each message has its number, and is the one of the other list as far as that goes.
 fn goes_along(up: &[Message], other: &[Message]) -> bool {
     for (at, message) in up.iter().enumerate() {
         if message.number.get() as usize != at + 1 {
@@ -207,7 +207,7 @@ fn goes_along(up: &[Message], other: &[Message]) -> bool {
     true
 }
 
-/// Whether what this member handed up goes along with what each other did.
+/// Returns whether what this member handed up goes along with what each other member did.
 fn goes_along_with_all(up: &[Message], members: &[Member]) -> bool {
     for other in members {
         if !goes_along(up, &other.up) {
@@ -217,7 +217,7 @@ fn goes_along_with_all(up: &[Message], members: &[Member]) -> bool {
     true
 }
 
-/// How many messages a member handed up at most, where all members keep one order.
+/// Returns the most that a member handed up, if all members keep one order.
 fn most_in_one_order(members: &[Member]) -> Option<usize> {
     let mut most = 0;
     for one in members {
@@ -229,7 +229,7 @@ fn most_in_one_order(members: &[Member]) -> Option<usize> {
     Some(most)
 }
 
-/// All steps.
+/// Takes all steps.
 fn run(alloc: Global, world: &mut World) -> Result<(), Fail> {
     let mut dice = Dice { state: 20_261_122 };
     for _ in 0..STEPS {

@@ -1,4 +1,4 @@
-//! The tables of what is done and what is told then, and the one test that goes over them.
+//! The tables of what is done and what is told of it, and the one test that goes through them.
 use crate::commits::COMMITS;
 use crate::exchanges::EXCHANGES;
 use crate::gatherings::GATHERINGS;
@@ -9,7 +9,7 @@ use crate::{commits, exchanges, gatherings, recoveries, rings};
 use std::alloc::Global;
 use std::test::Fail;
 
-/// What is told on this topic.
+/// Tells what the words ask on this topic.
 fn told(alloc: Global, topic: &str, words: &str) -> Result<String, Fail> {
     match topic {
         "rings" => Ok(rings::told(alloc, words)?),

@@ -1,4 +1,4 @@
-//! What the tests of several modules need.
+//! What several modules of tests need.
 use bytes::Bytes;
 use std::alloc::{AllocError, Global};
 use std::fmt::Debug;
@@ -6,14 +6,14 @@ use totem_ids::{ProcId, RingId, Service};
 use totem_packets::{Body, Payload, Processes};
 use totem_ring::RingState;
 
-/// What is done and asked, in words, and what is told then.
+/// What is done and asked, in words, and what has to be told of it.
 pub type Case = (&'static str, &'static str);
 
 pub fn proc(number: u16) -> ProcId {
     ProcId::of(number.max(1))
 }
 
-/// A ring with the representative 1.
+/// Returns a ring with the representative 1.
 pub fn ring(seq: u32) -> RingId {
     RingId {
         seq: seq.max(1),
@@ -31,7 +31,7 @@ fn push_range(list: &mut Vec<ProcId>, text: &str) -> Result<(), AllocError> {
     Ok(())
 }
 
-/// The processes of a text such as `1,5-7`; an empty one has none.
+/// Returns the processes of a text such as `1,5-7`; an empty text has none.
 pub fn procs(alloc: Global, text: &str) -> Result<Vec<ProcId>, AllocError> {
     let mut list = Vec::new(alloc);
     if !text.is_empty() {
@@ -42,7 +42,7 @@ pub fn procs(alloc: Global, text: &str) -> Result<Vec<ProcId>, AllocError> {
     Ok(list)
 }
 
-/// The set of these processes; none, where they do not rise.
+/// Returns the set of these processes, or the empty one if they do not rise.
 pub fn set(alloc: Global, text: &str) -> Result<Processes, AllocError> {
     match Processes::new(procs(alloc, text)?) {
         Ok(set) => Ok(set),
@@ -50,12 +50,12 @@ pub fn set(alloc: Global, text: &str) -> Result<Processes, AllocError> {
     }
 }
 
-/// The part of a word behind so many `:`.
+/// Returns the part of a word behind so many `:`.
 pub fn part(word: &str, at: usize) -> &str {
     word.split(':').nth(at).unwrap_or("")
 }
 
-/// A client's body `x`.
+/// Returns a client's body `x`.
 pub fn say(service: Service) -> Body {
     Body::App {
         service,
@@ -63,7 +63,7 @@ pub fn say(service: Service) -> Body {
     }
 }
 
-/// A member of a ring of these processes, or of itself where there are none. It holds nothing yet.
+/// Returns a member of a ring of these processes, or of a ring of itself if there are none. It holds nothing yet.
 pub fn state(
     alloc: Global,
     me: ProcId,
@@ -91,7 +91,7 @@ pub fn push_truth(text: &mut String, holds: bool) -> Result<(), AllocError> {
     text.push_str(if holds { " yes" } else { " no" })
 }
 
-/// Whether both are shown by the same text.
+/// Returns whether both values are shown by the same text.
 pub fn is_shown_alike<T: Debug>(alloc: Global, value: &T, other: &T) -> Result<bool, AllocError> {
     let shown = format!(in alloc; "{value:?}")?;
     Ok(shown == format!(in alloc; "{other:?}")?)

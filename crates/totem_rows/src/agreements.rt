@@ -123,7 +123,8 @@ fn agreement_is_judged(rt: HostRuntime) -> Result<(), Fail> {
     run_rows(&rt, rt.alloc(), AGREEMENTS.as_slice())
 }
 
-/// One process on 40 rings, one after the other; at the second, the 20th and the 39th it does not deliver what it sends.
+/// Returns the text of a run in which one process is on 40 rings, one after the other. On the second, the 20th and the
+/// 39th it does not deliver what it sends.
 pub fn forty_rings(alloc: Global) -> Result<String, Fail> {
     let mut text = format!(in alloc; "totem-run 1;log 1;")?;
     for ring in 1..=40u32 {

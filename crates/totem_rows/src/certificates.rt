@@ -1,4 +1,4 @@
-//! Runs with certificates.
+//! Runs with certificates, and what the checker reports of them.
 use crate::table::{Row, run, run_rows};
 use std::alloc::{AllocError, Global};
 use std::test::Fail;
@@ -152,7 +152,7 @@ fn checks_are_as_written(rt: HostRuntime) -> Result<(), Fail> {
     run_rows(&rt, rt.alloc(), CHECKS.as_slice())
 }
 
-/// The good run, and these bytes in place of its certificate.
+/// Returns the text of the good run with these bytes in place of its certificate.
 fn with_certificate(alloc: Global, certificate: &str) -> Result<String, AllocError> {
     format!(in alloc; "{RUN}{certificate}")
 }

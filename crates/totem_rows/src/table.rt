@@ -1,4 +1,4 @@
-//! A row, and how it is run.
+//! A row of a table, and how it is run.
 use std::alloc::{AllocError, Global};
 use std::process::Abort;
 use std::sync::Wait;
@@ -7,7 +7,7 @@ use std::thread::Threads;
 use totem_cluster::program;
 use totem_ids::{FromRead, ToWrite};
 
-/// What the program is run on, and what it has to answer. In texts `;` stands for a line end; words are parted by spaces.
+/// What the program is run on, and what it has to answer. In texts `;` stands for a line end, and spaces part the words.
 pub struct Row {
     pub name: &'static str,
     pub words: &'static str,
@@ -25,12 +25,12 @@ pub struct Answer {
     pub errors: String,
 }
 
-/// A text with its line ends.
+/// Returns the text with its line ends.
 pub fn lines(alloc: Global, text: &str) -> Result<String, AllocError> {
     text.replace(alloc, ";", "\n")
 }
 
-/// The words, the program's name before them.
+/// Returns the words, with the program's name in front.
 pub fn words(alloc: Global, text: &str) -> Result<Vec<String>, AllocError> {
     let mut list = Vec::new(alloc);
     list.push(String::from_str(alloc, "totem")?)?;
@@ -67,7 +67,7 @@ pub fn run<T: Threads + Wait + Sync>(
     })
 }
 
-/// Runs the rows.
+/// Runs the program on each row, and compares what it answers with the row.
 pub fn run_rows<T: Threads + Wait + Abort + Sync>(
     rt: &T,
     alloc: Global,

@@ -11,7 +11,8 @@ use totem_cluster::{BookTrouble, IoFault, RunPlan, run_threads, tell_fault};
 use totem_ids::ToWrite;
 use totem_net::{Plan, Quiet};
 
-/// The run that these words make is read and judged, and the checker accepts a yes. Answers the audit's status and the run.
+/// Makes the run that these words ask for, has it judged, and has the checker accept the certificate of a yes. Returns
+/// the audit's status and the text of the run.
 fn judged<T: Threads + Wait + Abort + Sync>(
     rt: &T,
     alloc: Global,
@@ -49,7 +50,7 @@ fn a_run_of_threads_is_read_and_judged(rt: HostRuntime) -> Result<(), Fail> {
     Ok(())
 }
 
-/// A no is no failure: it is printed with its run, for people to look at.
+/// A run with the verdict no does not fail the test: it is printed, for people to look at.
 #[test]
 fn rough_runs_are_judged(rt: HostRuntime) -> Result<(), Fail> {
     let alloc = rt.alloc();
@@ -70,11 +71,11 @@ fn rough_runs_are_judged(rt: HostRuntime) -> Result<(), Fail> {
     Ok(())
 }
 
-/// What a run's text tells.
+/// What the text of a run tells.
 struct Tally {
     changes: usize,
     sent: usize,
-    /// How many messages are delivered so many times.
+    /// How many messages are delivered as many times as there are nodes.
     by_all: usize,
 }
 
@@ -103,11 +104,12 @@ fn tallied(alloc: Global, nodes: usize, text: &str) -> Result<Tally, AllocError>
     })
 }
 
-/// How many messages the clients submit where no ticks are given.
+/// How many messages the clients submit in a run with the default number of ticks.
 const SUBMITTED: usize = 500;
 
-/// Nothing where of ten messages at least so many are taken, and of ten that are taken at least so many delivered by each of
-/// so many nodes, which stay in one configuration where nothing is lost or held. Else what came of the run.
+/// Runs so many nodes in threads, and returns an empty text if the run went well enough: of ten messages that clients
+/// submit at least `of_ten` are sent, of ten that are sent at least `of_ten` are delivered by all nodes, and these stay
+/// in one configuration if nothing is lost or held. Otherwise returns what came of the run.
 fn told<T: Threads + Wait + Sync>(
     rt: &T,
     alloc: Global,

@@ -1,4 +1,4 @@
-//! Reports.
+//! Reports of audits.
 use crate::table::{Row, run_rows};
 use std::test::Fail;
 

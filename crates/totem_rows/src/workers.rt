@@ -12,13 +12,13 @@ use totem_audit::{Gate, OpenGate, Verdict, Workers, audit, audit_with};
 use totem_evs::{Run, read_run};
 use totem_ids::FromRead;
 
-/// How often a gate looks before it gives up, a millisecond apart.
+/// How often a gate looks, a millisecond apart, before it gives up.
 const LOOKS: u32 = 10_000;
 
 /// Two processes that are each alone on a ring: two configurations, and so two jobs.
 const TWO_JOBS: &str = "totem-run 1;log 1;conf r4.1 1;open;log 2;conf r4.2 2;open;end;";
 
-/// Holds each job until as many have begun, and counts how many came, went, and were let go before that.
+/// Holds each job until `wanted` jobs have begun, and counts how many came, went, and were let go before that.
 #[derive(Drop)]
 struct HoldsUntil<'g, R> {
     rt: &'g R,
@@ -69,7 +69,7 @@ fn run_of(alloc: Global, text: &str) -> Result<Run, Fail> {
     Ok(read_run(alloc, &mut FromRead::new(text.as_bytes()))?)
 }
 
-/// How many jobs came, went, and were let go before both had begun.
+/// Returns how many jobs came, went, and were let go before both had begun.
 fn counts<T: Threads + Wait + Clock + Abort + Sync>(
     rt: &T,
     alloc: Global,

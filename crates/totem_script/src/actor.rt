@@ -12,10 +12,10 @@ use totem_node::{Input, NodeCore, NodeFault};
 use totem_packets::Packet;
 use totem_ring::To;
 
-/// How many entries a log may have.
+/// How many entries a log may have at most.
 const MOST: usize = 1_000_000;
 
-/// A process of a script: its node, and what the node has written.
+/// A process of a script: its node, and the entries that the node has written.
 #[derive(Debug, Drop)]
 pub struct ActorState {
     proc: ProcId,
@@ -35,7 +35,7 @@ impl Model for ActorState {
 }
 
 impl ActorState {
-    /// A node that starts on this ring.
+    /// Makes a node that starts on this ring.
     pub fn new(
         alloc: Global,
         proc: ProcId,
@@ -61,7 +61,8 @@ impl ActorState {
         self.proc
     }
 
-    /// It takes this input, and what its node sends is given back. A step that the node refuses is passed over.
+    /// Gives the node this input, and returns what the node sends. A step that the node refuses is passed over.
+    /// `TooMany` if the log would have more than 1,000,000 entries.
     pub fn take(
         &mut self,
         alloc: Global,
@@ -86,7 +87,7 @@ impl ActorState {
         Ok(out.packets)
     }
 
-    /// What it has recorded.
+    /// Returns the log of what the node has written.
     pub fn into_log(self) -> Log
         ensures { result ≡ log_of self }
     {

@@ -6,26 +6,26 @@ use totem_packets::Payload;
 /// What a line of a script says (docs/PROTOCOL.md, "Scripts").
 #[derive(Debug, Drop)]
 pub enum Command {
-    /// These nodes are made on this ring, and its first token is on its way.
+    /// Nodes are made on this ring, and its first token is on its way.
     Ring {
         ring: RingId,
         members: ProcessList,
     },
-    /// A client of this process asks it to send this.
+    /// A client of this process asks it to send this payload.
     Submit {
         proc: ProcId,
         service: Service,
         payload: Payload,
     },
-    /// So many times the first packet goes to its receiver.
+    /// The first packet goes to its receiver, this many times while there is one.
     Run {
         times: u32,
     },
-    /// The packet at this place, from 1, is lost.
+    /// The packet at this place, counted from 1, is lost.
     Drop {
         place: u32,
     },
-    /// The packet at this place, from 1, comes once more, behind the others.
+    /// A copy of the packet at this place, counted from 1, goes behind the others.
     Repeat {
         place: u32,
     },
@@ -35,11 +35,11 @@ pub enum Command {
     },
     /// The cut ends.
     Join,
-    /// The process's timer runs out.
+    /// The timer of this process runs out.
     Timer {
         proc: ProcId,
     },
-    /// The process fails.
+    /// This process fails.
     Crash {
         proc: ProcId,
     },

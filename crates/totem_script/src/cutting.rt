@@ -1,4 +1,4 @@
-//! Lists of processes: the members of a ring, the groups of a cut.
+//! Reads lists of processes: the members of a ring, and the groups of a cut.
 ghost use Rattle.std.specs.Prelude.{◌≡◌, []};
 ghost use Rattle.totem_script.specs.Commands.{some_processes, group_word, groups_from, ring_words};
 ghost use Rattle.totem_script.specs.Parsed.{Gives};
@@ -12,7 +12,7 @@ use crate::process_list::ProcessList;
 use std::alloc::Global;
 use totem_ids::ProcId;
 
-/// One process or more.
+/// Reads one process or more.
 fn processes(alloc: Global, words: &mut Parts<'_>) -> Result<ProcessList, LineFault>
     ensures { Gives result (some_processes words.old) }
 {
@@ -26,7 +26,7 @@ fn processes(alloc: Global, words: &mut Parts<'_>) -> Result<ProcessList, LineFa
     Ok(list)
 }
 
-/// `ring`: its name and its members.
+/// Reads the name of a `ring` line and its members.
 pub fn ring(alloc: Global, words: &mut Parts<'_>) -> Result<Command, LineFault>
     ensures { Gives result (ring_words words.old) }
 {
@@ -38,7 +38,7 @@ pub fn ring(alloc: Global, words: &mut Parts<'_>) -> Result<Command, LineFault>
     Ok(Command::Ring { ring, members })
 }
 
-/// A process, or none where the word is a stroke.
+/// Returns the process that the word spells, or `None` if the word is a stroke.
 fn process_or_stroke(word: &[u8]) -> Result<Option<ProcId>, LineFault>
     ensures { result ≡ group_word word.now }
 {
@@ -51,7 +51,7 @@ fn process_or_stroke(word: &[u8]) -> Result<Option<ProcId>, LineFault>
     Ok(Some(process(word)?))
 }
 
-/// The groups of a cut: one process or more in each, and a stroke between two of them.
+/// Reads the groups of a cut: one process or more in each, and a stroke between two groups.
 pub fn groups(alloc: Global, words: &mut Parts<'_>) -> Result<Groups, LineFault>
     ensures { Gives result (groups_from [] [] words.old) }
 {

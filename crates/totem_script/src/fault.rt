@@ -5,7 +5,7 @@ ghost use Rattle.totem_script.specs.declared.fault.LineFault.TheVariants.{Memory
 use std::alloc::{AllocError, AllocFailed};
 use thiserror::Error;
 
-/// Why a line is no command: what its first unfit byte is.
+/// Why a line is no command: what is wrong with its first unfit byte.
 #[derive(Clone, Copy, Debug, PartialEq, Eq, Error)]
 pub enum LineFault {
     #[error("a word that no command has there, or one too few")]

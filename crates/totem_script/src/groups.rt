@@ -19,7 +19,7 @@ impl Model for Groups {
 }
 
 impl Groups {
-    /// No groups yet.
+    /// Returns the list without groups.
     pub fn new(alloc: Global) -> Groups
         ensures { result ≡ [] }
     {
@@ -28,7 +28,7 @@ impl Groups {
         }
     }
 
-    /// One group more, behind the others.
+    /// Adds a group behind the others.
     pub fn push(&mut self, group: ProcessList) -> Result<(), AllocError>
         ensures { MatchResult result (λ u. self.new ≡ self.old ++ group ∷ []) (λ e. self.new ≡ self.old) }
     {

@@ -18,7 +18,7 @@ pub enum Keyword {
 }
 
 impl Keyword {
-    /// The keyword that this word is.
+    /// Returns the keyword that this word is, if it is one.
     pub fn of(word: &[u8]) -> Option<Keyword>
         ensures { result ≡ keyword_of word.now }
     {

@@ -1,4 +1,4 @@
-//! A script's lines.
+//! The lines of a script.
 ghost use Rattle.std.specs.Prelude.{◌≡◌, [], ◌∷◌, MatchResult, MatchOption, IsTrue, ◌↔◌, Err, Ok};
 ghost use Rattle.totem_script.specs.Lines.{lines_of};
 ghost use Rattle.totem_script.specs.Judged.{Judged};
@@ -6,15 +6,15 @@ ghost use Rattle.totem_script.specs.Judged.{Judged};
 use crate::script_fault::ScriptFaultKind;
 use std::marker::Model;
 
-/// How many bytes a script may have.
+/// How many bytes a script may have at most.
 const MOST: usize = 65_536;
 
-/// The lines of a script, from the first on.
+/// Gives the lines of a script one after the other.
 #[derive(Debug, Drop)]
 pub struct Lines<'a> {
     /// What is left of the script.
     rest: &'a [u8],
-    /// How many bytes it may have.
+    /// How many bytes this rest may have.
     room: usize,
 }
 
@@ -29,7 +29,7 @@ impl<'a> Model for Lines<'a> {
 }
 
 impl<'a> Lines<'a> {
-    /// The lines of this script.
+    /// Begins with the first line of this script.
     pub fn new(script: &'a [u8]) -> Lines<'a>
         ensures { result ≡ lines_of 65536 script.now }
     {
@@ -39,7 +39,8 @@ impl<'a> Lines<'a> {
         }
     }
 
-    /// The next line without its end. What is wrong with it ends the script.
+    /// Returns the next line without its end, or `None` behind the last one. A fault ends the lines: `Truncated` if
+    /// this one has no end, `TooMany` if the script is too long.
     pub fn next(&mut self) -> Result<Option<&'a [u8]>, ScriptFaultKind>
         ensures { MatchResult result
             (λ line. MatchOption line (self.old ≡ []) (λ text. self.old ≡ Ok text.now ∷ self.new))
@@ -66,7 +67,7 @@ impl<'a> Lines<'a> {
         }
     }
 
-    /// Whether no byte is left.
+    /// Returns whether no byte is left.
     pub fn is_empty(&self) -> bool
         ensures { IsTrue result ↔ (self.now ≡ []) }
     {

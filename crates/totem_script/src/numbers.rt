@@ -1,4 +1,4 @@
-//! Numbers and names that are a whole word.
+//! Reads numbers and names that are a whole word.
 ghost use Rattle.std.specs.Prelude.{◌≡◌, ◌≤◌, ◌&&◌, ◌==◌, not, IfOk};
 ghost use Rattle.totem_ids.specs.Numbers.{is_digit};
 ghost use Rattle.totem_ids.specs.Texts.{IsUpTo};
@@ -8,21 +8,21 @@ use crate::fault::LineFault;
 use crate::parts::Parts;
 use totem_ids::{ProcId, RingId};
 
-/// `0` to `9`.
+/// Returns whether the byte is a digit, `0` to `9`.
 pub fn is_digit(byte: u8) -> bool
     ensures { result ≡ is_digit byte }
 {
     b'0' <= byte && byte <= b'9'
 }
 
-/// `1` to `9`.
+/// Returns whether the byte is a digit from `1` to `9`.
 fn begins_number(byte: u8) -> bool
     ensures { result ≡ begins_number byte }
 {
     is_digit(byte) && byte != b'0'
 }
 
-/// The word is a number from 1 to `max`, with no zero in front.
+/// Returns the number that the word spells, from 1 to `max` and without leading zeros.
 pub fn number(word: &[u8], max: u32) -> Result<u32, LineFault>
     requires { 9 ≤ max }
     ensures number { result ≡ number_in max word.now }
@@ -49,7 +49,7 @@ pub fn number(word: &[u8], max: u32) -> Result<u32, LineFault>
     Ok(number as u32)
 }
 
-/// The word is a process.
+/// Returns the process that the word spells.
 pub fn process(word: &[u8]) -> Result<ProcId, LineFault>
     ensures { result ≡ process_in word.now }
 {
@@ -57,7 +57,7 @@ pub fn process(word: &[u8]) -> Result<ProcId, LineFault>
     Ok(ProcId::of(number as u16))
 }
 
-/// The word is a ring: its number, a dot, its representative.
+/// Returns the ring that the word spells: its number, a dot, its representative.
 pub fn ring(word: &[u8]) -> Result<RingId, LineFault>
     ensures { result ≡ ring_in word.now }
 {

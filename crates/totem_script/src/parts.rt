@@ -4,10 +4,10 @@ ghost use Rattle.totem_script.specs.Parts.{parts};
 
 use std::marker::Model;
 
-/// The parts of a text between the places where one byte stands, from the first on: one more than there are such places.
+/// Gives the parts of a text between the places at which one byte stands. There is one more part than such places.
 #[derive(Debug, Drop)]
 pub struct Parts<'a> {
-    /// What stands behind the last place that was met; none after the last part.
+    /// What stands behind the last place that was met, or `None` after the last part.
     rest: Option<&'a [u8]>,
     at: u8,
 }
@@ -22,7 +22,7 @@ impl<'a> Model for Parts<'a> {
 }
 
 impl<'a> Parts<'a> {
-    /// The parts of this text, cut where this byte stands.
+    /// Cuts this text at each place where the byte `at` stands.
     pub fn new(text: &'a [u8], at: u8) -> Parts<'a>
         ensures { result ≡ parts at text.now }
     {
@@ -32,7 +32,7 @@ impl<'a> Parts<'a> {
         }
     }
 
-    /// The next part.
+    /// Returns the next part, if one is left.
     pub fn next(&mut self) -> Option<&'a [u8]>
         ensures { MatchOption result ((self.old ≡ []) × (self.new ≡ [])) (λ p. self.old ≡ p.now ∷ self.new) }
     {
@@ -52,7 +52,7 @@ impl<'a> Parts<'a> {
         }
     }
 
-    /// Whether no part is left.
+    /// Returns whether no part is left.
     pub fn is_empty(&self) -> bool
         ensures { IsTrue result ↔ (self.now ≡ []) }
     {

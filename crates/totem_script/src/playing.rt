@@ -1,4 +1,4 @@
-//! A script, line by line.
+//! Plays a script line by line.
 ghost use Rattle.std.specs.Prelude.{◌≡◌, ◌≤◌, length, drop, OnOk};
 ghost use Rattle.totem_script.specs.Judged.{Becomes};
 ghost use Rattle.totem_script.specs.Scenes.{empty_scene};
@@ -15,7 +15,7 @@ use totem_evs::Run;
 /// The first line of a script.
 const HEAD: &[u8] = b"totem-script 1";
 
-/// Whether this is `end`.
+/// Returns whether this is the command `end`.
 fn ends(command: &Command) -> bool
     ensures { result ≡ ends command.now }
 {
@@ -25,7 +25,7 @@ fn ends(command: &Command) -> bool
     }
 }
 
-/// What the line says is done. Whether it is the last.
+/// Does what the line says. Returns whether it was the last line.
 fn follow(alloc: Global, scene: &mut SceneState, line: &[u8]) -> Result<bool, ScriptFaultKind>
     ensures { Follows result scene.new (followed scene.old line.now) }
 {
@@ -35,7 +35,7 @@ fn follow(alloc: Global, scene: &mut SceneState, line: &[u8]) -> Result<bool, Sc
     Ok(ended)
 }
 
-/// The next line is read and followed. Whether it is the last.
+/// Reads the next line and does what it says. Returns whether it was the last line.
 fn judge(
     alloc: Global,
     lines: &mut Lines<'_>,
@@ -50,7 +50,7 @@ fn judge(
     follow(alloc, scene, text)
 }
 
-/// The lines from the second on, up to `end`. Gives the number of the last line.
+/// Plays the lines from the second on, up to `end`. Returns the number of that last line.
 fn play(alloc: Global, lines: &mut Lines<'_>, scene: &mut SceneState) -> Result<u32, ScriptFault>
     requires { length lines.old ≤ 65537 }
     ensures { Leads result scene.new (play 2 scene.old lines.old) }
@@ -75,7 +75,7 @@ fn play(alloc: Global, lines: &mut Lines<'_>, scene: &mut SceneState) -> Result<
     Ok(line)
 }
 
-/// The first line is the head.
+/// Reads the first line, which has to be the head.
 fn begin(lines: &mut Lines<'_>) -> Result<(), ScriptFaultKind>
     ensures head { Becomes result empty_scene (first_headed lines.old) }
     ensures rest { OnOk result (lines.new ≡ drop 1 lines.old) }
@@ -90,8 +90,8 @@ fn begin(lines: &mut Lines<'_>) -> Result<(), ScriptFaultKind>
     }
 }
 
-/// The run that a script makes (docs/PROTOCOL.md, "Scripts"): a log of each of its processes. A fault is that of its
-/// first line that has one, and tells which line that is.
+/// Returns the run that a script makes (docs/PROTOCOL.md, "Scripts"), with a log for each of its processes. A fault is
+/// that of the first line that has one, and tells which line that is.
 pub fn simulate(alloc: Global, script: &[u8]) -> Result<Run, ScriptFault>
     ensures { Gives result (simulate script.now) }
 {

@@ -1,4 +1,4 @@
-//! Packets on their way.
+//! The packets on their way, and how packets are put there.
 ghost use Rattle.std.specs.Prelude.{◌≡◌, ◌++◌, ◌==◌, ◌&&◌, not, OnOk};
 ghost use Rattle.std.specs.List.{list_any};
 ghost use Rattle.totem_packets.specs.Sets.{has};
@@ -16,7 +16,7 @@ use totem_ring::To;
 /// Packets on their way, each with its receiver.
 pub type Queue = VecDeque<(ProcId, Packet)>;
 
-/// Whether both stand in this group.
+/// Returns whether both processes stand in this group.
 fn are_together(group: &ProcessList, from: ProcId, to: ProcId) -> bool
     ensures { result ≡ (has group.now from && has group.now to) }
 {
@@ -29,7 +29,7 @@ fn is_group_of(groups: &[ProcessList], from: ProcId, to: ProcId) -> bool
     groups.iter().any(|group| are_together(group, from, to))
 }
 
-/// Packets pass within a group, and without a cut between any two.
+/// Returns whether packets pass between these processes: always without a cut, and during a cut within one group.
 pub fn may_pass(cut: &Option<Groups>, from: ProcId, to: ProcId) -> bool
     ensures { result ≡ may_pass cut.now from to }
 {
@@ -39,14 +39,14 @@ pub fn may_pass(cut: &Option<Groups>, from: ProcId, to: ProcId) -> bool
     }
 }
 
-/// Whether a broadcast gets to this process.
+/// Returns whether a broadcast gets to the process `to`.
 fn is_reached(cut: &Option<Groups>, from: ProcId, to: ProcId) -> bool
     ensures { result ≡ (not (to == from) && may_pass cut.now from to) }
 {
     to != from && may_pass(cut, from, to)
 }
 
-/// A broadcast is for all other processes of the script, in rising order.
+/// Puts a broadcast on its way to each other process of the script that it can reach, in rising order.
 fn broadcast(
     alloc: Global,
     queue: &mut Queue,
@@ -67,7 +67,7 @@ fn broadcast(
     Ok(())
 }
 
-/// What a process has sent is on its way.
+/// Puts a packet that a process has sent on its way.
 fn post(
     alloc: Global,
     queue: &mut Queue,
@@ -90,7 +90,7 @@ fn post(
     }
 }
 
-/// All that a process has sent is on its way.
+/// Puts all packets that a process has sent on their way.
 pub fn post_all(
     alloc: Global,
     queue: &mut Queue,

@@ -20,7 +20,7 @@ impl Model for ProcessList {
 }
 
 impl ProcessList {
-    /// No processes yet.
+    /// Returns the list without processes.
     pub fn new(alloc: Global) -> ProcessList
         ensures { result ≡ [] }
     {
@@ -29,7 +29,7 @@ impl ProcessList {
         }
     }
 
-    /// One process more, behind the others.
+    /// Adds a process behind the others.
     pub fn push(&mut self, proc: ProcId) -> Result<(), AllocError>
         ensures { MatchResult result (λ u. self.new ≡ self.old ++ proc ∷ []) (λ e. self.new ≡ self.old) }
     {

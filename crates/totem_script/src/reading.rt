@@ -1,4 +1,4 @@
-//! A line's command.
+//! Reads the command of a line.
 ghost use Rattle.std.specs.Prelude.{◌≡◌, ◌≤◌, IfOk};
 ghost use Rattle.totem_ids.specs.Texts.{IsUpTo};
 ghost use Rattle.totem_script.specs.Numbers.{only};
@@ -15,10 +15,10 @@ use crate::submitting::submit;
 use std::alloc::Global;
 use totem_ids::ProcId;
 
-/// The greatest number of `run`, `drop` and `repeat`.
+/// The greatest number that `run`, `drop` and `repeat` may have.
 const MOST: u32 = 100_000;
 
-/// A number, and nothing behind it.
+/// Reads a number with nothing behind it.
 fn count(words: &mut Parts<'_>) -> Result<u32, LineFault>
     ensures { result ≡ number_words words.old }
 {
@@ -32,7 +32,7 @@ fn count(words: &mut Parts<'_>) -> Result<u32, LineFault>
     Ok(number)
 }
 
-/// A process, and nothing behind it.
+/// Reads a process with nothing behind it.
 fn one_process(words: &mut Parts<'_>) -> Result<ProcId, LineFault>
     ensures { result ≡ process_words words.old }
 {
@@ -46,7 +46,7 @@ fn one_process(words: &mut Parts<'_>) -> Result<ProcId, LineFault>
     Ok(proc)
 }
 
-/// The command, where nothing is left.
+/// Returns the command if no word is left behind it.
 fn alone(command: Command, words: &Parts<'_>) -> Result<Command, LineFault>
     ensures { result ≡ only command words.now }
 {
@@ -57,7 +57,7 @@ fn alone(command: Command, words: &Parts<'_>) -> Result<Command, LineFault>
     }
 }
 
-/// What a line without its end says, or the fault of its first unfit byte.
+/// Returns what a line, given without its end, says as a command. A fault is that of its first unfit byte.
 pub fn read_command(alloc: Global, line: &[u8]) -> Result<Command, LineFault>
     ensures { Gives result (command_of line.now) }
 {

@@ -1,4 +1,4 @@
-//! What there is while a script goes on.
+//! The scene of a script: what there is while the script goes on.
 ghost use Rattle.std.specs.Prelude.{◌≡◌, length, nat_lt, slice_get};
 ghost use Rattle.totem_script.specs.Casts.{is_known};
 ghost use Rattle.totem_script.specs.Judged.{Becomes};
@@ -25,11 +25,11 @@ mod running;
 #[derive(Debug, Drop)]
 pub struct SceneState {
     actors: Cast,
-    /// Packets on their way.
+    /// The packets on their way, each with its receiver.
     queue: Queue,
-    /// The groups, during a cut.
+    /// The groups of the cut, while there is one.
     cut: Option<Groups>,
-    /// A command other than `ring` has come.
+    /// Whether a command other than `ring` has come.
     under_way: bool,
 }
 
@@ -41,7 +41,7 @@ impl Model for SceneState {
     ghost view = { λ s. record { actors = s.actors; queue = s.queue.items; cut = s.cut; under_way = s.under_way } };
 }
 
-/// Whether this is `ring`.
+/// Returns whether this is the command `ring`.
 fn makes_ring(command: &Command) -> bool
     ensures { result ≡ makes_ring command.now }
 {
@@ -58,7 +58,7 @@ impl SceneState {
     ghost use Rattle.std.specs.Prelude.{map, IfOk};
     ghost use Rattle.totem_script.specs.Actors.{log_of};
 
-    /// Nothing is there yet.
+    /// Returns the scene of a script that has not begun.
     pub fn new(alloc: Global) -> SceneState
         ensures { result ≡ empty_scene }
     {
@@ -70,7 +70,7 @@ impl SceneState {
         }
     }
 
-    /// The process takes this input, if it is one of these, and what its node sends is on its way.
+    /// Gives a process this input, and puts what its node sends on its way. A process that the script does not have is passed over.
     fn take(&mut self, alloc: Global, proc: ProcId, input: Input) -> Result<(), ScriptFaultKind>
         ensures { Becomes result self.new (takes_in self.old proc input) }
     {
@@ -80,7 +80,7 @@ impl SceneState {
         Ok(())
     }
 
-    /// A process that a line names takes this input.
+    /// Gives this input to a process that a line names. `Members` if the script does not have that process.
     fn step(&mut self, alloc: Global, proc: ProcId, input: Input) -> Result<(), ScriptFaultKind>
         ensures { Becomes result self.new (step_of self.old proc input) }
     {
@@ -99,7 +99,7 @@ impl SceneState {
         !self.actors.as_slice().is_empty()
     }
 
-    /// What a command does.
+    /// Does what a command says.
     fn act(&mut self, alloc: Global, command: Command) -> Result<(), ScriptFaultKind>
         ensures { Becomes result self.new (effect self.old command) }
     {
@@ -127,7 +127,7 @@ impl SceneState {
         }
     }
 
-    /// The command is done, if it may come now.
+    /// Does what a command says, if the command may come now. `Order` if it may not.
     pub fn follow(&mut self, alloc: Global, command: Command) -> Result<(), ScriptFaultKind>
         ensures { Becomes result self.new (done self.old command) }
     {
@@ -138,7 +138,7 @@ impl SceneState {
         self.act(alloc, command)
     }
 
-    /// What the processes have recorded.
+    /// Returns the run that the processes have recorded.
     pub fn into_run(self, alloc: Global) -> Result<Run, AllocError>
         ensures { IfOk result (λ run. run.logs ≡ map log_of self.actors) }
     {

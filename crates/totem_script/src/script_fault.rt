@@ -7,7 +7,8 @@ use crate::fault::LineFault;
 use std::alloc::{AllocError, AllocFailed};
 use thiserror::Error;
 
-/// What is wrong with a line of a script; of several the first, in this order (docs/PROTOCOL.md, "Scripts").
+/// What is wrong with a line of a script. If several things are, it is the first of them in this order
+/// (docs/PROTOCOL.md, "Scripts").
 #[derive(Clone, Copy, Debug, PartialEq, Eq, Error)]
 pub enum ScriptFaultKind {
     #[error("a script begins with `totem-script 1`")]
@@ -34,8 +35,8 @@ pub enum ScriptFaultKind {
     Memory,
 }
 
-/// Why a script makes no run, and which of its lines, from 1 on, was judged when that came out. A script that ends too
-/// early lacks the line that is named. `Read` and `Memory` name the line that was under way.
+/// Why a script makes no run, and which of its lines, counted from 1, was judged when that came out. If the script ends
+/// too early, that is the line which is missing. `Read` and `Memory` name the line that was under way.
 #[derive(Clone, Copy, Debug, PartialEq, Eq, Error)]
 #[error("line {line}: {kind}")]
 pub struct ScriptFault {
@@ -44,7 +45,7 @@ pub struct ScriptFault {
 }
 
 impl ScriptFaultKind {
-    /// Its number, from 1 on in the order above.
+    /// Returns the fault's number, counted from 1 in the order above.
     pub fn number(&self) -> u8
         ensures { result ≡ fault_number self.now }
     {
@@ -63,7 +64,7 @@ impl ScriptFaultKind {
         }
     }
 
-    /// Its name.
+    /// Returns the fault's name.
     pub fn name(&self) -> &'static str
         ensures { result.now ≡ fault_name self.now }
     {
@@ -84,14 +85,14 @@ impl ScriptFaultKind {
 }
 
 impl ScriptFault {
-    /// The number of what is wrong.
+    /// Returns the number of what is wrong.
     pub fn number(&self) -> u8
         ensures { result ≡ fault_number self.now.kind }
     {
         self.kind.number()
     }
 
-    /// The name of what is wrong.
+    /// Returns the name of what is wrong.
     pub fn name(&self) -> &'static str
         ensures { result.now ≡ fault_name self.now.kind }
     {

@@ -13,10 +13,10 @@ use std::alloc::Global;
 use totem_ids::Service;
 use totem_packets::Payload;
 
-/// How long a payload's word may be.
+/// How many bytes a payload may have at most.
 const LONGEST: usize = 64;
 
-/// `a` or `s`.
+/// Returns the service that the word `a` or `s` names.
 fn service(word: &[u8]) -> Result<Service, LineFault>
     ensures { result ≡ service_in word.now }
 {
@@ -29,7 +29,7 @@ fn service(word: &[u8]) -> Result<Service, LineFault>
     }
 }
 
-/// `0` to `9` or `a` to `z`.
+/// Returns whether the byte is one of `0` to `9` or `a` to `z`.
 fn may_stand(byte: u8) -> bool
     ensures { result ≡ may_stand byte }
 {
@@ -42,7 +42,7 @@ fn all_may_stand(word: &[u8]) -> bool
     word.iter().all(|b| may_stand(*b))
 }
 
-/// 1 to 64 of these.
+/// Returns whether the word has 1 to 64 such bytes.
 fn is_payload(word: &[u8]) -> bool
     ensures { result ≡ is_payload word.now }
 {
@@ -60,7 +60,7 @@ fn payload(alloc: Global, word: &[u8]) -> Result<Payload, LineFault>
     Ok(Payload::of(bytes))
 }
 
-/// The process, the service and the payload.
+/// Reads the process, the service and the payload of a `submit` line.
 pub fn submit(alloc: Global, words: &mut Parts<'_>) -> Result<Command, LineFault>
     ensures { Gives result (submit_words words.old) }
 {

@@ -1,4 +1,4 @@
-//! Books by direct calls.
+//! Books, tested by direct calls.
 ghost use Rattle.std.specs.Prelude.{◌≡◌};
 
 use bytes::Bytes;
@@ -77,7 +77,7 @@ pub(crate) fn told_by(alloc: Global, reply: &Reply) -> Result<String, AllocError
     }
 }
 
-/// What was told in a book's life, each answer with `| ` behind it, and the replies of its calls.
+/// What was told in the life of a book, with `| ` behind each answer, and the replies of its calls.
 #[derive(Drop)]
 pub(crate) struct Life {
     pub text: String,
@@ -98,7 +98,7 @@ impl Life {
     }
 }
 
-/// Where the receipt stands, what the reply says, and whether the receipt says so too.
+/// Tells where the receipt stands, what the reply says, and whether the receipt says so too.
 fn line(alloc: Global, stub: &Stub, reply: &Reply) -> Result<String, AllocError> {
     let text = told_by(alloc, reply)?;
     let sure = stub.reply.is(reply);
@@ -123,7 +123,7 @@ fn is_copied(alloc: Global, call: &Call, stub: &Stub) -> Result<bool, AllocError
     Ok(call.try_clone(alloc)?.is_of(stub))
 }
 
-/// The line of a receipt and a reply, and of each call whether its copy is of the receipt.
+/// Tells the line of a receipt and a reply, and of each call whether its copy is of the receipt.
 fn told_of_calls(
     alloc: Global,
     calls: &[Call],
@@ -149,7 +149,7 @@ fn told_of_copies(
     told_of_calls(alloc, calls, &stub.try_clone(alloc)?, &reply)
 }
 
-/// The first token comes. Tells what the copies tell that are made then.
+/// Lets the first token come, and tells what copies that are made then tell.
 fn copy(alloc: Global, life: &mut Life, book: &mut Book) -> Result<(), AllocError> {
     match book.apply(alloc, start(alloc)) {
         Ok((stub, reply)) => { life.tell(&told_of_copies(alloc, book.calls(), &stub, &reply)?) }
@@ -157,7 +157,7 @@ fn copy(alloc: Global, life: &mut Life, book: &mut Book) -> Result<(), AllocErro
     }
 }
 
-/// So many calls of a node that has crashed; a word for the first that is refused.
+/// Makes so many calls of a node that has crashed. The fault is that of the first call that is not taken.
 fn fill(alloc: Global, book: &mut Book, calls: u32) -> Result<(), BookFault> {
     for _ in 0..calls {
         let _ = book.apply(alloc, Input::Crash)?;
@@ -165,7 +165,7 @@ fn fill(alloc: Global, book: &mut Book, calls: u32) -> Result<(), BookFault> {
     Ok(())
 }
 
-/// So many calls of a node that has crashed. Tells why the first is refused that is.
+/// Makes so many calls of a node that has crashed, and tells why the first is not taken that is not.
 fn tell_fill(
     alloc: Global,
     life: &mut Life,
@@ -178,7 +178,7 @@ fn tell_fill(
     }
 }
 
-/// One step: what this word stands for.
+/// Does the step that this word stands for.
 fn step(alloc: Global, life: &mut Life, book: &mut Book, word: &str) -> Result<(), AllocError> {
     match word {
         "submit" => apply(alloc, life, book, submit()),
@@ -206,12 +206,12 @@ fn life_of(alloc: Global, members: &Members, words: &str) -> Result<Life, Fail> 
     all_steps(alloc, &mut book, words)
 }
 
-/// What a book of process 1 tells, step by step.
+/// Tells, step by step, of a book of process 1.
 fn text(alloc: Global, words: &str) -> Result<String, Fail> {
     Ok(life_of(alloc, &two(alloc)?, words)?.text)
 }
 
-/// The replies of a book of process 1, step by step.
+/// Returns the replies of a book of process 1, step by step.
 pub(crate) fn replies(alloc: Global, words: &str) -> Result<Vec<Reply>, Fail> {
     Ok(life_of(alloc, &two(alloc)?, words)?.replies)
 }

@@ -11,7 +11,7 @@ use totem_net::{
     TimerWord,
 };
 
-/// The packets that a receiving thread is given, and a full stop at its stop word.
+/// Adds the packets that a receiving thread is given, and a full stop at its stop word.
 fn received<R: Wait>(
     rt: &R,
     words: &Receiver<PacketWord>,
@@ -30,7 +30,7 @@ fn received<R: Wait>(
     Ok(())
 }
 
-/// As many letters `t` as a timer thread is given timers, and a full stop at its stop word.
+/// Adds as many letters `t` as a timer thread is given timers, and a full stop at its stop word.
 fn timed<R: Wait>(
     rt: &R,
     words: &Receiver<TimerWord>,
@@ -56,7 +56,7 @@ fn letter(service: Service) -> u8 {
     }
 }
 
-/// The services that a client thread is asked for, and a full stop at its stop word. It broadcasts a packet each time.
+/// Adds the services for which a client thread is asked, and a full stop at its stop word. Broadcasts a packet each time.
 fn asked<R: Wait>(
     rt: &R,
     end: &ThreadEnd<ClientWord>,
@@ -84,7 +84,7 @@ fn network(alloc: Global, ticks: u32) -> Result<Network, Fail> {
     Ok(Network::new(alloc, 3, ticks, Fates::new(1, plan), first)?)
 }
 
-/// A node broadcasts its number; the second also sends itself a packet.
+/// Lets a node broadcast its number. The second node sends itself a packet too.
 fn send_some<R: Wait>(rt: &R, alloc: Global, ends: &NodeEnds) -> Result<(), AllocError> {
     let outlet = &ends.receiving.outlet;
     let name = ends.node.number().to_be_bytes();
@@ -95,7 +95,7 @@ fn send_some<R: Wait>(rt: &R, alloc: Global, ends: &NodeEnds) -> Result<(), Allo
     Ok(())
 }
 
-/// Each node sends. Their packets to come are kept, and nothing to send more by.
+/// Lets each node send. Keeps the ends by which they get packets, and drops those by which they could send more.
 fn all_send<R: Wait>(
     rt: &R,
     alloc: Global,
@@ -122,7 +122,7 @@ fn all_received<R: Wait>(
     Ok(all)
 }
 
-/// What the nodes are given of each other's packets, by a switch that runs once all are sent.
+/// Returns what the nodes are given of each other's packets by a switch that runs once all packets are sent.
 fn all_switched<R: Wait>(rt: &R, alloc: Global) -> Result<Vec<u8>, Fail> {
     let Network {
         switch,
@@ -171,7 +171,7 @@ impl Given {
         }
     }
 
-    /// All that a client or a timer thread was given, and the end of what a receiving one was.
+    /// Returns all that a client or a timer thread was given, or the end of what a receiving thread was.
     fn told(&self) -> &[u8] {
         match self.part {
             Part::Receiving => &self.all[self.all.len().saturating_sub(1)..],
@@ -180,7 +180,7 @@ impl Given {
     }
 }
 
-/// The threads of three nodes, before they are given anything.
+/// Returns the threads of three nodes before they are given anything.
 fn nothing_given(alloc: Global) -> Result<Vec<Given>, AllocError> {
     let mut given = Vec::new(alloc);
     for part in [Part::Client, Part::Timer, Part::Receiving] {
@@ -232,8 +232,7 @@ fn give_all<R: Threads + Wait + Sync>(
     Ok(run_all(rt, alloc, switch, pacer, &nodes, given)?)
 }
 
-/// What the client threads and the timer threads of a network are given, and the ends of what the receiving threads
-/// are.
+/// Returns what the client and timer threads of a network are given, and the ends of what its receiving threads are.
 fn all_given<R: Threads + Wait + Sync>(rt: &R, alloc: Global) -> Result<Vec<u8>, Fail> {
     let mut given = nothing_given(alloc)?;
     give_all(rt, alloc, &mut given)?;

@@ -15,7 +15,7 @@ fn node(number: u16) -> Result<ProcId, Fail> {
     Ok(ProcId::new(number).ok_or("no process has the number 0")?)
 }
 
-/// What is handed on, as the receivers' numbers and the packets, one after another.
+/// Tells what is handed on: the number of each receiver and the packet, one after another.
 fn handed(alloc: Global, deliveries: &[Delivery]) -> Result<String, AllocError> {
     let mut text = String::new(alloc);
     for delivery in deliveries {
@@ -28,7 +28,7 @@ fn handed(alloc: Global, deliveries: &[Delivery]) -> Result<String, AllocError> 
     Ok(text)
 }
 
-/// For whom a packet is: a node, or behind `-` all but one.
+/// Returns for whom a packet is: a node, or behind `-` every node but one.
 fn address(to: &str) -> Option<Address> {
     match to.strip_prefix('-') {
         Some(sender) => Some(Address::AllBut(ProcId::new(sender.parse().ok()?)?)),
@@ -36,7 +36,7 @@ fn address(to: &str) -> Option<Address> {
     }
 }
 
-/// One packet, `>`, and for whom it is: adds what is handed on.
+/// Sends one packet, given as the packet, `>` and for whom it is, and adds what is handed on.
 fn pass(alloc: Global, ways: &mut Ways, text: &mut String, word: &str) -> Result<(), Fail> {
     let (packet, to) = word.split_once('>').ok_or("no receiver")?;
     let address = address(to).ok_or("no process has the number 0")?;
@@ -54,7 +54,7 @@ fn all_passed(alloc: Global, ways: &mut Ways, words: &str) -> Result<String, Fai
     Ok(text)
 }
 
-/// What each packet makes be handed on, on the ways to so many nodes.
+/// Tells what is handed on because of each packet, on the ways to so many nodes.
 fn carried(alloc: Global, nodes: u16, fates: Fates, words: &str) -> Result<String, Fail> {
     let mut ways = Ways::new(alloc, nodes, fates)?;
     all_passed(alloc, &mut ways, words)

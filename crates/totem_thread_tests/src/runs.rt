@@ -1,4 +1,4 @@
-//! Runs in threads: what the books of each run have to show, whichever comes out.
+//! Runs in threads: what the books of every run have to show, whichever run comes out.
 ghost use Rattle.std.specs.Prelude.{IfSome};
 ghost use Rattle.totem_threads.specs.Starts.{IsInRange};
 
@@ -24,7 +24,7 @@ fn three_nodes(ticks: u32, lose: u8, repeat: u8, hold: u8) -> Option<RunPlan>
     RunPlan::new(3, ticks, 1, Plan::new(lose, repeat, hold)?)
 }
 
-/// How many calls of these books a timer made, and a client.
+/// Returns how many calls of these books a timer made, and how many a client.
 fn turns(books: &[ClosedBook]) -> (usize, usize) {
     let mut timers = 0usize;
     let mut submits = 0usize;
@@ -47,7 +47,7 @@ fn passage(alloc: Global, to: ProcId, packet: &Packet) -> Result<Vec<u8>, AllocE
     Ok(bytes)
 }
 
-/// What went to which node, and whether another node sent it.
+/// What was sent to which node, and whether a node other than the receiver sent it.
 type Sent = BTreeMap<Vec<u8>, bool>;
 
 /// Notes what a node of three sent in one call.
@@ -80,7 +80,7 @@ fn all_sent(alloc: Global, books: &[ClosedBook]) -> Result<Sent, AllocError> {
     Ok(sent)
 }
 
-/// Of what a book was given over the network: how much nobody sent, and how much another sent and it took.
+/// Counts of what a book was given over the network how much nobody sent, and how much another node sent and this one took.
 fn given(alloc: Global, sent: &Sent, book: &ClosedBook) -> Result<(usize, usize), AllocError> {
     let mut unsent = 0usize;
     let mut taken = 0usize;
@@ -100,7 +100,7 @@ fn given(alloc: Global, sent: &Sent, book: &ClosedBook) -> Result<(usize, usize)
     Ok((unsent, taken))
 }
 
-/// How much of what was given nobody sent, and whether each took something of another.
+/// Returns how much of what was given nobody sent, and whether each node took something that another sent.
 fn all_given(alloc: Global, books: &[ClosedBook]) -> Result<(usize, bool), AllocError> {
     let sent = all_sent(alloc, books)?;
     let mut unsent = 0usize;

@@ -14,7 +14,8 @@ use totem_evs::Members;
 use totem_ids::ProcId;
 use totem_node::Input;
 
-/// What the thread of this number gives its node: the first two are clients, the third receives, the fourth is a timer.
+/// Returns what the thread of this number gives its node: the first two threads are clients, the third receives, the
+/// fourth is a timer.
 fn input_of(alloc: Global, thread: usize) -> Input {
     match thread {
         0 | 1 => submit(),
@@ -37,7 +38,7 @@ fn make_calls<L: BookName, R: Wait>(
     }
 }
 
-/// A thread for each seat makes 250 calls.
+/// Makes 250 calls by each seat, in a thread of its own.
 fn all_calls<L: BookName + Send + Sync, R: Threads + Wait + Sync>(
     rt: &R,
     alloc: Global,
@@ -68,7 +69,7 @@ fn is_rising(stubs: &[Stub]) -> bool {
     true
 }
 
-/// How many receipts each seat has, and whether they stand in their order.
+/// Tells how many receipts each seat has, and whether they stand in their order.
 fn tell_seats<L: BookName>(
     alloc: Global,
     life: &mut Life,
@@ -88,7 +89,7 @@ fn note(alloc: Global, life: &mut Life, reply: Reply) -> Result<(), AllocError> 
     life.tell(&text)
 }
 
-/// The first seat makes a call.
+/// Makes a call by the first seat.
 fn call<L: BookName, R: Wait>(
     rt: &R,
     alloc: Global,
@@ -106,7 +107,7 @@ fn call<L: BookName, R: Wait>(
     }
 }
 
-/// One step: what this word stands for.
+/// Does the step that this word stands for.
 fn step<L: BookName + Send + Sync, R: Threads + Wait + Sync>(
     rt: &R,
     alloc: Global,
@@ -138,7 +139,7 @@ fn all_steps<L: BookName + Send + Sync, R: Threads + Wait + Sync>(
     Ok(())
 }
 
-/// How many calls a closed book has. The log too where one seat made them: several threads have no set order.
+/// Tells how many calls a closed book has, and its log too if one seat made them: several threads have no set order.
 fn tell_closed(
     alloc: Global,
     life: &mut Life,
@@ -165,7 +166,7 @@ fn close<L: BookName>(
     }
 }
 
-/// Why a book was not closed, and how many seats came back. Puts one more to them.
+/// Tells why a book was not closed and how many seats came back, and adds one more seat to them.
 fn put_back<L: BookName>(
     alloc: Global,
     life: &mut Life,
@@ -205,8 +206,8 @@ fn close_twice<L: BookName>(
     }
 }
 
-/// What a shared book of process 1 with so many seats tells step by step, and when it is closed. The words are a `String`, since a
-/// call can pick no ghost members where the signature has a `&str`.
+/// Tells of a shared book of process 1 with so many seats, step by step and when it is closed. The words are a
+/// `String`, since a call can pick no ghost members where the signature has a `&str`.
 fn live<L: BookName + Send + Sync, R: Threads + Wait + Sync>(
     rt: &R,
     alloc: Global,
@@ -256,7 +257,7 @@ fn life_of<R: Threads + Wait + Sync>(
     Ok(life)
 }
 
-/// How many replies these are and those, and how many are the same.
+/// Returns how many replies these are, how many those are, and how many are the same.
 fn compared(these: &[Reply], those: &[Reply]) -> (usize, usize, usize) {
     let mut same = 0usize;
     for (this, that) in these.iter().zip(those) {
@@ -289,7 +290,7 @@ fn four_threads_share_a_book(rt: HostRuntime) -> Result<(), Fail> {
     Ok(())
 }
 
-/// A shared book with one seat: what it tells, and its replies beside those of a book that nobody shares.
+/// Runs a shared book with one seat. Tells what it tells, and its replies beside those of a book that nobody shares.
 fn beside_a_book<R: Threads + Wait + Sync>(
     rt: &R,
     alloc: Global,

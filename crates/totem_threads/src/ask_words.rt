@@ -1,4 +1,4 @@
-//! The words of a node's three threads, as what they ask.
+//! What the words of a node's three threads ask.
 ghost use Rattle.std.specs.Prelude.{◌≡◌, IfOk};
 ghost use Rattle.totem_threads.specs.Words.{packet_asks, timer_asks, client_asks};
 
@@ -9,16 +9,16 @@ use totem_net::{ClientWord, PacketWord, TimerWord};
 use totem_node::Input;
 use totem_packets::{Packet, PacketFault};
 
-/// What a client submits.
+/// The payload that a client submits.
 const PAYLOAD: &[u8] = b"x";
 
-/// What a thread of a node is given.
+/// A word that a thread of a node is given.
 pub trait Word: Drop + Send {
     ghost use Rattle.totem_threads.specs.declared.asked.Asked.{Asked};
 
     ghost asks: { Self → Asked };
 
-    /// What it asks. Want of memory is the only fault.
+    /// Returns what the word asks. The only fault is want of memory.
     fn asked(self, alloc: Global) -> Result<Asked, AllocError>
         ensures { IfOk result (λ asked. asked ≡ asks self) };
 }
@@ -26,7 +26,7 @@ pub trait Word: Drop + Send {
 impl Word for PacketWord {
     ghost asks = { packet_asks };
 
-    /// A packet is decoded; one that is malformed is passed over.
+    /// Decodes the packet. Bytes that are no packet ask for nothing.
     fn asked(self, alloc: Global) -> Result<Asked, AllocError> {
         let PacketWord::Packet(bytes) = self else {
             return Ok(Asked::Stop);

@@ -4,9 +4,9 @@ use totem_node::Input;
 /// What a word asks of the thread that is given it.
 #[derive(Debug, Drop)]
 pub enum Asked {
-    /// To give its node this.
+    /// To give its node this input.
     Input(Input),
-    /// Nothing.
+    /// To do nothing.
     Nothing,
     /// To stop.
     Stop,

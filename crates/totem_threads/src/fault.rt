@@ -7,19 +7,19 @@ use std::alloc::{AllocError, AllocFailed};
 use thiserror::Error;
 use totem_books::{BookFault, CloseFault};
 
-/// What a book refused.
+/// What a book refused, and why.
 #[derive(Clone, Copy, Debug, PartialEq, Eq, Error)]
 pub enum BookTrouble {
-    /// A call, or its log; never `BookFault::Memory`.
+    /// A call, or its log because that is too long for a run. Never with `BookFault::Memory`.
     #[error("no further call is taken: {0}")]
     Call(BookFault),
-    /// To be closed; never `CloseFault::Memory`.
+    /// To be closed. Never with `CloseFault::Memory`.
     #[error("it is not closed: {0}")]
     Close(CloseFault),
 }
 
 impl BookTrouble {
-    /// The number of its fault, among those of a call or of closing.
+    /// Returns the number of the fault, among those of calls or those of closing.
     pub fn number(&self) -> u8
         ensures { result ≡ trouble_number self.now }
     {
@@ -29,7 +29,7 @@ impl BookTrouble {
         }
     }
 
-    /// The name of its fault.
+    /// Returns the name of the fault.
     pub fn name(&self) -> &'static str
         ensures { result.now ≡ trouble_name self.now }
     {
@@ -45,7 +45,7 @@ impl BookTrouble {
 pub enum ThreadsFault {
     #[error("a book was refused: {0}")]
     Book(BookTrouble),
-    /// Memory was refused, or a thread.
+    /// Memory was refused, or a thread could not be made.
     #[error("out of memory")]
     Memory,
 }

@@ -1,4 +1,4 @@
-//! With what the nodes of a run in threads begin.
+//! What the nodes of a run in threads begin with (docs/PROTOCOL.md, "A run in threads").
 ghost use Rattle.std.specs.Prelude.{◌≡◌, ◌<◌, ◌≤◌, IfOk};
 ghost use Rattle.totem_net.specs.Nodes.{node_numbers};
 ghost use Rattle.totem_threads.specs.Starts.{first_ring, first_packet};
@@ -10,7 +10,7 @@ use totem_ids::{ProcId, RingId};
 use totem_packets::Packet;
 use totem_ring::first_token;
 
-/// The ring on which all begin.
+/// Returns the ring on which all nodes begin, 4.1.
 pub fn first_ring() -> RingId
     ensures { result ≡ first_ring }
 {
@@ -20,7 +20,7 @@ pub fn first_ring() -> RingId
     }
 }
 
-/// Its members: the processes from 1 on.
+/// Returns the members of that ring: the processes 1 to `nodes`.
 #[tactic(auto, using(crate::proofs::Starting::numbers_more))]
 pub fn first_members(alloc: Global, nodes: u16) -> Result<Members, AllocError>
     requires { (0 < nodes) × (nodes ≤ 32) }
@@ -33,7 +33,7 @@ pub fn first_members(alloc: Global, nodes: u16) -> Result<Members, AllocError>
     Ok(Members::of(list))
 }
 
-/// The bytes of its first token.
+/// Returns the bytes of that ring's first token.
 pub fn first_packet(alloc: Global) -> Result<Bytes, AllocError>
     ensures { IfOk result (λ bytes. bytes ≡ first_packet) }
 {

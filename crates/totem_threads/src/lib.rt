@@ -1,4 +1,4 @@
-//! Runs in threads: nodes that share books with their threads, over a network of channels.
+//! Runs in threads: nodes whose threads share a book each, over a network of channels.
 #![tactic(auto)]
 
 mod ask_words;

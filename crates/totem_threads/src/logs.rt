@@ -1,4 +1,4 @@
-//! The run that books are.
+//! Makes a run of books.
 ghost use Rattle.std.specs.Prelude.{◌≡◌, ◌≤◌, IfOk, map, All};
 ghost use Rattle.totem_threads.specs.Starts.{starts};
 ghost use Rattle.totem_threads.specs.Books.{AreLogsOf, IsReplayed};
@@ -18,7 +18,7 @@ fn copy_of(alloc: Global, entries: &[Entry]) -> Result<Vec<Entry>, AllocError>
     Ok(copy)
 }
 
-/// The log of a book. One that is longer than a log may be is refused as a call of it is.
+/// Returns the log of a book. If it is longer than a log may be, it is refused as a call of the book is.
 fn log_of(alloc: Global, book: &ClosedBook) -> Result<Log, ThreadsFault>
     ensures process { IfOk result (λ log. log.proc ≡ book.now.start.me) }
     ensures entries { IfOk result (λ log. log.entries ≡ book.now.log) }
@@ -39,7 +39,7 @@ fn logs_of(alloc: Global, books: &[ClosedBook]) -> Result<Vec<Log>, ThreadsFault
     Ok(logs)
 }
 
-/// What the type of each book keeps, this passes on.
+/// Tells contracts that each book is the replay of its calls, which its type keeps.
 pub fn all_replayed(books: &[ClosedBook])
     ensures { All IsReplayed books.now }
 {
@@ -48,7 +48,7 @@ pub fn all_replayed(books: &[ClosedBook])
     }
 }
 
-/// The run of these books.
+/// Returns the run whose logs are those of these books.
 #[tactic(auto, using(crate::proofs::Starting::logs_taken))]
 pub fn run_of(alloc: Global, nodes: u16, books: &[ClosedBook]) -> Result<Run, ThreadsFault>
     requires few { nodes ≤ 32 }

@@ -1,4 +1,4 @@
-//! A node's thread: it opens the node's book, runs three threads over it, and closes it.
+//! A node's thread, which opens the node's book, runs three threads over it, and closes it.
 ghost use Rattle.std.specs.Prelude.{◌≡◌, ◌<◌, ◌≤◌, IfOk, vec_len};
 ghost use Rattle.totem_threads.specs.Starts.{first_ring, start_of};
 
@@ -15,7 +15,7 @@ use totem_books::{BookFault, BookName, ClosedBook, Seat, SharedBook};
 use totem_evs::Members;
 use totem_net::{NodeEnds, Outlet, Start};
 
-/// The three seats.
+/// Returns the three seats.
 fn three<L: BookName>(seats: Vec<Seat<L>>) -> (Seat<L>, Seat<L>, Seat<L>)
     requires { vec_len seats ≡ 3 }
 {
@@ -26,13 +26,13 @@ fn three<L: BookName>(seats: Vec<Seat<L>>) -> (Seat<L>, Seat<L>, Seat<L>)
     (first, second, third)
 }
 
-/// What a node answers of which a thread can't be made.
+/// Returns the fault of a node of which a thread can't be made, and tells that the node is gone.
 fn unmade<R: Wait>(rt: &R, outlet: &Outlet) -> BookFault {
     outlet.tell_gone(rt);
     BookFault::Memory
 }
 
-/// Runs the node's threads to their ends, and answers their seats.
+/// Runs the node's threads to their ends, and returns their seats.
 fn serve_all<L: BookName + Send + Sync, S: Start, R: Threads + Wait + Sync>(
     rt: &R,
     alloc: Global,
@@ -75,7 +75,7 @@ fn serve_all<L: BookName + Send + Sync, S: Start, R: Threads + Wait + Sync>(
     )
 }
 
-/// The book of this name, from its first call to its last.
+/// Keeps the book of this name from its first call to its last.
 fn keep_book<L: BookName + Send + Sync, S: Start, R: Threads + Wait + Sync>(
     rt: &R,
     alloc: Global,
@@ -107,7 +107,7 @@ fn keep_book<L: BookName + Send + Sync, S: Start, R: Threads + Wait + Sync>(
     }
 }
 
-/// One of so many nodes, from its first word to its last.
+/// Runs one of so many nodes from its first word to its last.
 fn run_to_end<S: Start, R: Threads + Wait + Sync>(
     rt: &R,
     alloc: Global,
@@ -123,7 +123,7 @@ fn run_to_end<S: Start, R: Threads + Wait + Sync>(
     keep_book::<Brand, S, R>(rt, alloc, Blank::new(3), &members, ends, outlet, start)
 }
 
-/// Runs one of so many nodes, and tells that it is gone.
+/// Runs one of so many nodes, and tells at its end that the node is gone.
 pub fn run_node<S: Start, R: Threads + Wait + Sync>(
     rt: &R,
     alloc: Global,

@@ -4,20 +4,20 @@ ghost use Rattle.totem_threads.specs.Starts.{IsInRange, run_plan};
 
 use totem_net::Plan;
 
-/// A run in threads: how many nodes, how many ticks, and what the network does to packets, by the words that the seed
-/// begins (docs/PROTOCOL.md, "A run in threads").
+/// A run in threads: how many nodes and ticks it has, and what the network does to packets, by the random words that
+/// the seed begins (docs/PROTOCOL.md, "A run in threads").
 #[derive(Clone, Copy, Debug, PartialEq, Eq)]
 pub struct RunPlan {
-    /// 1 to 32 nodes; they are the processes from 1 on.
+    /// How many nodes there are, 1 to 32. They are the processes from 1 on.
     pub nodes: u16,
-    /// 1 to 1,000,000 ticks.
+    /// How many ticks there are, 1 to 1,000,000.
     pub ticks: u32,
     pub seed: u64,
     pub plan: Plan,
 }
 
 impl RunPlan {
-    /// The plan of these numbers, where they are in range.
+    /// Returns the plan with these numbers, or `None` if one of them is out of range.
     pub fn new(nodes: u16, ticks: u32, seed: u64, plan: Plan) -> Option<RunPlan>
         ensures { MatchOption result (IsInRange (run_plan nodes ticks seed plan) → ⊥)
             (λ made. IsInRange made × (made ≡ run_plan nodes ticks seed plan)) }

@@ -1,4 +1,4 @@
-//! A run in threads.
+//! Runs nodes in threads.
 ghost use Rattle.std.specs.Prelude.{◌≡◌, ◌<◌, ◌≤◌, IfOk, map};
 ghost use Rattle.totem_net.specs.Nodes.{node_numbers};
 ghost use Rattle.totem_threads.specs.Starts.{IsInRange, start_of, starts};
@@ -18,7 +18,7 @@ use totem_evs::Run;
 use totem_ids::ProcId;
 use totem_net::{Fates, Network, Start};
 
-/// That a thread's book, where it gives one, is the book of this node in a run of so many.
+/// A promise of a thread: if it gives a book, that is the book of this node in a run of so many.
 #[derive(Clone, Copy)]
 struct BookOf {
     node: ProcId,
@@ -34,7 +34,7 @@ impl Promise<Result<ClosedBook, ThreadsFault>> for BookOf {
 
 type NodeHandle = PromisedHandle<Result<ClosedBook, ThreadsFault>, BookOf>;
 
-/// The books of the threads, once each has ended.
+/// Waits for each of the threads to end, and returns their books.
 fn joined<R: Threads>(
     rt: &R,
     alloc: Global,
@@ -50,7 +50,7 @@ fn joined<R: Threads>(
     Ok(books)
 }
 
-/// Runs the nodes in threads over their network, with the switch in this one, and answers their books.
+/// Runs the nodes in threads of their own and the switch in this one, and returns the nodes' books.
 fn run_network<S: Start, R: Threads + Wait + Sync>(
     rt: &R,
     alloc: Global,
@@ -102,8 +102,8 @@ fn run_network<S: Start, R: Threads + Wait + Sync>(
 }
 
 /// Runs so many nodes in threads, on ring 4.1, over a network that does what the plan says, until the ticks are used up
-/// (docs/PROTOCOL.md, "A run in threads"). Answers what the nodes recorded, and their books in rising order. It waits for
-/// all threads; which run comes out is open.
+/// (docs/PROTOCOL.md, "A run in threads"). Waits for all threads, and returns the run that the nodes recorded with
+/// their books in rising order. Which run comes out is open.
 pub fn run_nodes<S: Start, R: Threads + Wait + Sync>(
     rt: &R,
     alloc: Global,

@@ -1,4 +1,4 @@
-//! What a node answers goes to the network.
+//! Sends what a node answers to the network.
 use bytes::Bytes;
 use std::alloc::{AllocError, Global};
 use std::sync::Wait;
@@ -6,7 +6,7 @@ use totem_books::Reply;
 use totem_net::Outlet;
 use totem_ring::To;
 
-/// Sends the packets of a step, encoded, in their order. A refused step sends nothing.
+/// Encodes the packets of a step and sends them in their order. A refused step sends nothing.
 pub fn send<R: Wait>(
     rt: &R,
     alloc: Global,

@@ -34,8 +34,8 @@ fn deal<L: BookName, W: Word, R: Wait>(
     Ok(())
 }
 
-/// Deals with a thread's words to their end, and answers the seat, with the receipts of its calls. At a fault it tells
-/// that its node is gone.
+/// Deals with a thread's words to their end, and returns the seat with the receipts of its calls. At a fault it tells
+/// that the node is gone.
 pub fn serve<L: BookName, W: Word, R: Wait>(
     rt: &R,
     alloc: Global,
@@ -53,7 +53,7 @@ pub fn serve<L: BookName, W: Word, R: Wait>(
     }
 }
 
-/// The receiving thread tells that its node has begun, and then does as the others.
+/// Tells, in the receiving thread, that its node has begun, and then does as `serve` does.
 pub fn receive<L: BookName, S: Start, R: Wait>(
     rt: &R,
     alloc: Global,

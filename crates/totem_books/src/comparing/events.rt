@@ -1,4 +1,4 @@
-//! Entries of a log.
+//! Compares entries of a log.
 use crate::comparing::{Same, same_items};
 use totem_evs::{Entry, Members};
 

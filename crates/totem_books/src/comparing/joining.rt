@@ -1,4 +1,4 @@
-//! What gathering processes tell each other.
+//! Compares what gathering processes tell each other.
 use crate::comparing::{Same, same_items};
 use totem_packets::{CommitMember, CommitMembers, CommitToken, Join, Report};
 

@@ -1,4 +1,4 @@
-//! Messages and what they say.
+//! Compares messages and their bodies.
 use crate::comparing::Same;
 use bytes::Bytes;
 use totem_packets::{Body, Message, Payload};

@@ -1,4 +1,4 @@
-//! Names, numbers and sets of processes.
+//! Compares names, numbers and sets of processes.
 use crate::comparing::Same;
 use totem_ids::{ProcId, RingId};
 use totem_packets::{Number, Processes};

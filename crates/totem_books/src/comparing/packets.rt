@@ -1,4 +1,4 @@
-//! Packets, and whom they are for.
+//! Compares packets, and for whom they are.
 use crate::comparing::{Same, same_items};
 use totem_packets::{Packet, Requests, Token};
 use totem_ring::To;

@@ -1,4 +1,4 @@
-//! What goes into a node's step, and what a node does on a ring.
+//! Compares what goes into a node's step, and what a node does on a ring.
 use crate::comparing::Same;
 use totem_node::{Input, NodeFault, RingStep};
 use totem_ring::Act;

@@ -1,4 +1,4 @@
-//! A token's visit.
+//! The visit of the token.
 ghost use Rattle.std.specs.Prelude.{◌≡◌, ◌+◌, ◌^◌, ◌<◌, length, IfOk};
 
 use crate::departure::{Departure, sendings, set_aru};
@@ -23,7 +23,7 @@ impl RingState {
     ghost use Rattle.totem_ring.specs.Answers.{Answers};
     ghost use Rattle.totem_ring.specs.Undoing.{AnswersUndoably};
 
-    /// What refuses a token whatever waits here: it is of another ring, or was taken before.
+    /// Returns why a token is refused whatever waits here: it is of another ring, or was taken before.
     pub fn token_refusal_at_once(&self, token: &Token) -> Option<RingFault>
         ensures { result ≡ refusal_at_once self.now token.now }
     {
@@ -79,7 +79,7 @@ impl RingState {
             && self.has_room(token)
     }
 
-    /// What waits, as messages with the numbers after `seq`.
+    /// Makes messages of the waiting bodies, with the numbers after `seq`.
     fn numbered(&self, alloc: Global, seq: u32) -> Result<Vec<Message>, AllocError>
         requires { seq + length self.now.waiting < 2 ^ 32 }
         ensures { IfOk result (λ own. own.items ≡ numbered self.now seq self.now.waiting) }
@@ -98,7 +98,7 @@ impl RingState {
         Ok(own)
     }
 
-    /// The token as it leaves, when `seq` is the last number given and `rtr` is still asked for.
+    /// Returns the token as it leaves: `seq` is the last number given, and `rtr` has the numbers that are still asked for.
     fn token_left(&self, token: &Token, seq: u32, mut rtr: Vec<Number>) -> Result<Token, AllocError>
         requires room { token.now.token_seq + 1 < 2 ^ 64 }
         requires rules { IsRequests rtr.items }
@@ -116,7 +116,7 @@ impl RingState {
         })
     }
 
-    /// How the visit ends, when its own messages are held.
+    /// Returns how the visit ends, once the member's own new messages are held.
     fn departure(
         &self,
         alloc: Global,
@@ -142,7 +142,7 @@ impl RingState {
         })
     }
 
-    /// The token has come. With the undo the visit can be taken back.
+    /// Takes the token that has come, as `on_token` does. The undo that it gives can take the visit back.
     pub fn take_token(
         &mut self,
         alloc: Global,
@@ -181,7 +181,8 @@ impl RingState {
         Ok((out, undo))
     }
 
-    /// The token has come: what it asks for and what waits is broadcast, messages are handed up, and it is passed on.
+    /// Takes the token that has come: broadcasts the messages that it asks for and those that wait, hands messages up,
+    /// and passes the token on.
     pub fn on_token(&mut self, alloc: Global, token: &Token) -> Result<RingOut, RingFault>
         ensures { Answers result self.old self.new (on_token self.old token.now) }
     {

@@ -12,7 +12,7 @@ use crate::script_fault::ScriptFaultKind;
 use std::alloc::{AllocError, Global};
 use totem_ids::ProcId;
 
-/// All that stand in these groups, as often as they stand there.
+/// Returns all processes of these groups, each as often as it stands there.
 fn all_of(alloc: Global, groups: &[ProcessList]) -> Result<Vec<ProcId>, AllocError>
     ensures { IfOk result (λ procs. procs.items ≡ concat groups.now) }
 {
@@ -23,14 +23,14 @@ fn all_of(alloc: Global, groups: &[ProcessList]) -> Result<Vec<ProcId>, AllocErr
     Ok(procs)
 }
 
-/// How often a process stands there.
+/// Counts how often a process stands there.
 fn times_of(procs: &[ProcId], proc: ProcId) -> usize
     ensures { result ≡ count_by (λ q. q == proc) procs.now }
 {
     procs.iter().filter(|other| **other == proc).count()
 }
 
-/// Whether each of them stands there once.
+/// Returns whether each process of the script stands there once.
 fn each_once(procs: &[ProcId], actors: &[ActorState]) -> bool
     ensures { result ≡ list_all (λ a. count_by (λ q. q == a.proc) procs.now == 1) actors.now }
 {
@@ -40,7 +40,7 @@ fn each_once(procs: &[ProcId], actors: &[ActorState]) -> bool
 }
 
 impl SceneState {
-    /// From now on no packet passes between these groups.
+    /// Begins a cut: from now on no packet passes between these groups.
     pub(super) fn part(&mut self, alloc: Global, groups: Groups) -> Result<(), ScriptFaultKind>
         ensures { Becomes result self.new (parted self.old groups) }
     {

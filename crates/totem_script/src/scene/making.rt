@@ -10,7 +10,7 @@ use totem_packets::Packet;
 use totem_ring::first_token;
 
 impl SceneState {
-    /// These nodes are there, and the ring's first token is on its way to the least.
+    /// Makes nodes on this ring, and puts the ring's first token on its way to the least of them.
     pub(super) fn make_ring(
         &mut self,
         alloc: Global,

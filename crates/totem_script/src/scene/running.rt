@@ -8,7 +8,7 @@ use std::alloc::Global;
 use totem_node::Input;
 
 impl SceneState {
-    /// So many times, while there is one, the first packet goes to its receiver.
+    /// Hands the first packet to its receiver, this many times while there is one.
     pub(super) fn run(&mut self, alloc: Global, times: u32) -> Result<(), ScriptFaultKind>
         ensures { Becomes result self.new (run_times times self.old) }
     {
