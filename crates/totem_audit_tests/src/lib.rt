@@ -9,3 +9,5 @@ mod checks;
 mod stitches;
 #[cfg(test)]
 mod values;
+#[cfg(test)]
+mod walks;

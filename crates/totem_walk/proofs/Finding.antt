@@ -1,0 +1,40 @@
+-- Finding the log of a process among the logs of a run.
+use Rattle.std.proofs.Common.{◌≡◌, ℕ, ◌+◌, ◌<◌, ◌≤◌, ◌⊎◌, inl, inr, List, [], length, slice_get, Some, true, false, sym, ◌∙◌, arith}
+use Rattle.std.proofs.lemmas.Option.{slice_get_within}
+use Rattle.std.proofs.Math.Dec.{eqb}
+use Rattle.std.proofs.lemmas.Bool.{eq-eqb}
+use Rattle.totem_evs.specs.declared.log.Log.{Log}
+use Rattle.totem_evs.specs.Events.{log_of}
+use Rattle.totem_evs.proofs.LogOf.{log_of_cases, less_or_not}
+
+-- none of the first k logs is p's
+pub record HasNoneOf (run : List Log) (p k : ℕ) : Type 0 where
+  pub never : (j : ℕ) (log : Log) → j < k → slice_get run j ≡ Some log → log.proc ≡ p → ⊥
+
+pub none_of_yet : (run : List Log) (p : ℕ) → HasNoneOf run p 0
+none_of_yet run p = record { never = λ j log lt at same. omega arith }
+
+pub none_of_more : (run : List Log) (p k : ℕ) (log : Log) → slice_get run k ≡ Some log → (log.proc ≡ p → ⊥) → HasNoneOf run p k → HasNoneOf run p (k + 1)
+none_of_more run p k log at other before = record {
+  never = λ j l lt at_j same. elim (less_or_not j k) [
+    | inl under ↦ before.never j l under at_j same
+    | inr rest ↦ elim rest [
+      | inl over ↦ omega arith
+      | inr here ↦ (let there : slice_get run k ≡ Some l = rw here at at_j in let one : l ≡ log = cc in other (rw one at same))
+    ]
+  ];
+}
+
+pub none_of : (run : List Log) (p k : ℕ) → length run ≤ k → HasNoneOf run p k → [] ≡ log_of run p
+none_of run p k end before = go (log_of_cases run p)
+  where
+    go : (log_of run p ≡ []) ⊎ ((j : ℕ) × (log : Log) × (slice_get run j ≡ Some log) × (log.proc ≡ p) × (log_of run p ≡ log.entries)) → [] ≡ log_of run p
+    go (inl none) = sym none
+    go (inr (j, log, at, same, is)) = absurd (before.never j log (let lt = slice_get_within run j log at in omega arith) at same)
+
+-- what the comparison of two processes tells
+pub is_other : (a b p : ℕ) → a ≡ b → false ≡ eqb a p → b ≡ p → ⊥
+is_other a b p is e same = let t = eq-eqb a p (is ∙ same) in cc
+
+pub is_same : (a b p : ℕ) → a ≡ b → true ≡ eqb a p → b ≡ p
+is_same a b p is e = let h : a ≡ p = grind arith in sym is ∙ h

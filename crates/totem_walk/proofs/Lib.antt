@@ -1,0 +1,4 @@
+pub mod Finding
+pub mod Noting
+pub mod Pacing
+pub mod Joining

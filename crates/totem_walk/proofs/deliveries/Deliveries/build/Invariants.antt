@@ -1,0 +1,9 @@
+use Rattle.std.proofs.Common.{◌≡◌, ◌+◌}
+use Rattle.totem_walk.specs.Deliveries.{AreDeliveriesBefore}
+use Rattle.totem_walk.proofs.deliveries.Deliveries.build.Given as goal
+
+abbrev pub invariant-loop-at : goal.invariant-loop-at
+invariant-loop-at l = record {
+  known : AreDeliveriesBefore l.deliveries l.log l.ring l.at;
+  counted : l.looks ≡ l.initial.looks + l.at;
+}

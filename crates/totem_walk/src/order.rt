@@ -1,0 +1,31 @@
+//! Whether a receiver keeps the order of what a sender sent and delivered.
+ghost use Rattle.std.specs.Prelude.{◌≡◌, ◌+◌, ◌<◌, ◌≤◌, ◌^◌, length};
+ghost use Rattle.std.specs.Bool.{OnTrue, OnFalse};
+ghost use Rattle.totem_walk.specs.Order.{KeepsOrder, BreaksOrder};
+
+use crate::deliveries::Deliveries;
+use crate::pace::Pace;
+use crate::reading::read;
+use totem_evs::Entry;
+use totem_ids::ConfId;
+
+/// Whether these deliveries of a receiver keep the order of a sender's log: whether what it sends in this configuration is
+/// delivered behind all that it sent and delivered there before. Each entry is read once, up to the first send at which it is not so.
+pub fn keeps_order(deliveries: &Deliveries, log: &[Entry], conf: &ConfId, looks: &mut u64) -> bool
+    requires room { looks.old + length log.now < 2 ^ 64 }
+    ensures kept { OnTrue result (KeepsOrder log.now conf.now deliveries.now) }
+    ensures broken { OnFalse result (BreaksOrder log.now conf.now deliveries.now) }
+    ensures all { OnTrue result (looks.new ≡ looks.old + length log.now) }
+    ensures most { looks.new ≤ looks.old + length log.now }
+    ensures rises { looks.old ≤ looks.new }
+{
+    let mut pace = Pace::Anywhere;
+    for at in 0..log.len() {
+        let entry = read(log, at, looks);
+        if pace.is_broken_by(deliveries, conf, entry) {
+            return false;
+        }
+        pace = pace.behind(deliveries, conf, entry);
+    }
+    true
+}

@@ -1,0 +1,72 @@
+//! How a receiver keeps up with what a sender sent and delivered so far.
+ghost use Rattle.std.specs.Prelude.{◌≡◌};
+ghost use Rattle.std.specs.Bool.{OnTrue, OnFalse};
+ghost use Rattle.totem_walk.specs.Pace.{IsEarly, IsInTime, pace_with, ComesEarly, ComesInTime, GoesOn};
+
+use crate::acts::{handled_in, sent_in};
+use crate::deliveries::Deliveries;
+use totem_evs::Entry;
+use totem_ids::ConfId;
+
+/// From where on the receiver may deliver what the sender sends next: behind all that the sender sent and delivered so far.
+#[derive(Clone, Copy)]
+pub enum Pace {
+    /// Anywhere: there was nothing yet.
+    Anywhere,
+    /// Behind this index, at which the receiver delivers the last of it.
+    Behind(usize),
+    /// Nowhere: the receiver does not deliver all of it.
+    Nowhere,
+}
+
+impl Pace {
+    /// Whether the receiver may not deliver at this index.
+    fn is_early(&self, index: usize) -> bool
+        ensures early { OnTrue result (IsEarly self.now index) }
+        ensures in_time { OnFalse result (IsInTime self.now index) }
+    {
+        match self {
+            Pace::Anywhere => false,
+            Pace::Behind(last) => index <= *last,
+            Pace::Nowhere => true,
+        }
+    }
+
+    /// The pace once the sender has handled one message more, which the receiver delivers there, if at all.
+    fn with(&self, delivered: Option<usize>) -> Pace
+        ensures { result ≡ pace_with self.now delivered }
+    {
+        let Some(index) = delivered else {
+            return Pace::Nowhere;
+        };
+        match self {
+            Pace::Anywhere => Pace::Behind(index),
+            Pace::Behind(last) => Pace::Behind((*last).max(index)),
+            Pace::Nowhere => Pace::Nowhere,
+        }
+    }
+
+    /// Whether the sender's next entry sends in this configuration what the receiver delivers too early.
+    pub fn is_broken_by(&self, deliveries: &Deliveries, conf: &ConfId, entry: &Entry) -> bool
+        ensures early { OnTrue result (ComesEarly deliveries.now conf.now self.now entry.now) }
+        ensures in_time { OnFalse result (ComesInTime deliveries.now conf.now self.now entry.now) }
+    {
+        let Some(message) = sent_in(entry, conf) else {
+            return false;
+        };
+        match deliveries.index_of(&message) {
+            Some(index) => self.is_early(index),
+            None => false,
+        }
+    }
+
+    /// The pace behind the sender's next entry.
+    pub fn behind(&self, deliveries: &Deliveries, conf: &ConfId, entry: &Entry) -> Pace
+        ensures { GoesOn deliveries.now conf.now entry.now self.now result }
+    {
+        match handled_in(entry, conf) {
+            Some(message) => self.with(deliveries.index_of(&message)),
+            None => *self,
+        }
+    }
+}

@@ -1,0 +1,30 @@
+//! Reading the entries of a run, and counting how many were read.
+ghost use Rattle.std.specs.Prelude.{◌≡◌, ◌+◌, ◌<◌, ◌≤◌, ◌^◌, Some, slice_get, length};
+ghost use Rattle.totem_evs.specs.Events.{log_of};
+
+use totem_evs::{Entry, Run};
+use totem_ids::ProcId;
+
+/// The entries of this process, from the first on; none where it has no log.
+pub fn entries_of(run: &Run, proc: ProcId) -> &[Entry]
+    ensures entries { result.now ≡ log_of run.now.logs proc }
+    ensures few { length result.now ≤ 1000000 }
+{
+    for log in run.logs.as_slice() {
+        if log.proc == proc {
+            return log.entries.as_slice();
+        }
+    }
+    &[]
+}
+
+/// The entry at this index. Entries are read by this alone, so `looks` counts each time that one is.
+pub fn read<'l>(log: &'l [Entry], at: usize, looks: &mut u64) -> &'l Entry
+    requires within { at < length log.now }
+    requires room { looks.old + 1 < 2 ^ 64 }
+    ensures entry { slice_get log.now at ≡ Some result.now }
+    ensures counted { looks.new ≡ looks.old + 1 }
+{
+    *looks += 1;
+    &log[at]
+}
