@@ -1,5 +1,5 @@
 -- What is known of jobs, as it grows and as it is used.
-use Rattle.std.proofs.Common.{◌≡◌, ◌≢◌, ◌⊎◌, ◌<◌, ◌∙◌, ◌+◌, ℕ, zero, suc, inl, inr, List, [], ◌∷◌, ◌++◌, Option, None, Some, IfSome, All, length, set, slice_index_or, option_to_list, replicate, refl, sym, arith}
+use Rattle.std.proofs.Common.{◌≡◌, ◌⊎◌, ◌<◌, ◌∙◌, ◌+◌, ℕ, zero, suc, inl, inr, List, [], ◌∷◌, ◌++◌, Option, None, Some, IfSome, length, set, slice_index_or, option_to_list, replicate, arith}
 use Rattle.std.proofs.lemmas.List.{get_or-set_same, get_or-set_other, length-set, length-replicate, get_or-replicate, replicate-append-replicate}
 use Rattle.std.proofs.lemmas.List.Elements.{All-append, All-pop}
 use Rattle.totem_ids.specs.declared.ring.RingId.{RingId}
@@ -7,7 +7,7 @@ use Rattle.totem_evs.specs.declared.log.Log.{Log}
 use Rattle.totem_evs.proofs.LogOf.{less_or_not}
 use Rattle.totem_agreement.specs.declared.findings.Findings.{Findings}
 use Rattle.totem_agreement.specs.Jobs.{AreFindingsAt}
-use Rattle.totem_audit.specs.declared.job_result.JobResult.{JobResult}
+use Rattle.totem_audit.specs.declared.gated.Done.{Done}
 use Rattle.totem_audit.specs.Jobs.{IsRight, AreRight, AreKnown}
 
 -- one of them is set to what is right for it, or to nothing
@@ -36,24 +36,24 @@ nothing_is_known run rings known is = record {
 }
 
 -- no result yet
-pub none_right : (run : List Log) (rings : List RingId) (results : List JobResult) → results ≡ [] → AreRight run rings results
+pub none_right : (run : List Log) (rings : List RingId) (results : List Done) → results ≡ [] → AreRight run rings results
 none_right run rings results is = record { each = rw is (λ k d lt. absurd (omega (arith, lt))) }
 
 -- one more
-pub one_right : (run : List Log) (rings : List RingId) (results more : List JobResult) (r : JobResult) → AreRight run rings results → IsRight run rings r → more ≡ results ++ r ∷ []
+pub one_right : (run : List Log) (rings : List RingId) (results more : List Done) (r : Done) → AreRight run rings results → IsRight run rings r → more ≡ results ++ r ∷ []
     → AreRight run rings more
 one_right run rings results more r are right is = record { each = rw is (All-append (IsRight run rings) results (r ∷ []) are.each (λ k d lt. only k d lt)) }
   where
-    only : (k : ℕ) (d : JobResult) → k < length (r ∷ []) → IsRight run rings (slice_index_or (r ∷ []) k d)
+    only : (k : ℕ) (d : Done) → k < length (r ∷ []) → IsRight run rings (slice_index_or (r ∷ []) k d)
     only zero d lt = right
     only (suc k) d lt = absurd (omega (arith, lt))
 
 -- both lists
-pub all_of_both : (run : List Log) (rings : List RingId) (first second both : List JobResult) → AreRight run rings first → AreRight run rings second → (both ≡ first ++ second) ⊎ (both ≡ first)
+pub all_of_both : (run : List Log) (rings : List RingId) (first second both : List Done) → AreRight run rings first → AreRight run rings second → (both ≡ first ++ second) ⊎ (both ≡ first)
     → AreRight run rings both
 all_of_both run rings first second both f s (inl is) = record { each = rw is (All-append (IsRight run rings) first second f.each s.each) }
 all_of_both run rings first second both f s (inr is) = rw is f
 
 -- all but the last, and the last
-pub popped : (run : List Log) (rings : List RingId) (results rest : List JobResult) (r : JobResult) → AreRight run rings results → results ≡ rest ++ option_to_list (Some r) → AreRight run rings rest × IsRight run rings r
+pub popped : (run : List Log) (rings : List RingId) (results rest : List Done) (r : Done) → AreRight run rings results → results ≡ rest ++ option_to_list (Some r) → AreRight run rings rest × IsRight run rings r
 popped run rings results rest r are is = let p = All-pop (IsRight run rings) results rest (Some r) is are.each in (record { each = p.0 }, p.1)

@@ -1,2 +1,5 @@
+pub mod Firsts
 pub mod Known
+pub mod Results
+pub mod Rings
 pub mod Soundness

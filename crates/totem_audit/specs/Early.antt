@@ -1,12 +1,12 @@
 -- What the first three passes come to (docs/SPECIFICATIONS.md, "Passes").
-use Rattle.std.specs.Prelude.{List, []}
+use Rattle.std.specs.Prelude.{◌≢◌, ◌⊎◌, List, [], ◌∷◌}
 use Rattle.totem_evs.specs.declared.log.Log.{Log}
-use Rattle.totem_evs.specs.Answers.{Lists, IsAnswered, pass_a, pass_b}
+use Rattle.totem_evs.specs.declared.fault.Fault.{Fault}
+use Rattle.totem_evs.specs.Answers.{Lists, ListsCycle, MeetsPasses, HasCertificate, pass_a, pass_b}
 use Rattle.totem_evs.specs.Certificates.{Numbering}
 use Rattle.totem_evs.specs.Positions.{IsPositions}
-use Rattle.totem_audit.specs.declared.auditor.Early.{Early}
-use Rattle.totem_audit.specs.declared.auditor.Early.TheVariants.{Broken, Ordered}
-use Rattle.totem_audit.specs.Verdicts.{answer_of}
+use Rattle.totem_audit.specs.declared.first_passes.FirstPasses.{FirstPasses}
+use Rattle.totem_audit.specs.declared.first_passes.FirstPasses.TheVariants.{Broken, Ordered}
 
 -- the first three passes have no fault, and the events are ordered so
 pub record IsOrdered (run : List Log) (lines : List Numbering) : Type 0 where
@@ -14,7 +14,23 @@ pub record IsOrdered (run : List Log) (lines : List Numbering) : Type 0 where
   pub b : Lists run pass_b []
   pub c : IsPositions run lines
 
--- what they come to: the verdict of the first that has a fault, or the order of the events
-abbrev pub IsEarly : List Log → Early → Type 0
-IsEarly run (Broken verdict) = IsAnswered run (answer_of verdict)
+-- these are the faults of the first of the three passes that has one
+pub record BreaksEarly (run : List Log) (faults : List Fault) : Type 0 where
+  pub some : faults ≢ []
+  pub first : Lists run pass_a faults ⊎ (Lists run pass_a [] × Lists run pass_b faults) ⊎ (Lists run pass_a [] × Lists run pass_b [] × ListsCycle run faults)
+
+-- what they come to: the faults of the first that has one, or the order of the events
+abbrev pub IsEarly : List Log → FirstPasses → Type 0
+IsEarly run (Broken faults) = BreaksEarly run faults.items
 IsEarly run (Ordered certificate) = IsOrdered run certificate
+
+-- none of the three has a fault: the run meets the specifications of the first two, and its events can be numbered as the
+-- order asks
+pub record PassesEarly (run : List Log) : Type 0 where
+  pub meets : MeetsPasses run
+  pub ordered : HasCertificate run
+
+-- what they list: the faults of the first that has one, and nothing where none has
+abbrev pub ListsEarly : List Log → List Fault → Type 0
+ListsEarly run [] = PassesEarly run
+ListsEarly run (fault ∷ faults) = BreaksEarly run (fault ∷ faults)

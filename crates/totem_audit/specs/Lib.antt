@@ -1,3 +1,5 @@
 pub mod Early
+pub mod JobRecord
 pub mod Jobs
+pub mod Results
 pub mod Verdicts

@@ -1,38 +1,89 @@
-//! What one job gives.
-ghost use Rattle.std.specs.Prelude.{◌≡◌, ◌<◌, IfOk, vec_len};
-ghost use Rattle.totem_agreement.specs.Jobs.{AreJobs};
-ghost use Rattle.totem_audit.specs.Jobs.{IsRight};
+//! The jobs of the last pass as calls of their own, for whoever runs them (docs/SPECIFICATIONS.md, "Passes").
+ghost use Rattle.std.specs.Prelude.{◌≡◌, ◌+◌, ◌<◌, ◌≤◌, ℕ, IfOk, MatchOption};
+ghost use Rattle.totem_evs.specs.Answers.{MeetsPasses};
+ghost use Rattle.totem_audit.specs.Results.{HasJob, IsFoundBy, IsResultOf};
 
-use crate::gate::Gate;
 use std::alloc::{AllocError, Global};
+use std::marker::Model;
 use totem_agreement::{Findings, Jobs};
+use totem_evs::Run;
 
-/// What a job gave.
+/// What one job of a run found. It names the run and the job, and whatever way it comes, what it says was found is what that job
+/// of that run finds.
 #[derive(Drop)]
-pub struct JobResult {
-    /// Which job it was, counted from 0.
-    pub index: usize,
-    pub findings: Findings,
+pub struct JobResult<'r> {
+    run: &'r Run,
+    job: u32,
+    findings: Findings,
 }
 
-/// Does the job at this index, and tells the gate.
-pub fn do_job<G: Gate>(
-    alloc: Global,
-    jobs: &Jobs<'_>,
-    index: usize,
-    gate: &G,
-) -> Result<JobResult, AllocError>
-    requires jobs { AreJobs jobs.now.run.now.logs jobs.now }
-    requires within { index < vec_len jobs.now.rings }
-    ensures right { IfOk result (IsRight jobs.now.run.now.logs jobs.now.rings.items) }
-    ensures index { IfOk result (λ done. done.index ≡ index) }
+impl<'r> Model for JobResult<'r> {
+    ghost use Rattle.totem_audit.specs.JobRecord.{JobRecord};
+
+    ghost Value = { JobRecord };
+
+    ghost use Rattle.totem_audit.specs.Results.{IsFoundBy};
+
+    ghost view = { λ r. record { logs = r.run.now.logs; job = r.job; findings = r.findings } };
+
+    ghost invariant = { λ r. IsFoundBy r.run.now.logs r.job r.findings };
+}
+
+impl<'r> JobResult<'r> {
+    pub fn run(&self) -> &'r Run
+        ensures { result.now.logs ≡ self.now.logs }
+    {
+        self.run
+    }
+
+    /// Its number, counted from 1 in the order of the configurations.
+    #[tactic(auto, using(crate::proofs::Results::counted))]
+    pub fn job(&self) -> u32
+        ensures value { result ≡ self.now.job }
+        ensures range { 0 < result }
+    {
+        self.job
+    }
+
+    pub fn findings(&self) -> &Findings
+        ensures value { result.now ≡ self.now.findings }
+        ensures right { IsFoundBy self.now.logs self.now.job result.now }
+    {
+        &self.findings
+    }
+
+    /// What was found, without taking memory.
+    pub fn into_findings(self) -> Findings
+        ensures value { result ≡ self.entry.findings }
+        ensures right { IsFoundBy self.entry.logs self.entry.job result }
+    {
+        let JobResult { findings, .. } = self;
+        findings
+    }
+}
+
+/// The index of a job, counted from 0, where there are so many.
+fn index_of(job: u32, count: usize) -> Option<usize>
+    ensures { MatchOption result ((index : ℕ) → job ≡ index + 1 → count ≤ index) (λ index. (job ≡ index + 1) × (index < count)) }
 {
-    let number = u32::try_from(index).unwrap_or(u32::MAX).saturating_add(1);
-    gate.before(number);
-    let findings = jobs.findings(alloc, index);
-    gate.after(number);
-    Ok(JobResult {
-        index,
-        findings: findings?,
-    })
+    let index = (job as usize).checked_sub(1)?;
+    if index >= count {
+        return None;
+    }
+    Some(index)
+}
+
+/// Does the job of this number, counted from 1 in the order of the configurations; none where the run has no such job. The run is
+/// one in which `early` finds nothing.
+#[tactic(auto, using(crate::proofs::Results::found_by))]
+pub fn do_job(alloc: Global, run: &Run, job: u32) -> Result<Option<JobResult<'_>>, AllocError>
+    requires { MeetsPasses run.now.logs }
+    ensures { IfOk result (λ done. MatchOption done (HasJob run.now.logs job → ⊥) (IsResultOf run.now.logs job)) }
+{
+    let jobs = Jobs::build(alloc, run)?;
+    let Some(index) = index_of(job, jobs.rings.len()) else {
+        return Ok(None);
+    };
+    let findings = jobs.findings(alloc, index)?;
+    Ok(Some(JobResult { run, job, findings }))
 }

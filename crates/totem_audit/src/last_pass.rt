@@ -1,29 +1,29 @@
 //! Pass D by many threads (docs/SPECIFICATIONS.md, "Passes").
-ghost use Rattle.std.specs.Prelude.{◌≡◌, ◌<◌, ◌≤◌, ◌⊎◌, ◌++◌, IfOk, IfSome, None, replicate, vec_len};
+ghost use Rattle.std.specs.Prelude.{◌≡◌, ◌<◌, ◌≤◌, ◌⊎◌, ◌++◌, IfOk, vec_len};
 ghost use Rattle.std.specs.Thread.{IsSync};
 ghost use Rattle.totem_evs.specs.Answers.{MeetsPasses, ListsConfigurations};
-ghost use Rattle.totem_agreement.specs.Jobs.{AreJobs, AreFindingsAt};
+ghost use Rattle.totem_agreement.specs.Jobs.{AreJobs};
 ghost use Rattle.totem_audit.specs.Jobs.{IsRight, AreRight, AreKnown};
 
+use crate::collecting::{complete, note, nothing_known};
 use crate::gate::Gate;
-use crate::job_result::{JobResult, do_job};
+use crate::gated::{Done, do_gated};
 use crate::workers::Workers;
 use std::alloc::{AllocError, Global};
-use std::mem;
 use std::thread::{Threads, join};
-use totem_agreement::{Findings, Found, Jobs};
+use totem_agreement::{Findings, Jobs};
 use totem_evs::{Fault, Run};
 
 /// The jobs from one index up to another, in turn. Where memory is wanting, the rest is left out.
 #[tactic(auto, using(crate::proofs::Known::none_right, crate::proofs::Known::one_right))]
-fn part<G: Gate>(alloc: Global, jobs: &Jobs<'_>, from: usize, to: usize, gate: &G) -> Vec<JobResult>
+fn part<G: Gate>(alloc: Global, jobs: &Jobs<'_>, from: usize, to: usize, gate: &G) -> Vec<Done>
     requires jobs { AreJobs jobs.now.run.now.logs jobs.now }
     requires within { to ≤ vec_len jobs.now.rings }
     ensures { AreRight jobs.now.run.now.logs jobs.now.rings.items result.items }
 {
     let mut results = Vec::new(alloc);
     for index in from..to {
-        let Ok(done) = do_job(alloc, jobs, index, gate) else {
+        let Ok(done) = do_gated(alloc, jobs, index, gate) else {
             return results;
         };
         if results.push(done).is_err() {
@@ -48,7 +48,7 @@ fn middle(from: usize, to: usize, half: u32, workers: u32) -> usize
 }
 
 /// The first results and then the second ones, or the first alone where memory is wanting.
-fn one_after_the_other(mut first: Vec<JobResult>, mut second: Vec<JobResult>) -> Vec<JobResult>
+fn one_after_the_other(mut first: Vec<Done>, mut second: Vec<Done>) -> Vec<Done>
     ensures { (result.items ≡ first.items ++ second.items) ⊎ (result.items ≡ first.items) }
 {
     if first.append(&mut second).is_err() {
@@ -68,7 +68,7 @@ fn shared<T: Threads + Sync, G: Gate>(
     to: usize,
     workers: u32,
     gate: &G,
-) -> Vec<JobResult>
+) -> Vec<Done>
     requires jobs { AreJobs jobs.now.run.now.logs jobs.now }
     requires order { from ≤ to }
     requires within { to ≤ vec_len jobs.now.rings }
@@ -80,11 +80,11 @@ fn shared<T: Threads + Sync, G: Gate>(
     let half = workers / 2;
     let others = workers - half;
     let middle = middle(from, to, half, workers);
-    let low = || -> Vec<JobResult>
+    let low = || -> Vec<Done>
         requires { IsSync T.row × IsSync G.row × AreJobs jobs.now.run.now.logs jobs.now × (from ≤ middle) × (middle ≤ vec_len jobs.now.rings) }
         ensures { AreRight jobs.entry.now.run.now.logs jobs.entry.now.rings.items result.items }
     { shared(rt, alloc, jobs, from, middle, half, gate) };
-    let high = || -> Vec<JobResult>
+    let high = || -> Vec<Done>
         requires { IsSync T.row × IsSync G.row × AreJobs jobs.now.run.now.logs jobs.now × (middle ≤ to) × (to ≤ vec_len jobs.now.rings) }
         ensures { AreRight jobs.entry.now.run.now.logs jobs.entry.now.rings.items result.items }
     { shared(rt, alloc, jobs, middle, to, others, gate) };
@@ -92,37 +92,12 @@ fn shared<T: Threads + Sync, G: Gate>(
     one_after_the_other(first, second)
 }
 
-/// Nothing is known of any job.
-#[tactic(auto, using(crate::proofs::Known::nothing_more))]
-fn nothing_known(alloc: Global, count: usize) -> Result<Vec<Option<Findings>>, AllocError>
-    ensures { IfOk result (λ known. known.items ≡ replicate count None) }
-{
-    let mut known = Vec::with_capacity(alloc, count)?;
-    for _ in 0..count {
-        known.push(None)?;
-    }
-    Ok(known)
-}
-
-/// Notes a result. A second one for a job is refused.
-#[tactic(auto, using(crate::proofs::Known::known_set))]
-fn note(jobs: &Jobs<'_>, known: &mut Vec<Option<Findings>>, done: JobResult)
-    requires right { IsRight jobs.now.run.now.logs jobs.now.rings.items done }
-    requires known { AreKnown jobs.now.run.now.logs jobs.now.rings.items known.old.items }
-    ensures { AreKnown jobs.now.run.now.logs jobs.now.rings.items known.new.items }
-{
-    if known[done.index].is_some() {
-        return;
-    }
-    known[done.index] = Some(done.findings);
-}
-
 /// The results by their jobs.
 #[tactic(auto, using(crate::proofs::Known::nothing_is_known, crate::proofs::Known::popped))]
 fn by_job(
     alloc: Global,
     jobs: &Jobs<'_>,
-    mut results: Vec<JobResult>,
+    mut results: Vec<Done>,
 ) -> Result<Vec<Option<Findings>>, AllocError>
     requires { AreRight jobs.now.run.now.logs jobs.now.rings.items results.items }
     ensures { IfOk result (λ known. AreKnown jobs.now.run.now.logs jobs.now.rings.items known.items) }
@@ -132,45 +107,6 @@ fn by_job(
         note(jobs, &mut known, done);
     }
     Ok(known)
-}
-
-/// What is known of the job at this index; or it is done now.
-fn known_or_done<G: Gate>(
-    alloc: Global,
-    jobs: &Jobs<'_>,
-    index: usize,
-    known: Option<Findings>,
-    gate: &G,
-) -> Result<Findings, AllocError>
-    requires jobs { AreJobs jobs.now.run.now.logs jobs.now }
-    requires within { index < vec_len jobs.now.rings }
-    requires right { IfSome known (AreFindingsAt jobs.now.run.now.logs jobs.now.rings.items index) }
-    ensures { IfOk result (AreFindingsAt jobs.now.run.now.logs jobs.now.rings.items index) }
-{
-    if let Some(findings) = known {
-        return Ok(findings);
-    }
-    let done = do_job(alloc, jobs, index, gate)?;
-    Ok(done.findings)
-}
-
-/// The faults of the pass, from what is known of its jobs. A job of which nothing is known is done here.
-fn collect<G: Gate>(
-    alloc: Global,
-    jobs: &Jobs<'_>,
-    mut known: Vec<Option<Findings>>,
-    gate: &G,
-) -> Result<Vec<Fault>, AllocError>
-    requires jobs { AreJobs jobs.now.run.now.logs jobs.now }
-    requires known { AreKnown jobs.now.run.now.logs jobs.now.rings.items known.items }
-    ensures { IfOk result (λ faults. ListsConfigurations jobs.now.run.now.logs faults.items) }
-{
-    let mut found = Found::new(alloc);
-    for index in 0..jobs.rings.len() {
-        let one = mem::replace(&mut known[index], None);
-        found = found.with(known_or_done(alloc, jobs, index, one, gate)?)?;
-    }
-    found.into_faults()
 }
 
 /// Pass D of a run that has passed the others, its jobs divided among as many threads as there are workers.
@@ -187,5 +123,5 @@ pub fn pass_d_with<T: Threads + Sync, G: Gate>(
     let jobs = Jobs::build(alloc, run)?;
     let results = shared(rt, alloc, &jobs, 0, jobs.rings.len(), workers.count(), gate);
     let known = by_job(alloc, &jobs, results)?;
-    collect(alloc, &jobs, known, gate)
+    complete(alloc, &jobs, known, gate)
 }

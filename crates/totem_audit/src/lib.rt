@@ -1,15 +1,23 @@
-//! The audit of a run: the verdict of its passes. And the walk that tells of two processes whether one keeps the order of the other.
+//! The audit of a run: the verdict of its passes, its parts as calls of their own, and the walk that tells of two processes whether one
+//! keeps the order of the other.
 #![tactic(auto)]
 
 mod auditor;
+mod collecting;
+mod first_passes;
 mod gate;
+mod gated;
 mod job_result;
 mod last_pass;
+mod same;
 mod verdict;
 mod workers;
 
 pub use auditor::{audit, audit_with};
+pub use collecting::collect;
+pub use first_passes::early;
 pub use gate::{Gate, OpenGate};
+pub use job_result::{JobResult, do_job};
 pub use totem_stitch::Stitch;
 pub use totem_walk::walk;
 pub use verdict::Verdict;

@@ -1,20 +1,11 @@
 //! The audit and the first passes of small runs, with the faults that docs/SPECIFICATIONS.md gives for them.
-use crate::values::{is_told, push_fault};
+use crate::values::{is_told, push_faults};
 use std::alloc::{AllocError, Global};
-use totem_audit::{Verdict, Workers, audit};
-use totem_evs::{Fault, Run, read_run};
+use totem_audit::{Verdict, Workers, audit, early};
+use totem_evs::{Run, read_run};
 use totem_ids::FromRead;
 use totem_passes::{pass_a, pass_b};
 use totem_table::{Table, is_once, numbers_tell_confs, numbers_tell_messages};
-
-/// Each fault, with `; ` in front.
-fn push_faults(text: &mut String, faults: &[Fault]) -> Result<(), AllocError> {
-    for fault in faults {
-        text.push_str("; ")?;
-        push_fault(text, fault)?;
-    }
-    Ok(())
-}
 
 fn push_verdict(text: &mut String, verdict: &Verdict) -> Result<(), AllocError> {
     match verdict {
@@ -70,11 +61,13 @@ fn push_numbers(alloc: Global, text: &mut String, run: &Run) -> Result<(), Alloc
     Ok(())
 }
 
-/// Who judges a run: the audit, the audit of its first log alone, the first two passes, or the table of its numbers.
+/// Who judges a run: the audit, the audit of its first log alone, the first two passes, the first three as one call, or the table of
+/// its numbers.
 enum Judge {
     Audit,
     AuditOfFirst,
     Passes,
+    Early,
     Numbers,
 }
 
@@ -88,6 +81,7 @@ fn push_judged(
         Judge::Audit => push_audit(alloc, text, &run),
         Judge::AuditOfFirst => push_audit_of_first(alloc, text, run),
         Judge::Passes => push_passes(alloc, text, &run),
+        Judge::Early => push_faults(text, &early(alloc, &run)?),
         Judge::Numbers => push_numbers(alloc, text, &run),
     }
 }
@@ -111,7 +105,7 @@ struct Row {
     told: &'static str,
 }
 
-const RUNS: [Row; 20] = [
+const RUNS: [Row; 24] = [
     Row {
         rule: "the numbers of messages and configurations are in their order",
         logs: "log 1\nconf r4.1 1 2\nsend r4.1 a 4.1#2\nsend r4.1 a 4.1#1\ndlv r4.1 4.1#2\nopen\n\
@@ -240,6 +234,31 @@ const RUNS: [Row; 20] = [
         logs: "log 1\nconf r4.1 1\nconf t8.1/1 1\ndlv t8.1/1 4.1#1\nopen\n",
         judge: Judge::Passes,
         told: "a b; 1.3 1@3",
+    },
+    Row {
+        rule: "the first three passes stop at the first with a fault: pass A before pass B",
+        logs: "log 1\nconf r4.1 1\nsend r4.1 a 4.1#1\nsend r4.1 a 4.1#1\ndlv r4.1 4.1#2\nopen\n",
+        judge: Judge::Early,
+        told: "; 1.4 1@2 1@3",
+    },
+    Row {
+        rule: "pass B before pass C",
+        logs: "log 1\nconf r4.1 1\ndlv r4.1 4.1#2\ndlv r4.1 4.1#1\nsend r4.1 a 4.1#1\nopen\n",
+        judge: Judge::Early,
+        told: "; 1.3 1@2",
+    },
+    Row {
+        rule: "pass C is the last of the three",
+        logs: "log 1\nconf r4.1 1\ndlv r4.1 4.1#1\nsend r4.1 a 4.1#1\nopen\n",
+        judge: Judge::Early,
+        told: "; 1.1 1@2 1@3",
+    },
+    Row {
+        rule: "a fault of pass D is none of theirs",
+        logs: "log 1\nconf r4.1 1 2\nsend r4.1 a 4.1#1\nconf t8.1/1 1\nconf r8.1 1\nopen\n\
+        log 2\nconf r4.1 1 2\nopen\n",
+        judge: Judge::Early,
+        told: "",
     },
 ];
 

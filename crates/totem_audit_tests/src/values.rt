@@ -16,3 +16,12 @@ pub fn push_fault(text: &mut String, fault: &Fault) -> Result<(), AllocError> {
     }
     Ok(())
 }
+
+/// Each fault, with `; ` in front.
+pub fn push_faults(text: &mut String, faults: &[Fault]) -> Result<(), AllocError> {
+    for fault in faults {
+        text.push_str("; ")?;
+        push_fault(text, fault)?;
+    }
+    Ok(())
+}

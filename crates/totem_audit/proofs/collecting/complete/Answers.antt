@@ -1,7 +1,7 @@
-use Rattle.std.proofs.Common.{rules, arith}
+use Rattle.std.proofs.Common.{rules}
 use Rattle.totem_agreement.proofs.Listing.{found_next, all_found_of}
 use Rattle.totem_audit.proofs.Known.{known_set}
-use Rattle.totem_audit.proofs.last_pass.collect.Goals as goal
+use Rattle.totem_audit.proofs.collecting.complete.Goals as goal
 
 pub loop-index-preserved : goal.loop-index-preserved
 loop-index-preserved g c = (

@@ -1,7 +1,7 @@
 use Rattle.std.proofs.Common.{take}
 use Rattle.totem_agreement.specs.Findings.{AreFound}
 use Rattle.totem_audit.specs.Jobs.{AreKnown}
-use Rattle.totem_audit.proofs.last_pass.collect.Given as goal
+use Rattle.totem_audit.proofs.collecting.complete.Given as goal
 
 abbrev pub invariant-loop-index : goal.invariant-loop-index
 invariant-loop-index g l = AreFound l.jobs.run.now.logs (take l.index l.jobs.rings.items) l.found × AreKnown l.jobs.run.now.logs l.jobs.rings.items l.known.items

@@ -1,0 +1,37 @@
+-- From what the first three passes come to, to what is listed and what is answered.
+use Rattle.std.proofs.Common.{◌≡◌, inl, inr, List, [], ◌∷◌, refl}
+use Rattle.totem_evs.specs.declared.log.Log.{Log}
+use Rattle.totem_evs.specs.declared.fault.Fault.{Fault}
+use Rattle.totem_evs.specs.Answers.{No, IsAnswered, Lists, pass_a, pass_b}
+use Rattle.totem_evs.specs.ClosedLists.{IsCycle}
+use Rattle.totem_evs.specs.Certificates.{Numbering}
+use Rattle.totem_evs.proofs.Synchronous.{meets_passes}
+use Rattle.totem_audit.specs.Early.{IsOrdered, BreaksEarly, ListsEarly}
+
+-- a closed list is the one fault of pass C
+pub cycle_breaks : (run : List Log) (fault : Fault) (faults : List Fault) → Lists run pass_a [] → Lists run pass_b [] → IsCycle run fault → faults ≡ fault ∷ [] → BreaksEarly run faults
+cycle_breaks run fault faults a b cycle is = record {
+  some = λ none. absurd cc;
+  first = inr (inr (a, b, (fault, is, cycle)));
+}
+
+-- what the first three passes list, where one of them has a fault, and where none has
+pub broken_early : (run : List Log) (faults : List Fault) → BreaksEarly run faults → ListsEarly run faults
+broken_early run [] breaks = absurd (breaks.some refl)
+broken_early run (fault ∷ faults) breaks = breaks
+
+pub ordered_early : (run : List Log) (lines : List Numbering) (faults : List Fault) → IsOrdered run lines → faults ≡ [] → ListsEarly run faults
+ordered_early run lines faults ordered none = rw none (record { meets = meets_passes run ordered.a ordered.b; ordered = (lines, ordered.c.certified) })
+
+-- and it is the answer
+pub broken_answer : (run : List Log) (faults : List Fault) → BreaksEarly run faults → IsAnswered run (No faults)
+broken_answer run faults breaks = (
+  breaks.some,
+  elim breaks.first [
+    | inl a ↦ inl a
+    | inr more ↦ elim more [
+      | inl b ↦ inr (inl b)
+      | inr c ↦ inr (inr (inl c))
+    ]
+  ],
+)

@@ -1,0 +1,112 @@
+//! From what jobs found to the faults of pass D (docs/SPECIFICATIONS.md, "Passes").
+ghost use Rattle.std.specs.Prelude.{◌≡◌, ◌<◌, IfOk, IfSome, None, replicate, vec_len};
+ghost use Rattle.totem_evs.specs.Answers.{MeetsPasses, ListsConfigurations};
+ghost use Rattle.totem_agreement.specs.Jobs.{AreJobs, AreFindingsAt};
+ghost use Rattle.totem_audit.specs.Jobs.{IsRight, AreKnown};
+
+use crate::gate::{Gate, OpenGate};
+use crate::gated::{Done, do_gated};
+use crate::job_result::JobResult;
+use crate::same::same_run;
+use std::alloc::{AllocError, Global};
+use std::mem;
+use totem_agreement::{Findings, Found, Jobs};
+use totem_evs::{Fault, Run};
+
+/// Nothing is known of any job.
+#[tactic(auto, using(crate::proofs::Known::nothing_more))]
+pub fn nothing_known(alloc: Global, count: usize) -> Result<Vec<Option<Findings>>, AllocError>
+    ensures { IfOk result (λ known. known.items ≡ replicate count None) }
+{
+    let mut known = Vec::with_capacity(alloc, count)?;
+    for _ in 0..count {
+        known.push(None)?;
+    }
+    Ok(known)
+}
+
+/// Notes a result. A second one for a job is refused.
+#[tactic(auto, using(crate::proofs::Known::known_set))]
+pub fn note(jobs: &Jobs<'_>, known: &mut Vec<Option<Findings>>, done: Done)
+    requires right { IsRight jobs.now.run.now.logs jobs.now.rings.items done }
+    requires known { AreKnown jobs.now.run.now.logs jobs.now.rings.items known.old.items }
+    ensures { AreKnown jobs.now.run.now.logs jobs.now.rings.items known.new.items }
+{
+    if known[done.index].is_some() {
+        return;
+    }
+    known[done.index] = Some(done.findings);
+}
+
+/// What is known of the job at this index; or it is done now.
+fn known_or_done<G: Gate>(
+    alloc: Global,
+    jobs: &Jobs<'_>,
+    index: usize,
+    known: Option<Findings>,
+    gate: &G,
+) -> Result<Findings, AllocError>
+    requires jobs { AreJobs jobs.now.run.now.logs jobs.now }
+    requires within { index < vec_len jobs.now.rings }
+    requires right { IfSome known (AreFindingsAt jobs.now.run.now.logs jobs.now.rings.items index) }
+    ensures { IfOk result (AreFindingsAt jobs.now.run.now.logs jobs.now.rings.items index) }
+{
+    if let Some(findings) = known {
+        return Ok(findings);
+    }
+    let done = do_gated(alloc, jobs, index, gate)?;
+    Ok(done.findings)
+}
+
+/// The faults of the pass, from what is known of its jobs. A job of which nothing is known is done here.
+pub fn complete<G: Gate>(
+    alloc: Global,
+    jobs: &Jobs<'_>,
+    mut known: Vec<Option<Findings>>,
+    gate: &G,
+) -> Result<Vec<Fault>, AllocError>
+    requires jobs { AreJobs jobs.now.run.now.logs jobs.now }
+    requires known { AreKnown jobs.now.run.now.logs jobs.now.rings.items known.items }
+    ensures { IfOk result (λ faults. ListsConfigurations jobs.now.run.now.logs faults.items) }
+{
+    let mut found = Found::new(alloc);
+    for index in 0..jobs.rings.len() {
+        let one = mem::replace(&mut known[index], None);
+        found = found.with(known_or_done(alloc, jobs, index, one, gate)?)?;
+    }
+    found.into_faults()
+}
+
+/// Notes a result of the run whose jobs these are. One of another run is refused.
+fn take_in(jobs: &Jobs<'_>, known: &mut Vec<Option<Findings>>, done: JobResult<'_>)
+    requires jobs { AreJobs jobs.now.run.now.logs jobs.now }
+    requires known { AreKnown jobs.now.run.now.logs jobs.now.rings.items known.old.items }
+    ensures { AreKnown jobs.now.run.now.logs jobs.now.rings.items known.new.items }
+{
+    if !same_run(done.run(), jobs.run) {
+        return;
+    }
+    let index = done.job() as usize - 1;
+    let findings = done.into_findings();
+    note(jobs, known, Done { index, findings });
+}
+
+/// The faults of pass D from results of its jobs, whatever is handed in: a second result of a job is refused, and so is one of
+/// another run; a job without a result is done here. The run is one in which `early` finds nothing. Runs are compared by
+/// value, once for each result: that takes the results times the entries.
+#[tactic(auto, using(crate::proofs::Known::nothing_is_known))]
+pub fn collect(
+    alloc: Global,
+    run: &Run,
+    results: Vec<JobResult<'_>>,
+) -> Result<Vec<Fault>, AllocError>
+    requires { MeetsPasses run.now.logs }
+    ensures { IfOk result (λ faults. ListsConfigurations run.now.logs faults.items) }
+{
+    let jobs = Jobs::build(alloc, run)?;
+    let mut known = nothing_known(alloc, jobs.rings.len())?;
+    for done in results {
+        take_in(&jobs, &mut known, done);
+    }
+    complete(alloc, &jobs, known, &OpenGate)
+}

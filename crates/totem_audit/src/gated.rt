@@ -1,0 +1,38 @@
+//! One job of an audit, of which its gate is told.
+ghost use Rattle.std.specs.Prelude.{◌≡◌, ◌<◌, IfOk, vec_len};
+ghost use Rattle.totem_agreement.specs.Jobs.{AreJobs};
+ghost use Rattle.totem_audit.specs.Jobs.{IsRight};
+
+use crate::gate::Gate;
+use std::alloc::{AllocError, Global};
+use totem_agreement::{Findings, Jobs};
+
+/// What a job gave.
+#[derive(Drop)]
+pub struct Done {
+    /// Which job it was, counted from 0.
+    pub index: usize,
+    pub findings: Findings,
+}
+
+/// Does the job at this index, and tells the gate.
+pub fn do_gated<G: Gate>(
+    alloc: Global,
+    jobs: &Jobs<'_>,
+    index: usize,
+    gate: &G,
+) -> Result<Done, AllocError>
+    requires jobs { AreJobs jobs.now.run.now.logs jobs.now }
+    requires within { index < vec_len jobs.now.rings }
+    ensures right { IfOk result (IsRight jobs.now.run.now.logs jobs.now.rings.items) }
+    ensures index { IfOk result (λ done. done.index ≡ index) }
+{
+    let number = u32::try_from(index).unwrap_or(u32::MAX).saturating_add(1);
+    gate.before(number);
+    let findings = jobs.findings(alloc, index);
+    gate.after(number);
+    Ok(Done {
+        index,
+        findings: findings?,
+    })
+}
