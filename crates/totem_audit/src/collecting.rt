@@ -1,5 +1,5 @@
 //! From what jobs found to the faults of pass D (docs/SPECIFICATIONS.md, "Passes").
-ghost use Rattle.std.specs.Prelude.{◌≡◌, ◌<◌, IfOk, IfSome, None, replicate, vec_len};
+ghost use Rattle.std.specs.Prelude.{◌≡◌, ◌-◌, ◌<◌, IfOk, IfSome, IsSome, None, Some, replicate, slice_index_or, slice_set, vec_len};
 ghost use Rattle.totem_evs.specs.Answers.{MeetsPasses, ListsConfigurations};
 ghost use Rattle.totem_agreement.specs.Jobs.{AreJobs, AreFindingsAt};
 ghost use Rattle.totem_audit.specs.Jobs.{IsRight, AreKnown};
@@ -30,7 +30,9 @@ pub fn nothing_known(alloc: Global, count: usize) -> Result<Vec<Option<Findings>
 pub fn note(jobs: &Jobs<'_>, known: &mut Vec<Option<Findings>>, done: Done)
     requires right { IsRight jobs.now.run.now.logs jobs.now.rings.items done }
     requires known { AreKnown jobs.now.run.now.logs jobs.now.rings.items known.old.items }
-    ensures { AreKnown jobs.now.run.now.logs jobs.now.rings.items known.new.items }
+    ensures known { AreKnown jobs.now.run.now.logs jobs.now.rings.items known.new.items }
+    ensures first { slice_index_or known.old.items done.index None ≡ None → known.new.items ≡ slice_set known.old.items done.index (Some done.findings) }
+    ensures second { IsSome (slice_index_or known.old.items done.index None) → known.new.items ≡ known.old.items }
 {
     if known[done.index].is_some() {
         return;
@@ -49,7 +51,8 @@ fn known_or_done<G: Gate>(
     requires jobs { AreJobs jobs.now.run.now.logs jobs.now }
     requires within { index < vec_len jobs.now.rings }
     requires right { IfSome known (AreFindingsAt jobs.now.run.now.logs jobs.now.rings.items index) }
-    ensures { IfOk result (AreFindingsAt jobs.now.run.now.logs jobs.now.rings.items index) }
+    ensures right { IfOk result (AreFindingsAt jobs.now.run.now.logs jobs.now.rings.items index) }
+    ensures known { IfSome known (λ findings. IfOk result (λ found. found ≡ findings)) }
 {
     if let Some(findings) = known {
         return Ok(findings);
@@ -81,7 +84,8 @@ pub fn complete<G: Gate>(
 fn take_in(jobs: &Jobs<'_>, known: &mut Vec<Option<Findings>>, done: JobResult<'_>)
     requires jobs { AreJobs jobs.now.run.now.logs jobs.now }
     requires known { AreKnown jobs.now.run.now.logs jobs.now.rings.items known.old.items }
-    ensures { AreKnown jobs.now.run.now.logs jobs.now.rings.items known.new.items }
+    ensures known { AreKnown jobs.now.run.now.logs jobs.now.rings.items known.new.items }
+    ensures first { done.entry.logs ≡ jobs.now.run.now.logs → slice_index_or known.old.items (done.entry.job - 1) None ≡ None → known.new.items ≡ slice_set known.old.items (done.entry.job - 1) (Some done.entry.findings) }
 {
     if !same_run(done.run(), jobs.run) {
         return;

@@ -5,7 +5,7 @@ use Rattle.totem_audit.proofs.collecting.complete.Goals as goal
 
 pub loop-index-preserved : goal.loop-index-preserved
 loop-index-preserved g c = (
-  found_next _ c.args.jobs.now.rings.items c.loop-index.index _ _ _ (search rules) c.in_ok-known_or_done.ensures c.in_ok-found.ensures c.loop-index.invariant.0,
+  found_next _ c.args.jobs.now.rings.items c.loop-index.index _ _ _ (search rules) c.in_ok-known_or_done.ensures.right c.in_ok-found.ensures c.loop-index.invariant.0,
   rw (c.replace-one.ensures.after) (known_set _ c.args.jobs.now.rings.items c.loop-index.known.items c.loop-index.index _ c.loop-index.invariant.1 (search rules) tt),
 )
 
