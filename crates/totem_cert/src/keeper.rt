@@ -27,15 +27,15 @@ fn stands_behind(shares: bool, given: usize, at: usize) -> bool
 fn keeps(lines: &[OpenLine], key: &Key, member: &Member) -> bool
     ensures { IsTrue result ↔ MemberKeeps lines.now key.now member.now }
 {
-    let given = given_at(lines, member.log);
-    member.key.is(key) && stands_behind(member.shares, given, member.at)
+    let given = given_at(lines, member.log as usize);
+    member.key.is(key) && stands_behind(member.shares, given, member.at as usize)
 }
 
 /// Returns where the members may end that have the key of an entry.
 fn noted_end(index: &Index, log: usize, at: usize) -> usize {
     match index.ends.get(log) {
         Some(row) => match row.get(at) {
-            Some(end) => *end,
+            Some(end) => *end as usize,
             None => 0,
         },
         None => 0,

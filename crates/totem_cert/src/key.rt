@@ -48,8 +48,8 @@ pub struct Member {
     pub key: Key,
     /// Whether the entry is in the class of its key. Otherwise it sends the message.
     pub shares: bool,
-    pub log: usize,
-    pub at: usize,
+    pub log: u32,
+    pub at: u32,
 }
 
 /// Returns whether an entry is in the class of its key.

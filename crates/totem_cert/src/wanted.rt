@@ -25,15 +25,15 @@ fn is_wanted(wanted: Wanted, given: usize, member: &Member) -> bool
     ensures { IsTrue result ↔ IsWanted wanted given member.now }
 {
     match wanted {
-        Wanted::Sends => !member.shares && given <= member.at,
-        Wanted::Mates { waits } => member.shares && (waits || given < member.at),
+        Wanted::Sends => !member.shares && given <= member.at as usize,
+        Wanted::Mates { waits } => member.shares && (waits || given < member.at as usize),
     }
 }
 
 fn wants(lines: &[OpenLine], key: &Key, wanted: Wanted, member: &Member) -> bool
     ensures { IsTrue result ↔ Wants lines.now key.now wanted member.now }
 {
-    let given = given_at(lines, member.log);
+    let given = given_at(lines, member.log as usize);
     member.key.is(key) && is_wanted(wanted, given, member)
 }
 
@@ -106,10 +106,10 @@ fn place_of(run: &Run, member: &Member) -> Place
     requires few { member.now.at < 1000000 }
     ensures { IsPlaceOf run.now.logs member.now result }
 {
-    let log = &run.logs.as_slice()[member.log];
+    let log = &run.logs.as_slice()[member.log as usize];
     Place {
         proc: log.proc,
-        at: (member.at + 1) as u32,
+        at: member.at + 1,
     }
 }
 
