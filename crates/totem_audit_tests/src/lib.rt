@@ -6,6 +6,8 @@ mod audits;
 #[cfg(test)]
 mod checks;
 #[cfg(test)]
+mod explanations;
+#[cfg(test)]
 mod jobs;
 #[cfg(test)]
 mod stitches;

@@ -1,8 +1,9 @@
--- A run and a certificate behind it, and reports that were not written.
-use Rattle.std.proofs.Common.{◌≡◌, ℕ, List, ◌++◌, Option, Some, None, Err, sym, ap, ◌∙◌, IfSome, append_assoc}
+-- A run and a certificate behind it, reports that were not written, and a no in words.
+use Rattle.std.proofs.Common.{◌≡◌, ℕ, List, ◌++◌, Option, Some, None, Result, Ok, Err, map, refl, sym, ap, ◌∙◌, IfSome, append_assoc}
 use Rattle.std.specs.Io.KnownBytes.{Consumes}
 use Rattle.totem_ids.specs.Sources.{Seen}
 use Rattle.totem_ids.specs.Writing.{Held}
+use Rattle.totem_evs.specs.declared.fault.Fault.{Fault}
 use Rattle.totem_evs.specs.declared.log.Log.{Log}
 use Rattle.totem_evs.specs.declared.run.Run.{Run}
 use Rattle.totem_evs.specs.declared.writing.WriteFault.{WriteFault}
@@ -11,9 +12,12 @@ use Rattle.totem_evs.specs.RunText.{run_text}
 use Rattle.totem_evs.specs.WriteRun.{WritesText}
 use Rattle.totem_evs.specs.Reading.{FitsRun}
 use Rattle.totem_evs.specs.Certificates.{Numbering}
+use Rattle.totem_evs.specs.Answers.{No}
 use Rattle.totem_cert.specs.CertText.{cert_text}
 use Rattle.totem_cluster.specs.IoFaults.{write_io_fault}
 use Rattle.totem_cluster.specs.AuditIo.{IsWhole, Audits}
+use Rattle.totem_explain.specs.declared.no.ExplainedNo.{ExplainedNo}
+use Rattle.totem_cluster.specs.ExplainIo.{WritesTold, explained_no_text}
 use Rattle.totem_cluster.specs.CheckIo.{IsLast, IsWholePair, ChecksText}
 
 both_texts : (a b : Option (List ℕ)) (x y : List ℕ) → Consumes a b x → IfSome b (λ bytes. bytes ≡ y) → IfSome a (λ bytes. bytes ≡ x ++ y)
@@ -48,3 +52,10 @@ pub audit_failed : (a c : Seen) (was is : Held) (logs : List Log) (text : List �
     → IsWhole a c logs → WritesText {A = Unit {0}} was is (Err e) text → Audits a c was is (Err (write_io_fault e))
 audit_failed a c was is logs text write_faults.Memory whole h = (h, whole.failures)
 audit_failed a c was is logs text write_faults.Write whole h = (h, (logs, whole))
+
+-- a no in words was written, or was not
+pub no_told : {A : Type 0} (was is : Held) (r : Result A WriteFault) (words : ExplainedNo) (faults : List Fault)
+    → map (λ one. one.fault) words.faults.items ≡ faults → WritesText was is r (explained_no_text words) → WritesTold was is r (No faults)
+no_told was is (Ok a) words faults same wrote = (explained_no_text words, (words, same, refl), wrote)
+no_told was is (Err write_faults.Memory) words faults same wrote = wrote
+no_told was is (Err write_faults.Write) words faults same wrote = wrote

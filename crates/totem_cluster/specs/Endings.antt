@@ -24,6 +24,7 @@ use Rattle.totem_cluster.specs.declared.io_fault.IoFault.{IoFault}
 use Rattle.totem_cluster.specs.declared.io_fault.IoFault.TheVariants as faults
 use Rattle.totem_cluster.specs.AuditIo.{Audits}
 use Rattle.totem_cluster.specs.CheckIo.{ChecksText}
+use Rattle.totem_cluster.specs.ExplainIo.{ExplainsRun}
 use Rattle.totem_cluster.specs.SimIo.{Simulates}
 use Rattle.totem_cluster.specs.RunIo.{Records}
 
@@ -138,6 +139,10 @@ pub data Ends (old new : Seen) (was is quiet said : Held) : ℕ → Type 0 where
   judged : (outcome : Outcome) → Audits old new was is (Ok outcome) → said ≡ quiet → Ends old new was is quiet said (outcome_status outcome)
   -- it was not, and the fault is told
   failed : (fault : IoFault) → Audits old new was is (Err fault) → Tells quiet said (fault_line fault) → Ends old new was is quiet said (fault_status fault)
+  -- a run was judged, and told of in words
+  told : (outcome : Outcome) → ExplainsRun old new was is (Ok outcome) → said ≡ quiet → Ends old new was is quiet said (outcome_status outcome)
+  -- it was not, and the fault is told
+  untold : (fault : IoFault) → ExplainsRun old new was is (Err fault) → Tells quiet said (fault_line fault) → Ends old new was is quiet said (fault_status fault)
   -- a run was checked with its certificate
   checked : (outcome : Outcome) → ChecksText old new was is (Ok outcome) → said ≡ quiet → Ends old new was is quiet said (outcome_status outcome)
   -- it was not, and the fault is told

@@ -1,6 +1,7 @@
 pub mod Report
 pub mod IoFaults
 pub mod AuditIo
+pub mod ExplainIo
 pub mod CheckIo
 pub mod SimIo
 pub mod RunIo

@@ -18,7 +18,7 @@ use totem_evs::{Run, RunFault, read_end, read_run};
 use totem_ids::{Sink, Source};
 
 /// Reads a run that has nothing behind it.
-fn read_whole<R: Source>(alloc: Global, input: &mut R) -> Result<Run, RunFault>
+pub(crate) fn read_whole<R: Source>(alloc: Global, input: &mut R) -> Result<Run, RunFault>
     ensures { ReadsWhole (seen R.remaining R.failures input.old) (seen R.remaining R.failures input.new) result }
 {
     let run = read_run(alloc, input)?;
@@ -27,7 +27,7 @@ fn read_whole<R: Source>(alloc: Global, input: &mut R) -> Result<Run, RunFault>
 }
 
 /// Returns the outcome that a verdict has.
-fn outcome(verdict: &Verdict) -> Outcome
+pub(crate) fn outcome(verdict: &Verdict) -> Outcome
     ensures { Says (answer_of verdict.now) result }
 {
     match verdict {
@@ -37,7 +37,7 @@ fn outcome(verdict: &Verdict) -> Outcome
 }
 
 /// Judges the run. With one worker the calling thread does all the work and starts no other.
-fn judge<T: Threads + Sync>(
+pub(crate) fn judge<T: Threads + Sync>(
     rt: &T,
     alloc: Global,
     run: &Run,

@@ -1,9 +1,10 @@
-//! The program over any three streams: it audits runs, checks their certificates, and makes runs from scripts or with
+//! The program over any three streams: it audits runs, explains verdicts, checks certificates, and makes runs from scripts or with
 //! nodes in threads.
 #![tactic(auto)]
 
 mod auditing;
 mod checking;
+mod explaining;
 mod io_fault;
 mod left_open;
 mod outcome;
@@ -17,6 +18,7 @@ mod words;
 
 pub use auditing::audit_io;
 pub use checking::check_io;
+pub use explaining::explain_io;
 pub use io_fault::IoFault;
 pub use outcome::Outcome;
 pub use recording::{run_io, run_threads};

@@ -34,8 +34,13 @@ fn put_places<S: Sink>(pieces: &mut Pieces, sink: &mut S, places: &[Place]) -> R
     Ok(())
 }
 
+/// Puts a fault, without the end of its line.
 #[tactic(auto, using(totem_ids::proofs::Writers::wrote_then, totem_ids::proofs::Writers::wrote_failed))]
-fn put_fault<S: Sink>(pieces: &mut Pieces, sink: &mut S, fault: &Fault) -> Result<(), Failed>
+pub(crate) fn put_fault<S: Sink>(
+    pieces: &mut Pieces,
+    sink: &mut S,
+    fault: &Fault,
+) -> Result<(), Failed>
     ensures { Writes (held S.contents S.failures pieces.old sink.old)
         (held S.contents S.failures pieces.new sink.new) result (fault_text fault.now) }
 {

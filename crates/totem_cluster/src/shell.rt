@@ -7,6 +7,7 @@ ghost use Rattle.totem_cluster.specs.Endings.{Ends, Explains, Shows, Plays, bare
 
 use crate::auditing::audit_io;
 use crate::checking::check_io;
+use crate::explaining::explain_io;
 use crate::io_fault::IoFault;
 use crate::recording::run_io;
 use crate::report::write_text;
@@ -120,6 +121,12 @@ pub fn program<T: Threads + Wait + Sync, R: Source, W: Sink, E: Sink>(
             Err(fault) => tell_fault(errors, &fault),
         },
         Ok(Words::Run(words)) => play(rt, alloc, &words, output, errors),
+        Ok(Words::Explain { workers }) => {
+            match explain_io(rt, alloc, input, output, as_many(workers)) {
+                Ok(outcome) => outcome.status(),
+                Err(fault) => tell_fault(errors, &fault),
+            }
+        }
         Ok(Words::Audit { workers }) => match audit_io(rt, alloc, input, output, as_many(workers)) {
             Ok(outcome) => outcome.status(),
             Err(fault) => tell_fault(errors, &fault),

@@ -9,6 +9,8 @@ use std::alloc::{AllocError, Global};
 pub enum Words {
     /// The audit of the run on the standard input, by 1 to 64 workers.
     Audit { workers: u32 },
+    /// The same audit, told in words, by 1 to 64 workers.
+    Explain { workers: u32 },
     /// The check of a run and its certificate.
     Check,
     /// The run that the script on the standard input makes.
@@ -22,24 +24,38 @@ Status: 0 yes, or a run was made, 1 no, 2 the input was refused, 3 out of memory
 
 const AUDIT_EXAMPLE: &str = "Example: totem audit < examples/first-yes.run";
 
+const EXPLAIN_EXAMPLE: &str = "Example: totem explain < examples/first-no.run";
+
 const SIM_EXAMPLE: &str = "Example: totem sim < examples/partition-that-heals.script | totem audit";
 
 const CHECK_EXAMPLE: &str = "Example: totem check < examples/first-yes.checked";
 
-fn audit_command<'a>(alloc: Global) -> Result<Command<'a>, AllocError> {
-    let workers = Arg::new(alloc, "workers")
+fn workers_option<'a>(alloc: Global) -> Arg<'a> {
+    Arg::new(alloc, "workers")
         .long("workers")
         .value_name("W")
         .value_parser(ValueParser::Unsigned(1, 64))
         .default_value("1")
-        .help("How many threads judge the run, from 1 to 64; the report is the same");
+        .help("How many threads judge the run, from 1 to 64; what is written is the same")
+}
+
+fn audit_command<'a>(alloc: Global) -> Result<Command<'a>, AllocError> {
     Command::new(alloc, "audit")
         .about("Judges the run on the standard input, and writes a report")
         .after_help(AUDIT_EXAMPLE)
-        .arg(workers)
+        .arg(workers_option(alloc))
 }
 
-/// Returns how many workers the words of an audit ask for.
+fn explain_command<'a>(alloc: Global) -> Result<Command<'a>, AllocError> {
+    Command::new(alloc, "explain")
+        .about(
+            "Judges the run on the standard input, and tells in words what is broken, by what, and where",
+        )
+        .after_help(EXPLAIN_EXAMPLE)
+        .arg(workers_option(alloc))
+}
+
+/// Returns how many workers the words of an audit or an explanation ask for.
 fn workers_of(matches: &ArgMatches<'_>) -> u32 {
     matches.get_one::<u32>("workers").unwrap_or(1)
 }
@@ -63,6 +79,7 @@ fn command<'a>(alloc: Global) -> Result<Command<'a>, AllocError> {
         .after_help(ENDINGS)
         .subcommand_required(true)
         .subcommand(audit_command(alloc)?)?
+        .subcommand(explain_command(alloc)?)?
         .subcommand(check_command(alloc))?
         .subcommand(sim_command(alloc))?
         .subcommand(run_command(alloc)?)
@@ -75,6 +92,9 @@ pub fn read_words(alloc: Global, words: &[String]) -> Result<Words, Error> {
         Some(("check", _)) => Words::Check,
         Some(("sim", _)) => Words::Sim,
         Some(("run", run)) => Words::Run(run_words(run)),
+        Some(("explain", explain)) => Words::Explain {
+            workers: workers_of(explain),
+        },
         Some((_, audit)) => Words::Audit {
             workers: workers_of(audit),
         },

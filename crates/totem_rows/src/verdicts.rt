@@ -2,7 +2,7 @@
 use crate::table::{Row, run_rows};
 use std::test::Fail;
 
-const VERDICTS: [Row; 8] = [
+const VERDICTS: [Row; 10] = [
     Row {
         name: "one message that both deliver",
         words: "audit",
@@ -65,6 +65,22 @@ const VERDICTS: [Row; 8] = [
         input: "totem-run 1;log 1;conf r4.1 1;conf r4.1 1;open;end;",
         status: 1,
         output: "verdict no;fault 2.3 1@1 1@2;fault 2.4 1@1 1@2;end;",
+        errors: "",
+    },
+    Row {
+        name: "a delivery of what nobody sent, in words",
+        words: "explain",
+        input: "totem-run 1;log 1;conf r4.1 1 2;open;log 2;conf r4.1 1 2;dlv r4.1 4.1#1;open;end;",
+        status: 1,
+        output: "No: the run breaks extended virtual synchrony.;The run: logs 2, changes 2, sends 0, deliveries 1, failures 0.;;fault 1.3 2@2;Specification 1.3: What is delivered was sent in the regular configuration of the delivery, or in the one just before.;  2@2  process 2 delivered 4.1#1 in r4.1;Why it is broken:;  No log sends 4.1#1.;The logs there:;  log 2;      1  conf r4.1 1 2;    > 2  dlv r4.1 4.1#1;      open;",
+        errors: "",
+    },
+    Row {
+        name: "a yes in words, by seven workers",
+        words: "explain --workers 7",
+        input: "totem-run 1;log 1;conf r4.1 1 2;send r4.1 a 4.1#1;dlv r4.1 4.1#1;open;log 2;conf r4.1 1 2;dlv r4.1 4.1#1;open;end;",
+        status: 0,
+        output: "Yes: the run meets specifications 1 to 7.;The run: logs 2, changes 2, sends 1, deliveries 2, failures 0.;Nothing is pending, and nobody waits.;",
         errors: "",
     },
 ];

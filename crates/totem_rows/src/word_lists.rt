@@ -11,6 +11,7 @@ fn help_that_was_asked_for_goes_to_the_output(rt: HostRuntime) -> Result<(), Fai
         "audit --help",
         "help audit",
         "check -h",
+        "explain --help",
         "sim --help",
         "run --help",
     ] {

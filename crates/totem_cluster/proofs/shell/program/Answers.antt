@@ -1,5 +1,5 @@
 use Rattle.std.proofs.Common.{refl}
-use Rattle.totem_cluster.specs.Endings.{judged, failed, checked, unchecked, simulated, unsimulated, explained, played}
+use Rattle.totem_cluster.specs.Endings.{judged, failed, told, untold, checked, unchecked, simulated, unsimulated, explained, played}
 use Rattle.totem_cluster.proofs.shell.program.Goals as goal
 
 pub returns-in-Err : goal.returns-in-Err
@@ -27,3 +27,10 @@ returns-in-Err-sim_io g c =
 
 pub returns-in-Ok-Run : goal.returns-in-Ok-Run
 returns-in-Ok-Run g c = played _ refl c.play.ensures
+
+pub returns-in-Ok-explain_io : goal.returns-in-Ok-explain_io
+returns-in-Ok-explain_io g c = rw c.status-in-Ok-explain_io.ensures (told _ c.in-Ok-explain_io.ensures refl)
+
+pub returns-in-Err-explain_io : goal.returns-in-Err-explain_io
+returns-in-Err-explain_io g c =
+    rw c.tell_fault-in-Err-explain_io.ensures.status (untold _ c.in-Err-explain_io.ensures c.tell_fault-in-Err-explain_io.ensures.line)

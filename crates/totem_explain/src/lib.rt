@@ -1,0 +1,18 @@
+//! An audit in words for people: what a fault's places are, what is missing, and the log lines around them.
+#![tactic(auto)]
+
+mod counts;
+mod cycle;
+mod event;
+mod excerpt;
+mod fate;
+mod lookup;
+mod no;
+mod reason;
+mod rule;
+mod yes;
+
+pub use event::{event_of, line_of};
+pub use no::{Explained, ExplainedNo, explain_no};
+pub use rule::rule_of;
+pub use yes::explain_yes;

@@ -1,0 +1,94 @@
+//! Where things stand in a run. Each search reads a log from its first entry on.
+use totem_evs::{Entry, Log, Run};
+use totem_ids::{ConfId, MsgId, Place, ProcId};
+
+/// Returns the log of a process, or `None` if it has none.
+pub fn log_of<'r>(run: &'r Run, proc: ProcId) -> Option<&'r Log> {
+    for log in run.logs.as_slice() {
+        if log.proc == proc {
+            return Some(log);
+        }
+    }
+    None
+}
+
+/// Returns entry `at`, counted from 1, of a log, or `None` if the log has no such entry.
+pub fn entry_of<'r>(log: &'r Log, at: u32) -> Option<&'r Entry> {
+    let index = at.checked_sub(1)?;
+    log.entries.as_slice().get(index as usize)
+}
+
+/// Returns the entry at a place of the run, or `None` if nothing stands there.
+pub fn entry_at<'r>(run: &'r Run, place: Place) -> Option<&'r Entry> {
+    entry_of(log_of(run, place.proc)?, place.at)
+}
+
+/// Returns the place of the log's entry with this index, counted from 0.
+pub fn place_of(log: &Log, index: usize) -> Place {
+    let before = u32::try_from(index).unwrap_or(u32::MAX);
+    Place {
+        proc: log.proc,
+        at: before.saturating_add(1),
+    }
+}
+
+/// Returns where a log first delivers a message, or `None` if it does not.
+pub fn delivery_in(log: &Log, message: MsgId) -> Option<Place> {
+    for (index, entry) in log.entries.as_slice().iter().enumerate() {
+        if let Entry::Deliver(delivered, _) = entry {
+            if *delivered == message {
+                return Some(place_of(log, index));
+            }
+        }
+    }
+    None
+}
+
+/// Returns where a log first sends a message, and in which configuration, or `None` if it does not.
+pub fn send_in(log: &Log, message: MsgId) -> Option<(Place, ConfId)> {
+    for (index, entry) in log.entries.as_slice().iter().enumerate() {
+        if let Entry::Send(sent, conf, _) = entry {
+            if *sent == message {
+                return Some((place_of(log, index), *conf));
+            }
+        }
+    }
+    None
+}
+
+/// Returns where a log first changes to a configuration, or `None` if it does not.
+pub fn change_in(log: &Log, conf: &ConfId) -> Option<Place> {
+    for (index, entry) in log.entries.as_slice().iter().enumerate() {
+        if let Entry::Conf(to, _) = entry {
+            if to.is(conf) {
+                return Some(place_of(log, index));
+            }
+        }
+    }
+    None
+}
+
+/// Returns the last change of a log in front of entry `at`, with its members.
+pub fn change_before<'r>(log: &'r Log, at: u32) -> Option<(ConfId, &'r [ProcId])> {
+    let before = at.saturating_sub(1) as usize;
+    let mut last = None;
+    for entry in log.entries.as_slice().iter().take(before) {
+        if let Entry::Conf(to, members) = entry {
+            last = Some((*to, members.as_slice()));
+        }
+    }
+    last
+}
+
+/// Returns the first change of a log behind entry `at`, and its place.
+pub fn change_behind(log: &Log, at: u32) -> Option<(Place, ConfId)> {
+    for (index, entry) in log.entries.as_slice().iter().enumerate() {
+        if index < at as usize {
+            continue;
+        }
+        if let Entry::Conf(to, _) = entry {
+            return Some((place_of(log, index), *to));
+        }
+    }
+    None
+}

@@ -1,0 +1,194 @@
+//! What breaks the specification at the places of a fault, and what is missing there.
+use crate::cycle::cycle;
+use crate::fate::{fate_of, next_of};
+use crate::lookup::{change_before, change_in, delivery_in, entry_at, entry_of, log_of, send_in};
+use std::alloc::{AllocError, Global};
+use totem_evs::{Entry, Fault, Run, SpecNo};
+use totem_ids::{MsgId, Place};
+
+/// Returns the message that the entry at a place sends or delivers, or `None` if it does neither.
+fn message_at(run: &Run, place: Place) -> Option<MsgId> {
+    match entry_at(run, place)? {
+        Entry::Send(message, _, _) | Entry::Deliver(message, _) => Some(*message),
+        _ => None,
+    }
+}
+
+/// 1.3: where the message was sent, if anywhere.
+fn unsent(alloc: Global, run: &Run, delivery: Place) -> Result<String, AllocError> {
+    let mut text = String::new(alloc);
+    let Some(message) = message_at(run, delivery) else {
+        return Ok(text);
+    };
+    for log in run.logs.as_slice() {
+        if let Some((place, conf)) = send_in(log, message) {
+            let proc = log.proc;
+            write!(
+                text,
+                "  Process {proc} sent {message} in {conf} ({place}).\n"
+            )?;
+        }
+    }
+    if text.is_empty() {
+        return format!(in alloc; "  No log sends {message}.\n");
+    }
+    Ok(text)
+}
+
+/// 1.4: what is done twice.
+fn twice(alloc: Global, run: &Run, places: &[Place]) -> Result<String, AllocError> {
+    let Some(first) = places.first() else {
+        return Ok(String::new(alloc));
+    };
+    match (places.len(), entry_at(run, *first)) {
+        (1, _) => format!(in alloc; "  A transitional configuration is no place to send in.\n"),
+        (_, Some(Entry::Deliver(message, _))) => {
+            let proc = first.proc;
+            format!(in alloc; "  Process {proc} delivered {message} twice.\n")
+        }
+        (_, Some(Entry::Send(message, _, _))) => {
+            format!(in alloc; "  {message} was sent twice.\n")
+        }
+        _ => Ok(String::new(alloc)),
+    }
+}
+
+/// 2.2: why the entry may not stand where it stands.
+fn misplaced(alloc: Global, run: &Run, place: Place) -> Result<String, AllocError> {
+    let Some(log) = log_of(run, place.proc) else {
+        return Ok(String::new(alloc));
+    };
+    if let Some(Entry::Fail(_)) = entry_of(log, place.at.saturating_sub(1)) {
+        return format!(in alloc; "  It stands behind a failure.\n");
+    }
+    match change_before(log, place.at) {
+        None => format!(in alloc; "  No change stands before it.\n"),
+        Some((conf, _)) => {
+            let proc = place.proc;
+            format!(in alloc; "  Process {proc} stood in {conf} then.\n")
+        }
+    }
+}
+
+/// 2.3: what does not fit.
+fn configuration(alloc: Global, places: &[Place]) -> Result<String, AllocError> {
+    let Some(first) = places.first() else {
+        return Ok(String::new(alloc));
+    };
+    let proc = first.proc;
+    match places.get(1) {
+        None => format!(in alloc; "  Process {proc} is none of these members.\n"),
+        Some(second) if second.proc == proc => {
+            format!(in alloc; "  Process {proc} changed to it twice.\n")
+        }
+        Some(_) => format!(in alloc; "  The two do not have the same members.\n"),
+    }
+}
+
+/// 2.4: what does not take turns or fit.
+fn turns(alloc: Global, places: &[Place]) -> Result<String, AllocError> {
+    match places.len() {
+        1 => format!(in alloc; "  A log can't begin with a transitional configuration.\n"),
+        2 => format!(in alloc;
+            "  The second can't come next: it is of the same kind, or its members or its ring don't fit the first.\n"
+        ),
+        _ => format!(in alloc;
+            "  Two processes came to one transitional configuration from different regular ones.\n"
+        ),
+    }
+}
+
+/// 3: what the sender did in place of delivering its message.
+fn undelivered(alloc: Global, run: &Run, send: Place) -> Result<String, AllocError> {
+    let (Some(log), Some(Entry::Send(message, conf, _))) = (
+        log_of(run, send.proc),
+        entry_at(run, send),
+    ) else {
+        return Ok(String::new(alloc));
+    };
+    let proc = send.proc;
+    let next = next_of(alloc, log, send.at)?;
+    format!(in alloc;
+        "  Process {proc} did not deliver {message} in {conf} or what follows it: it {next}.\n"
+    )
+}
+
+/// Returns that the process at `missing` lacks the message at `delivery`, or delivers it too late.
+fn lacks(alloc: Global, run: &Run, delivery: Place, missing: Place) -> Result<String, AllocError> {
+    let (Some(message), Some(log)) = (message_at(run, delivery), log_of(run, missing.proc)) else {
+        return Ok(String::new(alloc));
+    };
+    let proc = missing.proc;
+    match delivery_in(log, message) {
+        Some(place) => {
+            format!(in alloc; "  Process {proc} delivered {message} only at {place}.\n")
+        }
+        None => format!(in alloc; "  Process {proc} never delivered {message}.\n"),
+    }
+}
+
+/// 7.1: which members lack the message, and what became of them.
+fn unsafe_for(alloc: Global, run: &Run, delivery: Place) -> Result<String, AllocError> {
+    let mut text = String::new(alloc);
+    let (Some(message), Some(log)) = (message_at(run, delivery), log_of(run, delivery.proc)) else {
+        return Ok(text);
+    };
+    let Some((conf, members)) = change_before(log, delivery.at) else {
+        return Ok(text);
+    };
+    for member in members {
+        let has = match log_of(run, *member) {
+            Some(log) => delivery_in(log, message).is_some(),
+            None => false,
+        };
+        if !has {
+            let fate = fate_of(alloc, run, *member, &conf)?;
+            write!(
+                text,
+                "  Process {member} did not deliver {message}: it {fate}.\n"
+            )?;
+        }
+    }
+    Ok(text)
+}
+
+/// 7.2: which members never came.
+fn absent(alloc: Global, run: &Run, delivery: Place) -> Result<String, AllocError> {
+    let mut text = String::new(alloc);
+    let Some(log) = log_of(run, delivery.proc) else {
+        return Ok(text);
+    };
+    let Some((conf, members)) = change_before(log, delivery.at) else {
+        return Ok(text);
+    };
+    for member in members {
+        let has = match log_of(run, *member) {
+            Some(log) => change_in(log, &conf).is_some(),
+            None => false,
+        };
+        if !has {
+            write!(text, "  Process {member} never came to {conf}.\n")?;
+        }
+    }
+    Ok(text)
+}
+
+/// Returns lines that say what breaks the specification at the places of the fault, and what is missing.
+pub fn reason(alloc: Global, run: &Run, fault: &Fault) -> Result<String, AllocError> {
+    let places = fault.places.as_slice();
+    match (fault.spec, places) {
+        (SpecNo::Cycle | SpecNo::Order, _) => cycle(alloc, run, places),
+        (SpecNo::Unsent, [delivery, ..]) => unsent(alloc, run, *delivery),
+        (SpecNo::Twice, _) => twice(alloc, run, places),
+        (SpecNo::Misplaced, [entry, ..]) => misplaced(alloc, run, *entry),
+        (SpecNo::Configuration, _) => configuration(alloc, places),
+        (SpecNo::Turns, _) => turns(alloc, places),
+        (SpecNo::OwnDelivery, [send, ..]) => undelivered(alloc, run, *send),
+        (SpecNo::Atomicity, [delivery, _, change, ..]) => lacks(alloc, run, *delivery, *change),
+        (SpecNo::Causality, [send, _, delivery, ..]) => lacks(alloc, run, *send, *delivery),
+        (SpecNo::Gap, [earlier, _, later, ..]) => lacks(alloc, run, *earlier, *later),
+        (SpecNo::Safety, [delivery, ..]) => unsafe_for(alloc, run, *delivery),
+        (SpecNo::Installed, [delivery, ..]) => absent(alloc, run, *delivery),
+        _ => Ok(String::new(alloc)),
+    }
+}

@@ -1,0 +1,113 @@
+//! A yes in words.
+use crate::counts::summary;
+use crate::fate::fate_of;
+use std::alloc::{AllocError, Global};
+use totem_evs::{Pending, Run, Waiting};
+use totem_ids::MsgId;
+
+/// Deliveries that one process may still make of the messages of one ring.
+#[derive(Clone, Copy, Debug, PartialEq, Eq)]
+struct Group {
+    first: Pending,
+    last: MsgId,
+    count: u32,
+}
+
+impl Group {
+    fn of(pending: Pending) -> Group {
+        Group {
+            first: pending,
+            last: pending.msg,
+            count: 1,
+        }
+    }
+
+    fn has(&self, pending: &Pending) -> bool {
+        self.first.proc == pending.proc && self.first.msg.ring == pending.msg.ring
+    }
+
+    fn add(&mut self, pending: &Pending) {
+        self.last = pending.msg;
+        self.count = self.count.saturating_add(1);
+    }
+
+    fn push(&self, alloc: Global, text: &mut String) -> Result<(), AllocError> {
+        let proc = self.first.proc;
+        let first = self.first.msg;
+        let last = self.last;
+        let count = self.count;
+        let line = match count {
+            1 => format!(in alloc; "  process {proc} may still deliver {first}\n")?,
+            _ => format!(in alloc;
+                "  process {proc} may still deliver {count} messages, {first} to {last}\n"
+            )?,
+        };
+        text.push_str(line.as_str())
+    }
+}
+
+/// Returns a line for each process and ring of which deliveries are pending.
+fn pending_lines(alloc: Global, list: &[Pending]) -> Result<String, AllocError> {
+    let mut text = String::new(alloc);
+    let Some(first) = list.first() else {
+        return Ok(text);
+    };
+    let mut group = Group::of(*first);
+    for pending in list.iter().skip(1) {
+        if group.has(pending) {
+            group.add(pending);
+        } else {
+            group.push(alloc, &mut text)?;
+            group = Group::of(*pending);
+        }
+    }
+    group.push(alloc, &mut text)?;
+    Ok(text)
+}
+
+/// Returns a line for each two processes of which one waits for the other, and what became of the other.
+fn waiting_lines(alloc: Global, run: &Run, list: &[Waiting]) -> Result<String, AllocError> {
+    let mut text = String::new(alloc);
+    for Waiting { proc, conf, other } in list {
+        let fate = fate_of(alloc, run, *other, conf)?;
+        write!(
+            text,
+            "  process {proc} stands in {conf} and waits for {other}, which {fate}\n"
+        )?;
+    }
+    Ok(text)
+}
+
+/// Adds a heading with its lines, and nothing where there are none.
+fn push_headed(text: &mut String, heading: &str, lines: &str) -> Result<(), AllocError> {
+    if lines.is_empty() {
+        return Ok(());
+    }
+    write!(text, "{heading}\n{lines}")
+}
+
+/// Explains the yes of a run: how much was judged, what is pending and who waits for whom. Both lists rise, as the audit
+/// gives them.
+pub fn explain_yes(
+    alloc: Global,
+    run: &Run,
+    pending: &[Pending],
+    waiting: &[Waiting],
+) -> Result<String, AllocError> {
+    let mut text = String::from_str(alloc, "Yes: the run meets specifications 1 to 7.\n")?;
+    text.push_str(summary(alloc, run)?.as_str())?;
+    if pending.is_empty() && waiting.is_empty() {
+        text.push_str("Nothing is pending, and nobody waits.\n")?;
+    }
+    push_headed(
+        &mut text,
+        "Pending, which is no fault:",
+        pending_lines(alloc, pending)?.as_str(),
+    )?;
+    push_headed(
+        &mut text,
+        "Waiting, which is no fault:",
+        waiting_lines(alloc, run, waiting)?.as_str(),
+    )?;
+    Ok(text)
+}
