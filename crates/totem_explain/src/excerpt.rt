@@ -8,13 +8,43 @@ use totem_ids::Place;
 /// How many entries are shown in front of a place, and behind it.
 const AROUND: u32 = 2;
 
-fn is_marked(places: &[Place], place: Place) -> bool {
-    places.iter().any(|one| *one == place)
+/// Whether an entry is shown.
+#[derive(Clone, Copy, Debug, PartialEq, Eq)]
+enum Shown {
+    LeftOut,
+    Near,
+    Marked,
 }
 
-/// Returns whether the entry is a place or near one.
-fn is_near(places: &[Place], place: Place) -> bool {
-    places.iter().any(|one| one.proc == place.proc && one.at.abs_diff(place.at) <= AROUND)
+/// Marks entry `at`, counted from 1, and shows those around it.
+fn mark(shown: &mut Vec<Shown>, at: u32) {
+    for near in at.saturating_sub(AROUND)..=at.saturating_add(AROUND) {
+        let Some(index) = near.checked_sub(1) else {
+            continue;
+        };
+        if let Some(one) = shown.get_mut(index as usize) {
+            if near == at {
+                *one = Shown::Marked;
+            } else if *one == Shown::LeftOut {
+                *one = Shown::Near;
+            }
+        }
+    }
+}
+
+/// Returns of each entry of a log whether it is shown.
+fn shown_of(alloc: Global, log: &Log, places: &[Place]) -> Result<Vec<Shown>, AllocError> {
+    let entries = log.entries.as_slice();
+    let mut shown = Vec::with_capacity(alloc, entries.len())?;
+    for _ in entries {
+        shown.push(Shown::LeftOut)?;
+    }
+    for place in places {
+        if place.proc == log.proc {
+            mark(&mut shown, place.at);
+        }
+    }
+    Ok(shown)
 }
 
 /// Adds how many entries are left out, if any are.
@@ -30,10 +60,9 @@ fn push_entry(
     alloc: Global,
     text: &mut String,
     mark: &str,
-    place: Place,
+    at: u32,
     entry: &Entry,
 ) -> Result<(), AllocError> {
-    let at = place.at;
     let line = line_of(alloc, entry)?;
     write!(text, "    {mark} {at}  {line}\n")
 }
@@ -54,17 +83,20 @@ fn push_log(
 ) -> Result<(), AllocError> {
     let proc = log.proc;
     write!(text, "  log {proc}\n")?;
+    let shown = shown_of(alloc, log, places)?;
     let mut left_out = 0u32;
     for (index, entry) in log.entries.as_slice().iter().enumerate() {
-        let place = place_of(log, index);
-        if !is_near(places, place) {
-            left_out = left_out.saturating_add(1);
-            continue;
-        }
+        let mark = match shown.get(index) {
+            Some(Shown::Marked) => ">",
+            Some(Shown::Near) => " ",
+            _ => {
+                left_out = left_out.saturating_add(1);
+                continue;
+            }
+        };
         push_left_out(text, left_out)?;
         left_out = 0;
-        let mark = if is_marked(places, place) { ">" } else { " " };
-        push_entry(alloc, text, mark, place, entry)?;
+        push_entry(alloc, text, mark, place_of(log, index).at, entry)?;
     }
     push_left_out(text, left_out)?;
     text.push_str(closing(log.ending))
