@@ -21,11 +21,7 @@ fn help_that_was_asked_for_goes_to_the_output(rt: HostRuntime) -> Result<(), Fai
         assert_eq!(rt; found.errors.as_str(), "", "errors of {words}");
     }
     let found = run(&rt, rt.alloc(), "--help", "")?;
-    assert!(rt;
-        found
-            .output
-            .contains("audit  Judges the run on the standard input")
-    );
+    assert!(rt; found.output.contains("Judges the run on the standard input, and writes a report"));
     Ok(())
 }
 
