@@ -169,7 +169,7 @@ fault 3 1@2
 Specification 3: Who sends a message delivers it, unless it fails or is still in that configuration.
   1@2  process 1 sent 4.1#1 in r4.1, an agreed message
 Why it is broken:
-  Process 1 did not deliver 4.1#1 in r4.1 or what follows it: it went on to t8.1/1 (1@3).
+  Process 1 did not deliver 4.1#1 in r4.1 or what follows it: it went on to r8.1 (1@4).
 The logs there:
   log 1
       1  conf r4.1 1 2
@@ -300,9 +300,10 @@ The logs there:
 ",
     },
     Row {
-        logs: "log 1\nconf r4.1 1 2\nsend r4.1 s 4.1#1\ndlv r4.1 4.1#1\nopen\nlog 2\nconf r1.2 2\nopen\n",
+        logs: "log 1\nconf r4.1 1 2 3\nsend r4.1 s 4.1#1\ndlv r4.1 4.1#1\nopen\nlog 2\nconf r1.2 2\nopen\n\
+        log 3\nconf r4.1 1 2 3\nfail r4.1\nfailed\n",
         told: "No: the run breaks extended virtual synchrony.
-The run: logs 2, changes 2, sends 1, deliveries 1, failures 0.
+The run: logs 3, changes 3, sends 1, deliveries 1, failures 1.
 
 fault 7.1 1@3
 Specification 7.1: A safe message that one member delivers is delivered by all members, unless they fail or are still there.
@@ -311,7 +312,7 @@ Why it is broken:
   Process 2 did not deliver 4.1#1: it never came to r4.1.
 The logs there:
   log 1
-      1  conf r4.1 1 2
+      1  conf r4.1 1 2 3
       2  send r4.1 s 4.1#1
     > 3  dlv r4.1 4.1#1
       open
@@ -323,7 +324,7 @@ Why it is broken:
   Process 2 never came to r4.1.
 The logs there:
   log 1
-      1  conf r4.1 1 2
+      1  conf r4.1 1 2 3
       2  send r4.1 s 4.1#1
     > 3  dlv r4.1 4.1#1
       open
@@ -335,7 +336,7 @@ The logs there:
         told: "Yes: the run meets specifications 1 to 7.
 The run: logs 2, changes 2, sends 1, deliveries 2, failures 1.
 Waiting, which is no fault:
-  process 1 stands in r4.1 and waits for 2, which failed
+  process 1 stands in r4.1 and waits for 2, which failed in r4.1
 ",
     },
     Row {
@@ -350,8 +351,8 @@ Pending, which is no fault:
   process 2 may still deliver 8.1#1
   process 3 may still deliver 2 messages, 4.1#1 to 4.1#2
 Waiting, which is no fault:
-  process 3 stands in r4.1 and waits for 1, which went on to t8.1/1 (1@6)
-  process 3 stands in r4.1 and waits for 2, which went on to t8.1/1 (2@4)
+  process 3 stands in r4.1 and waits for 1, which went on to r8.1 (1@7)
+  process 3 stands in r4.1 and waits for 2, which went on to r8.1 (2@5)
 ",
     },
 ];

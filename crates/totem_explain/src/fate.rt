@@ -2,35 +2,71 @@
 use crate::lookup::{change_behind, change_in, log_of};
 use std::alloc::{AllocError, Global};
 use totem_evs::{Ending, Log, Run};
-use totem_ids::{ConfId, ProcId};
+use totem_ids::{ConfId, Place, ProcId};
 
-fn end_of(alloc: Global, log: &Log) -> Result<String, AllocError> {
+/// What became of a process in a configuration and what follows it.
+#[derive(Clone, Copy, Debug, PartialEq, Eq)]
+pub enum Fate {
+    WithoutLog,
+    NeverCame(ConfId),
+    WentOn(ConfId, Place),
+    Failed(ConfId),
+    StillThere(ConfId),
+}
+
+impl Fate {
+    /// Returns whether nothing excuses the process: it neither failed nor is still there.
+    pub fn owes(&self) -> bool {
+        !matches!(self, Fate::Failed(_) | Fate::StillThere(_))
+    }
+
+    /// Returns what is told of it, behind the process.
+    pub fn told(&self, alloc: Global) -> Result<String, AllocError> {
+        match self {
+            Fate::WithoutLog => format!(in alloc; "has no log"),
+            Fate::NeverCame(conf) => format!(in alloc; "never came to {conf}"),
+            Fate::WentOn(conf, place) => format!(in alloc; "went on to {conf} ({place})"),
+            Fate::Failed(conf) => format!(in alloc; "failed in {conf}"),
+            Fate::StillThere(conf) => format!(in alloc; "is still in {conf}"),
+        }
+    }
+}
+
+/// Returns the fate of a log whose last change is to this configuration.
+fn end_of(log: &Log, conf: ConfId) -> Fate {
     match log.ending {
-        Ending::Standing => format!(in alloc; "is still there"),
-        Ending::Failed => format!(in alloc; "failed"),
+        Ending::Standing => Fate::StillThere(conf),
+        Ending::Failed => Fate::Failed(conf),
     }
 }
 
-/// Returns what a process did behind entry `at` of its log: it went on, failed, or is still there.
-pub fn next_of(alloc: Global, log: &Log, at: u32) -> Result<String, AllocError> {
+/// Returns what comes behind the transitional configuration that follows, to which entry `at` changes.
+fn behind_following(log: &Log, conf: ConfId, at: u32) -> Fate {
     match change_behind(log, at) {
-        Some((place, conf)) => format!(in alloc; "went on to {conf} ({place})"),
-        None => end_of(alloc, log),
+        Some((place, next)) => Fate::WentOn(next, place),
+        None => end_of(log, conf),
     }
 }
 
-/// Returns what became of a process in a configuration: it never came there, went on, failed, or is still there.
-pub fn fate_of(
-    alloc: Global,
-    run: &Run,
-    proc: ProcId,
-    conf: &ConfId,
-) -> Result<String, AllocError> {
+/// Returns what a process did behind entry `at` of its log, with which it stands in `conf`. The transitional configuration
+/// that follows still counts as there.
+pub fn next_of(log: &Log, conf: ConfId, at: u32) -> Fate {
+    match change_behind(log, at) {
+        Some((place, next)) => match next {
+            ConfId::Transitional { .. } => behind_following(log, next, place.at),
+            ConfId::Regular(_) => Fate::WentOn(next, place),
+        },
+        None => end_of(log, conf),
+    }
+}
+
+/// Returns what became of a process in a configuration and what follows it.
+pub fn fate_of(run: &Run, proc: ProcId, conf: ConfId) -> Fate {
     let Some(log) = log_of(run, proc) else {
-        return format!(in alloc; "has no log");
+        return Fate::WithoutLog;
     };
-    match change_in(log, conf) {
-        Some(place) => next_of(alloc, log, place.at),
-        None => format!(in alloc; "never came to {conf}"),
+    match change_in(log, &conf) {
+        Some(place) => next_of(log, conf, place.at),
+        None => Fate::NeverCame(conf),
     }
 }

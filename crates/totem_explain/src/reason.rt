@@ -4,7 +4,7 @@ use crate::fate::{fate_of, next_of};
 use crate::lookup::{change_before, change_in, delivery_in, entry_at, entry_of, log_of, send_in};
 use std::alloc::{AllocError, Global};
 use totem_evs::{Entry, Fault, Run, SpecNo};
-use totem_ids::{MsgId, Place};
+use totem_ids::{ConfId, MsgId, Place, ProcId};
 
 /// Returns the message that the entry at a place sends or delivers, or `None` if it does neither.
 fn message_at(run: &Run, place: Place) -> Option<MsgId> {
@@ -107,7 +107,7 @@ fn undelivered(alloc: Global, run: &Run, send: Place) -> Result<String, AllocErr
         return Ok(String::new(alloc));
     };
     let proc = send.proc;
-    let next = next_of(alloc, log, send.at)?;
+    let next = next_of(log, *conf, send.at).told(alloc)?;
     format!(in alloc;
         "  Process {proc} did not deliver {message} in {conf} or what follows it: it {next}.\n"
     )
@@ -127,7 +127,34 @@ fn lacks(alloc: Global, run: &Run, delivery: Place, missing: Place) -> Result<St
     }
 }
 
-/// 7.1: which members lack the message, and what became of them.
+fn has_delivered(run: &Run, proc: ProcId, message: MsgId) -> bool {
+    match log_of(run, proc) {
+        Some(log) => delivery_in(log, message).is_some(),
+        None => false,
+    }
+}
+
+/// Adds what became of a process in a configuration if it lacks the message and nothing excuses it.
+fn push_lacking(
+    alloc: Global,
+    text: &mut String,
+    run: &Run,
+    proc: ProcId,
+    message: MsgId,
+    conf: &ConfId,
+) -> Result<(), AllocError> {
+    let fate = fate_of(run, proc, *conf);
+    if has_delivered(run, proc, message) || !fate.owes() {
+        return Ok(());
+    }
+    let told = fate.told(alloc)?;
+    write!(
+        text,
+        "  Process {proc} did not deliver {message}: it {told}.\n"
+    )
+}
+
+/// 7.1: which members lack the message and are not excused, and what became of them.
 fn unsafe_for(alloc: Global, run: &Run, delivery: Place) -> Result<String, AllocError> {
     let mut text = String::new(alloc);
     let (Some(message), Some(log)) = (message_at(run, delivery), log_of(run, delivery.proc)) else {
@@ -137,17 +164,7 @@ fn unsafe_for(alloc: Global, run: &Run, delivery: Place) -> Result<String, Alloc
         return Ok(text);
     };
     for member in members {
-        let has = match log_of(run, *member) {
-            Some(log) => delivery_in(log, message).is_some(),
-            None => false,
-        };
-        if !has {
-            let fate = fate_of(alloc, run, *member, &conf)?;
-            write!(
-                text,
-                "  Process {member} did not deliver {message}: it {fate}.\n"
-            )?;
-        }
+        push_lacking(alloc, &mut text, run, *member, message, &conf)?;
     }
     Ok(text)
 }

@@ -69,7 +69,7 @@ fn pending_lines(alloc: Global, list: &[Pending]) -> Result<String, AllocError> 
 fn waiting_lines(alloc: Global, run: &Run, list: &[Waiting]) -> Result<String, AllocError> {
     let mut text = String::new(alloc);
     for Waiting { proc, conf, other } in list {
-        let fate = fate_of(alloc, run, *other, conf)?;
+        let fate = fate_of(run, *other, *conf).told(alloc)?;
         write!(
             text,
             "  process {proc} stands in {conf} and waits for {other}, which {fate}\n"
