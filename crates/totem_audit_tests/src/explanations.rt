@@ -40,12 +40,12 @@ fn told(alloc: Global, logs: &str) -> Result<String, AllocError> {
 }
 
 /// The logs of a run, and what is told of its audit.
-struct Row {
-    logs: &'static str,
-    told: &'static str,
+pub struct Row {
+    pub logs: &'static str,
+    pub told: &'static str,
 }
 
-const ROWS: [Row; 14] = [
+pub const ROWS: [Row; 14] = [
     Row {
         logs: "log 1\nconf r4.1 1\ndlv r4.1 4.1#1\nsend r4.1 a 4.1#1\nopen\n",
         told: "No: the run breaks extended virtual synchrony.

@@ -10,6 +10,10 @@ mod explanations;
 #[cfg(test)]
 mod jobs;
 #[cfg(test)]
+mod pictures;
+#[cfg(test)]
+mod refusals;
+#[cfg(test)]
 mod stitches;
 #[cfg(test)]
 mod values;

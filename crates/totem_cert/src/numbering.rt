@@ -14,9 +14,11 @@ use totem_evs::{Log, Run};
 fn started(alloc: Global, logs: &[Log]) -> Result<Vec<OpenLine>, AllocError>
     ensures { IfOk result (λ lines. lines.items ≡ map empty_line logs.now) }
 {
-    logs.iter()
-        .map(|log| OpenLine::new(alloc, log.proc))
-        .collect(alloc)
+    let mut lines = Vec::with_capacity(alloc, logs.len())?;
+    for log in logs {
+        lines.push(OpenLine::new(alloc, log.proc))?;
+    }
+    Ok(lines)
 }
 
 /// Numbers class after class, until none is ready.

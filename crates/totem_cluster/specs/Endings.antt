@@ -25,6 +25,7 @@ use Rattle.totem_cluster.specs.declared.io_fault.IoFault.TheVariants as faults
 use Rattle.totem_cluster.specs.AuditIo.{Audits}
 use Rattle.totem_cluster.specs.CheckIo.{ChecksText}
 use Rattle.totem_cluster.specs.ExplainIo.{ExplainsRun}
+use Rattle.totem_cluster.specs.DrawIo.{DrawsRun}
 use Rattle.totem_cluster.specs.SimIo.{Simulates}
 use Rattle.totem_cluster.specs.RunIo.{Records}
 
@@ -124,14 +125,19 @@ pub data Shows (was is quiet said : Held) (text : List ℕ) : ℕ → Type 0 whe
   -- the output failed
   unshown : is.failures ≡ (was.failures + 1) % 2 ^ 64 → Tells quiet said (fault_line faults.Write) → Shows was is quiet said text 4
 
+-- what is told of a fault: its line with words behind it, or that memory was refused for these; and the status
+pub data Points (fault : IoFault) (quiet said : Held) : ℕ → Type 0 where
+  pointed : (words : List ℕ) → Tells quiet said (fault_line fault ++ words) → Points fault quiet said (fault_status fault)
+  wordless : Tells quiet said (fault_line faults.Memory) → Points fault quiet said 3
+
 -- what is told of words that ask for no audit, check, simulation or run, and the status
-pub data Explains (kind : ErrorKind) (was is quiet said : Held) : ℕ → Type 0 where
+pub data Answers (kind : ErrorKind) (was is quiet said : Held) : ℕ → Type 0 where
   -- help or the version was asked for
-  helped : (text : List ℕ) (status : ℕ) → IsAsked kind → Shows was is quiet said text status → Explains kind was is quiet said status
+  helped : (text : List ℕ) (status : ℕ) → IsAsked kind → Shows was is quiet said text status → Answers kind was is quiet said status
   -- the words ask for nothing that there is, and are told
-  misused : (text : List ℕ) → (IsAsked kind → ⊥) → is ≡ was → Tells quiet said text → Explains kind was is quiet said 64
+  misused : (text : List ℕ) → (IsAsked kind → ⊥) → is ≡ was → Tells quiet said text → Answers kind was is quiet said 64
   -- memory was refused
-  starved : is ≡ was → Tells quiet said (fault_line faults.Memory) → Explains kind was is quiet said 3
+  starved : is ≡ was → Tells quiet said (fault_line faults.Memory) → Answers kind was is quiet said 3
 
 -- what was read, what the output and the errors got, and the status
 pub data Ends (old new : Seen) (was is quiet said : Held) : ℕ → Type 0 where
@@ -141,8 +147,12 @@ pub data Ends (old new : Seen) (was is quiet said : Held) : ℕ → Type 0 where
   failed : (fault : IoFault) → Audits old new was is (Err fault) → Tells quiet said (fault_line fault) → Ends old new was is quiet said (fault_status fault)
   -- a run was judged, and told of in words
   told : (outcome : Outcome) → ExplainsRun old new was is (Ok outcome) → said ≡ quiet → Ends old new was is quiet said (outcome_status outcome)
-  -- it was not, and the fault is told
-  untold : (fault : IoFault) → ExplainsRun old new was is (Err fault) → Tells quiet said (fault_line fault) → Ends old new was is quiet said (fault_status fault)
+  -- it was not, and the fault is told with words behind it
+  untold : (fault : IoFault) (status : ℕ) → ExplainsRun old new was is (Err fault) → Points fault quiet said status → Ends old new was is quiet said status
+  -- a run was judged, and drawn
+  drawn : (outcome : Outcome) → DrawsRun old new was is (Ok outcome) → said ≡ quiet → Ends old new was is quiet said (outcome_status outcome)
+  -- it was not, and the fault is told with words behind it
+  undrawn : (fault : IoFault) (status : ℕ) → DrawsRun old new was is (Err fault) → Points fault quiet said status → Ends old new was is quiet said status
   -- a run was checked with its certificate
   checked : (outcome : Outcome) → ChecksText old new was is (Ok outcome) → said ≡ quiet → Ends old new was is quiet said (outcome_status outcome)
   -- it was not, and the fault is told
@@ -154,4 +164,4 @@ pub data Ends (old new : Seen) (was is quiet said : Held) : ℕ → Type 0 where
   -- nothing was read, and nodes were to run in threads
   played : (status : ℕ) → new ≡ old → Plays was is quiet said status → Ends old new was is quiet said status
   -- nothing was read, and the words are answered; what the text is, and for which words, is not said here
-  explained : (kind : ErrorKind) (status : ℕ) → new ≡ old → Explains kind was is quiet said status → Ends old new was is quiet said status
+  answered : (kind : ErrorKind) (status : ℕ) → new ≡ old → Answers kind was is quiet said status → Ends old new was is quiet said status

@@ -2,6 +2,7 @@ pub mod Report
 pub mod IoFaults
 pub mod AuditIo
 pub mod ExplainIo
+pub mod DrawIo
 pub mod CheckIo
 pub mod SimIo
 pub mod RunIo

@@ -13,7 +13,7 @@ use std::thread::Threads;
 use totem_books::ClosedBook;
 use totem_evs::{Run, write_run};
 use totem_ids::Sink;
-use totem_net::{Quiet, Start};
+use totem_net::{Progress, Quiet, Start, Unwatched};
 use totem_threads::{RunPlan, run_nodes};
 
 /// Runs so many nodes in threads, on ring 4.1, over a network that does what the plan says, until the ticks are used up
@@ -29,7 +29,22 @@ pub fn run_threads<S: Start, R: Threads + Wait + Sync>(
     ensures run { IfOk result (λ made. IsRunOf plan.nodes made.1.items made.0.logs) }
     ensures faults { IfErr result IsOfThreads }
 {
-    Ok(run_nodes(rt, alloc, plan, start)?)
+    run_watched(rt, alloc, plan, start, &mut Unwatched)
+}
+
+/// Does as `run_threads` does, and tells at each tick how far the run is.
+fn run_watched<S: Start, R: Threads + Wait + Sync, P: Progress>(
+    rt: &R,
+    alloc: Global,
+    plan: RunPlan,
+    start: &S,
+    progress: &mut P,
+) -> Result<(Run, Vec<ClosedBook>), IoFault>
+    requires { IsInRange plan }
+    ensures run { IfOk result (λ made. IsRunOf plan.nodes made.1.items made.0.logs) }
+    ensures faults { IfErr result IsOfThreads }
+{
+    Ok(run_nodes(rt, alloc, plan, start, progress)?)
 }
 
 /// Runs nodes in threads, and writes the run that they record.
@@ -42,7 +57,23 @@ pub fn run_io<R: Threads + Wait + Sync, W: Sink>(
     requires { IsInRange plan }
     ensures { Records plan.nodes (held W.contents W.failures [] output.old) (held W.contents W.failures [] output.new) result }
 {
-    let (run, _) = match run_threads(rt, alloc, plan, &Quiet) {
+    run_io_with_progress(rt, alloc, plan, output, &mut Unwatched)
+}
+
+/// Does as `run_io` does, and tells how far the run is, and when it has ended, before it is written.
+pub fn run_io_with_progress<R: Threads + Wait + Sync, W: Sink, P: Progress>(
+    rt: &R,
+    alloc: Global,
+    plan: RunPlan,
+    output: &mut W,
+    progress: &mut P,
+) -> Result<Outcome, IoFault>
+    requires { IsInRange plan }
+    ensures { Records plan.nodes (held W.contents W.failures [] output.old) (held W.contents W.failures [] output.new) result }
+{
+    let ended = run_watched(rt, alloc, plan, &Quiet, progress);
+    progress.ended();
+    let (run, _) = match ended {
         Ok(made) => made,
         Err(fault) => return Err(fault),
     };

@@ -4,7 +4,7 @@ ghost use Rattle.totem_threads.specs.Starts.{IsInRange};
 ghost use Rattle.totem_cluster.specs.RunWords.{plan_of};
 
 use clap::builder::ValueParser;
-use clap::{Arg, ArgMatches, Command};
+use clap::{Arg, ArgAction, ArgMatches, Command};
 use std::alloc::{AllocError, Global};
 use totem_net::Plan;
 use totem_threads::RunPlan;
@@ -58,7 +58,7 @@ const OPTIONS: [NumberOption; 6] = [
         least: 1,
         most: 1_000_000,
         default: "4000",
-        help: "How many ticks, from 1 to 1000000; at every eighth a node's timer runs out and its client sends; a tick takes 2 to 10 KB of memory, and up to 100 where nodes gather",
+        help: "How many ticks, from 1 to 1000000; at every eighth a node's timer runs out and its client sends; a run that could need more memory than there is, 4 KB for each tick and node, does not begin",
     },
     NumberOption {
         name: "seed",
@@ -105,6 +105,13 @@ impl NumberOption {
     }
 }
 
+fn quiet_option<'a>(alloc: Global) -> Arg<'a> {
+    Arg::new(alloc, "quiet")
+        .long("quiet")
+        .action(ArgAction::SetTrue)
+        .help("Shows no line on a terminal that tells how far the run is")
+}
+
 /// Returns the command that runs nodes in threads.
 pub fn run_command<'a>(alloc: Global) -> Result<Command<'a>, AllocError> {
     let mut command = Command::new(alloc, "run")
@@ -113,7 +120,7 @@ pub fn run_command<'a>(alloc: Global) -> Result<Command<'a>, AllocError> {
     for option in &OPTIONS {
         command = command.arg(option.arg(alloc))?;
     }
-    Ok(command)
+    command.arg(quiet_option(alloc))
 }
 
 /// Returns the numbers that the words of a run give.

@@ -3,17 +3,18 @@ ghost use Rattle.std.specs.Prelude.{◌≡◌, []};
 ghost use Rattle.clap.specs.Values.{kind_of};
 ghost use Rattle.totem_ids.specs.Sources.{seen};
 ghost use Rattle.totem_ids.specs.Writing.{held};
-ghost use Rattle.totem_cluster.specs.Endings.{Ends, Explains, Shows, Plays, bare};
+ghost use Rattle.totem_cluster.specs.Endings.{Answers, Ends, Points, Shows, Plays, bare};
 
 use crate::auditing::audit_io;
 use crate::checking::check_io;
+use crate::drawing::draw_io;
 use crate::explaining::explain_io;
 use crate::io_fault::IoFault;
-use crate::recording::run_io;
+use crate::recording::run_io_with_progress;
 use crate::report::write_text;
 use crate::run_words::RunWords;
 use crate::simulating::sim_io;
-use crate::telling::{tell, tell_fault};
+use crate::telling::{tell, tell_fault, tell_with_words};
 use crate::words::{Words, read_words};
 use clap::Error;
 use clap::error::ErrorKind;
@@ -22,7 +23,9 @@ use std::sync::Wait;
 use std::thread::Threads;
 use totem_audit::Workers;
 use totem_evs::WriteFault;
+use totem_explain::explain_refusal;
 use totem_ids::{Sink, Source};
+use totem_net::{Progress, Unwatched};
 
 /// Returns the text for the person who typed the words.
 fn text_of(alloc: Global, error: &Error) -> Result<String, AllocError> {
@@ -45,8 +48,8 @@ fn show<W: Sink, E: Sink>(alloc: Global, text: &[u8], output: &mut W, errors: &m
 }
 
 /// Answers words that ask for help or the version, or for nothing that there is, and returns the status.
-fn explain<W: Sink, E: Sink>(alloc: Global, error: &Error, output: &mut W, errors: &mut E) -> u8
-    ensures { Explains (kind_of error.now)
+fn answer<W: Sink, E: Sink>(alloc: Global, error: &Error, output: &mut W, errors: &mut E) -> u8
+    ensures { Answers (kind_of error.now)
         (held W.contents W.failures [] output.old) (held W.contents W.failures [] output.new)
         (bare E.contents E.failures errors.old) (bare E.contents E.failures errors.new) result }
 {
@@ -77,12 +80,13 @@ For more information, try '--help'.
 ";
 
 /// Runs nodes in threads if the numbers fit together, and returns the status.
-fn play<T: Threads + Wait + Sync, W: Sink, E: Sink>(
+fn play<T: Threads + Wait + Sync, W: Sink, E: Sink, P: Progress>(
     rt: &T,
     alloc: Global,
     words: &RunWords,
     output: &mut W,
     errors: &mut E,
+    progress: &mut P,
 ) -> u8
     ensures { Plays (held W.contents W.failures [] output.old) (held W.contents W.failures [] output.new)
         (bare E.contents E.failures errors.old) (bare E.contents E.failures errors.new) result }
@@ -91,9 +95,27 @@ fn play<T: Threads + Wait + Sync, W: Sink, E: Sink>(
         tell(errors, UNFIT.as_bytes());
         return 64;
     };
-    match run_io(rt, alloc, plan, output) {
+    match run_io_with_progress(rt, alloc, plan, output, progress) {
         Ok(outcome) => outcome.status(),
         Err(fault) => tell_fault(errors, &fault),
+    }
+}
+
+/// Returns what a person is told of a fault behind its line.
+fn words_of<R: Source>(alloc: Global, fault: &IoFault, input: &R) -> Result<String, AllocError> {
+    match fault {
+        IoFault::Run(fault) => explain_refusal(alloc, fault, input.text_place()),
+        _ => Ok(String::new(alloc)),
+    }
+}
+
+/// Tells why a run can't be explained, and where in its text the fault is. Returns the status.
+fn point<R: Source, E: Sink>(alloc: Global, fault: &IoFault, input: &R, errors: &mut E) -> u8
+    ensures { Points fault.now (bare E.contents E.failures errors.old) (bare E.contents E.failures errors.new) result }
+{
+    match words_of(alloc, fault, input) {
+        Ok(words) => tell_with_words(errors, fault, words.as_str()),
+        Err(_) => tell_fault(errors, &IoFault::Memory),
     }
 }
 
@@ -110,8 +132,25 @@ pub fn program<T: Threads + Wait + Sync, R: Source, W: Sink, E: Sink>(
         (held W.contents W.failures [] output.old) (held W.contents W.failures [] output.new)
         (bare E.contents E.failures errors.old) (bare E.contents E.failures errors.new) result }
 {
+    program_with_progress(rt, alloc, words, input, output, errors, &mut Unwatched)
+}
+
+/// Does as `program` does, and tells how far a run in threads is, unless the words ask for quiet.
+pub fn program_with_progress<T: Threads + Wait + Sync, R: Source, W: Sink, E: Sink, P: Progress>(
+    rt: &T,
+    alloc: Global,
+    words: &[String],
+    input: &mut R,
+    output: &mut W,
+    errors: &mut E,
+    progress: &mut P,
+) -> u8
+    ensures { Ends (seen R.remaining R.failures input.old) (seen R.remaining R.failures input.new)
+        (held W.contents W.failures [] output.old) (held W.contents W.failures [] output.new)
+        (bare E.contents E.failures errors.old) (bare E.contents E.failures errors.new) result }
+{
     match read_words(alloc, words) {
-        Err(error) => explain(alloc, &error, output, errors),
+        Err(error) => answer(alloc, &error, output, errors),
         Ok(Words::Check) => match check_io(alloc, input, output) {
             Ok(outcome) => outcome.status(),
             Err(fault) => tell_fault(errors, &fault),
@@ -120,13 +159,18 @@ pub fn program<T: Threads + Wait + Sync, R: Source, W: Sink, E: Sink>(
             Ok(outcome) => outcome.status(),
             Err(fault) => tell_fault(errors, &fault),
         },
-        Ok(Words::Run(words)) => play(rt, alloc, &words, output, errors),
+        Ok(Words::Run(words)) => play(rt, alloc, &words, output, errors, progress),
+        Ok(Words::RunQuietly(words)) => { play(rt, alloc, &words, output, errors, &mut Unwatched) }
         Ok(Words::Explain { workers }) => {
             match explain_io(rt, alloc, input, output, as_many(workers)) {
                 Ok(outcome) => outcome.status(),
-                Err(fault) => tell_fault(errors, &fault),
+                Err(fault) => point(alloc, &fault, input, errors),
             }
         }
+        Ok(Words::Draw { workers }) => match draw_io(rt, alloc, input, output, as_many(workers)) {
+            Ok(outcome) => outcome.status(),
+            Err(fault) => point(alloc, &fault, input, errors),
+        },
         Ok(Words::Audit { workers }) => match audit_io(rt, alloc, input, output, as_many(workers)) {
             Ok(outcome) => outcome.status(),
             Err(fault) => tell_fault(errors, &fault),

@@ -1,5 +1,5 @@
 //! What the program tells on its stream of errors. Telling takes no memory, and passes over a failure of that stream.
-ghost use Rattle.std.specs.Prelude.{◌≡◌, decimal};
+ghost use Rattle.std.specs.Prelude.{◌≡◌, ◌++◌, decimal};
 ghost use Rattle.totem_ids.specs.Writing.{Writes};
 ghost use Rattle.totem_cluster.specs.declared.io_fault.IoFault.TheVariants.{Book};
 ghost use Rattle.totem_cluster.specs.Endings.{Tells, bare, refusal_text, process_text, run_line, cert_line, script_line, fault_line, script_status, fault_status};
@@ -128,6 +128,16 @@ fn put_fault<E: Sink>(errors: &mut E, fault: &IoFault) -> Result<(), Failed>
     }
 }
 
+/// Writes the line of a fault, and words behind it.
+#[tactic(auto, using(totem_ids::proofs::Writers::wrote_then, totem_ids::proofs::Writers::wrote_failed))]
+fn put_with_words<E: Sink>(errors: &mut E, fault: &IoFault, words: &str) -> Result<(), Failed>
+    ensures { Writes (bare E.contents E.failures errors.old) (bare E.contents E.failures errors.new) result
+        (fault_line fault.now ++ words.now) }
+{
+    put_fault(errors, fault)?;
+    put_text(errors, words)
+}
+
 /// Returns the status of a script's fault.
 fn script_status(kind: ScriptFaultKind) -> u8
     ensures { result ≡ script_status kind }
@@ -151,6 +161,21 @@ pub fn tell_fault<E: Sink>(errors: &mut E, fault: &IoFault) -> u8
     ensures status { result ≡ fault_status fault.now }
 {
     let _ = put_fault(errors, fault);
+    status_of(fault)
+}
+
+/// Tells a fault with words behind its line, and returns its status.
+pub fn tell_with_words<E: Sink>(errors: &mut E, fault: &IoFault, words: &str) -> u8
+    ensures line { Tells (bare E.contents E.failures errors.old) (bare E.contents E.failures errors.new) (fault_line fault.now ++ words.now) }
+    ensures status { result ≡ fault_status fault.now }
+{
+    let _ = put_with_words(errors, fault, words);
+    status_of(fault)
+}
+
+fn status_of(fault: &IoFault) -> u8
+    ensures { result ≡ fault_status fault.now }
+{
     match fault {
         IoFault::Run(RunFault::Read) | IoFault::Cert(CertFault::Read) => 4,
         IoFault::Script(fault) => script_status(fault.kind),

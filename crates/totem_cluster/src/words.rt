@@ -1,7 +1,7 @@
 //! The words of a command line.
 use crate::run_words::{RunWords, run_command, run_words};
 use clap::builder::ValueParser;
-use clap::{Arg, ArgMatches, Command, Error};
+use clap::{Arg, ArgAction, ArgMatches, Command, Error};
 use std::alloc::{AllocError, Global};
 
 /// What the words of a command line ask for.
@@ -11,12 +11,16 @@ pub enum Words {
     Audit { workers: u32 },
     /// The same audit, told in words, by 1 to 64 workers.
     Explain { workers: u32 },
+    /// The same audit, drawn as a picture, by 1 to 64 workers.
+    Draw { workers: u32 },
     /// The check of a run and its certificate.
     Check,
     /// The run that the script on the standard input makes.
     Sim,
     /// The run that nodes in threads record.
     Run(RunWords),
+    /// The same, and nobody is told how far it is.
+    RunQuietly(RunWords),
 }
 
 const ENDINGS: &str = "\
@@ -46,13 +50,32 @@ fn audit_command<'a>(alloc: Global) -> Result<Command<'a>, AllocError> {
         .arg(workers_option(alloc))
 }
 
+fn svg_option<'a>(alloc: Global) -> Arg<'a> {
+    Arg::new(alloc, "svg")
+        .long("svg")
+        .action(ArgAction::SetTrue)
+        .help(
+            "Draws a picture in SVG: the run around its first fault, or a run that meets the specifications",
+        )
+}
+
 fn explain_command<'a>(alloc: Global) -> Result<Command<'a>, AllocError> {
     Command::new(alloc, "explain")
         .about(
-            "Judges the run on the standard input, and tells in words what is broken, by what, and where",
+            "Judges the run on the standard input, and tells in words what is broken, by what, and where; or where its text is refused",
         )
         .after_help(EXPLAIN_EXAMPLE)
-        .arg(workers_option(alloc))
+        .arg(workers_option(alloc))?
+        .arg(svg_option(alloc))
+}
+
+/// Returns what the words behind `explain` ask for.
+fn explain_words(matches: &ArgMatches<'_>) -> Words {
+    let workers = workers_of(matches);
+    if matches.get_flag("svg") {
+        return Words::Draw { workers };
+    }
+    Words::Explain { workers }
 }
 
 /// Returns how many workers the words of an audit or an explanation ask for.
@@ -74,7 +97,7 @@ fn sim_command<'a>(alloc: Global) -> Command<'a> {
 
 fn command<'a>(alloc: Global) -> Result<Command<'a>, AllocError> {
     Command::new(alloc, "totem")
-        .version("0.1.0")
+        .version("0.2.0")
         .about("Audits the logs of a process group: what was sent, delivered and installed")
         .after_help(ENDINGS)
         .subcommand_required(true)
@@ -91,10 +114,9 @@ pub fn read_words(alloc: Global, words: &[String]) -> Result<Words, Error> {
     Ok(match matches.subcommand() {
         Some(("check", _)) => Words::Check,
         Some(("sim", _)) => Words::Sim,
+        Some(("run", run)) if run.get_flag("quiet") => Words::RunQuietly(run_words(run)),
         Some(("run", run)) => Words::Run(run_words(run)),
-        Some(("explain", explain)) => Words::Explain {
-            workers: workers_of(explain),
-        },
+        Some(("explain", explain)) => explain_words(explain),
         Some((_, audit)) => Words::Audit {
             workers: workers_of(audit),
         },

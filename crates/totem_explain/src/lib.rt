@@ -9,10 +9,13 @@ mod fate;
 mod lookup;
 mod no;
 mod reason;
+mod refusal;
 mod rule;
 mod yes;
 
 pub use event::{event_of, line_of};
+pub use lookup::entry_at;
 pub use no::{Explained, ExplainedNo, explain_no};
+pub use refusal::explain_refusal;
 pub use rule::rule_of;
 pub use yes::explain_yes;

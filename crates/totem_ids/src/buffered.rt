@@ -3,12 +3,14 @@ ghost use Rattle.std.specs.Prelude.{◌≡◌, ◌<◌, ◌≤◌, length, IfOk}
 
 use crate::retry::read_retrying;
 use crate::source::{Failed, Source};
+use crate::text_place::{FRONT, Passed, TextPlace, keep_front, place_of};
 use std::alloc::{AllocError, Global};
 use std::io::Read;
 
 const SIZE: usize = 65536;
 
-/// A source that reads from a reader through a buffer of 64 KiB. It tries a read again if a signal interrupts it.
+/// A source that reads from a reader through a buffer of 64 KiB. It tries a read again if a signal interrupts it, and knows where
+/// it is in the text.
 #[derive(Drop)]
 pub struct Buffered<R> {
     inner: R,
@@ -16,6 +18,8 @@ pub struct Buffered<R> {
     at: usize,
     filled: usize,
     failed: u64,
+    passed: Passed,
+    front: Vec<u8>,
     ghost within: { at ≤ filled },
     ghost room: { filled ≤ length buffer.items },
     ghost some: { 0 < length buffer.items },
@@ -31,12 +35,15 @@ impl<R: Read + Drop> Buffered<R> {
     {
         let mut buffer = Vec::new(alloc);
         buffer.resize(SIZE, 0u8)?;
+        let front = Vec::with_capacity(alloc, 2 * FRONT)?;
         Ok(Buffered {
             inner,
             buffer,
             at: 0,
             filled: 0,
             failed: 0,
+            passed: Passed::nothing(),
+            front,
         })
     }
 }
@@ -50,12 +57,14 @@ impl<R: Read> Source for Buffered<R> {
 
     fn byte(&mut self) -> Result<Option<u8>, Failed> {
         if self.at == self.filled {
+            let given = &self.buffer[..self.filled];
+            self.passed = self.passed.and(given);
+            keep_front(&mut self.front, given);
+            self.at = 0;
+            self.filled = 0;
             match read_retrying(&mut self.inner, self.buffer.as_mut_slice()) {
                 Ok(0) => return Ok(None),
-                Ok(count) => {
-                    self.filled = count;
-                    self.at = 0;
-                }
+                Ok(count) => self.filled = count,
                 Err(_) => {
                     self.failed = self.failed.wrapping_add(1);
                     return Err(Failed);
@@ -65,5 +74,11 @@ impl<R: Read> Source for Buffered<R> {
         let first = self.buffer[self.at];
         self.at += 1;
         Ok(Some(first))
+    }
+
+    fn text_place(&self) -> Option<TextPlace<'_>> {
+        let given = &self.buffer[..self.at];
+        let rest = &self.buffer[self.at..self.filled];
+        Some(place_of(self.passed, &self.front, given, rest))
     }
 }

@@ -17,6 +17,7 @@ mod retry;
 mod ring;
 mod sink;
 mod source;
+mod text_place;
 mod writing;
 
 pub use buffered::Buffered;
@@ -37,3 +38,4 @@ pub use reading::{next, number, number_to, read_proc, word};
 pub use ring::RingId;
 pub use sink::{Sink, ToWrite};
 pub use source::{Failed, FromRead, Source};
+pub use text_place::TextPlace;

@@ -5,6 +5,7 @@ ghost use Rattle.std.specs.Io.KnownBytes.{Keeps};
 ghost use Rattle.totem_ids.specs.Streams.{Gives, failed_once};
 
 use crate::retry::read_retrying;
+use crate::text_place::TextPlace;
 use std::io::Read;
 use thiserror::Error;
 
@@ -26,6 +27,11 @@ pub trait Source {
         ensures byte { IfOk result (λ b. Gives (remaining self.old) (remaining self.new) b) }
         ensures err { OnErr result (Keeps (remaining self.old) (remaining self.new)) }
         ensures failures { failures self.new ≡ failed_once result (failures self.old) };
+
+    /// Returns where the byte stands that was asked for last, or `None` if the source does not know.
+    fn text_place(&self) -> Option<TextPlace<'_>> {
+        None
+    }
 }
 
 /// A source that reads from a reader, one byte at a time. It tries a read again if a signal interrupts it.

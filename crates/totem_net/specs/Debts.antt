@@ -1,19 +1,26 @@
 -- What a node has still to deal with of the words that it was given (docs/PROTOCOL.md, "The network").
-use Rattle.std.specs.Prelude.{ℕ, ◌+◌, ◌-◌, ◌^◌, min}
+use Rattle.std.specs.Prelude.{ℕ, Bool, ◌+◌, ◌-◌, ◌^◌, min, if◌then◌else◌}
 use Rattle.totem_net.specs.declared.debt.Debt.{Debt}
-use Rattle.totem_net.specs.declared.debt.Debt.TheVariants.{Words, Gone}
 
--- for how many words a tick waits
-abbrev pub left_of : Debt → ℕ
-left_of (Words left) = left
-left_of Gone = 0
+-- nothing
+abbrev pub no_words : Debt
+no_words = record { words = 0; of_turn = 0 }
 
--- it has dealt with one more
-abbrev pub one_less : Debt → Debt
-one_less (Words left) = Words (left - 1)
-one_less Gone = Gone
+-- so many more; a count of words is below 2 ^ 64
+abbrev pub more : ℕ → ℕ → ℕ
+more count added = min (count + added) (2 ^ 64 - 1)
 
--- it is given so many more; a count of words is below 2 ^ 64
-abbrev pub given_more : Debt → ℕ → Debt
-given_more (Words left) more = Words (min (left + more) (2 ^ 64 - 1))
-given_more Gone more = Gone
+-- it is handed a packet
+abbrev pub with_packet : Debt → Debt
+with_packet debt = record debt { words = more debt.words 1 }
+
+-- it is given the two words of a turn
+abbrev pub with_turn : Debt → Debt
+with_turn debt = record { words = more debt.words 2; of_turn = more debt.of_turn 2 }
+
+-- it has dealt with one word, which may be one of a turn
+abbrev pub one_less : Debt → Bool → Debt
+one_less debt of_turn = record {
+  words = debt.words - 1;
+  of_turn = debt.of_turn - (if of_turn then 1 else 0);
+}

@@ -9,3 +9,4 @@ pub mod Ways
 pub mod Settling
 pub mod Turns
 pub mod Debts
+pub mod Logged

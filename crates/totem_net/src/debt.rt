@@ -1,43 +1,54 @@
 //! What a node still has to deal with.
 ghost use Rattle.std.specs.Prelude.{◌≡◌};
-ghost use Rattle.totem_net.specs.Debts.{left_of, given_more, one_less};
+ghost use Rattle.totem_net.specs.Debts.{no_words, with_packet, with_turn, one_less};
 
-/// How many of the words that a node was given it still has to deal with.
+/// The words that a node was given and still has to deal with.
 #[derive(Clone, Copy, Debug, PartialEq, Eq)]
-pub enum Debt {
-    Words(u64),
-    /// The node takes no more words, and nobody waits for it.
-    Gone,
+pub struct Debt {
+    /// How many there are.
+    pub words: u64,
+    /// How many of them are words of its turns.
+    pub of_turn: u64,
 }
 
 impl Debt {
-    /// Returns how many words there are to wait for.
-    pub fn left(&self) -> u64
-        ensures { result ≡ left_of self.now }
+    /// Returns the debt of a node that was given nothing.
+    pub fn new() -> Debt
+        ensures { result ≡ no_words }
     {
-        match self {
-            Debt::Words(left) => *left,
-            Debt::Gone => 0,
+        Debt {
+            words: 0,
+            of_turn: 0,
         }
     }
 
-    /// Returns the debt of a node that is given so many words more.
-    pub fn given(&self, words: u64) -> Debt
-        ensures { result ≡ given_more self.now words }
+    /// Returns the debt of a node that is handed one packet more.
+    pub fn with_packet(self) -> Debt
+        ensures { result ≡ with_packet self }
     {
-        match self {
-            Debt::Words(left) => Debt::Words(left.saturating_add(words)),
-            Debt::Gone => Debt::Gone,
+        Debt {
+            words: self.words.saturating_add(1),
+            of_turn: self.of_turn,
         }
     }
 
-    /// Returns the debt of a node that has dealt with one word.
-    pub fn done(&self) -> Debt
-        ensures { result ≡ one_less self.now }
+    /// Returns the debt of a node that is given the two words of its turn.
+    pub fn with_turn(self) -> Debt
+        ensures { result ≡ with_turn self }
     {
-        match self {
-            Debt::Words(left) => Debt::Words(left.saturating_sub(1)),
-            Debt::Gone => Debt::Gone,
+        Debt {
+            words: self.words.saturating_add(2),
+            of_turn: self.of_turn.saturating_add(2),
+        }
+    }
+
+    /// Returns the debt of a node that has dealt with one word, of its turn or a packet.
+    pub fn less_one(self, of_turn: bool) -> Debt
+        ensures { result ≡ one_less self of_turn }
+    {
+        Debt {
+            words: self.words.saturating_sub(1),
+            of_turn: self.of_turn.saturating_sub(u64::from(of_turn)),
         }
     }
 }

@@ -1,6 +1,7 @@
 //! What the three threads of a node hold of the network.
 use crate::address::Address;
-use crate::sending::{give, insist};
+use crate::progress::Logged;
+use crate::sending::give;
 use crate::words::{ClientWord, Inbound, PacketWord, TimerWord};
 use bytes::Bytes;
 use crossbeam_channel::{Receiver, Sender};
@@ -53,18 +54,20 @@ impl Outlet {
         give(rt, &self.inbound, Inbound::Packet { address, packet })
     }
 
-    /// Tells the switch that a word has been dealt with. The thread sends what came of the word before it tells.
-    pub fn tell_done<R: Wait>(&self, rt: &R) {
+    /// Tells the switch that a word has been dealt with, and what the node has logged at it. The thread sends what came of
+    /// the word before it tells.
+    pub fn tell_done<R: Wait>(&self, rt: &R, logged: Logged) -> Result<(), AllocError> {
         let done = Inbound::Done {
             node: self.node,
             of_turn: self.of_turn,
+            logged,
         };
-        insist(rt, &self.inbound, done);
+        give(rt, &self.inbound, done)
     }
 
-    /// Tells the switch that a thread of this node takes no more words. From then on no tick waits for this node.
+    /// Tells the switch that a thread of this node has ended at a fault, at which the switch ends the run. Asks for no memory.
     pub fn tell_gone<R: Wait>(&self, rt: &R) {
-        insist(rt, &self.inbound, Inbound::Gone(self.node));
+        let _ = give(rt, &self.inbound, Inbound::Gone);
     }
 }
 

@@ -6,13 +6,18 @@ use crate::ends::NodeEnds;
 use crate::fates::Fates;
 use crate::pacer::Pacer;
 use crate::port::Port;
+use crate::progress::Logged;
 use crate::switch::Switch;
 use crate::turns::Turns;
 use crate::ways::Ways;
 use bytes::Bytes;
-use crossbeam_channel::unbounded;
+use crossbeam_channel::bounded;
 use std::alloc::{AllocError, Global};
 use totem_ids::ProcId;
+
+/// How many words the switch's inbound channel has room for. Their memory is there from the beginning, so a thread that has
+/// something to tell the switch never lacks it; where the channel is full it waits, which the switch never does.
+const INBOUND: usize = 1024;
 
 /// What the threads of a run hold: that of the switch, the pacing one, and three for each node.
 #[derive(Drop)]
@@ -37,8 +42,8 @@ impl Network {
         requires { 0 < nodes }
         ensures { IfOk result (λ network. map (λ ends. ends.node) network.nodes.items ≡ node_numbers nodes) }
     {
-        let (to_switch, inbound) = unbounded(alloc)?;
-        let (paces, answers) = unbounded(alloc)?;
+        let (to_switch, inbound) = bounded(alloc, INBOUND)?;
+        let (paces, answers) = bounded(alloc, 1)?;
         let mut ports = Vec::new(alloc);
         let mut ends = Vec::new(alloc);
         'nodes: for number in 0..nodes {
@@ -56,6 +61,7 @@ impl Network {
                 in_pace: false,
                 asked: false,
                 awaited: 0,
+                logged: Logged::nothing(),
                 first,
             },
             pacer: Pacer::new(to_switch, answers),

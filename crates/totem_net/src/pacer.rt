@@ -1,5 +1,4 @@
 //! The pacing thread, which sends the ticks.
-use crate::sending::insist;
 use crate::words::{Inbound, Pace};
 use crossbeam_channel::{Receiver, Sender};
 use std::sync::Wait;
@@ -16,11 +15,11 @@ impl Pacer {
         Pacer { inbound, paces }
     }
 
-    /// Sends a tick and waits for its answer before the next, until the ticks are used up or the switch is gone. A tick
-    /// that finds no memory is sent again, since without ticks the switch would wait for ever.
+    /// Sends a tick and waits for its answer before the next, until the ticks are used up or the switch is gone. No tick
+    /// asks for memory.
     pub fn run<R: Wait>(self, rt: &R) {
         for _ in rt.forever() {
-            if !insist(rt, &self.inbound, Inbound::Tick) {
+            if self.inbound.send(rt, Inbound::Tick).is_err() {
                 return;
             }
             if !matches!(self.paces.recv(rt), Ok(Pace::On)) {

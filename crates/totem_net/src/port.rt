@@ -11,15 +11,13 @@ use std::alloc::{AllocError, Global};
 use std::sync::Wait;
 use totem_ids::{ProcId, Service};
 
-/// The channels to a node's threads, and how many of the words that it was given the node still has to deal with.
+/// The channels to a node's threads, and the words that it was given and still has to deal with.
 #[derive(Drop)]
 pub struct Port {
     packets: Sender<PacketWord>,
     timer: Sender<TimerWord>,
     client: Sender<ClientWord>,
     debt: Debt,
-    /// How many of those are words of its turns.
-    turn: Debt,
 }
 
 impl Port {
@@ -53,48 +51,37 @@ impl Port {
             packets,
             timer,
             client,
-            debt: Debt::Words(0),
-            turn: Debt::Words(0),
+            debt: Debt::new(),
         };
         Ok((port, ends))
     }
 
     /// Hands a packet on to the receiving thread.
     pub fn hand_on<R: Wait>(&mut self, rt: &R, packet: Bytes) -> Result<(), AllocError> {
-        self.debt = self.debt.given(1);
+        self.debt = self.debt.with_packet();
         give(rt, &self.packets, PacketWord::Packet(packet))
     }
 
     /// Gives the node its turn: a word for its timer thread, and one for its client thread.
     pub fn take_turn<R: Wait>(&mut self, rt: &R, service: Service) -> Result<(), AllocError> {
-        self.debt = self.debt.given(2);
-        self.turn = self.turn.given(2);
+        self.debt = self.debt.with_turn();
         give(rt, &self.timer, TimerWord::Timer)?;
         give(rt, &self.client, ClientWord::Submit(service))
     }
 
     /// Returns how many words there are to wait for.
     pub fn left(&self) -> u64 {
-        self.debt.left()
+        self.debt.words
     }
 
     /// Returns whether words of a turn are among them.
     pub fn has_turn(&self) -> bool {
-        self.turn.left() > 0
+        self.debt.of_turn > 0
     }
 
     /// Notes that the node has dealt with one word.
     pub fn done(&mut self, of_turn: bool) {
-        self.debt = self.debt.done();
-        if of_turn {
-            self.turn = self.turn.done();
-        }
-    }
-
-    /// Notes that the node takes no more words.
-    pub fn gone(&mut self) {
-        self.debt = Debt::Gone;
-        self.turn = Debt::Gone;
+        self.debt = self.debt.less_one(of_turn);
     }
 
     /// Gives each thread a stop word. A thread that can't be sent one, for want of memory, sees its channel end.

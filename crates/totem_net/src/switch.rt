@@ -2,6 +2,7 @@
 use crate::address::Address;
 use crate::delivery::Delivery;
 use crate::port::Port;
+use crate::progress::{Logged, Progress, Unwatched};
 use crate::sending::give;
 use crate::turn::Turn;
 use crate::turns::Turns;
@@ -29,6 +30,8 @@ pub struct Switch {
     pub(crate) asked: bool,
     /// How many words the nodes have to deal with before the next tick comes.
     pub(crate) awaited: u64,
+    /// What the nodes have logged so far.
+    pub(crate) logged: Logged,
     /// The packet that is handed on before anything else, to the first node.
     pub(crate) first: Bytes,
 }
@@ -37,29 +40,45 @@ pub struct Switch {
 const ROOM: u64 = 64;
 
 impl Switch {
-    /// Hands packets on and gives words, until the ticks are used up or nobody sends any more; then gives each thread a
-    /// stop word. Answers each tick at once. If memory is refused it stops the threads at once.
+    /// Hands packets on and gives words, until the ticks are used up, a node ends at a fault, or nobody sends any more; then
+    /// gives each thread a stop word. Answers each tick at once. If memory is refused it stops the threads at once.
     pub fn run<R: Wait>(self, rt: &R, alloc: Global) -> Result<(), AllocError> {
-        self.run_to_end(rt, alloc)
+        self.run_to_end(rt, alloc, &mut Unwatched)
     }
 
     /// Does the same in pace with the nodes (docs/PROTOCOL.md, "The network"). A tick comes once they have dealt with as many words
     /// as they had left at the tick before, though with no more than there are nodes, and with all words of a turn. Each thread of
-    /// a node has to tell of each word that it has dealt with, and that its node is gone if it ends before its stop word.
-    pub fn run_in_pace<R: Wait>(mut self, rt: &R, alloc: Global) -> Result<(), AllocError> {
+    /// a node has to tell of each word that it has dealt with, and that its node is gone if it ends at a fault. At each tick it
+    /// tells how far the run is.
+    pub fn run_in_pace<R: Wait, P: Progress>(
+        mut self,
+        rt: &R,
+        alloc: Global,
+        progress: &mut P,
+    ) -> Result<(), AllocError> {
         self.in_pace = true;
-        self.run_to_end(rt, alloc)
+        self.run_to_end(rt, alloc, progress)
     }
 
-    fn run_to_end<R: Wait>(mut self, rt: &R, alloc: Global) -> Result<(), AllocError> {
-        let ended = self.serve(rt, alloc);
+    fn run_to_end<R: Wait, P: Progress>(
+        mut self,
+        rt: &R,
+        alloc: Global,
+        progress: &mut P,
+    ) -> Result<(), AllocError> {
+        let ended = self.serve(rt, alloc, progress);
         for port in self.ports {
             port.stop(rt);
         }
         ended
     }
 
-    fn serve<R: Wait>(&mut self, rt: &R, alloc: Global) -> Result<(), AllocError> {
+    fn serve<R: Wait, P: Progress>(
+        &mut self,
+        rt: &R,
+        alloc: Global,
+        progress: &mut P,
+    ) -> Result<(), AllocError> {
         self.begin(rt)?;
         for _ in rt.forever() {
             if self.turns.are_over() {
@@ -68,22 +87,30 @@ impl Switch {
             let Ok(word) = self.inbound.recv(rt) else {
                 break;
             };
-            self.take(rt, alloc, &word)?;
+            if !self.take(rt, alloc, &word)? {
+                break;
+            }
             if self.is_due() {
                 self.tick(rt)?;
+                progress.ticked(self.turns.passed(), self.turns.ticks(), self.logged);
             }
         }
         Ok(())
     }
 
-    fn take<R: Wait>(&mut self, rt: &R, alloc: Global, word: &Inbound) -> Result<(), AllocError> {
+    /// Deals with a word. Returns whether the run goes on.
+    fn take<R: Wait>(&mut self, rt: &R, alloc: Global, word: &Inbound) -> Result<bool, AllocError> {
         match word {
             Inbound::Packet { address, packet } => self.carry(rt, alloc, address, packet)?,
             Inbound::Tick => self.asked = true,
-            Inbound::Done { node, of_turn } => self.note_done(*node, *of_turn),
-            Inbound::Gone(node) => self.note_gone(*node),
+            Inbound::Done {
+                node,
+                of_turn,
+                logged,
+            } => self.note_done(*node, *of_turn, *logged),
+            Inbound::Gone => return Ok(false),
         }
-        Ok(())
+        Ok(true)
     }
 
     /// Hands the first packet on, without a fate.
@@ -152,22 +179,13 @@ impl Switch {
         ports.fold(0u64, |left, port| left.saturating_add(port.left()))
     }
 
-    /// Notes that a node has dealt with a word. If the node is gone nothing changes, since nobody waited for that word.
-    fn note_done(&mut self, node: ProcId, of_turn: bool) {
-        let Some(port) = self.port(node) else {
-            return;
-        };
-        if port.left() > 0 {
-            port.done(of_turn);
-            self.awaited = self.awaited.saturating_sub(1);
-        }
-    }
-
-    fn note_gone(&mut self, node: ProcId) {
+    /// Notes that a node has dealt with a word, and what it has logged.
+    fn note_done(&mut self, node: ProcId, of_turn: bool, logged: Logged) {
         if let Some(port) = self.port(node) {
-            port.gone();
+            port.done(of_turn);
         }
-        self.awaited = self.awaited.min(self.left());
+        self.awaited = self.awaited.saturating_sub(1);
+        self.logged = self.logged.and(logged);
     }
 
     /// Answers the pacing thread, if that waits for an answer.

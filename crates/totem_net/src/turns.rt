@@ -50,6 +50,20 @@ impl Turns {
         self.passed == self.ticks
     }
 
+    /// Returns how many ticks have passed.
+    pub fn passed(&self) -> u32
+        ensures { result ≡ self.now.passed }
+    {
+        self.passed
+    }
+
+    /// Returns how many ticks there are.
+    pub fn ticks(&self) -> u32
+        ensures { result ≡ self.now.ticks }
+    {
+        self.ticks
+    }
+
     fn nth(&self, n: u32) -> Turn
         ensures { result ≡ nth_turn self.now.nodes n }
     {

@@ -1,5 +1,6 @@
 //! What goes over the channels of a run in threads.
 use crate::address::Address;
+use crate::progress::Logged;
 use bytes::Bytes;
 use totem_ids::{ProcId, Service};
 
@@ -7,13 +8,20 @@ use totem_ids::{ProcId, Service};
 #[derive(Debug, Drop)]
 pub enum Inbound {
     /// An encoded packet that a node sends.
-    Packet { address: Address, packet: Bytes },
+    Packet {
+        address: Address,
+        packet: Bytes,
+    },
     /// A tick of the pacing thread, which the switch answers by a `Pace`.
     Tick,
-    /// This node has dealt with a word, of its turn or a packet, and has sent what came of it before.
-    Done { node: ProcId, of_turn: bool },
-    /// This node takes no more words, at least of one kind.
-    Gone(ProcId),
+    /// This node has dealt with a word, of its turn or a packet, and has sent what came of it before. This it has logged.
+    Done {
+        node: ProcId,
+        of_turn: bool,
+        logged: Logged,
+    },
+    /// A thread of a node has ended at a fault, so there will be no run.
+    Gone,
 }
 
 /// How the switch answers a tick.

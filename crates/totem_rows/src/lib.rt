@@ -6,6 +6,8 @@ mod agreements;
 #[cfg(test)]
 mod certificates;
 #[cfg(test)]
+mod progress;
+#[cfg(test)]
 mod refusals;
 #[cfg(test)]
 mod simulations;

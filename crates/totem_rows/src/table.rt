@@ -5,7 +5,7 @@ use std::sync::Wait;
 use std::test::Fail;
 use std::thread::Threads;
 use totem_cluster::program;
-use totem_ids::{FromRead, ToWrite};
+use totem_ids::{Buffered, ToWrite};
 
 /// What the program is run on, and what it has to answer. In texts `;` stands for a line end, and spaces part the words.
 pub struct Row {
@@ -49,7 +49,7 @@ pub fn run<T: Threads + Wait + Sync>(
 ) -> Result<Answer, Fail> {
     let words = words(alloc, words_text)?;
     let text = lines(alloc, input_text)?;
-    let mut input = FromRead::new(text.as_bytes());
+    let mut input = Buffered::new(alloc, text.as_bytes())?;
     let mut output = ToWrite::new(Vec::new(alloc));
     let mut errors = ToWrite::new(Vec::new(alloc));
     let status = program(

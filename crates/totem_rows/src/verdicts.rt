@@ -1,8 +1,8 @@
 //! Reports of audits.
-use crate::table::{Row, run_rows};
+use crate::table::{Row, run, run_rows};
 use std::test::Fail;
 
-const VERDICTS: [Row; 10] = [
+const VERDICTS: [Row; 11] = [
     Row {
         name: "one message that both deliver",
         words: "audit",
@@ -83,9 +83,44 @@ const VERDICTS: [Row; 10] = [
         output: "Yes: the run meets specifications 1 to 7.;The run: logs 2, changes 2, sends 1, deliveries 2, failures 0.;Nothing is pending, and nobody waits.;",
         errors: "",
     },
+    Row {
+        name: "members that do not rise, in words",
+        words: "explain",
+        input: "totem-run 1;log 1;conf r4.1 2 1;open;end;",
+        status: 2,
+        output: "",
+        errors: "totem: run refused: 5 Members;line 3, column 14:;  conf r4.1 2 1;               ^;The member that ends here is not greater than the one before it. Members stand in rising order.;",
+    },
 ];
 
 #[test]
 fn reports_are_as_written(rt: HostRuntime) -> Result<(), Fail> {
     run_rows(&rt, rt.alloc(), VERDICTS.as_slice())
+}
+
+#[test]
+fn verdicts_are_drawn(rt: HostRuntime) -> Result<(), Fail> {
+    for (input, status, title) in [
+        (
+            "totem-run 1;log 1;conf r4.1 1;send r4.1 a 4.1#1;open;end;",
+            0,
+            "<title id='title'>Yes: the run meets specifications 1 to 7.</title>",
+        ),
+        (
+            "totem-run 1;log 1;conf r4.1 1;conf r4.1 1;open;end;",
+            1,
+            "<title id='title'>No: the run breaks specification 2.3, the first of 2 faults. It asks: ",
+        ),
+    ] {
+        let found = run(&rt, rt.alloc(), "explain --svg", input)?;
+        assert_eq!(rt; found.status, status, "status of {title}");
+        assert!(rt;
+            found.output.starts_with("<svg xmlns="),
+            "beginning of {title}"
+        );
+        assert!(rt; found.output.contains(title), "{title}");
+        assert!(rt; found.output.ends_with("</svg>\n"), "end of {title}");
+        assert_eq!(rt; found.errors.as_str(), "", "errors of {title}");
+    }
+    Ok(())
 }

@@ -29,7 +29,7 @@ fn help_that_was_asked_for_goes_to_the_output(rt: HostRuntime) -> Result<(), Fai
 fn the_version_is_told(rt: HostRuntime) -> Result<(), Fail> {
     let found = run(&rt, rt.alloc(), "--version", "")?;
     assert_eq!(rt; found.status, 0);
-    assert_eq!(rt; found.output.as_str(), "totem 0.1.0\n");
+    assert_eq!(rt; found.output.as_str(), "totem 0.2.0\n");
     assert_eq!(rt; found.errors.as_str(), "");
     Ok(())
 }
@@ -41,6 +41,8 @@ fn other_words_are_refused(rt: HostRuntime) -> Result<(), Fail> {
         "adit",
         "audit twice",
         "audit --fast",
+        "audit --svg",
+        "sim --quiet",
         "--audit",
         "AUDIT",
     ] {

@@ -11,7 +11,7 @@ use std::thread::Threads;
 use std::time::{Clock, Duration};
 use totem_books::{BookFault, Call, CloseFault, ClosedBook, Reply};
 use totem_ids::ProcId;
-use totem_net::{Plan, Quiet, Start};
+use totem_net::{Plan, Quiet, Start, Unwatched};
 use totem_node::Input;
 use totem_packets::Packet;
 use totem_ring::To;
@@ -146,7 +146,7 @@ fn found_in_run<S: Start, R: Threads + Wait + Sync>(
     let Some(plan) = plan else {
         return Err(Fail::from("no plan"));
     };
-    let (_, books) = run_nodes(rt, alloc, plan, start)?;
+    let (_, books) = run_nodes(rt, alloc, plan, start, &mut Unwatched)?;
     Ok(found_in(alloc, &books)?)
 }
 

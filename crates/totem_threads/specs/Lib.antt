@@ -1,4 +1,5 @@
 pub mod Words
+pub mod Logging
 pub mod Faults
 pub mod Starts
 pub mod Books

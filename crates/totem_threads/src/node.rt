@@ -123,7 +123,7 @@ fn run_to_end<S: Start, R: Threads + Wait + Sync>(
     keep_book::<Brand, S, R>(rt, alloc, Blank::new(3), &members, ends, outlet, start)
 }
 
-/// Runs one of so many nodes, and tells at its end that the node is gone.
+/// Runs one of so many nodes, and tells at a fault that the node is gone, which ends the run.
 pub fn run_node<S: Start, R: Threads + Wait + Sync>(
     rt: &R,
     alloc: Global,
@@ -139,6 +139,8 @@ pub fn run_node<S: Start, R: Threads + Wait + Sync>(
         return Err(ThreadsFault::Memory);
     };
     let ended = run_to_end(rt, alloc, nodes, ends, &outlet, start);
-    outlet.tell_gone(rt);
+    if ended.is_err() {
+        outlet.tell_gone(rt);
+    }
     ended
 }

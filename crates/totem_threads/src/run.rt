@@ -9,6 +9,7 @@ use crate::firsts::first_packet;
 use crate::logs::{all_replayed, run_of};
 use crate::node::run_node;
 use crate::plan::RunPlan;
+use crate::room::ask_for_room;
 use std::alloc::Global;
 use std::sync::Wait;
 use std::thread;
@@ -16,7 +17,7 @@ use std::thread::{Promise, PromisedHandle, Threads};
 use totem_books::ClosedBook;
 use totem_evs::Run;
 use totem_ids::ProcId;
-use totem_net::{Fates, Network, Start};
+use totem_net::{Fates, Network, Progress, Start};
 
 /// A promise of a thread: if it gives a book, that is the book of this node in a run of so many.
 #[derive(Clone, Copy)]
@@ -51,12 +52,13 @@ fn joined<R: Threads>(
 }
 
 /// Runs the nodes in threads of their own and the switch in this one, and returns the nodes' books.
-fn run_network<S: Start, R: Threads + Wait + Sync>(
+fn run_network<S: Start, R: Threads + Wait + Sync, P: Progress>(
     rt: &R,
     alloc: Global,
     count: u16,
     network: Network,
     start: &S,
+    progress: &mut P,
 ) -> Result<Vec<ClosedBook>, ThreadsFault>
     requires few { (0 < count) × (count ≤ 32) }
     requires nodes { map (λ ends. ends.node) network.nodes.items ≡ node_numbers count }
@@ -92,7 +94,7 @@ fn run_network<S: Start, R: Threads + Wait + Sync>(
             let Ok(pacing) = scope.spawn(move || pacer.run(rt)) else {
                 return Err(ThreadsFault::Memory);
             };
-            let served = switch.run_in_pace(rt, alloc);
+            let served = switch.run_in_pace(rt, alloc, progress);
             pacing.join(rt);
             let books = joined(rt, alloc, running)?;
             served?;
@@ -103,20 +105,22 @@ fn run_network<S: Start, R: Threads + Wait + Sync>(
 
 /// Runs so many nodes in threads, on ring 4.1, over a network that does what the plan says, until the ticks are used up
 /// (docs/PROTOCOL.md, "A run in threads"). Waits for all threads, and returns the run that the nodes recorded with
-/// their books in rising order. Which run comes out is open.
-pub fn run_nodes<S: Start, R: Threads + Wait + Sync>(
+/// their books in rising order. Which run comes out is open. The switch tells at each tick how far the run is.
+pub fn run_nodes<S: Start, R: Threads + Wait + Sync, P: Progress>(
     rt: &R,
     alloc: Global,
     plan: RunPlan,
     start: &S,
+    progress: &mut P,
 ) -> Result<(Run, Vec<ClosedBook>), ThreadsFault>
     requires { IsInRange plan }
     ensures { IfOk result (λ made. IsRunOf plan.nodes made.1.items made.0.logs) }
 {
     let fates = Fates::new(plan.seed, plan.plan);
+    ask_for_room(alloc, plan.nodes, plan.ticks)?;
     let first = first_packet(alloc)?;
     let network = Network::new(alloc, plan.nodes, plan.ticks, fates, first)?;
-    let books = run_network(rt, alloc, plan.nodes, network, start)?;
+    let books = run_network(rt, alloc, plan.nodes, network, start, progress)?;
     let run = run_of(alloc, plan.nodes, books.as_slice())?;
     all_replayed(&books);
     Ok((run, books))

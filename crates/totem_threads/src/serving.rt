@@ -1,15 +1,16 @@
 //! What each thread of a node does.
 use crate::ask_words::Word;
 use crate::asked::Asked;
+use crate::logged::logged_at;
 use crate::sending::send;
 use std::alloc::Global;
 use std::sync::Wait;
 use totem_books::{BookFault, BookName, Seat, SharedBook};
 use totem_ids::ProcId;
-use totem_net::{PacketWord, Start, ThreadEnd};
+use totem_net::{Logged, PacketWord, Start, ThreadEnd};
 
-/// Gives the node what each word asks, sends what it answers, and tells that the word has been dealt with, until a stop
-/// word comes or the switch is gone.
+/// Gives the node what each word asks, sends what it answers, and tells that the word has been dealt with and what was logged,
+/// until a stop word comes or the switch is gone.
 fn deal<L: BookName, W: Word, R: Wait>(
     rt: &R,
     alloc: Global,
@@ -21,21 +22,22 @@ fn deal<L: BookName, W: Word, R: Wait>(
         let Ok(word) = end.words.recv(rt) else {
             break;
         };
-        match word.asked(alloc)? {
+        let logged = match word.asked(alloc)? {
             Asked::Input(input) => {
                 let reply = book.call(rt, alloc, seat, input)?;
                 send(rt, alloc, &end.outlet, &reply)?;
+                logged_at(&reply)
             }
-            Asked::Nothing => {}
+            Asked::Nothing => Logged::nothing(),
             Asked::Stop => break,
-        }
-        end.outlet.tell_done(rt);
+        };
+        end.outlet.tell_done(rt, logged)?;
     }
     Ok(())
 }
 
 /// Deals with a thread's words to their end, and returns the seat with the receipts of its calls. At a fault it tells
-/// that the node is gone.
+/// that the node is gone, which ends the run.
 pub fn serve<L: BookName, W: Word, R: Wait>(
     rt: &R,
     alloc: Global,

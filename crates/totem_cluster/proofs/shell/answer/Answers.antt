@@ -1,6 +1,6 @@
 use Rattle.std.proofs.Common.{refl, inl, inr, ◌∙◌}
 use Rattle.totem_cluster.specs.Endings.{helped, misused, starved}
-use Rattle.totem_cluster.proofs.shell.explain.Goals as goal
+use Rattle.totem_cluster.proofs.shell.answer.Goals as goal
 
 pub returns-in_default : goal.returns-in_default
 returns-in_default g c = rw c.tell_fault.ensures.status (starved refl c.tell_fault.ensures.line)

@@ -1,9 +1,9 @@
 use Rattle.std.proofs.Common.{refl}
-use Rattle.totem_cluster.specs.Endings.{judged, failed, told, untold, checked, unchecked, simulated, unsimulated, explained, played}
-use Rattle.totem_cluster.proofs.shell.program.Goals as goal
+use Rattle.totem_cluster.specs.Endings.{judged, failed, told, untold, checked, unchecked, simulated, unsimulated, drawn, undrawn, answered, played}
+use Rattle.totem_cluster.proofs.shell.program_with_progress.Goals as goal
 
 pub returns-in-Err : goal.returns-in-Err
-returns-in-Err g c = explained _ _ refl c.explain.ensures
+returns-in-Err g c = answered _ _ refl c.answer.ensures
 
 pub returns-in-Ok : goal.returns-in-Ok
 returns-in-Ok g c = rw c.status.ensures (checked _ c.in-Ok.ensures refl)
@@ -32,5 +32,13 @@ pub returns-in-Ok-explain_io : goal.returns-in-Ok-explain_io
 returns-in-Ok-explain_io g c = rw c.status-in-Ok-explain_io.ensures (told _ c.in-Ok-explain_io.ensures refl)
 
 pub returns-in-Err-explain_io : goal.returns-in-Err-explain_io
-returns-in-Err-explain_io g c =
-    rw c.tell_fault-in-Err-explain_io.ensures.status (untold _ c.in-Err-explain_io.ensures c.tell_fault-in-Err-explain_io.ensures.line)
+returns-in-Err-explain_io g c = untold _ _ c.in-Err-explain_io.ensures c.point.ensures
+
+pub returns-in-Ok-RunQuietly : goal.returns-in-Ok-RunQuietly
+returns-in-Ok-RunQuietly g c = played _ refl c.play-in-Ok-RunQuietly.ensures
+
+pub returns-in-Ok-draw_io : goal.returns-in-Ok-draw_io
+returns-in-Ok-draw_io g c = rw c.status-in-Ok-draw_io.ensures (drawn _ c.in-Ok-draw_io.ensures refl)
+
+pub returns-in-Err-draw_io : goal.returns-in-Err-draw_io
+returns-in-Err-draw_io g c = undrawn _ _ c.in-Err-draw_io.ensures c.point-in-Err-draw_io.ensures

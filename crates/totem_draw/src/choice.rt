@@ -1,0 +1,110 @@
+//! Which entries of a run are drawn.
+use crate::lane::Lane;
+use std::alloc::{AllocError, Global};
+use totem_evs::{Entry, Log, Run};
+use totem_explain::entry_at;
+use totem_ids::{MsgId, Place};
+
+/// A run with no more entries is drawn whole.
+const WHOLE: usize = 120;
+
+/// How many entries are drawn on both sides of a place.
+const AROUND: u32 = 3;
+
+/// How many places a picture is drawn around, and how many of their messages are followed.
+const PLACES: usize = 32;
+
+/// How many further entries are drawn, at most, of the messages at the places.
+const FOLLOWED: usize = 150;
+
+/// What is drawn: all, or what lies around these places and tells of these messages.
+#[derive(Drop)]
+struct Choice<'a> {
+    is_whole: bool,
+    places: &'a [Place],
+    messages: Vec<MsgId>,
+    /// How many entries of the messages may still be added.
+    left: usize,
+}
+
+/// Returns how many entries a run has.
+fn length(run: &Run) -> usize {
+    let mut length = 0usize;
+    for log in run.logs.as_slice() {
+        length = length.saturating_add(log.entries.as_slice().len());
+    }
+    length
+}
+
+/// Returns the message that an entry sends or delivers.
+fn message_of(entry: &Entry) -> Option<MsgId> {
+    match entry {
+        Entry::Send(message, _, _) | Entry::Deliver(message, _) => Some(*message),
+        Entry::Conf(..) | Entry::Fail(_) => None,
+    }
+}
+
+/// Returns the messages that are sent or delivered at these places.
+fn messages_at(alloc: Global, run: &Run, places: &[Place]) -> Result<Vec<MsgId>, AllocError> {
+    let mut messages = Vec::new(alloc);
+    for place in places.iter().take(PLACES) {
+        if let Some(message) = entry_at(run, *place).and_then(message_of) {
+            if !messages.contains(&message) {
+                messages.push(message)?;
+            }
+        }
+    }
+    Ok(messages)
+}
+
+impl<'a> Choice<'a> {
+    /// Returns whether an entry lies around one of the places.
+    fn is_near(&self, place: Place) -> bool {
+        let mut places = self.places.iter().take(PLACES);
+        places.any(|near| near.proc == place.proc && near.at.abs_diff(place.at) <= AROUND)
+    }
+
+    /// Returns whether an entry tells of one of the messages, and notes that it is drawn if so.
+    fn is_followed(&mut self, entry: &Entry) -> bool {
+        if self.left == 0 {
+            return false;
+        }
+        let is_followed = message_of(entry).is_some_and(|message| self.messages.contains(&message));
+        if is_followed {
+            self.left -= 1;
+        }
+        is_followed
+    }
+
+    /// Returns of each entry of a log whether it is drawn.
+    fn shown_of(&mut self, alloc: Global, log: &Log) -> Result<Vec<bool>, AllocError> {
+        let entries = log.entries.as_slice();
+        let mut shown = Vec::with_capacity(alloc, entries.len())?;
+        let mut at = 0u32;
+        for entry in entries {
+            at = at.saturating_add(1);
+            let place = Place { proc: log.proc, at };
+            shown.push(self.is_whole || self.is_near(place) || self.is_followed(entry))?;
+        }
+        Ok(shown)
+    }
+}
+
+/// Returns the lanes of a run: all its entries if it is small, else those around the places and those that send or deliver the
+/// messages there. A log of which nothing is drawn has no lane.
+pub fn lanes_of(alloc: Global, run: &Run, places: &[Place]) -> Result<Vec<Lane>, AllocError> {
+    let mut choice = Choice {
+        is_whole: length(run) <= WHOLE,
+        places,
+        messages: messages_at(alloc, run, places)?,
+        left: FOLLOWED,
+    };
+    let mut lanes = Vec::new(alloc);
+    for log in run.logs.as_slice() {
+        let shown = choice.shown_of(alloc, log)?;
+        if shown.contains(&true) {
+            lanes.push(Lane::of(alloc, log, shown.as_slice())?)?;
+        }
+    }
+    Ok(lanes)
+}

@@ -1,0 +1,97 @@
+//! The events of the lanes.
+use crate::frame::Frame;
+use crate::lane::{Lane, Spot, What};
+use crate::marks::{number_of, told};
+use crate::shapes::{Point, push_bar, push_cross, push_dot, push_label, push_mark, push_ring};
+use crate::subject::Subject;
+use std::alloc::{AllocError, Global};
+use totem_ids::{MsgId, Place};
+
+/// Adds the message's name below its event.
+fn push_name(
+    alloc: Global,
+    text: &mut String,
+    at: Point,
+    message: MsgId,
+) -> Result<(), AllocError> {
+    let name = format!(in alloc; "{message}")?;
+    let below = Point {
+        x: at.x,
+        y: at.y.saturating_add(26),
+    };
+    push_label(text, below, name.as_str())
+}
+
+/// Adds the shape of what happens at a spot.
+fn push_shape(alloc: Global, text: &mut String, at: Point, what: What) -> Result<(), AllocError> {
+    match what {
+        What::Change => push_bar(text, at),
+        What::Failure => push_cross(text, at),
+        What::Send(message) => {
+            push_dot(text, at)?;
+            push_name(alloc, text, at, message)
+        }
+        What::Delivery(message) => {
+            push_ring(text, at)?;
+            push_name(alloc, text, at, message)
+        }
+        What::LeftOut(count) => {
+            let words = format!(in alloc; ".. {count}")?;
+            let below = Point {
+                x: at.x,
+                y: at.y.saturating_add(4),
+            };
+            push_label(text, below, words.as_str())
+        }
+    }
+}
+
+/// Returns where a spot of a lane at this height is drawn: a change at the beginning of its slot, all others in the middle.
+fn point_of(frame: &Frame, y: u32, spot: &Spot) -> Point {
+    let x = match spot.what {
+        What::Change => frame.x(spot.slot).saturating_add(2),
+        _ => frame.middle(spot.slot),
+    };
+    Point { x, y }
+}
+
+/// Adds what is drawn at a spot, with what happened there for who points at it or cannot see it.
+fn push_spot(
+    alloc: Global,
+    text: &mut String,
+    at: Point,
+    place: Place,
+    spot: &Spot,
+    subject: &Subject<'_>,
+) -> Result<(), AllocError> {
+    if let What::LeftOut(_) = spot.what {
+        return push_shape(alloc, text, at, spot.what);
+    }
+    let event = told(alloc, subject.run, place)?;
+    write!(text, "<g><title>{place}: {event}</title>\n")?;
+    push_shape(alloc, text, at, spot.what)?;
+    if let Some(number) = number_of(subject.marked, place) {
+        push_mark(text, at, number)?;
+    }
+    text.push_str("</g>\n")
+}
+
+/// Adds the events of all lanes, and marks the places of the subject.
+pub fn push_events(
+    alloc: Global,
+    text: &mut String,
+    frame: &Frame,
+    lanes: &[Lane],
+    subject: &Subject<'_>,
+) -> Result<(), AllocError> {
+    let mut number = 0u32;
+    for lane in lanes {
+        let y = frame.y(number);
+        for spot in lane.spots.as_slice() {
+            let place = lane.place_of(spot);
+            push_spot(alloc, text, point_of(frame, y, spot), place, spot, subject)?;
+        }
+        number = number.saturating_add(1);
+    }
+    Ok(())
+}

@@ -1,0 +1,58 @@
+//! The measures of a picture, in pixels.
+
+/// How far one slot is from the next.
+pub const STEP: u32 = 46;
+
+/// Where the first slot lies.
+const LEFT: u32 = 110;
+
+/// How far one lane is from the next.
+const LANE: u32 = 68;
+
+/// What a picture has above its lanes for a line of text.
+pub const LINE: u32 = 18;
+
+/// How wide a picture is at least.
+const LEAST: u32 = 760;
+
+/// Where the parts of a picture lie.
+#[derive(Clone, Copy, Debug, PartialEq, Eq)]
+pub struct Frame {
+    /// Where the lanes begin.
+    pub top: u32,
+    pub lanes: u32,
+    pub slots: u32,
+}
+
+impl Frame {
+    /// Returns where a slot begins from left to right.
+    pub fn x(&self, slot: u32) -> u32 {
+        LEFT.saturating_add(slot.saturating_mul(STEP))
+    }
+
+    /// Returns where the middle of a slot lies from left to right.
+    pub fn middle(&self, slot: u32) -> u32 {
+        self.x(slot).saturating_add(STEP / 2)
+    }
+
+    /// Returns where a lane, counted from 0, lies from top to bottom.
+    pub fn y(&self, lane: u32) -> u32 {
+        let lanes = lane.saturating_mul(LANE);
+        self.top.saturating_add(LANE / 2).saturating_add(lanes)
+    }
+
+    /// Returns where a delivery that is pending lies: behind all slots.
+    pub fn behind(&self) -> u32 {
+        self.middle(self.slots)
+    }
+
+    pub fn width(&self) -> u32 {
+        self.behind().saturating_add(STEP).max(LEAST)
+    }
+
+    /// Returns where a line of text below the lanes lies.
+    pub fn line_below(&self, line: u32) -> u32 {
+        let lines = line.saturating_add(1).saturating_mul(LINE);
+        self.y(self.lanes).saturating_add(lines)
+    }
+}

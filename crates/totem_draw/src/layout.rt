@@ -1,0 +1,96 @@
+//! Where from left to right the spots of the lanes lie.
+use crate::lane::{Lane, Spot};
+use std::alloc::{AllocError, Global};
+use totem_ids::MsgId;
+
+/// The messages whose sends are drawn, and those whose sends have their slots.
+#[derive(Drop)]
+struct Sends {
+    drawn: Vec<MsgId>,
+    placed: Vec<MsgId>,
+}
+
+impl Sends {
+    fn of(alloc: Global, lanes: &[Lane]) -> Result<Sends, AllocError> {
+        let mut drawn = Vec::new(alloc);
+        for lane in lanes {
+            for spot in lane.spots.as_slice() {
+                if let Some(message) = spot.sends() {
+                    drawn.push(message)?;
+                }
+            }
+        }
+        Ok(Sends {
+            drawn,
+            placed: Vec::new(alloc),
+        })
+    }
+
+    /// Returns whether a spot may lie here: a delivery lies behind its send, if that is drawn.
+    fn let_through(&self, spot: &Spot) -> bool {
+        match spot.delivers() {
+            Some(message) => self.placed.contains(&message) || !self.drawn.contains(&message),
+            None => true,
+        }
+    }
+}
+
+/// Gives the next spot of a lane its slot. Returns the message that is sent there.
+fn place(lane: &mut Lane, slot: u32) -> Option<MsgId> {
+    let spot = lane.spots.get_mut(lane.placed)?;
+    spot.slot = slot;
+    let message = spot.sends();
+    lane.placed = lane.placed.saturating_add(1);
+    message
+}
+
+fn may_place(lane: &Lane, sends: &Sends) -> bool {
+    let next = lane.spots.get(lane.placed);
+    next.is_some_and(|spot| sends.let_through(spot))
+}
+
+/// Places one spot of each lane that has one that may lie here. Returns whether there was any.
+fn place_ready(
+    alloc: Global,
+    lanes: &mut [Lane],
+    slot: u32,
+    sends: &mut Sends,
+) -> Result<bool, AllocError> {
+    let mut sent = Vec::new(alloc);
+    let mut is_any = false;
+    for lane in lanes.iter_mut() {
+        if may_place(lane, sends) {
+            is_any = true;
+            if let Some(message) = place(lane, slot) {
+                sent.push(message)?;
+            }
+        }
+    }
+    sends.placed.extend_from_slice(sent.as_slice())?;
+    Ok(is_any)
+}
+
+/// Places the next spot of the first lane that has one left, whatever stands there. Returns whether there was any.
+fn place_first(lanes: &mut [Lane], slot: u32, sends: &mut Sends) -> Result<bool, AllocError> {
+    for lane in lanes.iter_mut() {
+        if lane.placed < lane.spots.len() {
+            if let Some(message) = place(lane, slot) {
+                sends.placed.push(message)?;
+            }
+            return Ok(true);
+        }
+    }
+    Ok(false)
+}
+
+/// Gives each spot its slot. The spots of a lane keep their order, and a delivery lies behind its send where that is drawn; where
+/// that can't be, since events come before themselves, the first lane goes on. Returns how many slots there are.
+pub fn lay_out(alloc: Global, lanes: &mut [Lane]) -> Result<u32, AllocError> {
+    let mut sends = Sends::of(alloc, lanes)?;
+    for slot in 0..u32::MAX {
+        if !place_ready(alloc, lanes, slot, &mut sends)? && !place_first(lanes, slot, &mut sends)? {
+            return Ok(slot);
+        }
+    }
+    Ok(u32::MAX)
+}

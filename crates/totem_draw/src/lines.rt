@@ -1,0 +1,80 @@
+//! The lines from the sends of messages to their deliveries.
+use crate::frame::Frame;
+use crate::lane::Lane;
+use crate::shapes::{Point, push_dashed, push_line};
+use std::alloc::AllocError;
+use totem_evs::Pending;
+use totem_ids::MsgId;
+
+/// Returns where a message is sent, if that is drawn.
+fn send_of(frame: &Frame, lanes: &[Lane], message: MsgId) -> Option<Point> {
+    let mut number = 0u32;
+    for lane in lanes {
+        for spot in lane.spots.as_slice() {
+            if spot.sends() == Some(message) {
+                return Some(Point {
+                    x: frame.middle(spot.slot),
+                    y: frame.y(number),
+                });
+            }
+        }
+        number = number.saturating_add(1);
+    }
+    None
+}
+
+/// Adds the lines that end in one lane.
+fn push_lane(
+    text: &mut String,
+    frame: &Frame,
+    lanes: &[Lane],
+    lane: &Lane,
+    y: u32,
+) -> Result<(), AllocError> {
+    for spot in lane.spots.as_slice() {
+        let Some(message) = spot.delivers() else {
+            continue;
+        };
+        if let Some(from) = send_of(frame, lanes, message) {
+            let x = frame.middle(spot.slot);
+            push_line(text, from, Point { x, y })?;
+        }
+    }
+    Ok(())
+}
+
+/// Adds a line for each delivery whose send is drawn too.
+pub fn push_lines(text: &mut String, frame: &Frame, lanes: &[Lane]) -> Result<(), AllocError> {
+    let mut number = 0u32;
+    for lane in lanes {
+        push_lane(text, frame, lanes, lane, frame.y(number))?;
+        number = number.saturating_add(1);
+    }
+    Ok(())
+}
+
+/// Adds a dashed line for each delivery that is pending, whose send and whose process are drawn.
+pub fn push_pending(
+    text: &mut String,
+    frame: &Frame,
+    lanes: &[Lane],
+    pending: &[Pending],
+) -> Result<(), AllocError> {
+    for one in pending {
+        let Some(lane) = lanes.iter().position(|lane| lane.proc == one.proc) else {
+            continue;
+        };
+        if let Some(from) = send_of(frame, lanes, one.msg) {
+            let y = frame.y(u32::try_from(lane).unwrap_or(u32::MAX));
+            push_dashed(
+                text,
+                from,
+                Point {
+                    x: frame.behind(),
+                    y,
+                },
+            )?;
+        }
+    }
+    Ok(())
+}

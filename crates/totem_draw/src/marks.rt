@@ -1,0 +1,38 @@
+//! The places that a picture marks, and what it says of them.
+use std::alloc::{AllocError, Global};
+use totem_evs::Run;
+use totem_explain::{entry_at, event_of};
+use totem_ids::Place;
+
+/// How many places are told of in words.
+const TOLD: usize = 12;
+
+/// Returns the number of a place among those that are marked, counted from 1, or `None` if it is not.
+pub fn number_of(places: &[Place], place: Place) -> Option<usize> {
+    let index = places.iter().position(|marked| *marked == place)?;
+    Some(index.saturating_add(1))
+}
+
+/// Returns what happened at a place.
+pub fn told(alloc: Global, run: &Run, place: Place) -> Result<String, AllocError> {
+    match entry_at(run, place) {
+        Some(entry) => event_of(alloc, place.proc, entry),
+        None => String::from_str(alloc, "no entry of this run"),
+    }
+}
+
+/// Returns a line for each place: its number, the place, and what happened there. Of many places the first are told.
+pub fn lines_of(alloc: Global, run: &Run, places: &[Place]) -> Result<Vec<String>, AllocError> {
+    let mut lines = Vec::new(alloc);
+    let mut number = 0u32;
+    for place in places.iter().take(TOLD) {
+        number = number.saturating_add(1);
+        let event = told(alloc, run, *place)?;
+        lines.push(format!(in alloc; "{number}: {place}, {event}")?)?;
+    }
+    let more = places.len().saturating_sub(TOLD);
+    if more > 0 {
+        lines.push(format!(in alloc; "and {more} places more")?)?;
+    }
+    Ok(lines)
+}

@@ -1,0 +1,166 @@
+//! A text that could not be read, shown where it is refused, with what is wanted there (docs/SPECIFICATIONS.md, "Run text").
+use std::alloc::{AllocError, Global};
+use totem_evs::RunFault;
+use totem_ids::TextPlace;
+
+/// How many bytes of a line are shown before the one that is refused.
+const BEFORE: usize = 72;
+
+/// The beginnings of lines, and what follows them.
+const BEHIND: [(&[u8], &str); 5] = [
+    (b"log ", "`log` is followed by a process: `log 3`."),
+    (
+        b"conf ",
+        "`conf` is followed by a configuration and its members, with one space before each: `conf r4.1 1 2 3`, `conf t8.1/1 1 2`.",
+    ),
+    (
+        b"send ",
+        "`send` is followed by a regular configuration, the service `a` or `s`, and a message: `send r4.1 a 4.1#7`.",
+    ),
+    (
+        b"dlv ",
+        "`dlv` is followed by a configuration and a message: `dlv r4.1 4.1#7`.",
+    ),
+    (
+        b"fail ",
+        "`fail` is followed by the configuration in which the process failed: `fail r4.1`.",
+    ),
+];
+
+/// Returns what may stand in a line that begins so.
+fn behind(line: &[u8]) -> &'static str {
+    for (front, wanted) in &BEHIND {
+        if line.starts_with(front) {
+            return *wanted;
+        }
+    }
+    "A line is `log`, `conf`, `send`, `dlv` or `fail` with what follows it, or `open`, `failed` or `end` alone."
+}
+
+/// Returns what is wanted where a text is refused, in a line that begins so; nothing if the text is not what was refused.
+fn wanted(alloc: Global, fault: &RunFault, line: &[u8]) -> Result<String, AllocError> {
+    let text = match fault {
+        RunFault::Header => "The text of a run begins with the line `totem-run 1`.",
+        RunFault::Word => behind(line),
+        RunFault::Number => {
+            "A number has no zero in front. Processes are 1 to 65535, the numbers of rings and messages 1 to 4294967295."
+        }
+        RunFault::Order =>
+            "The process that ends here is not greater than that of the log before it. Logs stand in rising order.",
+        RunFault::Members =>
+            "The member that ends here is not greater than the one before it. Members stand in rising order.",
+        RunFault::End => {
+            "A log whose last entry is `fail` ends with the line `failed`, any other with `open`, and nothing stands behind the line `end`."
+        }
+        RunFault::Truncated => {
+            "The text ends here. Each log ends with the line `open` or `failed`, and the text with the line `end`."
+        }
+        RunFault::TooMany => {
+            "A run has 32 logs at most, a configuration 32 members, and a log 1000000 entries."
+        }
+        RunFault::MissingLog(proc) => {
+            return format!(in alloc;
+                "Process {proc} is a member of a configuration, and has no log here. docs/OWN-LOGS.md says what to do about a lost log.\n"
+            );
+        }
+        RunFault::Read | RunFault::Memory => return Ok(String::new(alloc)),
+    };
+    format!(in alloc; "{text}\n")
+}
+
+/// Adds a byte as a person can read it: `?` where it is none that can be printed.
+fn push_byte(text: &mut String, byte: u8) -> Result<(), AllocError> {
+    let shown = if (b' '..=b'~').contains(&byte) {
+        char::from(byte)
+    } else {
+        '?'
+    };
+    text.push(shown)
+}
+
+fn push_bytes(text: &mut String, bytes: &[u8]) -> Result<(), AllocError> {
+    for byte in bytes {
+        push_byte(text, *byte)?;
+    }
+    Ok(())
+}
+
+/// Returns the last bytes of a list, so many at most.
+fn last_of(bytes: &[u8], most: usize) -> &[u8] {
+    bytes
+        .get(bytes.len().saturating_sub(most)..)
+        .unwrap_or(bytes)
+}
+
+/// Adds what stands in the line before the byte that is refused: its last bytes, and dots where there are more.
+fn push_front(text: &mut String, front: &[u8], read: &[u8], column: u64) -> Result<(), AllocError> {
+    let read = last_of(read, BEFORE);
+    let front = last_of(front, BEFORE.saturating_sub(read.len()));
+    if (front.len() as u64).saturating_add(read.len() as u64) < column.saturating_sub(1) {
+        text.push_str("...")?;
+    }
+    push_bytes(text, front)?;
+    push_bytes(text, read)
+}
+
+/// Returns the line of a place, and below it a caret under the byte that is refused.
+fn drawing(alloc: Global, place: &TextPlace<'_>) -> Result<String, AllocError> {
+    let mut line = String::new(alloc);
+    let (read, last) = match place.read.split_last() {
+        Some((last, read)) => (read, Some(*last)),
+        None => (place.read, None),
+    };
+    push_front(&mut line, place.front, read, place.column)?;
+    let width = line.as_str().len();
+    if let Some(byte) = last {
+        if byte != b'\n' {
+            push_byte(&mut line, byte)?;
+        }
+    }
+    push_bytes(&mut line, place.rest)?;
+    line.push_str("\n  ")?;
+    for _ in 0..width {
+        line.push(' ')?;
+    }
+    line.push_str("^\n")?;
+    Ok(line)
+}
+
+/// Returns where the text is refused, with its line.
+fn shown(alloc: Global, place: &TextPlace<'_>) -> Result<String, AllocError> {
+    let line = place.line;
+    let column = place.column;
+    let drawing = drawing(alloc, place)?;
+    let mut text = format!(in alloc; "line {line}, column {column}:\n  ")?;
+    text.push_str(drawing.as_str())?;
+    Ok(text)
+}
+
+/// Returns whether the fault is one of the byte that was read last.
+fn is_of_a_byte(fault: &RunFault) -> bool {
+    !matches!(
+        fault,
+        RunFault::MissingLog(_) | RunFault::Read | RunFault::Memory
+    )
+}
+
+/// Returns what a person is told of a text that is no run: its line with a caret under the byte that is refused, if the source knew its
+/// place, and what is wanted there. Nothing is told of a failed source or of want of memory.
+pub fn explain_refusal(
+    alloc: Global,
+    fault: &RunFault,
+    place: Option<TextPlace<'_>>,
+) -> Result<String, AllocError> {
+    let Some(place) = place.filter(|_| is_of_a_byte(fault)) else {
+        return wanted(alloc, fault, b"");
+    };
+    let begun = if place.front.is_empty() {
+        place.read
+    } else {
+        place.front
+    };
+    let wanted = wanted(alloc, fault, begun)?;
+    let mut text = shown(alloc, &place)?;
+    text.push_str(wanted.as_str())?;
+    Ok(text)
+}

@@ -1,0 +1,118 @@
+//! Where in its text a source is, for people who are told what is wrong there.
+
+/// How many bytes behind the last one are shown.
+const REST: usize = 40;
+
+/// How many bytes of a line are kept when a buffer is filled anew.
+pub(crate) const FRONT: usize = 128;
+
+/// Where the byte stands that a source was asked for last, which is behind its last byte if it had ended; and the line of that byte, as
+/// far as the source has it at hand.
+#[derive(Clone, Copy, Debug)]
+pub struct TextPlace<'a> {
+    /// The number of its line, from 1. The byte that ends a line belongs to that line.
+    pub line: u64,
+    /// The number of the byte in its line, from 1.
+    pub column: u64,
+    /// Bytes of its line that were given before `read`, 256 at most.
+    pub front: &'a [u8],
+    /// Bytes of its line up to itself. There are none if the source had ended.
+    pub read: &'a [u8],
+    /// Bytes of its line behind it, 40 at most.
+    pub rest: &'a [u8],
+}
+
+/// What a source gave before the bytes that it has at hand.
+#[derive(Clone, Copy, Debug)]
+pub(crate) struct Passed {
+    /// How many lines ended.
+    lines: u64,
+    /// How many bytes there are of the line that has not ended.
+    bytes: u64,
+}
+
+fn is_end(byte: &u8) -> bool {
+    *byte == b'\n'
+}
+
+/// Returns the bytes behind the last line's end, or `None` if no line ends.
+fn behind_last_end(bytes: &[u8]) -> Option<&[u8]> {
+    bytes
+        .iter()
+        .rposition(|byte| is_end(byte))
+        .and_then(|at| bytes.get(at.saturating_add(1)..))
+}
+
+impl Passed {
+    pub(crate) fn nothing() -> Passed {
+        Passed { lines: 0, bytes: 0 }
+    }
+
+    /// Returns what a source gave that gave these bytes too.
+    pub(crate) fn and(self, given: &[u8]) -> Passed {
+        match behind_last_end(given) {
+            None => Passed {
+                lines: self.lines,
+                bytes: self.bytes.saturating_add(given.len() as u64),
+            },
+            Some(tail) => Passed {
+                lines: self
+                    .lines
+                    .saturating_add(given.iter().filter(|byte| is_end(byte)).count() as u64),
+                bytes: tail.len() as u64,
+            },
+        }
+    }
+}
+
+/// Keeps the last bytes of the line that has not ended after these. `front` has those of before, and room for twice `FRONT`.
+pub(crate) fn keep_front(front: &mut Vec<u8>, given: &[u8]) {
+    let tail = match behind_last_end(given) {
+        Some(tail) => {
+            front.clear();
+            tail
+        }
+        None => given,
+    };
+    let tail = tail.get(tail.len().saturating_sub(FRONT)..).unwrap_or(tail);
+    let excess = (front.len() + tail.len()).saturating_sub(2 * FRONT);
+    front.drain(..excess.min(front.len()));
+    let _ = front.extend_from_slice(tail);
+}
+
+/// Returns the place of the last byte of `given`, before which `passed` went by and `front` is known of its line; `rest` is behind it.
+pub(crate) fn place_of<'a>(
+    passed: Passed,
+    front: &'a [u8],
+    given: &'a [u8],
+    rest: &'a [u8],
+) -> TextPlace<'a> {
+    let before = given.get(..given.len().saturating_sub(1)).unwrap_or(given);
+    let passed = passed.and(before);
+    let (front, read) = match behind_last_end(before) {
+        None => (front, given),
+        Some(tail) => (
+            &front[..0],
+            given
+                .get(before.len().saturating_sub(tail.len())..)
+                .unwrap_or(given),
+        ),
+    };
+    let ends = given.last().is_some_and(|byte| is_end(byte));
+    let rest = rest.get(..rest.len().min(REST)).unwrap_or(rest);
+    let length = rest
+        .iter()
+        .position(|byte| is_end(byte))
+        .unwrap_or(rest.len());
+    TextPlace {
+        line: passed.lines.saturating_add(1),
+        column: passed.bytes.saturating_add(1),
+        front,
+        read,
+        rest: if ends {
+            &rest[..0]
+        } else {
+            rest.get(..length).unwrap_or(rest)
+        },
+    }
+}

@@ -1,0 +1,102 @@
+//! Entries as text, and lists that grow.
+ghost use Rattle.std.specs.Prelude.{◌≡◌};
+
+use bytes::Bytes;
+use std::alloc::{AllocError, Global};
+use std::collections::VecDeque;
+use std::test::Fail;
+use totem_evs::{Entry, Members};
+use totem_ids::{ProcId, RingId, Service};
+use totem_node::Input;
+use totem_packets::Packet;
+
+/// Packets on their way, each with its receiver.
+pub type Queue = VecDeque<(ProcId, Packet)>;
+
+/// One more packet, behind the others.
+pub fn put(queue: &mut Queue, item: (ProcId, Packet)) -> Result<(), AllocError> {
+    match queue.push_back(item) {
+        Ok(()) => Ok(()),
+        Err(back) => Ok(queue.push_back(back.value)?),
+    }
+}
+
+fn push_entry(alloc: Global, text: &mut String, entry: &Entry) -> Result<(), AllocError> {
+    match entry {
+        Entry::Conf(conf, members) => {
+            text.push_str(format!(in alloc; "conf {conf}")?.as_str())?;
+            for proc in members.as_slice() {
+                text.push_str(format!(in alloc; " {proc}")?.as_str())?;
+            }
+        }
+        Entry::Deliver(message, conf) => {
+            text.push_str(format!(in alloc; "dlv {conf} {message}")?.as_str())?;
+        }
+        Entry::Send(message, conf, service) => {
+            text.push_str(format!(in alloc; "send {conf} {service} {message}")?.as_str())?;
+        }
+        Entry::Fail(conf) => text.push_str(format!(in alloc; "fail {conf}")?.as_str())?,
+    }
+    text.push_str(";")
+}
+
+fn once_told(alloc: Global, entries: &[Entry]) -> Result<String, AllocError> {
+    let mut text = String::new(alloc);
+    for entry in entries {
+        push_entry(alloc, &mut text, entry)?;
+    }
+    Ok(text)
+}
+
+/// The entries as lines of a run's text, with `;` for a line's end.
+pub fn told(alloc: Global, entries: &[Entry]) -> Result<String, AllocError> {
+    Ok(again!(once_told(alloc, entries)))
+}
+
+pub fn proc(number: u16) -> ProcId {
+    ProcId::of(number.max(1))
+}
+
+fn once_procs(alloc: Global, last: u16) -> Result<Vec<ProcId>, AllocError> {
+    let mut list = Vec::new(alloc);
+    for value in 0..last {
+        list.push(ProcId::of(value.saturating_add(1)))?;
+    }
+    Ok(list)
+}
+
+/// Returns the processes from 1 to this one.
+pub fn procs(alloc: Global, last: u16) -> Result<Vec<ProcId>, AllocError> {
+    Ok(again!(once_procs(alloc, last)))
+}
+
+/// Returns them as members.
+pub fn first(alloc: Global, last: u16) -> Result<Members, Fail> {
+    Ok(Members::new(procs(alloc, last)?)?)
+}
+
+/// A client's message `x`.
+pub fn submit() -> Input {
+    Input::Submit {
+        service: Service::Agreed,
+        payload: Bytes::from_static(b"x"),
+    }
+}
+
+/// A ring with the representative 1.
+pub fn ring(seq: u32) -> RingId {
+    RingId {
+        seq: seq.max(1),
+        rep: ProcId::of(1),
+    }
+}
+
+/// Ring 4.1.
+pub fn four() -> RingId
+    ensures { result ≡ record { seq = 4; rep = 1 } }
+{
+    RingId {
+        seq: 4,
+        rep: ProcId::of(1),
+    }
+}
