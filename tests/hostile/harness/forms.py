@@ -1,0 +1,76 @@
+"""The forms of answers: which statuses a verb has, and what its output and its errors look like.
+(docs/SPECIFICATIONS.md has them.)"""
+import re
+
+RUN_FAULTS = ('Header', 'Word', 'Number', 'Order', 'Members', 'End', 'Truncated', 'TooMany')
+CERTIFICATE_FAULTS = ('Header', 'Word', 'Number', 'Order', 'Truncated', 'TooMany', 'End')
+REFUSALS = ('Count', 'NotRising', 'SendNotBefore', 'TwinsDiffer', 'SharedPosition')
+SCRIPT_FAULTS = ('Header', 'Word', 'Number', 'Order', 'Members', 'Place', 'End', 'Truncated', 'TooMany')
+
+NUMBER = r'[1-9][0-9]*'
+RING = r'%s\.%s' % (NUMBER, NUMBER)
+CONFIGURATION = r'(?:r%s|t%s/%s)' % (RING, RING, NUMBER)
+MESSAGE = r'%s#%s' % (RING, NUMBER)
+FAULT = r'fault [1-7](?:\.[1-4])?(?: %s@%s)+\n' % (NUMBER, NUMBER)
+LEFT_OPEN = r'(?:pending %s %s\n)*(?:waiting %s %s %s\n)*' % (NUMBER, MESSAGE, NUMBER, CONFIGURATION, NUMBER)
+CERTIFICATE = r'totem-cert 1\n(?:pos %s(?: %s)+\n)*' % (NUMBER, NUMBER)
+ENTRY = r'(?:conf {c}(?: {n})+|send r{r} [as] {m}|dlv {c} {m}|fail {c})\n'.format(
+    c=CONFIGURATION, n=NUMBER, r=RING, m=MESSAGE)
+RUN = r'totem-run 1\n(?:log %s\n(?:%s)+(?:open|failed)\n)*end\n' % (NUMBER, ENTRY)
+
+
+def _named(front, names):
+    """The lines of errors of these faults."""
+    return ['totem: %s: %d %s\n' % (front, number, name) for number, name in enumerate(names, 1)]
+
+
+def _one_of(lines):
+    return '(?:%s)' % '|'.join(map(re.escape, lines))
+
+
+RUN_REFUSED = r'(?:%s|totem: run refused: 9 MissingLog %s\n)' % (
+    _one_of(_named('run refused', RUN_FAULTS)), NUMBER)
+CERTIFICATE_REFUSED = _one_of(
+    _named('certificate unreadable', CERTIFICATE_FAULTS) + _named('certificate refused', REFUSALS))
+SCRIPT_REFUSED = _one_of(_named('script refused', SCRIPT_FAULTS))
+# What is told to a person, without its first line.
+LINES = r'(?:[ -~]*\n)+'
+PICTURE = r'<svg [ -~]+\n%s' % LINES
+
+# For each verb (with what it is asked for beside workers) and status the output, and the errors.
+FORMS = {
+    'audit': {0: ('verdict yes\n%s%send\n' % (LEFT_OPEN, CERTIFICATE), ''),
+              1: ('verdict no\n(?:%s)+end\n' % FAULT, ''),
+              2: ('', RUN_REFUSED)},
+    'check': {0: ('verdict yes\n%send\n' % LEFT_OPEN, ''),
+              1: ('verdict no\n%send\n' % FAULT, ''),
+              2: ('', '(?:%s|%s)' % (RUN_REFUSED, CERTIFICATE_REFUSED))},
+    'explain': {0: (r'Yes: [ -~]+\n' + LINES, ''),
+                1: (r'No: [ -~]+\n' + LINES, ''),
+                2: ('', RUN_REFUSED + LINES)},
+    'explain --svg': {0: (PICTURE, ''), 1: (PICTURE, ''), 2: ('', RUN_REFUSED + LINES)},
+    'sim': {0: (RUN, ''), 2: ('', SCRIPT_REFUSED)},
+}
+FORMS = {
+    verb: {status: tuple(re.compile(form.encode()) for form in both) for status, both in statuses.items()}
+    for verb, statuses in FORMS.items()
+}
+
+
+def asked_for(words):
+    """The key of the forms that the answer to these words may have."""
+    flags = [word for word in words if word == '--svg']
+    return ' '.join([words[0], *flags])
+
+
+def flaw(words, answer):
+    """What was wanted where an answer has no form that it may have; None where it has one. (Memory is
+    there, and the streams don't fail.)"""
+    statuses = FORMS[asked_for(words)]
+    forms = statuses.get(answer.status)
+    if forms is None:
+        return 'a status of %s' % ', '.join(map(str, statuses))
+    for name, form, content in zip(('output', 'errors'), forms, (answer.output, answer.errors)):
+        if not form.fullmatch(content):
+            return '%s of the form of status %d' % (name, answer.status)
+    return None
