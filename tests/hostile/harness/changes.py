@@ -69,10 +69,10 @@ def number(draw, text, _at, _):
     return text[:it.start()] + draw.choice(NUMBERS) + text[it.end():]
 
 
-def lines(draw, text, _at, _):
-    """Two lines are exchanged, or one comes again elsewhere, or one is left out."""
-    parts = text.split(b'\n')
-    first, second = draw.randrange(len(parts)), draw.randrange(len(parts))
+def rearranged(draw, parts, among):
+    """The text of these lines after two of those at some places are exchanged, or one comes again elsewhere, or
+    one is left out."""
+    first, second = draw.choice(among), draw.choice(among)
     kind = draw.randrange(3)
     if kind == 0:
         parts[first], parts[second] = parts[second], parts[first]
@@ -81,6 +81,12 @@ def lines(draw, text, _at, _):
     else:
         del parts[first]
     return b'\n'.join(parts)
+
+
+def lines(draw, text, _at, _):
+    """Two lines are exchanged, or one comes again elsewhere, or one is left out."""
+    parts = text.split(b'\n')
+    return rearranged(draw, parts, range(len(parts)))
 
 
 def ends_of_lines(draw, text, _at, _):
@@ -119,15 +125,7 @@ def inner_line(draw, text, _at, _):
     parts, inner = inner_lines(text)
     if not inner:
         return text
-    first, second = draw.choice(inner), draw.choice(inner)
-    kind = draw.randrange(3)
-    if kind == 0:
-        parts[first], parts[second] = parts[second], parts[first]
-    elif kind == 1:
-        parts.insert(first, parts[second])
-    else:
-        del parts[first]
-    return b'\n'.join(parts)
+    return rearranged(draw, parts, inner)
 
 
 # Kinds of change that break the text more often than not, and kinds that mostly leave one. Some stand there
