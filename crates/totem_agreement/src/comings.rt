@@ -63,7 +63,7 @@ impl Comings {
         }
     }
 
-    /// Those of the run, in n log n steps.
+    /// Finds the changes of a run, in n log n steps.
     pub fn build(alloc: Global, run: &Run) -> Result<Comings, AllocError>
         ensures { IfOk result (λ comings. HoldsComings ⟦<RingId as Ord>⟧.cmp ⟦<Visit as Ord>⟧.cmp comings.rings comings.indices run.now.logs) }
     {
@@ -72,7 +72,7 @@ impl Comings {
         Ok(comings)
     }
 
-    /// The rings, by number and then by representative.
+    /// Returns the rings, by number and then by representative.
     pub fn rings(&self, alloc: Global) -> Result<Vec<RingId>, AllocError>
         ensures keys { IfOk result (λ list. list.items ≡ self.now.rings.keys) }
         ensures ordered { IfOk result (λ list. sorted.IsOrdered ⟦<RingId as Ord>⟧.cmp self.now.rings) }
@@ -84,7 +84,7 @@ impl Comings {
         Ok(list)
     }
 
-    /// The changes to the regular configuration of this ring, log by log.
+    /// Returns the changes to the regular configuration of this ring, log by log.
     fn arrivals(&self, alloc: Global, run: &Run, ring: RingId) -> Result<Vec<Arrival>, AllocError>
         requires comings { HoldsComings ⟦<RingId as Ord>⟧.cmp ⟦<Visit as Ord>⟧.cmp self.now.rings self.now.indices run.now.logs }
         requires meets { MeetsPasses run.now.logs }
@@ -101,7 +101,7 @@ impl Comings {
         Ok(arrivals)
     }
 
-    /// The stays in the regular configuration of this ring, log by log.
+    /// Returns the stays in the regular configuration of this ring, log by log.
     pub fn stays<'r>(
         &self,
         alloc: Global,

@@ -10,24 +10,24 @@ use totem_evs::Places;
 /// configuration, or none where the run meets it there.
 #[derive(Debug, Drop)]
 pub struct Findings {
-    /// 3.
+    /// What breaks specification 3.
     pub own: Option<Places>,
-    /// 4.
+    /// What breaks specification 4.
     pub atomicity: Option<Places>,
-    /// 5.
+    /// What breaks specification 5.
     pub causality: Option<Places>,
-    /// 6.3.
+    /// What breaks specification 6.3.
     pub gap: Option<Places>,
-    /// 7.1.
+    /// What breaks specification 7.1.
     pub safety: Option<Places>,
-    /// 7.2.
+    /// What breaks specification 7.2.
     pub installed: Option<Places>,
 }
 
 impl Findings {
     ghost use Rattle.totem_agreement.specs.Findings.{AreNone};
 
-    /// Nothing is broken.
+    /// Returns the findings of a configuration in which nothing is broken.
     pub fn none() -> Findings
         ensures { AreNone result }
     {
@@ -42,7 +42,7 @@ impl Findings {
     }
 }
 
-/// The job of one regular configuration.
+/// Does the job of one regular configuration.
 pub fn findings_in(alloc: Global, stays: &Stays) -> Result<Findings, AllocError>
     ensures { IfOk result (AreFindings stays.now.run.now.logs stays.now.ring) }
 {

@@ -166,7 +166,7 @@ fn is_common(stays: &Stays, leader: &Stay, follower: &Stay, at: usize) -> bool
     }
 }
 
-/// Behind this index the leader delivers nothing that the follower delivers too.
+/// Returns an index behind which the leader delivers nothing that the follower delivers too.
 fn last_common(stays: &Stays, leader: &Stay, follower: &Stay) -> usize
     requires leader { IsAmong stays.now.list.items leader.now }
     requires follower { IsAmong stays.now.list.items follower.now }
@@ -183,7 +183,7 @@ fn last_common(stays: &Stays, leader: &Stay, follower: &Stay) -> usize
     leader.from
 }
 
-/// These for all followers of a leader.
+/// Returns this last index for each follower of a leader, in the order of the stays.
 fn lasts_of(alloc: Global, stays: &Stays, leader: &Stay) -> Result<Vec<usize>, AllocError>
     requires { IsAmong stays.now.list.items leader.now }
     ensures { IfOk result (λ lasts. AreLasts stays.now.run.now.logs stays.now.ring stays.now.list.items leader.now.proc lasts.items) }
@@ -209,7 +209,7 @@ fn keeps_up(stays: &Stays, follower: &Stay, last: usize, message: &MsgId, at: us
     }
 }
 
-/// Whether all followers do.
+/// Returns whether each follower delivers the leader's message, or delivers nothing that the leader delivers after it.
 fn all_keep_up(stays: &Stays, leader: &Stay, lasts: &[usize], message: &MsgId, at: usize) -> bool
     requires { AreLasts stays.now.run.now.logs stays.now.ring stays.now.list.items leader.now.proc lasts.now }
     ensures { OnTrue result (IsSettled stays.now.run.now.logs stays.now.ring stays.now.list.items leader.now.proc message.now at) }

@@ -22,7 +22,7 @@ pub struct Jobs<'r> {
 }
 
 impl<'r> Jobs<'r> {
-    /// Those of the run.
+    /// Builds the list of a run's jobs. The run meets the specifications of passes A and B.
     pub fn build(alloc: Global, run: &'r Run) -> Result<Jobs<'r>, AllocError>
         requires { MeetsPasses run.now.logs }
         ensures { IfOk result (AreJobs run.now.logs) }

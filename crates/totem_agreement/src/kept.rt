@@ -37,7 +37,7 @@ impl Kept {
         }
     }
 
-    /// Enters the entry at this index of a stay. Where memory is wanting, this is of no more use.
+    /// Enters the entry at this index of a stay. If memory is refused, what is kept can't be used any more.
     fn enter(&mut self, stay: &Stay, at: usize) -> Result<(), AllocError>
         requires short { IsShortStay stay.now }
         requires inside { IsInside stay.now at }
@@ -75,7 +75,7 @@ impl Kept {
         Ok(())
     }
 
-    /// What these stays sent and delivered.
+    /// Notes what these stays sent and delivered.
     pub fn of(alloc: Global, stays: &[Stay]) -> Result<Kept, AllocError>
         requires { All IsShortStay stays.now }
         ensures { IfOk result (λ kept. AreKept ⟦<Delivery as Ord>⟧.cmp ⟦<MsgId as Ord>⟧.cmp kept.deliveries kept.sends stays.now) }

@@ -19,7 +19,7 @@ pub struct Found {
     pub installed: Vec<Fault>,
 }
 
-/// The list with the other behind it.
+/// Returns the list with the other behind it.
 fn joined(mut faults: Vec<Fault>, others: Vec<Fault>) -> Result<Vec<Fault>, AllocError>
     ensures { IfOk result (λ list. list.items ≡ faults.items ++ others.items) }
 {
@@ -33,7 +33,7 @@ impl Found {
     ghost use Rattle.std.specs.Prelude.{◌≡◌, IfOk};
     ghost use Rattle.totem_agreement.specs.Findings.{IsNothing, GrowsBy, all_found};
 
-    /// Nothing yet.
+    /// Returns an empty collection.
     pub fn new(alloc: Global) -> Found
         ensures { IsNothing result }
     {
@@ -47,7 +47,7 @@ impl Found {
         }
     }
 
-    /// With what was found in the next configuration.
+    /// Adds what was found in the next configuration.
     pub fn with(self, findings: Findings) -> Result<Found, AllocError>
         ensures { IfOk result (GrowsBy self findings) }
     {
@@ -61,7 +61,7 @@ impl Found {
         })
     }
 
-    /// All of them, specification by specification.
+    /// Returns all faults, specification by specification.
     pub fn into_faults(self) -> Result<Vec<Fault>, AllocError>
         ensures { IfOk result (λ faults. faults.items ≡ all_found self) }
     {
@@ -73,8 +73,8 @@ impl Found {
     }
 }
 
-/// Pass D, of a run that has passed the others: for each of 3, 4, 5, 6.3, 7.1 and 7.2 and for each regular configuration
-/// in which the run breaks it, the least events that do. Want of memory is no answer. The jobs are done in their order.
+/// Does pass D of a run that has passed the others. Returns, for each of 3, 4, 5, 6.3, 7.1 and 7.2 and for each regular configuration
+/// in which the run breaks it, the least events that do. The jobs are done in their order, on the thread that asks.
 pub fn pass_d(alloc: Global, run: &Run) -> Result<Vec<Fault>, AllocError>
     requires { MeetsPasses run.now.logs }
     ensures { IfOk result (λ faults. ListsConfigurations run.now.logs faults.items) }

@@ -96,7 +96,7 @@ fn in_order(alloc: Global, set: &BTreeSet<Pending>) -> Result<Vec<Pending>, Allo
     Ok(list)
 }
 
-/// All that is pending in a run that has passed the first two passes, by process and then by message.
+/// Returns all that is pending in a run that has passed the first two passes, by process and then by message.
 pub fn pending(alloc: Global, run: &Run) -> Result<Vec<Pending>, AllocError>
     requires { MeetsPasses run.now.logs }
     ensures { IfOk result (λ list. ArePending run.now.logs list.items) }

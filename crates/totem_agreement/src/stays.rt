@@ -53,7 +53,7 @@ pub fn members_of(entry: &Entry) -> &[ProcId]
 }
 
 impl<'r> Stays<'r> {
-    /// These stays, which are those in the regular configuration of the ring.
+    /// Takes these stays, which are all those in the regular configuration of the ring, and notes what they sent and delivered.
     pub fn build(
         alloc: Global,
         run: &'r Run,
@@ -90,7 +90,7 @@ impl<'r> Stays<'r> {
         None
     }
 
-    /// Where the process of this stay delivers the message, in the regular configuration or in what follows it.
+    /// Returns the index at which the process of this stay delivers the message, in the regular configuration or in what follows it.
     pub fn delivery_of(&self, stay: &Stay, message: &MsgId) -> Option<usize>
         requires { IsAmong self.now.list.items stay.now }
         ensures found { IfSome result (DeliversHere stay.now message.now) }
@@ -103,7 +103,7 @@ impl<'r> Stays<'r> {
         self.kept_delivery(stay, message)
     }
 
-    /// The same, by what is kept of all deliveries.
+    /// Answers as `delivery_of` does, by what is kept of all deliveries.
     fn kept_delivery(&self, stay: &Stay, message: &MsgId) -> Option<usize>
         requires { IsAmong self.now.list.items stay.now }
         ensures found { IfSome result (DeliversHere stay.now message.now) }
@@ -115,7 +115,7 @@ impl<'r> Stays<'r> {
         at.copied()
     }
 
-    /// The send of the message in the regular configuration.
+    /// Returns the send of the message in the regular configuration, if it was sent there.
     pub fn send_of(&self, message: &MsgId) -> Option<Sending>
         ensures found { IfSome result (IsSendingOf self.now.run.now.logs self.now.ring message.now) }
         ensures none { IfNone result (NobodySent self.now.run.now.logs self.now.ring message.now) }

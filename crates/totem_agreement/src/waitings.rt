@@ -52,7 +52,7 @@ fn waiting_of(
     Ok(list)
 }
 
-/// All who wait in a run that has passed the first two passes, and for whom: by process and then by the other process.
+/// Returns who waits in a run that has passed the first two passes, and for whom: by process and then by the other process.
 pub fn waiting(alloc: Global, run: &Run) -> Result<Vec<Waiting>, AllocError>
     requires { MeetsPasses run.now.logs }
     ensures { IfOk result (λ list. AreWaiting run.now.logs list.items) }

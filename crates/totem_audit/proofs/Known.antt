@@ -1,14 +1,15 @@
 -- What is known of jobs, as it grows and as it is used.
-use Rattle.std.proofs.Common.{◌≡◌, ◌⊎◌, ◌<◌, ◌∙◌, ◌+◌, ℕ, zero, suc, inl, inr, List, [], ◌∷◌, ◌++◌, Option, None, Some, IfSome, length, set, slice_index_or, option_to_list, replicate, arith}
+use Rattle.std.proofs.Common.{◌≡◌, ◌<◌, ◌∙◌, ◌+◌, ℕ, zero, suc, inl, inr, List, [], ◌∷◌, ◌++◌, Option, None, Some, IfSome, length, set, slice_index_or, option_to_list, replicate, arith}
 use Rattle.std.proofs.lemmas.List.{get_or-set_same, get_or-set_other, length-set, length-replicate, get_or-replicate, replicate-append-replicate}
 use Rattle.std.proofs.lemmas.List.Elements.{All-append, All-pop}
 use Rattle.totem_ids.specs.declared.ring.RingId.{RingId}
 use Rattle.totem_evs.specs.declared.log.Log.{Log}
 use Rattle.totem_evs.proofs.LogOf.{less_or_not}
 use Rattle.totem_agreement.specs.declared.findings.Findings.{Findings}
+use Rattle.totem_agreement.specs.declared.jobs.Jobs.{Jobs}
 use Rattle.totem_agreement.specs.Jobs.{AreFindingsAt}
 use Rattle.totem_audit.specs.declared.gated.Done.{Done}
-use Rattle.totem_audit.specs.Jobs.{IsRight, AreRight, AreKnown}
+use Rattle.totem_audit.specs.Jobs.{IsRight, AreRight, AreNamed, AreKnown}
 
 -- one of them is set to what is right for it, or to nothing
 pub known_set : (run : List Log) (rings : List RingId) (known : List (Option Findings)) (i : ℕ) (x : Option Findings) → AreKnown run rings known → i < length rings → IfSome x (AreFindingsAt run rings i)
@@ -48,11 +49,12 @@ one_right run rings results more r are right is = record { each = rw is (All-app
     only zero d lt = right
     only (suc k) d lt = absurd (omega (arith, lt))
 
--- both lists
-pub all_of_both : (run : List Log) (rings : List RingId) (first second both : List Done) → AreRight run rings first → AreRight run rings second → (both ≡ first ++ second) ⊎ (both ≡ first)
-    → AreRight run rings both
-all_of_both run rings first second both f s (inl is) = record { each = rw is (All-append (IsRight run rings) first second f.each s.each) }
-all_of_both run rings first second both f s (inr is) = rw is f
+-- results of the jobs are results of what they are named, and the other way round
+pub right_by_name : (run : List Log) (rings : List RingId) (jobs : Jobs) (results : List Done) → AreNamed run rings jobs → AreRight jobs.run.now.logs jobs.rings.items results → AreRight run rings results
+right_by_name run rings jobs results named are = rw (named.run, named.confs) at are
+
+pub right_by_jobs : (run : List Log) (rings : List RingId) (jobs : Jobs) (results : List Done) → AreNamed run rings jobs → AreRight run rings results → AreRight jobs.run.now.logs jobs.rings.items results
+right_by_jobs run rings jobs results named are = rw (named.run, named.confs) are
 
 -- all but the last, and the last
 pub popped : (run : List Log) (rings : List RingId) (results rest : List Done) (r : Done) → AreRight run rings results → results ≡ rest ++ option_to_list (Some r) → AreRight run rings rest × IsRight run rings r

@@ -1,3 +1,4 @@
+pub mod Cutting
 pub mod Firsts
 pub mod Known
 pub mod Results

@@ -3,6 +3,7 @@ use Rattle.std.specs.Prelude.{◌≡◌, ◌<◌, ℕ, List, Option, None, IfSom
 use Rattle.totem_ids.specs.declared.ring.RingId.{RingId}
 use Rattle.totem_evs.specs.declared.log.Log.{Log}
 use Rattle.totem_agreement.specs.declared.findings.Findings.{Findings}
+use Rattle.totem_agreement.specs.declared.jobs.Jobs.{Jobs}
 use Rattle.totem_agreement.specs.Jobs.{AreFindingsAt}
 use Rattle.totem_audit.specs.declared.gated.Done.{Done}
 
@@ -14,6 +15,11 @@ pub record IsRight (run : List Log) (rings : List RingId) (r : Done) : Type 0 wh
 -- and so is each of these
 pub record AreRight (run : List Log) (rings : List RingId) (results : List Done) : Type 0 where
   pub each : All (IsRight run rings) results
+
+-- the jobs are those of this run, in these configurations
+pub record AreNamed (logs : List Log) (rings : List RingId) (jobs : Jobs) : Type 0 where
+  pub run : jobs.run.now.logs ≡ logs
+  pub confs : jobs.rings.items ≡ rings
 
 -- what is known of each job, if anything, is right for it
 pub record AreKnown (run : List Log) (rings : List RingId) (known : List (Option Findings)) : Type 0 where

@@ -2,4 +2,5 @@ pub mod Early
 pub mod JobRecord
 pub mod Jobs
 pub mod Results
+pub mod Spans
 pub mod Verdicts

@@ -11,6 +11,7 @@ use crate::last_pass::pass_d_with;
 use crate::verdict::Verdict;
 use crate::workers::Workers;
 use std::alloc::{AllocError, Global};
+use std::sync::Wait;
 use std::thread::Threads;
 use totem_agreement::{pass_d, pending, waiting};
 use totem_cert::Certificate;
@@ -51,7 +52,7 @@ fn pass_all(alloc: Global, run: &Run) -> Result<Verdict, AllocError>
 
 /// The passes in their order, the last one by these workers.
 #[tactic(auto, using(crate::proofs::Firsts::broken_answer))]
-fn pass_all_with<T: Threads + Sync, G: Gate>(
+fn pass_all_with<T: Threads + Wait + Sync, G: Gate>(
     rt: &T,
     alloc: Global,
     run: &Run,
@@ -77,9 +78,10 @@ pub fn audit(alloc: Global, run: &Run) -> Result<Verdict, AllocError>
     pass_all(alloc, run)
 }
 
-/// The same, by as many threads as there are workers: they share the jobs of the last pass. The gate is told of each job.
-/// Want of memory is answered only where the thread that asks meets it itself.
-pub fn audit_with<T: Threads + Sync, G: Gate>(
+/// The same, by as many threads as there are workers: each takes jobs of the last pass from a channel whenever it is idle, and sends
+/// what it found through another. The gate is told of each job. Want of memory is answered only where the thread that asks meets it
+/// itself.
+pub fn audit_with<T: Threads + Wait + Sync, G: Gate>(
     rt: &T,
     alloc: Global,
     run: &Run,

@@ -8,12 +8,12 @@ use totem_cert::{Certificate, Order, positions};
 use totem_evs::{Fault, Run};
 use totem_passes::{pass_a, pass_b};
 
-/// What the first three passes come to.
+/// How the first three passes end.
 #[derive(Drop)]
 pub enum FirstPasses {
-    /// One of them has faults: these are those of the first.
+    /// One of them found faults: those of the first that did.
     Broken(Vec<Fault>),
-    /// None has, and the events can be ordered so.
+    /// None of them did, and the certificate gives the order of the events.
     Ordered(Certificate),
 }
 
@@ -25,7 +25,7 @@ fn one_fault(alloc: Global, fault: Fault) -> Result<Vec<Fault>, AllocError>
     Ok(faults)
 }
 
-/// Pass C, of a run that has passed A and B.
+/// Does pass C. The run has passed A and B.
 fn pass_c(alloc: Global, run: &Run) -> Result<FirstPasses, AllocError>
     requires a { Lists run.now.logs pass_a [] }
     requires b { Lists run.now.logs pass_b [] }
@@ -37,7 +37,7 @@ fn pass_c(alloc: Global, run: &Run) -> Result<FirstPasses, AllocError>
     }
 }
 
-/// Passes A, B and C, up to the first that has a fault.
+/// Does passes A, B and C, up to the first that finds a fault.
 pub fn first_passes(alloc: Global, run: &Run) -> Result<FirstPasses, AllocError>
     ensures { IfOk result (IsEarly run.now.logs) }
 {
@@ -52,7 +52,7 @@ pub fn first_passes(alloc: Global, run: &Run) -> Result<FirstPasses, AllocError>
     pass_c(alloc, run)
 }
 
-/// The faults of the first of passes A, B and C that has one, and none where none has: then the run may be judged job by job
+/// Returns the faults of the first of passes A, B and C that finds one. If the list is empty, the run may be judged job by job
 /// (`do_job`, `collect`).
 #[tactic(auto, using(crate::proofs::Firsts::broken_early, crate::proofs::Firsts::ordered_early))]
 pub fn early(alloc: Global, run: &Run) -> Result<Vec<Fault>, AllocError>

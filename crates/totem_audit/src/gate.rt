@@ -1,7 +1,7 @@
 //! Who is told of the jobs of an audit.
 
-/// Is told of each job by the thread that does it, before and after; a job that has to be done again is told again. Jobs have
-/// numbers from 1, in the order of their configurations.
+/// Each thread tells the gate of a job that it does, before and after. A job that has to be done again is told again. Jobs are
+/// counted from 1, in the order of their configurations.
 pub trait Gate: Sync {
     fn before(&self, job: u32);
 

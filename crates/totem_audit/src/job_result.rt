@@ -36,7 +36,7 @@ impl<'r> JobResult<'r> {
         self.run
     }
 
-    /// Its number, counted from 1 in the order of the configurations.
+    /// Returns the number of the job, counted from 1 in the order of the configurations.
     #[tactic(auto, using(crate::proofs::Results::counted))]
     pub fn job(&self) -> u32
         ensures value { result ≡ self.now.job }
@@ -52,7 +52,7 @@ impl<'r> JobResult<'r> {
         &self.findings
     }
 
-    /// What was found, without taking memory.
+    /// Returns what the job found. It takes no memory.
     pub fn into_findings(self) -> Findings
         ensures value { result ≡ self.entry.findings }
         ensures right { IsFoundBy self.entry.logs self.entry.job result }
@@ -62,7 +62,7 @@ impl<'r> JobResult<'r> {
     }
 }
 
-/// The index of a job, counted from 0, where there are so many.
+/// Returns the index of a job, counted from 0, or `None` where there are not so many.
 fn index_of(job: u32, count: usize) -> Option<usize>
     ensures { MatchOption result ((index : ℕ) → job ≡ index + 1 → count ≤ index) (λ index. (job ≡ index + 1) × (index < count)) }
 {
@@ -73,8 +73,8 @@ fn index_of(job: u32, count: usize) -> Option<usize>
     Some(index)
 }
 
-/// Does the job of this number, counted from 1 in the order of the configurations; none where the run has no such job. The run is
-/// one in which `early` finds nothing.
+/// Does the job of this number, counted from 1 in the order of the configurations. Returns `None` if the run has no such job. Ask only
+/// for jobs of a run in which `early` finds nothing.
 #[tactic(auto, using(crate::proofs::Results::found_by))]
 pub fn do_job(alloc: Global, run: &Run, job: u32) -> Result<Option<JobResult<'_>>, AllocError>
     requires { MeetsPasses run.now.logs }

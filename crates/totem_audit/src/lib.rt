@@ -3,6 +3,7 @@
 #![tactic(auto)]
 
 mod auditor;
+mod batch;
 mod collecting;
 mod first_passes;
 mod gate;
@@ -10,6 +11,8 @@ mod gated;
 mod job_result;
 mod last_pass;
 mod same;
+mod sharing;
+mod spans;
 mod verdict;
 mod workers;
 

@@ -10,7 +10,7 @@ trait Same {
         ensures { IsTrue result ↔ (self.now ≡ other.now) };
 }
 
-/// Whether two lists have the same items in the same order.
+/// Returns whether two lists have the same items in the same order.
 fn same_items<T: Same>(these: &[T], those: &[T]) -> bool
     ensures { IsTrue result ↔ (these.now ≡ those.now) }
 {
@@ -63,7 +63,7 @@ impl Same for Log {
     }
 }
 
-/// Whether the two have the same logs, each entry for entry.
+/// Returns whether the two runs have the same logs, entry by entry.
 pub fn same_run(run: &Run, other: &Run) -> bool
     ensures { IsTrue result ↔ (run.now.logs ≡ other.now.logs) }
 {

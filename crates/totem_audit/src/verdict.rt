@@ -8,14 +8,14 @@ use totem_evs::{Fault, Pending, Waiting};
 /// What the audit says of a run (docs/SPECIFICATIONS.md, "Passes").
 #[derive(Debug, Drop)]
 pub enum Verdict {
-    /// It meets the specifications. The certificate shows the order of its events; what is pending and who waits stands in
-    /// rising order.
+    /// The run meets the specifications. The certificate gives the order of its events; the lists of what is pending and of who
+    /// waits rise.
     Yes {
         certificate: Certificate,
         pending: Vec<Pending>,
         waiting: Vec<Waiting>,
     },
-    /// It breaks at least one; these are the faults of the first pass that has one.
+    /// The run breaks at least one specification. These are the faults of the first pass that found one.
     No {
         faults: Vec<Fault>,
     },

@@ -37,7 +37,7 @@ pub(crate) fn outcome(verdict: &Verdict) -> Outcome
 }
 
 /// Judges the run. With one worker the calling thread does all the work and starts no other.
-pub(crate) fn judge<T: Threads + Sync>(
+pub(crate) fn judge<T: Threads + Wait + Sync>(
     rt: &T,
     alloc: Global,
     run: &Run,

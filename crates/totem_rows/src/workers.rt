@@ -18,6 +18,10 @@ const LOOKS: u32 = 10_000;
 /// Two processes that are each alone on a ring: two configurations, and so two jobs.
 const TWO_JOBS: &str = "totem-run 1;log 1;conf r4.1 1;open;log 2;conf r4.2 2;open;end;";
 
+/// Four processes that are each alone on a ring: four jobs.
+const FOUR_JOBS: &str = "totem-run 1;log 1;conf r4.1 1;open;log 2;conf r4.2 2;open;\
+    log 3;conf r4.3 3;open;log 4;conf r4.4 4;open;end;";
+
 /// Holds each job until `wanted` jobs have begun, and counts how many came, went, and were let go before that.
 #[derive(Drop)]
 struct HoldsUntil<'g, R> {
@@ -32,6 +36,17 @@ struct HoldsUntil<'g, R> {
 fn add_one<R: Wait>(rt: &R, count: &Mutex<u32>) {
     let mut count = count.lock(rt);
     *count = count.saturating_add(1);
+}
+
+/// Looks so often, a millisecond apart, until the count comes to what is wanted. Returns whether it came.
+fn comes_to<R: Wait + Clock>(rt: &R, count: &Mutex<u32>, wanted: u32, looks: u32) -> bool {
+    for _ in 0..looks {
+        if *count.lock(rt) >= wanted {
+            return true;
+        }
+        thread::sleep(rt, Duration::from_millis(1));
+    }
+    false
 }
 
 impl<'g, R: Wait> HoldsUntil<'g, R> {
@@ -50,13 +65,30 @@ impl<'g, R: Wait> HoldsUntil<'g, R> {
 impl<R: Wait + Clock + Sync> Gate for HoldsUntil<'_, R> {
     fn before(&self, _job: u32) {
         add_one(self.rt, &self.begun);
-        for _ in 0..self.looks {
-            if *self.begun.lock(self.rt) >= self.wanted {
-                return;
-            }
-            thread::sleep(self.rt, Duration::from_millis(1));
+        if !comes_to(self.rt, &self.begun, self.wanted, self.looks) {
+            add_one(self.rt, &self.let_go);
         }
-        add_one(self.rt, &self.let_go);
+    }
+
+    fn after(&self, _job: u32) {
+        add_one(self.rt, &self.ended);
+    }
+}
+
+/// Holds the first job until `wanted` others are done, and counts how many were done, and whether it was let go before that.
+#[derive(Drop)]
+struct HoldsFirst<'g, R> {
+    rt: &'g R,
+    wanted: u32,
+    ended: Mutex<u32>,
+    let_go: Mutex<u32>,
+}
+
+impl<R: Wait + Clock + Sync> Gate for HoldsFirst<'_, R> {
+    fn before(&self, job: u32) {
+        if job == 1 && !comes_to(self.rt, &self.ended, self.wanted, LOOKS) {
+            add_one(self.rt, &self.let_go);
+        }
     }
 
     fn after(&self, _job: u32) {
@@ -99,6 +131,24 @@ fn two_jobs_run_side_by_side(rt: HostRuntime) -> Result<(), Fail> {
 #[test]
 fn one_worker_does_one_job_after_the_other(rt: HostRuntime) -> Result<(), Fail> {
     assert_eq!(rt; counts(&rt, rt.alloc(), Workers::one(), 20)?, (2, 2, 1));
+    Ok(())
+}
+
+#[test]
+fn an_idle_worker_takes_what_is_left(rt: HostRuntime) -> Result<(), Fail> {
+    let Some(two) = Workers::new(2) else {
+        panic!(rt; "two workers");
+    };
+    let run = run_of(rt.alloc(), FOUR_JOBS)?;
+    let gate = HoldsFirst {
+        rt: &rt,
+        wanted: 3,
+        ended: Mutex::new(0),
+        let_go: Mutex::new(0),
+    };
+    let verdict = audit_with(&rt, rt.alloc(), &run, two, &gate)?;
+    assert!(rt; matches!(verdict, Verdict::Yes { .. }));
+    assert_eq!(rt; (*gate.ended.lock(&rt), *gate.let_go.lock(&rt)), (4, 0));
     Ok(())
 }
 

@@ -6,7 +6,7 @@ ghost use Rattle.totem_stitch.specs.Building.{IsNoRegular, NoneComesNext, MovesN
 use totem_evs::Entry;
 use totem_ids::{ConfId, RingId};
 
-/// The ring of the regular configuration to which the entry at this index changes.
+/// Returns the ring of the regular configuration to which the entry at this index changes, or `None` if it changes to none.
 pub fn regular_at(log: &[Entry], at: usize) -> Option<RingId>
     requires { at < length log.now }
     ensures found { IfSome result (λ ring. ChangesTo log.now at (ConfId.Regular ring)) }
@@ -18,7 +18,7 @@ pub fn regular_at(log: &[Entry], at: usize) -> Option<RingId>
     }
 }
 
-/// The configuration of the next change after this index, if that is transitional.
+/// Returns the configuration of the next change behind this index, if that is transitional.
 pub fn moves_next(log: &[Entry], at: usize) -> Option<ConfId>
     requires { at < length log.now }
     ensures found { IfSome result (MovesNext log.now at) }

@@ -15,7 +15,7 @@ pub struct Stitch {
 }
 
 impl Stitch {
-    /// The tables of this run, in n log n steps. They take memory for its changes to regular configurations alone.
+    /// Builds the tables of a run, in n log n steps. They take memory only for the changes to regular configurations.
     pub fn build(alloc: Global, run: &Run) -> Result<Stitch, AllocError>
         ensures { IfOk result (λ stitch. IsStitch stitch run.now.logs) }
     {
@@ -27,16 +27,16 @@ impl Stitch {
         Ok(Stitch { tables })
     }
 
-    /// What follows the regular configuration of this ring in the log of this process: the configuration of the next
-    /// change after the first change to it, if that is transitional. It takes no memory and reads no log.
+    /// Returns what follows the regular configuration of this ring in the log of this process: the configuration of the next change
+    /// behind the first change to it, if that is transitional. It takes no memory and reads no log.
     pub fn follow(&self, proc: ProcId, ring: RingId) -> Option<ConfId>
         ensures { result ≡ follower_of self.now proc ring }
     {
         self.tables.get(&proc)?.follow(ring)
     }
 
-    /// The ring of the first regular configuration in the log of this process that this configuration follows. It takes no
-    /// memory and reads no log.
+    /// Returns the ring of the first regular configuration in the log of this process that this configuration follows, or `None` if it
+    /// follows none. It takes no memory and reads no log.
     pub fn before(&self, proc: ProcId, conf: ConfId) -> Option<RingId>
         ensures { result ≡ origin_of self.now proc conf }
     {

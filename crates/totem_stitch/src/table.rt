@@ -18,7 +18,7 @@ pub struct Table {
 }
 
 impl Table {
-    /// The table of these entries.
+    /// Builds the table of a log.
     pub fn build(alloc: Global, log: &[Entry]) -> Result<Table, AllocError>
         ensures { IfOk result (λ table. IsTable table log.now) }
     {
@@ -32,7 +32,7 @@ impl Table {
         Ok(table)
     }
 
-    /// Enters the entry at this index, the ones before it being entered. Where memory is wanting, the table is of no more use.
+    /// Enters the entry at this index. Those before it have been entered. If memory is refused, the table can't be used any more.
     fn enter(&mut self, log: &[Entry], at: usize) -> Result<(), AllocError>
         requires within { at < length log.now }
         requires before { KnowsLog self.old log.now at }
@@ -56,14 +56,14 @@ impl Table {
         Ok(())
     }
 
-    /// What follows the regular configuration of this ring.
+    /// Returns what follows the regular configuration of this ring, or `None` if nothing does.
     pub fn follow(&self, ring: RingId) -> Option<ConfId>
         ensures { result ≡ follower_in self.now ring }
     {
         *self.followers.get(&ring)?
     }
 
-    /// The ring of the first regular configuration that this one follows.
+    /// Returns the ring of the first regular configuration that this one follows, or `None` if it follows none.
     pub fn before(&self, conf: ConfId) -> Option<RingId>
         ensures { result ≡ origin_in self.now conf }
     {

@@ -5,7 +5,7 @@ ghost use Rattle.totem_walk.specs.Acts.{IsThere, SendsIn, SendsNothing, HandlesI
 use totem_evs::Entry;
 use totem_ids::{ConfId, MsgId};
 
-/// The message that the entry sends in this configuration.
+/// Returns the message that the entry sends in this configuration, or `None` if it sends none there.
 pub fn sent_in(entry: &Entry, conf: &ConfId) -> Option<MsgId>
     ensures found { IfSome result (SendsIn entry.now conf.now) }
     ensures none { IfNone result (SendsNothing entry.now conf.now) }
@@ -21,7 +21,7 @@ pub fn sent_in(entry: &Entry, conf: &ConfId) -> Option<MsgId>
     }
 }
 
-/// The message that the entry sends or delivers in this configuration.
+/// Returns the message that the entry sends or delivers in this configuration, or `None` if it does neither there.
 pub fn handled_in(entry: &Entry, conf: &ConfId) -> Option<MsgId>
     ensures found { IfSome result (HandlesIn entry.now conf.now) }
     ensures none { IfNone result (HandlesNothing entry.now conf.now) }
@@ -37,7 +37,7 @@ pub fn handled_in(entry: &Entry, conf: &ConfId) -> Option<MsgId>
     }
 }
 
-/// Whether this configuration is the regular one, or the one that follows it, if one does.
+/// Returns whether this configuration is the regular one, or the one that follows it, if one does.
 fn is_there(other: &ConfId, conf: &ConfId, follower: &Option<ConfId>) -> bool
     ensures { IsTrue result ↔ IsThere conf.now follower.now other.now }
 {
@@ -50,7 +50,7 @@ fn is_there(other: &ConfId, conf: &ConfId, follower: &Option<ConfId>) -> bool
     }
 }
 
-/// The message that the entry delivers in this configuration, or in the one that follows it, if one does.
+/// Returns the message that the entry delivers in this configuration, or in the one that follows it, if one does.
 pub fn delivered_in(entry: &Entry, conf: &ConfId, follower: &Option<ConfId>) -> Option<MsgId>
     ensures found { IfSome result (DeliversThere entry.now conf.now follower.now) }
     ensures none { IfNone result (DeliversNothing entry.now conf.now follower.now) }

@@ -15,12 +15,12 @@ use totem_evs::Run;
 use totem_ids::{ConfId, ProcId, RingId};
 use totem_stitch::Stitch;
 
-/// Specification 5 in one regular configuration is what is asked of each two processes.
+/// A law: specification 5 in a regular configuration says just what is asked of each two of its processes.
 pub fn causality_is_of_pairs()
     ensures { IsOfPairs }
 {}
 
-/// The same, where this configuration follows the regular one in the receiver's log, if one does.
+/// Answers as `walk` does. `follower` is the configuration that follows the regular one in the receiver's log, if one does.
 fn is_causal(
     alloc: Global,
     run: &Run,
@@ -44,9 +44,10 @@ fn is_causal(
     Ok(keeps_order(&deliveries, sending, &ConfId::Regular(ring), looks))
 }
 
-/// Whether the receiver delivers what the sender sends in the regular configuration of this ring, there or in what follows it, only
-/// behind all that the sender sent or delivered there before. `looks` rises by one for each entry that is read: the receiver's log
-/// is read whole, the sender's up to the first send that breaks 5. It takes n log n steps.
+/// Returns whether the receiver delivers what the sender sends in the regular configuration of this ring only behind all that the
+/// sender sent or delivered there before (docs/SPECIFICATIONS.md, "5 Causal delivery"). What the receiver delivers in the
+/// configuration that follows counts too. `looks` rises by one for each entry that is read: the receiver's log is read whole, the
+/// sender's up to the first send that breaks 5. It takes n log n steps.
 pub fn walk(
     alloc: Global,
     run: &Run,

@@ -16,7 +16,8 @@ pub struct Deliveries {
 }
 
 impl Deliveries {
-    /// Those of a log, in which this configuration follows the regular one, if one does. Each entry is read once.
+    /// Notes the deliveries of a log in the regular configuration of this ring and in what follows it, if anything does. Each entry is
+    /// read once.
     pub fn build(
         alloc: Global,
         log: &[Entry],
@@ -38,7 +39,7 @@ impl Deliveries {
         Ok(deliveries)
     }
 
-    /// Enters the entry at this index, the ones before it being entered. Where memory is wanting, this is of no more use.
+    /// Enters the entry at this index. Those before it have been entered. If memory is refused, the deliveries can't be used any more.
     fn enter(
         &mut self,
         log: &[Entry],
@@ -63,7 +64,7 @@ impl Deliveries {
         Ok(())
     }
 
-    /// Where the message is delivered.
+    /// Returns the index at which the message is delivered, or `None` if it is not.
     pub fn index_of(&self, message: &MsgId) -> Option<usize>
         ensures { result ≡ index_in self.now message.now }
     {

@@ -9,8 +9,9 @@ use crate::reading::read;
 use totem_evs::Entry;
 use totem_ids::ConfId;
 
-/// Whether these deliveries of a receiver keep the order of a sender's log: whether what it sends in this configuration is
-/// delivered behind all that it sent and delivered there before. Each entry is read once, up to the first send at which it is not so.
+/// Returns whether these deliveries of a receiver keep the order of a sender's log: whether the receiver delivers what the sender sends
+/// in this configuration behind all that the sender sent and delivered there before. Each entry of the sender's log is read once,
+/// up to the first send at which it is not so.
 pub fn keeps_order(deliveries: &Deliveries, log: &[Entry], conf: &ConfId, looks: &mut u64) -> bool
     requires room { looks.old + length log.now < 2 ^ 64 }
     ensures kept { OnTrue result (KeepsOrder log.now conf.now deliveries.now) }

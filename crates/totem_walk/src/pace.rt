@@ -20,7 +20,7 @@ pub enum Pace {
 }
 
 impl Pace {
-    /// Whether the receiver may not deliver at this index.
+    /// Returns whether this index is too early for the receiver to deliver at.
     fn is_early(&self, index: usize) -> bool
         ensures early { OnTrue result (IsEarly self.now index) }
         ensures in_time { OnFalse result (IsInTime self.now index) }
@@ -32,7 +32,7 @@ impl Pace {
         }
     }
 
-    /// The pace once the sender has handled one message more, which the receiver delivers there, if at all.
+    /// Returns the pace once the sender has handled one more message. `delivered` is where the receiver delivers that, if at all.
     fn with(&self, delivered: Option<usize>) -> Pace
         ensures { result ≡ pace_with self.now delivered }
     {
@@ -46,7 +46,7 @@ impl Pace {
         }
     }
 
-    /// Whether the sender's next entry sends in this configuration what the receiver delivers too early.
+    /// Returns whether the sender's next entry sends in this configuration what the receiver delivers too early.
     pub fn is_broken_by(&self, deliveries: &Deliveries, conf: &ConfId, entry: &Entry) -> bool
         ensures early { OnTrue result (ComesEarly deliveries.now conf.now self.now entry.now) }
         ensures in_time { OnFalse result (ComesInTime deliveries.now conf.now self.now entry.now) }
@@ -60,7 +60,7 @@ impl Pace {
         }
     }
 
-    /// The pace behind the sender's next entry.
+    /// Returns the pace behind the sender's next entry.
     pub fn behind(&self, deliveries: &Deliveries, conf: &ConfId, entry: &Entry) -> Pace
         ensures { GoesOn deliveries.now conf.now entry.now self.now result }
     {

@@ -5,7 +5,7 @@ ghost use Rattle.totem_evs.specs.Events.{log_of};
 use totem_evs::{Entry, Run};
 use totem_ids::ProcId;
 
-/// The entries of this process, from the first on; none where it has no log.
+/// Returns the entries of this process, from the first on. A process without a log has none.
 pub fn entries_of(run: &Run, proc: ProcId) -> &[Entry]
     ensures entries { result.now ≡ log_of run.now.logs proc }
     ensures few { length result.now ≤ 1000000 }
@@ -18,7 +18,7 @@ pub fn entries_of(run: &Run, proc: ProcId) -> &[Entry]
     &[]
 }
 
-/// The entry at this index. Entries are read by this alone, so `looks` counts each time that one is.
+/// Returns the entry at this index. Every entry is read by this function, so `looks` counts how many are.
 pub fn read<'l>(log: &'l [Entry], at: usize, looks: &mut u64) -> &'l Entry
     requires within { at < length log.now }
     requires room { looks.old + 1 < 2 ^ 64 }

@@ -1,0 +1,66 @@
+//! What workers found, as it goes through a channel.
+ghost use Rattle.std.specs.Prelude.{◌≡◌};
+ghost use Rattle.totem_audit.specs.Jobs.{AreRight};
+
+use crate::gated::Done;
+use std::marker::{Brand, Model, PhantomData};
+
+/// The name of the jobs of a run. It is a type of which no value is made; a function that is generic over it is called at `Brand`.
+pub trait JobsName {
+    ghost use Rattle.std.specs.Prelude.{List};
+    ghost use Rattle.totem_ids.specs.declared.ring.RingId.{RingId};
+    ghost use Rattle.totem_evs.specs.declared.log.Log.{Log};
+
+    ghost logs: { List Log };
+
+    ghost rings: { List RingId };
+}
+
+impl JobsName for Brand {
+    ghost use Rattle.std.specs.Prelude.{[]};
+
+    ghost logs = { [] };
+
+    ghost rings = { [] };
+}
+
+/// Results of jobs of this name, each right for the job that it names, whatever way they come.
+#[derive(Drop)]
+pub struct Batch<N: JobsName> {
+    results: Vec<Done>,
+    name: PhantomData<N>,
+}
+
+impl<N: JobsName> Model for Batch<N> {
+    ghost use Rattle.std.specs.Prelude.{List};
+    ghost use Rattle.totem_audit.specs.declared.gated.Done.{Done};
+
+    ghost Value = { List Done };
+
+    ghost view = { λ b. b.results.items };
+
+    ghost use Rattle.totem_audit.specs.Jobs.{AreRight};
+
+    ghost invariant = { λ b. AreRight N.logs N.rings b.results.items };
+}
+
+impl<N: JobsName> Batch<N> {
+    pub fn new(results: Vec<Done>) -> Batch<N>
+        requires { AreRight N.logs N.rings results.items }
+        ensures { result ≡ results.items }
+    {
+        Batch {
+            results,
+            name: PhantomData,
+        }
+    }
+
+    /// Gives the results, without taking memory.
+    pub fn into_results(self) -> Vec<Done>
+        ensures value { result.items ≡ self }
+        ensures right { AreRight N.logs N.rings result.items }
+    {
+        let Batch { results, .. } = self;
+        results
+    }
+}

@@ -1,0 +1,41 @@
+//! Which jobs workers take at a time.
+ghost use Rattle.std.specs.Prelude.{◌<◌, ◌≤◌, IfOk};
+ghost use Rattle.totem_audit.specs.Spans.{AreCut};
+
+use std::alloc::{AllocError, Global};
+
+/// Jobs in a row: from one index up to another, counted from 0.
+#[derive(Clone, Copy, Debug)]
+pub struct Span {
+    pub from: usize,
+    pub to: usize,
+}
+
+/// How many jobs are taken at a time at most. So what a message costs is shared by the jobs where these are cheap, and where one is
+/// dear, few wait behind it.
+const MOST: usize = 16;
+
+/// How many jobs are taken next, when so many are left: half a worker's equal share of them, but one at least, and not too many.
+fn size(left: usize, workers: u32) -> usize
+    requires some { 0 < left }
+    requires workers { 0 < workers }
+    ensures { (0 < result) × (result ≤ left) }
+{
+    let half = left / workers as usize / 2;
+    half.clamp(1, MOST)
+}
+
+/// So many jobs, cut into spans. The last ones are single jobs, so that no worker has much to do when the others have nothing left.
+pub fn spans(alloc: Global, count: usize, workers: u32) -> Result<Vec<Span>, AllocError>
+    requires { 0 < workers }
+    ensures { IfOk result (λ spans. AreCut 0 spans.items count) }
+{
+    let mut spans = Vec::new(alloc);
+    let mut from = 0;
+    while from < count {
+        let to = from + size(count - from, workers);
+        spans.push(Span { from, to })?;
+        from = to;
+    }
+    Ok(spans)
+}

@@ -1,0 +1,9 @@
+pub mod Broken
+pub mod BrokenIn
+pub mod Installed
+pub mod Excused
+pub mod RisingLists
+pub mod OneList
+pub mod OneBreak
+pub mod OneCertificate
+pub mod OneAnswer

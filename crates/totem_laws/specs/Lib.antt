@@ -1,0 +1,4 @@
+pub mod Specifications
+pub mod Excuses
+pub mod OneAnswer
+pub mod Laws
