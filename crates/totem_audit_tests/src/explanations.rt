@@ -45,7 +45,7 @@ pub struct Row {
     pub told: &'static str,
 }
 
-pub const ROWS: [Row; 14] = [
+pub const ROWS: [Row; 15] = [
     Row {
         logs: "log 1\nconf r4.1 1\ndlv r4.1 4.1#1\nsend r4.1 a 4.1#1\nopen\n",
         told: "No: the run breaks extended virtual synchrony.
@@ -133,12 +133,9 @@ Specification 2.3: A configuration has the same members for all, a process chang
 Why it is broken:
   The two do not have the same members.
 The logs there:
-  log 1
-    > 1  conf r4.1 1 2
-      open
-  log 2
-    > 1  conf r4.1 2
-      open
+  log 1                   log 2
+    > 1  conf r4.1 1 2      > 1  conf r4.1 2
+      open                    open
 ",
     },
     Row {
@@ -194,18 +191,13 @@ Specification 4: Processes that go together from one configuration to the next d
 Why it is broken:
   Process 2 never delivered 4.1#1.
 The logs there:
-  log 1
-      1  conf r4.1 1 2
-      2  send r4.1 a 4.1#1
-    > 3  dlv r4.1 4.1#1
+  log 1                       log 2
+      1  conf r4.1 1 2            1  conf r4.1 1 2
+      2  send r4.1 a 4.1#1      > 2  conf t8.1/1 1 2
+    > 3  dlv r4.1 4.1#1           3  conf r8.1 1 2
     > 4  conf t8.1/1 1 2
       5  conf r8.1 1 2
-      open
-  log 2
-      1  conf r4.1 1 2
-    > 2  conf t8.1/1 1 2
-      3  conf r8.1 1 2
-      open
+      open                        open
 ",
     },
     Row {
@@ -223,19 +215,39 @@ Specification 5: Who delivers a message has delivered before it each message who
 Why it is broken:
   Process 3 never delivered 4.1#1.
 The logs there:
-  log 1
-      1  conf r4.1 1 2 3
+  log 1                       log 2                       log 3
+      1  conf r4.1 1 2 3          1  conf r4.1 1 2 3          1  conf r4.1 1 2 3
     > 2  send r4.1 a 4.1#1
-      3  dlv r4.1 4.1#1
-      open
-  log 2
-      1  conf r4.1 1 2 3
-      2  dlv r4.1 4.1#1
-    > 3  send r4.1 a 4.1#2
-      open
-  log 3
-      1  conf r4.1 1 2 3
-    > 2  dlv r4.1 4.1#2
+      3  dlv r4.1 4.1#1           2  dlv r4.1 4.1#1
+                                > 3  send r4.1 a 4.1#2
+                                                            > 2  dlv r4.1 4.1#2
+      open                        open                        open
+",
+    },
+    Row {
+        logs: "log 10001\nconf r1000000000.10001 10001 10002 10003\nsend r1000000000.10001 a 1000000000.10001#1\ndlv r1000000000.10001 1000000000.10001#1\nopen\n\
+        log 10002\nconf r1000000000.10001 10001 10002 10003\ndlv r1000000000.10001 1000000000.10001#1\nsend r1000000000.10001 a 1000000000.10001#2\nopen\n\
+        log 10003\nconf r1000000000.10001 10001 10002 10003\ndlv r1000000000.10001 1000000000.10001#2\nopen\n",
+        told: "No: the run breaks extended virtual synchrony.
+The run: logs 3, changes 3, sends 2, deliveries 3, failures 0.
+
+fault 5 10001@2 10002@3 10003@2
+Specification 5: Who delivers a message has delivered before it each message whose send may have caused it.
+  10001@2  process 10001 sent 1000000000.10001#1 in r1000000000.10001, an agreed message
+  10002@3  process 10002 sent 1000000000.10001#2 in r1000000000.10001, an agreed message
+  10003@2  process 10003 delivered 1000000000.10001#2 in r1000000000.10001
+Why it is broken:
+  Process 10003 never delivered 1000000000.10001#1.
+The logs there:
+  log 10001                                             log 10002
+      1  conf r1000000000.10001 10001 10002 10003           1  conf r1000000000.10001 10001 10002 10003
+    > 2  send r1000000000.10001 a 1000000000.10001#1
+      3  dlv r1000000000.10001 1000000000.10001#1           2  dlv r1000000000.10001 1000000000.10001#1
+                                                          > 3  send r1000000000.10001 a 1000000000.10001#2
+      open                                                  open
+  log 10003
+      1  conf r1000000000.10001 10001 10002 10003
+    > 2  dlv r1000000000.10001 1000000000.10001#2
       open
 ",
     },
@@ -258,18 +270,13 @@ Why it is broken:
   2@3 and 1@4: both deliver one message, which is one event.
   So 1@4 would come before itself: no order fits these logs.
 The logs there:
-  log 1
-      .. 1 entry
+  log 1                       log 2
+      .. 1 entry                  1  conf r4.1 1 2
       2  send r4.1 a 4.1#1
       3  send r4.1 a 4.1#2
-    > 4  dlv r4.1 4.1#1
-    > 5  dlv r4.1 4.1#2
-      open
-  log 2
-      1  conf r4.1 1 2
-    > 2  dlv r4.1 4.1#2
-    > 3  dlv r4.1 4.1#1
-      open
+    > 4  dlv r4.1 4.1#1         > 2  dlv r4.1 4.1#2
+    > 5  dlv r4.1 4.1#2         > 3  dlv r4.1 4.1#1
+      open                        open
 ",
     },
     Row {
@@ -286,17 +293,12 @@ Specification 6.3: Who delivers a message lacks none that another delivered befo
 Why it is broken:
   Process 2 never delivered 4.1#1.
 The logs there:
-  log 1
-      1  conf r4.1 1 2
-      2  send r4.1 a 4.1#1
-    > 3  dlv r4.1 4.1#1
+  log 1                       log 2
+      1  conf r4.1 1 2            1  conf r4.1 1 2
+      2  send r4.1 a 4.1#1        2  send r4.1 a 4.1#2
+    > 3  dlv r4.1 4.1#1         > 3  dlv r4.1 4.1#2
     > 4  dlv r4.1 4.1#2
-      open
-  log 2
-      1  conf r4.1 1 2
-      2  send r4.1 a 4.1#2
-    > 3  dlv r4.1 4.1#2
-      open
+      open                        open
 ",
     },
     Row {
@@ -363,5 +365,44 @@ fn verdicts_are_told_in_words(rt: HostRuntime) -> Result<(), AllocError> {
         let told = told(rt.alloc(), row.logs)?;
         is_told(&rt, &told, row.told, row.logs);
     }
+    Ok(())
+}
+
+/// Returns a log that sends a message in each of so many rings, and delivers none.
+fn undelivered(alloc: Global, rings: u32) -> Result<String, AllocError> {
+    let mut log = String::from_str(alloc, "log 1\nconf r4.1 1\n")?;
+    for number in 1..=rings {
+        let ring = 4 * number;
+        let next = ring + 4;
+        write!(log, "send r{ring}.1 a {ring}.1#1\n")?;
+        write!(log, "conf t{next}.1/1 1\nconf r{next}.1 1\n")?;
+    }
+    log.push_str("open\n")?;
+    Ok(log)
+}
+
+#[test]
+fn of_many_faults_the_first_are_explained_in_full(rt: HostRuntime) -> Result<(), AllocError> {
+    let alloc = rt.alloc();
+    let log = undelivered(alloc, 101)?;
+    let told = told(alloc, log.as_str())?;
+    let text = told.as_str();
+    assert!(rt;
+        text.contains("\nOf 101 faults the first 100 are explained in full.\n\nfault 3 1@2\n")
+    );
+    assert!(rt;
+        text.contains(
+            "  Process 1 did not deliver 400.1#1 in r400.1 or what follows it: it went on to r404.1 (1@301).\n"
+        )
+    );
+    assert!(rt;
+        text.ends_with(
+            "      open\n
+fault 3 1@302
+Specification 3: Who sends a message delivers it, unless it fails or is still in that configuration.
+  1@302  process 1 sent 404.1#1 in r404.1, an agreed message
+"
+        )
+    );
     Ok(())
 }

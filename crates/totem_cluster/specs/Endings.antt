@@ -161,6 +161,8 @@ pub data Ends (old new : Seen) (was is quiet said : Held) : ℕ → Type 0 where
   simulated : (outcome : Outcome) → Simulates old new was is (Ok outcome) → said ≡ quiet → Ends old new was is quiet said (outcome_status outcome)
   -- it was not, and the fault is told
   unsimulated : (fault : IoFault) → Simulates old new was is (Err fault) → Tells quiet said (fault_line fault) → Ends old new was is quiet said (fault_status fault)
+  -- it makes no run, and the fault is told with words behind it
+  unfollowed : (fault : IoFault) (status : ℕ) → Simulates old new was is (Err fault) → Points fault quiet said status → Ends old new was is quiet said status
   -- nothing was read, and nodes were to run in threads
   played : (status : ℕ) → new ≡ old → Plays was is quiet said status → Ends old new was is quiet said status
   -- nothing was read, and the words are answered; what the text is, and for which words, is not said here

@@ -11,6 +11,7 @@ use Rattle.totem_script.specs.declared.script_fault.ScriptFaultKind.{ScriptFault
 use Rattle.totem_script.specs.declared.script_fault.ScriptFaultKind.TheVariants.{Truncated, Read, Memory}
 use Rattle.totem_script.specs.Simulation.{Told, simulate}
 use Rattle.totem_cluster.specs.declared.simulating.Reading.{Reading}
+use Rattle.totem_cluster.specs.declared.simulating.Unmade.{Unmade}
 use Rattle.totem_cluster.specs.declared.outcome.Outcome.{Outcome}
 use Rattle.totem_cluster.specs.declared.outcome.Outcome.TheVariants as outcomes
 use Rattle.totem_cluster.specs.declared.io_fault.IoFault.{IoFault}
@@ -76,6 +77,11 @@ MakesRun (Err faults.Memory) script = Unit {0}
 MakesRun (Err fault) script = ⊥
 
 -- ---- the call
+
+-- without the bytes of the script
+abbrev pub fault_alone : Result Outcome Unmade → Result Outcome IoFault
+fault_alone (Ok outcome) = Ok outcome
+fault_alone (Err unmade) = Err unmade.fault
 
 -- the script was read, this is its run, and the run's text was written and nothing else
 pub record IsSimulated (old new : Seen) (was is : Held) : Type 0 where

@@ -13,7 +13,8 @@ use crate::io_fault::IoFault;
 use crate::recording::run_io_with_progress;
 use crate::report::write_text;
 use crate::run_words::RunWords;
-use crate::simulating::sim_io;
+use crate::script_words::explain_line;
+use crate::simulating::{Unmade, follow_io, sim_io};
 use crate::telling::{tell, tell_fault, tell_with_words};
 use crate::words::{Words, read_words};
 use clap::Error;
@@ -119,6 +120,24 @@ fn point<R: Source, E: Sink>(alloc: Global, fault: &IoFault, input: &R, errors: 
     }
 }
 
+/// Returns what a person is told of a script that makes no run, behind the fault's line.
+fn line_words(alloc: Global, unmade: &Unmade) -> Result<String, AllocError> {
+    match &unmade.fault {
+        IoFault::Script(fault) => explain_line(alloc, fault, &unmade.script),
+        _ => Ok(String::new(alloc)),
+    }
+}
+
+/// Tells why a script makes no run, and which line of it. Returns the status.
+fn point_line<E: Sink>(alloc: Global, unmade: &Unmade, errors: &mut E) -> u8
+    ensures { Points unmade.now.fault (bare E.contents E.failures errors.old) (bare E.contents E.failures errors.new) result }
+{
+    match line_words(alloc, unmade) {
+        Ok(words) => tell_with_words(errors, &unmade.fault, words.as_str()),
+        Err(_) => tell_fault(errors, &IoFault::Memory),
+    }
+}
+
 /// The program over any three streams. The first of `words` is the program's name. Returns the status with which to exit.
 pub fn program<T: Threads + Wait + Sync, R: Source, W: Sink, E: Sink>(
     rt: &T,
@@ -170,6 +189,10 @@ pub fn program_with_progress<T: Threads + Wait + Sync, R: Source, W: Sink, E: Si
         Ok(Words::Draw { workers }) => match draw_io(rt, alloc, input, output, as_many(workers)) {
             Ok(outcome) => outcome.status(),
             Err(fault) => point(alloc, &fault, input, errors),
+        },
+        Ok(Words::ExplainScript) => match follow_io(alloc, input, output) {
+            Ok(outcome) => outcome.status(),
+            Err(unmade) => point_line(alloc, &unmade, errors),
         },
         Ok(Words::Audit { workers }) => match audit_io(rt, alloc, input, output, as_many(workers)) {
             Ok(outcome) => outcome.status(),

@@ -2,7 +2,7 @@
 ghost use Rattle.std.specs.Prelude.{◌≡◌, ◌≤◌, ◌+◌, ◌==◌, [], length, count_by};
 ghost use Rattle.totem_ids.specs.Sources.{seen};
 ghost use Rattle.totem_ids.specs.Writing.{held};
-ghost use Rattle.totem_cluster.specs.SimIo.{ReadsScript, Simulates, MakesRun, TellsBehind, unread};
+ghost use Rattle.totem_cluster.specs.SimIo.{ReadsScript, Simulates, MakesRun, TellsBehind, fault_alone, unread};
 
 use crate::io_fault::IoFault;
 use crate::outcome::Outcome;
@@ -90,7 +90,54 @@ fn run_of(alloc: Global, script: &[u8]) -> Result<Run, IoFault>
     }
 }
 
+/// Why a script made no run, and the bytes that were read of it.
+#[derive(Debug, Drop)]
+pub struct Unmade {
+    pub fault: IoFault,
+    /// Empty where memory was refused while they were read.
+    pub script: Vec<u8>,
+}
+
 /// Reads a script, and writes the text of the run that it makes. A script that never ends is refused.
+pub fn follow_io<R: Source, W: Sink>(
+    alloc: Global,
+    input: &mut R,
+    output: &mut W,
+) -> Result<Outcome, Unmade>
+    ensures { Simulates (seen R.remaining R.failures input.old) (seen R.remaining R.failures input.new)
+        (held W.contents W.failures [] output.old) (held W.contents W.failures [] output.new) (fault_alone result) }
+{
+    let Ok(script) = read_script(alloc, input) else {
+        return Err(Unmade {
+            fault: IoFault::Memory,
+            script: Vec::new(alloc),
+        });
+    };
+    if script.failed {
+        return Err(Unmade {
+            fault: fault_behind(alloc, &script.bytes),
+            script: script.bytes,
+        });
+    }
+    let run = match run_of(alloc, &script.bytes) {
+        Ok(run) => run,
+        Err(fault) => {
+            return Err(Unmade {
+                fault,
+                script: script.bytes,
+            });
+        }
+    };
+    match write_run(alloc, &run, output) {
+        Ok(()) => Ok(Outcome::Made),
+        Err(fault) => Err(Unmade {
+            fault: IoFault::from(fault),
+            script: script.bytes,
+        }),
+    }
+}
+
+/// Does as `follow_io` does, and keeps nothing of a script that makes no run.
 pub fn sim_io<R: Source, W: Sink>(
     alloc: Global,
     input: &mut R,
@@ -99,16 +146,8 @@ pub fn sim_io<R: Source, W: Sink>(
     ensures { Simulates (seen R.remaining R.failures input.old) (seen R.remaining R.failures input.new)
         (held W.contents W.failures [] output.old) (held W.contents W.failures [] output.new) result }
 {
-    let Ok(script) = read_script(alloc, input) else {
-        return Err(IoFault::Memory);
-    };
-    if script.failed {
-        return Err(fault_behind(alloc, &script.bytes));
+    match follow_io(alloc, input, output) {
+        Ok(outcome) => Ok(outcome),
+        Err(unmade) => Err(unmade.fault),
     }
-    let run = match run_of(alloc, &script.bytes) {
-        Ok(run) => run,
-        Err(fault) => return Err(fault),
-    };
-    write_run(alloc, &run, output)?;
-    Ok(Outcome::Made)
 }

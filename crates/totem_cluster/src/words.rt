@@ -13,6 +13,8 @@ pub enum Words {
     Explain { workers: u32 },
     /// The same audit, drawn as a picture, by 1 to 64 workers.
     Draw { workers: u32 },
+    /// The run that the script on the standard input makes, or the line for which it makes none.
+    ExplainScript,
     /// The check of a run and its certificate.
     Check,
     /// The run that the script on the standard input makes.
@@ -59,6 +61,13 @@ fn svg_option<'a>(alloc: Global) -> Arg<'a> {
         )
 }
 
+fn script_option<'a>(alloc: Global) -> Arg<'a> {
+    Arg::new(alloc, "script")
+        .long("script")
+        .action(ArgAction::SetTrue)
+        .help("Follows a script as sim does, and shows the line for which it is refused")
+}
+
 fn explain_command<'a>(alloc: Global) -> Result<Command<'a>, AllocError> {
     Command::new(alloc, "explain")
         .about(
@@ -66,12 +75,16 @@ fn explain_command<'a>(alloc: Global) -> Result<Command<'a>, AllocError> {
         )
         .after_help(EXPLAIN_EXAMPLE)
         .arg(workers_option(alloc))?
-        .arg(svg_option(alloc))
+        .arg(svg_option(alloc))?
+        .arg(script_option(alloc).conflicts_with("svg")?)
 }
 
 /// Returns what the words behind `explain` ask for.
 fn explain_words(matches: &ArgMatches<'_>) -> Words {
     let workers = workers_of(matches);
+    if matches.get_flag("script") {
+        return Words::ExplainScript;
+    }
     if matches.get_flag("svg") {
         return Words::Draw { workers };
     }

@@ -1,9 +1,9 @@
 //! The bands of configurations, and the names of processes in front of them.
 use crate::frame::{Frame, STEP};
-use crate::lane::Lane;
 use crate::shapes::{Point, push_band, push_label, push_words};
 use std::alloc::{AllocError, Global};
 use totem_evs::Ending;
+use totem_explain::Lane;
 use totem_ids::ConfId;
 
 /// A stretch of a lane in one configuration.

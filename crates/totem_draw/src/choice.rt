@@ -1,8 +1,7 @@
 //! Which entries of a run are drawn.
-use crate::lane::Lane;
 use std::alloc::{AllocError, Global};
 use totem_evs::{Entry, Log, Run};
-use totem_explain::entry_at;
+use totem_explain::{Lane, entry_at};
 use totem_ids::{MsgId, Place};
 
 /// A run with no more entries is drawn whole.

@@ -1,10 +1,10 @@
 //! The events of the lanes.
 use crate::frame::Frame;
-use crate::lane::{Lane, Spot, What};
 use crate::marks::{number_of, told};
 use crate::shapes::{Point, push_bar, push_cross, push_dot, push_label, push_mark, push_ring};
 use crate::subject::Subject;
 use std::alloc::{AllocError, Global};
+use totem_explain::{Lane, Spot, What};
 use totem_ids::{MsgId, Place};
 
 /// Adds the message's name below its event.

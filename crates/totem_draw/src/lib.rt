@@ -5,8 +5,6 @@ mod bands;
 mod choice;
 mod events;
 mod frame;
-mod lane;
-mod layout;
 mod lines;
 mod marks;
 mod picture;

@@ -1,9 +1,9 @@
 //! The lines from the sends of messages to their deliveries.
 use crate::frame::Frame;
-use crate::lane::Lane;
 use crate::shapes::{Point, push_dashed, push_line};
 use std::alloc::AllocError;
 use totem_evs::Pending;
+use totem_explain::Lane;
 use totem_ids::MsgId;
 
 /// Returns where a message is sent, if that is drawn.

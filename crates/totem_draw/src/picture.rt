@@ -3,8 +3,6 @@ use crate::bands::push_bands;
 use crate::choice::lanes_of;
 use crate::events::push_events;
 use crate::frame::{Frame, LINE};
-use crate::lane::Lane;
-use crate::layout::lay_out;
 use crate::lines::{push_lines, push_pending};
 use crate::marks::lines_of;
 use crate::shapes::{Point, push_words};
@@ -12,7 +10,7 @@ use crate::subject::Subject;
 use crate::words::wrapped;
 use std::alloc::{AllocError, Global};
 use totem_evs::{Fault, Pending, Run};
-use totem_explain::rule_of;
+use totem_explain::{Lane, lay_out, rule_of};
 use totem_ids::Place;
 
 /// What is said below a picture of how it is to be read.

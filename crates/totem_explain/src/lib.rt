@@ -1,11 +1,13 @@
 //! An audit in words for people: what a fault's places are, what is missing, and the log lines around them.
 #![tactic(auto)]
 
+mod columns;
 mod counts;
 mod cycle;
 mod event;
-mod excerpt;
 mod fate;
+mod lane;
+mod layout;
 mod lookup;
 mod no;
 mod reason;
@@ -14,6 +16,8 @@ mod rule;
 mod yes;
 
 pub use event::{event_of, line_of};
+pub use lane::{Lane, Spot, What};
+pub use layout::lay_out;
 pub use lookup::entry_at;
 pub use no::{Explained, ExplainedNo, explain_no};
 pub use refusal::explain_refusal;

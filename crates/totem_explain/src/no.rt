@@ -1,9 +1,9 @@
 //! A no in words.
 ghost use Rattle.std.specs.Prelude.{◌≡◌, IfOk, map};
 
+use crate::columns::columns;
 use crate::counts::summary;
 use crate::event::event_of;
-use crate::excerpt::excerpt;
 use crate::lookup::entry_at;
 use crate::reason::reason;
 use crate::rule::rule_of;
@@ -25,6 +25,9 @@ pub struct ExplainedNo {
     pub faults: Vec<Explained>,
 }
 
+/// How many faults are explained in full.
+const IN_FULL: usize = 100;
+
 /// Returns a line for each place, with what happened there.
 fn events(alloc: Global, run: &Run, places: &[Place]) -> Result<String, AllocError> {
     let mut text = String::new(alloc);
@@ -38,26 +41,34 @@ fn events(alloc: Global, run: &Run, places: &[Place]) -> Result<String, AllocErr
     Ok(text)
 }
 
-/// Returns what a person is told of a fault.
-fn told(alloc: Global, run: &Run, fault: &Fault) -> Result<String, AllocError> {
-    let places = fault.places.as_slice();
+/// Returns what a person is told of a fault first: what is asked, and what happened at its places.
+fn beginning(alloc: Global, run: &Run, fault: &Fault) -> Result<String, AllocError> {
     let spec = fault.spec;
     let rule = rule_of(spec);
-    let events = events(alloc, run, places)?;
-    let reason = reason(alloc, run, fault)?;
-    let excerpt = excerpt(alloc, run, places)?;
-    format!(in alloc;
-        "Specification {spec}: {rule}\n{events}Why it is broken:\n{reason}The logs there:\n{excerpt}"
-    )
+    let events = events(alloc, run, fault.places.as_slice())?;
+    format!(in alloc; "Specification {spec}: {rule}\n{events}")
 }
 
-/// Explains each of these faults of the run, in their order.
+/// Returns what a person is told of a fault.
+fn told(alloc: Global, run: &Run, fault: &Fault) -> Result<String, AllocError> {
+    let beginning = beginning(alloc, run, fault)?;
+    let reason = reason(alloc, run, fault)?;
+    let columns = columns(alloc, run, fault.places.as_slice())?;
+    format!(in alloc; "{beginning}Why it is broken:\n{reason}The logs there:\n{columns}")
+}
+
+/// Explains each of these faults of the run, in their order: the first 100 in full, the others by what is asked and what happened at
+/// their places.
 fn explain_each(alloc: Global, run: &Run, faults: &[Fault]) -> Result<Vec<Explained>, AllocError>
     ensures { IfOk result (λ list. map (λ one. one.fault) list.items ≡ faults.now) }
 {
     let mut list = Vec::with_capacity(alloc, faults.len())?;
     for fault in faults {
-        let text = told(alloc, run, fault)?;
+        let text = if list.len() < IN_FULL {
+            told(alloc, run, fault)?
+        } else {
+            beginning(alloc, run, fault)?
+        };
         list.push(Explained {
             fault: fault.try_clone(alloc)?,
             text,
@@ -66,13 +77,24 @@ fn explain_each(alloc: Global, run: &Run, faults: &[Fault]) -> Result<Vec<Explai
     Ok(list)
 }
 
-/// Explains the no of a run: how much was judged, and each of these faults, in their order.
+/// Returns what is said above so many faults.
+fn heading(alloc: Global, run: &Run, count: usize) -> Result<String, AllocError> {
+    let summary = summary(alloc, run)?;
+    let first = IN_FULL;
+    if count <= first {
+        return format!(in alloc; "No: the run breaks extended virtual synchrony.\n{summary}");
+    }
+    format!(in alloc;
+        "No: the run breaks extended virtual synchrony.\n{summary}Of {count} faults the first {first} are explained in full.\n"
+    )
+}
+
+/// Explains the no of a run: how much was judged, and each of these faults, in their order. Only the first 100 are explained in full.
 pub fn explain_no(alloc: Global, run: &Run, faults: &[Fault]) -> Result<ExplainedNo, AllocError>
     ensures { IfOk result (λ words. map (λ one. one.fault) words.faults.items ≡ faults.now) }
 {
-    let summary = summary(alloc, run)?;
     Ok(ExplainedNo {
-        heading: format!(in alloc; "No: the run breaks extended virtual synchrony.\n{summary}")?,
+        heading: heading(alloc, run, faults.len())?,
         faults: explain_each(alloc, run, faults)?,
     })
 }

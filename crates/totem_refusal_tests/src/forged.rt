@@ -1,12 +1,15 @@
-//! Seeded changes of packets: what is no packet is refused by name, and what is one has these very bytes.
+//! Seeded changes of packets and of a run's text: what is no packet is refused by name, and what is one has these very bytes; a text is
+//! refused part by part as it is as a whole.
 use rand_core::SeedableRng;
 use rand_core::utils::NextWord;
 use rand_pcg::Pcg32;
 use std::alloc::{AllocError, Global};
 use std::test::Fail;
+use totem_evs::{Next, RunFault, RunReader, read_run};
+use totem_ids::FromRead;
 use totem_packets::{Packet, PacketFault};
 
-/// How often each packet is changed.
+/// How often each packet and the text are changed.
 const TIMES: u32 = 10_000;
 
 /// A token, a message of a client, one that carries an older one, a mark, a Join, and a commit token.
@@ -26,6 +29,10 @@ const PACKETS: [&[u8]; 6] = [
         3, 0, 2, 0,
     ],
 ];
+
+/// The text of a run in which a member leaves and another one fails.
+const RUN: &[u8] =
+    b"totem-run 1\nlog 1\nconf r4.1 1 2 3\nsend r4.1 s 4.1#1\ndlv r4.1 4.1#1\nconf t8.1/1 1 2\nconf r8.1 1 2\nopen\nlog 2\nconf r4.1 1 2 3\nconf t8.1/1 1 2\nconf r8.1 1 2\nfail r8.1\nfailed\nlog 3\nconf r4.1 1 2 3\nopen\nend\n";
 
 /// Changes the bytes as a word says, at a place that it says: a byte is another one, is left out or comes twice, or all behind it is cut.
 fn change(bytes: &mut Vec<u8>, word: u32) -> Result<(), AllocError> {
@@ -117,11 +124,65 @@ fn packet_counts(alloc: Global, packet: &[u8]) -> Result<Counts, AllocError> {
     Ok(counts)
 }
 
+/// Returns why the bytes are no run's text, or `None` if they are one.
+fn fault_of(alloc: Global, bytes: &[u8]) -> Option<RunFault> {
+    match read_run(alloc, &mut FromRead::new(bytes)) {
+        Ok(_) => None,
+        Err(fault) => Some(fault),
+    }
+}
+
+/// Returns the same of the bytes read part by part. Each part has one byte at least.
+fn fault_of_parts(alloc: Global, bytes: &[u8]) -> Option<RunFault> {
+    let mut source = FromRead::new(bytes);
+    let mut reader = match RunReader::begin(alloc, &mut source) {
+        Ok(reader) => reader,
+        Err(fault) => return Some(fault),
+    };
+    for _ in 0..=bytes.len() {
+        match reader.next(&mut source) {
+            Ok(Next::Part(_, later)) => reader = later,
+            Ok(Next::End) => return None,
+            Err(fault) => return Some(fault),
+        }
+    }
+    Some(RunFault::Memory)
+}
+
+/// Reads the bytes as a whole and part by part. Both have to come to the same.
+fn judge_text(alloc: Global, bytes: &[u8]) -> Answer {
+    let whole = fault_of(alloc, bytes);
+    if whole != fault_of_parts(alloc, bytes) || whole == Some(RunFault::Memory) {
+        return Answer::Wrong;
+    }
+    match whole {
+        Some(_) => Answer::Refused,
+        None => Answer::Taken,
+    }
+}
+
+fn text_counts(alloc: Global) -> Result<Counts, AllocError> {
+    let mut words = Pcg32::seed_from_u64(2);
+    let mut counts = Counts::new();
+    for _ in 0..TIMES {
+        let bytes = changed(alloc, &mut words, RUN)?;
+        counts.note(judge_text(alloc, &bytes));
+    }
+    Ok(counts)
+}
+
 #[test]
 fn changed_packets_are_refused_or_have_their_bytes(rt: HostRuntime) -> Result<(), Fail> {
     for packet in PACKETS {
         let counts = packet_counts(rt.alloc(), packet)?;
         assert!(rt; counts.are_right(), "{packet:?}: {counts:?}");
     }
+    Ok(())
+}
+
+#[test]
+fn changed_texts_are_refused_by_parts_as_they_are_whole(rt: HostRuntime) -> Result<(), Fail> {
+    let counts = text_counts(rt.alloc())?;
+    assert!(rt; counts.are_right(), "{counts:?}");
     Ok(())
 }

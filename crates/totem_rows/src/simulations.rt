@@ -3,7 +3,7 @@ use crate::table::{Row, run, run_rows};
 use std::alloc::{AllocError, Global};
 use std::test::Fail;
 
-const RUNS: [Row; 7] = [
+const RUNS: [Row; 8] = [
     Row {
         name: "a message is lost, and asked for",
         words: "sim",
@@ -60,9 +60,17 @@ const RUNS: [Row; 7] = [
         output: "totem-run 1;log 1;conf r4.1 1 2;send r4.1 a 4.1#1;dlv r4.1 4.1#1;conf t12.1/1 1;conf r12.1 1;open;log 2;conf r4.1 1 2;fail r4.1;failed;end;",
         errors: "",
     },
+    Row {
+        name: "a script that explain follows",
+        words: "explain --script",
+        input: "totem-script 1;ring 4.1 1 2;submit 1 s x;run 3;end;",
+        status: 0,
+        output: "totem-run 1;log 1;conf r4.1 1 2;send r4.1 s 4.1#1;open;log 2;conf r4.1 1 2;open;end;",
+        errors: "",
+    },
 ];
 
-const REFUSALS: [Row; 8] = [
+const REFUSALS: [Row; 9] = [
     Row {
         name: "a script that is cut short",
         words: "sim",
@@ -126,6 +134,14 @@ const REFUSALS: [Row; 8] = [
         status: 2,
         output: "",
         errors: "totem: script refused: 7 End;",
+    },
+    Row {
+        name: "a count of nothing, shown",
+        words: "explain --script",
+        input: "totem-script 1;ring 4.1 1 2;drop 0;end;",
+        status: 2,
+        output: "",
+        errors: "totem: script refused: 3 Number;line 3:;  drop 0;Numbers have no zero in front. Processes are 1 to 65535, counts and places 1 to 100000.;",
     },
 ];
 

@@ -44,6 +44,10 @@ fn a_run_of_threads_is_read_and_judged(rt: HostRuntime) -> Result<(), Fail> {
         "run --lose 10 --repeat 20 --hold 3",
         "run --nodes 1 --ticks 80",
         "run --nodes 8 --ticks 800 --seed 18446744073709551615",
+        "run --nodes 32 --ticks 80 --hold 255",
+        "run --ticks 80 --lose 60 --repeat 40",
+        "run --ticks 80 --lose 100",
+        "run --ticks 80 --repeat 100",
     ] {
         judged(&rt, rt.alloc(), words)?;
     }

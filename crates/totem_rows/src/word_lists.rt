@@ -42,6 +42,7 @@ fn other_words_are_refused(rt: HostRuntime) -> Result<(), Fail> {
         "audit twice",
         "audit --fast",
         "audit --svg",
+        "explain --svg --script",
         "sim --quiet",
         "--audit",
         "AUDIT",

@@ -1,5 +1,5 @@
 use Rattle.std.proofs.Common.{refl}
-use Rattle.totem_cluster.specs.Endings.{judged, failed, told, untold, checked, unchecked, simulated, unsimulated, drawn, undrawn, answered, played}
+use Rattle.totem_cluster.specs.Endings.{judged, failed, told, untold, checked, unchecked, simulated, unsimulated, unfollowed, drawn, undrawn, answered, played}
 use Rattle.totem_cluster.proofs.shell.program_with_progress.Goals as goal
 
 pub returns-in-Err : goal.returns-in-Err
@@ -42,3 +42,9 @@ returns-in-Ok-draw_io g c = rw c.status-in-Ok-draw_io.ensures (drawn _ c.in-Ok-d
 
 pub returns-in-Err-draw_io : goal.returns-in-Err-draw_io
 returns-in-Err-draw_io g c = undrawn _ _ c.in-Err-draw_io.ensures c.point-in-Err-draw_io.ensures
+
+pub returns-in-Ok-follow_io : goal.returns-in-Ok-follow_io
+returns-in-Ok-follow_io g c = rw c.status-in-Ok-follow_io.ensures (simulated _ c.in-Ok-follow_io.ensures refl)
+
+pub returns-in-Err-follow_io : goal.returns-in-Err-follow_io
+returns-in-Err-follow_io g c = unfollowed _ _ c.in-Err-follow_io.ensures c.point_line.ensures

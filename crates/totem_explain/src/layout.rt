@@ -1,35 +1,36 @@
-//! Where from left to right the spots of the lanes lie.
+//! An order of what is shown of the logs that fits all of them.
 use crate::lane::{Lane, Spot};
 use std::alloc::{AllocError, Global};
+use std::collections::BTreeSet;
 use totem_ids::MsgId;
 
-/// The messages whose sends are drawn, and those whose sends have their slots.
+/// The messages whose sends are shown, and those whose sends have their slots.
 #[derive(Drop)]
 struct Sends {
-    drawn: Vec<MsgId>,
-    placed: Vec<MsgId>,
+    shown: BTreeSet<MsgId>,
+    placed: BTreeSet<MsgId>,
 }
 
 impl Sends {
     fn of(alloc: Global, lanes: &[Lane]) -> Result<Sends, AllocError> {
-        let mut drawn = Vec::new(alloc);
+        let mut shown = BTreeSet::new(alloc);
         for lane in lanes {
             for spot in lane.spots.as_slice() {
                 if let Some(message) = spot.sends() {
-                    drawn.push(message)?;
+                    shown.insert(message)?;
                 }
             }
         }
         Ok(Sends {
-            drawn,
-            placed: Vec::new(alloc),
+            shown,
+            placed: BTreeSet::new(alloc),
         })
     }
 
-    /// Returns whether a spot may lie here: a delivery lies behind its send, if that is drawn.
+    /// Returns whether a spot may lie here: a delivery lies behind its send, if that is shown.
     fn let_through(&self, spot: &Spot) -> bool {
         match spot.delivers() {
-            Some(message) => self.placed.contains(&message) || !self.drawn.contains(&message),
+            Some(message) => self.placed.contains(&message) || !self.shown.contains(&message),
             None => true,
         }
     }
@@ -66,7 +67,9 @@ fn place_ready(
             }
         }
     }
-    sends.placed.extend_from_slice(sent.as_slice())?;
+    for message in sent {
+        sends.placed.insert(message)?;
+    }
     Ok(is_any)
 }
 
@@ -75,7 +78,7 @@ fn place_first(lanes: &mut [Lane], slot: u32, sends: &mut Sends) -> Result<bool,
     for lane in lanes.iter_mut() {
         if lane.placed < lane.spots.len() {
             if let Some(message) = place(lane, slot) {
-                sends.placed.push(message)?;
+                sends.placed.insert(message)?;
             }
             return Ok(true);
         }
@@ -83,7 +86,7 @@ fn place_first(lanes: &mut [Lane], slot: u32, sends: &mut Sends) -> Result<bool,
     Ok(false)
 }
 
-/// Gives each spot its slot. The spots of a lane keep their order, and a delivery lies behind its send where that is drawn; where
+/// Gives each spot its slot. The spots of a lane keep their order, and a delivery lies behind its send where that is shown; where
 /// that can't be, since events come before themselves, the first lane goes on. Returns how many slots there are.
 pub fn lay_out(alloc: Global, lanes: &mut [Lane]) -> Result<u32, AllocError> {
     let mut sends = Sends::of(alloc, lanes)?;

@@ -1,9 +1,9 @@
-//! What stands in the lane of a process.
+//! What is shown of a log.
 use std::alloc::{AllocError, Global};
 use totem_evs::{Ending, Entry, Log};
 use totem_ids::{ConfId, MsgId, Place, ProcId};
 
-/// What is drawn at a spot of a lane.
+/// What is shown at a spot of a lane.
 #[derive(Clone, Copy, Debug, PartialEq, Eq)]
 pub enum What {
     Change,
@@ -33,7 +33,7 @@ pub struct Spot {
     pub before: u32,
     /// The configuration of the process once it has happened.
     pub conf: Option<ConfId>,
-    /// How many steps it lies to the right.
+    /// Where it stands among what is shown of all logs: `lay_out` gives it.
     pub slot: u32,
 }
 
@@ -55,7 +55,7 @@ impl Spot {
     }
 }
 
-/// The lane of a process: what is drawn of its log, in order.
+/// The lane of a process: what is shown of its log, in order.
 #[derive(Debug, Drop)]
 pub struct Lane {
     pub proc: ProcId,
@@ -65,14 +65,14 @@ pub struct Lane {
     pub placed: usize,
 }
 
-/// A log of which so many entries have been read, and what is drawn of them.
+/// A log of which so many entries have been read, and what is shown of them.
 #[derive(Drop)]
 struct Reading {
     spots: Vec<Spot>,
     read: u32,
     /// The configuration of the process.
     conf: Option<ConfId>,
-    /// How many entries have been left out since the last that is drawn.
+    /// How many entries have been left out since the last that is shown.
     left_out: u32,
 }
 
@@ -116,7 +116,7 @@ impl Reading {
 }
 
 impl Lane {
-    /// Returns the place of an entry that is drawn at a spot.
+    /// Returns the place of an entry that is shown at a spot.
     pub fn place_of(&self, spot: &Spot) -> Place {
         Place {
             proc: self.proc,

@@ -1,0 +1,66 @@
+//! The line for which a script is refused, and what may stand there (docs/PROTOCOL.md, "Scripts").
+use std::alloc::{AllocError, Global};
+use totem_script::{ScriptFault, ScriptFaultKind};
+
+/// How many bytes of a line are shown.
+const SHOWN: usize = 72;
+
+/// Returns what is wanted where a script has such a fault.
+fn wanted(kind: ScriptFaultKind) -> &'static str {
+    match kind {
+        ScriptFaultKind::Header => "A script begins with the line `totem-script 1`.",
+        ScriptFaultKind::Word => {
+            "A line is `ring 4.1 1 2 3`, `submit 1 a word`, `run 7`, `drop 2`, `repeat 2`, `cut 1 2 / 3`, `join`, `timer 1`, `crash 1` or `end`, with one space between its words."
+        }
+        ScriptFaultKind::Number => {
+            "Numbers have no zero in front. Processes are 1 to 65535, counts and places 1 to 100000."
+        }
+        ScriptFaultKind::Order => {
+            "Lines with `ring` come first, one or more, and behind another command there is none."
+        }
+        ScriptFaultKind::Members => {
+            "The members of a ring rise, are in no other ring, and the least is its representative. Other commands name processes of the script, and a cut names each of them once."
+        }
+        ScriptFaultKind::Place => "There are fewer packets on their way.",
+        ScriptFaultKind::End => "Nothing stands behind the line `end`.",
+        ScriptFaultKind::Truncated => "Each line has its end, and the last one is `end`.",
+        ScriptFaultKind::TooMany => {
+            "A script has 32 processes and 65536 bytes at most, and a log 1000000 entries."
+        }
+        ScriptFaultKind::Read | ScriptFaultKind::Memory => "",
+    }
+}
+
+/// Adds the bytes of the line with this number, counted from 1, as a person can read them; of a long one the first.
+fn push_line(text: &mut String, script: &[u8], line: u32) -> Result<(), AllocError> {
+    let mut current = 1u32;
+    let mut shown = 0usize;
+    for byte in script {
+        if *byte == b'\n' {
+            current = current.saturating_add(1);
+        } else if current == line && shown < SHOWN {
+            shown += 1;
+            let is_plain = (b' '..=b'~').contains(byte);
+            text.push(if is_plain { char::from(*byte) } else { '?' })?;
+        }
+    }
+    Ok(())
+}
+
+/// Returns what a person is told of a script that is refused: the line, and what may stand there. Nothing is told where the script could
+/// not be read or memory was refused.
+pub fn explain_line(
+    alloc: Global,
+    fault: &ScriptFault,
+    script: &[u8],
+) -> Result<String, AllocError> {
+    let wanted = wanted(fault.kind);
+    if wanted.is_empty() {
+        return Ok(String::new(alloc));
+    }
+    let line = fault.line;
+    let mut text = format!(in alloc; "line {line}:\n  ")?;
+    push_line(&mut text, script, line)?;
+    text.push_str(format!(in alloc; "\n{wanted}\n")?.as_str())?;
+    Ok(text)
+}

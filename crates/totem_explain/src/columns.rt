@@ -1,0 +1,234 @@
+//! The lines of the logs around the places of a fault, side by side.
+use crate::event::line_of;
+use crate::lane::{Lane, Spot, What};
+use crate::layout::lay_out;
+use crate::lookup::{entry_of, log_of};
+use std::alloc::{AllocError, Global};
+use totem_evs::{Ending, Log, Run};
+use totem_ids::Place;
+
+/// How many entries are shown in front of a place, and behind it.
+const AROUND: u32 = 2;
+
+/// How many letters a row has at most, unless one column alone has more.
+const WIDTH: usize = 110;
+
+/// How many spaces stand before the first column.
+const INDENT: usize = 2;
+
+/// How many spaces stand between two columns, at least.
+const BETWEEN: usize = 4;
+
+/// Whether an entry is shown.
+#[derive(Clone, Copy, Debug, PartialEq, Eq)]
+enum Shown {
+    LeftOut,
+    Near,
+    Marked,
+}
+
+/// Marks entry `at`, counted from 1, and shows those around it.
+fn mark(shown: &mut Vec<Shown>, at: u32) {
+    for near in at.saturating_sub(AROUND)..=at.saturating_add(AROUND) {
+        let Some(index) = near.checked_sub(1) else {
+            continue;
+        };
+        if let Some(one) = shown.get_mut(index as usize) {
+            if near == at {
+                *one = Shown::Marked;
+            } else if *one == Shown::LeftOut {
+                *one = Shown::Near;
+            }
+        }
+    }
+}
+
+/// Returns of each entry of a log whether it is shown.
+fn shown_of(alloc: Global, log: &Log, places: &[Place]) -> Result<Vec<Shown>, AllocError> {
+    let entries = log.entries.as_slice();
+    let mut shown = Vec::with_capacity(alloc, entries.len())?;
+    for _ in entries {
+        shown.push(Shown::LeftOut)?;
+    }
+    for place in places {
+        if place.proc == log.proc {
+            mark(&mut shown, place.at);
+        }
+    }
+    Ok(shown)
+}
+
+/// Returns what is shown of a log.
+fn lane_of(alloc: Global, log: &Log, shown: &[Shown]) -> Result<Lane, AllocError> {
+    let mut is_shown = Vec::with_capacity(alloc, shown.len())?;
+    for one in shown {
+        is_shown.push(*one != Shown::LeftOut)?;
+    }
+    Lane::of(alloc, log, is_shown.as_slice())
+}
+
+/// What stands in a row of a column.
+#[derive(Drop)]
+struct Cell {
+    row: u32,
+    text: String,
+}
+
+/// The column of a log.
+#[derive(Drop)]
+struct Column {
+    /// From the last row to the first.
+    cells: Vec<Cell>,
+    /// How many letters the widest cell has.
+    width: usize,
+}
+
+fn closing(ending: Ending) -> &'static str {
+    match ending {
+        Ending::Standing => "    open",
+        Ending::Failed => "    failed",
+    }
+}
+
+/// Returns what stands in the cell of a spot: the entry with its number, and whether it is marked, or how many are left out.
+fn cell_text(alloc: Global, log: &Log, spot: &Spot, shown: &[Shown]) -> Result<String, AllocError> {
+    match spot.what {
+        What::LeftOut(1) => return String::from_str(alloc, "    .. 1 entry"),
+        What::LeftOut(count) => return format!(in alloc; "    .. {count} entries"),
+        _ => {}
+    }
+    let at = spot.before.saturating_add(1);
+    let mark = match shown.get(spot.before as usize) {
+        Some(Shown::Marked) => ">",
+        _ => " ",
+    };
+    match entry_of(log, at) {
+        Some(entry) => {
+            let line = line_of(alloc, entry)?;
+            format!(in alloc; "  {mark} {at}  {line}")
+        }
+        None => Ok(String::new(alloc)),
+    }
+}
+
+impl Column {
+    fn add(&mut self, row: u32, text: String) -> Result<(), AllocError> {
+        self.width = self.width.max(text.len());
+        self.cells.push(Cell { row, text })?;
+        Ok(())
+    }
+
+    /// Returns the column of a log: its process, what is shown of it, and in the last row how it ends.
+    fn of(
+        alloc: Global,
+        log: &Log,
+        lane: &Lane,
+        shown: &[Shown],
+        last: u32,
+    ) -> Result<Column, AllocError> {
+        let mut column = Column {
+            cells: Vec::new(alloc),
+            width: 0,
+        };
+        column.add(last, String::from_str(alloc, closing(log.ending))?)?;
+        for spot in lane.spots.as_slice().iter().rev() {
+            let text = cell_text(alloc, log, spot, shown)?;
+            column.add(spot.slot.saturating_add(1), text)?;
+        }
+        let proc = log.proc;
+        column.add(0, format!(in alloc; "log {proc}")?)?;
+        Ok(column)
+    }
+
+    /// Takes the cell of this row from the column, if it has one. Rows are asked for in their order.
+    fn take(&mut self, row: u32) -> Option<String> {
+        if self.cells.last()?.row != row {
+            return None;
+        }
+        let cell = self.cells.pop()?;
+        Some(cell.text)
+    }
+}
+
+fn push_spaces(text: &mut String, count: usize) -> Result<(), AllocError> {
+    for _ in 0..count {
+        text.push(' ')?;
+    }
+    Ok(())
+}
+
+/// Adds a row of the columns, if one of them has a cell there.
+fn push_row(text: &mut String, columns: &mut [Column], row: u32) -> Result<(), AllocError> {
+    let mut spaces = INDENT;
+    let mut is_any = false;
+    for column in columns.iter_mut() {
+        match column.take(row) {
+            Some(cell) => {
+                push_spaces(text, spaces)?;
+                text.push_str(cell.as_str())?;
+                spaces = column
+                    .width
+                    .saturating_sub(cell.len())
+                    .saturating_add(BETWEEN);
+                is_any = true;
+            }
+            None => spaces = spaces.saturating_add(column.width).saturating_add(BETWEEN),
+        }
+    }
+    if is_any {
+        text.push_str("\n")?;
+    }
+    Ok(())
+}
+
+fn push_rows(text: &mut String, columns: &mut [Column], last: u32) -> Result<(), AllocError> {
+    for row in 0..=last {
+        push_row(text, columns, row)?;
+    }
+    Ok(())
+}
+
+/// Adds the columns side by side, as many as there is room for, and the others below them.
+fn push_columns(
+    alloc: Global,
+    text: &mut String,
+    columns: Vec<Column>,
+    last: u32,
+) -> Result<(), AllocError> {
+    let mut side_by_side: Vec<Column> = Vec::new(alloc);
+    let mut width = INDENT;
+    for column in columns {
+        if !side_by_side.is_empty() && width.saturating_add(column.width) > WIDTH {
+            push_rows(text, side_by_side.as_mut_slice(), last)?;
+            side_by_side.clear();
+            width = INDENT;
+        }
+        width = width.saturating_add(column.width).saturating_add(BETWEEN);
+        side_by_side.push(column)?;
+    }
+    push_rows(text, side_by_side.as_mut_slice(), last)
+}
+
+/// Returns the logs in which a place lies, side by side: the places, marked with `>`, and up to two entries on both sides. Each
+/// log stands in its order from top to bottom, and a delivery below its send where both are shown.
+pub fn columns(alloc: Global, run: &Run, places: &[Place]) -> Result<String, AllocError> {
+    let mut shown = Vec::new(alloc);
+    let mut lanes = Vec::new(alloc);
+    for log in run.logs.as_slice() {
+        if places.iter().any(|place| place.proc == log.proc) {
+            let of_log = shown_of(alloc, log, places)?;
+            lanes.push(lane_of(alloc, log, of_log.as_slice())?)?;
+            shown.push(of_log)?;
+        }
+    }
+    let last = lay_out(alloc, lanes.as_mut_slice())?.saturating_add(1);
+    let mut columns = Vec::new(alloc);
+    for (lane, of_log) in lanes.iter().zip(shown.iter()) {
+        if let Some(log) = log_of(run, lane.proc) {
+            columns.push(Column::of(alloc, log, lane, of_log.as_slice(), last)?)?;
+        }
+    }
+    let mut text = String::new(alloc);
+    push_columns(alloc, &mut text, columns, last)?;
+    Ok(text)
+}
