@@ -49,6 +49,7 @@ FORMS = {
                 1: (r'No: [ -~]+\n' + LINES, ''),
                 2: ('', RUN_REFUSED + LINES)},
     'explain --svg': {0: (PICTURE, ''), 1: (PICTURE, ''), 2: ('', RUN_REFUSED + LINES)},
+    'explain --script': {0: (RUN, ''), 2: ('', SCRIPT_REFUSED + LINES)},
     'sim': {0: (RUN, ''), 2: ('', SCRIPT_REFUSED)},
 }
 FORMS = {
@@ -59,7 +60,7 @@ FORMS = {
 
 def asked_for(words):
     """The key of the forms that the answer to these words may have."""
-    flags = [word for word in words if word == '--svg']
+    flags = [word for word in words if word in ('--svg', '--script')]
     return ' '.join([words[0], *flags])
 
 

@@ -15,6 +15,8 @@ ENVIRONMENT = {'PATH': '/usr/bin:/bin', 'LANG': 'C.UTF-8'}
 DEFAULT_SIGNALS = [signal.SIGPIPE, signal.SIGXFSZ]
 
 _alive = set()
+# How many times the seconds that are allowed are given, for a machine that does other work.
+_patience = 1
 
 
 @dataclass(frozen=True)
@@ -40,6 +42,17 @@ class Usage:
     peak: int
 
 
+def be_patient(times):
+    """From now on programs may take so many times the seconds that they may take."""
+    global _patience  # pylint: disable=global-statement
+    _patience = times
+
+
+def allowed(seconds):
+    """How long a program may take that may take so many seconds."""
+    return seconds * _patience
+
+
 def shown(content):
     """Bytes for a person, cut where there are many."""
     return repr(content) if len(content) <= 160 else '%r.. (%d bytes)' % (content[:160], len(content))
@@ -51,7 +64,7 @@ def wait(pid, seconds):
     handle = os.pidfd_open(pid)
     poll = select.poll()
     poll.register(handle, select.POLLIN)
-    has_ended = poll.poll(seconds * 1000)
+    has_ended = poll.poll(allowed(seconds) * 1000)
     os.close(handle)
     if not has_ended:
         os.kill(pid, signal.SIGKILL)

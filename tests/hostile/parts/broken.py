@@ -136,9 +136,16 @@ def try_run(trial, case, number):
         try_picture(trial, case, answer)
 
 
-def try_script(trial, case):
-    """A script: the run that it makes is one that the audit reads."""
+def try_script(trial, case, number):
+    """A script: the run that it makes is one that the audit reads. An explanation follows it to the same run, or
+    tells the same line of errors and the script's line behind it."""
     answer = trial.tried(case)
+    if answer and number % 8 == 0:
+        told = Case(case.row, case.done, ('explain', '--script'), case.text)
+        came = trial.answer(told)
+        is_same = came and (came.status, came.output) == (answer.status, answer.output) and \
+            (came.errors == answer.errors if answer.status == 0 else came.errors.startswith(answer.errors + b'line '))
+        trial.wants(told, came, is_same, 'what sim answers, and the line where it refuses: %s' % answer)
     if answer and answer.status == 0:
         audited = Case(case.row, case.done, ('audit',), answer.output)
         came = trial.answer(audited)
@@ -153,7 +160,7 @@ def try_change(corpus, changes, trial, number):
     if row.verb == 'audit':
         try_run(trial, case, number)
     elif row.verb == 'sim':
-        try_script(trial, case)
+        try_script(trial, case, number)
     else:
         trial.tried(case)
 

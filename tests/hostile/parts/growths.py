@@ -7,7 +7,7 @@ ROWS = (
     'one-message-delivered-by-both', 'empty-run', 'two-orders-of-two-messages', 'sent-and-open',
     'sent-and-failed', 'partition-that-is-still-open', 'certificate-of-a-good-run',
     'script-that-loses-a-message', 'script-that-parts-and-joins-a-ring', 'script-of-a-crash-in-recovery',
-    'explained-yes', 'explained-no', 'explained-refusal', 'drawn-yes', 'drawn-no',
+    'explained-yes', 'explained-no', 'explained-refusal', 'explained-script', 'drawn-yes', 'drawn-no',
 )
 # The words behind `totem`, and the status that they have.
 WORDS = (

@@ -6,6 +6,8 @@ import subprocess
 from concurrent.futures import ThreadPoolExecutor
 from dataclasses import dataclass
 
+from harness import process
+
 HOSTILE = os.path.dirname(os.path.dirname(os.path.abspath(__file__)))
 REPOSITORY = os.path.dirname(os.path.dirname(HOSTILE))
 FOLDER = os.path.join(HOSTILE, 'not_compiled')
@@ -58,7 +60,7 @@ def compiled(folder, cases, modules):
         with open(os.path.join(crate, 'src', name + '.rt'), 'w', encoding='utf-8') as it:
             it.write(text)
     ran = subprocess.run(['rt', 'try', '--test'], cwd=crate, stdin=subprocess.DEVNULL, stdout=subprocess.PIPE,
-                         stderr=subprocess.STDOUT, timeout=SECONDS, check=False)
+                         stderr=subprocess.STDOUT, timeout=process.allowed(SECONDS), check=False)
     return ran.returncode, ran.stdout.decode(errors='replace')
 
 

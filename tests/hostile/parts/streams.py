@@ -1,8 +1,11 @@
 """Streams that fail, give or take one byte at a time, are interrupted, closed, full, or read by nobody."""
 import os
+import re
 from concurrent.futures import ThreadPoolExecutor
+from functools import partial
 
 from harness import process, rows
+from harness.forms import LINES
 from harness.process import Answer
 from parts.growths import own_answer
 
@@ -10,15 +13,23 @@ from parts.growths import own_answer
 READ_TO_THE_END = (
     'one-message-delivered-by-both', 'empty-run', 'two-orders-of-two-messages', 'sent-and-open',
     'sent-and-failed', 'certificate-of-a-good-run', 'script-that-loses-a-message',
-    'script-that-repeats-a-token', 'script-of-a-crash-in-recovery',
+    'script-that-repeats-a-token', 'script-of-a-crash-in-recovery', 'explained-yes', 'explained-no',
 )
 REFUSED = (
     'number-with-a-leading-zero', 'script-without-a-ring',
-    'certificate-with-a-shared-number',
+    'certificate-with-a-shared-number', 'explained-refusal', 'explained-script',
 )
 WORDS = (('--help',), ('--version',), ('help', 'sim'), ('audti',))
 READ_FAILED = Answer(4, b'', b'totem: read failed\n')
 NO_WRITE = b'totem: write failed\n'
+
+
+def is_shown(own, came):
+    """An explanation of what is refused, whose line is shown as far as it was read."""
+    first = own.errors.split(b'\n')[0] + b'\n'
+    lines = came.errors.removeprefix(first)
+    return came.errors.startswith(first) and re.fullmatch(LINES, lines) and \
+        (came.status, came.output) == (own.status, own.output)
 
 
 class Streams:
@@ -30,8 +41,8 @@ class Streams:
         tally.begin()
 
     def tries(self, wanted):
-        """Runs with variables. `wanted` are pairs of variables and the answers that are right. How the runs
-        ended."""
+        """Runs with variables. `wanted` are pairs of variables and the answers that are right, or what tells of
+        an answer whether it is. How the runs ended."""
         def one(told):
             return self.asked.shim.run(self.words, self.given, **told)
 
@@ -39,7 +50,7 @@ class Streams:
             runs = list(pool.map(one, [told for told, _ in wanted]))
         for (told, right), ended in zip(wanted, runs):
             self.tally.tried += 1
-            if ended.answer not in right:
+            if not any(it(ended.answer) if callable(it) else it == ended.answer for it in right):
                 done = ' '.join('%s=%s' % it for it in told.items())
                 self.tally.fail(self.what, done, ended.answer, ' or '.join(map(str, right)))
         return runs
@@ -71,6 +82,15 @@ class Streams:
         self.tries([({'INTERRUPT': at, 'SHORT_IO': 1}, [self.own]) for at in range(1, size, 7)])
 
 
+def rights_of(row, own):
+    """The answers that are right where a row's source fails at some byte."""
+    if row.name in READ_TO_THE_END:
+        return [READ_FAILED]
+    if row.words[0] == 'explain':
+        return [READ_FAILED, partial(is_shown, own)]
+    return [READ_FAILED, own]
+
+
 def of_rows(asked, tally):
     """All of it for each row."""
     for name in READ_TO_THE_END + REFUSED:
@@ -79,7 +99,7 @@ def of_rows(asked, tally):
         own = own_answer(tally, row, plain)
         if own:
             streams = Streams(asked, tally, 'row ' + name, row.words, row.given, own)
-            streams.source([READ_FAILED] if name in READ_TO_THE_END else [READ_FAILED, own])
+            streams.source(rights_of(row, own))
             streams.sinks()
             streams.slow(plain)
 
