@@ -22,6 +22,34 @@ const TWO_JOBS: &str = "totem-run 1;log 1;conf r4.1 1;open;log 2;conf r4.2 2;ope
 const FOUR_JOBS: &str = "totem-run 1;log 1;conf r4.1 1;open;log 2;conf r4.2 2;open;\
     log 3;conf r4.3 3;open;log 4;conf r4.4 4;open;end;";
 
+/// Five processes that are each alone on a ring: five jobs.
+const FIVE_JOBS: &str = "totem-run 1;log 1;conf r4.1 1;open;log 2;conf r4.2 2;open;\
+    log 3;conf r4.3 3;open;log 4;conf r4.4 4;open;log 5;conf r4.5 5;open;end;";
+
+/// Counts for each of five jobs how often it is told of, before and after; other jobs count for 0.
+#[derive(Drop)]
+struct CountsJobs<'g, R> {
+    rt: &'g R,
+    begun: Mutex<[u32; 6]>,
+    ended: Mutex<[u32; 6]>,
+}
+
+fn count_job<R: Wait>(rt: &R, counts: &Mutex<[u32; 6]>, job: u32) {
+    let mut counts = counts.lock(rt);
+    let place = if job <= 5 { job as usize } else { 0 };
+    counts[place] = counts[place].saturating_add(1);
+}
+
+impl<R: Wait + Sync> Gate for CountsJobs<'_, R> {
+    fn before(&self, job: u32) {
+        count_job(self.rt, &self.begun, job);
+    }
+
+    fn after(&self, job: u32) {
+        count_job(self.rt, &self.ended, job);
+    }
+}
+
 /// Holds each job until `wanted` jobs have begun, and counts how many came, went, and were let go before that.
 #[derive(Drop)]
 struct HoldsUntil<'g, R> {
@@ -149,6 +177,25 @@ fn an_idle_worker_takes_what_is_left(rt: HostRuntime) -> Result<(), Fail> {
     let verdict = audit_with(&rt, rt.alloc(), &run, two, &gate)?;
     assert!(rt; matches!(verdict, Verdict::Yes { .. }));
     assert_eq!(rt; (*gate.ended.lock(&rt), *gate.let_go.lock(&rt)), (4, 0));
+    Ok(())
+}
+
+#[test]
+fn a_gate_is_told_of_each_job_once(rt: HostRuntime) -> Result<(), Fail> {
+    let run = run_of(rt.alloc(), FIVE_JOBS)?;
+    for count in [1, 2, 5, 64] {
+        let Some(workers) = Workers::new(count) else {
+            panic!(rt; "{count} workers");
+        };
+        let gate = CountsJobs {
+            rt: &rt,
+            begun: Mutex::new([0; 6]),
+            ended: Mutex::new([0; 6]),
+        };
+        audit_with(&rt, rt.alloc(), &run, workers, &gate)?;
+        assert_eq!(rt; *gate.begun.lock(&rt), [0, 1, 1, 1, 1, 1]);
+        assert_eq!(rt; *gate.ended.lock(&rt), [0, 1, 1, 1, 1, 1]);
+    }
     Ok(())
 }
 
