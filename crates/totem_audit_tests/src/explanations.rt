@@ -372,8 +372,8 @@ fn verdicts_are_told_in_words(rt: HostRuntime) -> Result<(), AllocError> {
 fn undelivered(alloc: Global, rings: u32) -> Result<String, AllocError> {
     let mut log = String::from_str(alloc, "log 1\nconf r4.1 1\n")?;
     for number in 1..=rings {
-        let ring = 4 * number;
-        let next = ring + 4;
+        let ring = number.saturating_mul(4);
+        let next = ring.saturating_add(4);
         write!(log, "send r{ring}.1 a {ring}.1#1\n")?;
         write!(log, "conf t{next}.1/1 1\nconf r{next}.1 1\n")?;
     }

@@ -126,10 +126,8 @@ fn packet_counts(alloc: Global, packet: &[u8]) -> Result<Counts, AllocError> {
 
 /// Returns why the bytes are no run's text, or `None` if they are one.
 fn fault_of(alloc: Global, bytes: &[u8]) -> Option<RunFault> {
-    match read_run(alloc, &mut FromRead::new(bytes)) {
-        Ok(_) => None,
-        Err(fault) => Some(fault),
-    }
+    let mut source = FromRead::new(bytes);
+    read_run(alloc, &mut source).err()
 }
 
 /// Returns the same of the bytes read part by part. Each part has one byte at least.

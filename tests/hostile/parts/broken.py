@@ -61,7 +61,9 @@ def cases_at(row, at):
     kind = kind_at(row, at)
     front, behind = text[:at], text[at + 1:]
     yield case('cut at %d' % at, front, re.escape(TRUNCATED[kind]))
-    yield case('byte %d is 00' % at, front + b'\0' + behind, UNFIT[kind])
+    # A script is judged line by line: the last one then has no end.
+    is_cut = kind == 'script' and not behind
+    yield case('byte %d is 00' % at, front + b'\0' + behind, re.escape(TRUNCATED[kind]) if is_cut else UNFIT[kind])
     if row.verb == 'explain':
         return
     for byte in OTHER_BYTES:

@@ -28,7 +28,7 @@ def is_shown(own, came):
     """An explanation of what is refused, whose line is shown as far as it was read."""
     first = own.errors.split(b'\n')[0] + b'\n'
     lines = came.errors.removeprefix(first)
-    return came.errors.startswith(first) and re.fullmatch(LINES, lines) and \
+    return came.errors.startswith(first) and re.fullmatch(LINES.encode(), lines) and \
         (came.status, came.output) == (own.status, own.output)
 
 
@@ -69,26 +69,27 @@ class Streams:
         self.tries([({'FAIL_ERRORS': at}, [Answer(status, output, errors[:at])]) for at in ends])
         self.tries([({'FAIL_WRITE': 0, 'FAIL_ERRORS': 0}, [Answer(4 if output else status, b'', b'')])])
 
-    def slow(self, plain):
+    def slow(self, plain, right):
         """Streams that move one byte at a time, and calls that are interrupted, change nothing."""
         size = len(self.given) + len(self.own.output) + len(self.own.errors)
-        [slow] = self.tries([({'SHORT_IO': 1}, [self.own])])
+        [slow] = self.tries([({'SHORT_IO': 1}, right)])
         if slow.reads + slow.writes <= plain.reads + plain.writes and size > 2:
             self.tally.fail(self.what, 'SHORT_IO=1', 'no more calls than else', 'more calls')
         calls = range(1, plain.reads + plain.writes + 1)
-        runs = self.tries([({'INTERRUPT': at}, [self.own]) for at in calls])
+        runs = self.tries([({'INTERRUPT': at}, right) for at in calls])
         if not any(ended.failures for ended in runs):
             self.tally.fail(self.what, 'INTERRUPT', 'no call was interrupted', 'one at least')
-        self.tries([({'INTERRUPT': at, 'SHORT_IO': 1}, [self.own]) for at in range(1, size, 7)])
+        self.tries([({'INTERRUPT': at, 'SHORT_IO': 1}, right) for at in range(1, size, 7)])
+
+
+def own_answers(row, own):
+    """The row's answers: of an explanation of what is refused also those that show less of the line."""
+    return [partial(is_shown, own)] if row.name == 'explained-refusal' else [own]
 
 
 def rights_of(row, own):
     """The answers that are right where a row's source fails at some byte."""
-    if row.name in READ_TO_THE_END:
-        return [READ_FAILED]
-    if row.words[0] == 'explain':
-        return [READ_FAILED, partial(is_shown, own)]
-    return [READ_FAILED, own]
+    return [READ_FAILED] if row.name in READ_TO_THE_END else [READ_FAILED, *own_answers(row, own)]
 
 
 def of_rows(asked, tally):
@@ -101,7 +102,7 @@ def of_rows(asked, tally):
             streams = Streams(asked, tally, 'row ' + name, row.words, row.given, own)
             streams.source(rights_of(row, own))
             streams.sinks()
-            streams.slow(plain)
+            streams.slow(plain, own_answers(row, own))
 
 
 def of_words(asked, tally):
@@ -110,7 +111,7 @@ def of_words(asked, tally):
         plain = asked.shim.run([asked.program, *words])
         streams = Streams(asked, tally, 'words %r' % ' '.join(words), words, b'', plain.answer)
         streams.sinks()
-        streams.slow(plain)
+        streams.slow(plain, [plain.answer])
 
 
 def odd_streams(own):

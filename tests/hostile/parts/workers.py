@@ -22,6 +22,8 @@ def workers(asked, tally):
         own = own or process.run([asked.program, verb], row.given)[0]
         tally.begin()
         tally.judge(what, 'nothing refused', plain.answer, own)
+        alone = asked.shim.run([asked.program, verb, '--workers', '1'], row.given)
+        tally.judge(what, 'threads that one worker asks for', alone.threads, 0)
         sweeper.sweep_alone_and_on(what, make, 'REFUSE_GROWTH', plain.growths, one_of(MEMORY, own))
         sweeper.sweep_alone_and_on(what, make, 'REFUSE_THREAD', plain.threads, one_of(own))
 
