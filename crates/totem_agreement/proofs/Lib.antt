@@ -37,3 +37,4 @@ pub mod Uniformity
 pub mod Owing
 pub mod GoingTogether
 pub mod Settling
+pub mod Unopened

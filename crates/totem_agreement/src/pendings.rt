@@ -1,11 +1,13 @@
 //! What is pending (docs/SPECIFICATIONS.md, "Pending and waiting").
-ghost use Rattle.std.specs.Prelude.{◌≡◌, ◌↔◌, ◌<◌, IsTrue, IfSome, IfNone, IfOk, OnOk, length};
+ghost use Rattle.std.specs.Prelude.{◌≡◌, ◌↔◌, ◌<◌, IsTrue, IfSome, IfNone, IfOk, OnOk, All, length};
+ghost use Rattle.std.specs.Bool.{OnTrue};
 ghost use Rattle.std.specs.BTreeSet as sorted;
 ghost use Rattle.totem_evs.specs.Answers.{MeetsPasses};
 ghost use Rattle.totem_evs.specs.Following.{OpenIn};
 ghost use Rattle.totem_evs.specs.Unsettled.{ArePending, IsPending};
 ghost use Rattle.totem_agreement.specs.Acts.{IsAmong};
-ghost use Rattle.totem_agreement.specs.Pendings.{Adds, MissesAt, MissesNothingAt, MissesFrom, Misses, IsPendingIn};
+ghost use Rattle.totem_agreement.specs.Stays.{AreStays};
+ghost use Rattle.totem_agreement.specs.Pendings.{Adds, MissesAt, MissesNothingAt, MissesFrom, Misses, IsPendingIn, IsPlacedStay, EndsClosed, HasNonePending};
 
 use crate::comings::Comings;
 use crate::standing::has_failed;
@@ -15,7 +17,7 @@ use crate::uniform::is_complete;
 use std::alloc::{AllocError, Global};
 use std::collections::BTreeSet;
 use totem_evs::{Entry, Pending, Run};
-use totem_ids::MsgId;
+use totem_ids::{MsgId, RingId};
 
 /// Whether the process of this stay is open in it.
 fn is_open(stays: &Stays, stay: &Stay) -> bool
@@ -84,6 +86,38 @@ fn add_pending(set: &mut BTreeSet<Pending>, stays: &Stays) -> Result<(), AllocEr
     Ok(())
 }
 
+/// Whether none of these processes is open in its stay: each goes on, or has failed.
+fn none_is_open(stays: &[Stay]) -> bool
+    requires { All IsPlacedStay stays.now }
+    ensures { OnTrue result (All EndsClosed stays.now) }
+{
+    for stay in stays {
+        let failed = has_failed(stay.log);
+        if stay.is_last() && !failed {
+            return false;
+        }
+    }
+    true
+}
+
+/// Whether nothing is pending in the regular configuration of a ring with these stays. A no is not to be trusted.
+fn has_nothing_pending(
+    alloc: Global,
+    run: &Run,
+    ring: RingId,
+    stays: &[Stay],
+) -> Result<bool, AllocError>
+    requires meets { MeetsPasses run.now.logs }
+    requires are { AreStays run.now.logs ring stays.now }
+    ensures { IfOk result (λ nothing. OnTrue nothing (HasNonePending run.now.logs ring)) }
+{
+    let _ = run.logs.as_slice();
+    if none_is_open(stays) {
+        return Ok(true);
+    }
+    is_complete(alloc, stays)
+}
+
 /// The elements of the set, in their order.
 fn in_order(alloc: Global, set: &BTreeSet<Pending>) -> Result<Vec<Pending>, AllocError>
     ensures items { IfOk result (λ list. list.items ≡ set.now.keys) }
@@ -106,7 +140,7 @@ pub fn pending(alloc: Global, run: &Run) -> Result<Vec<Pending>, AllocError>
     let mut set = BTreeSet::new(alloc);
     for ring in &rings {
         let list = comings.stays(alloc, run, *ring)?;
-        if !is_complete(alloc, &list)? {
+        if !has_nothing_pending(alloc, run, *ring, &list)? {
             let stays = Stays::build(alloc, run, *ring, list)?;
             add_pending(&mut set, &stays)?;
         }

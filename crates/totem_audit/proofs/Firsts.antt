@@ -1,4 +1,5 @@
 -- From what the first three passes come to, to what is listed and what is answered.
+use Rattle.std.specs.Prelude.{◌≢◌}
 use Rattle.std.proofs.Common.{◌≡◌, inl, inr, List, [], ◌∷◌, refl}
 use Rattle.totem_evs.specs.declared.log.Log.{Log}
 use Rattle.totem_evs.specs.declared.fault.Fault.{Fault}
@@ -6,7 +7,21 @@ use Rattle.totem_evs.specs.Answers.{No, IsAnswered, Lists, pass_a, pass_b}
 use Rattle.totem_evs.specs.ClosedLists.{IsCycle}
 use Rattle.totem_evs.specs.Certificates.{Numbering}
 use Rattle.totem_evs.proofs.Synchronous.{meets_passes}
+use Rattle.totem_passes.specs.Listed.{ListsFirst}
 use Rattle.totem_audit.specs.Early.{IsOrdered, BreaksEarly, ListsEarly}
+
+-- where passes A and B list faults, these are those of the first of the two that has one; where they list none, neither has one
+pub first_breaks : (run : List Log) (faults : List Fault) → ListsFirst run faults → faults ≢ [] → BreaksEarly run faults
+first_breaks run faults (inl (some, a)) more = record { some = some; first = inl a }
+first_breaks run faults (inr (a, b)) some = record { some = some; first = inr (inl (a, b)) }
+
+pub first_a : (run : List Log) (faults : List Fault) → ListsFirst run faults → faults ≡ [] → Lists run pass_a []
+first_a run faults (inl (some, a)) none = absurd (some none)
+first_a run faults (inr (a, b)) none = a
+
+pub first_b : (run : List Log) (faults : List Fault) → ListsFirst run faults → faults ≡ [] → Lists run pass_b []
+first_b run faults (inl (some, a)) none = absurd (some none)
+first_b run faults (inr (a, b)) none = rw none at b
 
 -- a closed list is the one fault of pass C
 pub cycle_breaks : (run : List Log) (fault : Fault) (faults : List Fault) → Lists run pass_a [] → Lists run pass_b [] → IsCycle run fault → faults ≡ fault ∷ [] → BreaksEarly run faults

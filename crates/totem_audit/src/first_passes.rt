@@ -4,9 +4,10 @@ ghost use Rattle.totem_evs.specs.Answers.{Lists, pass_a, pass_b};
 ghost use Rattle.totem_audit.specs.Early.{IsEarly, ListsEarly};
 
 use std::alloc::{AllocError, Global};
-use totem_cert::{Certificate, Order, positions};
+use totem_cert::{Certificate, Order, positions_over};
 use totem_evs::{Fault, Run};
-use totem_passes::{pass_a, pass_b};
+use totem_passes::pass_a_and_b;
+use totem_table::Table;
 
 /// How the first three passes end.
 #[derive(Drop)]
@@ -25,31 +26,29 @@ fn one_fault(alloc: Global, fault: Fault) -> Result<Vec<Fault>, AllocError>
     Ok(faults)
 }
 
-/// Does pass C. The run has passed A and B.
-fn pass_c(alloc: Global, run: &Run) -> Result<FirstPasses, AllocError>
+/// Does pass C, over a table of the run if there is one. The run has passed A and B.
+fn pass_c(alloc: Global, run: &Run, table: Option<Table>) -> Result<FirstPasses, AllocError>
     requires a { Lists run.now.logs pass_a [] }
     requires b { Lists run.now.logs pass_b [] }
     ensures { IfOk result (IsEarly run.now.logs) }
 {
-    match positions(alloc, run)? {
+    match positions_over(alloc, run, table)? {
         Order::Positions(certificate) => Ok(FirstPasses::Ordered(certificate)),
         Order::Cycle(fault) => Ok(FirstPasses::Broken(one_fault(alloc, fault)?)),
     }
 }
 
 /// Does passes A, B and C, up to the first that finds a fault.
+#[tactic(auto, using(crate::proofs::Firsts::first_breaks, crate::proofs::Firsts::first_a, crate::proofs::Firsts::first_b))]
 pub fn first_passes(alloc: Global, run: &Run) -> Result<FirstPasses, AllocError>
     ensures { IfOk result (IsEarly run.now.logs) }
 {
-    let faults = pass_a(alloc, run)?;
+    let table = Table::build(alloc, run)?;
+    let faults = pass_a_and_b(alloc, run, table.as_ref())?;
     if !faults.is_empty() {
         return Ok(FirstPasses::Broken(faults));
     }
-    let unsent = pass_b(alloc, run)?;
-    if !unsent.is_empty() {
-        return Ok(FirstPasses::Broken(unsent));
-    }
-    pass_c(alloc, run)
+    pass_c(alloc, run, table)
 }
 
 /// Returns the faults of the first of passes A, B and C that finds one. If the list is empty, the run may be judged job by job

@@ -34,3 +34,4 @@ pub mod Picking
 pub mod Noting
 pub mod Turning
 pub mod ClosedOne
+pub mod Ordering

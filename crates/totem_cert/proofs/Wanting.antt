@@ -1,6 +1,5 @@
 -- The first of the wanted members, step by step.
-use Rattle.std.proofs.Common.{◌≡◌, ℕ, ◌+◌, ◌<◌, ◌≤◌, ◌⊎◌, inl, inr, List, length, get_or, slice_get, Option, Some, None, refl, sym, ◌∙◌, ap, arith}
-use Rattle.std.proofs.lemmas.Option.{slice_get_read}
+use Rattle.std.proofs.Common.{◌≡◌, ℕ, ◌+◌, ◌<◌, ◌≤◌, ◌⊎◌, inl, inr, List, slice_get, Option, Some, None, sym, ◌∙◌, ap, arith}
 use Rattle.totem_evs.specs.Certificates.{Numbering}
 use Rattle.totem_cert.specs.declared.key.Key.{Key}
 use Rattle.totem_cert.specs.declared.key.Member.{Member}
@@ -76,16 +75,16 @@ module _ (lines : List Numbering) (members : List Member) (key : Key) (wanted : 
   with_it (Some b) found (inl (wants_m, x, is, inl (chosen, before))) after = rw (is, chosen) (earlier_first b before after)
   with_it (Some b) found (inl (wants_m, x, is, inr (chosen, before))) after = rw (is, chosen) (it_first b wants_m before after)
 
-pub best_more : (lines : List Numbering) (members : List Member) (key : Key) (wanted : Wanted) (s r : ℕ) (m : Member) (best found : Option Member) → s ≡ r + 1 → r < length members → m ≡ get_or members r m
+pub best_more : (lines : List Numbering) (members : List Member) (key : Key) (wanted : Wanted) (s r : ℕ) (m : Member) (best found : Option Member) → s ≡ r + 1 → slice_get members r ≡ Some m
     → IsBestWith lines key wanted best m found → IsBestFrom lines members key wanted s best → IsBestFrom lines members key wanted r found
-best_more lines members key wanted s r m best found e lt is with_m after = with_it lines members key wanted s r m e (slice_get_read members _ r m refl lt is) best found with_m after
+best_more lines members key wanted s r m best found e is with_m after = with_it lines members key wanted s r m e is best found with_m after
 
-pub best_below : (lines : List Numbering) (members : List Member) (key : Key) (wanted : Wanted) (s r : ℕ) (m : Member) (best : Option Member) → KeysRise members → s ≡ r + 1 → r < length members → m ≡ get_or members r m
+pub best_below : (lines : List Numbering) (members : List Member) (key : Key) (wanted : Wanted) (s r : ℕ) (m : Member) (best : Option Member) → KeysRise members → s ≡ r + 1 → slice_get members r ≡ Some m
     → KeyBelow m.key key → IsBestFrom lines members key wanted s best → IsBestFrom lines members key wanted 0 best
-best_below lines members key wanted s r m best rise e lt is below after = go best after
+best_below lines members key wanted s r m best rise e is below after = go best after
   where
     apart : (t : ℕ) (n : Member) → t < s → slice_get members t ≡ Some n → Wants lines key wanted n → ⊥
-    apart t n under at wants = rises members t r n m rise at (slice_get_read members _ r m refl lt is) (omega arith) (rw wants.0 below)
+    apart t n under at wants = rises members t r n m rise at is (omega arith) (rw wants.0 below)
 
     past : (t : ℕ) (n : Member) → slice_get members t ≡ Some n → Wants lines key wanted n → s ≤ t
     past t n at wants = elim (less_or_not t s) [ inl under ↦ absurd (apart t n under at wants) | inr rest ↦ elim rest [ inl h ↦ omega arith | inr h ↦ omega arith ] ]

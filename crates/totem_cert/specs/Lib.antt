@@ -11,3 +11,4 @@ pub mod Visited
 pub mod Laws
 pub mod Keys
 pub mod Keepers
+pub mod Counted

@@ -43,12 +43,12 @@ fn broken_by(run: &Run, places: &[Place]) -> SpecNo
 pub fn closed_list(
     alloc: Global,
     run: &Run,
-    index: &Index,
+    index: &Index<'_>,
     lines: &[OpenLine],
     k: usize,
 ) -> Result<Fault, AllocError>
     requires run { IsRun run.now.logs }
-    requires index { IsIndex run.now.logs index.now.members.items }
+    requires index { IsIndex run.now.logs index.now }
     requires sound { IsSound run.now.logs lines.now }
     requires none { NoneReady run.now.logs lines.now }
     requires left { IsFirstLeft run.now.logs lines.now k }

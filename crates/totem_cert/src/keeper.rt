@@ -31,28 +31,17 @@ fn keeps(lines: &[OpenLine], key: &Key, member: &Member) -> bool
     member.key.is(key) && stands_behind(member.shares, given, member.at as usize)
 }
 
-/// Returns where the members may end that have the key of an entry.
-fn noted_end(index: &Index, log: usize, at: usize) -> usize {
-    match index.ends.get(log) {
-        Some(row) => match row.get(at) {
-            Some(end) => *end as usize,
-            None => 0,
-        },
-        None => 0,
-    }
-}
-
 /// Returns where the members with a key end. The entry at index `at` of this log has the key.
 #[tactic(auto, using(crate::proofs::Scanning::end_here, crate::proofs::Scanning::end_of_all))]
-pub fn end_of(index: &Index, key: &Key, log: usize, at: usize) -> usize
-    requires { KeysRise index.now.members.items }
-    ensures { IsEnd index.now.members.items key.now result }
+pub fn end_of(index: &Index<'_>, key: &Key, log: usize, at: usize) -> usize
+    requires { KeysRise index.now }
+    ensures { IsEnd index.now key.now result }
 {
-    let end = noted_end(index, log, at);
-    if end < index.members.len() && key.is_below(&index.members[end].key) {
+    let end = index.noted_end(log, at);
+    if end < index.len() && key.is_below(&index.member(end).key) {
         end
     } else {
-        index.members.len()
+        index.len()
     }
 }
 
@@ -60,24 +49,24 @@ pub fn end_of(index: &Index, key: &Key, log: usize, at: usize) -> usize
 /// did so `last`.
 #[tactic(auto, using(crate::proofs::Scanning::keeps_here, crate::proofs::Scanning::none_yet, crate::proofs::Scanning::none_more, crate::proofs::Scanning::none_below))]
 pub fn keeper(
-    index: &Index,
+    index: &Index<'_>,
     lines: &[OpenLine],
     key: &Key,
     log: usize,
     at: usize,
     last: usize,
 ) -> Option<usize>
-    requires { KeysRise index.now.members.items }
-    ensures found { IfSome result (KeepsAt lines.now index.now.members.items key.now) }
-    ensures none { IfNone result (NoneKeepsFrom lines.now index.now.members.items key.now 0) }
+    requires { KeysRise index.now }
+    ensures found { IfSome result (KeepsAt lines.now index.now key.now) }
+    ensures none { IfNone result (NoneKeepsFrom lines.now index.now key.now 0) }
 {
-    if last < index.members.len() && keeps(lines, key, &index.members[last]) {
+    if last < index.len() && keeps(lines, key, &index.member(last)) {
         return Some(last);
     }
     let mut s = end_of(index, key, log, at);
     while 0 < s {
         s -= 1;
-        let member = index.members[s];
+        let member = index.member(s);
         if keeps(lines, key, &member) {
             return Some(s);
         }

@@ -1,5 +1,5 @@
 ghost use Rattle.std.specs.Prelude.{◌≡◌, ◌↔◌, IsTrue};
-ghost use Rattle.totem_cert.specs.Keys.{KeyBelow, class_key, shares};
+ghost use Rattle.totem_cert.specs.Keys.{KeyBelow, key_of, class_key, shares};
 
 use totem_evs::Entry;
 use totem_ids::{ConfId, MsgId};
@@ -30,6 +30,17 @@ impl Key {
         *self < *other
     }
 
+    /// Returns the key of an entry: that of its class, or for a send that of the deliveries. A failure has none.
+    pub fn of(entry: &Entry) -> Option<Key>
+        ensures { result ≡ key_of entry.now }
+    {
+        match entry {
+            Entry::Conf(conf, _) => Some(Key::Conf(*conf)),
+            Entry::Send(message, _, _) | Entry::Deliver(message, _) => Some(Key::Message(*message)),
+            Entry::Fail(_) => None,
+        }
+    }
+
     /// Returns the key of an entry's class, or `None` if the entry is alone in its class.
     pub fn of_class(entry: &Entry) -> Option<Key>
         ensures { result ≡ class_key entry.now }
@@ -43,7 +54,7 @@ impl Key {
 }
 
 /// An entry that has a key, with its log and its index there.
-#[derive(Clone, Copy, Debug, PartialEq, Eq, PartialOrd, Ord)]
+#[derive(Clone, Copy, Debug)]
 pub struct Member {
     pub key: Key,
     /// Whether the entry is in the class of its key. Otherwise it sends the message.

@@ -6,6 +6,7 @@ mod certificate;
 mod class;
 mod closed;
 mod closed_list;
+mod counting;
 mod give;
 mod heads;
 mod index;
@@ -20,6 +21,7 @@ mod open_line;
 mod order;
 mod reading;
 mod ready;
+mod spot;
 mod step;
 mod text_laws;
 mod twins;
@@ -34,7 +36,7 @@ pub use laws::{closed_lists_are_one, closed_lists_exclude_certificates, position
 pub use line::Line;
 pub use lines::Lines;
 pub use numbers::{Numbers, NumbersFault, RefusedNumbers};
-pub use order::{Order, positions};
+pub use order::{Order, positions, positions_over};
 pub use reading::read_cert;
 pub use text_laws::{
     a_fault_is_no_text, cut_text_goes_on, fault_byte_is_first, fault_is_first, faults_are_its_own,

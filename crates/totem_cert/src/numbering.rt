@@ -22,8 +22,8 @@ fn started(alloc: Global, logs: &[Log]) -> Result<Vec<OpenLine>, AllocError>
 }
 
 /// Numbers class after class, until none is ready.
-pub fn number_all(alloc: Global, run: &Run, index: &Index) -> Result<Vec<OpenLine>, AllocError>
-    requires { IsIndex run.now.logs index.now.members.items }
+pub fn number_all(alloc: Global, run: &Run, index: &Index<'_>) -> Result<Vec<OpenLine>, AllocError>
+    requires { IsIndex run.now.logs index.now }
     ensures sound { IfOk result (λ lines. IsSound run.now.logs lines.items) }
     ensures none { IfOk result (λ lines. NoneReady run.now.logs lines.items) }
 {

@@ -29,7 +29,7 @@ fn note(held: &mut [usize], k: usize, s: usize) {
 /// Returns whether a log has a head, its first entry without a number, and the class of that head is ready.
 fn is_head_ready(
     run: &Run,
-    index: &Index,
+    index: &Index<'_>,
     lines: &[OpenLine],
     held: &mut [usize],
     k: usize,
@@ -37,7 +37,7 @@ fn is_head_ready(
     line: &OpenLine,
 ) -> bool
     requires run { IsRun run.now.logs }
-    requires index { IsIndex run.now.logs index.now.members.items }
+    requires index { IsIndex run.now.logs index.now }
     requires fits { Fits run.now.logs lines.now }
     requires log { log_of run.now.logs log.now.proc ≡ log.now.entries }
     requires line { numbers_of lines.now log.now.proc ≡ line.now.numbers }
@@ -63,11 +63,11 @@ fn is_head_ready(
 /// Returns the index of the first log whose head is ready. Notes what keeps the others back, to ask that first the next time.
 pub fn first_ready(
     run: &Run,
-    index: &Index,
+    index: &Index<'_>,
     lines: &[OpenLine],
     held: &mut [usize],
 ) -> Option<usize>
-    requires index { IsIndex run.now.logs index.now.members.items }
+    requires index { IsIndex run.now.logs index.now }
     requires sound { IsSound run.now.logs lines.now }
     ensures found { IfSome result (λ k. IsNextHead run.now.logs lines.now k) }
     ensures none { IfNone result (NoneReady run.now.logs lines.now) }

@@ -67,14 +67,14 @@ fn log_index(run: &Run, proc: ProcId) -> usize {
 /// Returns the least send without a number of the message that an entry delivers. The entry stands at index `at` of the k-th log.
 fn open_send(
     run: &Run,
-    index: &Index,
+    index: &Index<'_>,
     lines: &[OpenLine],
     k: usize,
     at: usize,
     entry: &Entry,
 ) -> Option<Place>
     requires run { IsRun run.now.logs }
-    requires index { IsIndex run.now.logs index.now.members.items }
+    requires index { IsIndex run.now.logs index.now }
     requires fits { Fits run.now.logs lines.now }
     ensures found { IfSome result (λ e. IsLeast run.now.logs (IsOpenSend run.now.logs lines.now entry.now) e) }
     ensures none { IfNone result (NoneOf run.now.logs (IsOpenSend run.now.logs lines.now entry.now)) }
@@ -105,14 +105,14 @@ fn held_alone(lines: &[OpenLine], proc: ProcId, at: usize, waits: bool) -> Optio
 /// class stands in the k-th log, at the process and the index that `left` has.
 fn held_mate(
     run: &Run,
-    index: &Index,
+    index: &Index<'_>,
     lines: &[OpenLine],
     k: usize,
     left: &Standing,
     waits: bool,
 ) -> Option<Place>
     requires run { IsRun run.now.logs }
-    requires index { IsIndex run.now.logs index.now.members.items }
+    requires index { IsIndex run.now.logs index.now }
     requires fits { Fits run.now.logs lines.now }
     requires entry { slice_get (log_of run.now.logs left.now.proc) left.now.at ≡ Some left.now.entry.now }
     requires few { left.now.at < 1000000 }
@@ -149,9 +149,15 @@ fn step_to(lines: &[OpenLine], send: Option<Place>, to: &Place) -> Visit
 }
 
 /// Returns the step to the class of an entry that has no number.
-fn step_at(run: &Run, index: &Index, lines: &[OpenLine], left: &Place, standing: &Standing) -> Visit
+fn step_at(
+    run: &Run,
+    index: &Index<'_>,
+    lines: &[OpenLine],
+    left: &Place,
+    standing: &Standing,
+) -> Visit
     requires run { IsRun run.now.logs }
-    requires index { IsIndex run.now.logs index.now.members.items }
+    requires index { IsIndex run.now.logs index.now }
     requires sound { IsSound run.now.logs lines.now }
     requires none { NoneReady run.now.logs lines.now }
     requires left { IsLeft run.now.logs left.now }
@@ -173,9 +179,9 @@ fn step_at(run: &Run, index: &Index, lines: &[OpenLine], left: &Place, standing:
 }
 
 /// Returns the step to the class of an event that has no number.
-pub fn step_of(run: &Run, index: &Index, lines: &[OpenLine], left: &Place) -> Visit
+pub fn step_of(run: &Run, index: &Index<'_>, lines: &[OpenLine], left: &Place) -> Visit
     requires run { IsRun run.now.logs }
-    requires index { IsIndex run.now.logs index.now.members.items }
+    requires index { IsIndex run.now.logs index.now }
     requires sound { IsSound run.now.logs lines.now }
     requires none { NoneReady run.now.logs lines.now }
     requires left { IsLeft run.now.logs left.now }

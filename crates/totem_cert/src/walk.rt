@@ -40,12 +40,12 @@ fn note(seen: &mut BTreeMap<Place, usize>, to: Place, step: usize) -> Result<(),
 pub fn walk_round(
     alloc: Global,
     run: &Run,
-    index: &Index,
+    index: &Index<'_>,
     lines: &[OpenLine],
     start: &Place,
 ) -> Result<Round, AllocError>
     requires run { IsRun run.now.logs }
-    requires index { IsIndex run.now.logs index.now.members.items }
+    requires index { IsIndex run.now.logs index.now }
     requires sound { IsSound run.now.logs lines.now }
     requires none { NoneReady run.now.logs lines.now }
     requires left { IsLeft run.now.logs start.now }

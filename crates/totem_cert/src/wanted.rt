@@ -77,21 +77,21 @@ fn best_with(
 /// Returns the first by its place of the wanted entries with a key. The entry at index `at` of this log has the key.
 #[tactic(auto, using(crate::proofs::Wanting::best_yet, crate::proofs::Wanting::best_more, crate::proofs::Wanting::best_below))]
 fn first_wanted(
-    index: &Index,
+    index: &Index<'_>,
     lines: &[OpenLine],
     key: &Key,
     wanted: Wanted,
     log: usize,
     at: usize,
 ) -> Option<Member>
-    requires { KeysRise index.now.members.items }
-    ensures { IsBestFrom lines.now index.now.members.items key.now wanted 0 result }
+    requires { KeysRise index.now }
+    ensures { IsBestFrom lines.now index.now key.now wanted 0 result }
 {
     let mut best = None;
     let mut s = end_of(index, key, log, at);
     while 0 < s {
         s -= 1;
-        let member = index.members[s];
+        let member = index.member(s);
         if member.key.is_below(key) {
             return best;
         }
@@ -116,7 +116,7 @@ fn place_of(run: &Run, member: &Member) -> Place
 /// Returns the place of the first wanted entry with a key. The entry at index `at` of this log has the key.
 pub fn first_place(
     run: &Run,
-    index: &Index,
+    index: &Index<'_>,
     lines: &[OpenLine],
     key: &Key,
     wanted: Wanted,
@@ -124,8 +124,8 @@ pub fn first_place(
     at: usize,
 ) -> Option<Place>
     requires run { IsRun run.now.logs }
-    requires index { IsIndex run.now.logs index.now.members.items }
-    ensures { IsFirstPlace run.now.logs lines.now index.now.members.items key.now wanted result }
+    requires index { IsIndex run.now.logs index.now }
+    ensures { IsFirstPlace run.now.logs lines.now index.now key.now wanted result }
 {
     match first_wanted(index, lines, key, wanted, log, at) {
         None => None,

@@ -1,5 +1,5 @@
 //! Readers of the lines between logs. Each leaves unread what follows the line.
-ghost use Rattle.std.specs.Prelude.{ℕ, ◌<◌, IfOk, Bool};
+ghost use Rattle.std.specs.Prelude.{◌≢◌, ℕ, ◌<◌, IfOk, IfErr, Bool};
 ghost use Rattle.totem_ids.specs.Sources.{Reads, seen};
 ghost use Rattle.totem_evs.specs.NextLines.{MayBegin};
 ghost use Rattle.totem_evs.specs.Parts.{header_at};
@@ -10,8 +10,9 @@ use totem_ids::{ProcId, ReadError, Source, TextFault, next, number, word};
 /// Reads the first line of a run.
 #[tactic(auto, unfolding(crate::specs::Parts::header_at))]
 pub fn read_header<S: Source>(source: &mut S) -> Result<(), ReadError>
-    ensures { Reads (seen S.remaining S.failures source.old)
+    ensures read { Reads (seen S.remaining S.failures source.old)
         (seen S.remaining S.failures source.new) result header_at }
+    ensures memory { IfErr result (λ e. e ≢ ReadError.Memory) }
 {
     word(source, b"totem-run 1\n", TextFault::Header)
 }

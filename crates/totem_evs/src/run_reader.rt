@@ -1,5 +1,5 @@
 //! A run, read part by part.
-ghost use Rattle.std.specs.Prelude.{◌≡◌, ℕ, ◌↔◌, ◌⊎◌, Contains, Some, IsTrue, IfOk, OnOk};
+ghost use Rattle.std.specs.Prelude.{◌≡◌, ◌≢◌, ℕ, ◌↔◌, ◌⊎◌, Contains, Some, IsTrue, IfOk, IfErr, OnOk};
 ghost use Rattle.totem_ids.specs.Sources.{seen};
 
 use crate::ending::Ending;
@@ -61,8 +61,10 @@ impl RunReader {
 
     /// Reads the first line, and returns the reader of what follows it.
     pub fn begin<S: Source>(alloc: Global, source: &mut S) -> Result<RunReader, RunFault>
-        ensures { BeginsRun (seen S.remaining S.failures source.old)
+        ensures begins { BeginsRun (seen S.remaining S.failures source.old)
             (seen S.remaining S.failures source.new) result }
+        // It takes no memory.
+        ensures memory { IfErr result (λ e. e ≢ RunFault.Memory) }
     {
         read_header(source)?;
         Ok(RunReader {

@@ -1,5 +1,7 @@
 //! A source that reads through a buffer.
-ghost use Rattle.std.specs.Prelude.{◌≡◌, ◌<◌, ◌≤◌, length, IfOk};
+ghost use Rattle.std.specs.Prelude.{◌≡◌, ◌<◌, ◌≤◌, length, IfOk, OnErr};
+ghost use Rattle.std.specs.Io.KnownBytes.{Keeps};
+ghost use Rattle.totem_ids.specs.Streams.{Gives, failed_once};
 
 use crate::retry::read_retrying;
 use crate::source::{Failed, Source};
@@ -48,6 +50,38 @@ impl<R: Read + Drop> Buffered<R> {
     }
 }
 
+impl<R: Read> Buffered<R> {
+    ghost use Rattle.totem_ids.specs.Wrapped.{buffered_left, buffered_failures};
+
+    // Fills the buffer anew, once all of it was given, and gives its first byte.
+    #[cold]
+    #[inline(never)]
+    fn first_of_more(&mut self) -> Result<Option<u8>, Failed>
+        requires { self.old.at ≡ self.old.filled }
+        ensures byte { IfOk result (λ b. Gives (buffered_left R.remaining self.old) (buffered_left R.remaining self.new) b) }
+        ensures err { OnErr result (Keeps (buffered_left R.remaining self.old) (buffered_left R.remaining self.new)) }
+        ensures failures { buffered_failures self.new ≡ failed_once result (buffered_failures self.old) }
+    {
+        let given = &self.buffer[..self.filled];
+        self.passed = self.passed.and(given);
+        keep_front(&mut self.front, given);
+        self.at = 0;
+        self.filled = 0;
+        match read_retrying(&mut self.inner, self.buffer.as_mut_slice()) {
+            Ok(0) => Ok(None),
+            Ok(count) => {
+                self.filled = count;
+                self.at = 1;
+                Ok(Some(self.buffer[0]))
+            }
+            Err(_) => {
+                self.failed = self.failed.wrapping_add(1);
+                Err(Failed)
+            }
+        }
+    }
+}
+
 impl<R: Read> Source for Buffered<R> {
     ghost use Rattle.totem_ids.specs.Wrapped.{buffered_left, buffered_failures};
 
@@ -55,25 +89,14 @@ impl<R: Read> Source for Buffered<R> {
 
     ghost failures = { buffered_failures };
 
+    #[inline]
     fn byte(&mut self) -> Result<Option<u8>, Failed> {
-        if self.at == self.filled {
-            let given = &self.buffer[..self.filled];
-            self.passed = self.passed.and(given);
-            keep_front(&mut self.front, given);
-            self.at = 0;
-            self.filled = 0;
-            match read_retrying(&mut self.inner, self.buffer.as_mut_slice()) {
-                Ok(0) => return Ok(None),
-                Ok(count) => self.filled = count,
-                Err(_) => {
-                    self.failed = self.failed.wrapping_add(1);
-                    return Err(Failed);
-                }
-            }
+        if self.at < self.filled {
+            let first = self.buffer[self.at];
+            self.at += 1;
+            return Ok(Some(first));
         }
-        let first = self.buffer[self.at];
-        self.at += 1;
-        Ok(Some(first))
+        self.first_of_more()
     }
 
     fn text_place(&self) -> Option<TextPlace<'_>> {

@@ -9,6 +9,7 @@ use crate::process::ProcId;
 use crate::source::Source;
 
 /// Reads the next byte. At the end of the source the fault is `Truncated`.
+#[inline]
 pub fn next<S: Source>(source: &mut S) -> Result<u8, ReadError>
     ensures read { Reads (seen S.remaining S.failures source.old)
         (seen S.remaining S.failures source.new) result byte_at }

@@ -43,6 +43,15 @@ fn behind_last_end(bytes: &[u8]) -> Option<&[u8]> {
         .and_then(|at| bytes.get(at.saturating_add(1)..))
 }
 
+/// Returns how many lines end among these bytes.
+fn ends_in(bytes: &[u8]) -> u64 {
+    let mut count = 0u64;
+    for byte in bytes {
+        count = count.wrapping_add(u64::from(is_end(byte)));
+    }
+    count
+}
+
 impl Passed {
     pub(crate) fn nothing() -> Passed {
         Passed { lines: 0, bytes: 0 }
@@ -56,9 +65,7 @@ impl Passed {
                 bytes: self.bytes.saturating_add(given.len() as u64),
             },
             Some(tail) => Passed {
-                lines: self
-                    .lines
-                    .saturating_add(given.iter().filter(|byte| is_end(byte)).count() as u64),
+                lines: self.lines.saturating_add(ends_in(given)),
                 bytes: tail.len() as u64,
             },
         }

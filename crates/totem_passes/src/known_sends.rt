@@ -188,13 +188,13 @@ fn all_known(run: &Run, sends: &KnownSends, followed: &Followed, rows: &[Row]) -
 }
 
 /// Whether all that a run delivers is known to be sent for it. A no is not to be trusted.
-pub fn is_met(alloc: Global, run: &Run) -> Result<bool, AllocError>
+pub fn is_met(alloc: Global, run: &Run, table: Option<&Table>) -> Result<bool, AllocError>
     ensures { IfOk result (λ met. OnTrue met (DeliversWhatWasSent run.now.logs)) }
 {
-    let Some(table) = Table::build(alloc, run)? else {
+    let Some(table) = table else {
         return Ok(false);
     };
-    let sends = KnownSends::of(alloc, run, &table)?;
+    let sends = KnownSends::of(alloc, run, table)?;
     let mut followed = Followed::new(alloc);
     enter_run(&mut followed, alloc, run)?;
     Ok(all_known(run, &sends, &followed, &table.rows))

@@ -24,7 +24,7 @@ mod twice;
 mod unsent;
 mod visit;
 
-pub use pass::{pass_a, pass_b, with_found};
+pub use pass::{pass_a, pass_a_and_b, pass_b, with_found};
 pub use register::{Register, enter_run};
 pub use search::begin_with;
 pub use visit::Visit;

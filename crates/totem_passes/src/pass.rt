@@ -1,11 +1,13 @@
 //! The passes of the audit (docs/SPECIFICATIONS.md, "Passes").
-ghost use Rattle.std.specs.Prelude.{◌≡◌, ◌++◌, IfOk};
+ghost use Rattle.std.specs.Prelude.{◌≡◌, ◌++◌, IfOk, IfSome};
 ghost use Rattle.totem_evs.specs.Answers.{Lists, pass_a, pass_b};
-ghost use Rattle.totem_passes.specs.Listed.{listed};
+ghost use Rattle.totem_table.specs.Tables.{IsTable};
+ghost use Rattle.totem_passes.specs.Listed.{listed, ListsFirst};
 
 use crate::{configuration, misplaced, turns, twice, unsent};
 use std::alloc::{AllocError, Global};
 use totem_evs::{Fault, Places, Run, SpecNo};
+use totem_table::Table;
 
 /// Appends a fault to the list, if one was found.
 pub fn with_found(
@@ -21,12 +23,13 @@ pub fn with_found(
     Ok(faults)
 }
 
-/// Pass A: for each of 1.4, 2.2, 2.3 and 2.4 that the run breaks, in this order, its least events. `Err` is want of
-/// memory, and says nothing of the run.
-pub fn pass_a(alloc: Global, run: &Run) -> Result<Vec<Fault>, AllocError>
+/// Pass A, made quick by a table of the run.
+fn pass_a_over(alloc: Global, run: &Run, table: Option<&Table>) -> Result<Vec<Fault>, AllocError>
+    requires { IfSome table (λ t. IsTable run.now.logs t.now) }
     ensures { IfOk result (λ faults. Lists run.now.logs pass_a faults.items) }
 {
-    let sends = with_found(Vec::new(alloc), SpecNo::Twice, twice::find(alloc, run)?)?;
+    let once = twice::find(alloc, run, table)?;
+    let sends = with_found(Vec::new(alloc), SpecNo::Twice, once)?;
     let places = with_found(sends, SpecNo::Misplaced, misplaced::find(alloc, run)?)?;
     let forms = with_found(
         places,
@@ -36,10 +39,44 @@ pub fn pass_a(alloc: Global, run: &Run) -> Result<Vec<Fault>, AllocError>
     with_found(forms, SpecNo::Turns, turns::find(alloc, run)?)
 }
 
+/// Pass B, made quick by a table of the run.
+fn pass_b_over(alloc: Global, run: &Run, table: Option<&Table>) -> Result<Vec<Fault>, AllocError>
+    ensures { IfOk result (λ faults. Lists run.now.logs pass_b faults.items) }
+{
+    let unsent = unsent::find(alloc, run, table)?;
+    with_found(Vec::new(alloc), SpecNo::Unsent, unsent)
+}
+
+/// Pass A: for each of 1.4, 2.2, 2.3 and 2.4 that the run breaks, in this order, its least events. `Err` is want of
+/// memory, and says nothing of the run.
+pub fn pass_a(alloc: Global, run: &Run) -> Result<Vec<Fault>, AllocError>
+    ensures { IfOk result (λ faults. Lists run.now.logs pass_a faults.items) }
+{
+    let table = Table::build(alloc, run)?;
+    pass_a_over(alloc, run, table.as_ref())
+}
+
 /// Pass B: the least event that breaks 1.3, if one does. `Err` is want of memory, and says nothing of the run. The pass is made
 /// for runs that have passed A, which it judges in one walk; in a run that breaks 2.3 or 2.4 each delivery may cost a search.
 pub fn pass_b(alloc: Global, run: &Run) -> Result<Vec<Fault>, AllocError>
     ensures { IfOk result (λ faults. Lists run.now.logs pass_b faults.items) }
 {
-    with_found(Vec::new(alloc), SpecNo::Unsent, unsent::find(alloc, run)?)
+    let table = Table::build(alloc, run)?;
+    pass_b_over(alloc, run, table.as_ref())
+}
+
+/// Passes A and B, made quick by a table of the run: the faults of pass A, or if it has none those of pass B.
+pub fn pass_a_and_b(
+    alloc: Global,
+    run: &Run,
+    table: Option<&Table>,
+) -> Result<Vec<Fault>, AllocError>
+    requires { IfSome table (λ t. IsTable run.now.logs t.now) }
+    ensures { IfOk result (λ faults. ListsFirst run.now.logs faults.items) }
+{
+    let faults = pass_a_over(alloc, run, table)?;
+    if !faults.is_empty() {
+        return Ok(faults);
+    }
+    pass_b_over(alloc, run, table)
 }

@@ -1,9 +1,10 @@
 //! 1.4: each message is sent and delivered once (docs/SPECIFICATIONS.md, "1 Basic delivery").
-ghost use Rattle.std.specs.Prelude.{◌≡◌, ◌↔◌, IsTrue, IfOk};
+ghost use Rattle.std.specs.Prelude.{◌≡◌, ◌↔◌, IsTrue, IfOk, IfSome};
 ghost use Rattle.totem_evs.specs.Events.{IsTransitional};
 ghost use Rattle.std.specs.Bool.{OnTrue};
 ghost use Rattle.totem_evs.specs.Answers.{Finds};
 ghost use Rattle.totem_evs.specs.Delivery.{DeliversOnce};
+ghost use Rattle.totem_table.specs.Tables.{IsTable};
 ghost use Rattle.totem_passes.specs.Bad.{IsSendBetween, AreTwice};
 ghost use Rattle.totem_passes.specs.Registers.{KnowsRun};
 ghost use Rattle.totem_passes.specs.Repeats.{KnowsAct};
@@ -75,20 +76,22 @@ impl Test for Twice<'_> {
 }
 
 /// Returns `true` only if the run meets 1.4: a quick test over the numbers of the messages. `false` says nothing.
-fn is_met(alloc: Global, run: &Run) -> Result<bool, AllocError>
+fn is_met(alloc: Global, run: &Run, table: Option<&Table>) -> Result<bool, AllocError>
+    requires { IfSome table (λ t. IsTable run.now.logs t.now) }
     ensures { IfOk result (λ met. OnTrue met (DeliversOnce run.now.logs)) }
 {
-    match Table::build(alloc, run)? {
-        Some(table) => is_once(alloc, run, &table),
+    match table {
+        Some(table) => is_once(alloc, run, table),
         None => Ok(false),
     }
 }
 
-/// Finds the least events that break 1.4.
-pub fn find(alloc: Global, run: &Run) -> Result<Option<Places>, AllocError>
+/// Finds the least events that break 1.4. A table of the run makes it quick.
+pub fn find(alloc: Global, run: &Run, table: Option<&Table>) -> Result<Option<Places>, AllocError>
+    requires { IfSome table (λ t. IsTable run.now.logs t.now) }
     ensures { IfOk result (Finds run.now.logs SpecNo.Twice) }
 {
-    if is_met(alloc, run)? {
+    if is_met(alloc, run, table)? {
         return Ok(None);
     }
     let mut repeats = Repeats::new(alloc);

@@ -20,6 +20,7 @@ use crate::visit::Visit;
 use std::alloc::{AllocError, Global};
 use totem_evs::{Entry, Places, Run, SpecNo};
 use totem_ids::{ConfId, MsgId, Place, ProcId, RingId};
+use totem_table::Table;
 
 /// Looks for the sends for which one delivery may stand.
 #[derive(Clone, Copy)]
@@ -146,11 +147,11 @@ impl Relation for Unsent<'_> {
     }
 }
 
-/// Finds the least events that break 1.3.
-pub fn find(alloc: Global, run: &Run) -> Result<Option<Places>, AllocError>
+/// Finds the least events that break 1.3. A table of the run makes it quick.
+pub fn find(alloc: Global, run: &Run, table: Option<&Table>) -> Result<Option<Places>, AllocError>
     ensures { IfOk result (Finds run.now.logs SpecNo.Unsent) }
 {
-    if is_met(alloc, run)? {
+    if is_met(alloc, run, table)? {
         return Ok(None);
     }
     let mut sendings = Sendings::new(alloc);

@@ -4,9 +4,7 @@ use Rattle.totem_evs.specs.contracts.pending.PendingOrd.TheImpl as pending
 use Rattle.totem_evs.specs.Answers.{AreRings}
 use Rattle.totem_agreement.proofs.Adding.{between_more}
 use Rattle.totem_agreement.proofs.Ringing.{are_rings}
-use Rattle.totem_agreement.specs.Uniform.{IsComplete}
-use Rattle.totem_agreement.proofs.Facts.{facts}
-use Rattle.totem_agreement.proofs.Completing.{none_pending}
+use Rattle.totem_agreement.specs.Pendings.{HasNonePending}
 use Rattle.totem_agreement.proofs.Pend.{PendingAt, of_one_ring, none_of_ring, all_rings}
 use Rattle.totem_agreement.proofs.pendings.pending.Goals.{then-not-branch+in_ok-stays+in_ok-add_pending, else-not-branch}
 use Rattle.totem_agreement.proofs.PendOrder.{are_pending_if_ok, empty_has_none}
@@ -22,8 +20,8 @@ loop-ring-preserved c =
           (of_one_ring _ run _ _ _ _ _ _ _ at w.in_ok-stays.ensures.logs w.in_ok-stays.ensures.ring w.in_ok-add_pending.ensures))
       | else-not-branch w ↦ rw w.set-is
           (between_more pending.cmp-value.it (PendingAt run c.deref-ring-items.result.now) _ _ _ _ _ (omega arith) c.loop-ring.invariant
-          (none_of_ring _ run _ _ _ _ _ at refl (λ x h. none_pending run c.ring-item.result c.in_ok-list.list.items x (facts run c.ring-item.result c.in_ok-list.list.items ∣ c.requires ∣₁ ∣ c.in_ok-list.ensures ∣₁)
-          (let complete : IsComplete c.in_ok-list.list.items = rw c.deref.ensures.value at (rw w.if-not-branch.false at c.in_ok-is_complete.ensures) in complete) h)))
+          (none_of_ring _ run _ _ _ _ _ at refl
+          (let nothing : HasNonePending run c.ring-item.result = rw w.if-not-branch.false at c.in_ok-has_nothing_pending.ensures in nothing.none)))
     ]
 
 pub returns : goal.returns

@@ -4,8 +4,8 @@ use Rattle.totem_cert.proofs.keeper.keeper.Given as goal
 
 abbrev pub invariant-loop-s : goal.invariant-loop-s
 invariant-loop-s l = record {
-  within : l.s ≤ length l.index.members.items;
-  none : NoneKeepsFrom l.lines l.index.members.items l.key l.s;
+  within : l.s ≤ length l.index;
+  none : NoneKeepsFrom l.lines l.index l.key l.s;
 }
 
 abbrev pub decreases-loop-s : goal.decreases-loop-s

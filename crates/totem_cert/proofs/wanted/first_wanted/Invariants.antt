@@ -4,8 +4,8 @@ use Rattle.totem_cert.proofs.wanted.first_wanted.Given as goal
 
 abbrev pub invariant-loop-s : goal.invariant-loop-s
 invariant-loop-s l = record {
-  within : l.s ≤ length l.index.members.items;
-  best : IsBestFrom l.lines l.index.members.items l.key l.wanted l.s l.best;
+  within : l.s ≤ length l.index;
+  best : IsBestFrom l.lines l.index l.key l.wanted l.s l.best;
 }
 
 abbrev pub decreases-loop-s : goal.decreases-loop-s

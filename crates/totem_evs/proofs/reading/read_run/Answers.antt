@@ -7,10 +7,10 @@ use Rattle.totem_evs.proofs.reading.read_run.Goals as goal
 pub returns-in_err-reader : goal.returns-in_err-reader
 returns-in_err-reader g c =
     let p = err_from_is_err_and c.from_residual.result c.from_residual.ensures.1 in
-    rw (p.1, p.2) (first_fault _ _ _ c.in_err-reader.ensures)
+    rw (p.1, p.2) (first_fault _ _ _ c.in_err-reader.ensures.begins)
 
 pub parts-init : goal.parts-init
-parts-init g c = rw c.new-logs.ensures (first_folded _ _ _ c.in_ok-reader.ensures (first_gathers _ c.in_ok-reader.ensures.first))
+parts-init g c = rw c.new-logs.ensures (first_folded _ _ _ c.in_ok-reader.ensures.begins (first_gathers _ c.in_ok-reader.ensures.begins.first))
 
 pub returns-in_err-next : goal.returns-in_err-next
 returns-in_err-next g c =

@@ -1,5 +1,5 @@
 use Rattle.totem_cert.proofs.Full.{full_positions}
-use Rattle.totem_cert.proofs.order.positions.Goals as goal
+use Rattle.totem_cert.proofs.order.positions_over.Goals as goal
 
 pub returns-in-None : goal.returns-in-None
 returns-in-None c =

@@ -1,0 +1,61 @@
+-- Where no process is open in its stay, nothing is pending.
+use Rattle.std.proofs.Common.{◌≡◌, inl, inr, ℕ, List, length, All, slice_get, Some, Bool, true, false, Result, sym, ◌∙◌, ap, arith}
+use Rattle.std.specs.Prelude.{IfOk}
+use Rattle.std.specs.Bool.{OnTrue}
+use Rattle.std.proofs.lemmas.Option.{slice_get_within, get_or_from_slice_get}
+use Rattle.totem_ids.specs.declared.ring.RingId.{RingId}
+use Rattle.totem_evs.specs.declared.entry.Entry.{Entry}
+use Rattle.totem_evs.specs.declared.log.Log.{Log}
+use Rattle.totem_evs.specs.declared.pending.Pending.{Pending}
+use Rattle.totem_evs.specs.Events.{log_of}
+use Rattle.totem_evs.specs.Following.{OpenIn, NeverFails}
+use Rattle.totem_evs.specs.Answers.{MeetsPasses}
+use Rattle.totem_evs.proofs.LogOf.{less_or_not}
+use Rattle.totem_passes.proofs.Passes.{if_ok}
+use Rattle.totem_agreement.specs.declared.stay.Stay.{Stay}
+use Rattle.totem_agreement.specs.Stays.{IsStayOf}
+use Rattle.totem_agreement.specs.Endings.{HasFailed}
+use Rattle.totem_agreement.specs.Pendings.{IsPendingIn, IsPlacedStay, EndsClosed, HasNonePending}
+use Rattle.totem_agreement.specs.Uniform.{IsComplete}
+use Rattle.totem_agreement.proofs.Completing.{none_pending}
+use Rattle.totem_agreement.proofs.Facts.{Facts, StayFacts}
+use Rattle.totem_agreement.proofs.Pend.{came_to}
+
+-- the logs of stays are in place, as all logs of the run
+pub placed : (run : List Log) (c : RingId) (stays : List Stay) → MeetsPasses run → All (IsStayOf run c) stays → All IsPlacedStay stays
+placed run c stays meets each = λ k d lt. (let of = each k d lt in rw of.log (meets.placed _))
+
+no_failure : (log here : List Entry) → here ≡ log → HasFailed here → NeverFails log → ⊥
+no_failure log here same failed never = never failed.index failed.conf (rw same at failed.fails)
+
+-- who is open in c has a stay that goes up to the end of its log, and has not failed
+pub none_open : (run : List Log) (c : RingId) (stays : List Stay) → Facts run c stays → All EndsClosed stays → HasNonePending run c
+none_open run c stays facts closed = record { none = never }
+  where
+    closed_at : (stay : Stay) (k : ℕ) → slice_get stays k ≡ Some stay → EndsClosed stay
+    closed_at stay k at = rw (get_or_from_slice_get stays k stay stay at) at (closed k stay (slice_get_within stays k stay at))
+
+    not_open : (stay : Stay) (k : ℕ) → slice_get stays k ≡ Some stay → StayFacts run c stay → OpenIn (log_of run stay.proc) c → ⊥
+    not_open stay k at known still = elim (less_or_not stay.end (length (log_of run stay.proc))) [
+      | inl before ↦ known.is.goes_on before (inr still)
+      | inr rest ↦ elim rest [
+        | inl over ↦ (let le = known.within in omega arith)
+        | inr same ↦ no_failure (log_of run stay.proc) stay.log.now known.log (closed_at stay k at (same ∙ ap length (sym known.log))) still.1
+      ]
+    ]
+
+    never : (x : Pending) → IsPendingIn run c x → ⊥
+    never x pending =
+        let came = came_to (log_of run x.proc) c pending.still_open in
+        let has = facts.whole x.proc came.0 came.1 in
+        not_open has.stay has.at has.stands (facts.each has.stay (record { at = has.at; stands = has.stands })) (rw has.proc pending.still_open)
+
+pub complete_none : (run : List Log) (c : RingId) (stays : List Stay) → Facts run c stays → IsComplete stays → HasNonePending run c
+complete_none run c stays facts complete = record { none = λ x pending. none_pending run c stays x facts complete pending }
+
+true_none : (run : List Log) (c : RingId) (stays : List Stay) → Facts run c stays → (b : Bool) → OnTrue b (IsComplete stays) → OnTrue b (HasNonePending run c)
+true_none run c stays facts true complete = complete_none run c stays facts complete
+true_none run c stays facts false h = tt
+
+pub if_complete : (run : List Log) (c : RingId) (stays : List Stay) → Facts run c stays → {E : Type 0} → (r : Result Bool E) → IfOk r (λ b. OnTrue b (IsComplete stays)) → IfOk r (λ b. OnTrue b (HasNonePending run c))
+if_complete run c stays facts r h = if_ok r (λ b. OnTrue b (IsComplete stays)) (λ b. OnTrue b (HasNonePending run c)) (true_none run c stays facts) h

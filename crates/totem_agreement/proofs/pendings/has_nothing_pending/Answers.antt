@@ -1,0 +1,12 @@
+use Rattle.totem_agreement.proofs.Facts.{facts}
+use Rattle.totem_agreement.proofs.Unopened.{placed, none_open, if_complete}
+use Rattle.totem_agreement.proofs.pendings.has_nothing_pending.Goals as goal
+
+pub none_is_open-requires : goal.none_is_open-requires
+none_is_open-requires c = placed c.args.run.now.logs c.args.ring c.args.stays.now c.requires.meets c.requires.are.each
+
+pub returns-then-none_is_open : goal.returns-then-none_is_open
+returns-then-none_is_open c = none_open c.args.run.now.logs c.args.ring c.args.stays.now (facts _ _ _ ∣ c.requires.meets ∣₁ ∣ c.requires.are ∣₁) (rw c.if-none_is_open.true at c.none_is_open.ensures)
+
+pub returns : goal.returns
+returns c = if_complete c.args.run.now.logs c.args.ring c.args.stays.now (facts _ _ _ ∣ c.requires.meets ∣₁ ∣ c.requires.are ∣₁) c.is_complete.result c.is_complete.ensures
