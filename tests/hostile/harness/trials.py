@@ -6,6 +6,7 @@ import signal
 import sys
 from collections import Counter
 from dataclasses import dataclass, field
+from multiprocessing.connection import wait
 
 from harness import process
 from harness.forms import flaw
@@ -19,8 +20,9 @@ MEMORY_PER_BYTE = 200
 MEGABYTES_GIVEN = 4096
 # No more cases are tried behind so many that hang.
 MOST_HANGING = 3
-# How many a process takes at once.
+# How many a process tries before it tells what it found, and how long that may take.
 CASES_AT_ONCE = 100
+SECONDS_FOR_A_PART = 120
 
 
 @dataclass(frozen=True)
@@ -101,36 +103,62 @@ class Trial:
             self.found.wrong.append((case, answer, wanted))
 
 
-# What the processes that try cases were given: the program, and what tries its cases.
-_given = {}
+class Stuck(Exception):
+    """A process that tries cases has ended before it was done, or tells nothing for too long."""
 
 
-def _begin(program, try_case):
-    """In each process that tries cases: what it starts ends with it."""
-    _given.update(program=program, try_case=try_case)
+def _try_share(share, program, try_case, told):
+    """Tries the cases of a share, and tells what each part of them finds. What it starts ends with it."""
     process.limit_memory(MEGABYTES_GIVEN)
     signal.signal(signal.SIGINT, signal.SIG_IGN)
     signal.signal(signal.SIGTERM, lambda *_: (process.end_all(), sys.exit(1)))
+    for numbers in share:
+        trial = Trial(program)
+        for number in numbers:
+            if trial.found.hanging < MOST_HANGING:
+                try_case(trial, number)
+        told.send(trial.found)
 
 
-def _try_some(numbers):
-    trial = Trial(_given['program'])
-    for number in numbers:
-        if trial.found.hanging < MOST_HANGING:
-            _given['try_case'](trial, number)
-    return trial.found
+def _gather(readers, found):
+    """Adds what is told, until nothing more comes or too much hangs. How many parts were told. Each process has a
+    pipe of its own and shares no lock, so one that ends is seen, and none can hold up another."""
+    parts = 0
+    while readers and found.hanging < MOST_HANGING:
+        ready = wait(readers, timeout=process.allowed(SECONDS_FOR_A_PART))
+        if not ready:
+            raise Stuck('%d processes that try cases have told nothing for too long' % len(readers))
+        for reader in ready:
+            try:
+                found.add(reader.recv())
+                parts += 1
+            except EOFError:
+                readers.remove(reader)
+    return parts
 
 
 def side_by_side(jobs, program, try_case, count):
     """Calls `try_case(trial, number)` for the numbers below `count`, in so many processes. What they find."""
-    found = Found()
+    found, readers, workers = Found(), [], []
     parts = [range(at, min(at + CASES_AT_ONCE, count)) for at in range(0, count, CASES_AT_ONCE)]
-    with multiprocessing.get_context('fork').Pool(jobs, _begin, (program, try_case)) as pool:
-        for part in pool.imap(_try_some, parts):
-            found.add(part)
-            if found.hanging >= MOST_HANGING:
-                break
-    return found
+    context = multiprocessing.get_context('fork')
+    try:
+        for number in range(jobs):
+            reader, told = context.Pipe(duplex=False)
+            worker = context.Process(target=_try_share, args=(parts[number::jobs], program, try_case, told))
+            worker.start()
+            told.close()
+            workers.append(worker)
+            readers.append(reader)
+        came = _gather(readers, found)
+        if came < len(parts) and found.hanging < MOST_HANGING:
+            raise Stuck('a process that tries cases has ended: %d of %d parts came' % (came, len(parts)))
+        return found
+    finally:
+        for worker in workers:
+            worker.terminate()
+            worker.join(SECONDS)
+            worker.kill()
 
 
 def left_open(report):
