@@ -6,13 +6,7 @@ mod audits;
 #[cfg(test)]
 mod checks;
 #[cfg(test)]
-mod explanations;
-#[cfg(test)]
 mod jobs;
-#[cfg(test)]
-mod pictures;
-#[cfg(test)]
-mod refusals;
 #[cfg(test)]
 mod stitches;
 #[cfg(test)]

@@ -50,10 +50,10 @@ def place_of(text, at):
 def cases_at(row, at):
     """The cases at a byte of a row's text: each with the form of its line of errors, where that is known; of
     `explain` these alone. (Behind the last byte stands the case in which the text comes twice.)"""
-    text, is_good = row.given, is_text(row)
+    text = row.given
 
     def case(done, changed, pattern=None):
-        return Case(row.name, done, row.words, changed), pattern if is_good else None
+        return Case(row.name, done, row.words, changed), pattern
 
     if at == len(text):
         yield case('doubled', text + text, re.escape(MORE[kind_at(row, at)]))
@@ -170,9 +170,9 @@ def try_change(corpus, changes, trial, number):
 def broken(asked, tally):
     """Known statuses, answers of known forms, bounded time and memory; and what is known of a broken text
     where it is."""
-    corpus = rows.read_all()
-    small = [row for row in corpus if len(row.given) <= LONGEST and row.verb != 'explain']
-    small += [explained(row) for row in small if row.verb == 'audit' and is_text(row)]
+    corpus = rows.read_texts()
+    small = [row for row in corpus if len(row.given) <= LONGEST and row.verb != 'explain' and is_text(row)]
+    small += [explained(row) for row in small if row.verb == 'audit']
     places = [(row, at) for row in small for at in range(len(row.given) + 1)]
     found = side_by_side(asked.jobs, asked.program, partial(try_byte, places), len(places))
     found.tell('each byte', tally)

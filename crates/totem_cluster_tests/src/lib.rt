@@ -1,0 +1,14 @@
+//! The calls of totem_cluster and totem_audit that a program makes: from stream to stream, in threads, with workers and
+//! gates. What the program answers is tried on the built one, by `tests/program` and `tests/hostile`.
+#![tactic(auto)]
+
+#[cfg(test)]
+mod progress;
+#[cfg(test)]
+mod streams;
+#[cfg(test)]
+mod texts;
+#[cfg(test)]
+mod threads;
+#[cfg(test)]
+mod workers;

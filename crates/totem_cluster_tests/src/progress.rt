@@ -1,0 +1,84 @@
+//! What a run in threads tells of how far it is.
+use crate::texts::words;
+use std::alloc::Global;
+use std::sync::Wait;
+use std::test::Fail;
+use std::thread::Threads;
+use totem_cluster::{Logged, Progress, program_with_progress};
+use totem_ids::{Buffered, ToWrite};
+
+/// Counts what it is told, and keeps the last of it.
+#[derive(Clone, Copy)]
+struct Told {
+    calls: u32,
+    ends: u32,
+    passed: u32,
+    ticks: u32,
+    deliveries: u64,
+    configurations: u64,
+}
+
+impl Progress for Told {
+    fn ticked(&mut self, passed: u32, ticks: u32, logged: Logged) {
+        self.calls = self.calls.saturating_add(1);
+        self.passed = passed;
+        self.ticks = ticks;
+        self.deliveries = logged.deliveries;
+        self.configurations = logged.configurations;
+    }
+
+    fn ended(&mut self) {
+        self.ends = self.ends.saturating_add(1);
+    }
+}
+
+/// Returns what a run was told, and its text.
+fn run_told<T: Threads + Wait + Sync>(
+    rt: &T,
+    alloc: Global,
+    text: &str,
+) -> Result<(Told, String), Fail> {
+    let words = words(alloc, text)?;
+    let mut input = Buffered::new(alloc, b"".as_slice())?;
+    let mut output = ToWrite::new(Vec::new(alloc));
+    let mut errors = ToWrite::new(Vec::new(alloc));
+    let mut told = Told {
+        calls: 0,
+        ends: 0,
+        passed: 0,
+        ticks: 0,
+        deliveries: 0,
+        configurations: 0,
+    };
+    program_with_progress(
+        rt,
+        alloc,
+        words.as_slice(),
+        &mut input,
+        &mut output,
+        &mut errors,
+        &mut told,
+    );
+    Ok((told, String::from_utf8(output.into_inner())?))
+}
+
+#[test]
+fn each_tick_tells_what_was_logged(rt: HostRuntime) -> Result<(), Fail> {
+    let (told, text) = run_told(&rt, rt.alloc(), "run --nodes 2 --ticks 800")?;
+    let lines = text.lines().filter(|line| line.starts_with("dlv ")).count();
+    assert_eq!(rt;
+        (told.calls, told.passed, told.ticks, told.ends),
+        (800, 800, 800, 1)
+    );
+    assert!(rt; told.deliveries > 0 && told.deliveries <= lines as u64);
+    assert_eq!(rt; told.configurations, 0);
+    Ok(())
+}
+
+#[test]
+fn a_quiet_run_tells_nothing(rt: HostRuntime) -> Result<(), Fail> {
+    let (told, text) = run_told(&rt, rt.alloc(), "run --nodes 2 --ticks 80 --quiet")?;
+    assert_eq!(rt; (told.calls, told.ends), (0, 0));
+    assert!(rt; text.starts_with("totem-run 1\n"));
+    Ok(())
+}

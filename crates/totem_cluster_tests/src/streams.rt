@@ -1,0 +1,179 @@
+//! Streams that fail.
+use crate::texts::{lines, words};
+use std::alloc::Global;
+use std::io;
+use std::process::Abort;
+use std::sync::Wait;
+use std::test::Fail;
+use std::thread::Threads;
+use totem_cluster::{IoFault, Outcome, Workers, audit_io, check_io, program, sim_io};
+use totem_evs::RunFault;
+use totem_ids::{FromRead, Fused, ToWrite};
+use totem_script::{ScriptFault, ScriptFaultKind};
+
+const GOOD: &str =
+    "totem-run 1;log 1;conf r4.1 1 2;send r4.1 a 4.1#1;dlv r4.1 4.1#1;open;log 2;conf r4.1 1 2;dlv r4.1 4.1#1;open;end;";
+
+const SCRIPT: &str = "totem-script 1;ring 4.1 1;end;";
+
+// The program fails to read, wherever the source fails, and writes nothing.
+fn fails_to_read<T: Threads + Wait + Abort + Sync>(
+    rt: &T,
+    alloc: Global,
+    asked: &str,
+    text: &str,
+) -> Result<(), Fail> {
+    let text = lines(alloc, text)?;
+    let words = words(alloc, asked)?;
+    for at in 0..=text.len() as u64 {
+        let mut input = Fused::new(FromRead::new(text.as_bytes()), at);
+        let mut output = ToWrite::new(Vec::new(alloc));
+        let mut errors = ToWrite::new(Vec::new(alloc));
+        let status = program(
+            rt,
+            alloc,
+            words.as_slice(),
+            &mut input,
+            &mut output,
+            &mut errors,
+        );
+        assert_eq!(rt; status, 4, "status at {at}");
+        assert_eq!(rt; output.into_inner().len(), 0, "output at {at}");
+        assert_eq!(rt;
+            errors.into_inner().as_slice(),
+            b"totem: read failed\n".as_slice(),
+            "errors at {at}"
+        );
+    }
+    Ok(())
+}
+
+#[test]
+fn a_read_that_fails_leaves_no_report(rt: HostRuntime) -> Result<(), Fail> {
+    fails_to_read(&rt, rt.alloc(), "audit", GOOD)
+}
+
+#[test]
+fn a_read_that_fails_leaves_no_run(rt: HostRuntime) -> Result<(), Fail> {
+    fails_to_read(&rt, rt.alloc(), "sim", SCRIPT)
+}
+
+// What is wrong with an earlier line comes before a failure of the source.
+#[test]
+fn an_earlier_line_comes_before_a_failed_read(rt: HostRuntime) -> Result<(), Fail> {
+    let alloc = rt.alloc();
+    let mut input = Fused::new(FromRead::new(b"totem-script 1\nrings".as_slice()), 20);
+    let mut output = ToWrite::new(Vec::new(alloc));
+    let fault = sim_io(alloc, &mut input, &mut output);
+    assert!(rt;
+        matches!(
+            fault,
+            Err(IoFault::Script(ScriptFault {
+                kind: ScriptFaultKind::Read,
+                line: 2
+            }))
+        )
+    );
+    let mut input = Fused::new(FromRead::new(b"totem-script 1\nrings\n".as_slice()), 21);
+    let fault = sim_io(alloc, &mut input, &mut output);
+    assert!(rt;
+        matches!(
+            fault,
+            Err(IoFault::Script(ScriptFault {
+                kind: ScriptFaultKind::Word,
+                line: 2
+            }))
+        )
+    );
+    Ok(())
+}
+
+#[test]
+fn a_script_without_an_end_is_refused(rt: HostRuntime) -> Result<(), Fail> {
+    let alloc = rt.alloc();
+    let mut input = FromRead::new(io::repeat(b'x'));
+    let mut output = ToWrite::new(Vec::new(alloc));
+    let fault = sim_io(alloc, &mut input, &mut output);
+    assert!(rt;
+        matches!(
+            fault,
+            Err(IoFault::Script(ScriptFault {
+                kind: ScriptFaultKind::TooMany,
+                line: 1
+            }))
+        )
+    );
+    assert_eq!(rt; output.into_inner().len(), 0);
+    Ok(())
+}
+
+#[test]
+fn a_write_that_fails_is_told(rt: HostRuntime) -> Result<(), Fail> {
+    let alloc = rt.alloc();
+    for (asked, text) in [
+        ("audit", GOOD),
+        ("sim", SCRIPT),
+        ("run --ticks 8", ""),
+        ("--help", ""),
+    ] {
+        let words = words(alloc, asked)?;
+        let text = lines(alloc, text)?;
+        let mut input = FromRead::new(text.as_bytes());
+        let mut output = Fused::new(ToWrite::new(Vec::new(alloc)), 0);
+        let mut errors = ToWrite::new(Vec::new(alloc));
+        let status = program(
+            &rt,
+            alloc,
+            words.as_slice(),
+            &mut input,
+            &mut output,
+            &mut errors,
+        );
+        assert_eq!(rt; status, 4, "status of {asked}");
+        assert_eq!(rt;
+            errors.into_inner().as_slice(),
+            b"totem: write failed\n".as_slice(),
+            "errors of {asked}"
+        );
+    }
+    Ok(())
+}
+
+#[test]
+fn a_failure_of_the_errors_is_passed_over(rt: HostRuntime) -> Result<(), Fail> {
+    let alloc = rt.alloc();
+    for (asked, status) in [("audit", 2u8), ("adit", 64u8)] {
+        let words = words(alloc, asked)?;
+        let mut input = FromRead::new(b"totem-run 2".as_slice());
+        let mut output = ToWrite::new(Vec::new(alloc));
+        let mut errors = Fused::new(ToWrite::new(Vec::new(alloc)), 0);
+        let found = program(
+            &rt,
+            alloc,
+            words.as_slice(),
+            &mut input,
+            &mut output,
+            &mut errors,
+        );
+        assert_eq!(rt; found, status, "status of {asked}");
+        assert_eq!(rt; output.into_inner().len(), 0, "output of {asked}");
+    }
+    Ok(())
+}
+
+#[test]
+fn an_audit_and_a_check_from_stream_to_stream(rt: HostRuntime) -> Result<(), Fail> {
+    let alloc = rt.alloc();
+    let text = lines(alloc, GOOD)?;
+    let mut output = ToWrite::new(Vec::new(alloc));
+    let mut input = FromRead::new(text.as_bytes());
+    let outcome = audit_io(&rt, alloc, &mut input, &mut output, Workers::one())?;
+    assert_eq!(rt; outcome, Outcome::Yes);
+    let mut input = FromRead::new(b"totem-run 1\nlog".as_slice());
+    let fault = audit_io(&rt, alloc, &mut input, &mut output, Workers::one());
+    assert!(rt; matches!(fault, Err(IoFault::Run(RunFault::Truncated))));
+    let mut input = FromRead::new(b"totem-run 1\nend\ntotem-cert 1\nend\n".as_slice());
+    let outcome = check_io(alloc, &mut input, &mut output)?;
+    assert_eq!(rt; outcome, Outcome::Yes);
+    Ok(())
+}

@@ -1,0 +1,58 @@
+"""Scripts that are refused: what is wrong, and in which line."""
+from functools import partial
+
+from harness import process
+
+OF_32 = ' '.join(str(number) for number in range(1, 33))
+# Scripts, what is wrong with each, and the line that is told.
+BROKEN = (
+    ('totem-script 2\nend\n', '1 Header', 1),
+    ('totem-script 1', '8 Truncated', 1),
+    ('', '8 Truncated', 1),
+    ('totem-script 1\nring 4.1 1 2\nrun x\nend\n', '3 Number', 3),
+    ('totem-script 1\nring 4.1 1 2\nwalk\nend\n', '2 Word', 3),
+    ('totem-script 1\nend\n', '4 Order', 2),
+    ('totem-script 1\nring 4.1 1 2\njoin\nring 4.3 3\nend\n', '4 Order', 4),
+    ('totem-script 1\nring 4.2 1 2\nend\n', '5 Members', 2),
+    ('totem-script 1\nring 4.1 1 2 2\nend\n', '5 Members', 2),
+    ('totem-script 1\nring 4.1 1 2\nring 4.2 2 3\nend\n', '5 Members', 3),
+    ('totem-script 1\nring 4.1 1 2\ntimer 3\nend\n', '5 Members', 3),
+    ('totem-script 1\nring 4.1 1 2\ncut 1\nend\n', '5 Members', 3),
+    ('totem-script 1\nring 4.1 1 2\ncut 1 2 / 1\nend\n', '5 Members', 3),
+    ('totem-script 1\nring 4.1 1 2\ndrop 2\nend\n', '6 Place', 3),
+    ('totem-script 1\nring 4.1 1 2\nrepeat 2\nend\n', '6 Place', 3),
+    ('totem-script 1\nring 4.1 1 2\nend\nx', '7 End', 4),
+    ('totem-script 1\nring 4.1 1 2\nend\n\n', '7 End', 4),
+    ('totem-script 1\nring 4.1 1 2\nend', '8 Truncated', 3),
+    ('totem-script 1\nring 4.1 1 2\njoin\n', '8 Truncated', 4),
+    ('totem-script 1\nring 4.1 %s 33\nend\n' % OF_32, '9 TooMany', 2),
+)
+# 65,532 bytes: `join` in each line from the third on, 13,100 times.
+LONG = 'totem-script 1\nring 4.1 1 2 345\n' + 'join\n' * 13100
+
+
+def try_broken(script, kind, line, program):
+    """A script is refused in this line. `sim` tells what is wrong, `explain` the line too."""
+    wanted = 'totem: script refused: %s\n' % kind
+    made, _ = process.run([program, 'sim'], script.encode())
+    told, _ = process.run([program, 'explain', '--script'], script.encode())
+    is_right = (made.status, made.output, made.errors.decode()) == (2, b'', wanted) and told.status == 2 and \
+        told.errors.decode().startswith(wanted + 'line %d:\n' % line)
+    return None if is_right else 'came: %s and %s\n  wanted: %r in line %d' % (made, told, wanted, line)
+
+
+def try_logs(script, count, program):
+    """A script makes a run of so many logs."""
+    made, _ = process.run([program, 'sim'], script.encode())
+    is_right = made.status == 0 and made.output.count(b'\nlog ') == count
+    return None if is_right else 'came: %s' % made
+
+
+def scripts():
+    """What is wrong with a script, and the limits of one."""
+    for script, kind, line in BROKEN:
+        yield '%s in line %d: %r' % (kind, line, script[:60]), partial(try_broken, script, kind, line)
+    yield '65,536 bytes and one', partial(try_broken, LONG + 'end\nx', '7 End', 13104)
+    yield '65,537 bytes', partial(try_broken, LONG + 'join\n', '9 TooMany', 13103)
+    yield '65,536 bytes', partial(try_logs, LONG + 'end\n', 3)
+    yield '32 processes', partial(try_logs, 'totem-script 1\nring 4.1 %s\nend\n' % OF_32, 32)

@@ -1,0 +1,98 @@
+"""Runs of nodes in threads. No two are alike, so what is wanted of them is what holds of each."""
+from collections import Counter
+from functools import partial
+
+from harness import process
+
+SECONDS = 60
+CERTIFICATE = b'totem-cert 1\n'
+# How many messages the clients submit in a run with the default number of ticks.
+SUBMITTED = 500
+# Words of runs, with each range's ends among them.
+RUNS = (
+    '', '--lose 10 --repeat 20 --hold 3', '--nodes 1 --ticks 80',
+    '--nodes 8 --ticks 800 --seed 18446744073709551615', '--nodes 32 --ticks 80 --hold 255',
+    '--ticks 80 --lose 60 --repeat 40', '--ticks 80 --lose 100', '--ticks 80 --repeat 100',
+)
+ROUGH = (
+    '--nodes 3 --lose 5', '--nodes 3 --lose 2 --repeat 5 --hold 1', '--nodes 8 --lose 2 --repeat 5 --hold 1',
+    '--nodes 16 --lose 1 --repeat 5 --hold 1',
+)
+SEEDS = range(1, 11)
+# Nodes, what the network does, and how many of ten messages have to be taken, and delivered by all.
+DELIVERED = (
+    (3, '', 9), (8, '', 9), (16, '', 9), (32, '', 9),
+    (3, '--lose 1 --repeat 1', 8), (8, '--lose 1 --repeat 1', 8), (16, '--lose 1 --repeat 1', 8),
+    (3, '--lose 1 --repeat 5 --hold 1', 8), (8, '--lose 1 --repeat 5 --hold 1', 8),
+)
+
+
+def made_by(program, words):
+    """Runs nodes in threads. The answer, and what is wrong with it."""
+    made, _ = process.run([program, 'run', *words.split()], seconds=SECONDS)
+    return made, None if made.status == 0 and not made.errors else 'came: %s' % made
+
+
+def try_judged(words, program):
+    """Makes a run, has it judged, and has the checker accept the certificate of a yes. A no is printed with its run,
+    for people to look at: threads may lose a node its ring at any moment."""
+    made, wrong = made_by(program, words)
+    if wrong:
+        return wrong
+    report, _ = process.run([program, 'audit'], made.output)
+    if report.status == 1 and report.output.startswith(b'verdict no\n') and not report.errors:
+        print('a no: totem run %s\n%s\n%s' % (words, report.output.decode(), made.output.decode()), flush=True)
+        return None
+    if report.status != 0 or CERTIFICATE not in report.output:
+        return 'the audit: %s' % report
+    certificate = report.output[report.output.index(CERTIFICATE):]
+    checked, _ = process.run([program, 'check'], made.output + certificate)
+    return None if checked.status == 0 else 'the check: %s' % checked
+
+
+def judged():
+    """What threads recorded is read and judged."""
+    for words in RUNS:
+        yield 'totem run ' + words, partial(try_judged, words)
+    for seed in SEEDS:
+        for weather in ROUGH:
+            words = '--ticks 240 --seed %d %s' % (seed, weather)
+            yield 'totem run ' + words, partial(try_judged, words)
+
+
+def try_delivered(nodes, weather, of_ten, program):
+    """Of ten messages that clients submit so many are sent, of ten that are sent so many are delivered by all nodes,
+    and these stay in one configuration where nothing is lost or held."""
+    made, wrong = made_by(program, '--nodes %d %s' % (nodes, weather))
+    if wrong:
+        return wrong
+    lines = [line.split() for line in made.output.splitlines()]
+    kinds = Counter(line[0] for line in lines)
+    deliveries = Counter(line[2] for line in lines if line[0] == b'dlv')
+    by_all = sum(count == nodes for count in deliveries.values())
+    stays = kinds[b'conf'] == nodes or weather
+    is_right = stays and 10 * kinds[b'send'] >= of_ten * SUBMITTED and 10 * by_all >= of_ten * kinds[b'send']
+    told = '%d changes, %d sent, %d delivered by all' % (kinds[b'conf'], kinds[b'send'], by_all)
+    return None if is_right else '%s; wanted: %d of ten' % (told, of_ten)
+
+
+def delivered():
+    """Messages are delivered by all."""
+    for nodes, weather, of_ten in DELIVERED:
+        yield 'totem run --nodes %d %s' % (nodes, weather), partial(try_delivered, nodes, weather, of_ten)
+
+
+def try_logs(program):
+    """Each node has a log that begins with its first configuration."""
+    made, wrong = made_by(program, '--ticks 1')
+    if wrong:
+        return wrong
+    starts = [b'log %d\nconf r4.1 1 2 3\n' % node for node in (1, 2, 3)]
+    is_right = made.output.startswith(b'totem-run 1\n' + starts[0]) and made.output.endswith(b'\nend\n') and \
+        all(b'\n' + start in made.output for start in starts)
+    return None if is_right else 'came: %s' % made
+
+
+def logs():
+    """Each node has a log."""
+    yield 'totem run --ticks 1', try_logs
