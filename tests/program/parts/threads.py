@@ -13,6 +13,7 @@ RUNS = (
     '', '--lose 10 --repeat 20 --hold 3', '--nodes 1 --ticks 80',
     '--nodes 8 --ticks 800 --seed 18446744073709551615', '--nodes 32 --ticks 80 --hold 255',
     '--ticks 80 --lose 60 --repeat 40', '--ticks 80 --lose 100', '--ticks 80 --repeat 100',
+    '--nodes 32 --ticks 1 --seed 0 --lose 0 --repeat 0 --hold 0', '--nodes 2 --ticks 2000 --repeat 100 --quiet',
 )
 ROUGH = (
     '--nodes 3 --lose 5', '--nodes 3 --lose 2 --repeat 5 --hold 1', '--nodes 8 --lose 2 --repeat 5 --hold 1',
@@ -93,6 +94,21 @@ def try_logs(program):
     return None if is_right else 'came: %s' % made
 
 
+def try_alone(program):
+    """Where each packet is lost, a node delivers what it sends itself and nothing else."""
+    made, wrong = made_by(program, '--ticks 2000 --lose 100')
+    if wrong:
+        return wrong
+    for log in made.output.split(b'\nlog ')[1:]:
+        lines = [line.split() for line in log.splitlines()[1:]]
+        sent = {line[3] for line in lines if line[0] == b'send'}
+        delivered_here = {line[2] for line in lines if line[0] == b'dlv'}
+        if not delivered_here or not delivered_here <= sent:
+            return 'sent %d, delivered %d messages, in log %r' % (len(sent), len(delivered_here), log[:40])
+    return None
+
+
 def logs():
-    """Each node has a log."""
+    """Each node has a log, and what is in it."""
     yield 'totem run --ticks 1', try_logs
+    yield 'totem run --ticks 2000 --lose 100', try_alone
