@@ -1,9 +1,13 @@
 //! Runs that nodes in threads record.
+use std::alloc::Global;
+use std::sync::Wait;
 use std::test::Fail;
-use totem_books::{BookFault, CloseFault};
+use std::thread::Threads;
+use totem_books::{BookFault, Call, CloseFault, ClosedBook, Reply};
 use totem_cluster::{BookTrouble, IoFault, RunPlan, run_threads, tell_fault};
 use totem_ids::ToWrite;
 use totem_net::{Plan, Quiet};
+use totem_node::Input;
 
 #[test]
 fn a_book_that_was_refused_is_told(rt: HostRuntime) -> Result<(), Fail> {
@@ -42,5 +46,83 @@ fn books_come_with_the_run(rt: HostRuntime) -> Result<(), Fail> {
         assert_eq!(rt; book.members().len(), 2);
         assert!(rt; book.members().contains(&book.me()));
     }
+    Ok(())
+}
+
+/// How many calls of two nodes' books a timer made, a client and a packet, and how many packets the nodes sent.
+#[derive(Clone, Copy)]
+struct Counts {
+    timers: usize,
+    submits: usize,
+    packets: usize,
+    sent: usize,
+}
+
+impl Counts {
+    fn count(&mut self, call: &Call) {
+        match call.input {
+            Input::Timer => self.timers = self.timers.saturating_add(1),
+            Input::Submit { .. } => self.submits = self.submits.saturating_add(1),
+            Input::Packet(_) => self.packets = self.packets.saturating_add(1),
+            Input::Crash => {}
+        }
+        if let Reply::Done(out) = &call.reply {
+            self.sent = self.sent.saturating_add(out.packets.len());
+        }
+    }
+}
+
+fn counted(books: &[ClosedBook]) -> Counts {
+    let mut counts = Counts {
+        timers: 0,
+        submits: 0,
+        packets: 0,
+        sent: 0,
+    };
+    for book in books {
+        for call in book.calls() {
+            counts.count(call);
+        }
+    }
+    counts
+}
+
+/// Runs two nodes for 160 ticks over a network that loses and repeats so many packets of a hundred.
+fn counts_of<R: Threads + Wait + Sync>(
+    rt: &R,
+    alloc: Global,
+    lose: u8,
+    repeat: u8,
+) -> Result<Counts, Fail> {
+    let Some(plan) = Plan::new(lose, repeat, 0).and_then(|plan| RunPlan::new(2, 160, 7, plan))
+    else {
+        return Err(Fail::from("no plan"));
+    };
+    match run_threads(rt, alloc, plan, &Quiet) {
+        Ok((_, books)) => Ok(counted(&books)),
+        Err(_) => Err(Fail::from("no run")),
+    }
+}
+
+#[test]
+fn each_turn_has_a_timer_and_a_client(rt: HostRuntime) -> Result<(), Fail> {
+    let counts = counts_of(&rt, rt.alloc(), 0, 0)?;
+    assert_eq!(rt; (counts.timers, counts.submits), (20, 20));
+    assert!(rt; counts.packets <= counts.sent.saturating_add(1));
+    Ok(())
+}
+
+/// The first token comes from no node, and is not lost.
+#[test]
+fn a_packet_that_is_lost_comes_to_no_book(rt: HostRuntime) -> Result<(), Fail> {
+    let counts = counts_of(&rt, rt.alloc(), 100, 0)?;
+    assert_eq!(rt; counts.packets, 1);
+    Ok(())
+}
+
+#[test]
+fn a_packet_that_is_repeated_comes_twice(rt: HostRuntime) -> Result<(), Fail> {
+    let counts = counts_of(&rt, rt.alloc(), 0, 100)?;
+    assert!(rt; counts.packets > counts.sent);
     Ok(())
 }

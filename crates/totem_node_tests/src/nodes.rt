@@ -6,7 +6,8 @@ use totem_evs::{Entry, Members};
 use totem_ids::{ProcId, RingId, Service};
 use totem_node::{Input, NodeCore, NodeFault, StepOut};
 use totem_packets::{
-    Body, CommitMember, CommitMembers, CommitToken, Message, Number, Packet, Payload, Round,
+    Body, CommitMember, CommitMembers, CommitToken, Join, Message, Number, Packet, Payload,
+    Processes, Round, TokenSeq,
 };
 use totem_ring::{Act, To, first_token};
 
@@ -60,17 +61,50 @@ fn commit(alloc: Global) -> Result<Input, Fail> {
     })))
 }
 
-/// Returns the input that a word stands for: `submit` with a number of bytes, `from` with the sender of a message of
-/// ring 8.1, `token` for the first token of ring 4.1, `commit`, `crash`, and any other word for a timer.
-fn input(alloc: Global, word: &str) -> Result<Input, Fail> {
+/// Returns a Join of process 2 with this number, which thinks of the processes 1 to `last`.
+fn join(alloc: Global, seq: u32, last: u16) -> Result<Input, Fail> {
+    Ok(Input::Packet(Packet::Join(Join {
+        sender: proc(2),
+        seq: Number::of(seq.max(1)),
+        processes: Processes::new(first(alloc, last)?.as_slice().to_vec(alloc)?)?,
+        failed: Processes::new(Vec::new(alloc))?,
+    })))
+}
+
+/// Returns a token of ring 4.1 that is the second member's to take.
+fn second_token(alloc: Global) -> Input {
+    let mut token = first_token(alloc, ring(4));
+    token.token_seq = TokenSeq::of(2);
+    Input::Packet(Packet::Token(token))
+}
+
+/// Returns the input of a word that has a number: `submit` with a number of bytes, `from` with the sender of a message of
+/// ring 8.1, `join` with the number of a Join of process 2, `alien` with that of one which does not think of its sender.
+fn numbered_input(alloc: Global, word: &str) -> Result<Option<Input>, Fail> {
     if let Some(bytes) = word.strip_prefix("submit") {
-        return Ok(submit(alloc, bytes.parse::<usize>().unwrap_or(0))?);
+        return Ok(Some(submit(alloc, bytes.parse::<usize>().unwrap_or(0))?));
     }
     if let Some(sender) = word.strip_prefix("from") {
-        return Ok(foreign(sender.parse::<u16>().unwrap_or(0)));
+        return Ok(Some(foreign(sender.parse::<u16>().unwrap_or(0))));
+    }
+    if let Some(seq) = word.strip_prefix("join") {
+        return Ok(Some(join(alloc, seq.parse::<u32>().unwrap_or(0), 2)?));
+    }
+    if let Some(seq) = word.strip_prefix("alien") {
+        return Ok(Some(join(alloc, seq.parse::<u32>().unwrap_or(0), 1)?));
+    }
+    Ok(None)
+}
+
+/// Returns the input that a word stands for: one with a number, `token` for the first token of ring 4.1, `second` for one that is the
+/// second member's, `commit`, `crash`, and any other word for a timer.
+fn input(alloc: Global, word: &str) -> Result<Input, Fail> {
+    if let Some(input) = numbered_input(alloc, word)? {
+        return Ok(input);
     }
     match word {
         "token" => Ok(Input::Packet(Packet::Token(first_token(alloc, ring(4))))),
+        "second" => Ok(second_token(alloc)),
         "commit" => commit(alloc),
         "crash" => Ok(Input::Crash),
         _ => Ok(Input::Timer),
@@ -267,7 +301,7 @@ struct Row {
     told: &'static str,
 }
 
-const LIVES: [Row; 10] = [
+const LIVES: [Row; 14] = [
     Row {
         members: 2,
         inputs: "submit1 token timer",
@@ -302,6 +336,30 @@ const LIVES: [Row; 10] = [
         members: 3,
         inputs: "timer timer timer timer timer",
         told: "conf r4.1 1 2 3; / resend 4.1; / resend 4.1; / all join 4: 1 2 3 but; / all join 4: 1 2 3 but; / all join 4: 1 2 3 but 2 3; 1 commit; ",
+    },
+    // In Commit a commit token without reports is stale, and the third timer begins a new gathering,
+    Row {
+        members: 3,
+        inputs: "timer timer timer timer timer commit timer timer timer",
+        told: "conf r4.1 1 2 3; / resend 4.1; / resend 4.1; / all join 4: 1 2 3 but; / all join 4: 1 2 3 but; / all join 4: 1 2 3 but 2 3; 1 commit; / Stale/ / / all join 8: 1 2 3 but; ",
+    },
+    // and so does a Join of one that was thought to have failed.
+    Row {
+        members: 3,
+        inputs: "timer timer timer timer timer join4",
+        told: "conf r4.1 1 2 3; / resend 4.1; / resend 4.1; / all join 4: 1 2 3 but; / all join 4: 1 2 3 but; / all join 4: 1 2 3 but 2 3; 1 commit; / all join 8: 1 2 3 but; ",
+    },
+    // A Join is late, one does not think of its own sender, a token is another member's: nothing changes.
+    Row {
+        members: 2,
+        inputs: "join3 alien4 second timer",
+        told: "conf r4.1 1 2; / Stale/ Stranger/ Range/ resend 4.1; ",
+    },
+    // Who gathers fills no commit token that names other members.
+    Row {
+        members: 2,
+        inputs: "from7 commit",
+        told: "conf r4.1 1 2; / all join 4: 1 2 7 but; / Stale",
     },
     // A 17th message does not wait.
     Row {
