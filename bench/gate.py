@@ -6,9 +6,10 @@
     bench/gate.py rt ci totem_ids     # the same for another command
     bench/gate.py --watch             # only watches a run that somebody else began; ends with Ctrl-C
 
-It looks at /proc each second, so it needs Linux; a check that begins and ends between two looks is missed. The columns are processor
-minutes: of a crate's own proof, which builds it too; of the proof of its tests; of the check that its must-fail edits begin with, and
-the one that they end with; and of the edits themselves. A loaded machine takes up to twice the time for the same, so measure alone."""
+It looks at /proc each second, so it needs Linux; a check that begins and ends between two looks is missed. The columns are
+processor minutes: of a crate's own proof, which builds it too; of the proof of its tests; of the check that its must-fail edits
+begin with, and the one that they end with; and of the edits themselves. A loaded machine takes up to twice the time for the same,
+so measure alone."""
 
 import argparse
 import collections

@@ -23,6 +23,8 @@ MOST_HANGING = 3
 # How many a process tries before it tells what it found, and how long that may take.
 CASES_AT_ONCE = 100
 SECONDS_FOR_A_PART = 120
+# How often what was not told of is tried.
+MOST_ROUNDS = 3
 
 
 @dataclass(frozen=True)
@@ -104,7 +106,7 @@ class Trial:
 
 
 class Stuck(Exception):
-    """A process that tries cases has ended before it was done, or tells nothing for too long."""
+    """Processes that try cases ended, or told nothing for too long, again and again."""
 
 
 def _try_share(share, program, try_case, told):
@@ -112,53 +114,63 @@ def _try_share(share, program, try_case, told):
     process.limit_memory(MEGABYTES_GIVEN)
     signal.signal(signal.SIGINT, signal.SIG_IGN)
     signal.signal(signal.SIGTERM, lambda *_: (process.end_all(), sys.exit(1)))
-    for numbers in share:
+    for part in share:
         trial = Trial(program)
-        for number in numbers:
+        for number in part:
             if trial.found.hanging < MOST_HANGING:
                 try_case(trial, number)
-        told.send(trial.found)
+        told.send((part, trial.found))
 
 
-def _gather(readers, found):
-    """Adds what is told, until nothing more comes or too much hangs. How many parts were told. Each process has a
-    pipe of its own and shares no lock, so one that ends is seen, and none can hold up another."""
-    parts = 0
+def _gather(readers, left, found):
+    """Adds what is told, and takes its parts off those that are left, until no process tells anything more, or too
+    much hangs. Each process has a pipe of its own and shares no lock: so one that ends is seen, and none can hold up
+    another."""
     while readers and found.hanging < MOST_HANGING:
         ready = wait(readers, timeout=process.allowed(SECONDS_FOR_A_PART))
         if not ready:
-            raise Stuck('%d processes that try cases have told nothing for too long' % len(readers))
+            return
         for reader in ready:
             try:
-                found.add(reader.recv())
-                parts += 1
-            except EOFError:
+                part, came = reader.recv()
+            except (EOFError, OSError):
                 readers.remove(reader)
-    return parts
+                continue
+            left.remove(part)
+            found.add(came)
 
 
-def side_by_side(jobs, program, try_case, count):
-    """Calls `try_case(trial, number)` for the numbers below `count`, in so many processes. What they find."""
-    found, readers, workers = Found(), [], []
-    parts = [range(at, min(at + CASES_AT_ONCE, count)) for at in range(0, count, CASES_AT_ONCE)]
+def _try_parts(jobs, left, found, *given):
+    """Tries the parts that are left, in so many processes."""
     context = multiprocessing.get_context('fork')
+    readers, workers = [], []
     try:
         for number in range(jobs):
             reader, told = context.Pipe(duplex=False)
-            worker = context.Process(target=_try_share, args=(parts[number::jobs], program, try_case, told))
+            worker = context.Process(target=_try_share, args=(left[number::jobs], *given, told))
             worker.start()
             told.close()
             workers.append(worker)
             readers.append(reader)
-        came = _gather(readers, found)
-        if came < len(parts) and found.hanging < MOST_HANGING:
-            raise Stuck('a process that tries cases has ended: %d of %d parts came' % (came, len(parts)))
-        return found
+        _gather(readers, left, found)
     finally:
         for worker in workers:
             worker.terminate()
             worker.join(SECONDS)
             worker.kill()
+
+
+def side_by_side(jobs, program, try_case, count):
+    """Calls `try_case(trial, number)` for the numbers below `count`, in so many processes. What they find. The parts of
+    a process that somebody killed, or that is stuck, are tried again, up to so many times."""
+    found = Found()
+    left = [range(at, min(at + CASES_AT_ONCE, count)) for at in range(0, count, CASES_AT_ONCE)]
+    for _ in range(MOST_ROUNDS):
+        _try_parts(jobs, left, found, program, try_case)
+        if not left or found.hanging >= MOST_HANGING:
+            return found
+        print('  a process that tries cases ended or was stuck: %d parts are tried again' % len(left), flush=True)
+    raise Stuck('%d parts of the cases were never told of' % len(left))
 
 
 def left_open(report):
