@@ -11,6 +11,9 @@ AUDITS = {
     'ring-entered-twice.script': b'verdict no\nfault 4 2@3 2@4 1@3\nend\n',
 }
 
+# How many messages a long run has.
+LONG = 20000
+
 
 def wanted_of(row):
     """What a row wants, for a person."""
@@ -39,6 +42,33 @@ def try_example(script, wanted, program):
     came, _ = process.run([program, 'audit'], made.output)
     is_right = made.status == 0 and came.output == wanted and not came.errors
     return None if is_right else 'came:   %s, then %s\n  wanted: %r' % (made, came, wanted)
+
+
+def of_two(count, order):
+    """A run in which process 1 sends so many messages, and delivers each at once; process 2 delivers them in this
+    order."""
+    sent = ''.join('send r4.1 a 4.1#%d\ndlv r4.1 4.1#%d\n' % (number, number) for number in range(1, count + 1))
+    delivered = ''.join('dlv r4.1 4.1#%d\n' % number for number in order)
+    logs = 'log 1\nconf r4.1 1 2\n%sopen\nlog 2\nconf r4.1 1 2\n%sopen\n' % (sent, delivered)
+    return ('totem-run 1\n%send\n' % logs).encode()
+
+
+def try_long(order, status, output, program):
+    """A run of 20,000 messages has this report."""
+    came, _ = process.run([program, 'audit'], of_two(LONG, order))
+    is_right = (came.status, came.output, came.errors) == (status, output, b'')
+    return None if is_right else 'came: %s' % came
+
+
+def long_runs():
+    """Runs of 20,000 messages, and of as many of which two are exchanged."""
+    numbers = list(range(1, LONG + 1))
+    first = ' '.join(map(str, range(1, 2 * LONG + 2)))
+    second = ' '.join(map(str, range(1, 2 * LONG + 2, 2)))
+    report = 'verdict yes\ntotem-cert 1\npos 1 %s\npos 2 %s\nend\n' % (first, second)
+    yield 'all in order', partial(try_long, numbers, 0, report.encode())
+    exchanged = [2, 1, *numbers[2:]]
+    yield 'two exchanged', partial(try_long, exchanged, 1, b'verdict no\nfault 6.1 1@3 1@4 1@5 2@2 2@3\nend\n')
 
 
 def examples():
