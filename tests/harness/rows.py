@@ -79,5 +79,5 @@ def names():
 
 
 def read_texts():
-    """Reads the first row of each file in which the program gets a text to read."""
-    return [row for row in map(read, names()) if row.given and row.verb in VERBS]
+    """Reads the first row of each file in which the program reads a text, whatever it answers to it."""
+    return [row for row in map(read, names()) if row.given and row.verb in VERBS and row.status in (0, 1, 2)]

@@ -95,16 +95,17 @@ def try_logs(program):
 
 
 def try_alone(program):
-    """Where each packet is lost, a node delivers what it sends itself and nothing else."""
+    """Where each packet is lost, no ring forms, and no node delivers what another one sent. (A node that is alone sends
+    its token to itself over the network, too.)"""
     made, wrong = made_by(program, '--ticks 2000 --lose 100')
     if wrong:
         return wrong
     for log in made.output.split(b'\nlog ')[1:]:
         lines = [line.split() for line in log.splitlines()[1:]]
         sent = {line[3] for line in lines if line[0] == b'send'}
-        delivered_here = {line[2] for line in lines if line[0] == b'dlv'}
-        if not delivered_here or not delivered_here <= sent:
-            return 'sent %d, delivered %d messages, in log %r' % (len(sent), len(delivered_here), log[:40])
+        changes = [line for line in lines if line[0] == b'conf']
+        if len(changes) != 1 or not {line[2] for line in lines if line[0] == b'dlv'} <= sent:
+            return 'log %s' % log.decode()
     return None
 
 
