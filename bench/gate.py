@@ -54,7 +54,9 @@ def edit_in(crate, folder):
     for path in sorted(glob.glob("crates/%s/must-fail/*.edit" % crate)):
         with open(path, encoding="utf-8") as it:
             lines = it.read().splitlines()
-        file = next(line[5:].strip() for line in lines if line.startswith("file:"))
+        file = next((line[5:].strip() for line in lines if line.startswith("file:")), None)
+        if not file:
+            continue
         new = [line[4:].removeprefix(" ") for line in lines if line.startswith("new:")]
         old = [line[4:].removeprefix(" ") for line in lines if line.startswith("old:")]
         with open(os.path.join(folder, file), encoding="utf-8") as it:
@@ -95,7 +97,7 @@ class Watch:
             try:
                 if key not in self.works:
                     self.works[key] = work_of(key[0])
-            except (OSError, StopIteration):
+            except OSError:
                 continue
             self.seconds[key] = max(self.seconds[key], seconds)
 
