@@ -23,7 +23,7 @@ use Rattle.totem_ring.proofs.RingInvariant.{KeptIsOf, Keeps, HasOrder, Keeps-han
 use Rattle.totem_ring.proofs.NotRefused.{token_is_taken}
 use Rattle.totem_ring.proofs.TokenVisit.{visit_keeps}
 
-at_start : (ring : RingName) (members : List ℕ) → HasOrder (start ring members)
+pub at_start : (ring : RingName) (members : List ℕ) → HasOrder (start ring members)
 at_start ring members = record {
   earlier = [];
   newest = first_token ring;
@@ -103,7 +103,7 @@ act_keeps w p (GetsMessage m) h may = message_keeps w p m h may
 act_keeps w p (GetsToken t) h may = token_keeps w p t h may
 act_keeps w p DoesResend h may = resend_keeps w p h
 
-run_keeps : (w : World) (moves : List RingMove) → HasOrder w → IsSchedule w moves → HasOrder (run w moves)
+pub run_keeps : (w : World) (moves : List RingMove) → HasOrder w → IsSchedule w moves → HasOrder (run w moves)
 run_keeps w [] h is = h
 run_keeps w (move ∷ moves) h is = run_keeps (happens w move) moves (act_keeps w move.proc move.act h is.1) is.2
 

@@ -14,6 +14,7 @@ use std::marker::Model;
 use totem_ids::{ProcId, RingId};
 use totem_packets::{Body, Message, Number, Packet, Token};
 
+mod act;
 mod visit;
 
 /// One member's state on its ring (docs/PROTOCOL.md, "The ring"). A call that is refused leaves it as it was.
