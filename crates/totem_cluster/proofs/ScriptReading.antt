@@ -1,20 +1,15 @@
 -- Reading a script: byte after byte, and no further than is looked at.
-use Rattle.std.proofs.Common.{◌≡◌, ℕ, zero, suc, ◌+◌, ◌%◌, ◌^◌, ◌==◌, ◌≤◌, List, [], ◌∷◌, ◌++◌, length, map, take, cond, Bool, true, false, Option, None, Some, Ok, Err, IfSome, inl, refl, sym, ap, ◌∙◌, append_assoc, arith}
+use Rattle.std.proofs.Common.{◌≡◌, ℕ, zero, suc, ◌==◌, ◌≤◌, List, [], ◌∷◌, ◌++◌, length, map, take, cond, Bool, true, false, Option, None, Some, Ok, Err, IfSome, inl, refl, sym, ap, ◌∙◌, arith}
 use Rattle.std.specs.Io.KnownBytes.{Consumes, Keeps, IsAtEnd}
-use Rattle.std.proofs.lemmas.List.{take_all, append-nil, length_push}
+use Rattle.std.proofs.lemmas.List.{take_all, append-nil}
 use Rattle.std.proofs.Math.Seq.{take-append_seam}
 use Rattle.totem_ids.specs.Sources.{Seen}
 use Rattle.totem_ids.specs.Writing.{Held}
 use Rattle.totem_evs.specs.declared.run.Run.{Run}
-use Rattle.totem_evs.specs.declared.writing.WriteFault.{WriteFault}
-use Rattle.totem_evs.specs.declared.writing.WriteFault.TheVariants as write_faults
-use Rattle.totem_evs.specs.WriteRun.{WritesText}
-use Rattle.totem_evs.specs.RunText.{run_text}
 use Rattle.totem_script.specs.Lines.{longer_line, lines_of}
 use Rattle.totem_script.specs.Actors.{log_of}
 use Rattle.totem_script.specs.Simulation.{Told, and_then, all_played, simulate}
-use Rattle.totem_cluster.specs.IoFaults.{write_io_fault}
-use Rattle.totem_cluster.specs.SimIo.{most_read, IsRead, BreaksOff, IsReading, MakesRun, Simulates}
+use Rattle.totem_cluster.specs.SimIo.{most_read, IsRead, IsReading, MakesRun, Simulates}
 use Rattle.totem_cluster.specs.declared.io_fault.IoFault.{IoFault}
 use Rattle.totem_cluster.specs.declared.io_fault.IoFault.TheVariants as faults
 

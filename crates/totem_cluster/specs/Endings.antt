@@ -20,6 +20,7 @@ use Rattle.totem_script.specs.ScriptFaults.{fault_number as script_fault_number,
 use Rattle.totem_threads.specs.Faults.{trouble_number, trouble_name}
 use Rattle.totem_cluster.specs.declared.outcome.Outcome.{Outcome}
 use Rattle.totem_cluster.specs.declared.outcome.Outcome.TheVariants as outcomes
+use Rattle.totem_cluster.specs.declared.weaving.Weave.{Weave}
 use Rattle.totem_cluster.specs.declared.io_fault.IoFault.{IoFault}
 use Rattle.totem_cluster.specs.declared.io_fault.IoFault.TheVariants as faults
 use Rattle.totem_cluster.specs.AuditIo.{Audits}
@@ -28,6 +29,7 @@ use Rattle.totem_cluster.specs.ExplainIo.{ExplainsRun}
 use Rattle.totem_cluster.specs.DrawIo.{DrawsRun}
 use Rattle.totem_cluster.specs.SimIo.{Simulates}
 use Rattle.totem_cluster.specs.RunIo.{Records}
+use Rattle.totem_cluster.specs.WeaveIo.{WeavesRun, weave_status}
 
 -- what a sink's members say of it, with nothing gathered for it
 abbrev pub bare : {S : Type 0} → (S → Option (List ℕ)) → (S → ℕ) → S → Held
@@ -109,6 +111,10 @@ pub data Plays (was is quiet said : Held) : ℕ → Type 0 where
   recorded : (nodes : ℕ) (outcome : Outcome) → Records nodes was is (Ok outcome) → said ≡ quiet → Plays was is quiet said (outcome_status outcome)
   -- it was not, and the fault is told
   unrecorded : (nodes : ℕ) (fault : IoFault) → Records nodes was is (Err fault) → Tells quiet said (fault_line fault) → Plays was is quiet said (fault_status fault)
+  -- they ran, and their ring was woven
+  woven : (nodes : ℕ) (weave : Weave) → WeavesRun nodes was is (Ok weave) → said ≡ quiet → Plays was is quiet said (weave_status weave)
+  -- it was not, and the fault is told
+  unwoven : (nodes : ℕ) (fault : IoFault) → WeavesRun nodes was is (Err fault) → Tells quiet said (fault_line fault) → Plays was is quiet said (fault_status fault)
   -- the numbers don't fit together, which is told
   unfit : (text : List ℕ) → is ≡ was → Tells quiet said text → Plays was is quiet said 64
 

@@ -7,4 +7,5 @@ pub mod CheckIo
 pub mod SimIo
 pub mod RunIo
 pub mod RunWords
+pub mod WeaveIo
 pub mod Endings

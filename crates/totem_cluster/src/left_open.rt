@@ -8,7 +8,11 @@ ghost use Rattle.totem_cluster.specs.Report.{pending_text, waiting_text, yes_tex
 use totem_evs::{Pending, Waiting};
 use totem_ids::{Failed, Pieces, ProcId, Sink};
 
-fn put_proc<S: Sink>(pieces: &mut Pieces, sink: &mut S, proc: ProcId) -> Result<(), Failed>
+pub(crate) fn put_proc<S: Sink>(
+    pieces: &mut Pieces,
+    sink: &mut S,
+    proc: ProcId,
+) -> Result<(), Failed>
     ensures { Writes (held S.contents S.failures pieces.old sink.old)
         (held S.contents S.failures pieces.new sink.new) result (decimal proc) }
 {

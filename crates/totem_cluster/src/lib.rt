@@ -16,6 +16,7 @@ mod script_words;
 mod shell;
 mod simulating;
 mod telling;
+mod weaving;
 mod words;
 
 pub use auditing::audit_io;
@@ -31,3 +32,4 @@ pub use telling::tell_fault;
 pub use totem_audit::Workers;
 pub use totem_net::{Logged, Progress};
 pub use totem_threads::{BookTrouble, RunPlan};
+pub use weaving::{Weave, weave_io_with_progress};

@@ -33,7 +33,7 @@ pub fn run_threads<S: Start, R: Threads + Wait + Sync>(
 }
 
 /// Does as `run_threads` does, and tells at each tick how far the run is.
-fn run_watched<S: Start, R: Threads + Wait + Sync, P: Progress>(
+pub(crate) fn run_watched<S: Start, R: Threads + Wait + Sync, P: Progress>(
     rt: &R,
     alloc: Global,
     plan: RunPlan,

@@ -9,7 +9,7 @@ use std::alloc::{AllocError, Global};
 use totem_net::Plan;
 use totem_threads::RunPlan;
 
-/// The numbers of a run in threads (docs/PROTOCOL.md, "A run in threads").
+/// What is asked of a run in threads: its numbers (docs/PROTOCOL.md, "A run in threads"), and whether its ring is woven.
 #[derive(Clone, Copy, Debug, PartialEq, Eq)]
 pub struct RunWords {
     pub nodes: u16,
@@ -18,6 +18,7 @@ pub struct RunWords {
     pub lose: u8,
     pub repeat: u8,
     pub hold: u8,
+    pub weave: bool,
 }
 
 impl RunWords {
@@ -105,6 +106,15 @@ impl NumberOption {
     }
 }
 
+fn weave_option<'a>(alloc: Global) -> Arg<'a> {
+    Arg::new(alloc, "weave")
+        .long("weave")
+        .action(ArgAction::SetTrue)
+        .help(
+            "Writes no run, but the schedule of ring 4.1: how many steps it has, and what each member handed up; or the call that fits none",
+        )
+}
+
 fn quiet_option<'a>(alloc: Global) -> Arg<'a> {
     Arg::new(alloc, "quiet")
         .long("quiet")
@@ -120,10 +130,10 @@ pub fn run_command<'a>(alloc: Global) -> Result<Command<'a>, AllocError> {
     for option in &OPTIONS {
         command = command.arg(option.arg(alloc))?;
     }
-    command.arg(quiet_option(alloc))
+    command.arg(weave_option(alloc))?.arg(quiet_option(alloc))
 }
 
-/// Returns the numbers that the words of a run give.
+/// Returns what the words of a run ask for.
 pub fn run_words(matches: &ArgMatches<'_>) -> RunWords {
     RunWords {
         nodes: matches.get_one::<u16>("nodes").unwrap_or(3),
@@ -132,5 +142,6 @@ pub fn run_words(matches: &ArgMatches<'_>) -> RunWords {
         lose: matches.get_one::<u8>("lose").unwrap_or(0),
         repeat: matches.get_one::<u8>("repeat").unwrap_or(0),
         hold: matches.get_one::<u8>("hold").unwrap_or(0),
+        weave: matches.get_flag("weave"),
     }
 }

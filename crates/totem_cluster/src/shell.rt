@@ -3,6 +3,7 @@ ghost use Rattle.std.specs.Prelude.{◌≡◌, []};
 ghost use Rattle.clap.specs.Values.{kind_of};
 ghost use Rattle.totem_ids.specs.Sources.{seen};
 ghost use Rattle.totem_ids.specs.Writing.{held};
+ghost use Rattle.totem_threads.specs.Starts.{IsInRange};
 ghost use Rattle.totem_cluster.specs.Endings.{Answers, Ends, Points, Shows, Plays, bare};
 
 use crate::auditing::audit_io;
@@ -16,6 +17,7 @@ use crate::run_words::RunWords;
 use crate::script_words::explain_line;
 use crate::simulating::{Unmade, follow_io, sim_io};
 use crate::telling::{tell, tell_fault, tell_with_words};
+use crate::weaving::weave_io_with_progress;
 use crate::words::{Words, read_words};
 use clap::Error;
 use clap::error::ErrorKind;
@@ -27,6 +29,7 @@ use totem_evs::WriteFault;
 use totem_explain::explain_refusal;
 use totem_ids::{Sink, Source};
 use totem_net::{Progress, Unwatched};
+use totem_threads::RunPlan;
 
 /// Returns the text for the person who typed the words.
 fn text_of(alloc: Global, error: &Error) -> Result<String, AllocError> {
@@ -80,6 +83,25 @@ error: '--lose' and '--repeat' are together above 100
 For more information, try '--help'.
 ";
 
+/// Runs nodes in threads and weaves their ring, and returns the status.
+fn play_woven<T: Threads + Wait + Sync, W: Sink, E: Sink, P: Progress>(
+    rt: &T,
+    alloc: Global,
+    plan: RunPlan,
+    output: &mut W,
+    errors: &mut E,
+    progress: &mut P,
+) -> u8
+    requires { IsInRange plan }
+    ensures { Plays (held W.contents W.failures [] output.old) (held W.contents W.failures [] output.new)
+        (bare E.contents E.failures errors.old) (bare E.contents E.failures errors.new) result }
+{
+    match weave_io_with_progress(rt, alloc, plan, output, progress) {
+        Ok(weave) => weave.status(),
+        Err(fault) => tell_fault(errors, &fault),
+    }
+}
+
 /// Runs nodes in threads if the numbers fit together, and returns the status.
 fn play<T: Threads + Wait + Sync, W: Sink, E: Sink, P: Progress>(
     rt: &T,
@@ -96,6 +118,9 @@ fn play<T: Threads + Wait + Sync, W: Sink, E: Sink, P: Progress>(
         tell(errors, UNFIT.as_bytes());
         return 64;
     };
+    if words.weave {
+        return play_woven(rt, alloc, plan, output, errors, progress);
+    }
     match run_io_with_progress(rt, alloc, plan, output, progress) {
         Ok(outcome) => outcome.status(),
         Err(fault) => tell_fault(errors, &fault),

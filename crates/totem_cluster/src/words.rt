@@ -26,7 +26,7 @@ pub enum Words {
 }
 
 const ENDINGS: &str = "\
-Status: 0 yes, or a run was made, 1 no, 2 the input was refused, 3 out of memory, 4 a stream failed, 64 wrong words.";
+Status: 0 yes, or a run was made, 1 no, or an orphan, 2 the input was refused, 3 out of memory, 4 a stream failed, 64 wrong words.";
 
 const AUDIT_EXAMPLE: &str = "Example: totem audit < examples/first-yes.run";
 

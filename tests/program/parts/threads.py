@@ -20,6 +20,8 @@ ROUGH = (
     '--nodes 16 --lose 1 --repeat 5 --hold 1',
 )
 SEEDS = range(1, 11)
+# Smooth runs whose ring is woven.
+WOVEN = ('', '--nodes 1', '--nodes 16 --ticks 800', '--nodes 32 --ticks 400', '--lose 100 --ticks 400')
 # Nodes, what the network does, and how many of ten messages have to be taken, and delivered by all.
 DELIVERED = (
     (3, '', 9), (8, '', 9), (16, '', 9), (32, '', 9),
@@ -113,3 +115,48 @@ def logs():
     """Each node has a log, and what is in it."""
     yield 'totem run --ticks 1', try_logs
     yield 'totem run --ticks 2000 --lose 100', try_alone
+
+
+def read_weave(text):
+    """How many steps were woven, and what each member handed up. None if the text is no such text."""
+    lines = text.split(b'\n')
+    words = [line.split(b' ') for line in lines[:-2]]
+    if lines[-2:] != [b'end', b''] or not words or words[0][0] != b'woven' or any(line[0] != b'handed' for line in words[1:]):
+        return None
+    return int(words[0][1]), {int(line[1]): line[2:] for line in words[1:]}
+
+
+def what_is_wrong(handed, nodes):
+    """What is wrong with the lists that the members of ring 4.1 handed up. Of any two one begins the other, and each has the
+    numbers from 1 on."""
+    if sorted(handed) != list(range(1, nodes + 1)):
+        return 'members %s' % sorted(handed)
+    longest = max(handed.values(), key=len)
+    if longest != [b'4.1#%d' % number for number in range(1, len(longest) + 1)]:
+        return 'handed up: %s' % longest
+    return next(('%d handed up %s' % (node, names) for node, names in handed.items() if names != longest[:len(names)]), None)
+
+
+def try_woven(words, program):
+    """The books of a run are woven. No call is left over: all nodes begin on ring 4.1, none comes back to it, and a packet
+    comes after it was sent, so the order in time is a schedule."""
+    made, wrong = made_by(program, '--weave ' + words)
+    told = read_weave(made.output)
+    if wrong or told is None:
+        return wrong or 'came: %s' % made
+    steps, handed = told
+    asked = words.split()
+    nodes = int(asked[asked.index('--nodes') + 1]) if '--nodes' in asked else 3
+    if steps < sum(map(len, handed.values())) or (not words and steps < SUBMITTED):
+        return '%d steps; handed up: %s' % (steps, handed)
+    return what_is_wrong(handed, nodes)
+
+
+def woven():
+    """What threads did on ring 4.1 is one schedule."""
+    for words in WOVEN:
+        yield 'totem run --weave ' + words, partial(try_woven, words)
+    for seed in SEEDS:
+        for weather in ROUGH:
+            words = '--ticks 240 --seed %d %s' % (seed, weather)
+            yield 'totem run --weave ' + words, partial(try_woven, words)

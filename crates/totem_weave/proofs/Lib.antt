@@ -1,0 +1,16 @@
+pub mod OwnActs
+pub mod OthersActs
+pub mod Greatest
+pub mod Indexing
+pub mod Underway
+pub mod Rounds
+pub mod HandingUp
+pub mod TracksOf
+pub mod FromBooks
+pub mod Calls
+pub mod Parts
+pub mod Keeping
+pub mod Allowing
+pub mod Standing
+pub mod Going
+pub mod LastSteps

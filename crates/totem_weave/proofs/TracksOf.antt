@@ -1,0 +1,171 @@
+-- Tracks that say of each member, in order, what a function says of it.
+use Rattle.std.proofs.Common.{◌≡◌, ℕ, zero, suc, ◌<◌, ◌⊎◌, inl, inr, List, [], ◌∷◌, map, length, get_or, slice_get, Some, refl, sym, ◌∙◌, ap, subst, arith}
+use Rattle.std.specs.Prelude.{Contains}
+use Rattle.std.specs.List.Sorted.{IsStrictlyIncreasing}
+use Rattle.std.proofs.lemmas.Bool.{cases_lt, cases_eq}
+use Rattle.std.proofs.lemmas.List.{length-map}
+use Rattle.std.proofs.lemmas.List.Kept.{AllPairs-from_increasing}
+use Rattle.std.proofs.lemmas.Option.{slice_get_within, slice_get_cases, get_or_from_slice_get, slice_get-map}
+use Rattle.totem_ids.specs.Names.{RingName}
+use Rattle.totem_packets.specs.declared.message.Message.{Message}
+use Rattle.totem_ring.specs.declared.moves.Act.{Act}
+use Rattle.totem_ring.specs.declared.moves.RingMove.{RingMove}
+use Rattle.totem_ring.specs.Worlds.{start, run, IsSchedule}
+use Rattle.totem_ring.specs.Order.{IsPrefixOf}
+use Rattle.totem_weave.specs.declared.track.Track.{Track}
+use Rattle.totem_weave.specs.declared.weaver.Weaver.{Weaver}
+use Rattle.totem_weave.specs.Folds.{own_start, with_acts, acts_of}
+use Rattle.totem_weave.specs.Weaves.{CanAct, NoneRefused, IsWeave, IsStuck}
+use Rattle.totem_weave.specs.Tracks.{procs_of, steps_of, AreApart, start_of, IsUnderWay, IsThrough, IsFirstLeft, up_of_tracks}
+use Rattle.totem_weave.proofs.OwnActs.{state_is_own_holds}
+use Rattle.totem_weave.proofs.Underway.{steps_of-at, track_or_none}
+
+-- each track has its member and what is said of it
+abbrev pub SayOf : (ℕ → List Act) → List ℕ → List Track → Type 0
+SayOf f members tracks = map {B = ℕ × List Act} (λ t. (t.proc, t.acts.items)) tracks ≡ map {B = ℕ × List Act} (λ p. (p, f p)) members
+
+-- the members and what is said of them, by the tracks' places
+pub record IsSaid (f : ℕ → List Act) (members : List ℕ) (tracks : List Track) : Type 0 where
+  pub procs : procs_of tracks ≡ members
+  pub acts : (k : ℕ) (t : Track) → slice_get tracks k ≡ Some t → t.acts.items ≡ f t.proc
+
+pub is_said : (f : ℕ → List Act) (members : List ℕ) (tracks : List Track) → SayOf f members tracks → IsSaid f members tracks
+is_said f [] [] e = record { procs = refl; acts = λ k t at. absurd cc }
+is_said f (p ∷ ps) [] e = absurd cc
+is_said f [] (t ∷ ts) e = absurd cc
+is_said f (p ∷ ps) (t ∷ ts) e =
+    let first : ◌≡◌ {A = ℕ × List Act} (t.proc, t.acts.items) (p, f p) = cc in
+    let others : SayOf f ps ts = cc in
+    let proc : t.proc ≡ p = ap (λ x. x.0) first in
+    let rest = is_said f ps ts others in
+    record {
+      procs = ap (λ q. q ∷ procs_of ts) proc ∙ ap (λ qs. p ∷ qs) rest.procs;
+      acts = go proc (ap (λ x. x.1) first) rest;
+    }
+  where
+    go : t.proc ≡ p → t.acts.items ≡ f p → IsSaid f ps ts → (k : ℕ) (u : Track) → slice_get (t ∷ ts) k ≡ Some u → u.acts.items ≡ f u.proc
+    go proc acts rest zero u at =
+        let same : t ≡ u = cc in
+        let P : Track → Type 0 = λ v. v.acts.items ≡ f v.proc in
+        subst P same (acts ∙ ap f (sym proc))
+    go proc acts rest (suc k) u at = rest.acts k u at
+
+proc_at : (tracks : List Track) (k : ℕ) (t : Track) → slice_get tracks k ≡ Some t → slice_get (procs_of tracks) k ≡ Some t.proc
+proc_at tracks k t at = slice_get-map (λ (u : Track). u.proc) tracks k ∙ rw at refl
+
+-- of rising members the one in front is the lesser
+pub rises_at : (tracks : List Track) (j k : ℕ) (t u : Track) → IsStrictlyIncreasing (procs_of tracks) → slice_get tracks j ≡ Some t → slice_get tracks k ≡ Some u → j < k → t.proc < u.proc
+rises_at tracks j k t u rising at_j at_k lt =
+    let pairs = AllPairs-from_increasing (procs_of tracks) rising in
+    let less = pairs j k 0 lt (slice_get_within (procs_of tracks) k u.proc (proc_at tracks k u at_k)) in
+    let at_t : get_or (procs_of tracks) j 0 ≡ t.proc = get_or_from_slice_get (procs_of tracks) j t.proc 0 (proc_at tracks j t at_j) in
+    let at_u : get_or (procs_of tracks) k 0 ≡ u.proc = get_or_from_slice_get (procs_of tracks) k u.proc 0 (proc_at tracks k u at_k) in
+    omega (arith, less, at_t, at_u)
+
+pub rising_are_apart : (tracks : List Track) → IsStrictlyIncreasing (procs_of tracks) → AreApart tracks
+rising_are_apart tracks rising j k t u at_j at_k same = elim (cases_eq j k) [
+  | inl here ↦ here
+  | inr other ↦ elim (cases_lt j k) [
+    | inl lt ↦ (let less = rises_at tracks j k t u rising at_j at_k lt in absurd (omega (arith, less, same)))
+    | inr ge ↦ (let less = rises_at tracks k j u t rising at_k at_j (omega arith) in absurd (omega (arith, less, same)))
+  ]
+]
+
+-- a member has its track
+track_of_member : (tracks : List Track) (p : ℕ) → Contains (procs_of tracks) p → (k : ℕ) × (t : Track) × (slice_get tracks k ≡ Some t) × (p ≡ t.proc)
+track_of_member tracks p (k, within, is) = elim (slice_get_cases tracks k).1 [
+  | inl (t, lt, at, read) ↦ (k, t, at, sym is ∙ get_or_from_slice_get (procs_of tracks) k t.proc p (proc_at tracks k t at))
+  | inr (past, none) ↦ (let long : length (procs_of tracks) ≡ length tracks = length-map tracks (λ (t : Track). t.proc) in absurd (omega (arith, long, past, within)))
+]
+
+-- what is said of others is nothing
+abbrev pub OfMembers : (ℕ → List Act) → List ℕ → Type 0
+OfMembers f members = (p : ℕ) → (f p ≡ []) ⊎ Contains members p
+
+-- what the tracks say is what is said
+pub steps_are : (f : ℕ → List Act) (members : List ℕ) (tracks : List Track) → IsSaid f members tracks → AreApart tracks → OfMembers f members → (p : ℕ) → steps_of tracks p ≡ f p
+steps_are f members tracks said apart others p = elim (others p) [
+  | inr member ↦ here (track_of_member tracks p (rw said.procs member))
+  | inl nothing ↦ elim (track_or_none tracks p) [ inl found ↦ here found | inr none ↦ none ∙ sym nothing ]
+]
+  where
+    here : ((k : ℕ) × (t : Track) × (slice_get tracks k ≡ Some t) × (p ≡ t.proc)) → steps_of tracks p ≡ f p
+    here (k, t, at, same) = rw same (steps_of-at tracks k t apart at ∙ said.acts k t at)
+
+pub weave_is : (ring : RingName) (f : ℕ → List Act) (members : List ℕ) (tracks : List Track) (moves : List RingMove) → procs_of tracks ≡ members → ((p : ℕ) → steps_of tracks p ≡ f p)
+    → IsWeave (start_of ring tracks) (steps_of tracks) moves → IsWeave (start ring members) f moves
+weave_is ring f members tracks moves procs steps h = record {
+  is_schedule = subst (λ ps. IsSchedule (start ring ps) moves) procs h.is_schedule;
+  none_refused = subst (λ ps. NoneRefused (start ring ps) moves) procs h.none_refused;
+  begins = λ p. rw (← steps p) (h.begins p);
+}
+
+pub stuck_is : (ring : RingName) (f : ℕ → List Act) (members : List ℕ) (tracks : List Track) (moves : List RingMove) → procs_of tracks ≡ members → ((p : ℕ) → steps_of tracks p ≡ f p)
+    → IsStuck (start_of ring tracks) (steps_of tracks) moves → IsStuck (start ring members) f moves
+stuck_is ring f members tracks moves procs steps h p act next can =
+    h p act (ap (λ acts. slice_get acts (length (acts_of p moves))) (steps p) ∙ next) (subst (λ ps. CanAct (run (start ring ps) moves) p act) (sym procs) can)
+
+begins_none : {X : Type 0} (xs : List X) → IsPrefixOf xs [] → xs ≡ []
+begins_none [] begins = refl
+begins_none (x ∷ xs) (rest, e) = absurd cc
+
+-- who has no track has done nothing
+none_done : (tracks : List Track) (w : Weaver) (p : ℕ) → IsUnderWay tracks w → steps_of tracks p ≡ [] → acts_of p w.moves.items ≡ steps_of tracks p
+none_done tracks w p h none = begins_none (acts_of p w.moves.items) (rw (← none) (h.weave.begins p)) ∙ sym none
+
+-- where each member is through, all is done
+pub all_done : (tracks : List Track) (w : Weaver) → AreApart tracks → IsUnderWay tracks w → ((k : ℕ) → k < length tracks → IsThrough tracks w k)
+    → (p : ℕ) → acts_of p w.moves.items ≡ steps_of tracks p
+all_done tracks w apart h through p = elim (track_or_none tracks p) [
+  | inl (k, t, at, same) ↦ rw same (through k (slice_get_within tracks k t at) t at ∙ sym (steps_of-at tracks k t apart at))
+  | inr none ↦ none_done tracks w p h none
+]
+
+-- who is below the first that has steps left is through
+pub done_before : (tracks : List Track) (w : Weaver) (place : ℕ) (t : Track) → IsStrictlyIncreasing (procs_of tracks) → IsUnderWay tracks w → IsFirstLeft tracks w place
+    → slice_get tracks place ≡ Some t → (p : ℕ) → p < t.proc → acts_of p w.moves.items ≡ steps_of tracks p
+done_before tracks w place t rising h first at p below = elim (track_or_none tracks p) [
+  | inl (k, u, at_k, same) ↦ elim (cases_lt k place) [
+    | inl lt ↦ rw same (first.before k lt u at_k ∙ sym (steps_of-at tracks k u (rising_are_apart tracks rising) at_k))
+    | inr ge ↦ elim (cases_eq k place) [
+      | inl here ↦ (
+          let both : Some u ≡ Some t = sym at_k ∙ rw here at in
+          let proc : u.proc ≡ t.proc = cc in
+          absurd (omega (arith, below, same, proc))
+          )
+      | inr other ↦ (let less = rises_at tracks place k t u rising at at_k (omega arith) in absurd (omega (arith, below, same, less)))
+    ]
+  ]
+  | inr none ↦ none_done tracks w p h none
+]
+
+same_cons : {X : Type 0} {x y : X} {xs ys : List X} → x ≡ y → xs ≡ ys → x ∷ xs ≡ y ∷ ys
+same_cons {X} {x} {y} {xs} {ys} head tail = ap (λ z. z ∷ xs) head ∙ ap (λ zs. y ∷ zs) tail
+
+-- a member, with what it hands up by these acts
+abbrev up_by : RingName → List ℕ → ℕ × List Act → ℕ × List Message
+up_by ring all x = (x.0, (with_acts (own_start ring all x.0) x.1).up)
+
+ups_said : (ring : RingName) (all : List ℕ) (f : ℕ → List Act) (members : List ℕ) (tracks : List Track) → SayOf f members tracks
+    → up_of_tracks ring all tracks ≡ map (λ p. (p, (with_acts (own_start ring all p) (f p)).up)) members
+ups_said ring all f [] [] e = refl
+ups_said ring all f (p ∷ ps) [] e = absurd cc
+ups_said ring all f [] (t ∷ ts) e = absurd cc
+ups_said ring all f (p ∷ ps) (t ∷ ts) e =
+    let first : ◌≡◌ {A = ℕ × List Act} (t.proc, t.acts.items) (p, f p) = cc in
+    let others : SayOf f ps ts = cc in
+    same_cons {x = up_by ring all (t.proc, t.acts.items)} {y = up_by ring all (p, f p)} (ap (up_by ring all) first) (ups_said ring all f ps ts others)
+
+same_map : {X Y : Type 0} (g h : X → Y) (xs : List X) → ((x : X) → g x ≡ h x) → map g xs ≡ map h xs
+same_map g h [] same = refl
+same_map g h (x ∷ xs) same = same_cons (same x) (same_map g h xs same)
+
+-- what the members hand up by what the tracks say is what they hand up in a weave that has it all
+pub handed_is : (ring : RingName) (f : ℕ → List Act) (members : List ℕ) (tracks : List Track) (moves : List RingMove) → SayOf f members tracks
+    → ((p : ℕ) → acts_of p moves ≡ f p) → up_of_tracks ring members tracks ≡ map (λ p. (p, (run (start ring members) moves).up p)) members
+handed_is ring f members tracks moves say whole =
+    ups_said ring members f members tracks say
+    ∙ same_map (λ p. (p, (with_acts (own_start ring members p) (f p)).up)) (λ p. (p, (run (start ring members) moves).up p)) members (λ p. ap (λ up. (p, up)) (up_there p))
+  where
+    up_there : (p : ℕ) → (with_acts (own_start ring members p) (f p)).up ≡ (run (start ring members) moves).up p
+    up_there p = ap (λ acts. (with_acts (own_start ring members p) acts).up) (sym (whole p)) ∙ sym (state_is_own_holds ring members moves p).up

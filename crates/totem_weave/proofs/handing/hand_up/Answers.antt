@@ -1,0 +1,15 @@
+use Rattle.std.proofs.Common.{List, Option, sym, subst}
+use Rattle.totem_packets.specs.declared.message.Message.{Message}
+use Rattle.totem_ring.specs.declared.outcome.RingOut.{RingOut}
+use Rattle.totem_ring.specs.Steps.{act_on}
+use Rattle.totem_weave.specs.Folds.{IsAt, with_act}
+use Rattle.totem_weave.specs.Weaving.{Tries}
+use Rattle.totem_weave.proofs.HandingUp.{done_more}
+use Rattle.totem_weave.proofs.handing.hand_up.Goals as goal
+
+pub returns-in_ok-append : goal.returns-in_ok-append
+returns-in_ok-append c own at =
+    let P : Option RingOut → Type 0 = λ found. Tries c.args.state.now c.try_act.new.state (act_on c.args.state.now c.args.act.now) found in
+    let Q : List Message → Type 0 = λ ms. IsAt (with_act own c.args.act.now) c.try_act.new.state ms in
+    subst Q (sym c.in_ok-append.ensures.items)
+    (done_more own c.args.state.now c.try_act.new.state c.args.handed.now.items c.args.act.now c.in-Some.out (subst P c.in-Some.is c.in_ok-out.ensures) at)

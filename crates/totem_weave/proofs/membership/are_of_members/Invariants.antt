@@ -1,0 +1,7 @@
+use Rattle.std.proofs.Common.{take}
+use Rattle.std.specs.Prelude.{All}
+use Rattle.totem_weave.specs.Woven.{IsOfMember}
+use Rattle.totem_weave.proofs.membership.are_of_members.Given as goal
+
+abbrev pub invariant-loop-book : goal.invariant-loop-book
+invariant-loop-book l = All (IsOfMember l.fn.ring l.members) (take l.book-index l.books)

@@ -1,0 +1,6 @@
+use Rattle.std.proofs.Common.{◌≡◌, ◌+◌, length, take}
+use Rattle.totem_weave.specs.Recorded.{calls_acts}
+use Rattle.totem_weave.proofs.recorded.call_of.Given as goal
+
+abbrev pub invariant-loop-at : goal.invariant-loop-at
+invariant-loop-at l = length (calls_acts l.fn.ring (take l.at l.calls)) + l.left ≡ l.fn.step

@@ -1,0 +1,38 @@
+-- A node adopts only after its last step on that ring (docs/PROTOCOL.md, "The woven ring").
+use Rattle.std.specs.Prelude.{◌≡◌, ◌≢◌, ℕ, List, ◌∷◌, ◌++◌, length, drop, All, IfOk, Some}
+use Rattle.totem_ids.specs.Names.{RingName}
+use Rattle.totem_packets.specs.declared.message.Message.{Message}
+use Rattle.totem_packets.specs.declared.packet.Packet.TheVariants.{Message as AMessage}
+use Rattle.totem_node.specs.declared.input.Input.{Input}
+use Rattle.totem_node.specs.declared.input.Input.TheVariants.{Packet as APacket}
+use Rattle.totem_node.specs.declared.state.Recovering.{Recovering}
+use Rattle.totem_node.specs.declared.state.State.TheVariants.{InRecovery}
+use Rattle.totem_node.specs.Nodes.{Node}
+use Rattle.totem_node.specs.Outcomes.{Outcome}
+use Rattle.totem_node.specs.Visiting.{carried}
+use Rattle.totem_node.specs.Replay.{Answer, replay}
+
+-- at this input the node adopts this message, or passes it over: it recovers, and a message comes that carries this one, of
+-- its installed ring
+pub record Adopts (n : Node) (i : Input) (adopted : Message) : Type 0 where
+  pub recovering : Recovering
+  pub recovers : n.state ≡ InRecovery recovering
+  pub outer : Message
+  pub comes : i ≡ APacket (AMessage outer)
+  pub carries : carried outer.body ≡ Some adopted
+  pub of_installed : adopted.ring ≡ n.installed.ring
+
+-- the reply tells no step on this ring
+abbrev pub TellsNoStepOn : RingName → Outcome Answer → Type 0
+TellsNoStepOn ring reply = IfOk reply (λ answer. All (λ step. step.ring ≢ ring) answer.ring_steps)
+
+-- how a node that has lived through some inputs replies to those that come after them
+abbrev pub replies_after : ℕ → RingName → List ℕ → List Input → List Input → List (Outcome Answer)
+replies_after me ring members before inputs = drop (length before) (replay me ring members (before ++ inputs)).replies
+
+-- From the input on at which a node adopts a message, that one included, no reply tells a step on the message's ring,
+-- whatever comes.
+abbrev pub OnlyAdoptsLast : Type 0
+OnlyAdoptsLast = (me : ℕ) (ring : RingName) (members : List ℕ) (before more : List Input) (i : Input) (adopted : Message)
+    → Adopts (replay me ring members before).node i adopted
+    → All (TellsNoStepOn adopted.ring) (replies_after me ring members before (i ∷ more))

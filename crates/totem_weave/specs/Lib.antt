@@ -1,0 +1,11 @@
+pub mod Folds
+pub mod Weaves
+pub mod Laws
+pub mod Index
+pub mod Weaving
+pub mod Distinct
+pub mod Tracks
+pub mod Faults
+pub mod Recorded
+pub mod Woven
+pub mod Adopting

@@ -1,0 +1,63 @@
+//! What each member's steps hand up.
+ghost use Rattle.std.specs.Prelude.{◌≡◌, ◌<◌, length, map, IfOk, OnOk};
+ghost use Rattle.totem_weave.specs.Tracks.{up_of_tracks};
+ghost use Rattle.totem_weave.specs.Folds.{Own, IsAt, own_start, with_act, with_acts};
+
+use crate::seat::try_act;
+use crate::track::Track;
+use std::alloc::{AllocError, Global};
+use totem_ids::{ProcId, RingId};
+use totem_packets::Message;
+use totem_ring::{Act, RingState};
+
+/// Does an act of a member, and appends what it hands up. A refused act changes nothing.
+fn hand_up(
+    alloc: Global,
+    state: &mut RingState,
+    handed: &mut Vec<Message>,
+    act: &Act,
+) -> Result<(), AllocError>
+    ensures { OnOk result ((own : Own) → IsAt own state.old handed.old.items → IsAt (with_act own act.now) state.new handed.new.items) }
+{
+    if let Some(mut out) = try_act(alloc, state, act)? {
+        handed.append(&mut out.handed)?;
+    }
+    Ok(())
+}
+
+/// Returns what a member hands up when it does these acts, one after another, on a new ring.
+fn handed_by(
+    alloc: Global,
+    ring: RingId,
+    members: &[ProcId],
+    proc: ProcId,
+    acts: &[Act],
+) -> Result<Vec<Message>, AllocError>
+    requires { 0 < length members.now }
+    ensures { IfOk result (λ up. up.items ≡ (with_acts (own_start ring members.now proc) acts.now).up) }
+{
+    let mut state = RingState::new(alloc, proc, ring, members)?;
+    let mut handed = Vec::new(alloc);
+    for act in acts {
+        hand_up(alloc, &mut state, &mut handed, act)?;
+    }
+    Ok(handed)
+}
+
+/// Returns each member with what it hands up.
+pub fn handed_up(
+    alloc: Global,
+    ring: RingId,
+    members: &[ProcId],
+    tracks: &[Track],
+) -> Result<Vec<(ProcId, Vec<Message>)>, AllocError>
+    requires { 0 < length members.now }
+    ensures { IfOk result (λ lists. map (λ h. (h.0, h.1.items)) lists.items ≡ up_of_tracks ring members.now tracks.now) }
+{
+    let mut lists = Vec::new(alloc);
+    for track in tracks {
+        let handed = handed_by(alloc, ring, members, track.proc, &track.acts)?;
+        lists.push((track.proc, handed))?;
+    }
+    Ok(lists)
+}

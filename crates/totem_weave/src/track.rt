@@ -1,0 +1,49 @@
+//! What the members did on a ring, member by member.
+ghost use Rattle.std.specs.Prelude.{◌≡◌, IfOk};
+ghost use Rattle.totem_weave.specs.Recorded.{recorded, AreTracksOf};
+
+use crate::recorded::acts_in;
+use std::alloc::{AllocError, Global};
+use totem_books::ClosedBook;
+use totem_ids::{ProcId, RingId};
+use totem_ring::Act;
+
+/// What one member did on a ring, in order.
+#[derive(Drop)]
+pub struct Track {
+    pub proc: ProcId,
+    pub acts: Vec<Act>,
+}
+
+fn acts_of(
+    alloc: Global,
+    books: &[ClosedBook],
+    ring: RingId,
+    proc: ProcId,
+) -> Result<Vec<Act>, AllocError>
+    ensures { IfOk result (λ acts. acts.items ≡ recorded ring books.now proc) }
+{
+    for book in books {
+        if proc == book.me() {
+            return acts_in(alloc, ring, book.calls());
+        }
+    }
+    Ok(Vec::new(alloc))
+}
+
+/// Returns what each member did on the ring, in the order of the members: one without a book nothing.
+pub fn tracks_of(
+    alloc: Global,
+    books: &[ClosedBook],
+    ring: RingId,
+    members: &[ProcId],
+) -> Result<Vec<Track>, AllocError>
+    ensures { IfOk result (λ tracks. AreTracksOf ring books.now members.now tracks.items) }
+{
+    let mut tracks = Vec::new(alloc);
+    for proc in members {
+        let acts = acts_of(alloc, books, ring, *proc)?;
+        tracks.push(Track { proc: *proc, acts })?;
+    }
+    Ok(tracks)
+}

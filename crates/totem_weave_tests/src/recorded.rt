@@ -1,0 +1,171 @@
+//! Closed books of nodes on ring 4.1 with the members 1, 2 and 3, from words that say what each node is given.
+ghost use Rattle.std.specs.Prelude.{◌≡◌};
+
+use bytes::Bytes;
+use std::alloc::{AllocError, Global};
+use std::marker::Brand;
+use std::sync::Wait;
+use std::sync::ledger::Blank;
+use std::test::Fail;
+use totem_books::{BookName, ClosedBook, Reply, Seat, SharedBook};
+use totem_evs::Members;
+use totem_ids::{ProcId, RingId, Service};
+use totem_node::Input;
+use totem_packets::Packet;
+use totem_ring::first_token;
+
+pub(crate) fn ring() -> RingId
+    ensures { result ≡ record { seq = 4; rep = 1 } }
+{
+    RingId {
+        seq: 4,
+        rep: ProcId::of(1),
+    }
+}
+
+/// The processes with these numbers.
+pub(crate) fn procs(alloc: Global, numbers: &[u16]) -> Result<Vec<ProcId>, Fail> {
+    let mut list = Vec::new(alloc);
+    for number in numbers {
+        list.push(ProcId::new(*number).ok_or("no process has this number")?)?;
+    }
+    Ok(list)
+}
+
+/// The digit at this place of a word.
+fn digit(word: &str, place: usize) -> Option<usize> {
+    let byte = *word.as_bytes().get(place)?;
+    Some(usize::from(byte.saturating_sub(b'0')))
+}
+
+/// The packet that a word such as `2.3.0` names: of the second book, its third call, the packet with index 0.
+fn packet(alloc: Global, books: &[ClosedBook], word: &str) -> Result<Option<Packet>, AllocError> {
+    let (Some(book), Some(call), Some(place)) = (digit(word, 0), digit(word, 2), digit(word, 4))
+    else {
+        return Ok(None);
+    };
+    let Some(book) = books.get(book.saturating_sub(1)) else {
+        return Ok(None);
+    };
+    let Some(call) = book.calls().get(call.saturating_sub(1)) else {
+        return Ok(None);
+    };
+    let Reply::Done(out) = &call.reply else {
+        return Ok(None);
+    };
+    match out.packets.get(place) {
+        Some(sending) => Ok(Some(sending.1.try_clone(alloc)?)),
+        None => Ok(None),
+    }
+}
+
+/// The input of a word: `submit`, `first` for the ring's first token, `timer`, or a packet that a book tells.
+fn input(alloc: Global, books: &[ClosedBook], word: &str) -> Result<Input, Fail> {
+    match word {
+        "submit" => Ok(Input::Submit {
+            service: Service::Agreed,
+            payload: Bytes::from_static(b"x"),
+        }),
+        "first" => Ok(Input::Packet(Packet::Token(first_token(alloc, ring())))),
+        "timer" => Ok(Input::Timer),
+        _ => Ok(Input::Packet(packet(alloc, books, word)?.ok_or("no book tells this packet")?)),
+    }
+}
+
+fn inputs(alloc: Global, books: &[ClosedBook], words: &str) -> Result<Vec<Input>, Fail> {
+    let mut list = Vec::new(alloc);
+    for word in words.split_whitespace() {
+        list.push(input(alloc, books, word)?)?;
+    }
+    Ok(list)
+}
+
+fn call_all<L: BookName, R: Wait>(
+    rt: &R,
+    alloc: Global,
+    book: &SharedBook<L>,
+    seats: &mut [Seat<L>],
+    inputs: Vec<Input>,
+) -> Result<(), Fail> {
+    let Some(seat) = seats.first_mut() else {
+        return Err("no seat".into());
+    };
+    for input in inputs {
+        book.call(rt, alloc, seat, input)?;
+    }
+    Ok(())
+}
+
+fn close<L: BookName>(
+    alloc: Global,
+    book: SharedBook<L>,
+    seats: Vec<Seat<L>>,
+) -> Result<ClosedBook, Fail> {
+    match book.close(alloc, seats) {
+        Ok(closed) => Ok(closed),
+        Err(_) => Err("the book was not closed".into()),
+    }
+}
+
+/// A shared book with one seat, which gives the node these inputs and is closed.
+fn live<L: BookName, R: Wait>(
+    rt: &R,
+    alloc: Global,
+    blank: Blank,
+    me: ProcId,
+    members: &Members,
+    inputs: Vec<Input>,
+) -> Result<ClosedBook, Fail>
+    requires ledger { (blank.name ≡ L.name) × (blank.parts ≡ L.parts) × (L.parts ≡ 1) }
+    requires start { (L.me ≡ me) × (L.ring ≡ record { seq = 4; rep = 1 }) × (L.members ≡ members.now) }
+{
+    let (book, mut seats) = SharedBook::<L>::new(alloc, blank, me, ring(), members.as_slice(), 1)?;
+    call_all(rt, alloc, &book, &mut seats, inputs)?;
+    close(alloc, book, seats)
+}
+
+fn book_of<R: Wait>(
+    rt: &R,
+    alloc: Global,
+    me: ProcId,
+    members: &Members,
+    inputs: Vec<Input>,
+) -> Result<ClosedBook, Fail> {
+    live::<Brand, _>(rt, alloc, Blank::new(1), me, members, inputs)
+}
+
+/// Writes the book of the process with this number anew, from what these words give its node.
+fn write<R: Wait>(
+    rt: &R,
+    alloc: Global,
+    books: &mut Vec<ClosedBook>,
+    members: &Members,
+    number: u16,
+    words: &str,
+) -> Result<(), Fail> {
+    let me = ProcId::new(number).ok_or("no process has this number")?;
+    let given = inputs(alloc, books, words)?;
+    let book = book_of(rt, alloc, me, members, given)?;
+    let place = usize::from(number).saturating_sub(1);
+    if place < books.len() {
+        books[place] = book;
+    } else {
+        books.push(book)?;
+    }
+    Ok(())
+}
+
+/// The books of 1, 2 and 3. Each line gives the words of one of them; a later line writes its book anew, when there is more
+/// to give.
+pub(crate) fn books<R: Wait>(
+    rt: &R,
+    alloc: Global,
+    lines: &[(u16, &str)],
+) -> Result<Vec<ClosedBook>, Fail> {
+    let members = Members::new(procs(alloc, &[1, 2, 3])?)?;
+    let mut books = Vec::new(alloc);
+    for line in lines {
+        write(rt, alloc, &mut books, &members, line.0, line.1)?;
+    }
+    Ok(books)
+}

@@ -1,0 +1,197 @@
+//! Books that are woven, and books that fit no schedule.
+use crate::recorded::{books, procs, ring};
+use std::alloc::{AllocError, Global};
+use std::sync::Wait;
+use std::test::*;
+use totem_books::ClosedBook;
+use totem_ids::{ProcId, RingId};
+use totem_packets::Message;
+use totem_weave::{WeaveFault, Woven, weave};
+
+/// 1 and 2 send a message each. 1's message to 3 is lost, and comes when the token asks for it.
+const LOST: [(u16, &str); 6] = [
+    (1, "submit first"),
+    (2, "submit 1.2.0 1.2.1"),
+    (3, "2.3.0 2.3.1"),
+    (1, "submit first 2.3.0 3.2.0"),
+    (2, "submit 1.2.0 1.2.1 1.4.0"),
+    (3, "2.3.0 2.3.1 1.4.0"),
+];
+
+fn tell_handed(
+    alloc: Global,
+    text: &mut String,
+    proc: ProcId,
+    messages: &[Message],
+) -> Result<(), AllocError> {
+    text.push_str(format!(in alloc; " | {proc}:")?.as_str())?;
+    for message in messages {
+        text.push_str(format!(in alloc; " {}#{}", message.ring, message.number.get())?.as_str())?;
+    }
+    Ok(())
+}
+
+fn tell_woven(alloc: Global, woven: &Woven) -> Result<String, AllocError> {
+    let mut text = format!(in alloc; "{} steps", woven.steps.len())?;
+    for (proc, messages) in &woven.handed {
+        tell_handed(alloc, &mut text, *proc, messages)?;
+    }
+    Ok(text)
+}
+
+fn tell_refused(alloc: Global, fault: WeaveFault) -> Result<String, AllocError> {
+    match fault {
+        WeaveFault::Orphan(place) => {
+            format!(in alloc; "{} {} {place}", fault.number(), fault.name())
+        }
+        _ => format!(in alloc; "{} {}", fault.number(), fault.name()),
+    }
+}
+
+fn told(
+    alloc: Global,
+    books: &[ClosedBook],
+    ring: RingId,
+    members: &[u16],
+) -> Result<String, Fail> {
+    let members = procs(alloc, members)?;
+    match weave(alloc, books, ring, &members) {
+        Ok(woven) => Ok(tell_woven(alloc, &woven)?),
+        Err(fault) => Ok(tell_refused(alloc, fault)?),
+    }
+}
+
+/// What comes of weaving the books of these lines, without that of the process `left_out`, with these members.
+fn woven_without<R: Wait>(
+    rt: &R,
+    alloc: Global,
+    lines: &[(u16, &str)],
+    left_out: usize,
+    members: &[u16],
+) -> Result<String, Fail> {
+    let mut books = books(rt, alloc, lines)?;
+    if (1..=books.len()).contains(&left_out) {
+        let _left = books.remove(left_out - 1);
+    }
+    told(alloc, &books, ring(), members)
+}
+
+#[test]
+fn a_lost_message_that_is_sent_again(rt: HostRuntime) -> Result<(), Fail> {
+    let alloc = rt.alloc();
+    assert_eq!(rt;
+        woven_without(&rt, alloc, &LOST, 0, &[1, 2, 3])?.as_str(),
+        "10 steps | 1: 4.1#1 4.1#2 | 2: 4.1#1 4.1#2 | 3: 4.1#1 4.1#2"
+    );
+    Ok(())
+}
+
+#[test]
+fn a_message_that_nobody_sent(rt: HostRuntime) -> Result<(), Fail> {
+    let alloc = rt.alloc();
+    assert_eq!(rt;
+        woven_without(&rt, alloc, &LOST, 2, &[1, 2, 3])?.as_str(),
+        "2 Orphan 1@3"
+    );
+    Ok(())
+}
+
+#[test]
+fn a_book_of_no_member(rt: HostRuntime) -> Result<(), Fail> {
+    let alloc = rt.alloc();
+    assert_eq!(rt;
+        woven_without(&rt, alloc, &LOST, 0, &[2, 3])?.as_str(),
+        "1 Members"
+    );
+    Ok(())
+}
+
+#[test]
+fn members_that_are_none(rt: HostRuntime) -> Result<(), Fail> {
+    let alloc = rt.alloc();
+    assert_eq!(rt;
+        woven_without(&rt, alloc, &[], 0, &[])?.as_str(),
+        "1 Members"
+    );
+    assert_eq!(rt;
+        woven_without(&rt, alloc, &[], 0, &[1, 3, 2])?.as_str(),
+        "1 Members"
+    );
+    assert_eq!(rt;
+        woven_without(&rt, alloc, &[], 0, &[1, 1])?.as_str(),
+        "1 Members"
+    );
+    assert_eq!(rt;
+        woven_without(&rt, alloc, &[], 0, &[1, 2])?.as_str(),
+        "0 steps | 1: | 2:"
+    );
+    Ok(())
+}
+
+/// How many members' lists are told for the first `count` processes as members, or the fault's name.
+fn members_up_to(alloc: Global, count: u16) -> Result<String, Fail> {
+    let mut members = Vec::new(alloc);
+    for number in 1..=count {
+        members.push(ProcId::new(number).ok_or("no process has this number")?)?;
+    }
+    match weave(alloc, &[], ring(), &members) {
+        Ok(woven) => Ok(format!(in alloc; "{}", woven.handed.len())?),
+        Err(fault) => Ok(format!(in alloc; "{}", fault.name())?),
+    }
+}
+
+#[test]
+fn thirty_two_members_at_most(rt: HostRuntime) -> Result<(), Fail> {
+    let alloc = rt.alloc();
+    assert_eq!(rt; members_up_to(alloc, 32)?.as_str(), "32");
+    assert_eq!(rt; members_up_to(alloc, 33)?.as_str(), "Members");
+    Ok(())
+}
+
+/// The first token comes twice, a timer sends the token again, and a refused call stands between two steps: they are woven
+/// all the same, and numbers are given once.
+#[test]
+fn a_repeated_token_gives_no_numbers(rt: HostRuntime) -> Result<(), Fail> {
+    let alloc = rt.alloc();
+    let lines = [
+        (1, "submit first submit first timer"),
+        (2, "1.2.0 1.2.1 1.5.0"),
+    ];
+    assert_eq!(rt;
+        woven_without(&rt, alloc, &lines, 0, &[1, 2, 3])?.as_str(),
+        "5 steps | 1: 4.1#1 | 2: 4.1#1 | 3:"
+    );
+    Ok(())
+}
+
+/// The token that 2 took came from nobody, and what 1 took of 2 neither: the least process is named.
+#[test]
+fn the_least_orphan_is_named(rt: HostRuntime) -> Result<(), Fail> {
+    let alloc = rt.alloc();
+    assert_eq!(rt;
+        woven_without(&rt, alloc, &LOST, 1, &[1, 2, 3])?.as_str(),
+        "2 Orphan 2@2"
+    );
+    Ok(())
+}
+
+/// No book tells a step of ring 8.1, so all members are as they began. Two books of one process are refused all the same.
+#[test]
+fn another_ring(rt: HostRuntime) -> Result<(), Fail> {
+    let alloc = rt.alloc();
+    let other = RingId {
+        seq: 8,
+        rep: ProcId::of(1),
+    };
+    let mut books = books(&rt, alloc, &LOST)?;
+    assert_eq!(rt;
+        told(alloc, &books, other, &[1, 9])?.as_str(),
+        "0 steps | 1: | 9:"
+    );
+    let twice = crate::recorded::books(&rt, alloc, &LOST[..1])?;
+    for book in twice {
+        books.push(book)?;
+    }
+    assert_eq!(rt; told(alloc, &books, other, &[1, 9])?.as_str(), "1 Members");
+    Ok(())
+}
