@@ -1,22 +1,10 @@
 //! The call with which a weave can't go on.
-ghost use Rattle.std.specs.Prelude.{◌≡◌, ◌-◌, ◌^◌, ◌<◌, [], length, MatchOption};
-ghost use Rattle.totem_weave.specs.Recorded.{recorded, place_at, IsBookOf, IsCallOf};
+ghost use Rattle.std.specs.Prelude.{◌≡◌, ◌-◌, ◌^◌, ◌<◌, length};
+ghost use Rattle.totem_weave.specs.Recorded.{recorded, place_at, IsCallOf};
 
-use crate::recorded::call_of;
+use crate::recorded::{book_of, call_of};
 use totem_books::ClosedBook;
 use totem_ids::{Place, ProcId, RingId};
-
-/// Returns the book of this process.
-fn book_of(books: &[ClosedBook], ring: RingId, proc: ProcId) -> Option<&ClosedBook>
-    ensures { MatchOption result (recorded ring books.now proc ≡ []) (λ book. IsBookOf ring books.now proc book.now) }
-{
-    for book in books {
-        if proc == book.me() {
-            return Some(book);
-        }
-    }
-    None
-}
 
 /// Returns the place of this call, counted from 0, of a process's book.
 fn place_of(proc: ProcId, call: usize) -> Place

@@ -1,13 +1,25 @@
 //! What books recorded of one ring.
-ghost use Rattle.std.specs.Prelude.{◌≡◌, ◌<◌, ◌++◌, [], length, MatchBool, OnOk, IfOk};
+ghost use Rattle.std.specs.Prelude.{◌≡◌, ◌<◌, ◌++◌, [], length, MatchBool, MatchOption, OnOk, IfOk};
 ghost use Rattle.totem_ring.specs.Rings.{same_ring};
-ghost use Rattle.totem_weave.specs.Recorded.{acts_on, call_acts, calls_acts, StandsIn};
+ghost use Rattle.totem_weave.specs.Recorded.{acts_on, call_acts, calls_acts, recorded, StandsIn, IsBookOf};
 
 use std::alloc::{AllocError, Global};
-use totem_books::{Call, Reply};
-use totem_ids::RingId;
+use totem_books::{Call, ClosedBook, Reply};
+use totem_ids::{ProcId, RingId};
 use totem_node::RingStep;
 use totem_ring::{Act, is_same_ring};
+
+/// Returns the book of this process: the first one, if there are several.
+pub fn book_of(books: &[ClosedBook], ring: RingId, proc: ProcId) -> Option<&ClosedBook>
+    ensures { MatchOption result (recorded ring books.now proc ≡ []) (λ book. IsBookOf ring books.now proc book.now) }
+{
+    for book in books {
+        if proc == book.me() {
+            return Some(book);
+        }
+    }
+    None
+}
 
 /// Returns whether the step was taken on the ring.
 fn is_on(ring: RingId, step: &RingStep) -> bool

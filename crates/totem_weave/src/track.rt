@@ -2,7 +2,7 @@
 ghost use Rattle.std.specs.Prelude.{◌≡◌, IfOk};
 ghost use Rattle.totem_weave.specs.Recorded.{recorded, AreTracksOf};
 
-use crate::recorded::acts_in;
+use crate::recorded::{acts_in, book_of};
 use std::alloc::{AllocError, Global};
 use totem_books::ClosedBook;
 use totem_ids::{ProcId, RingId};
@@ -15,7 +15,8 @@ pub struct Track {
     pub acts: Vec<Act>,
 }
 
-fn acts_of(
+/// Returns copies of what this process did on the ring, by its book: without one nothing.
+fn recorded_by(
     alloc: Global,
     books: &[ClosedBook],
     ring: RingId,
@@ -23,12 +24,10 @@ fn acts_of(
 ) -> Result<Vec<Act>, AllocError>
     ensures { IfOk result (λ acts. acts.items ≡ recorded ring books.now proc) }
 {
-    for book in books {
-        if proc == book.me() {
-            return acts_in(alloc, ring, book.calls());
-        }
+    match book_of(books, ring, proc) {
+        Some(book) => acts_in(alloc, ring, book.calls()),
+        None => Ok(Vec::new(alloc)),
     }
-    Ok(Vec::new(alloc))
 }
 
 /// Returns what each member did on the ring, in the order of the members: one without a book nothing.
@@ -42,7 +41,7 @@ pub fn tracks_of(
 {
     let mut tracks = Vec::new(alloc);
     for proc in members {
-        let acts = acts_of(alloc, books, ring, *proc)?;
+        let acts = recorded_by(alloc, books, ring, *proc)?;
         tracks.push(Track { proc: *proc, acts })?;
     }
     Ok(tracks)

@@ -1,6 +1,6 @@
 use Rattle.std.proofs.Common.{◌≡◌, drop}
 use Rattle.totem_weave.specs.Recorded.{recorded}
-use Rattle.totem_weave.proofs.orphan.book_of.Given as goal
+use Rattle.totem_weave.proofs.recorded.book_of.Given as goal
 
 abbrev pub invariant-loop-book : goal.invariant-loop-book
 invariant-loop-book l = recorded l.fn.ring (drop l.book-index l.books) l.proc ≡ recorded l.fn.ring l.books l.proc

@@ -1,6 +1,0 @@
-use Rattle.std.proofs.Common.{◌≡◌, drop}
-use Rattle.totem_weave.specs.Recorded.{recorded}
-use Rattle.totem_weave.proofs.track.acts_of.Given as goal
-
-abbrev pub invariant-loop-book : goal.invariant-loop-book
-invariant-loop-book l = recorded l.fn.ring (drop l.book-index l.books) l.fn.proc ≡ recorded l.fn.ring l.books l.fn.proc
