@@ -7,7 +7,7 @@ use totem_evs::Entry;
 use totem_ids::{MsgId, ProcId};
 
 /// A message, and a process that delivers it.
-#[derive(Clone, Copy, Debug, PartialEq, Eq, PartialOrd, Ord)]
+#[derive(Clone, Copy, PartialEq, Eq, PartialOrd, Ord)]
 pub struct Delivery {
     pub proc: ProcId,
     pub message: MsgId,

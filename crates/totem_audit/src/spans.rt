@@ -5,7 +5,7 @@ ghost use Rattle.totem_audit.specs.Spans.{AreCut};
 use std::alloc::{AllocError, Global};
 
 /// Jobs in a row: from one index up to another, counted from 0.
-#[derive(Clone, Copy, Debug)]
+#[derive(Clone, Copy)]
 pub struct Span {
     pub from: usize,
     pub to: usize,

@@ -5,7 +5,7 @@ use totem_evs::Entry;
 use totem_ids::{ConfId, MsgId};
 
 /// What the entries of a class have in common: the message that they deliver, or the configuration to which they change.
-#[derive(Clone, Copy, Debug, PartialEq, Eq, PartialOrd, Ord)]
+#[derive(Clone, Copy, PartialEq, Eq, PartialOrd, Ord)]
 pub enum Key {
     Message(MsgId),
     Conf(ConfId),
@@ -54,7 +54,7 @@ impl Key {
 }
 
 /// An entry that has a key, with its log and its index there.
-#[derive(Clone, Copy, Debug)]
+#[derive(Clone, Copy)]
 pub struct Member {
     pub key: Key,
     /// Whether the entry is in the class of its key. Otherwise it sends the message.

@@ -8,7 +8,7 @@ use std::marker::Model;
 use totem_ids::ProcId;
 
 /// The numbers that the entries of a log have so far, from the first entry on.
-#[derive(Debug, Drop)]
+#[derive(Drop)]
 pub struct OpenLine {
     proc: ProcId,
     numbers: Vec<u32>,

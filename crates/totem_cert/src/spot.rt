@@ -7,7 +7,7 @@ use totem_evs::Run;
 use totem_ids::{ConfId, ProcId, RingId};
 
 /// Where an entry stands: the index of its log, and its index there.
-#[derive(Clone, Copy, Debug)]
+#[derive(Clone, Copy)]
 pub struct Spot {
     pub log: u32,
     pub at: u32,

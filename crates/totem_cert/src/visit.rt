@@ -2,7 +2,7 @@ use std::marker::Model;
 use totem_ids::Place;
 
 /// A step to an entry from the one that holds it up.
-#[derive(Clone, Copy, Debug)]
+#[derive(Clone, Copy)]
 pub struct Visit {
     pub from: Place,
     pub to: Place,

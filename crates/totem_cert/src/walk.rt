@@ -16,7 +16,7 @@ use totem_evs::Run;
 use totem_ids::Place;
 
 /// Steps from class to class, until they came back to the class of step `again`.
-#[derive(Debug, Drop)]
+#[derive(Drop)]
 pub struct Round {
     pub visits: Vec<Visit>,
     pub again: usize,

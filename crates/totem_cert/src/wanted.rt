@@ -12,7 +12,7 @@ use totem_evs::Run;
 use totem_ids::Place;
 
 /// Which of the entries with a key are wanted.
-#[derive(Clone, Copy, Debug)]
+#[derive(Clone, Copy)]
 pub enum Wanted {
     /// Sends without a number.
     Sends,

@@ -10,7 +10,7 @@ use totem_net::Plan;
 use totem_threads::RunPlan;
 
 /// What is asked of a run in threads: its numbers (docs/PROTOCOL.md, "A run in threads"), and whether its ring is woven.
-#[derive(Clone, Copy, Debug, PartialEq, Eq)]
+#[derive(Clone, Copy)]
 pub struct RunWords {
     pub nodes: u16,
     pub ticks: u32,

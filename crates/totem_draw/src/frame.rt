@@ -16,7 +16,7 @@ pub const LINE: u32 = 18;
 const LEAST: u32 = 760;
 
 /// Where the parts of a picture lie.
-#[derive(Clone, Copy, Debug, PartialEq, Eq)]
+#[derive(Clone, Copy, PartialEq, Eq)]
 pub struct Frame {
     /// Where the lanes begin.
     pub top: u32,

@@ -2,7 +2,7 @@
 use std::alloc::AllocError;
 
 /// Where something is drawn.
-#[derive(Clone, Copy, Debug, PartialEq, Eq)]
+#[derive(Clone, Copy, PartialEq, Eq)]
 pub struct Point {
     pub x: u32,
     pub y: u32,

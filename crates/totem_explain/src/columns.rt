@@ -20,7 +20,7 @@ const INDENT: usize = 2;
 const BETWEEN: usize = 4;
 
 /// Whether an entry is shown.
-#[derive(Clone, Copy, Debug, PartialEq, Eq)]
+#[derive(Clone, Copy, PartialEq, Eq)]
 enum Shown {
     LeftOut,
     Near,

@@ -3,7 +3,7 @@ use std::alloc::{AllocError, Global};
 use totem_evs::{Entry, Run};
 
 /// How many entries of each kind a run has.
-#[derive(Clone, Copy, Debug, PartialEq, Eq)]
+#[derive(Clone, Copy, PartialEq, Eq)]
 struct Counts {
     changes: u32,
     sends: u32,

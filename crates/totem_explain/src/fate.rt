@@ -5,7 +5,7 @@ use totem_evs::{Ending, Log, Run};
 use totem_ids::{ConfId, Place, ProcId};
 
 /// What became of a process in a configuration and what follows it.
-#[derive(Clone, Copy, Debug, PartialEq, Eq)]
+#[derive(Clone, Copy, PartialEq, Eq)]
 pub enum Fate {
     WithoutLog,
     NeverCame(ConfId),

@@ -6,7 +6,7 @@ use totem_evs::{Pending, Run, Waiting};
 use totem_ids::MsgId;
 
 /// Deliveries that one process may still make of the messages of one ring.
-#[derive(Clone, Copy, Debug, PartialEq, Eq)]
+#[derive(Clone, Copy, PartialEq, Eq)]
 struct Group {
     first: Pending,
     last: MsgId,

@@ -23,7 +23,7 @@ pub struct TextPlace<'a> {
 }
 
 /// What a source gave before the bytes that it has at hand.
-#[derive(Clone, Copy, Debug)]
+#[derive(Clone, Copy)]
 pub(crate) struct Passed {
     /// How many lines ended.
     lines: u64,

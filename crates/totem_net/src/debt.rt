@@ -3,7 +3,7 @@ ghost use Rattle.std.specs.Prelude.{◌≡◌};
 ghost use Rattle.totem_net.specs.Debts.{no_words, with_packet, with_turn, one_less};
 
 /// The words that a node was given and still has to deal with.
-#[derive(Clone, Copy, Debug, PartialEq, Eq)]
+#[derive(Clone, Copy, PartialEq, Eq)]
 pub struct Debt {
     /// How many there are.
     pub words: u64,

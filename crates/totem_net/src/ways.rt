@@ -32,7 +32,7 @@ impl Model for Ways {
 }
 
 /// What a packet does: the deliveries that it causes, the ways that it changes, in rising order, and the fates to come.
-#[derive(Debug, Drop)]
+#[derive(Drop)]
 struct Effects {
     handed: Vec<Delivery>,
     changed: VecDeque<Wire>,

@@ -24,7 +24,7 @@ impl Model for Wire {
 }
 
 /// What comes of a packet that arrives on a way.
-#[derive(Debug, Drop)]
+#[derive(Drop)]
 pub struct Passage {
     /// The packets that are handed on to the receiver, in order.
     pub handed: Vec<Bytes>,

@@ -106,7 +106,7 @@ fn visit_entries(
 }
 
 /// A visit of the new ring: what it gave, which entries are written of it, and to whom the node owes messages after it.
-#[derive(Debug, Drop)]
+#[derive(Drop)]
 pub struct NewVisit {
     out: RingOut,
     entries: Vec<Entry>,

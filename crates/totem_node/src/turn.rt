@@ -11,7 +11,7 @@ use totem_packets::{Number, Packet};
 use totem_ring::To;
 
 /// What a step of membership makes of a node, and what it sends. A turn is made as a whole before the node changes.
-#[derive(Debug, Drop)]
+#[derive(Drop)]
 pub struct Turn {
     pub state: State,
     pub quiet: u8,

@@ -14,7 +14,7 @@ use totem_packets::{Body, Token};
 use totem_ring::{RingOut, RingState, RingUndo};
 
 /// A visit that a ring took: what it gave, and what is written of it.
-#[derive(Debug, Drop)]
+#[derive(Drop)]
 pub struct Visited {
     pub out: RingOut,
     /// The sends of what the visit numbered.
@@ -23,7 +23,7 @@ pub struct Visited {
 }
 
 /// What is needed to take a visit back.
-#[derive(Debug, Drop)]
+#[derive(Drop)]
 pub struct VisitUndo {
     undo: RingUndo,
     /// How many bodies waited on the ring before others were given to it.

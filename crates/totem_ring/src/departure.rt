@@ -10,7 +10,7 @@ use totem_ids::ProcId;
 use totem_packets::{Message, Packet, Token};
 
 /// How a visit ends: the token that leaves, and what the member sends and hands up.
-#[derive(Debug, Drop)]
+#[derive(Drop)]
 pub struct Departure {
     /// The token, as it leaves.
     pub leaving: Token,

@@ -13,7 +13,7 @@ use totem_packets::{Message, Number, Requests};
 const MOST: usize = 64;
 
 /// What a token asked for, split into what is held and what is not.
-#[derive(Debug, Drop)]
+#[derive(Drop)]
 pub struct Answered {
     /// Copies of those messages asked for that are held.
     pub messages: Vec<Message>,

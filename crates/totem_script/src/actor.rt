@@ -16,7 +16,7 @@ use totem_ring::To;
 const MOST: usize = 1_000_000;
 
 /// A process of a script: its node, and the entries that the node has written.
-#[derive(Debug, Drop)]
+#[derive(Drop)]
 pub struct ActorState {
     proc: ProcId,
     node: NodeCore,

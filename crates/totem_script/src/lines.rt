@@ -10,7 +10,7 @@ use std::marker::Model;
 const MOST: usize = 65_536;
 
 /// Gives the lines of a script one after the other.
-#[derive(Debug, Drop)]
+#[derive(Drop)]
 pub struct Lines<'a> {
     /// What is left of the script.
     rest: &'a [u8],

@@ -22,7 +22,7 @@ mod queueing;
 mod running;
 
 /// What there is while a script goes on.
-#[derive(Debug, Drop)]
+#[derive(Drop)]
 pub struct SceneState {
     actors: Cast,
     /// The packets on their way, each with its receiver.

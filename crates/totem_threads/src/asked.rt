@@ -2,7 +2,7 @@
 use totem_node::Input;
 
 /// What a word asks of the thread that is given it.
-#[derive(Debug, Drop)]
+#[derive(Drop)]
 pub enum Asked {
     /// To give its node this input.
     Input(Input),
