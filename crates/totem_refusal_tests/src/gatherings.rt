@@ -5,37 +5,32 @@ use std::test::Fail;
 use totem_member::{
     Act, CommitOut, CommitView, Gather, GatherOut, MemberFault, Phase, first_commit, on_commit,
 };
-use totem_packets::{CommitToken, Join, Number, Processes, Report};
+use totem_packets::{CommitToken, Join, Number, Processes, Report, SetFault};
 
 /// Returns the set of the processes from 1 to this one.
 fn set(alloc: Global, last: u16) -> Result<Processes, Fail> {
     Ok(Processes::new(procs(alloc, last)?)?)
 }
 
+fn without(alloc: Global, set: &Processes, others: &Processes) -> Result<Processes, AllocError> {
+    again!(set.without(alloc, others))
+}
+
 /// Returns the set of process 3 alone.
 fn third(alloc: Global) -> Result<Processes, Fail> {
     let two = set(alloc, 2)?;
     let three = set(alloc, 3)?;
-    Ok(again!(three.without(alloc, &two)))
+    Ok(without(alloc, &three, &two)?)
 }
 
-/// Returns a Join of process 2, which knows 1, 2 and 3, and of which these failed.
-fn join(alloc: Global, failed: Processes) -> Result<Join, Fail> {
-    Ok(Join {
+/// Returns a Join of process 2, which knows these processes, and of which these failed.
+fn join(processes: Processes, failed: Processes) -> Join {
+    Join {
         sender: proc(2),
         seq: Number::of(4),
-        processes: set(alloc, 3)?,
+        processes,
         failed,
-    })
-}
-
-fn hear(alloc: Global, gathering: &mut Gather, join: &Join) -> Result<GatherOut, Fail> {
-    let out = again!(gathering.on_join(alloc, join));
-    Ok(again!(out.try_clone(alloc)))
-}
-
-fn time_out(alloc: Global, gathering: &mut Gather) -> Result<GatherOut, Fail> {
-    Ok(again!(gathering.on_timeout(alloc)))
+    }
 }
 
 /// Returns how many members there is consensus on.
@@ -46,47 +41,135 @@ fn agreed(out: &GatherOut) -> usize {
     }
 }
 
+fn copied_out(alloc: Global, out: &GatherOut) -> Result<GatherOut, AllocError> {
+    again!(out.try_clone(alloc))
+}
+
+/// Returns how many members there is consensus on by a copy.
+fn agreed_by_copy(alloc: Global, out: &GatherOut) -> Result<usize, AllocError> {
+    let copy = copied_out(alloc, out)?;
+    Ok(agreed(&copy))
+}
+
+fn on_join(alloc: Global, gathering: &mut Gather, join: &Join) -> Result<GatherOut, MemberFault> {
+    again!(gathering.on_join(alloc, join))
+}
+
+/// A Join comes. Returns on how many members there is consensus then.
+fn hear(alloc: Global, gathering: &mut Gather, join: &Join) -> Result<usize, MemberFault> {
+    let out = on_join(alloc, gathering, join)?;
+    Ok(agreed_by_copy(alloc, &out)?)
+}
+
+/// 2 is heard, which knows 1, 2 and 3.
+fn hear_all(alloc: Global, gathering: &mut Gather) -> Result<usize, Fail> {
+    let join = join(set(alloc, 3)?, Processes::none(alloc));
+    Ok(hear(alloc, gathering, &join)?)
+}
+
+/// 2 is heard, which has given up 3.
+fn hear_two(alloc: Global, gathering: &mut Gather) -> Result<usize, Fail> {
+    let failed = third(alloc)?;
+    let join = join(set(alloc, 3)?, failed);
+    Ok(hear(alloc, gathering, &join)?)
+}
+
+fn on_timeout(alloc: Global, gathering: &mut Gather) -> Result<GatherOut, MemberFault> {
+    again!(gathering.on_timeout(alloc))
+}
+
+fn time_out(alloc: Global, gathering: &mut Gather) -> Result<usize, MemberFault> {
+    let out = on_timeout(alloc, gathering)?;
+    Ok(agreed(&out))
+}
+
 /// Process 1 gathers with 2 and 3. 2 is heard, 3 is silent and given up, 2 gives it up too. Returns on how many there is consensus each
 /// time.
 fn agreements(alloc: Global, gathering: &mut Gather) -> Result<[usize; 3], Fail> {
-    let none = Processes::none(alloc);
-    let first = join(alloc, none)?;
-    let heard = hear(alloc, gathering, &first)?;
+    let heard = hear_all(alloc, gathering)?;
     let silent = time_out(alloc, gathering)?;
-    let failed = third(alloc)?;
-    let second = join(alloc, failed)?;
-    let last = hear(alloc, gathering, &second)?;
-    Ok([agreed(&heard), agreed(&silent), agreed(&last)])
+    let last = hear_two(alloc, gathering)?;
+    Ok([heard, silent, last])
 }
 
-/// Returns how many a copy of the gathering knows, would form a ring with, and agrees with.
-fn sizes(alloc: Global, gathering: &Gather) -> Result<[usize; 3], Fail> {
-    let copy = again!(gathering.try_clone(alloc));
-    let join = again!(copy.join(alloc));
-    let gathered = again!(copy.gathered(alloc));
-    let consensus = match again!(copy.consensus(alloc)) {
+fn own_join(alloc: Global, gathering: &Gather) -> Result<Join, AllocError> {
+    again!(gathering.join(alloc))
+}
+
+/// Returns how many processes the gathering knows.
+fn known(alloc: Global, gathering: &Gather) -> Result<usize, AllocError> {
+    let join = own_join(alloc, gathering)?;
+    Ok(join.processes.as_slice().len())
+}
+
+fn gathered_set(alloc: Global, gathering: &Gather) -> Result<Processes, AllocError> {
+    again!(gathering.gathered(alloc))
+}
+
+/// Returns with how many it would form a ring.
+fn gathered(alloc: Global, gathering: &Gather) -> Result<usize, AllocError> {
+    let set = gathered_set(alloc, gathering)?;
+    Ok(set.as_slice().len())
+}
+
+fn consensus_set(alloc: Global, gathering: &Gather) -> Result<Option<Processes>, AllocError> {
+    again!(gathering.consensus(alloc))
+}
+
+/// Returns with how many it agrees.
+fn consensus(alloc: Global, gathering: &Gather) -> Result<usize, AllocError> {
+    let set = consensus_set(alloc, gathering)?;
+    Ok(match &set {
         None => 0,
         Some(members) => members.as_slice().len(),
-    };
-    Ok([
-        join.processes.as_slice().len(),
-        gathered.as_slice().len(),
-        consensus,
-    ])
+    })
+}
+
+/// Returns how many the gathering knows, would form a ring with, and agrees with.
+fn sizes(alloc: Global, gathering: &Gather) -> Result<[usize; 3], AllocError> {
+    let known = known(alloc, gathering)?;
+    let gathered = gathered(alloc, gathering)?;
+    Ok([known, gathered, consensus(alloc, gathering)?])
+}
+
+fn copied(alloc: Global, gathering: &Gather) -> Result<Gather, AllocError> {
+    again!(gathering.try_clone(alloc))
+}
+
+fn sizes_of_copy(alloc: Global, gathering: &Gather) -> Result<[usize; 3], AllocError> {
+    let copy = copied(alloc, gathering)?;
+    sizes(alloc, &copy)
+}
+
+fn found(alloc: Global, gathering: &mut Gather) -> Result<([usize; 3], [usize; 3]), Fail> {
+    let agreements = agreements(alloc, gathering)?;
+    Ok((agreements, sizes_of_copy(alloc, gathering)?))
+}
+
+fn begun(alloc: Global, base: &Processes) -> Result<Gather, SetFault> {
+    again!(Gather::new(alloc, proc(1), base, Number::of(4)))
 }
 
 fn gather(alloc: Global) -> Result<Gather, Fail> {
     let base = set(alloc, 3)?;
-    Ok(again!(Gather::new(alloc, proc(1), &base, Number::of(4))))
+    Ok(begun(alloc, &base)?)
+}
+
+/// Returns on how many a gathering agrees each time, and at last how many a copy of it knows, would form a ring with, and agrees with.
+fn life(alloc: Global) -> Result<([usize; 3], [usize; 3]), Fail> {
+    let mut gathering = gather(alloc)?;
+    found(alloc, &mut gathering)
 }
 
 #[test]
 fn a_gathering_agrees(rt: HostRuntime) -> Result<(), Fail> {
-    let alloc = rt.alloc();
-    let mut gathering = gather(alloc)?;
-    assert_eq!(rt; agreements(alloc, &mut gathering)?, [0, 0, 2]);
-    assert_eq!(rt; sizes(alloc, &gathering)?, [3, 2, 2]);
+    let found = life(rt.alloc())?;
+    assert_eq!(rt; found, ([0, 0, 2], [3, 2, 2]));
     Ok(())
+}
+
+fn copied_view(alloc: Global, view: &CommitView) -> Result<CommitView, AllocError> {
+    again!(view.try_clone(alloc))
 }
 
 /// Returns the view of a member of the ring of 1 and 2, which has filled the token of ring 8.1 if it is in a phase.
@@ -100,7 +183,7 @@ fn view(alloc: Global, me: u16, phase: Option<Phase>) -> Result<CommitView, Fail
         phase: phase.unwrap_or(Phase::Commit),
         started: false,
     };
-    Ok(again!(view.try_clone(alloc)))
+    Ok(copied_view(alloc, &view)?)
 }
 
 fn report(alloc: Global) -> Report {
@@ -112,34 +195,67 @@ fn report(alloc: Global) -> Report {
     }
 }
 
+fn once_made(alloc: Global, view: &CommitView) -> Result<CommitToken, MemberFault> {
+    if !view.members.contains(view.me) {
+        return Err(MemberFault::Stranger);
+    }
+    first_commit(alloc, view, report(alloc))
+}
+
+fn made_by(alloc: Global, view: &CommitView) -> Result<CommitToken, MemberFault> {
+    match once_made(alloc, view) {
+        Err(MemberFault::Memory) => once_made(alloc, view),
+        answer => answer,
+    }
+}
+
 /// Returns the token that process 1 makes.
 fn made(alloc: Global) -> Result<CommitToken, Fail> {
     let view = view(alloc, 1, None)?;
-    if !view.members.contains(view.me) {
-        return Err("1 is no member".into());
+    Ok(made_by(alloc, &view)?)
+}
+
+fn once_taken(
+    alloc: Global,
+    token: &CommitToken,
+    view: &CommitView,
+) -> Result<CommitOut, MemberFault> {
+    on_commit(alloc, token, view, report(alloc))
+}
+
+fn taken(alloc: Global, token: &CommitToken, view: &CommitView) -> Result<CommitOut, MemberFault> {
+    match once_taken(alloc, token, view) {
+        Err(MemberFault::Memory) => once_taken(alloc, token, view),
+        answer => answer,
     }
-    Ok(match first_commit(alloc, &view, report(alloc)) {
-        Err(MemberFault::Memory) => first_commit(alloc, &view, report(alloc))?,
-        answer => answer?,
-    })
 }
 
-fn take(alloc: Global, token: &CommitToken, view: &CommitView) -> Result<CommitOut, Fail> {
-    let out = match on_commit(alloc, token, view, report(alloc)) {
-        Err(MemberFault::Memory) => on_commit(alloc, token, view, report(alloc))?,
-        answer => answer?,
-    };
-    Ok(again!(out.try_clone(alloc)))
+fn copied_commit(alloc: Global, out: &CommitOut) -> Result<CommitOut, AllocError> {
+    again!(out.try_clone(alloc))
 }
 
-fn push_act(text: &mut String, act: Act) -> Result<(), AllocError> {
-    let name = match act {
+/// Takes the token, and goes on with a copy of what that gives.
+fn take(alloc: Global, token: &CommitToken, view: &CommitView) -> Result<CommitOut, MemberFault> {
+    let out = taken(alloc, token, view)?;
+    Ok(copied_commit(alloc, &out)?)
+}
+
+fn name(act: Act) -> &'static str {
+    match act {
         Act::Filled => "filled;",
         Act::Entered => "entered;",
         Act::Started => "started;",
-    };
-    again!(text.push_str(name));
-    Ok(())
+    }
+}
+
+fn push(text: &mut String, word: &str) -> Result<(), AllocError> {
+    again!(text.push_str(word))
+}
+
+/// Notes what a member did, and lets the token go on.
+fn note(text: &mut String, token: &mut CommitToken, out: CommitOut) -> Result<(), AllocError> {
+    *token = out.token;
+    push(text, name(out.act))
 }
 
 /// Who takes the token in turn, and how far it is by then.
@@ -150,16 +266,29 @@ const TURNS: [(u16, Option<Phase>); 4] = [
     (1, Some(Phase::Recovery)),
 ];
 
+fn turn(
+    alloc: Global,
+    text: &mut String,
+    token: &mut CommitToken,
+    view: &CommitView,
+) -> Result<(), Fail> {
+    let out = take(alloc, token, view)?;
+    Ok(note(text, token, out)?)
+}
+
+fn turns(alloc: Global, text: &mut String, token: &mut CommitToken) -> Result<(), Fail> {
+    for (me, phase) in &TURNS {
+        let view = view(alloc, *me, *phase)?;
+        turn(alloc, text, token, &view)?;
+    }
+    Ok(())
+}
+
 /// Tells how the members take the token.
 fn acts(alloc: Global) -> Result<String, Fail> {
-    let mut text = String::new(alloc);
     let mut token = made(alloc)?;
-    for (me, phase) in TURNS {
-        let view = view(alloc, me, phase)?;
-        let out = take(alloc, &token, &view)?;
-        push_act(&mut text, out.act)?;
-        token = out.token;
-    }
+    let mut text = String::new(alloc);
+    turns(alloc, &mut text, &mut token)?;
     Ok(text)
 }
 

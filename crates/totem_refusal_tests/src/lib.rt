@@ -5,13 +5,14 @@
 //! refused too.
 #![tactic(auto)]
 
-/// A call that is made again where it was refused. What it is made of is borrowed, or made anew.
+/// What a call gives that is made again where it was refused. What it is made of is borrowed, or made anew. It stands alone in a function:
+/// a step of it is two of that function's.
 #[cfg(test)]
 macro_rules! again {
     ($call:expr) => {
         match $call {
-            Ok(value) => value,
-            Err(_) => $call?,
+            Err(_) => $call,
+            given => given,
         }
     };
 }

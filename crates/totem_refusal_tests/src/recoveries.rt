@@ -3,7 +3,8 @@ use crate::samples::{four, proc, ring, told};
 use bytes::Bytes;
 use std::alloc::{AllocError, Global};
 use std::test::Fail;
-use totem_ids::{ProcId, Service};
+use totem_evs::Entry;
+use totem_ids::Service;
 use totem_packets::{
     Body, CommitMember, CommitMembers, CommitToken, Message, Number, Payload, Processes, Report,
     Round,
@@ -45,25 +46,48 @@ fn once_member(alloc: Global, me: u16) -> Result<RingState, AllocError> {
 
 /// Member `me` of ring 4.1 of 1, 2 and 3.
 fn member(alloc: Global, me: u16) -> Result<RingState, AllocError> {
-    Ok(again!(once_member(alloc, me)))
+    again!(once_member(alloc, me))
 }
 
-/// A message comes. How many it hands up.
-fn hear(alloc: Global, state: &mut RingState, message: &Message) -> Result<usize, RingFault> {
-    let out = match state.on_message(alloc, message) {
-        Err(RingFault::Memory) => state.on_message(alloc, message)?,
-        answer => answer?,
-    };
-    Ok(out.handed.len())
-}
-
-fn heard(alloc: Global, me: u16) -> Result<RingState, Fail> {
-    let mut state = member(alloc, me)?;
-    for (number, sender, service) in OLD_MESSAGES {
-        hear(alloc, &mut state, &message(number, sender, service))?;
-        let copy = again!(state.try_clone(alloc));
-        state = copy;
+fn heard_out(
+    alloc: Global,
+    state: &mut RingState,
+    message: &Message,
+) -> Result<RingOut, RingFault> {
+    match state.on_message(alloc, message) {
+        Err(RingFault::Memory) => state.on_message(alloc, message),
+        answer => answer,
     }
+}
+
+/// A message comes.
+fn hear(alloc: Global, state: &mut RingState, message: &Message) -> Result<(), RingFault> {
+    let _ = heard_out(alloc, state, message)?;
+    Ok(())
+}
+
+fn copied_ring(alloc: Global, state: &RingState) -> Result<RingState, AllocError> {
+    again!(state.try_clone(alloc))
+}
+
+/// Goes on with a copy of the member.
+fn go_on(alloc: Global, state: &mut RingState) -> Result<(), AllocError> {
+    let copy = copied_ring(alloc, state)?;
+    *state = copy;
+    Ok(())
+}
+
+fn hear_all(alloc: Global, state: &mut RingState) -> Result<(), RingFault> {
+    for (number, sender, service) in &OLD_MESSAGES {
+        hear(alloc, state, &message(*number, *sender, *service))?;
+        go_on(alloc, state)?;
+    }
+    Ok(())
+}
+
+fn heard(alloc: Global, me: u16) -> Result<RingState, RingFault> {
+    let mut state = member(alloc, me)?;
+    hear_all(alloc, &mut state)?;
     Ok(state)
 }
 
@@ -86,49 +110,113 @@ fn once_members(alloc: Global) -> Result<Vec<CommitMember>, AllocError> {
     Ok(members)
 }
 
+fn members(alloc: Global) -> Result<Vec<CommitMember>, AllocError> {
+    again!(once_members(alloc))
+}
+
 fn token(alloc: Global) -> Result<CommitToken, Fail> {
     Ok(CommitToken {
         ring: ring(8),
         round: Round::Second,
-        members: CommitMembers::new(again!(once_members(alloc)))?,
+        members: CommitMembers::new(members(alloc)?)?,
     })
 }
 
-fn begun(alloc: Global, prev: &RingState, token: &CommitToken) -> Result<Recovery, Fail> {
+/// Begins the recovery of 1, or gives nothing if it may not begin.
+fn once_begun(
+    alloc: Global,
+    prev: &RingState,
+    token: &CommitToken,
+) -> Result<Option<Recovery>, AllocError> {
     let me = proc(1);
     if !is_ready(me, prev, token) {
-        return Err("it may not begin".into());
+        return Ok(None);
     }
-    Ok(again!(Recovery::new(alloc, me, prev, token)))
+    Ok(Some(Recovery::new(alloc, me, prev, token)?))
 }
 
-/// How many bodies a first visit sends, and what is written as the ring is left.
-fn bodies(alloc: Global, recovery: &Recovery) -> Result<usize, AllocError> {
-    let bodies = again!(recovery.next_bodies(alloc));
+fn begun(
+    alloc: Global,
+    prev: &RingState,
+    token: &CommitToken,
+) -> Result<Option<Recovery>, AllocError> {
+    again!(once_begun(alloc, prev, token))
+}
+
+fn bodies(alloc: Global, recovery: &Recovery) -> Result<Vec<Body>, AllocError> {
+    again!(recovery.next_bodies(alloc))
+}
+
+/// How many bodies a first visit sends.
+fn count(alloc: Global, recovery: &Recovery) -> Result<usize, AllocError> {
+    let bodies = bodies(alloc, recovery)?;
     Ok(bodies.len())
 }
 
+fn entries(alloc: Global, recovery: &Recovery, prev: &RingState) -> Result<Vec<Entry>, AllocError> {
+    again!(recovery.finish(alloc, prev))
+}
+
+/// What is written as the ring is left.
 fn finished(alloc: Global, recovery: &Recovery, prev: &RingState) -> Result<String, AllocError> {
-    let entries = again!(recovery.finish(alloc, prev));
+    let entries = entries(alloc, recovery, prev)?;
     told(alloc, &entries)
+}
+
+fn end(
+    alloc: Global,
+    recovery: &Recovery,
+    prev: &RingState,
+) -> Result<(String, usize), AllocError> {
+    let count = count(alloc, recovery)?;
+    Ok((finished(alloc, recovery, prev)?, count))
+}
+
+fn copied(alloc: Global, recovery: &Recovery) -> Result<Recovery, AllocError> {
+    again!(recovery.try_clone(alloc))
+}
+
+fn end_of_copy(
+    alloc: Global,
+    recovery: &Recovery,
+    prev: &RingState,
+) -> Result<(String, usize), AllocError> {
+    let copy = copied(alloc, recovery)?;
+    end(alloc, &copy, prev)
+}
+
+fn left_with(
+    alloc: Global,
+    prev: &RingState,
+    token: &CommitToken,
+) -> Result<(String, usize), Fail> {
+    match begun(alloc, prev, token)? {
+        Some(recovery) => Ok(end_of_copy(alloc, &recovery, prev)?),
+        None => Err("it may not begin".into()),
+    }
 }
 
 fn left(alloc: Global, prev: &RingState) -> Result<(String, usize), Fail> {
     let token = token(alloc)?;
-    let recovery = begun(alloc, prev, &token)?;
-    let copy = again!(recovery.try_clone(alloc));
-    Ok((finished(alloc, &copy, prev)?, bodies(alloc, &copy)?))
+    left_with(alloc, prev, &token)
+}
+
+/// What 1 writes as it leaves its old ring, and how many bodies its first visit sends.
+fn old_ring_left(alloc: Global) -> Result<(String, usize), Fail> {
+    let prev = heard(alloc, 1)?;
+    left(alloc, &prev)
 }
 
 #[test]
 fn the_old_ring_is_left(rt: HostRuntime) -> Result<(), Fail> {
-    let prev = heard(rt.alloc(), 1)?;
-    let (text, bodies) = left(rt.alloc(), &prev)?;
+    let (text, bodies) = old_ring_left(rt.alloc())?;
     assert_eq!(rt;
-        text.as_str(),
-        "dlv r4.1 4.1#3;dlv r4.1 4.1#4;conf t8.1/1 1 2;dlv t8.1/1 4.1#5;dlv t8.1/1 4.1#6;dlv t8.1/1 4.1#8;conf r8.1 1 2;"
+        (text.as_str(), bodies),
+        (
+            "dlv r4.1 4.1#3;dlv r4.1 4.1#4;conf t8.1/1 1 2;dlv t8.1/1 4.1#5;dlv t8.1/1 4.1#6;dlv t8.1/1 4.1#8;conf r8.1 1 2;",
+            3
+        )
     );
-    assert_eq!(rt; bodies, 3);
     Ok(())
 }
 
@@ -148,29 +236,64 @@ fn visit(alloc: Global, state: &mut RingState) -> Result<RingOut, RingFault> {
     }
 }
 
+/// What a visit sends and hands up.
+fn visited(alloc: Global, state: &mut RingState) -> Result<[usize; 2], RingFault> {
+    let out = visit(alloc, state)?;
+    Ok([out.packets.len(), out.handed.len()])
+}
+
+fn sent_again(alloc: Global, state: &RingState) -> Result<RingOut, RingFault> {
+    again!(state.on_resend(alloc))
+}
+
+fn resent(alloc: Global, state: &RingState) -> Result<usize, RingFault> {
+    let out = sent_again(alloc, state)?;
+    Ok(out.packets.len())
+}
+
+fn is_repeat(alloc: Global, state: &mut RingState) -> bool {
+    matches!(visit(alloc, state), Err(RingFault::Repeat))
+}
+
+fn adopt(state: &mut RingState, message: &Message) -> Result<(), RingFault> {
+    match state.adopt(message) {
+        Err(RingFault::Memory) => state.adopt(message),
+        answer => answer,
+    }
+}
+
+fn submit_two(state: &mut RingState) -> Result<(), RingFault> {
+    submit(state, Service::Agreed)?;
+    submit(state, Service::Agreed)
+}
+
+/// What a member sends, hands up and sends again that has two bodies.
+fn first_visit(alloc: Global, state: &mut RingState) -> Result<[usize; 3], RingFault> {
+    submit_two(state)?;
+    let [sent, handed] = visited(alloc, state)?;
+    Ok([sent, handed, resent(alloc, state)?])
+}
+
+/// What a member holds once it has adopted a message, and how many bodies wait.
+fn adopts(state: &mut RingState) -> Result<[usize; 2], RingFault> {
+    adopt(state, &message(4, 2, Service::Agreed))?;
+    Ok([state.held().len(), state.waiting().len()])
+}
+
+fn lived(alloc: Global, state: &mut RingState) -> Result<[usize; 5], Fail> {
+    let [sent, handed, again] = first_visit(alloc, state)?;
+    if !is_repeat(alloc, state) {
+        return Err("the token is taken twice".into());
+    }
+    let [held, waiting] = adopts(state)?;
+    Ok([sent, handed, again, held, waiting])
+}
+
 /// A member submits two bodies and gets the first token: what it sends and hands up, and sends again; and what it holds once it has
 /// adopted a message. The second time the token is a repeat.
 fn ring_life(alloc: Global) -> Result<[usize; 5], Fail> {
     let mut state = member(alloc, 1)?;
-    submit(&mut state, Service::Agreed)?;
-    submit(&mut state, Service::Agreed)?;
-    let out = visit(alloc, &mut state)?;
-    let again = again!(state.on_resend(alloc));
-    if !matches!(visit(alloc, &mut state), Err(RingFault::Repeat)) {
-        return Err("the token is taken twice".into());
-    }
-    let other = message(4, 2, Service::Agreed);
-    match state.adopt(&other) {
-        Err(RingFault::Memory) => state.adopt(&other)?,
-        answer => answer?,
-    }
-    Ok([
-        out.packets.len(),
-        out.handed.len(),
-        again.packets.len(),
-        state.held().len(),
-        state.waiting().len(),
-    ])
+    lived(alloc, &mut state)
 }
 
 #[test]

@@ -4,6 +4,7 @@ ghost use Rattle.std.specs.Prelude.{◌≡◌};
 use bytes::Bytes;
 use std::alloc::{AllocError, Global};
 use std::collections::VecDeque;
+use std::fmt;
 use std::test::Fail;
 use totem_evs::{Entry, Members};
 use totem_ids::{ProcId, RingId, Service};
@@ -21,36 +22,53 @@ pub fn put(queue: &mut Queue, item: (ProcId, Packet)) -> Result<(), AllocError> 
     }
 }
 
-fn push_entry(alloc: Global, text: &mut String, entry: &Entry) -> Result<(), AllocError> {
-    match entry {
-        Entry::Conf(conf, members) => {
-            text.push_str(format!(in alloc; "conf {conf}")?.as_str())?;
-            for proc in members.as_slice() {
-                text.push_str(format!(in alloc; " {proc}")?.as_str())?;
-            }
+/// Processes, each with a space in front.
+#[derive(Drop)]
+struct Spaced<'a>(&'a [ProcId]);
+
+impl fmt::Display for Spaced<'_> {
+    fn fmt<W: fmt::Write>(&self, f: &mut fmt::Formatter<W>) -> fmt::Result {
+        for proc in self.0 {
+            write!(f, " {proc}")?;
         }
-        Entry::Deliver(message, conf) => {
-            text.push_str(format!(in alloc; "dlv {conf} {message}")?.as_str())?;
-        }
-        Entry::Send(message, conf, service) => {
-            text.push_str(format!(in alloc; "send {conf} {service} {message}")?.as_str())?;
-        }
-        Entry::Fail(conf) => text.push_str(format!(in alloc; "fail {conf}")?.as_str())?,
+        Ok(())
     }
-    text.push_str(";")
+}
+
+/// An entry as a line of a run's text, with `;` for the line's end.
+#[derive(Drop)]
+struct Line<'a>(&'a Entry);
+
+impl fmt::Display for Line<'_> {
+    fn fmt<W: fmt::Write>(&self, f: &mut fmt::Formatter<W>) -> fmt::Result {
+        match self.0 {
+            Entry::Conf(conf, members) => write!(f, "conf {conf}{};", Spaced(members.as_slice())),
+            Entry::Deliver(message, conf) => write!(f, "dlv {conf} {message};"),
+            Entry::Send(message, conf, service) => write!(f, "send {conf} {service} {message};"),
+            Entry::Fail(conf) => write!(f, "fail {conf};"),
+        }
+    }
+}
+
+#[derive(Drop)]
+struct Lines<'a>(&'a [Entry]);
+
+impl fmt::Display for Lines<'_> {
+    fn fmt<W: fmt::Write>(&self, f: &mut fmt::Formatter<W>) -> fmt::Result {
+        for entry in self.0 {
+            write!(f, "{}", Line(entry))?;
+        }
+        Ok(())
+    }
 }
 
 fn once_told(alloc: Global, entries: &[Entry]) -> Result<String, AllocError> {
-    let mut text = String::new(alloc);
-    for entry in entries {
-        push_entry(alloc, &mut text, entry)?;
-    }
-    Ok(text)
+    format!(in alloc; "{}", Lines(entries))
 }
 
 /// The entries as lines of a run's text, with `;` for a line's end.
 pub fn told(alloc: Global, entries: &[Entry]) -> Result<String, AllocError> {
-    Ok(again!(once_told(alloc, entries)))
+    again!(once_told(alloc, entries))
 }
 
 pub fn proc(number: u16) -> ProcId {
@@ -67,7 +85,7 @@ fn once_procs(alloc: Global, last: u16) -> Result<Vec<ProcId>, AllocError> {
 
 /// Returns the processes from 1 to this one.
 pub fn procs(alloc: Global, last: u16) -> Result<Vec<ProcId>, AllocError> {
-    Ok(again!(once_procs(alloc, last)))
+    again!(once_procs(alloc, last))
 }
 
 /// Returns them as members.
