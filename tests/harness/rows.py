@@ -35,9 +35,8 @@ class Row:
         """Whether the program answered what the row tells."""
         if self.answer:
             return answer == self.answer
-        told = self.output_has + self.errors_have
-        return answer.status == self.status and (not told or (
-            _has(answer.output, self.output_has) and _has(answer.errors, self.errors_have)))
+        return answer.status == self.status and \
+            _has(answer.output, self.output_has) and _has(answer.errors, self.errors_have)
 
 
 def _has(content, parts):

@@ -18,15 +18,13 @@ WORDS = (
 
 
 def own_answer(tally, row, ended):
-    """The row's answer, or that of the run where the row tells the status alone. None, and noted as wrong,
+    """The row's answer, or that of the run where the row tells only what is in it. None, and noted as wrong,
     where the run has another one."""
-    wanted = row.answer or ended.answer
-    if ended.answer != wanted or wanted.status != row.status:
+    if not row.is_met_by(ended.answer):
         tally.begin()
-        wanted = row.answer or 'status %d' % row.status
-        tally.judge('row ' + row.name, 'nothing refused', ended.answer, wanted)
+        tally.judge('row ' + row.name, 'nothing refused', ended.answer, row.answer or 'status %d' % row.status)
         return None
-    return wanted
+    return ended.answer
 
 
 def growths(asked, tally):
