@@ -28,25 +28,43 @@ def workers(asked, tally):
         sweeper.sweep_alone_and_on(what, make, 'REFUSE_THREAD', plain.threads, one_of(own))
 
 
+def is_audited(asked, output):
+    """Whether the audit reads it as a run."""
+    return asked.shim.run([asked.program, 'audit'], output).answer.status in (0, 1)
+
+
+def is_woven(_asked, output):
+    """Whether it is a woven ring, told to its end."""
+    return output.startswith(b'woven ') and output.endswith(b'\nend\n')
+
+
+# Words of runs in threads, and what comes of them.
+THREADS = ((NODES, 'a run that is audited', is_audited), (NODES + ('--weave',), 'a woven ring', is_woven))
+
+
 def threads(asked, tally):
-    """A run of nodes in threads: want of memory, or a run that the audit reads. It never hangs."""
+    """A run of nodes in threads: want of memory, or a run that the audit reads or whose ring is woven. It never hangs."""
+    for words, wanted, is_right in THREADS:
+        threads_of(asked, tally, words, wanted, is_right)
+
+
+def threads_of(asked, tally, words, wanted, is_right):
+    """The same for these words."""
     sweeper = Sweeper(tally, asked.jobs)
-    what = 'words %r' % ' '.join(NODES)
+    what = 'words %r' % ' '.join(words)
 
     def make(**told):
-        return asked.shim.run([asked.program, *NODES], **told)
+        return asked.shim.run([asked.program, *words], **told)
 
     def judge(ended):
         if ended.met and ended.answer == MEMORY:
             return None
-        if ended.answer.status == 0 and not ended.answer.errors:
-            audited = asked.shim.run([asked.program, 'audit'], ended.answer.output).answer
-            if audited.status in (0, 1):
-                return None
-        return '%s%s' % ('want of memory, or ' if ended.met else '', 'a run that is audited')
+        if ended.answer.status == 0 and not ended.answer.errors and is_right(asked, ended.answer.output):
+            return None
+        return '%s%s' % ('want of memory, or ' if ended.met else '', wanted)
 
     for name in ('growths', 'threads'):
         count = getattr(make(), name)
         ended = sweeper.sweep_alone_and_on(what, make, 'REFUSE_' + name[:-1].upper(), count, judge)
         if not any(it.answer == MEMORY for it in ended):
-            tally.fail(what, 'refused ' + name, 'a run each time', 'want of memory at least once')
+            tally.fail(what, 'refused ' + name, '%s each time' % wanted, 'want of memory at least once')
