@@ -3,6 +3,8 @@ ghost use Rattle.std.specs.Prelude.{◌≡◌};
 
 use bytes::Bytes;
 use std::alloc::{AllocError, Global};
+use std::fmt;
+use std::fmt::Write;
 use std::test::Fail;
 use totem_books::{Book, BookFault, Call, CloseFault, Reply, Stub};
 use totem_evs::{Entry, Members};
@@ -41,39 +43,57 @@ pub(crate) fn start(alloc: Global) -> Input {
     Input::Packet(Packet::Token(first_token(alloc, ring())))
 }
 
-fn push_entry(alloc: Global, text: &mut String, entry: &Entry) -> Result<(), AllocError> {
-    match entry {
-        Entry::Conf(conf, members) => {
-            text.push_str(format!(in alloc; "conf {conf}")?.as_str())?;
-            for proc in members.as_slice() {
-                text.push_str(format!(in alloc; " {proc}")?.as_str())?;
-            }
+/// Processes, each with a space in front.
+#[derive(Drop)]
+struct Spaced<'a>(&'a [ProcId]);
+
+impl fmt::Display for Spaced<'_> {
+    fn fmt<W: fmt::Write>(&self, f: &mut fmt::Formatter<W>) -> fmt::Result {
+        for proc in self.0 {
+            write!(f, " {proc}")?;
         }
-        Entry::Deliver(message, conf) => {
-            text.push_str(format!(in alloc; "dlv {conf} {message}")?.as_str())?;
-        }
-        Entry::Send(message, conf, service) => {
-            text.push_str(format!(in alloc; "send {conf} {service} {message}")?.as_str())?;
-        }
-        Entry::Fail(conf) => text.push_str(format!(in alloc; "fail {conf}")?.as_str())?,
+        Ok(())
     }
-    text.push_str("; ")
+}
+
+/// An entry as a line of a run's text, with `; ` for the line's end.
+#[derive(Drop)]
+struct Line<'a>(&'a Entry);
+
+impl fmt::Display for Line<'_> {
+    fn fmt<W: fmt::Write>(&self, f: &mut fmt::Formatter<W>) -> fmt::Result {
+        match self.0 {
+            Entry::Conf(conf, members) => write!(f, "conf {conf}{}; ", Spaced(members.as_slice())),
+            Entry::Deliver(message, conf) => write!(f, "dlv {conf} {message}; "),
+            Entry::Send(message, conf, service) => write!(f, "send {conf} {service} {message}; "),
+            Entry::Fail(conf) => write!(f, "fail {conf}; "),
+        }
+    }
 }
 
 /// The entries as a line of text.
-pub(crate) fn told(alloc: Global, entries: &[Entry]) -> Result<String, AllocError> {
-    let mut text = String::new(alloc);
-    for entry in entries {
-        push_entry(alloc, &mut text, entry)?;
+#[derive(Drop)]
+pub(crate) struct Lines<'a>(pub &'a [Entry]);
+
+impl fmt::Display for Lines<'_> {
+    fn fmt<W: fmt::Write>(&self, f: &mut fmt::Formatter<W>) -> fmt::Result {
+        for entry in self.0 {
+            write!(f, "{}", Line(entry))?;
+        }
+        Ok(())
     }
-    Ok(text)
 }
 
 /// What a reply adds to the log, or its refusal.
-pub(crate) fn told_by(alloc: Global, reply: &Reply) -> Result<String, AllocError> {
-    match reply {
-        Reply::Done(out) => told(alloc, &out.entries),
-        Reply::Refused(fault) => String::from_str(alloc, fault.name()),
+#[derive(Drop)]
+pub(crate) struct Answer<'a>(pub &'a Reply);
+
+impl fmt::Display for Answer<'_> {
+    fn fmt<W: fmt::Write>(&self, f: &mut fmt::Formatter<W>) -> fmt::Result {
+        match self.0 {
+            Reply::Done(out) => write!(f, "{}", Lines(&out.entries)),
+            Reply::Refused(fault) => f.write_str(fault.name()),
+        }
     }
 }
 
@@ -92,75 +112,110 @@ impl Life {
         }
     }
 
-    pub(crate) fn tell(&mut self, answer: &str) -> Result<(), AllocError> {
-        self.text.push_str(answer)?;
-        self.text.push_str("| ")
+    pub(crate) fn tell<T: fmt::Display + Drop>(&mut self, answer: T) -> Result<(), AllocError> {
+        write!(self.text, "{answer}| ")
     }
 }
 
-/// Tells where the receipt stands, what the reply says, and whether the receipt says so too.
-fn line(alloc: Global, stub: &Stub, reply: &Reply) -> Result<String, AllocError> {
-    let text = told_by(alloc, reply)?;
-    let sure = stub.reply.is(reply);
-    format!(in alloc; "{} {sure} {text}", stub.at)
+/// Where the receipt stands, whether it says what the reply says, and what that is.
+#[derive(Drop)]
+struct Receipt<'a>(&'a Stub, &'a Reply);
+
+impl fmt::Display for Receipt<'_> {
+    fn fmt<W: fmt::Write>(&self, f: &mut fmt::Formatter<W>) -> fmt::Result {
+        let stub = self.0;
+        let reply = self.1;
+        let sure = stub.reply.is(reply);
+        write!(f, "{} {sure} {}", stub.at, Answer(reply))
+    }
 }
 
-fn note(alloc: Global, life: &mut Life, stub: &Stub, reply: Reply) -> Result<(), AllocError> {
-    let line = line(alloc, stub, &reply)?;
-    life.replies.push(reply)?;
-    life.tell(&line)
+fn note(life: &mut Life, stub: &Stub, reply: Reply) -> Result<(), AllocError> {
+    life.tell(Receipt(stub, &reply))?;
+    Ok(life.replies.push(reply)?)
 }
 
 fn apply(alloc: Global, life: &mut Life, book: &mut Book, input: Input) -> Result<(), AllocError> {
     match book.apply(alloc, input) {
-        Ok((stub, reply)) => note(alloc, life, &stub, reply),
+        Ok((stub, reply)) => note(life, &stub, reply),
         Err(fault) => life.tell(fault.name()),
     }
 }
 
 /// Whether the copy of a call is of this receipt.
 fn is_copied(alloc: Global, call: &Call, stub: &Stub) -> Result<bool, AllocError> {
-    Ok(call.try_clone(alloc)?.is_of(stub))
+    let copy = call.try_clone(alloc)?;
+    Ok(copy.is_of(stub))
+}
+
+/// Adds of each call whether its copy is of the receipt.
+fn push_calls(
+    alloc: Global,
+    text: &mut String,
+    calls: &[Call],
+    stub: &Stub,
+) -> Result<(), AllocError> {
+    for call in calls {
+        let is_of = is_copied(alloc, call, stub)?;
+        write!(text, "{is_of} ")?;
+    }
+    Ok(())
 }
 
 /// Tells the line of a receipt and a reply, and of each call whether its copy is of the receipt.
-fn told_of_calls(
+fn tell_of_calls(
     alloc: Global,
+    life: &mut Life,
     calls: &[Call],
     stub: &Stub,
     reply: &Reply,
-) -> Result<String, AllocError> {
-    let mut text = line(alloc, stub, reply)?;
-    for call in calls {
-        let is_of = is_copied(alloc, call, stub)?;
-        text.push_str(format!(in alloc; "{is_of} ")?.as_str())?;
-    }
-    Ok(text)
+) -> Result<(), AllocError> {
+    write!(life.text, "{}", Receipt(stub, reply))?;
+    push_calls(alloc, &mut life.text, calls, stub)?;
+    life.tell("")
 }
 
-/// What the copies of a receipt, of a reply and of the calls tell.
-fn told_of_copies(
+/// Tells the same of a receipt and a copy of the reply.
+fn tell_of_reply(
     alloc: Global,
+    life: &mut Life,
     calls: &[Call],
     stub: &Stub,
     reply: &Reply,
-) -> Result<String, AllocError> {
+) -> Result<(), AllocError> {
     let reply = reply.try_clone(alloc)?;
-    told_of_calls(alloc, calls, &stub.try_clone(alloc)?, &reply)
+    tell_of_calls(alloc, life, calls, stub, &reply)
+}
+
+/// Tells what the copies of a receipt, of a reply and of the calls tell.
+fn tell_of_copies(
+    alloc: Global,
+    life: &mut Life,
+    calls: &[Call],
+    stub: &Stub,
+    reply: &Reply,
+) -> Result<(), AllocError> {
+    let stub = stub.try_clone(alloc)?;
+    tell_of_reply(alloc, life, calls, &stub, reply)
 }
 
 /// Lets the first token come, and tells what copies that are made then tell.
 fn copy(alloc: Global, life: &mut Life, book: &mut Book) -> Result<(), AllocError> {
     match book.apply(alloc, start(alloc)) {
-        Ok((stub, reply)) => { life.tell(&told_of_copies(alloc, book.calls(), &stub, &reply)?) }
+        Ok((stub, reply)) => tell_of_copies(alloc, life, book.calls(), &stub, &reply),
         Err(fault) => life.tell(fault.name()),
     }
+}
+
+fn crash(alloc: Global, book: &mut Book) -> Result<(), BookFault> {
+    let _ = book.apply(alloc, Input::Crash)?;
+    Ok(())
 }
 
 /// Makes so many calls of a node that has crashed. The fault is that of the first call that is not taken.
 fn fill(alloc: Global, book: &mut Book, calls: u32) -> Result<(), BookFault> {
     for _ in 0..calls {
-        let _ = book.apply(alloc, Input::Crash)?;
+        crash(alloc, book)?;
     }
     Ok(())
 }
@@ -187,33 +242,48 @@ fn step(alloc: Global, life: &mut Life, book: &mut Book, word: &str) -> Result<(
         "copy" => copy(alloc, life, book),
         "million" => tell_fill(alloc, life, book, 1_000_000),
         "once" => tell_fill(alloc, life, book, 1),
-        "calls" => life.tell(&format!(in alloc; "{}", book.calls().len())?),
-        "log" => life.tell(&told(alloc, book.log())?),
+        "calls" => life.tell(book.calls().len()),
+        "log" => life.tell(Lines(book.log())),
         _ => life.tell("no such word"),
     }
 }
 
-fn all_steps(alloc: Global, book: &mut Book, words: &str) -> Result<Life, Fail> {
-    let mut life = Life::new(alloc);
+fn all_steps(
+    alloc: Global,
+    life: &mut Life,
+    book: &mut Book,
+    words: &str,
+) -> Result<(), AllocError> {
     for word in words.split_whitespace() {
-        step(alloc, &mut life, book, word)?;
+        step(alloc, life, book, word)?;
     }
+    Ok(())
+}
+
+fn live(alloc: Global, life: &mut Life, members: &Members, words: &str) -> Result<(), AllocError> {
+    let mut book = Book::new(alloc, ProcId::of(1), ring(), members.as_slice())?;
+    all_steps(alloc, life, &mut book, words)
+}
+
+fn life_among(alloc: Global, members: &Members, words: &str) -> Result<Life, AllocError> {
+    let mut life = Life::new(alloc);
+    live(alloc, &mut life, members, words)?;
     Ok(life)
 }
 
-fn life_of(alloc: Global, members: &Members, words: &str) -> Result<Life, Fail> {
-    let mut book = Book::new(alloc, ProcId::of(1), ring(), members.as_slice())?;
-    all_steps(alloc, &mut book, words)
+fn life_of(alloc: Global, words: &str) -> Result<Life, Fail> {
+    let members = two(alloc)?;
+    Ok(life_among(alloc, &members, words)?)
 }
 
 /// Tells, step by step, of a book of process 1.
 fn text(alloc: Global, words: &str) -> Result<String, Fail> {
-    Ok(life_of(alloc, &two(alloc)?, words)?.text)
+    Ok(life_of(alloc, words)?.text)
 }
 
 /// Returns the replies of a book of process 1, step by step.
 pub(crate) fn replies(alloc: Global, words: &str) -> Result<Vec<Reply>, Fail> {
-    Ok(life_of(alloc, &two(alloc)?, words)?.replies)
+    Ok(life_of(alloc, words)?.replies)
 }
 
 #[test]
@@ -240,42 +310,38 @@ fn a_full_book_takes_no_call(rt: HostRuntime) -> Result<(), Fail> {
     Ok(())
 }
 
+fn push_book_faults(text: &mut String) -> Result<(), AllocError> {
+    for fault in &[BookFault::Long, BookFault::Memory] {
+        write!(text, "{} {}; ", fault.number(), fault.name())?;
+    }
+    write!(text, "{}; ", BookFault::Long)
+}
+
+fn push_close_faults(text: &mut String) -> Result<(), AllocError> {
+    for fault in &[
+        CloseFault::SeatMissing,
+        CloseFault::ReceiptMismatch,
+        CloseFault::Memory,
+    ] {
+        write!(text, "{} {}; ", fault.number(), fault.name())?;
+    }
+    write!(text, "{}", CloseFault::SeatMissing)
+}
+
+/// The numbers and the names of all faults, and what two of them say.
+fn faults(alloc: Global) -> Result<String, AllocError> {
+    let mut text = String::new(alloc);
+    push_book_faults(&mut text)?;
+    push_close_faults(&mut text)?;
+    Ok(text)
+}
+
 #[test]
 fn faults_have_numbers_and_names(rt: HostRuntime) -> Result<(), Fail> {
-    let alloc: Global = rt.alloc();
+    let faults = faults(rt.alloc())?;
     assert_eq!(rt;
-        (BookFault::Long.number(), BookFault::Long.name()),
-        (1, "Long")
-    );
-    assert_eq!(rt;
-        (BookFault::Memory.number(), BookFault::Memory.name()),
-        (2, "Memory")
-    );
-    assert_eq!(rt;
-        (
-            CloseFault::SeatMissing.number(),
-            CloseFault::SeatMissing.name()
-        ),
-        (1, "SeatMissing")
-    );
-    assert_eq!(rt;
-        (
-            CloseFault::ReceiptMismatch.number(),
-            CloseFault::ReceiptMismatch.name()
-        ),
-        (2, "ReceiptMismatch")
-    );
-    assert_eq!(rt;
-        (CloseFault::Memory.number(), CloseFault::Memory.name()),
-        (3, "Memory")
-    );
-    assert_eq!(rt;
-        format!(in alloc; "{}", BookFault::Long)?.as_str(),
-        "1,000,000 calls or entries are stored"
-    );
-    assert_eq!(rt;
-        format!(in alloc; "{}", CloseFault::SeatMissing)?.as_str(),
-        "a seat is missing"
+        faults.as_str(),
+        "1 Long; 2 Memory; 1,000,000 calls or entries are stored; 1 SeatMissing; 2 ReceiptMismatch; 3 Memory; a seat is missing"
     );
     Ok(())
 }

@@ -265,13 +265,12 @@ impl<R: Wait + Sync> Start for Begun<'_, R> {
 }
 
 #[test]
-fn a_start_is_told_of_each_node(rt: HostRuntime) -> Result<(), Fail> {
+fn a_start_is_told_of_each_node(rt: HostRuntime) {
     let start = Begun {
         rt: &rt,
         count: Mutex::new(0),
     };
-    start.begun(ProcId::new(2).ok_or("a process")?);
-    start.begun(ProcId::new(3).ok_or("a process")?);
+    start.begun(ProcId::of(2));
+    start.begun(ProcId::of(3));
     assert_eq!(rt; *start.count.lock(&rt), 5);
-    Ok(())
 }

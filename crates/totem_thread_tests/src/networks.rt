@@ -1,5 +1,6 @@
 use bytes::Bytes;
 use std::alloc::{AllocError, Global};
+use std::fmt::Write;
 use std::test::Fail;
 use totem_ids::{ProcId, Service};
 use totem_net::{
@@ -15,17 +16,13 @@ fn node(number: u16) -> Result<ProcId, Fail> {
     Ok(ProcId::new(number).ok_or("no process has the number 0")?)
 }
 
-/// Tells what is handed on: the number of each receiver and the packet, one after another.
-fn handed(alloc: Global, deliveries: &[Delivery]) -> Result<String, AllocError> {
-    let mut text = String::new(alloc);
+/// Adds what is handed on: the number of each receiver and the packet, one after another.
+fn push_handed(text: &mut String, deliveries: &[Delivery]) -> Result<(), AllocError> {
     for delivery in deliveries {
-        let number = delivery.to.number();
-        let bytes = delivery.packet.as_slice();
-        let packet = std::str::from_utf8(bytes).unwrap_or("?");
-        let one = format!(in alloc; "{number}{packet} ")?;
-        text.push_str(&one)?;
+        let packet = std::str::from_utf8(delivery.packet.as_slice()).unwrap_or("?");
+        write!(text, "{}{packet} ", delivery.to.number())?;
     }
-    Ok(text)
+    Ok(())
 }
 
 /// Returns for whom a packet is: a node, or behind `-` every node but one.
@@ -36,44 +33,75 @@ fn address(to: &str) -> Option<Address> {
     }
 }
 
-/// Sends one packet, given as the packet, `>` and for whom it is, and adds what is handed on.
-fn pass(alloc: Global, ways: &mut Ways, text: &mut String, word: &str) -> Result<(), Fail> {
-    let (packet, to) = word.split_once('>').ok_or("no receiver")?;
-    let address = address(to).ok_or("no process has the number 0")?;
-    let packet = Bytes::copy_from_slice(alloc, packet.as_bytes())?;
-    let deliveries = ways.carry(alloc, &address, &packet)?;
-    text.push_str(&handed(alloc, deliveries.as_slice())?)?;
-    Ok(text.push_str("| ")?)
+/// Adds what is handed on because of a packet.
+fn push_carried(
+    alloc: Global,
+    ways: &mut Ways,
+    text: &mut String,
+    address: &Address,
+    packet: &Bytes,
+) -> Result<(), AllocError> {
+    let deliveries = ways.carry(alloc, address, packet)?;
+    push_handed(text, deliveries.as_slice())
 }
 
-fn all_passed(alloc: Global, ways: &mut Ways, words: &str) -> Result<String, Fail> {
+fn carry(
+    alloc: Global,
+    ways: &mut Ways,
+    text: &mut String,
+    address: &Address,
+    packet: &str,
+) -> Result<(), AllocError> {
+    let packet = Bytes::copy_from_slice(alloc, packet.as_bytes())?;
+    push_carried(alloc, ways, text, address, &packet)
+}
+
+/// Sends one packet, given as the packet, `>` and for whom it is, and adds what is handed on.
+fn pass(alloc: Global, ways: &mut Ways, text: &mut String, word: &str) -> Result<(), AllocError> {
+    let (packet, to) = word.split_once('>').unwrap_or((word, ""));
+    match address(to) {
+        Some(address) => carry(alloc, ways, text, &address, packet),
+        None => text.push_str("no receiver"),
+    }
+}
+
+fn all_passed(alloc: Global, ways: &mut Ways, words: &str) -> Result<String, AllocError> {
     let mut text = String::new(alloc);
     for word in words.split_whitespace() {
         pass(alloc, ways, &mut text, word)?;
+        text.push_str("| ")?;
     }
     Ok(text)
 }
 
 /// Tells what is handed on because of each packet, on the ways to so many nodes.
-fn carried(alloc: Global, nodes: u16, fates: Fates, words: &str) -> Result<String, Fail> {
+fn carried(alloc: Global, nodes: u16, fates: Fates, words: &str) -> Result<String, AllocError> {
     let mut ways = Ways::new(alloc, nodes, fates)?;
     all_passed(alloc, &mut ways, words)
 }
 
+fn parts_of(plan: Option<Plan>) -> Option<(u8, u8, u8)> {
+    let plan = plan?;
+    Some((plan.lose, plan.repeat, plan.hold))
+}
+
 #[test]
-fn a_plan_loses_and_repeats_a_hundred_at_most(rt: HostRuntime) -> Result<(), Fail> {
-    assert_eq!(rt; Plan::new(60, 41, 0), None);
-    let plan = Plan::new(60, 40, 255).ok_or("a plan")?;
-    assert_eq!(rt; (plan.lose, plan.repeat, plan.hold), (60, 40, 255));
-    Ok(())
+fn a_plan_loses_and_repeats_a_hundred_at_most(rt: HostRuntime) {
+    let parts = [
+        parts_of(Plan::new(60, 41, 0)),
+        parts_of(Plan::new(60, 40, 255)),
+    ];
+    assert_eq!(rt; parts, [None, Some((60, 40, 255))]);
 }
 
 #[test]
 fn words_give_fates(rt: HostRuntime) -> Result<(), Fail> {
     let plan = Plan::new(10, 20, 3).ok_or("a plan")?;
-    assert_eq!(rt; of_three(fate(123456, plan)), (1, 2, 0));
-    assert_eq!(rt; of_three(fate(987615, plan)), (2, 0, 2));
-    assert_eq!(rt; fate(2005, plan).copies, 0);
+    let told = [of_three(fate(123456, plan)), of_three(fate(987615, plan))];
+    assert_eq!(rt;
+        (told, fate(2005, plan).copies),
+        ([(1, 2, 0), (2, 0, 2)], 0)
+    );
     Ok(())
 }
 

@@ -50,67 +50,144 @@ fn passage(alloc: Global, to: ProcId, packet: &Packet) -> Result<Vec<u8>, AllocE
 /// What was sent to which node, and whether a node other than the receiver sent it.
 type Sent = BTreeMap<Vec<u8>, bool>;
 
-/// Notes what a node of three sent in one call.
-fn note(alloc: Global, sent: &mut Sent, from: ProcId, call: &Call) -> Result<(), AllocError> {
-    let Reply::Done(out) = &call.reply else {
-        return Ok(());
-    };
-    for (to, packet) in &out.packets {
-        for number in 1..4 {
-            let node = ProcId::of(number);
-            let goes = match to {
-                To::All => node != from,
-                To::One(receiver) => node == *receiver,
-            };
-            if goes {
-                sent.insert(passage(alloc, node, packet)?, node != from)?;
-            }
+/// Whether a packet of a node goes to this one.
+fn goes(to: &To, from: ProcId, node: ProcId) -> bool {
+    match to {
+        To::All => node != from,
+        To::One(receiver) => node == *receiver,
+    }
+}
+
+fn note_passage(
+    alloc: Global,
+    sent: &mut Sent,
+    from: ProcId,
+    node: ProcId,
+    packet: &Packet,
+) -> Result<(), AllocError> {
+    let passage = passage(alloc, node, packet)?;
+    let _ = sent.insert(passage, node != from)?;
+    Ok(())
+}
+
+/// Notes a packet of a node for each of three to which it goes.
+fn note_packet(
+    alloc: Global,
+    sent: &mut Sent,
+    from: ProcId,
+    to: &To,
+    packet: &Packet,
+) -> Result<(), AllocError> {
+    for number in 1..4 {
+        let node = ProcId::of(number);
+        if goes(to, from, node) {
+            note_passage(alloc, sent, from, node, packet)?;
         }
+    }
+    Ok(())
+}
+
+fn note_packets(
+    alloc: Global,
+    sent: &mut Sent,
+    from: ProcId,
+    packets: &[(To, Packet)],
+) -> Result<(), AllocError> {
+    for (to, packet) in packets {
+        note_packet(alloc, sent, from, to, packet)?;
+    }
+    Ok(())
+}
+
+/// Notes what a node of three sent in these calls.
+fn note_calls(
+    alloc: Global,
+    sent: &mut Sent,
+    from: ProcId,
+    calls: &[Call],
+) -> Result<(), AllocError> {
+    for call in calls {
+        if let Reply::Done(out) = &call.reply {
+            note_packets(alloc, sent, from, &out.packets)?;
+        }
+    }
+    Ok(())
+}
+
+fn note_books(alloc: Global, sent: &mut Sent, books: &[ClosedBook]) -> Result<(), AllocError> {
+    for book in books {
+        note_calls(alloc, sent, book.me(), book.calls())?;
     }
     Ok(())
 }
 
 fn all_sent(alloc: Global, books: &[ClosedBook]) -> Result<Sent, AllocError> {
     let mut sent = BTreeMap::new(alloc);
-    for book in books {
-        for call in book.calls() {
-            note(alloc, &mut sent, book.me(), call)?;
-        }
-    }
+    note_books(alloc, &mut sent, books)?;
     Ok(sent)
 }
 
-/// Counts of what a book was given over the network how much nobody sent, and how much another node sent and this one took.
+/// Whether what a node was given was sent, and if so whether another node sent it.
+fn by_another(
+    alloc: Global,
+    sent: &Sent,
+    node: ProcId,
+    packet: &Packet,
+) -> Result<Option<bool>, AllocError> {
+    let passage = passage(alloc, node, packet)?;
+    Ok(sent.get(&passage).copied())
+}
+
+/// Counts of what a node was given in a call how much nobody sent, and how much another node sent and this one took.
+fn given_in(
+    alloc: Global,
+    sent: &Sent,
+    node: ProcId,
+    call: &Call,
+) -> Result<(usize, usize), AllocError> {
+    let Input::Packet(packet) = &call.input else {
+        return Ok((0, 0));
+    };
+    match by_another(alloc, sent, node, packet)? {
+        None => Ok((1, 0)),
+        Some(by_another) => {
+            let is_taken = by_another && matches!(call.reply, Reply::Done(_));
+            Ok((0, usize::from(is_taken)))
+        }
+    }
+}
+
+/// Counts the same of what a book was given over the network.
 fn given(alloc: Global, sent: &Sent, book: &ClosedBook) -> Result<(usize, usize), AllocError> {
     let mut unsent = 0usize;
     let mut taken = 0usize;
     for call in book.calls() {
-        let Input::Packet(packet) = &call.input else {
-            continue;
-        };
-        match sent.get(&passage(alloc, book.me(), packet)?) {
-            None => unsent = unsent.saturating_add(1),
-            Some(by_another) => {
-                if *by_another && matches!(call.reply, Reply::Done(_)) {
-                    taken = taken.saturating_add(1);
-                }
-            }
-        }
+        let (none, one) = given_in(alloc, sent, book.me(), call)?;
+        unsent = unsent.saturating_add(none);
+        taken = taken.saturating_add(one);
     }
     Ok((unsent, taken))
+}
+
+fn given_to_all(
+    alloc: Global,
+    sent: &Sent,
+    books: &[ClosedBook],
+) -> Result<(usize, bool), AllocError> {
+    let mut unsent = 0usize;
+    let mut each = true;
+    for book in books {
+        let (none, taken) = given(alloc, sent, book)?;
+        unsent = unsent.saturating_add(none);
+        each = each && taken > 0;
+    }
+    Ok((unsent, each))
 }
 
 /// Returns how much of what was given nobody sent, and whether each node took something that another sent.
 fn all_given(alloc: Global, books: &[ClosedBook]) -> Result<(usize, bool), AllocError> {
     let sent = all_sent(alloc, books)?;
-    let mut unsent = 0usize;
-    let mut each = true;
-    for book in books {
-        let (none, taken) = given(alloc, &sent, book)?;
-        unsent = unsent.saturating_add(none);
-        each = each && taken > 0;
-    }
-    Ok((unsent, each))
+    given_to_all(alloc, &sent, books)
 }
 
 /// What the books of a run show.
@@ -210,22 +287,25 @@ fn nodes_run_side_by_side(rt: HostRuntime) -> Result<(), Fail> {
     Ok(())
 }
 
+/// How many nodes a plan has, how many ticks, and whether there is such a plan.
+const PLANS: [(u16, u32, bool); 6] = [
+    (0, 1, false),
+    (1, 1, true),
+    (32, 1_000_000, true),
+    (33, 1, false),
+    (1, 0, false),
+    (1, 1_000_001, false),
+];
+
 #[test]
 fn a_plan_is_of_1_to_32_nodes_and_a_million_ticks(rt: HostRuntime) -> Result<(), Fail> {
     let Some(plan) = Plan::new(0, 0, 0) else {
         panic!(rt; "no plan");
     };
-    for (nodes, ticks, fits) in [
-        (0, 1, false),
-        (1, 1, true),
-        (32, 1_000_000, true),
-        (33, 1, false),
-        (1, 0, false),
-        (1, 1_000_001, false),
-    ] {
+    for (nodes, ticks, fits) in &PLANS {
         assert_eq!(rt;
-            RunPlan::new(nodes, ticks, 1, plan).is_some(),
-            fits,
+            RunPlan::new(*nodes, *ticks, 1, plan).is_some(),
+            *fits,
             "{nodes} {ticks}"
         );
     }
@@ -234,7 +314,7 @@ fn a_plan_is_of_1_to_32_nodes_and_a_million_ticks(rt: HostRuntime) -> Result<(),
 
 #[test]
 fn faults_tell_what_was_refused(rt: HostRuntime) -> Result<(), Fail> {
-    for (trouble, number, name) in [
+    for (trouble, number, name) in &[
         (BookTrouble::Call(BookFault::Long), 1, "Long"),
         (
             BookTrouble::Close(CloseFault::SeatMissing),
@@ -247,13 +327,12 @@ fn faults_tell_what_was_refused(rt: HostRuntime) -> Result<(), Fail> {
             "ReceiptMismatch",
         ),
     ] {
-        assert_eq!(rt; trouble.number(), number);
-        assert_eq!(rt; trouble.name(), name);
+        assert_eq!(rt; (trouble.number(), trouble.name()), (*number, *name));
     }
-    assert_eq!(rt; ThreadsFault::from(BookFault::Memory), ThreadsFault::Memory);
-    assert_eq!(rt;
+    let memory = [
+        ThreadsFault::from(BookFault::Memory),
         ThreadsFault::from(CloseFault::Memory),
-        ThreadsFault::Memory
-    );
+    ];
+    assert_eq!(rt; memory, [ThreadsFault::Memory, ThreadsFault::Memory]);
     Ok(())
 }

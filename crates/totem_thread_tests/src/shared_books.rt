@@ -1,15 +1,16 @@
 //! Books that threads share.
 ghost use Rattle.std.specs.Prelude.{◌≡◌, ◌<◌, ◌≤◌};
 
-use crate::books::{Life, replies, ring, start, submit, told, told_by, two};
+use crate::books::{Answer, Life, Lines, replies, ring, start, submit, two};
 use std::alloc::{AllocError, Global};
+use std::fmt::Write;
 use std::marker::Brand;
 use std::sync::Wait;
 use std::sync::ledger::Blank;
 use std::test::*;
 use std::thread;
 use std::thread::Threads;
-use totem_books::{BookName, CloseRefused, ClosedBook, Reply, Seat, SharedBook, Stub};
+use totem_books::{BookName, CloseFault, CloseRefused, ClosedBook, Reply, Seat, SharedBook, Stub};
 use totem_evs::Members;
 use totem_ids::ProcId;
 use totem_node::Input;
@@ -69,24 +70,23 @@ fn is_rising(stubs: &[Stub]) -> bool {
     true
 }
 
-/// Tells how many receipts each seat has, and whether they stand in their order.
-fn tell_seats<L: BookName>(
-    alloc: Global,
-    life: &mut Life,
-    seats: &[Seat<L>],
-) -> Result<(), AllocError> {
+/// Tells how many receipts there are, and whether they stand in their order.
+fn tell_stubs(life: &mut Life, stubs: &[Stub]) -> Result<(), AllocError> {
+    let rising = is_rising(stubs);
+    write!(life.text, "{} {rising}| ", stubs.len())
+}
+
+/// Tells the same of each seat.
+fn tell_seats<L: BookName>(life: &mut Life, seats: &[Seat<L>]) -> Result<(), AllocError> {
     for seat in seats {
-        let count = seat.stubs().len();
-        let rising = is_rising(seat.stubs());
-        life.tell(&format!(in alloc; "{count} {rising}")?)?;
+        tell_stubs(life, seat.stubs())?;
     }
     Ok(())
 }
 
-fn note(alloc: Global, life: &mut Life, reply: Reply) -> Result<(), AllocError> {
-    let text = told_by(alloc, &reply)?;
-    life.replies.push(reply)?;
-    life.tell(&text)
+fn note(life: &mut Life, reply: Reply) -> Result<(), AllocError> {
+    life.tell(Answer(&reply))?;
+    Ok(life.replies.push(reply)?)
 }
 
 /// Makes a call by the first seat.
@@ -102,7 +102,7 @@ fn call<L: BookName, R: Wait>(
         return life.tell("no seat");
     };
     match book.call(rt, alloc, seat, input) {
-        Ok(reply) => note(alloc, life, reply),
+        Ok(reply) => note(life, reply),
         Err(fault) => life.tell(fault.name()),
     }
 }
@@ -120,7 +120,7 @@ fn step<L: BookName + Send + Sync, R: Threads + Wait + Sync>(
         "submit" => call(rt, alloc, life, book, seats, submit()),
         "first" => call(rt, alloc, life, book, seats, start(alloc)),
         "threads" => all_calls(rt, alloc, book, seats),
-        "seats" => tell_seats(alloc, life, seats),
+        "seats" => tell_seats(life, seats),
         _ => life.tell("no such word"),
     }
 }
@@ -140,17 +140,12 @@ fn all_steps<L: BookName + Send + Sync, R: Threads + Wait + Sync>(
 }
 
 /// Tells how many calls a closed book has, and its log too if one seat made them: several threads have no set order.
-fn tell_closed(
-    alloc: Global,
-    life: &mut Life,
-    closed: &ClosedBook,
-    seats: usize,
-) -> Result<(), AllocError> {
-    life.tell(&format!(in alloc; "{}", closed.calls().len())?)?;
-    if seats == 1 {
-        life.tell(&told(alloc, closed.log())?)?;
+fn tell_closed(life: &mut Life, closed: &ClosedBook, seats: usize) -> Result<(), AllocError> {
+    life.tell(closed.calls().len())?;
+    if seats != 1 {
+        return Ok(());
     }
-    Ok(())
+    life.tell(Lines(closed.log()))
 }
 
 fn close<L: BookName>(
@@ -161,23 +156,24 @@ fn close<L: BookName>(
 ) -> Result<(), AllocError> {
     let count = seats.len();
     match book.close(alloc, seats) {
-        Ok(closed) => tell_closed(alloc, life, &closed, count),
+        Ok(closed) => tell_closed(life, &closed, count),
         Err(refused) => life.tell(refused.fault.name()),
     }
 }
 
-/// Tells why a book was not closed and how many seats came back, and adds one more seat to them.
 fn put_back<L: BookName>(
-    alloc: Global,
-    life: &mut Life,
-    refused: &mut CloseRefused<L>,
+    seats: &mut Vec<Seat<L>>,
     seat: Option<Seat<L>>,
 ) -> Result<(), AllocError> {
-    let count = refused.seats.len();
-    if let Some(seat) = seat {
-        refused.seats.push(seat)?;
+    match seat {
+        Some(seat) => Ok(seats.push(seat)?),
+        None => Ok(()),
     }
-    life.tell(&format!(in alloc; "{} {count}", refused.fault.name())?)
+}
+
+/// Tells why a book was not closed and how many seats came back.
+fn tell_refusal(life: &mut Life, fault: CloseFault, count: usize) -> Result<(), AllocError> {
+    write!(life.text, "{} {count}| ", fault.name())
 }
 
 fn close_again<L: BookName>(
@@ -186,9 +182,11 @@ fn close_again<L: BookName>(
     refused: CloseRefused<L>,
     seat: Option<Seat<L>>,
 ) -> Result<(), AllocError> {
-    let mut refused = refused;
-    let put = put_back(alloc, life, &mut refused, seat);
-    put.and(close(alloc, life, refused.book, refused.seats))
+    let CloseRefused { book, seats, fault } = refused;
+    let told = tell_refusal(life, fault, seats.len());
+    let mut seats = seats;
+    let put = put_back(&mut seats, seat);
+    told.and(put).and(close(alloc, life, book, seats))
 }
 
 /// Closes the book without its last seat, and then with it.
