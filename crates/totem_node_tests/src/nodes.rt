@@ -1,6 +1,8 @@
 //! Nodes, tested by direct calls: inputs are given as words, and each step is told as a line of text.
 use bytes::Bytes;
 use std::alloc::{AllocError, Global};
+use std::fmt;
+use std::fmt::Write;
 use std::test::Fail;
 use totem_evs::{Entry, Members};
 use totem_ids::{ProcId, RingId, Service};
@@ -120,53 +122,66 @@ fn first(alloc: Global, last: u16) -> Result<Members, Fail> {
     Ok(Members::new(list)?)
 }
 
-fn push_processes(alloc: Global, text: &mut String, procs: &[ProcId]) -> Result<(), AllocError> {
-    for proc in procs {
-        text.push_str(format!(in alloc; " {proc}")?.as_str())?;
+/// Processes, each with a space in front.
+#[derive(Drop)]
+struct Spaced<'a>(&'a [ProcId]);
+
+impl fmt::Display for Spaced<'_> {
+    fn fmt<W: fmt::Write>(&self, f: &mut fmt::Formatter<W>) -> fmt::Result {
+        for proc in self.0 {
+            write!(f, " {proc}")?;
+        }
+        Ok(())
     }
-    Ok(())
 }
 
-fn push_entry(alloc: Global, text: &mut String, entry: &Entry) -> Result<(), AllocError> {
-    match entry {
-        Entry::Conf(conf, members) => {
-            text.push_str(format!(in alloc; "conf {conf}")?.as_str())?;
-            push_processes(alloc, text, members.as_slice())?;
+/// An entry as a line of a run's text, with `; ` for the line's end.
+#[derive(Drop)]
+struct Line<'a>(&'a Entry);
+
+impl fmt::Display for Line<'_> {
+    fn fmt<W: fmt::Write>(&self, f: &mut fmt::Formatter<W>) -> fmt::Result {
+        match self.0 {
+            Entry::Conf(conf, members) => write!(f, "conf {conf}{}; ", Spaced(members.as_slice())),
+            Entry::Deliver(message, conf) => write!(f, "dlv {conf} {message}; "),
+            Entry::Send(message, conf, service) => write!(f, "send {conf} {service} {message}; "),
+            Entry::Fail(conf) => write!(f, "fail {conf}; "),
         }
-        Entry::Deliver(message, conf) => {
-            text.push_str(format!(in alloc; "dlv {conf} {message}")?.as_str())?;
-        }
-        Entry::Send(message, conf, service) => {
-            text.push_str(format!(in alloc; "send {conf} {service} {message}")?.as_str())?;
-        }
-        Entry::Fail(conf) => text.push_str(format!(in alloc; "fail {conf}")?.as_str())?,
     }
-    text.push_str("; ")
 }
 
-/// Adds to whom a packet is sent and what it is, with the number and the sets of a Join.
-fn push_packet(
-    alloc: Global,
-    text: &mut String,
-    to: &To,
-    packet: &Packet,
-) -> Result<(), AllocError> {
-    match to {
-        To::All => text.push_str("all")?,
-        To::One(proc) => text.push_str(format!(in alloc; "{proc}")?.as_str())?,
-    }
-    match packet {
-        Packet::Message(_) => text.push_str(" message")?,
-        Packet::Token(_) => text.push_str(" token")?,
-        Packet::Commit(_) => text.push_str(" commit")?,
-        Packet::Join(join) => {
-            text.push_str(format!(in alloc; " join {}:", join.seq.get())?.as_str())?;
-            push_processes(alloc, text, join.processes.as_slice())?;
-            text.push_str(" but")?;
-            push_processes(alloc, text, join.failed.as_slice())?;
+/// To whom a packet is sent.
+#[derive(Drop)]
+struct Receiver<'a>(&'a To);
+
+impl fmt::Display for Receiver<'_> {
+    fn fmt<W: fmt::Write>(&self, f: &mut fmt::Formatter<W>) -> fmt::Result {
+        match self.0 {
+            To::All => f.write_str("all"),
+            To::One(proc) => write!(f, "{proc}"),
         }
     }
-    text.push_str("; ")
+}
+
+/// What a packet is, with the number and the sets of a Join.
+#[derive(Drop)]
+struct Kind<'a>(&'a Packet);
+
+impl fmt::Display for Kind<'_> {
+    fn fmt<W: fmt::Write>(&self, f: &mut fmt::Formatter<W>) -> fmt::Result {
+        match self.0 {
+            Packet::Message(_) => f.write_str("message"),
+            Packet::Token(_) => f.write_str("token"),
+            Packet::Commit(_) => f.write_str("commit"),
+            Packet::Join(join) => write!(
+                f,
+                "join {}:{} but{}",
+                join.seq.get(),
+                Spaced(join.processes.as_slice()),
+                Spaced(join.failed.as_slice())
+            ),
+        }
+    }
 }
 
 fn word_of(act: &Act) -> &'static str {
@@ -178,38 +193,39 @@ fn word_of(act: &Act) -> &'static str {
     }
 }
 
-fn push_out(alloc: Global, text: &mut String, out: &StepOut) -> Result<(), AllocError> {
-    for entry in &out.entries {
-        push_entry(alloc, text, entry)?;
+/// What a step writes, does on rings and sends.
+#[derive(Drop)]
+struct Done<'a>(&'a StepOut);
+
+impl fmt::Display for Done<'_> {
+    fn fmt<W: fmt::Write>(&self, f: &mut fmt::Formatter<W>) -> fmt::Result {
+        for entry in &self.0.entries {
+            write!(f, "{}", Line(entry))?;
+        }
+        for step in &self.0.ring_steps {
+            write!(f, "{} {}; ", word_of(&step.act), step.ring)?;
+        }
+        for (to, packet) in &self.0.packets {
+            write!(f, "{} {}; ", Receiver(to), Kind(packet))?;
+        }
+        Ok(())
     }
-    for step in &out.ring_steps {
-        let word = word_of(&step.act);
-        text.push_str(format!(in alloc; "{word} {}; ", step.ring)?.as_str())?;
-    }
-    for (to, packet) in &out.packets {
-        push_packet(alloc, text, to, packet)?;
-    }
-    Ok(())
 }
 
-/// What a step writes, does on rings and sends, or its fault.
-fn push_answer(
-    alloc: Global,
-    text: &mut String,
-    answer: Result<StepOut, NodeFault>,
-) -> Result<(), AllocError> {
+/// Adds what a step writes, does on rings and sends, or its fault.
+fn push_answer(text: &mut String, answer: Result<StepOut, NodeFault>) -> Result<(), AllocError> {
     match answer {
-        Ok(out) => push_out(alloc, text, &out),
+        Ok(out) => write!(text, "{}", Done(&out)),
         Err(fault) => text.push_str(fault.name()),
     }
 }
 
 fn push_copy(alloc: Global, text: &mut String, out: &StepOut) -> Result<(), AllocError> {
     let copy = out.try_clone(alloc)?;
-    push_out(alloc, text, &copy)
+    write!(text, "{}", Done(&copy))
 }
 
-/// What the copy of a step writes, does on rings and sends, or the step's fault.
+/// Adds what the copy of a step writes, does on rings and sends, or the step's fault.
 fn push_copied_answer(
     alloc: Global,
     text: &mut String,
@@ -233,8 +249,8 @@ fn push_step(
     node: &mut NodeCore,
     word: &str,
 ) -> Result<(), Fail> {
-    let answer = node.step(alloc, input(alloc, word)?);
-    Ok(push_answer(alloc, text, answer)?)
+    let given = input(alloc, word)?;
+    Ok(push_answer(text, node.step(alloc, given))?)
 }
 
 /// Takes one step with a copy of its input, and tells it by a copy of its outcome.
@@ -244,11 +260,24 @@ fn push_copied_step(
     node: &mut NodeCore,
     word: &str,
 ) -> Result<(), Fail> {
-    let answer = node.step(alloc, copied_input(alloc, word)?);
-    Ok(push_copied_answer(alloc, text, answer)?)
+    let given = copied_input(alloc, word)?;
+    Ok(push_copied_answer(alloc, text, node.step(alloc, given))?)
 }
 
-/// Gives the node these inputs, one for each word, with `/ ` in front of each step. A word behind `copied-` goes by copies.
+/// Takes the step of a word. One behind `copied-` goes by copies.
+fn push_word(
+    alloc: Global,
+    text: &mut String,
+    node: &mut NodeCore,
+    word: &str,
+) -> Result<(), Fail> {
+    match word.strip_prefix("copied-") {
+        Some(copied) => push_copied_step(alloc, text, node, copied),
+        None => push_step(alloc, text, node, word),
+    }
+}
+
+/// Gives the node these inputs, one for each word, with `/ ` in front of each step.
 fn push_steps(
     alloc: Global,
     text: &mut String,
@@ -257,10 +286,7 @@ fn push_steps(
 ) -> Result<(), Fail> {
     for word in words.split_whitespace() {
         text.push_str("/ ")?;
-        match word.strip_prefix("copied-") {
-            Some(copied) => push_copied_step(alloc, text, node, copied)?,
-            None => push_step(alloc, text, node, word)?,
-        }
+        push_word(alloc, text, node, word)?;
     }
     Ok(())
 }
@@ -276,22 +302,36 @@ fn push_steps_of_a_copy(
     push_steps(alloc, text, &mut copy, words)
 }
 
-/// Tells a node's first entry and its steps. Behind the word `copy` the steps are those of its copy.
-fn told(alloc: Global, node: &mut NodeCore, change: &Entry, words: &str) -> Result<String, Fail> {
-    let mut text = String::new(alloc);
-    push_entry(alloc, &mut text, change)?;
+/// Gives the node these inputs, or behind the word `copy` gives them to its copy.
+fn push_life(
+    alloc: Global,
+    text: &mut String,
+    node: &mut NodeCore,
+    words: &str,
+) -> Result<(), Fail> {
     match words.strip_prefix("copy ") {
-        Some(rest) => push_steps_of_a_copy(alloc, &mut text, node, rest)?,
-        None => push_steps(alloc, &mut text, node, words)?,
+        Some(rest) => push_steps_of_a_copy(alloc, text, node, rest),
+        None => push_steps(alloc, text, node, words),
     }
+}
+
+/// Tells a node's first entry and its steps.
+fn told(alloc: Global, node: &mut NodeCore, change: &Entry, words: &str) -> Result<String, Fail> {
+    let mut text = format!(in alloc; "{}", Line(change))?;
+    push_life(alloc, &mut text, node, words)?;
     Ok(text)
+}
+
+/// Tells the life of process 1 on ring 4.1, which has these processes.
+fn life_among(alloc: Global, members: &Members, words: &str) -> Result<String, Fail> {
+    let (mut node, change) = NodeCore::new(alloc, proc(1), ring(4), members.as_slice())?;
+    told(alloc, &mut node, &change, words)
 }
 
 /// Tells the life of process 1 on ring 4.1, which has the processes 1 to `count`.
 fn life(alloc: Global, count: u16, words: &str) -> Result<String, Fail> {
     let members = first(alloc, count)?;
-    let (mut node, change) = NodeCore::new(alloc, proc(1), ring(4), members.as_slice())?;
-    told(alloc, &mut node, &change, words)
+    life_among(alloc, &members, words)
 }
 
 /// How many members the ring has, the inputs that a node is given, and what it has to tell of them.
