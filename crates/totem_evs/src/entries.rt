@@ -1,4 +1,4 @@
-ghost use Rattle.std.specs.Prelude.{◌≡◌, IfOk, MatchResult, All};
+ghost use Rattle.std.specs.Prelude.{◌≡◌, ◌↔◌, IsTrue, IfOk, MatchResult, All};
 ghost use Rattle.totem_evs.specs.Lists.{Refuses, Anyhow};
 ghost use Rattle.totem_evs.specs.Runs.{IsEntry, IsEntries};
 
@@ -75,6 +75,23 @@ impl Entries {
     {
         let Entries { list } = self;
         list
+    }
+
+    /// Returns whether the two are the same entries: `==` in a form that contracts can use.
+    pub fn is(&self, other: &Entries) -> bool
+        ensures { IsTrue result ↔ (self.now ≡ other.now) }
+    {
+        let these = self.as_slice();
+        let those = other.as_slice();
+        if these.len() != those.len() {
+            return false;
+        }
+        for i in 0..these.len() {
+            if !these[i].is(&those[i]) {
+                return false;
+            }
+        }
+        true
     }
 
     pub fn try_clone(&self, alloc: Global) -> Result<Entries, AllocError>

@@ -57,6 +57,25 @@ impl Entry {
         }
     }
 
+    /// Returns whether the two are the same entry: `==` in a form that contracts can use.
+    pub fn is(&self, other: &Entry) -> bool
+        ensures { IsTrue result ↔ (self.now ≡ other.now) }
+    {
+        match (self, other) {
+            (Entry::Conf(conf, members), Entry::Conf(same, procs)) => {
+                conf.is(same) && members.is(procs)
+            }
+            (Entry::Send(message, conf, service), Entry::Send(id, same, kind)) => {
+                *message == *id && conf.is(same) && *service == *kind
+            }
+            (Entry::Deliver(message, conf), Entry::Deliver(id, same)) => {
+                *message == *id && conf.is(same)
+            }
+            (Entry::Fail(conf), Entry::Fail(same)) => conf.is(same),
+            _ => false,
+        }
+    }
+
     pub fn try_clone(&self, alloc: Global) -> Result<Entry, AllocError>
         ensures { IfOk result (λ e. e ≡ self.now) }
     {

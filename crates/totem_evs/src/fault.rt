@@ -1,4 +1,4 @@
-ghost use Rattle.std.specs.Prelude.{◌≡◌, IfOk};
+ghost use Rattle.std.specs.Prelude.{◌≡◌, ◌↔◌, IsTrue, IfOk};
 
 use crate::spec::SpecNo;
 use std::alloc::{AllocError, Global};
@@ -41,6 +41,23 @@ impl Places {
         list
     }
 
+    /// Returns whether the two are the same places in the same order: `==` in a form that contracts can use.
+    pub fn is(&self, other: &Places) -> bool
+        ensures { IsTrue result ↔ (self.now ≡ other.now) }
+    {
+        let these = self.as_slice();
+        let those = other.as_slice();
+        if these.len() != those.len() {
+            return false;
+        }
+        for i in 0..these.len() {
+            if these[i] != those[i] {
+                return false;
+            }
+        }
+        true
+    }
+
     pub fn try_clone(&self, alloc: Global) -> Result<Places, AllocError>
         ensures { IfOk result (λ p. p ≡ self.now) }
     {
@@ -58,6 +75,13 @@ pub struct Fault {
 }
 
 impl Fault {
+    /// Returns whether the two are the same fault: `==` in a form that contracts can use.
+    pub fn is(&self, other: &Fault) -> bool
+        ensures { IsTrue result ↔ (self.now ≡ other.now) }
+    {
+        self.spec == other.spec && self.places.is(&other.places)
+    }
+
     pub fn try_clone(&self, alloc: Global) -> Result<Fault, AllocError>
         ensures { IfOk result (λ f. f ≡ self.now) }
     {

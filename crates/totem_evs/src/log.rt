@@ -64,6 +64,13 @@ impl Log {
         let _ = self.entries.as_slice();
     }
 
+    /// Returns whether the two are the same log: `==` in a form that contracts can use.
+    pub fn is(&self, other: &Log) -> bool
+        ensures { IsTrue result ↔ (self.now ≡ other.now) }
+    {
+        self.proc == other.proc && self.ending == other.ending && self.entries.is(&other.entries)
+    }
+
     pub fn try_clone(&self, alloc: Global) -> Result<Log, AllocError>
         ensures { IfOk result (λ l. l ≡ self.now) }
     {

@@ -78,6 +78,13 @@ impl Members {
         procs
     }
 
+    /// Returns whether the two are the same members: `==` in a form that contracts can use.
+    pub fn is(&self, other: &Members) -> bool
+        ensures { IsTrue result ↔ (self.now ≡ other.now) }
+    {
+        self.as_slice() == other.as_slice()
+    }
+
     pub fn try_clone(&self, alloc: Global) -> Result<Members, AllocError>
         ensures { IfOk result (λ m. m ≡ self.now) }
     {

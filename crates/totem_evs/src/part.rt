@@ -1,3 +1,5 @@
+ghost use Rattle.std.specs.Prelude.{◌≡◌, ◌↔◌, IsTrue};
+
 use crate::ending::Ending;
 use crate::entry::Entry;
 use totem_ids::ProcId;
@@ -26,6 +28,18 @@ impl Part {
             }
             Part::Entry(entry) => entry.keeps_its_rule(),
             Part::Close(_) => {}
+        }
+    }
+
+    /// Returns whether the two are the same part: `==` in a form that contracts can use.
+    pub fn is(&self, other: &Part) -> bool
+        ensures { IsTrue result ↔ (self.now ≡ other.now) }
+    {
+        match (self, other) {
+            (Part::Log(proc), Part::Log(same)) => *proc == *same,
+            (Part::Entry(entry), Part::Entry(same)) => entry.is(same),
+            (Part::Close(ending), Part::Close(same)) => *ending == *same,
+            _ => false,
         }
     }
 }

@@ -1,4 +1,4 @@
-ghost use Rattle.std.specs.Prelude.{◌≡◌, IfOk, MatchResult};
+ghost use Rattle.std.specs.Prelude.{◌≡◌, ◌↔◌, IsTrue, IfOk, MatchResult};
 ghost use Rattle.totem_evs.specs.Lists.{Refuses};
 ghost use Rattle.totem_evs.specs.Runs.{IsRun, IsBelowLog};
 
@@ -29,6 +29,13 @@ impl Run {
     {
         let Run { logs } = self;
         logs.into_vec()
+    }
+
+    /// Returns whether the two are the same run: `==` in a form that contracts can use.
+    pub fn is(&self, other: &Run) -> bool
+        ensures { IsTrue result ↔ (self.now ≡ other.now) }
+    {
+        self.logs.is(&other.logs)
     }
 
     pub fn try_clone(&self, alloc: Global) -> Result<Run, AllocError>
