@@ -1,7 +1,8 @@
-ghost use Rattle.std.specs.Prelude.{◌≡◌, ◌↔◌, IsTrue};
+ghost use Rattle.std.specs.Prelude.{◌≡◌, ◌↔◌, IsTrue, IfOk};
 
 use crate::ending::Ending;
 use crate::entry::Entry;
+use std::alloc::{AllocError, Global};
 use totem_ids::ProcId;
 
 /// A part of a run. The text of a run gives its parts one after the other.
@@ -41,5 +42,15 @@ impl Part {
             (Part::Close(ending), Part::Close(same)) => *ending == *same,
             _ => false,
         }
+    }
+
+    pub fn try_clone(&self, alloc: Global) -> Result<Part, AllocError>
+        ensures { IfOk result (λ p. p ≡ self.now) }
+    {
+        Ok(match self {
+            Part::Log(proc) => Part::Log(*proc),
+            Part::Entry(entry) => Part::Entry(entry.try_clone(alloc)?),
+            Part::Close(ending) => Part::Close(*ending),
+        })
     }
 }
