@@ -23,6 +23,7 @@ pub mod OneHop
 pub mod Laws
 pub mod RunText
 pub mod WriteRun
+pub mod WriteFaults
 pub mod Examples
 pub mod ExampleClaims
 pub mod RunGrammar

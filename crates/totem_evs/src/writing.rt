@@ -26,6 +26,30 @@ pub enum WriteFault {
     Write,
 }
 
+impl WriteFault {
+    ghost use Rattle.totem_evs.specs.WriteFaults.{fault_number, fault_name};
+
+    /// Returns the fault's number, counted from 1 in the order above.
+    pub fn number(&self) -> u8
+        ensures { result ≡ fault_number self.now }
+    {
+        match self {
+            WriteFault::Memory => 1,
+            WriteFault::Write => 2,
+        }
+    }
+
+    /// Returns the fault's name.
+    pub fn name(&self) -> &'static str
+        ensures { result.now ≡ fault_name self.now }
+    {
+        match self {
+            WriteFault::Memory => "Memory",
+            WriteFault::Write => "Write",
+        }
+    }
+}
+
 fn put_members<S: Sink>(pieces: &mut Pieces, sink: &mut S, members: &Members) -> Result<(), Failed>
     ensures { Writes (held S.contents S.failures pieces.old sink.old)
         (held S.contents S.failures pieces.new sink.new) result (members_text members.now) }
