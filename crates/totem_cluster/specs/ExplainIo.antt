@@ -7,12 +7,12 @@ use Rattle.totem_ids.specs.Writing.{Held, Wrote}
 use Rattle.totem_evs.specs.declared.log.Log.{Log}
 use Rattle.totem_evs.specs.declared.writing.WriteFault.{WriteFault}
 use Rattle.totem_evs.specs.RunText.{line}
+use Rattle.totem_evs.specs.ReportText.{fault_text}
 use Rattle.totem_evs.specs.WriteRun.{WritesText}
 use Rattle.totem_evs.specs.Answers.{Answer, Yes, No, IsAnswered}
 use Rattle.totem_evs.specs.Meanings.{IsSound}
 use Rattle.totem_explain.specs.declared.no.Explained.{Explained}
 use Rattle.totem_explain.specs.declared.no.ExplainedNo.{ExplainedNo}
-use Rattle.totem_cluster.specs.Report.{fault_text}
 use Rattle.totem_cluster.specs.AuditIo.{IsWhole, Says, Audits}
 use Rattle.totem_cluster.specs.declared.outcome.Outcome.{Outcome}
 use Rattle.totem_cluster.specs.declared.io_fault.IoFault.{IoFault}

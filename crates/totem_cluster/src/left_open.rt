@@ -2,8 +2,9 @@
 ghost use Rattle.std.specs.Prelude.{decimal};
 ghost use Rattle.std.specs.List.{flat_map};
 ghost use Rattle.totem_ids.specs.Writing.{Writes, held};
+ghost use Rattle.totem_evs.specs.ReportText.{pending_text, waiting_text};
 ghost use Rattle.totem_evs.specs.RunText.{line};
-ghost use Rattle.totem_cluster.specs.Report.{pending_text, waiting_text, yes_text};
+ghost use Rattle.totem_cluster.specs.Report.{yes_text};
 
 use totem_evs::{Pending, Waiting};
 use totem_ids::{Failed, Pieces, ProcId, Sink};

@@ -3,10 +3,11 @@ ghost use Rattle.std.specs.Prelude.{◌≡◌, [], ◌++◌, codes};
 ghost use Rattle.std.specs.List.{flat_map};
 ghost use Rattle.totem_ids.specs.Writing.{Writes, held};
 ghost use Rattle.totem_evs.specs.SpecNo.{spec_text};
+ghost use Rattle.totem_evs.specs.ReportText.{places_text, fault_text};
 ghost use Rattle.totem_evs.specs.RunText.{line};
 ghost use Rattle.totem_evs.specs.WriteRun.{WritesText};
 ghost use Rattle.totem_audit.specs.Verdicts.{answer_of};
-ghost use Rattle.totem_cluster.specs.Report.{places_text, fault_text, no_text, report_text, accepted_text};
+ghost use Rattle.totem_cluster.specs.Report.{no_text, report_text, accepted_text};
 
 use crate::left_open::put_yes;
 use std::alloc::Global;

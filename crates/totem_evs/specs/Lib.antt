@@ -22,6 +22,7 @@ pub mod Certificates
 pub mod OneHop
 pub mod Laws
 pub mod RunText
+pub mod ReportText
 pub mod WriteRun
 pub mod WriteFaults
 pub mod Examples

@@ -1,6 +1,7 @@
 //! Runs: what processes recorded, and what extended virtual synchrony asks of it.
 #![tactic(auto)]
 
+mod display;
 mod ending;
 mod entries;
 mod entry;

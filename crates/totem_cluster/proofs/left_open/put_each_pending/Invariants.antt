@@ -2,7 +2,7 @@ use Rattle.std.proofs.Common.{take}
 use Rattle.std.specs.List.{flat_map}
 use Rattle.totem_ids.specs.Writing.{Wrote, held}
 use Rattle.totem_evs.specs.RunText.{line}
-use Rattle.totem_cluster.specs.Report.{pending_text}
+use Rattle.totem_evs.specs.ReportText.{pending_text}
 use Rattle.totem_cluster.proofs.left_open.put_each_pending.Given as goal
 
 abbrev pub invariant-loop-pending : goal.invariant-loop-pending

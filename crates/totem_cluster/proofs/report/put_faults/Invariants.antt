@@ -2,7 +2,7 @@ use Rattle.std.proofs.Common.{take}
 use Rattle.std.specs.List.{flat_map}
 use Rattle.totem_ids.specs.Writing.{Wrote, held}
 use Rattle.totem_evs.specs.RunText.{line}
-use Rattle.totem_cluster.specs.Report.{fault_text}
+use Rattle.totem_evs.specs.ReportText.{fault_text}
 use Rattle.totem_cluster.proofs.report.put_faults.Given as goal
 
 abbrev pub invariant-loop-fault : goal.invariant-loop-fault

@@ -1,6 +1,6 @@
 use Rattle.std.proofs.Common.{take}
 use Rattle.totem_ids.specs.Writing.{Wrote, held}
-use Rattle.totem_cluster.specs.Report.{places_text}
+use Rattle.totem_evs.specs.ReportText.{places_text}
 use Rattle.totem_cluster.proofs.report.put_places.Given as goal
 
 abbrev pub invariant-loop-place : goal.invariant-loop-place
