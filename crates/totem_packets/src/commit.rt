@@ -1,4 +1,4 @@
-ghost use Rattle.std.specs.Prelude.{◌≡◌, IfOk};
+ghost use Rattle.std.specs.Prelude.{◌≡◌, ◌↔◌, IsTrue, IfOk};
 
 use crate::commit_members::CommitMembers;
 use std::alloc::{AllocError, Global};
@@ -20,6 +20,13 @@ pub struct CommitToken {
 }
 
 impl CommitToken {
+    /// Returns whether the two are the same commit token: `==` in a form that contracts can use.
+    pub fn is(&self, other: &CommitToken) -> bool
+        ensures { IsTrue result ↔ (self.now ≡ other.now) }
+    {
+        self.ring == other.ring && self.round == other.round && self.members.is(&other.members)
+    }
+
     pub fn try_clone(&self, alloc: Global) -> Result<CommitToken, AllocError>
         ensures { IfOk result (λ t. t ≡ self.now) }
     {

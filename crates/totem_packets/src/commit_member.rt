@@ -1,4 +1,4 @@
-ghost use Rattle.std.specs.Prelude.{◌≡◌, IfOk};
+ghost use Rattle.std.specs.Prelude.{◌≡◌, ◌↔◌, IsTrue, IfOk};
 ghost use Rattle.totem_packets.specs.CommitMembers.{IsReport, IsCommitMember};
 
 use crate::processes::Processes;
@@ -34,6 +34,16 @@ impl Report {
         let _ = self.obligation.as_slice();
     }
 
+    /// Returns whether the two are the same report: `==` in a form that contracts can use.
+    pub fn is(&self, other: &Report) -> bool
+        ensures { IsTrue result ↔ (self.now ≡ other.now) }
+    {
+        self.ring == other.ring
+            && self.aru == other.aru
+            && self.delivered == other.delivered
+            && self.obligation.is(&other.obligation)
+    }
+
     pub fn try_clone(&self, alloc: Global) -> Result<Report, AllocError>
         ensures { IfOk result (λ r. r ≡ self.now) }
     {
@@ -55,6 +65,18 @@ impl CommitMember {
         if let Some(report) = &self.report {
             report.keeps_its_rule();
         }
+    }
+
+    /// Returns whether the two are the same member: `==` in a form that contracts can use.
+    pub fn is(&self, other: &CommitMember) -> bool
+        ensures { IsTrue result ↔ (self.now ≡ other.now) }
+    {
+        self.proc == other.proc
+            && match (&self.report, &other.report) {
+                (Some(report), Some(same)) => report.is(same),
+                (None, None) => true,
+                _ => false,
+            }
     }
 
     pub fn try_clone(&self, alloc: Global) -> Result<CommitMember, AllocError>

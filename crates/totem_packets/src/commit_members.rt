@@ -1,4 +1,4 @@
-ghost use Rattle.std.specs.Prelude.{◌≡◌, ◌<◌, ◌^◌, All, IfOk, MatchResult};
+ghost use Rattle.std.specs.Prelude.{◌≡◌, ◌↔◌, IsTrue, ◌<◌, ◌^◌, All, IfOk, MatchResult};
 ghost use Rattle.totem_packets.specs.Lists.{Refuses};
 ghost use Rattle.totem_packets.specs.CommitMembers.{IsBelowMember, IsCommitMember, IsCommitMembers};
 
@@ -78,6 +78,23 @@ impl CommitMembers {
     {
         let CommitMembers { list } = self;
         list
+    }
+
+    /// Returns whether the two are the same members: `==` in a form that contracts can use.
+    pub fn is(&self, other: &CommitMembers) -> bool
+        ensures { IsTrue result ↔ (self.now ≡ other.now) }
+    {
+        let these = self.as_slice();
+        let those = other.as_slice();
+        if these.len() != those.len() {
+            return false;
+        }
+        for i in 0..these.len() {
+            if !these[i].is(&those[i]) {
+                return false;
+            }
+        }
+        true
     }
 
     pub fn try_clone(&self, alloc: Global) -> Result<CommitMembers, AllocError>

@@ -1,4 +1,4 @@
-ghost use Rattle.std.specs.Prelude.{◌≡◌, IfOk};
+ghost use Rattle.std.specs.Prelude.{◌≡◌, ◌↔◌, IsTrue, IfOk};
 
 use crate::number::Number;
 use crate::processes::Processes;
@@ -16,6 +16,16 @@ pub struct Join {
 }
 
 impl Join {
+    /// Returns whether the two are the same Join: `==` in a form that contracts can use.
+    pub fn is(&self, other: &Join) -> bool
+        ensures { IsTrue result ↔ (self.now ≡ other.now) }
+    {
+        self.sender == other.sender
+            && self.seq == other.seq
+            && self.processes.is(&other.processes)
+            && self.failed.is(&other.failed)
+    }
+
     pub fn try_clone(&self, alloc: Global) -> Result<Join, AllocError>
         ensures { IfOk result (λ j. j ≡ self.now) }
     {

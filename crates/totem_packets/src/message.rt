@@ -1,4 +1,4 @@
-ghost use Rattle.std.specs.Prelude.{◌≡◌, IfOk};
+ghost use Rattle.std.specs.Prelude.{◌≡◌, ◌↔◌, IsTrue, IfOk};
 
 use crate::number::Number;
 use crate::payload::Payload;
@@ -35,6 +35,45 @@ pub struct Message {
 }
 
 impl Body {
+    /// Returns whether the two are the same body: `==` in a form that contracts can use.
+    pub fn is(&self, other: &Body) -> bool
+        ensures { IsTrue result ↔ (self.now ≡ other.now) }
+    {
+        match (self, other) {
+            (
+                Body::App { service, payload },
+                Body::App {
+                    service: kind,
+                    payload: bytes,
+                },
+            ) => *service == *kind && payload.is(bytes),
+            (
+                Body::Old {
+                    ring,
+                    number,
+                    sender,
+                    service,
+                    payload,
+                },
+                Body::Old {
+                    ring: on,
+                    number: nth,
+                    sender: by,
+                    service: kind,
+                    payload: bytes,
+                },
+            ) => {
+                *ring == *on
+                    && *number == *nth
+                    && *sender == *by
+                    && *service == *kind
+                    && payload.is(bytes)
+            }
+            (Body::Mark, Body::Mark) => true,
+            _ => false,
+        }
+    }
+
     /// Copies the body without taking memory, since the copies share the payload. Fails only where the payload can
     /// count no further owner.
     pub fn try_clone(&self) -> Result<Body, AllocError>
@@ -64,6 +103,16 @@ impl Body {
 }
 
 impl Message {
+    /// Returns whether the two are the same message: `==` in a form that contracts can use.
+    pub fn is(&self, other: &Message) -> bool
+        ensures { IsTrue result ↔ (self.now ≡ other.now) }
+    {
+        self.ring == other.ring
+            && self.number == other.number
+            && self.sender == other.sender
+            && self.body.is(&other.body)
+    }
+
     /// Copies the message without taking memory, since the copies share the payload. Fails only where the payload can
     /// count no further owner.
     pub fn try_clone(&self) -> Result<Message, AllocError>

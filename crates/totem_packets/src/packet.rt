@@ -1,4 +1,4 @@
-ghost use Rattle.std.specs.Prelude.{◌≡◌, IfOk};
+ghost use Rattle.std.specs.Prelude.{◌≡◌, ◌↔◌, IsTrue, IfOk};
 
 use crate::commit::CommitToken;
 use crate::decoding::decode;
@@ -49,6 +49,19 @@ impl Packet {
         ensures exact { Gives result (decode_packet bytes.now) }
     {
         decode(alloc, bytes)
+    }
+
+    /// Returns whether the two are the same packet: `==` in a form that contracts can use.
+    pub fn is(&self, other: &Packet) -> bool
+        ensures { IsTrue result ↔ (self.now ≡ other.now) }
+    {
+        match (self, other) {
+            (Packet::Message(message), Packet::Message(same)) => message.is(same),
+            (Packet::Token(token), Packet::Token(same)) => token.is(same),
+            (Packet::Join(join), Packet::Join(same)) => join.is(same),
+            (Packet::Commit(token), Packet::Commit(same)) => token.is(same),
+            _ => false,
+        }
     }
 
     pub fn try_clone(&self, alloc: Global) -> Result<Packet, AllocError>

@@ -1,4 +1,4 @@
-ghost use Rattle.std.specs.Prelude.{◌≡◌, ◌≤◌, ◌<◌, length, IfOk, MatchResult};
+ghost use Rattle.std.specs.Prelude.{◌≡◌, ◌↔◌, IsTrue, ◌≤◌, ◌<◌, length, IfOk, MatchResult};
 ghost use Rattle.totem_packets.specs.Lists.{Refuses, Anyhow};
 ghost use Rattle.totem_packets.specs.Payload.{IsPayload};
 
@@ -63,6 +63,13 @@ impl Payload {
     {
         let Payload { bytes } = self;
         bytes
+    }
+
+    /// Returns whether the two are the same bytes: `==` in a form that contracts can use.
+    pub fn is(&self, other: &Payload) -> bool
+        ensures { IsTrue result ↔ (self.now ≡ other.now) }
+    {
+        self.as_slice() == other.as_slice()
     }
 
     /// Copies the payload without taking memory, since the copies share the bytes. Fails only where the bytes can count

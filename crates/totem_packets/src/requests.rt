@@ -1,4 +1,4 @@
-ghost use Rattle.std.specs.Prelude.{◌≡◌, ◌<◌, ◌^◌, All, IfOk, MatchResult};
+ghost use Rattle.std.specs.Prelude.{◌≡◌, ◌↔◌, IsTrue, ◌<◌, ◌^◌, All, IfOk, MatchResult};
 ghost use Rattle.totem_packets.specs.Lists.{Refuses};
 ghost use Rattle.totem_packets.specs.Rising.{IsBelow, IsRequests};
 
@@ -68,6 +68,13 @@ impl Requests {
     {
         let Requests { numbers } = self;
         numbers
+    }
+
+    /// Returns whether the two are the same numbers: `==` in a form that contracts can use.
+    pub fn is(&self, other: &Requests) -> bool
+        ensures { IsTrue result ↔ (self.now ≡ other.now) }
+    {
+        self.as_slice() == other.as_slice()
     }
 
     pub fn try_clone(&self, alloc: Global) -> Result<Requests, AllocError>

@@ -1,4 +1,4 @@
-ghost use Rattle.std.specs.Prelude.{◌≡◌, IfOk};
+ghost use Rattle.std.specs.Prelude.{◌≡◌, ◌↔◌, IsTrue, IfOk};
 
 use crate::requests::Requests;
 use crate::token_seq::TokenSeq;
@@ -21,6 +21,18 @@ pub struct Token {
 }
 
 impl Token {
+    /// Returns whether the two are the same token: `==` in a form that contracts can use.
+    pub fn is(&self, other: &Token) -> bool
+        ensures { IsTrue result ↔ (self.now ≡ other.now) }
+    {
+        self.ring == other.ring
+            && self.token_seq == other.token_seq
+            && self.seq == other.seq
+            && self.aru == other.aru
+            && self.aru_id == other.aru_id
+            && self.rtr.is(&other.rtr)
+    }
+
     pub fn try_clone(&self, alloc: Global) -> Result<Token, AllocError>
         ensures { IfOk result (λ t. t ≡ self.now) }
     {
