@@ -1,4 +1,4 @@
-ghost use Rattle.std.specs.Prelude.{◌≡◌, IfOk, MatchResult};
+ghost use Rattle.std.specs.Prelude.{◌≡◌, ◌↔◌, IsTrue, IfOk, MatchResult};
 ghost use Rattle.totem_evs.specs.Lists.{Refuses};
 ghost use Rattle.totem_cert.specs.Keeping.{IsBelowLine, IsCertificate};
 
@@ -56,6 +56,13 @@ impl Certificate {
     {
         let Certificate { lines } = self;
         lines.into_vec()
+    }
+
+    /// Returns whether the two are the same certificate: `==` in a form that contracts can use.
+    pub fn is(&self, other: &Certificate) -> bool
+        ensures { IsTrue result ↔ (self.now ≡ other.now) }
+    {
+        self.lines.is(&other.lines)
     }
 
     pub fn try_clone(&self, alloc: Global) -> Result<Certificate, AllocError>

@@ -1,4 +1,4 @@
-ghost use Rattle.std.specs.Prelude.{◌≡◌, IfOk};
+ghost use Rattle.std.specs.Prelude.{◌≡◌, ◌↔◌, IsTrue, IfOk};
 ghost use Rattle.totem_cert.specs.Keeping.{IsLine};
 
 use crate::numbers::Numbers;
@@ -28,6 +28,13 @@ impl Line {
     {
         process_fits(self.proc);
         let _ = self.numbers.as_slice();
+    }
+
+    /// Returns whether the two are the same line: `==` in a form that contracts can use.
+    pub fn is(&self, other: &Line) -> bool
+        ensures { IsTrue result ↔ (self.now ≡ other.now) }
+    {
+        self.proc == other.proc && self.numbers.is(&other.numbers)
     }
 
     pub fn try_clone(&self, alloc: Global) -> Result<Line, AllocError>

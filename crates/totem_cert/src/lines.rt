@@ -1,4 +1,4 @@
-ghost use Rattle.std.specs.Prelude.{◌≡◌, IfSome, IfNone, IfOk, MatchResult, All, AllPairs};
+ghost use Rattle.std.specs.Prelude.{◌≡◌, ◌↔◌, IsTrue, IfSome, IfNone, IfOk, MatchResult, All, AllPairs};
 ghost use Rattle.totem_evs.specs.Lists.{FallsAt, Refuses};
 ghost use Rattle.totem_cert.specs.Keeping.{IsLine, IsBelowLine, IsCertificate};
 
@@ -91,6 +91,23 @@ impl Lines {
     {
         let Lines { list } = self;
         list
+    }
+
+    /// Returns whether the two are the same lines: `==` in a form that contracts can use.
+    pub fn is(&self, other: &Lines) -> bool
+        ensures { IsTrue result ↔ (self.now ≡ other.now) }
+    {
+        let these = self.as_slice();
+        let those = other.as_slice();
+        if these.len() != those.len() {
+            return false;
+        }
+        for i in 0..these.len() {
+            if !these[i].is(&those[i]) {
+                return false;
+            }
+        }
+        true
     }
 
     pub fn try_clone(&self, alloc: Global) -> Result<Lines, AllocError>

@@ -1,4 +1,4 @@
-ghost use Rattle.std.specs.Prelude.{◌≡◌, IfSome, IfNone, IfOk, MatchResult, All};
+ghost use Rattle.std.specs.Prelude.{◌≡◌, ◌↔◌, IsTrue, IfSome, IfNone, IfOk, MatchResult, All};
 ghost use Rattle.totem_cert.specs.Keeping.{IsNumber, IsNumbers, IsFirstZero, RefusesNumbers};
 
 use std::alloc::{AllocError, Global};
@@ -105,6 +105,13 @@ impl Numbers {
     {
         let Numbers { list } = self;
         list
+    }
+
+    /// Returns whether the two are the same numbers: `==` in a form that contracts can use.
+    pub fn is(&self, other: &Numbers) -> bool
+        ensures { IsTrue result ↔ (self.now ≡ other.now) }
+    {
+        self.as_slice() == other.as_slice()
     }
 
     pub fn try_clone(&self, alloc: Global) -> Result<Numbers, AllocError>
