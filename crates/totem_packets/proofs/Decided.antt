@@ -2,19 +2,20 @@
 use Rattle.std.specs.Prelude.{◌==◌, ◌⊎◌}
 use Rattle.std.specs.Int.{w8}
 use Rattle.std.proofs.Common.{◌≡◌, ◌≢◌, ℕ, zero, suc, ◌<◌, ◌↔◌, List, [], ◌∷◌, ◌++◌, length, Bool, true, false, cond, Result, Ok, Err, refl, sym, ap, subst, ◌∙◌, append_assoc, arith, inl, inr}
-use Rattle.std.specs.Prelude.{nat_lt, IfOk}
-use Rattle.std.proofs.lemmas.Bool.{eqb-true, eqb-false, ne_eqb, le-ltb}
+use Rattle.std.specs.Prelude.{IfOk}
+use Rattle.std.proofs.lemmas.Bool.{eqb-true, eqb-false, ne_eqb}
 use Rattle.std.proofs.lemmas.List.{append-nil, nil_from_length, length-append}
 use Rattle.totem_packets.specs.declared.fault.PacketFault.{PacketFault}
 use Rattle.totem_packets.specs.declared.fault.PacketFault.TheVariants.{Short, Kind, Range, Trailing, Memory}
 use Rattle.totem_packets.specs.declared.packet.Packet as packet
 use Rattle.totem_packets.specs.Parsing.{Parsed, ◌>>=◌, AreBytes, Gives}
-use Rattle.totem_packets.specs.Fields.{bytes_at, number_at}
+use Rattle.totem_packets.specs.Fields.{number_at}
 use Rattle.totem_packets.specs.Grammar.{message_packet_at, token_packet_at, join_packet_at, commit_packet_at, packet_of, packet_at, decode_packet}
 use Rattle.totem_packets.specs.Laws.{IsOfNoKind, HasMore, IsFirstWrong}
 use Rattle.totem_packets.specs.Ranges.{IsPacket}
 use Rattle.totem_packets.specs.Spelling.{packet_bytes}
 use Rattle.totem_packets.proofs.Steps.{bind_ok, taken, guard_then, parsed_is}
+use Rattle.totem_packets.proofs.FirstByte.{kind_at, none_at}
 use Rattle.totem_packets.proofs.Following.{Follows, HasFieldFault, is_short}
 use Rattle.totem_packets.proofs.Staying.{IsField, number_field, message_packet_field, token_packet_field, join_packet_field, commit_packet_field}
 use Rattle.totem_packets.proofs.TakenPackets.{packet_takes, packet_again}
@@ -149,14 +150,6 @@ short_before front rest e = whole_fault front Short (go (packet_at front) refl)
             is ∙ same
 
 -- ---- Kind
-
-kind_at : (b : ℕ) (rest : List ℕ) → number_at w8 (b ∷ rest) ≡ Ok (b, rest)
-unfolding number_at bytes_at
-kind_at b rest = let long : nat_lt (length (b ∷ rest)) 1 ≡ false = le-ltb _ _ (omega arith) in rw long refl
-
-none_at : number_at w8 [] ≡ Err Short
-unfolding number_at bytes_at
-none_at = refl
 
 packet_kind : (b : ℕ) (rest : List ℕ) → packet_at (b ∷ rest) ≡ packet_of b rest
 unfolding packet_at

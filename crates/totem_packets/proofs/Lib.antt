@@ -8,6 +8,7 @@ pub mod Lists
 pub mod Members
 pub mod Following
 pub mod Staying
+pub mod FirstByte
 pub mod Taken
 pub mod TakenLists
 pub mod TakenMessages

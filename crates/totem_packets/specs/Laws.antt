@@ -1,5 +1,5 @@
 -- What holds of the bytes of packets (docs/PROTOCOL.md, "Packets").
-use Rattle.std.specs.Prelude.{◌≡◌, ℕ, ◌<◌, List, [], ◌∷◌, ◌++◌, Err, ◌⊎◌}
+use Rattle.std.specs.Prelude.{◌≡◌, ℕ, ◌<◌, ◌≤◌, List, [], ◌∷◌, ◌++◌, Err, ◌⊎◌}
 use Rattle.totem_packets.specs.declared.fault.PacketFault.TheVariants.{Short, Range}
 use Rattle.totem_packets.specs.declared.packet.Packet as packet
 use Rattle.totem_packets.specs.Grammar.{decode_packet}
@@ -10,6 +10,11 @@ use Rattle.totem_packets.specs.Spelling.{packet_bytes}
 abbrev pub IsOfNoKind : List ℕ → Type 0
 IsOfNoKind [] = ⊥
 IsOfNoKind (kind ∷ rest) = (kind ≡ 0) ⊎ (4 < kind)
+
+-- the first byte is one of 1 to 4
+abbrev pub IsOfKind : List ℕ → Type 0
+IsOfKind [] = ⊥
+IsOfKind (kind ∷ rest) = (0 < kind) × (kind ≤ 4)
 
 -- a packet's spelling, and one byte or more behind it
 pub record HasMore (bytes : List ℕ) : Type 0 where

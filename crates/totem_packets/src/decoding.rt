@@ -1,6 +1,7 @@
 //! Packets, read from left to right.
-ghost use Rattle.std.specs.Prelude.{◌≡◌, IfOk};
+ghost use Rattle.std.specs.Prelude.{◌≡◌, Err, IfOk};
 ghost use Rattle.totem_packets.specs.Grammar.{token_at, join_at, packet_of, packet_at, decode_packet};
+ghost use Rattle.totem_packets.specs.Laws.{IsOfKind};
 ghost use Rattle.totem_packets.specs.Parsing.{Gives, Reads};
 
 use crate::fault::PacketFault;
@@ -52,7 +53,8 @@ fn join(alloc: Global, reader: &mut Reader) -> Result<Join, PacketFault>
 /// Reads a packet, behind which more bytes may follow.
 #[tactic(auto, using(crate::proofs::Falling::passes_on), unfolding(crate::specs::Grammar::packet_at, crate::specs::Grammar::packet_of, crate::specs::Grammar::message_packet_at, crate::specs::Grammar::token_packet_at, crate::specs::Grammar::join_packet_at, crate::specs::Grammar::commit_packet_at))]
 fn packet(alloc: Global, reader: &mut Reader) -> Result<Packet, PacketFault>
-    ensures { Reads (λ x. x) result reader.new (packet_at reader.old) }
+    ensures reads { Reads (λ x. x) result reader.new (packet_at reader.old) }
+    ensures memory { result ≡ Err PacketFault.Memory → IsOfKind reader.old }
 {
     match reader.u8()? {
         1 => Ok(Packet::Message(message(alloc, reader)?)),
@@ -66,7 +68,8 @@ fn packet(alloc: Global, reader: &mut Reader) -> Result<Packet, PacketFault>
 /// Returns the packet that all these bytes spell.
 #[tactic(auto, using(crate::proofs::Falling::passes_on), unfolding(crate::specs::Grammar::decode_packet))]
 pub fn decode(alloc: Global, bytes: &[u8]) -> Result<Packet, PacketFault>
-    ensures { Gives result (decode_packet bytes.now) }
+    ensures gives { Gives result (decode_packet bytes.now) }
+    ensures memory { result ≡ Err PacketFault.Memory → IsOfKind bytes.now }
 {
     let mut reader = Reader::new(bytes);
     let packet = packet(alloc, &mut reader)?;

@@ -20,8 +20,9 @@ pub enum Packet {
 }
 
 impl Packet {
-    ghost use Rattle.std.specs.Prelude.{◌≡◌, Ok, IfOk};
+    ghost use Rattle.std.specs.Prelude.{◌≡◌, Ok, Err, IfOk};
     ghost use Rattle.totem_packets.specs.Grammar.{decode_packet};
+    ghost use Rattle.totem_packets.specs.Laws.{IsOfKind};
     ghost use Rattle.totem_packets.specs.Parsing.{Gives};
     ghost use Rattle.totem_packets.specs.Ranges.{IsPacket};
     ghost use Rattle.totem_packets.specs.Spelling.{packet_bytes};
@@ -47,6 +48,8 @@ impl Packet {
         ensures read { (packet : Packet) → IsPacket packet → bytes.now ≡ packet_bytes packet → Gives result (Ok packet) }
         // Each fault is the grammar's, unless memory is refused.
         ensures exact { Gives result (decode_packet bytes.now) }
+        // Bytes of no kind of packet, or none, take no memory.
+        ensures memory { result ≡ Err PacketFault.Memory → IsOfKind bytes.now }
     {
         decode(alloc, bytes)
     }

@@ -1,5 +1,5 @@
 //! The fields of packets, read from left to right.
-ghost use Rattle.std.specs.Prelude.{◌≡◌, ◌≤◌, ◌==◌, length, IfOk};
+ghost use Rattle.std.specs.Prelude.{◌≡◌, ◌≢◌, ◌≤◌, ◌==◌, length, IfOk, IfErr};
 ghost use Rattle.std.specs.Int.{w8, w16, w32, w64};
 ghost use Rattle.totem_packets.specs.Parsing.{Reads};
 ghost use Rattle.totem_packets.specs.Fields.{bytes_at, number_at, above_at, up_to_at, ring_at, payload_at, maybe_at};
@@ -45,6 +45,7 @@ impl<'a> Reader<'a> {
     fn front(&mut self, count: usize) -> Result<&'a [u8], PacketFault>
         ensures reads { Reads (λ x. x.now) result self.new (bytes_at count self.old) }
         ensures len { IfOk result (λ x. length x.now ≡ count) }
+        ensures memory { IfErr result (λ e. e ≢ PacketFault.Memory) }
     {
         let bytes = self.rest;
         if bytes.len() < count {
@@ -57,7 +58,8 @@ impl<'a> Reader<'a> {
 
     #[tactic(auto, using(crate::proofs::Falling::passes_on), unfolding(crate::specs::Fields::number_at))]
     pub fn u8(&mut self) -> Result<u8, PacketFault>
-        ensures { Reads (λ x. x) result self.new (number_at w8 self.old) }
+        ensures reads { Reads (λ x. x) result self.new (number_at w8 self.old) }
+        ensures memory { IfErr result (λ e. e ≢ PacketFault.Memory) }
     {
         let front = self.front(1)?;
         Ok(front[0])
