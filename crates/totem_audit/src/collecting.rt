@@ -7,7 +7,6 @@ ghost use Rattle.totem_audit.specs.Jobs.{IsRight, AreKnown};
 use crate::gate::{Gate, OpenGate};
 use crate::gated::{Done, do_gated};
 use crate::job_result::JobResult;
-use crate::same::same_run;
 use std::alloc::{AllocError, Global};
 use std::mem;
 use totem_agreement::{Findings, Found, Jobs};
@@ -87,7 +86,7 @@ fn take_in(jobs: &Jobs<'_>, known: &mut Vec<Option<Findings>>, done: JobResult<'
     ensures known { AreKnown jobs.now.run.now.logs jobs.now.rings.items known.new.items }
     ensures first { done.entry.logs ≡ jobs.now.run.now.logs → slice_index_or known.old.items (done.entry.job - 1) None ≡ None → known.new.items ≡ slice_set known.old.items (done.entry.job - 1) (Some done.entry.findings) }
 {
-    if !same_run(done.run(), jobs.run) {
+    if !done.run().is(jobs.run) {
         return;
     }
     let index = done.job() as usize - 1;

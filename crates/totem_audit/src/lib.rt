@@ -10,7 +10,6 @@ mod gate;
 mod gated;
 mod job_result;
 mod last_pass;
-mod same;
 mod sharing;
 mod spans;
 mod verdict;
