@@ -80,11 +80,12 @@ pub fn lines_told(alloc: Global, procs: &[u16]) -> Result<String, AllocError> {
     }
 }
 
-/// How many lines a certificate's copy has, in two ways, and the certificate.
+/// How many lines a certificate's copy has, in two ways, whether it is the certificate, and how many that gives back.
 fn taken_certificate(alloc: Global, certificate: Certificate) -> Result<String, AllocError> {
     let copy = certificate.try_clone(alloc)?;
     let counts = (copy.lines.as_slice().len(), copy.as_slice().len());
-    format!(in alloc; "{counts:?} {}", certificate.into_vec().len())
+    let is_copy = certificate.is(&copy);
+    format!(in alloc; "{counts:?} {is_copy} {}", certificate.into_vec().len())
 }
 
 pub fn certificate_told(alloc: Global, procs: &[u16]) -> Result<String, AllocError> {

@@ -1,9 +1,8 @@
 //! Entries, logs, runs and faults: each constructor, each copy, and what is refused.
 use crate::lists::{proc, procs, refusal};
-use crate::values::{push_fault, push_log};
+use crate::values::push_log;
 use std::alloc::{AllocError, Global};
-use std::fmt::Debug;
-use totem_evs::{Entries, Entry, Fault, Log, Logs, Members, Places, Run, SpecNo};
+use totem_evs::{Ending, Entries, Entry, Fault, Log, Logs, Members, Part, Places, Run, SpecNo};
 use totem_ids::{ConfId, MsgId, Place, ProcId, RingId, Service};
 
 fn ring() -> RingId {
@@ -87,17 +86,12 @@ pub fn logs_told(alloc: Global, list: Vec<Log>) -> Result<String, AllocError> {
     }
 }
 
-fn are_shown_alike<T: Debug>(alloc: Global, value: &T, other: &T) -> Result<bool, AllocError> {
-    let shown = format!(in alloc; "{value:?}")?;
-    Ok(shown == format!(in alloc; "{other:?}")?)
-}
-
-/// How many logs a run has, whether its copy is shown alike, and how many it gives back.
+/// How many logs a run has, whether it is its copy, and how many it gives back.
 fn taken_run(alloc: Global, run: Run) -> Result<String, AllocError> {
     let copy = run.try_clone(alloc)?;
-    let alike = are_shown_alike(alloc, &run, &copy)?;
+    let is_copy = run.is(&copy);
     let count = run.logs.as_slice().len();
-    format!(in alloc; "{count} {alike} {}", run.into_logs().len())
+    format!(in alloc; "{count} {is_copy} {}", run.into_logs().len())
 }
 
 pub fn run_told(alloc: Global, list: Vec<Log>) -> Result<String, AllocError> {
@@ -119,22 +113,37 @@ pub fn entries_told(alloc: Global, count: usize) -> Result<String, AllocError> {
     }
 }
 
-/// Tells whether the copies of a change and of a failure are shown alike, and whether they are failures.
+/// Tells of a change and of a failure whether each is its copy, and whether it is a failure.
 pub fn copied_entries_told(alloc: Global) -> Result<String, AllocError> {
     let mut text = String::new(alloc);
     for entry in &entries(alloc, "change fail")? {
-        let alike = are_shown_alike(alloc, entry, &entry.try_clone(alloc)?)?;
-        write!(text, "{alike} {}; ", entry.is_failure())?;
+        let is_copy = entry.is(&entry.try_clone(alloc)?);
+        write!(text, "{is_copy} {}; ", entry.is_failure())?;
     }
     Ok(text)
 }
 
-/// The copy of a fault, and how many places the copy of its places has.
+/// Adds whether a part is its copy.
+fn push_copied_part(alloc: Global, text: &mut String, part: &Part) -> Result<(), AllocError> {
+    let is_copy = part.is(&part.try_clone(alloc)?);
+    write!(text, "{is_copy}; ")
+}
+
+/// Tells of each kind of part whether it is its copy.
+pub fn copied_parts_told(alloc: Global) -> Result<String, AllocError> {
+    let mut text = String::new(alloc);
+    push_copied_part(alloc, &mut text, &Part::Log(proc(2)))?;
+    push_copied_part(alloc, &mut text, &Part::Entry(Entry::Fail(conf())))?;
+    push_copied_part(alloc, &mut text, &Part::Close(Ending::Failed))?;
+    Ok(text)
+}
+
+/// The copy of a fault, whether it is the fault, and how many places the copy of its places has.
 fn push_copied_fault(alloc: Global, text: &mut String, fault: &Fault) -> Result<(), AllocError> {
     let copy = fault.try_clone(alloc)?;
-    push_fault(text, &copy)?;
     let places = copy.places.try_clone(alloc)?;
-    write!(text, ", {}", places.into_vec().len())
+    let is_copy = copy.is(fault);
+    write!(text, "{copy} {is_copy} {}", places.into_vec().len())
 }
 
 pub fn copied_fault_told(alloc: Global) -> Result<String, AllocError> {

@@ -3,13 +3,14 @@ use crate::lists::{
     certificate_told, lines_told, members_told, numbers, numbers_refusal, numbers_told,
 };
 use crate::logs::{
-    copied_entries_told, copied_fault_told, entries_told, logs, logs_told, run_told,
+    copied_entries_told, copied_fault_told, copied_parts_told, entries_told, logs, logs_told,
+    run_told,
 };
 use crate::values::is_told;
 use std::alloc::{AllocError, Global};
 
 /// What is made of a list. Of numbers: the numbers of a line, so many times over, or what their refusal says. Of processes: lines,
-/// a certificate, members, logs, logs that fail, or a run. Without a list: so many entries, or copies of entries and of a fault.
+/// a certificate, members, logs, logs that fail, or a run. Without a list: so many entries, or copies of entries, of parts and of a fault.
 enum What {
     Numbers,
     NumbersRefusal,
@@ -21,6 +22,7 @@ enum What {
     FailedLogs,
     Run,
     CopiedEntries,
+    CopiedParts,
     CopiedFault,
 }
 
@@ -36,6 +38,7 @@ fn told(alloc: Global, what: &What, list: &[u16], times: usize) -> Result<String
         What::FailedLogs => logs_told(alloc, logs(alloc, list, "change send deliver fail")?),
         What::Run => run_told(alloc, logs(alloc, list, "change send deliver")?),
         What::CopiedEntries => copied_entries_told(alloc),
+        What::CopiedParts => copied_parts_told(alloc),
         What::CopiedFault => copied_fault_told(alloc),
     }
 }
@@ -59,7 +62,7 @@ struct Row {
     told: &'static str,
 }
 
-const ROWS: [Row; 27] = [
+const ROWS: [Row; 28] = [
     Row {
         about: "numbers that do not rise",
         what: What::Numbers,
@@ -114,7 +117,7 @@ const ROWS: [Row; 27] = [
         what: What::Certificate,
         list: &FIRST_32,
         times: 1,
-        told: "(32, 32) 32",
+        told: "(32, 32) true 32",
     },
     Row {
         about: "a certificate of 33 lines",
@@ -243,11 +246,18 @@ const ROWS: [Row; 27] = [
         told: "true false; true true; ",
     },
     Row {
+        about: "the beginning of a log, an entry, and the end",
+        what: What::CopiedParts,
+        list: &[],
+        times: 1,
+        told: "true; true; true; ",
+    },
+    Row {
         about: "a fault of 1.3",
         what: What::CopiedFault,
         list: &[],
         times: 1,
-        told: "fault 1.3 2@2, 1",
+        told: "fault 1.3 2@2 true 1",
     },
 ];
 

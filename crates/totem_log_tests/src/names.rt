@@ -2,7 +2,7 @@
 use crate::values::is_told;
 use std::alloc::{AllocError, Global};
 use totem_cert::CertFault;
-use totem_evs::{ListFault, Pending, Refused, RunFault, SpecNo, Waiting};
+use totem_evs::{ListFault, Pending, Refused, RunFault, SpecNo, Waiting, WriteFault};
 use totem_ids::{ConfId, MsgId, ProcId, RingId};
 
 const CERT_FAULTS: [CertFault; 9] = [
@@ -40,6 +40,15 @@ fn run_faults_told(alloc: Global) -> Result<String, AllocError> {
         RunFault::Read,
         RunFault::Memory,
     ];
+    let mut text = String::new(alloc);
+    for fault in &faults {
+        write!(text, "{} {}; ", fault.number(), fault.name())?;
+    }
+    Ok(text)
+}
+
+fn write_faults_told(alloc: Global) -> Result<String, AllocError> {
+    let faults = [WriteFault::Memory, WriteFault::Write];
     let mut text = String::new(alloc);
     for fault in &faults {
         write!(text, "{} {}; ", fault.number(), fault.name())?;
@@ -118,6 +127,11 @@ fn waiting(other: u16) -> Waiting {
     }
 }
 
+/// Tells the lines of a report for what is pending and for who waits.
+fn unsettled_told(alloc: Global) -> Result<String, AllocError> {
+    format!(in alloc; "{}; {}", pending(3, 1), waiting(2))
+}
+
 /// Tells whether what is pending and who waits is ordered first by the process, and then by what stands behind it.
 fn order_told(alloc: Global) -> Result<String, AllocError> {
     let pending = pending(1, 9) < pending(2, 1);
@@ -128,8 +142,10 @@ fn order_told(alloc: Global) -> Result<String, AllocError> {
 enum Topic {
     CertFaults,
     RunFaults,
+    WriteFaults,
     Texts,
     Specifications,
+    Unsettled,
     Order,
 }
 
@@ -137,8 +153,10 @@ fn told(alloc: Global, topic: &Topic) -> Result<String, AllocError> {
     match topic {
         Topic::CertFaults => cert_faults_told(alloc),
         Topic::RunFaults => run_faults_told(alloc),
+        Topic::WriteFaults => write_faults_told(alloc),
         Topic::Texts => texts_told(alloc),
         Topic::Specifications => specifications_told(alloc),
+        Topic::Unsettled => unsettled_told(alloc),
         Topic::Order => order_told(alloc),
     }
 }
@@ -150,7 +168,7 @@ struct Row {
     told: &'static str,
 }
 
-const ROWS: [Row; 5] = [
+const ROWS: [Row; 7] = [
     Row {
         about: "the faults of certificates",
         topic: Topic::CertFaults,
@@ -162,6 +180,11 @@ const ROWS: [Row; 5] = [
         told: "1 Header; 2 Word; 3 Number; 4 Order; 5 Members; 6 End; 7 Truncated; 8 TooMany; 9 MissingLog; 10 Read; 11 Memory; ",
     },
     Row {
+        about: "the faults of writing",
+        topic: Topic::WriteFaults,
+        told: "1 Memory; 2 Write; ",
+    },
+    Row {
         about: "the texts of faults",
         topic: Topic::Texts,
         told: "a line whose process is not above the one before; process 3 has no log; a byte that does not fit; \
@@ -171,6 +194,11 @@ const ROWS: [Row; 5] = [
         about: "specifications have their numbers, and rise",
         topic: Topic::Specifications,
         told: "< 1.1 < 1.3 < 1.4 < 2.2 < 2.3 < 2.4 < 3 < 4 < 5 < 6.1 < 6.3 < 7.1 < 7.2 ",
+    },
+    Row {
+        about: "what is unsettled as a report has it",
+        topic: Topic::Unsettled,
+        told: "pending 3 4.1#1; waiting 1 r4.1 2",
     },
     Row {
         about: "what is unsettled is ordered by process first",

@@ -1,5 +1,5 @@
 //! Positions and closed lists of small runs, with the numbers and faults that docs/SPECIFICATIONS.md gives for them.
-use crate::values::{is_told, push_fault, push_lines};
+use crate::values::{is_told, push_lines};
 use std::alloc::{AllocError, Global};
 use totem_cert::{Order, positions, positions_over};
 use totem_evs::{Run, read_run};
@@ -8,7 +8,7 @@ use totem_ids::FromRead;
 fn push_order(text: &mut String, order: &Order) -> Result<(), AllocError> {
     match order {
         Order::Positions(certificate) => push_lines(text, certificate.as_slice()),
-        Order::Cycle(fault) => push_fault(text, fault),
+        Order::Cycle(fault) => write!(text, "{fault}"),
     }
 }
 

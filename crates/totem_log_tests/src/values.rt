@@ -2,7 +2,7 @@
 use std::alloc::AllocError;
 use std::process::Abort;
 use totem_cert::Line;
-use totem_evs::{Ending, Entry, Fault, Log};
+use totem_evs::{Ending, Log};
 use totem_ids::ProcId;
 
 /// Stops the test if something else was told than was wanted.
@@ -38,36 +38,14 @@ pub fn push_processes(text: &mut String, procs: &[ProcId]) -> Result<(), AllocEr
     Ok(())
 }
 
-fn push_entry(text: &mut String, entry: &Entry) -> Result<(), AllocError> {
-    match entry {
-        Entry::Conf(conf, members) => {
-            write!(text, "conf {conf}")?;
-            push_processes(text, members.as_slice())?;
-        }
-        Entry::Send(message, conf, service) => write!(text, "send {conf} {service} {message}")?,
-        Entry::Deliver(message, conf) => write!(text, "dlv {conf} {message}")?,
-        Entry::Fail(conf) => write!(text, "fail {conf}")?,
-    }
-    text.push_str("; ")
-}
-
 /// Adds a log's process, its entries and how it ends.
 pub fn push_log(text: &mut String, log: &Log) -> Result<(), AllocError> {
     write!(text, "log {}: ", log.proc)?;
     for entry in log.entries.as_slice() {
-        push_entry(text, entry)?;
+        write!(text, "{entry}; ")?;
     }
     text.push_str(match log.ending {
         Ending::Standing => "open. ",
         Ending::Failed => "failed. ",
     })
-}
-
-/// Adds a fault's specification and its places.
-pub fn push_fault(text: &mut String, fault: &Fault) -> Result<(), AllocError> {
-    write!(text, "fault {}", fault.spec)?;
-    for place in fault.places.as_slice() {
-        write!(text, " {place}")?;
-    }
-    Ok(())
 }
