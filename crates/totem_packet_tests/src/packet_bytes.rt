@@ -1,9 +1,8 @@
 //! Packets compared with their bytes, which are written out by hand.
 use crate::packet_sizes;
-use crate::packet_values::{is_shown_alike, ring, set};
+use crate::packet_values::{ring, set};
 use bytes::Bytes;
 use std::alloc::{AllocError, Global};
-use std::fmt::Debug;
 use std::test::Fail;
 use totem_ids::{ProcId, Service};
 use totem_packets::{
@@ -218,39 +217,25 @@ fn is_encoded(alloc: Global, packet: &Packet, bytes: &[u8]) -> Result<bool, Allo
     Ok(packet.encode(alloc)?.as_slice() == bytes)
 }
 
-fn is_decoded(alloc: Global, packet: &Packet, bytes: &[u8]) -> Result<bool, AllocError> {
+fn is_decoded(alloc: Global, packet: &Packet, bytes: &[u8]) -> bool {
     match Packet::decode(alloc, bytes) {
-        Ok(read) => is_shown_alike(alloc, packet, &read),
-        Err(_) => Ok(false),
+        Ok(read) => packet.is(&read),
+        Err(_) => false,
     }
 }
 
-/// Whether a copy is shown as what it was made of.
-fn is_copy<T: Debug + Drop>(
-    alloc: Global,
-    value: &T,
-    copy: Result<T, AllocError>,
-) -> Result<bool, AllocError> {
-    match copy {
-        Ok(copy) => is_shown_alike(alloc, value, &copy),
-        Err(fault) => Err(fault),
-    }
-}
-
-fn is_message_copied(alloc: Global, message: &Message) -> Result<bool, AllocError> {
-    if is_copy(alloc, &message.body, message.body.try_clone())? {
-        return is_copy(alloc, message, message.try_clone());
-    }
-    Ok(false)
+fn is_message_copied(message: &Message) -> Result<bool, AllocError> {
+    let body = message.body.try_clone()?;
+    Ok(message.body.is(&body) && message.is(&message.try_clone()?))
 }
 
 fn is_member_copied(alloc: Global, member: &CommitMember) -> Result<bool, AllocError> {
     if let Some(report) = &member.report {
-        if !is_copy(alloc, report, report.try_clone(alloc))? {
+        if !report.is(&report.try_clone(alloc)?) {
             return Ok(false);
         }
     }
-    is_copy(alloc, member, member.try_clone(alloc))
+    Ok(member.is(&member.try_clone(alloc)?))
 }
 
 fn is_commit_token_copied(alloc: Global, token: &CommitToken) -> Result<bool, AllocError> {
@@ -259,15 +244,15 @@ fn is_commit_token_copied(alloc: Global, token: &CommitToken) -> Result<bool, Al
             return Ok(false);
         }
     }
-    is_copy(alloc, token, token.try_clone(alloc))
+    Ok(token.is(&token.try_clone(alloc)?))
 }
 
 /// Whether the copy of what the packet carries, and of each of its parts, is equal to it.
 fn is_part_copied(alloc: Global, packet: &Packet) -> Result<bool, AllocError> {
     match packet {
-        Packet::Message(message) => is_message_copied(alloc, message),
-        Packet::Token(token) => is_copy(alloc, token, token.try_clone(alloc)),
-        Packet::Join(join) => is_copy(alloc, join, join.try_clone(alloc)),
+        Packet::Message(message) => is_message_copied(message),
+        Packet::Token(token) => Ok(token.is(&token.try_clone(alloc)?)),
+        Packet::Join(join) => Ok(join.is(&join.try_clone(alloc)?)),
         Packet::Commit(token) => is_commit_token_copied(alloc, token),
     }
 }
@@ -280,8 +265,8 @@ const ALL_HOLDS: &str =
 /// each proper beginning of the bytes is Short, and whether the bytes with one more are Trailing.
 pub(crate) fn told_of_bytes(alloc: Global, packet: &Packet, bytes: &[u8]) -> Result<String, Fail> {
     let is_encoded = is_encoded(alloc, packet, bytes)?;
-    let is_decoded = is_decoded(alloc, packet, bytes)?;
-    let is_copied = is_copy(alloc, packet, packet.try_clone(alloc))?;
+    let is_decoded = is_decoded(alloc, packet, bytes);
+    let is_copied = packet.is(&packet.try_clone(alloc)?);
     let in_parts = is_part_copied(alloc, packet)?;
     let is_short = is_short_before(alloc, bytes);
     let is_trailing = is_trailing_behind(alloc, bytes)?;

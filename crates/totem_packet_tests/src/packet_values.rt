@@ -1,6 +1,5 @@
 //! What several modules of tests need.
 use std::alloc::{AllocError, Global};
-use std::fmt::Debug;
 use totem_ids::{ProcId, RingId};
 use totem_packets::{Processes, SetFault};
 
@@ -82,10 +81,4 @@ pub fn push_made(
         Ok(processes) => push_procs(alloc, text, processes.as_slice()),
         Err(fault) => push(text, format!(in alloc; " {fault}")),
     }
-}
-
-/// Returns whether both values are shown by the same text.
-pub fn is_shown_alike<T: Debug>(alloc: Global, value: &T, other: &T) -> Result<bool, AllocError> {
-    let shown = format!(in alloc; "{value:?}")?;
-    Ok(shown == format!(in alloc; "{other:?}")?)
 }
