@@ -2,9 +2,6 @@
 ghost use Rattle.std.specs.Prelude.{◌≡◌, ◌↔◌, IsTrue};
 
 mod events;
-mod joining;
-mod messages;
-mod names;
 mod packets;
 mod steps;
 
@@ -27,16 +24,6 @@ pub fn same_items<T: Same>(these: &[T], those: &[T]) -> bool
         }
     }
     true
-}
-
-impl<T: Same> Same for Option<T> {
-    fn same(&self, other: &Option<T>) -> bool {
-        match (self, other) {
-            (Some(this), Some(that)) => this.same(that),
-            (None, None) => true,
-            _ => false,
-        }
-    }
 }
 
 impl<A: Same, B: Same> Same for (A, B) {

@@ -26,7 +26,6 @@ pub use call::{Call, Stub};
 pub use close::CloseRefused;
 pub use close_fault::CloseFault;
 pub use closed::ClosedBook;
-pub use comparing::Same;
 pub use name::BookName;
 pub use reply::Reply;
 pub use seat::Seat;

@@ -3,7 +3,6 @@ ghost use Rattle.std.specs.Prelude.{◌≡◌, ◌↔◌, IsTrue, IfOk, All, len
 ghost use Rattle.totem_books.specs.Receipts.{Fits, FitRising, receipts_in, Agree, Covers};
 
 use crate::call::{Call, Stub};
-use crate::comparing::Same;
 use crate::marks::{mark_seats, no_marks};
 use crate::name::BookName;
 use crate::seat::Seat;

@@ -5,7 +5,6 @@ ghost use Rattle.std.specs.BTreeMap.{get, Updates};
 
 use std::alloc::{AllocError, Global};
 use std::collections::BTreeMap;
-use totem_books::Same;
 use totem_packets::{Message, Packet, Token};
 use totem_ring::{Act, To};
 
@@ -49,7 +48,7 @@ impl Sent {
     {
         match self.messages.get(&message.number.get()) {
             None => false,
-            Some(sent) => sent.same(message),
+            Some(sent) => sent.is(message),
         }
     }
 
@@ -58,7 +57,7 @@ impl Sent {
     {
         match self.tokens.get(&token.token_seq.get()) {
             None => false,
-            Some(sent) => sent.same(token),
+            Some(sent) => sent.is(token),
         }
     }
 

@@ -1,14 +1,15 @@
 //! Compares what goes into a node's step, and what a node does on a ring.
 use crate::comparing::Same;
+use bytes::Bytes;
 use totem_node::{Input, NodeFault, RingStep};
 use totem_ring::Act;
 
 impl Same for Act {
     fn same(&self, other: &Act) -> bool {
         match (self, other) {
-            (Act::Submit(this), Act::Submit(that)) => this.same(that),
-            (Act::Message(this), Act::Message(that)) => this.same(that),
-            (Act::Token(this), Act::Token(that)) => this.same(that),
+            (Act::Submit(this), Act::Submit(that)) => this.is(that),
+            (Act::Message(this), Act::Message(that)) => this.is(that),
+            (Act::Token(this), Act::Token(that)) => this.is(that),
             (Act::Resend, Act::Resend) => true,
             _ => false,
         }
@@ -27,6 +28,12 @@ impl Same for NodeFault {
     }
 }
 
+impl Same for Bytes {
+    fn same(&self, other: &Bytes) -> bool {
+        self.as_slice() == other.as_slice()
+    }
+}
+
 impl Same for Input {
     fn same(&self, other: &Input) -> bool {
         match (self, other) {
@@ -37,7 +44,7 @@ impl Same for Input {
                     payload: bytes,
                 },
             ) => *service == *kind && payload.same(bytes),
-            (Input::Packet(this), Input::Packet(that)) => this.same(that),
+            (Input::Packet(this), Input::Packet(that)) => this.is(that),
             (Input::Timer, Input::Timer) => true,
             (Input::Crash, Input::Crash) => true,
             _ => false,
