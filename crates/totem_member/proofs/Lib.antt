@@ -1,3 +1,4 @@
 pub mod FilledMembers
 pub mod Within
 pub mod GatherFacts
+pub mod Ways

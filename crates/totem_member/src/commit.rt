@@ -1,66 +1,19 @@
 //! The commit token: how it is made, filled in and taken.
-ghost use Rattle.std.specs.Prelude.{◌≡◌, ◌<◌, IfOk, IsTrue, is_some, map, length};
+ghost use Rattle.std.specs.Prelude.{◌≡◌, ◌<◌, IfOk, IsTrue, map, length};
 ghost use Rattle.totem_packets.specs.Sets.{has};
-ghost use Rattle.totem_member.specs.Commits.{first_commit, on_commit, report_of, same_report, is_report, is_filled_ring, filled_by, may_fill, may_enter, may_start, unfilled, entering};
+ghost use Rattle.totem_member.specs.Commits.{first_commit, on_commit, filled_by, unfilled};
+ghost use Rattle.totem_member.specs.Shown.{passed_on};
 ghost use Rattle.totem_member.specs.Steps.{IsAnswer};
 
 use crate::fault::MemberFault;
-use crate::views::{Act, CommitOut, CommitView, Phase};
+use crate::shown::{Shown, commit_act};
+use crate::views::{Act, CommitOut, CommitView};
 use std::alloc::{AllocError, Global};
 use totem_ids::{ProcId, RingId};
 use totem_packets::{CommitMember, CommitMembers, CommitToken, Processes, Report, Round};
 
-/// How many processes an obligation union may have at most.
-const MOST: usize = 32;
-
 /// How far the number of a new ring is above the greatest ring number that its maker knows.
 const STEP: u32 = 4;
-
-fn same_report(a: &Report, b: &Report) -> bool
-    ensures { result ≡ same_report a.now b.now }
-{
-    a.ring.seq == b.ring.seq
-        && a.ring.rep == b.ring.rep
-        && a.aru == b.aru
-        && a.delivered == b.delivered
-        && a.obligation.is(&b.obligation)
-}
-
-/// Returns whether this process has reported.
-fn has_reported(members: &[CommitMember], proc: ProcId) -> bool
-    ensures { result ≡ is_some (report_of members.now proc) }
-{
-    for member in members {
-        if member.proc == proc {
-            return member.report.is_some();
-        }
-    }
-    false
-}
-
-/// Returns whether this process has reported exactly this.
-fn has_reported_this(members: &[CommitMember], proc: ProcId, report: &Report) -> bool
-    ensures { result ≡ is_report (report_of members.now proc) report.now }
-{
-    for member in members {
-        if member.proc == proc {
-            return match &member.report {
-                None => false,
-                Some(reported) => same_report(reported, report),
-            };
-        }
-    }
-    false
-}
-
-fn is_filled_ring(filled: &Option<RingId>, ring: &RingId) -> bool
-    ensures { result ≡ is_filled_ring filled.now ring.now }
-{
-    match filled {
-        None => false,
-        Some(own) => own.seq == ring.seq && own.rep == ring.rep,
-    }
-}
 
 /// Returns the members with the report of `proc` filled in.
 fn filled(
@@ -129,58 +82,34 @@ pub fn first_commit(
     })
 }
 
-fn may_fill(token: &CommitToken, view: &CommitView) -> bool
-    ensures { result ≡ may_fill token.now view.now }
+/// Returns the token as it goes on when it is taken in this way.
+fn passed_on(
+    alloc: Global,
+    token: &CommitToken,
+    me: ProcId,
+    report: &Report,
+    act: Act,
+) -> Result<CommitToken, AllocError>
+    ensures { IfOk result (λ t. t ≡ passed_on token.now me report.now act) }
 {
-    token.round == Round::First
-        && !has_reported(token.members.as_slice(), view.me)
-        && view.seq.get() < token.ring.seq
-}
-
-fn may_enter(token: &CommitToken, view: &CommitView, report: &Report) -> bool
-    ensures { result ≡ may_enter token.now view.now report.now }
-{
-    let round = if view.members.is_least(view.me) {
-        Round::First
-    } else {
-        Round::Second
-    };
-    is_filled_ring(&view.filled, &token.ring)
-        && view.phase == Phase::Commit
-        && token.members.is_filled()
-        && has_reported_this(token.members.as_slice(), view.me, report)
-        && token.round == round
-}
-
-fn may_start(token: &CommitToken, view: &CommitView) -> bool
-    ensures { result ≡ may_start token.now view.now }
-{
-    view.members.is_least(view.me)
-        && is_filled_ring(&view.filled, &token.ring)
-        && view.phase == Phase::Recovery
-        && token.round == Round::Second
-        && !view.started
-}
-
-/// Begins the recovery and passes the token on in its second round. `Range` if the obligation union has more than 32 processes.
-fn entering(alloc: Global, token: &CommitToken, report: &Report) -> Result<CommitOut, MemberFault>
-    ensures { IsAnswer result (entering token.now report.now) }
-{
-    if token.members.obligation_len(&report.ring) > MOST {
-        return Err(MemberFault::Range);
-    }
-    Ok(CommitOut {
-        act: Act::Entered,
-        token: CommitToken {
+    match act {
+        Act::Filled => Ok(CommitToken {
+            ring: token.ring,
+            round: token.round,
+            members: filled(alloc, &token.members, me, report)?,
+        }),
+        Act::Entered => Ok(CommitToken {
             ring: token.ring,
             round: Round::Second,
             members: token.members.try_clone(alloc)?,
-        },
-    })
+        }),
+        Act::Started => token.try_clone(alloc),
+    }
 }
 
 /// Takes a commit token in one of three ways, or refuses it (docs/PROTOCOL.md, "The commit token"). `report` is what
 /// the member would report now.
+#[tactic(auto, using(crate::proofs::Ways::answer, crate::proofs::Ways::refused, crate::proofs::Ways::grown))]
 pub fn on_commit(
     alloc: Global,
     token: &CommitToken,
@@ -189,27 +118,8 @@ pub fn on_commit(
 ) -> Result<CommitOut, MemberFault>
     ensures { IsAnswer result (on_commit token.now view.now report) }
 {
-    if !token.members.are(&view.members) {
-        return Err(MemberFault::Stale);
-    }
-    if may_fill(token, view) {
-        return Ok(CommitOut {
-            act: Act::Filled,
-            token: CommitToken {
-                ring: token.ring,
-                round: token.round,
-                members: filled(alloc, &token.members, view.me, &report)?,
-            },
-        });
-    }
-    if may_enter(token, view, &report) {
-        return entering(alloc, token, &report);
-    }
-    if may_start(token, view) {
-        return Ok(CommitOut {
-            act: Act::Started,
-            token: token.try_clone(alloc)?,
-        });
-    }
-    Err(MemberFault::Stale)
+    let nobody = Processes::none(alloc);
+    let act = commit_act(token, &Shown::of(view, &nobody, &report))?;
+    let token = passed_on(alloc, token, view.me, &report, act)?;
+    Ok(CommitOut { act, token })
 }

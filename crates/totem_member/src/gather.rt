@@ -188,7 +188,8 @@ impl Gather {
         Ok(None)
     }
 
-    fn is_stranger(&self, join: &Join) -> bool
+    /// Returns whether this Join would be refused, since its sender can't be gathered with. Takes no memory.
+    pub fn is_stranger(&self, join: &Join) -> bool
         ensures { result ≡ is_stranger self.now join.now }
     {
         join.sender == self.me

@@ -1,5 +1,5 @@
 -- Unions are no shorter than their parts.
-use Rattle.std.proofs.Common.{◌≡◌, ℕ, ◌+◌, ◌<◌, ◌≤◌, List, [], ◌∷◌, length, get_or, drop, Ok, Err, refl, sym, ◌∙◌, ap, subst, arith, ⊎_elim}
+use Rattle.std.proofs.Common.{◌≡◌, ℕ, ◌+◌, ◌<◌, ◌≤◌, List, [], ◌∷◌, length, get_or, drop, Err, sym, ◌∙◌, ap, subst, arith, ⊎_elim}
 use Rattle.std.proofs.lemmas.Bool.{cases_order, cases_Bool, lt-ltb, cond-true}
 use Rattle.std.proofs.lemmas.List.{drop_more}
 use Rattle.totem_packets.specs.Rising.{IsProcesses}
@@ -8,7 +8,6 @@ use Rattle.totem_packets.specs.declared.set_fault.SetFault.TheVariants.{TooMany,
 use Rattle.totem_packets.specs.Sets.{has, with_process, union, Makes}
 use Rattle.totem_packets.proofs.SetFacts.{Up, up_of, up_with, with_same, with_before, with_behind, length_with_had, length_with_new}
 use Rattle.totem_node.specs.declared.fault.NodeFault.{NodeFault}
-use Rattle.totem_node.specs.declared.fault.NodeFault.TheVariants as node_fault
 use Rattle.totem_node.specs.Faults.{of_set}
 use Rattle.totem_node.specs.Nodes.{Node, committed_to}
 use Rattle.totem_node.specs.Outcomes.{Fails}

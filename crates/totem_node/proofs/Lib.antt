@@ -5,3 +5,5 @@ pub mod Gathered
 pub mod Entering
 pub mod Refusing
 pub mod Rooms
+pub mod Crowding
+pub mod Foretelling

@@ -1,5 +1,5 @@
 -- What refuses a token at once refuses its visit.
-use Rattle.std.proofs.Common.{◌≡◌, List, Option, None, Some, Ok, Err, IfSome, refl, ap, ◌∙◌}
+use Rattle.std.proofs.Common.{◌≡◌, List, Some, Ok, Err, ap}
 use Rattle.totem_packets.specs.declared.message.Body.{Body}
 use Rattle.totem_packets.specs.declared.token.Token.{Token}
 use Rattle.totem_ring.specs.declared.fault.RingFault.{RingFault}
@@ -7,10 +7,8 @@ use Rattle.totem_ring.specs.Rings.{Ring}
 use Rattle.totem_ring.specs.Refusals.{refusal_at_once}
 use Rattle.totem_ring.specs.Steps.{given, on_token, after_token, unless_refused}
 use Rattle.totem_ring.proofs.AtOnce.{refused_at_once}
-use Rattle.totem_node.specs.declared.fault.NodeFault.{NodeFault}
 use Rattle.totem_node.specs.Faults.{of_ring}
-use Rattle.totem_node.specs.Outcomes.{Outcome, ◌>>=◌, by_ring}
-use Rattle.totem_node.specs.Nodes.{Told}
+use Rattle.totem_node.specs.Outcomes.{◌>>=◌, by_ring}
 use Rattle.totem_node.specs.Visiting.{telling_visit, visit_told}
 
 pub token_refused : (ring : Ring) (bodies : List Body) (t : Token) (fault : RingFault) → refusal_at_once ring t ≡ Some fault
@@ -21,9 +19,3 @@ token_refused ring bodies t fault is =
 pub visit_refused : (ring : Ring) (bodies : List Body) (t : Token) (fault : RingFault) → refusal_at_once ring t ≡ Some fault
     → visit_told ring bodies t ≡ Err (of_ring fault)
 visit_refused ring bodies t fault is = ap (λ r. by_ring r >>= (λ done. Ok (telling_visit ring bodies t done))) (token_refused ring bodies t fault is)
-
--- what refuses a part at once refuses the whole, of whatever kind
-pub of_part : (A B : Type 0) (fault : NodeFault) (refused : Option NodeFault) → IfSome refused (λ f. ◌≡◌ {A = Outcome A} (Err fault) (Err f))
-    → IfSome refused (λ f. ◌≡◌ {A = Outcome B} (Err fault) (Err f))
-of_part A B fault None is = tt
-of_part A B fault (Some f) is = let same : fault ≡ f = cc in ap (λ x. Err x) same

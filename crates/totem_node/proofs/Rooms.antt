@@ -1,16 +1,12 @@
 -- The room of Recovery, for which the recovery is taken out of the state.
-use Rattle.std.proofs.Common.{◌≡◌, Bool, true, Option, None, Some, Ok, Err, IfSome, refl, sym, ap, ◌∙◌, subst}
+use Rattle.std.proofs.Common.{◌≡◌, true, sym, ap, ◌∙◌, subst}
 use Rattle.totem_packets.specs.declared.token.Token.{Token}
-use Rattle.totem_ring.specs.declared.fault.RingFault.{RingFault}
 use Rattle.totem_ring.specs.Rings.{first_token}
-use Rattle.totem_ring.specs.Refusals.{refusal_at_once}
 use Rattle.totem_node.specs.declared.outcome.StepOut.{StepOut}
-use Rattle.totem_node.specs.Faults.{of_ring}
 use Rattle.totem_node.specs.Outcomes.{Outcome}
-use Rattle.totem_node.specs.Nodes.{Node, State, Operational, InRecovery, Recovering, Stepped, recovering_as}
+use Rattle.totem_node.specs.Nodes.{Node, Operational, InRecovery, Recovering, Stepped, recovering_as}
 use Rattle.totem_node.specs.Visiting.{visit_new}
 use Rattle.totem_node.specs.Table.{on_token, starting}
-use Rattle.totem_node.specs.Lean.{of_its_ring, token_refused_at_once}
 use Rattle.totem_node.specs.Answers.{IsStep}
 
 -- put back, it makes the node that was there
@@ -33,12 +29,3 @@ pub start_recovering : (n taken new : Node) (x : Recovering) (answer : Outcome S
 start_recovering n taken new x answer t is out first step =
     subst (λ s. IsStep n new answer (starting n s)) (sym is)
     (subst (λ u. IsStep n new answer (visit_new n (record x { started = true }) u)) first (step_so n taken new x answer (λ m. visit_new m (record x { started = true }) t) is out step))
-
-of_its : (o : Option RingFault) (answer : Outcome StepOut) → IfSome o (λ fault. answer ≡ Err (of_ring fault)) → IfSome (of_its_ring o) (λ fault. answer ≡ Err fault)
-of_its None answer h = h
-of_its (Some fault) answer h = h
-
-pub at_once_recovering : (n : Node) (x : Recovering) (answer : Outcome StepOut) (t : Token) → n.state ≡ InRecovery x
-    → IfSome (refusal_at_once x.ring t) (λ fault. answer ≡ Err (of_ring fault)) → IfSome (token_refused_at_once n t n.state) (λ fault. answer ≡ Err fault)
-at_once_recovering n x answer t is h =
-    subst (λ s. IfSome (token_refused_at_once n t s) (λ fault. answer ≡ Err fault)) (sym is) (of_its (refusal_at_once x.ring t) answer h)

@@ -1,15 +1,11 @@
 -- How a step's answer follows from those of its parts.
-use Rattle.std.proofs.Common.{◌≡◌, ◌≢◌, ◌++◌, List, [], ◌∷◌, Result, Ok, Err, refl, sym, ap, ◌∙◌, subst}
-use Rattle.totem_ring.specs.Rings.{Ring}
+use Rattle.std.proofs.Common.{◌≡◌, List, [], ◌∷◌, Result, Ok, Err, sym, ap, ◌∙◌, subst}
 use Rattle.totem_member.specs.declared.fault.MemberFault.{MemberFault}
 use Rattle.totem_member.specs.declared.views.GatherOut.{GatherOut}
 use Rattle.totem_member.specs.Gathers.{Gather, Gathered, on_timeout}
-use Rattle.totem_node.specs.declared.fault.NodeFault.{NodeFault}
 use Rattle.totem_node.specs.declared.fault.NodeFault.TheVariants.{Memory}
-use Rattle.totem_node.specs.declared.outcome.StepOut.{StepOut}
-use Rattle.totem_node.specs.Outcomes.{Outcome, ◌>>=◌, IsRefused, Fails, Gives}
-use Rattle.totem_node.specs.Nodes.{Node, Stepped, Told, on_its_ring}
-use Rattle.totem_node.specs.Answers.{IsStep, IsTold}
+use Rattle.totem_node.specs.Outcomes.{Outcome}
+use Rattle.totem_node.specs.Nodes.{Node, Stepped}
 use Rattle.totem_node.specs.Gathering.{join_broadcast, look_at_consensus}
 use Rattle.totem_node.specs.Table.{late}
 use Rattle.totem_node.specs.Turns.{IsTurn}

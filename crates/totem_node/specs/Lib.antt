@@ -7,7 +7,8 @@ pub mod Visits
 pub mod Table
 pub mod Answers
 pub mod Turns
-pub mod Lean
+pub mod Refusals
 pub mod NewVisits
 pub mod Sizes
 pub mod Replay
+pub mod Crowds

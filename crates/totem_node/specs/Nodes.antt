@@ -1,5 +1,5 @@
 -- A node: which state it is in, and what it keeps through all of them (docs/PROTOCOL.md, "The node").
-use Rattle.std.specs.Prelude.{ℕ, List, [], Bool, true, false, is_some, max, Option, None, Ok, Err}
+use Rattle.std.specs.Prelude.{ℕ, List, [], Bool, false, is_some, max, Option, None, Ok, Err}
 use Rattle.totem_ids.specs.Names.{RingName}
 use Rattle.totem_ids.specs.declared.conf.ConfId.{ConfId}
 use Rattle.totem_ids.specs.declared.conf.ConfId.TheVariants.{Regular}

@@ -13,7 +13,7 @@ use Rattle.totem_evs.specs.declared.entry.Entry.TheVariants.{Send}
 use Rattle.totem_ring.specs.declared.fault.RingFault.{RingFault}
 use Rattle.totem_ring.specs.declared.moves.Act.TheVariants.{Submit as DoesSubmit, Message as GetsMessage, Token as GetsToken, Resend as DoesResend}
 use Rattle.totem_ring.specs.Rings.{Ring}
-use Rattle.totem_ring.specs.Visits.{Sending, numbered}
+use Rattle.totem_ring.specs.Visits.{numbered}
 use Rattle.totem_ring.specs.Steps.{Done, given, on_message, on_token, on_resend, adopt}
 use Rattle.totem_recover.specs.Exchange.{Leaving, next_bodies, on_ring, is_done, last_mark}
 use Rattle.totem_recover.specs.Finish.{deliveries, finish}

@@ -1,7 +1,7 @@
 //! What a client asks for, and the crash.
 ghost use Rattle.std.specs.Prelude.{◌≡◌, Ok, Err, IfSome};
 ghost use Rattle.totem_node.specs.Table.{on_submit, on_crash};
-ghost use Rattle.totem_node.specs.Lean.{submit_refused_at_once};
+ghost use Rattle.totem_node.specs.Refusals.{submit_refused};
 ghost use Rattle.totem_node.specs.Answers.{IsStep};
 
 use crate::fault::NodeFault;
@@ -18,6 +18,19 @@ use totem_ring::MOST_WAITING;
 const LONGEST: usize = 1024;
 
 impl NodeCore {
+    /// Returns why a client's message is refused: its payload is too long, or 16 messages wait.
+    pub(crate) fn submit_refused(&self, payload: &Bytes) -> Option<NodeFault>
+        ensures { result ≡ submit_refused self.now payload.now }
+    {
+        if payload.len() > LONGEST {
+            return Some(NodeFault::Range);
+        }
+        if self.waiting.len() >= MOST_WAITING {
+            return Some(NodeFault::Full);
+        }
+        None
+    }
+
     /// Lets a client's message wait for the next visit. `Range` if its payload is too long, `Full` if 16 messages wait.
     pub(crate) fn on_submit(
         &mut self,
@@ -25,14 +38,10 @@ impl NodeCore {
         service: Service,
         payload: Bytes,
     ) -> Result<StepOut, NodeFault>
-        ensures step { IsStep self.old self.new result (on_submit self.old service payload) }
-        ensures at_once { IfSome (submit_refused_at_once self.old payload) (λ fault. result ≡ Err fault) }
+        ensures { IsStep self.old self.new result (on_submit self.old service payload) }
     {
-        if payload.len() > LONGEST {
-            return Err(NodeFault::Range);
-        }
-        if self.waiting.len() >= MOST_WAITING {
-            return Err(NodeFault::Full);
+        if let Some(fault) = self.submit_refused(&payload) {
+            return Err(fault);
         }
         self.waiting.push(Body::App {
             service,

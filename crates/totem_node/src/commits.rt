@@ -4,7 +4,6 @@ ghost use Rattle.totem_packets.specs.declared.packet.Packet.TheVariants as packe
 ghost use Rattle.totem_recover.specs.Exchange.{IsReady};
 ghost use Rattle.totem_node.specs.Outcomes.{Fails};
 ghost use Rattle.totem_node.specs.Table.{filling, recovering, entering, commit_taken, on_packet};
-ghost use Rattle.totem_node.specs.Lean.{commit_refused_at_once};
 ghost use Rattle.totem_node.specs.Turns.{IsTurn, IsCommitTurn, Makes};
 
 use crate::fault::NodeFault;
@@ -110,8 +109,7 @@ impl NodeCore {
         alloc: Global,
         token: &CommitToken,
     ) -> Result<Option<Turn>, NodeFault>
-        ensures turn { IsCommitTurn result self.now (on_packet self.now (packet.Commit token.now)) }
-        ensures at_once { IfSome (commit_refused_at_once self.now.state) (λ fault. result ≡ Err fault) }
+        ensures { IsCommitTurn result self.now (on_packet self.now (packet.Commit token.now)) }
     {
         match &self.state {
             State::Operational => Err(NodeFault::Stale),

@@ -4,7 +4,6 @@ ghost use Rattle.totem_packets.specs.declared.packet.Packet.TheVariants as packe
 ghost use Rattle.totem_packets.specs.Sets.{has, is_within};
 ghost use Rattle.totem_member.specs.Gathers.{gathered};
 ghost use Rattle.totem_node.specs.Table.{is_late, says_nothing_new, join_in_gather, join_in_commit, on_join_in, on_packet};
-ghost use Rattle.totem_node.specs.Lean.{refused_as_known, join_refused_at_once};
 ghost use Rattle.totem_node.specs.Turns.{IsTurn};
 
 use crate::fault::NodeFault;
@@ -41,7 +40,7 @@ fn is_known(gather: &Gather, join: &Join) -> bool
 
 /// Returns whether the Join says nothing new: its sender is in M, its sets are within those of the gathering, and its
 /// number is not above the gathering's.
-fn says_nothing_new(gather: &Gather, join: &Join) -> bool
+pub(crate) fn says_nothing_new(gather: &Gather, join: &Join) -> bool
     ensures { result ≡ says_nothing_new gather.now join.now }
 {
     is_gathered(gather, join.sender)
@@ -51,7 +50,7 @@ fn says_nothing_new(gather: &Gather, join: &Join) -> bool
 
 impl NodeCore {
     /// Returns whether the Join was sent before its sender entered the installed ring.
-    fn is_late(&self, join: &Join) -> bool
+    pub(crate) fn is_late(&self, join: &Join) -> bool
         ensures { result ≡ is_late self.now join.now }
     {
         join.sender != self.me
@@ -74,8 +73,7 @@ impl NodeCore {
 
     /// Takes a Join in Commit or Recovery.
     fn join_in_commit(&self, alloc: Global, gather: &Gather, join: &Join) -> Result<Turn, NodeFault>
-        ensures turn { IsTurn result self.now (join_in_commit self.now gather.now join.now) }
-        ensures at_once { IfSome (refused_as_known gather.now join.now) (λ fault. result ≡ Err fault) }
+        ensures { IsTurn result self.now (join_in_commit self.now gather.now join.now) }
     {
         if says_nothing_new(gather, join) {
             return Err(NodeFault::Stale);
@@ -85,8 +83,7 @@ impl NodeCore {
 
     /// Takes a Join that has come, and returns the turn that comes of it.
     pub(crate) fn on_join(&self, alloc: Global, join: &Join) -> Result<Turn, NodeFault>
-        ensures turn { IsTurn result self.now (on_packet self.now (packet.Join join.now)) }
-        ensures at_once { IfSome (join_refused_at_once self.now join.now) (λ fault. result ≡ Err fault) }
+        ensures { IsTurn result self.now (on_packet self.now (packet.Join join.now)) }
     {
         if self.is_late(join) {
             return Err(NodeFault::Stale);

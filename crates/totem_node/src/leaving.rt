@@ -143,8 +143,7 @@ fn take_visit(
     ring: &mut RingState,
     token: &Token,
 ) -> Result<NewVisit, NodeFault>
-    ensures visit { IsNewVisit result recovery.now installed.now ring.old ring.new token.now }
-    ensures at_once { IfSome (refusal_at_once ring.old token.now) (λ fault. result ≡ Err (of_ring fault)) }
+    ensures { IsNewVisit result recovery.now installed.now ring.old ring.new token.now }
 {
     if let Some(fault) = ring.token_refusal_at_once(token) {
         return Err(fault.into());
@@ -224,8 +223,7 @@ impl NodeCore {
         started: bool,
         token: &Token,
     ) -> Result<StepOut, NodeFault>
-        ensures step { IsStep (recovering_as self.old x) self.new result (visit_new (recovering_as self.old x) (starting_as x started) token.now) }
-        ensures at_once { IfSome (refusal_at_once x.ring token.now) (λ fault. result ≡ Err (of_ring fault)) }
+        ensures { IsStep (recovering_as self.old x) self.new result (visit_new (recovering_as self.old x) (starting_as x started) token.now) }
     {
         match take_visit(alloc, &x.recovery, &self.installed, &mut x.ring, token) {
             Ok(visit) => Ok(self.note_visit(alloc, x, started, visit)),

@@ -3,6 +3,7 @@
 
 mod clients;
 mod commits;
+mod crowd;
 mod fault;
 mod gathering;
 mod input;
@@ -12,6 +13,7 @@ mod messages;
 mod node_core;
 mod outcome;
 mod recovering;
+mod refusal;
 mod reporting;
 mod ring_step;
 mod state;

@@ -5,7 +5,6 @@ ghost use Rattle.totem_recover.specs.Finish.{deliveries};
 ghost use Rattle.totem_node.specs.Nodes.{recovering_as};
 ghost use Rattle.totem_node.specs.Visiting.{message_steps, message_told, message_on_installed};
 ghost use Rattle.totem_node.specs.Table.{message_in_operational, message_in_gather, message_in_recovery, on_message};
-ghost use Rattle.totem_node.specs.Lean.{refused_by, refused_in_operational, refused_in_gather, refused_in_recovery, message_refused_at_once};
 ghost use Rattle.totem_node.specs.Answers.{IsTold, IsStep};
 
 use crate::fault::NodeFault;
@@ -39,8 +38,7 @@ pub fn tell(
 
 /// Lets a ring take a message that has come.
 fn take_message(alloc: Global, ring: &mut RingState, message: Message) -> Result<StepOut, NodeFault>
-    ensures told { IsTold ring.old ring.new result (message_told ring.old message) }
-    ensures at_once { IfSome (refused_by ring.old message) (λ fault. result ≡ Err fault) }
+    ensures { IsTold ring.old ring.new result (message_told ring.old message) }
 {
     let (out, undo) = ring.take_message(alloc, &message)?;
     match tell(alloc, ring, message, out) {
@@ -59,8 +57,7 @@ impl NodeCore {
         alloc: Global,
         message: Message,
     ) -> Result<StepOut, NodeFault>
-        ensures step { IsStep self.old self.new result (message_on_installed self.old message) }
-        ensures at_once { IfSome (refused_by self.old.installed message) (λ fault. result ≡ Err fault) }
+        ensures { IsStep self.old self.new result (message_on_installed self.old message) }
     {
         take_message(alloc, &mut self.installed, message)
     }
@@ -71,8 +68,7 @@ impl NodeCore {
         alloc: Global,
         message: Message,
     ) -> Result<StepOut, NodeFault>
-        ensures step { IsStep self.old self.new result (message_in_operational self.old message) }
-        ensures at_once { IfSome (refused_in_operational self.old message) (λ fault. result ≡ Err fault) }
+        ensures { IsStep self.old self.new result (message_in_operational self.old message) }
     {
         if is_same_ring(message.ring, self.installed.ring()) {
             return self.message_on_installed(alloc, message);
@@ -86,8 +82,7 @@ impl NodeCore {
 
     /// Takes a message in Gather: one of the installed ring, as long as the node has not made or filled a commit token.
     fn message_in_gather(&mut self, alloc: Global, message: Message) -> Result<StepOut, NodeFault>
-        ensures step { IsStep self.old self.new result (message_in_gather self.old message) }
-        ensures at_once { IfSome (refused_in_gather self.old message) (λ fault. result ≡ Err fault) }
+        ensures { IsStep self.old self.new result (message_in_gather self.old message) }
     {
         let is_own = is_same_ring(message.ring, self.installed.ring());
         if !is_own || self.filled.is_some() {
@@ -103,8 +98,7 @@ impl NodeCore {
         x: Recovering,
         message: Message,
     ) -> Result<StepOut, NodeFault>
-        ensures step { IsStep (recovering_as self.old x) self.new result (message_in_recovery (recovering_as self.old x) x message) }
-        ensures at_once { IfSome (refused_in_recovery self.old x message) (λ fault. result ≡ Err fault) }
+        ensures { IsStep (recovering_as self.old x) self.new result (message_in_recovery (recovering_as self.old x) x message) }
     {
         if is_same_ring(message.ring, self.installed.ring())
             || !is_same_ring(message.ring, x.ring.ring())
@@ -121,8 +115,7 @@ impl NodeCore {
         alloc: Global,
         message: Message,
     ) -> Result<StepOut, NodeFault>
-        ensures step { IsStep self.old self.new result (on_message self.old message self.old.state) }
-        ensures at_once { IfSome (message_refused_at_once self.old message self.old.state) (λ fault. result ≡ Err fault) }
+        ensures { IsStep self.old self.new result (on_message self.old message self.old.state) }
     {
         match mem::replace(&mut self.state, State::Operational) {
             State::Operational => self.message_in_operational(alloc, message),

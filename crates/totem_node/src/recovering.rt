@@ -4,7 +4,6 @@ ghost use Rattle.totem_ids.specs.declared.conf.ConfId.TheVariants.{Regular};
 ghost use Rattle.totem_recover.specs.Finish.{deliveries};
 ghost use Rattle.totem_node.specs.Nodes.{recovering_as};
 ghost use Rattle.totem_node.specs.Visiting.{carried, adopting, message_on_new};
-ghost use Rattle.totem_node.specs.Lean.{refused_by};
 ghost use Rattle.totem_node.specs.Answers.{IsStep, IsToldAdopting, TellsAdopting};
 
 use crate::fault::NodeFault;
@@ -78,8 +77,7 @@ fn take_adopting(
     ring: &mut RingState,
     message: Message,
 ) -> Result<StepOut, NodeFault>
-    ensures told { IsToldAdopting result installed.old installed.new ring.old ring.new message }
-    ensures at_once { IfSome (refused_by ring.old message) (λ fault. result ≡ Err fault) }
+    ensures { IsToldAdopting result installed.old installed.new ring.old ring.new message }
 {
     let (out, undo) = ring.take_message(alloc, &message)?;
     match tell_adopting(alloc, installed, ring, message, out) {
@@ -99,8 +97,7 @@ impl NodeCore {
         mut x: Recovering,
         message: Message,
     ) -> Result<StepOut, NodeFault>
-        ensures step { IsStep (recovering_as self.old x) self.new result (message_on_new (recovering_as self.old x) x message) }
-        ensures at_once { IfSome (refused_by x.ring message) (λ fault. result ≡ Err fault) }
+        ensures { IsStep (recovering_as self.old x) self.new result (message_on_new (recovering_as self.old x) x message) }
     {
         let told = take_adopting(alloc, &mut self.installed, &mut x.ring, message);
         self.state = State::InRecovery(x);

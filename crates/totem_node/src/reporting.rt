@@ -8,7 +8,7 @@ use totem_member::{CommitView, Gather, Phase};
 use totem_packets::{Number, Report};
 
 /// Returns the greater of two numbers.
-fn greater(a: Number, b: Number) -> Number
+pub(crate) fn greater(a: Number, b: Number) -> Number
     ensures { result ≡ max a b }
 {
     if a.get() < b.get() { b } else { a }

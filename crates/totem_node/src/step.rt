@@ -2,7 +2,8 @@
 ghost use Rattle.std.specs.Prelude.{◌≡◌, Err, IfSome};
 ghost use Rattle.totem_packets.specs.declared.packet.Packet.TheVariants as packet;
 ghost use Rattle.totem_node.specs.Table.{starting, on_token, on_packet, step};
-ghost use Rattle.totem_node.specs.Lean.{token_refused_at_once, join_refused_at_once, commit_refused_at_once, packet_refused_at_once, refused_at_once};
+ghost use Rattle.totem_node.specs.declared.fault.NodeFault.TheVariants.{Memory};
+ghost use Rattle.totem_node.specs.Refusals.{is_at_the_end, IsTaken};
 ghost use Rattle.totem_node.specs.Answers.{IsStep};
 
 use crate::fault::NodeFault;
@@ -18,8 +19,7 @@ use totem_ring::first_token;
 impl NodeCore {
     /// Takes a token that has come.
     fn on_token(&mut self, alloc: Global, token: &Token) -> Result<StepOut, NodeFault>
-        ensures step { IsStep self.old self.new result (on_token self.old token.now self.old.state) }
-        ensures at_once { IfSome (token_refused_at_once self.old token.now self.old.state) (λ fault. result ≡ Err fault) }
+        ensures { IsStep self.old self.new result (on_token self.old token.now self.old.state) }
     {
         match mem::replace(&mut self.state, State::Operational) {
             State::Operational => self.visit_installed(alloc, token),
@@ -61,8 +61,7 @@ impl NodeCore {
 
     /// Takes a Join that has come.
     fn take_join(&mut self, alloc: Global, join: &Join) -> Result<StepOut, NodeFault>
-        ensures step { IsStep self.old self.new result (on_packet self.old (packet.Join join.now)) }
-        ensures at_once { IfSome (join_refused_at_once self.old join.now) (λ fault. result ≡ Err fault) }
+        ensures { IsStep self.old self.new result (on_packet self.old (packet.Join join.now)) }
     {
         match self.on_join(alloc, join) {
             Ok(turn) => Ok(self.turn(alloc, turn)),
@@ -72,8 +71,7 @@ impl NodeCore {
 
     /// Takes a commit token that has come.
     fn take_commit(&mut self, alloc: Global, token: &CommitToken) -> Result<StepOut, NodeFault>
-        ensures step { IsStep self.old self.new result (on_packet self.old (packet.Commit token.now)) }
-        ensures at_once { IfSome (commit_refused_at_once self.old.state) (λ fault. result ≡ Err fault) }
+        ensures { IsStep self.old self.new result (on_packet self.old (packet.Commit token.now)) }
     {
         if let Some(turn) = self.on_commit(alloc, token)? {
             return Ok(self.turn(alloc, turn));
@@ -83,8 +81,7 @@ impl NodeCore {
 
     /// Takes a packet that has come.
     fn on_packet(&mut self, alloc: Global, packet: Packet) -> Result<StepOut, NodeFault>
-        ensures step { IsStep self.old self.new result (on_packet self.old packet) }
-        ensures at_once { IfSome (packet_refused_at_once self.old packet) (λ fault. result ≡ Err fault) }
+        ensures { IsStep self.old self.new result (on_packet self.old packet) }
     {
         match packet {
             Packet::Message(message) => self.on_message(alloc, message),
@@ -94,15 +91,17 @@ impl NodeCore {
         }
     }
 
-    /// Takes an input (docs/PROTOCOL.md, "The node"). A step that is refused changes nothing. What the input and the
-    /// node show as they stand is refused without any memory, such as a token that was taken before, a message of
-    /// another ring, or a message too many ("Refused at once").
+    /// Takes an input (docs/PROTOCOL.md, "The node"). A step that is refused changes nothing, and is refused before any
+    /// memory is taken (`refusal`). So `Memory` comes only where the step would be taken.
     pub fn step(&mut self, alloc: Global, input: Input) -> Result<StepOut, NodeFault>
         ensures step { IsStep self.old self.new result (step self.old input) }
-        ensures at_once { IfSome (refused_at_once self.old input) (λ fault. result ≡ Err fault) }
+        ensures wanting { result ≡ Err Memory → IsTaken (is_at_the_end self.old input) (step self.old input) }
     {
         if self.crashed {
             return Err(NodeFault::Stopped);
+        }
+        if let Some(fault) = self.refusal(alloc, &input) {
+            return Err(fault);
         }
         match input {
             Input::Submit { service, payload } => self.on_submit(alloc, service, payload),

@@ -15,7 +15,7 @@ use std::alloc::Global;
 use totem_member::Gather;
 
 /// How many timers are only counted before the next one makes the node gather.
-const QUIET: u8 = 2;
+pub(crate) const QUIET: u8 = 2;
 
 /// How many timers are only counted before a gathering gives up those that don't agree.
 const PATIENCE: u8 = 1;

@@ -44,8 +44,7 @@ fn take_token(
     bodies: &[Body],
     token: &Token,
 ) -> Result<StepOut, NodeFault>
-    ensures told { IsTold ring.old ring.new result (visit_told ring.old bodies.now token.now) }
-    ensures at_once { IfSome (refusal_at_once ring.old token.now) (λ fault. result ≡ Err (of_ring fault)) }
+    ensures { IsTold ring.old ring.new result (visit_told ring.old bodies.now token.now) }
 {
     if let Some(fault) = ring.token_refusal_at_once(token) {
         return Err(fault.into());
@@ -85,8 +84,7 @@ impl NodeCore {
         alloc: Global,
         token: &Token,
     ) -> Result<StepOut, NodeFault>
-        ensures step { IsStep self.old self.new result (visit_installed self.old token.now) }
-        ensures at_once { IfSome (refusal_at_once self.old.installed token.now) (λ fault. result ≡ Err (of_ring fault)) }
+        ensures { IsStep self.old self.new result (visit_installed self.old token.now) }
     {
         let told = take_token(alloc, &mut self.installed, &self.waiting, token)?;
         self.waiting.clear();

@@ -86,15 +86,22 @@ impl Recovery {
         })
     }
 
-    /// Returns copies of the next bodies of the list, 16 at most: they are to wait on the new ring for its next visit.
-    pub fn next_bodies(&self, alloc: Global) -> Result<Vec<Body>, AllocError>
-        ensures { IfOk result (λ bodies. bodies.items ≡ next_bodies self.now) }
+    /// Returns the next bodies of the list, 16 at most: they are to wait on the new ring for its next visit.
+    pub fn coming_bodies(&self) -> &[Body]
+        ensures { result.now ≡ next_bodies self.now }
     {
         let left = &self.list[self.numbered..];
         if left.len() <= MOST_AT_A_VISIT {
-            return copies_of(alloc, left);
+            return left;
         }
-        copies_of(alloc, &left[..MOST_AT_A_VISIT])
+        &left[..MOST_AT_A_VISIT]
+    }
+
+    /// Returns copies of the next bodies of the list (`coming_bodies`).
+    pub fn next_bodies(&self, alloc: Global) -> Result<Vec<Body>, AllocError>
+        ensures { IfOk result (λ bodies. bodies.items ≡ next_bodies self.now) }
+    {
+        copies_of(alloc, self.coming_bodies())
     }
 
     /// Notes a visit of the new ring's token: which bodies it numbered, and what the obligation set is from now on.

@@ -1,11 +1,13 @@
 -- A token's refusals: those that come at once, and the one that looks at what waits.
-use Rattle.std.proofs.Common.{◌≡◌, Bool, true, false, not, Option, None, Some, refl}
+use Rattle.std.proofs.Common.{◌≡◌, Bool, true, false, not, [], Option, None, Some, refl, ap}
+use Rattle.std.proofs.lemmas.List.{append-nil}
 use Rattle.std.specs.Prelude.{if◌then◌else◌, nat_le}
 use Rattle.totem_packets.specs.declared.token.Token.{Token}
 use Rattle.totem_ring.specs.declared.fault.RingFault.{RingFault}
 use Rattle.totem_ring.specs.declared.fault.RingFault.TheVariants.{OtherRing, Repeat, Range}
 use Rattle.totem_ring.specs.Rings.{Ring, same_ring}
 use Rattle.totem_ring.specs.Refusals.{refusal_at_once, token_refusal, is_token_in_range}
+use Rattle.totem_ring.specs.Steps.{given}
 
 first_of_two : (same taken : Bool) → Option RingFault
 first_of_two same taken = if not same then Some OtherRing else if taken then Some Repeat else None
@@ -34,3 +36,7 @@ refused_at_once s t fault e = at_once (same_ring t.ring s.ring) (nat_le t.token_
 pub refused_later : (s : Ring) (t : Token) → refusal_at_once s t ≡ None → token_refusal s t ≡ (if not (is_token_in_range s t) then Some Range else None)
 unfolding first_of_two all_three
 refused_later s t e = later (same_ring t.ring s.ring) (nat_le t.token_seq s.last) (is_token_in_range s t) e
+
+-- where no bodies are given, nothing more waits
+pub given_nothing : (s : Ring) (t : Token) → token_refusal (given s []) t ≡ token_refusal s t
+given_nothing s t = ap (λ waiting. token_refusal (record s { waiting = waiting }) t) (append-nil s.waiting)

@@ -184,7 +184,8 @@ impl RingState {
         put
     }
 
-    fn message_refusal(&self, message: &Message) -> Option<RingFault>
+    /// Returns why this message would be refused, whether it came or is to be adopted, or `None` if it would be taken.
+    pub fn message_refusal(&self, message: &Message) -> Option<RingFault>
         ensures { result ≡ message_refusal self.now message.now }
     {
         if !is_same_ring(message.ring, self.ring) {

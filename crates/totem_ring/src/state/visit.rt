@@ -11,11 +11,11 @@ use crate::undo::RingUndo;
 use std::alloc::{AllocError, Global};
 use std::mem;
 use totem_ids::ProcId;
-use totem_packets::{Message, Number, Requests, Token, TokenSeq};
+use totem_packets::{Body, Message, Number, Requests, Token, TokenSeq};
 
 impl RingState {
     ghost use Rattle.totem_ring.specs.Rings.{taker_of};
-    ghost use Rattle.totem_ring.specs.Steps.{on_token};
+    ghost use Rattle.totem_ring.specs.Steps.{on_token, given};
     ghost use Rattle.totem_ring.specs.Refusals.{refusal_at_once, token_refusal, is_sound, has_room, is_token_in_range};
     ghost use Rattle.totem_packets.specs.Rising.{IsRequests};
     ghost use Rattle.totem_ring.specs.Visits.{numbered};
@@ -36,17 +36,25 @@ impl RingState {
         None
     }
 
+    /// Returns why this token would be refused if these bodies were given to the ring, or `None` if it would be taken.
     #[tactic(auto, using(crate::proofs::AtOnce::refused_at_once, crate::proofs::AtOnce::refused_later))]
-    fn token_refusal(&self, token: &Token) -> Option<RingFault>
-        ensures { result ≡ token_refusal self.now token.now }
+    pub fn token_refusal_with(&self, bodies: &[Body], token: &Token) -> Option<RingFault>
+        ensures { result ≡ token_refusal (given self.now bodies.now) token.now }
     {
         if let Some(fault) = self.token_refusal_at_once(token) {
             return Some(fault);
         }
-        if !self.is_token_in_range(token) {
+        if !self.is_token_in_range_with(bodies, token) {
             return Some(RingFault::Range);
         }
         None
+    }
+
+    #[tactic(auto, using(crate::proofs::AtOnce::given_nothing))]
+    fn token_refusal(&self, token: &Token) -> Option<RingFault>
+        ensures { result ≡ token_refusal self.now token.now }
+    {
+        self.token_refusal_with(&[], token)
     }
 
     fn taker(&self, token_seq: TokenSeq) -> ProcId
@@ -65,18 +73,19 @@ impl RingState {
             && !self.held.holds_above(token.seq)
     }
 
-    fn has_room(&self, token: &Token) -> bool
-        ensures { result ≡ has_room self.now token.now }
+    fn has_room_with(&self, bodies: &[Body], token: &Token) -> bool
+        ensures { result ≡ has_room (given self.now bodies.now) token.now }
     {
-        token.token_seq.get() < u64::MAX && token.seq as u64 + (self.waiting.len() as u64) < 1 << 32
+        let waiting = self.waiting.len() as u64 + bodies.len() as u64;
+        token.token_seq.get() < u64::MAX && waiting < (1 << 32) - token.seq as u64
     }
 
-    fn is_token_in_range(&self, token: &Token) -> bool
-        ensures { result ≡ is_token_in_range self.now token.now }
+    fn is_token_in_range_with(&self, bodies: &[Body], token: &Token) -> bool
+        ensures { result ≡ is_token_in_range (given self.now bodies.now) token.now }
     {
         self.taker(token.token_seq).number() == self.me.number()
             && self.is_sound(token)
-            && self.has_room(token)
+            && self.has_room_with(bodies, token)
     }
 
     /// Makes messages of the waiting bodies, with the numbers after `seq`.

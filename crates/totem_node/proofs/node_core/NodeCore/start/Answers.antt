@@ -8,4 +8,4 @@ pub returns-in-InRecovery : goal.returns-in-InRecovery
 returns-in-InRecovery c =
     start_recovering c.args.self.now _ _ c.in-InRecovery.x c.visit_new.result c.first_token-token.result
     (sym (ap (λ (n : Node). n.state) c.self.view_is) ∙ sym c.replace.ensures.value ∙ c.in-InRecovery.is)
-    (ap (λ (n : Node). record n { state = Operational }) c.self.view_is) (c.first_token-token.ensures ∙ ap first_token c.ring.ensures) c.visit_new.ensures.step
+    (ap (λ (n : Node). record n { state = Operational }) c.self.view_is) (c.first_token-token.ensures ∙ ap first_token c.ring.ensures) c.visit_new.ensures

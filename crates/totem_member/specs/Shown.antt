@@ -1,0 +1,39 @@
+-- What a member shows of itself to a commit token, lent, and in which way it takes the token (docs/PROTOCOL.md, "The commit token").
+use Rattle.std.specs.Prelude.{ℕ, map, Result, Ok, Err}
+use Rattle.totem_packets.specs.declared.commit.CommitToken.{CommitToken}
+use Rattle.totem_packets.specs.declared.commit.Round.TheVariants.{Second}
+use Rattle.totem_packets.specs.declared.commit_member.Report.{Report}
+use Rattle.totem_packets.specs.Sets.{without}
+use Rattle.totem_member.specs.declared.shown.Shown.{Shown}
+use Rattle.totem_member.specs.declared.views.CommitView.{CommitView}
+use Rattle.totem_member.specs.declared.views.CommitOut.{CommitOut}
+use Rattle.totem_member.specs.declared.views.Act.{Act}
+use Rattle.totem_member.specs.declared.views.Act.TheVariants.{Filled, Entered, Started}
+use Rattle.totem_member.specs.declared.fault.MemberFault.{MemberFault}
+use Rattle.totem_member.specs.Commits.{filled_by}
+
+-- the view that is lent
+abbrev pub view_of : Shown → CommitView
+view_of s = record {
+  me = s.me;
+  members = without s.processes.now s.failed.now;
+  seq = s.seq;
+  filled = s.filled;
+  phase = s.phase;
+  started = s.started;
+}
+
+-- and the report
+abbrev pub own_report : Shown → Report
+own_report s = record { ring = s.ring; aru = s.aru; delivered = s.delivered; obligation = s.obligation.now }
+
+-- in which way it was taken, or its refusal
+abbrev pub act_of : Result CommitOut MemberFault → Result Act MemberFault
+act_of (Ok out) = Ok out.act
+act_of (Err fault) = Err fault
+
+-- the token as it goes on: with my report, in its second round, or as it came
+abbrev pub passed_on : CommitToken → ℕ → Report → Act → CommitToken
+passed_on t me report Filled = record t { members = map (filled_by me report) t.members }
+passed_on t me report Entered = record t { round = Second }
+passed_on t me report Started = t

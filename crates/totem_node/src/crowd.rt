@@ -1,0 +1,116 @@
+//! Processes that are counted as one set, without taking memory.
+ghost use Rattle.std.specs.Prelude.{◌≡◌, ◌≤◌, ◌||◌, length, take, nat_lt};
+ghost use Rattle.totem_packets.specs.Sets.{has, union};
+ghost use Rattle.totem_node.specs.Crowds.{procs_of, crowd_of, Counts};
+
+use crate::joins::is_among;
+use totem_ids::ProcId;
+
+/// How many processes may gather at most.
+const MOST: usize = 32;
+
+/// Processes of a crowd: these, but none of those.
+#[derive(Clone, Copy)]
+pub struct Part<'a> {
+    pub procs: &'a [ProcId],
+    pub but: &'a [ProcId],
+}
+
+impl<'a> Part<'a> {
+    /// Returns all of these.
+    #[tactic(auto, using(totem_member::proofs::Ways::without_nobody))]
+    pub fn all(procs: &'a [ProcId]) -> Part<'a>
+        ensures { procs_of result ≡ procs.now }
+    {
+        Part { procs, but: &[] }
+    }
+}
+
+impl Part<'_> {
+    #[tactic(auto, using(totem_member::proofs::Within::has_filter))]
+    fn has(&self, proc: ProcId) -> bool
+        ensures { result ≡ has (procs_of self.now) proc }
+    {
+        is_among(self.procs, proc) && !is_among(self.but, proc)
+    }
+}
+
+/// Returns whether the process is one of the crowd.
+#[tactic(auto, using(crate::proofs::Crowding::has_crowd))]
+fn has(parts: &[Part<'_>], proc: ProcId) -> bool
+    ensures { result ≡ has (crowd_of parts.now) proc }
+{
+    for part in parts {
+        if part.has(proc) {
+            return true;
+        }
+    }
+    false
+}
+
+/// Returns whether the process is left out of the part, or was counted: in the crowd before it, or among its first `at`.
+fn is_known(before: &[Part<'_>], part: &Part<'_>, at: usize, proc: ProcId) -> bool
+    requires { at ≤ length part.now.procs.now }
+    ensures { result ≡ (has part.now.but.now proc || has (crowd_of before.now) proc || has (take at part.now.procs.now) proc) }
+{
+    is_among(part.but, proc) || has(before, proc) || is_among(&part.procs[..at], proc)
+}
+
+/// Counts on with a part, from the count of the crowd before it. Returns `None` if there are more than 32.
+fn count_on(before: &[Part<'_>], part: &Part<'_>, count: usize) -> Option<usize>
+    requires count { count ≡ length (crowd_of before.now) }
+    requires few { count ≤ 32 }
+    ensures { Counts result (union (crowd_of before.now) (procs_of part.now)) }
+{
+    let mut count = count;
+    for (at, proc) in part.procs.iter().enumerate() {
+        if is_known(before, part, at, *proc) {
+            continue;
+        }
+        if count == MOST {
+            return None;
+        }
+        count += 1;
+    }
+    Some(count)
+}
+
+/// Counts the crowd. Returns `None` if there are more than 32.
+#[tactic(auto, using(crate::proofs::Crowding::one_part_more, crate::proofs::Crowding::too_many_parts))]
+fn count(parts: &[Part<'_>]) -> Option<usize>
+    ensures { Counts result (crowd_of parts.now) }
+{
+    let mut count = 0;
+    for (at, part) in parts.iter().enumerate() {
+        match count_on(&parts[..at], part, count) {
+            None => return None,
+            Some(more) => count = more,
+        }
+    }
+    Some(count)
+}
+
+/// Returns whether the crowd has more than 32 processes.
+#[tactic(auto, using(crate::proofs::Crowding::more_than_most))]
+pub fn is_crowded(parts: &[Part<'_>]) -> bool
+    ensures { result ≡ nat_lt 32 (length (crowd_of parts.now)) }
+{
+    match count(parts) {
+        None => true,
+        Some(_) => false,
+    }
+}
+
+/// Returns whether the crowd has more than 32 processes with this part too.
+#[tactic(auto, using(crate::proofs::Crowding::many_with_more, crate::proofs::Crowding::more_than_most))]
+pub fn is_crowded_with(parts: &[Part<'_>], more: &Part<'_>) -> bool
+    ensures { result ≡ nat_lt 32 (length (union (crowd_of parts.now) (procs_of more.now))) }
+{
+    match count(parts) {
+        None => true,
+        Some(known) => match count_on(parts, more, known) {
+            None => true,
+            Some(_) => false,
+        },
+    }
+}
