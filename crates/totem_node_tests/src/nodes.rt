@@ -135,21 +135,6 @@ impl fmt::Display for Spaced<'_> {
     }
 }
 
-/// An entry as a line of a run's text, with `; ` for the line's end.
-#[derive(Drop)]
-struct Line<'a>(&'a Entry);
-
-impl fmt::Display for Line<'_> {
-    fn fmt<W: fmt::Write>(&self, f: &mut fmt::Formatter<W>) -> fmt::Result {
-        match self.0 {
-            Entry::Conf(conf, members) => write!(f, "conf {conf}{}; ", Spaced(members.as_slice())),
-            Entry::Deliver(message, conf) => write!(f, "dlv {conf} {message}; "),
-            Entry::Send(message, conf, service) => write!(f, "send {conf} {service} {message}; "),
-            Entry::Fail(conf) => write!(f, "fail {conf}; "),
-        }
-    }
-}
-
 /// To whom a packet is sent.
 #[derive(Drop)]
 struct Receiver<'a>(&'a To);
@@ -200,7 +185,7 @@ struct Done<'a>(&'a StepOut);
 impl fmt::Display for Done<'_> {
     fn fmt<W: fmt::Write>(&self, f: &mut fmt::Formatter<W>) -> fmt::Result {
         for entry in &self.0.entries {
-            write!(f, "{}", Line(entry))?;
+            write!(f, "{entry}; ")?;
         }
         for step in &self.0.ring_steps {
             write!(f, "{} {}; ", word_of(&step.act), step.ring)?;
@@ -242,6 +227,15 @@ fn copied_input(alloc: Global, word: &str) -> Result<Input, Fail> {
     Ok(given.try_clone(alloc)?)
 }
 
+/// Adds why the node would refuse this input, or that it would take it.
+fn push_refusal(alloc: Global, text: &mut String, node: &NodeCore, word: &str) -> Result<(), Fail> {
+    let given = input(alloc, word)?;
+    Ok(match node.refusal(alloc, &given) {
+        None => text.push_str("taken")?,
+        Some(fault) => text.push_str(fault.name())?,
+    })
+}
+
 /// One step.
 fn push_step(
     alloc: Global,
@@ -264,13 +258,16 @@ fn push_copied_step(
     Ok(push_copied_answer(alloc, text, node.step(alloc, given))?)
 }
 
-/// Takes the step of a word. One behind `copied-` goes by copies.
+/// Takes the step of a word. One behind `copied-` goes by copies; of one behind `would-` only the refusal is told.
 fn push_word(
     alloc: Global,
     text: &mut String,
     node: &mut NodeCore,
     word: &str,
 ) -> Result<(), Fail> {
+    if let Some(asked) = word.strip_prefix("would-") {
+        return push_refusal(alloc, text, node, asked);
+    }
     match word.strip_prefix("copied-") {
         Some(copied) => push_copied_step(alloc, text, node, copied),
         None => push_step(alloc, text, node, word),
@@ -317,7 +314,7 @@ fn push_life(
 
 /// Tells a node's first entry and its steps.
 fn told(alloc: Global, node: &mut NodeCore, change: &Entry, words: &str) -> Result<String, Fail> {
-    let mut text = format!(in alloc; "{}", Line(change))?;
+    let mut text = format!(in alloc; "{change}; ")?;
     push_life(alloc, &mut text, node, words)?;
     Ok(text)
 }
@@ -341,7 +338,7 @@ struct Row {
     told: &'static str,
 }
 
-const LIVES: [Row; 14] = [
+const LIVES: [Row; 17] = [
     Row {
         members: 2,
         inputs: "submit1 token timer",
@@ -406,6 +403,22 @@ const LIVES: [Row; 14] = [
         members: 2,
         inputs: "submit1 submit1 submit1 submit1 submit1 submit1 submit1 submit1 submit1 submit1 submit1 submit1 submit1 submit1 submit1 submit1 submit1",
         told: "conf r4.1 1 2; / / / / / / / / / / / / / / / / / Full",
+    },
+    // What would be refused is told without a step.
+    Row {
+        members: 2,
+        inputs: "would-token would-from2 would-from7 would-commit would-join3 would-alien4 would-second would-submit1024 would-submit1025 would-timer would-crash token would-token",
+        told: "conf r4.1 1 2; / taken/ OtherRing/ taken/ Stale/ Stale/ Stranger/ Range/ taken/ Range/ taken/ taken/ token 4.1; 2 token; / Repeat",
+    },
+    Row {
+        members: 32,
+        inputs: "would-from33 would-join4 crash would-timer would-crash",
+        told: "conf r4.1 1 2 3 4 5 6 7 8 9 10 11 12 13 14 15 16 17 18 19 20 21 22 23 24 25 26 27 28 29 30 31 32; / Stranger/ taken/ fail r4.1; / Stopped/ Stopped",
+    },
+    Row {
+        members: 3,
+        inputs: "timer timer timer would-token would-alien4 timer timer would-commit would-join4 would-token would-timer",
+        told: "conf r4.1 1 2 3; / resend 4.1; / resend 4.1; / all join 4: 1 2 3 but; / Stale/ Stranger/ all join 4: 1 2 3 but; / all join 4: 1 2 3 but 2 3; 1 commit; / Stale/ taken/ Stale/ taken",
     },
     // A copy answers alike.
     Row {

@@ -43,34 +43,6 @@ pub(crate) fn start(alloc: Global) -> Input {
     Input::Packet(Packet::Token(first_token(alloc, ring())))
 }
 
-/// Processes, each with a space in front.
-#[derive(Drop)]
-struct Spaced<'a>(&'a [ProcId]);
-
-impl fmt::Display for Spaced<'_> {
-    fn fmt<W: fmt::Write>(&self, f: &mut fmt::Formatter<W>) -> fmt::Result {
-        for proc in self.0 {
-            write!(f, " {proc}")?;
-        }
-        Ok(())
-    }
-}
-
-/// An entry as a line of a run's text, with `; ` for the line's end.
-#[derive(Drop)]
-struct Line<'a>(&'a Entry);
-
-impl fmt::Display for Line<'_> {
-    fn fmt<W: fmt::Write>(&self, f: &mut fmt::Formatter<W>) -> fmt::Result {
-        match self.0 {
-            Entry::Conf(conf, members) => write!(f, "conf {conf}{}; ", Spaced(members.as_slice())),
-            Entry::Deliver(message, conf) => write!(f, "dlv {conf} {message}; "),
-            Entry::Send(message, conf, service) => write!(f, "send {conf} {service} {message}; "),
-            Entry::Fail(conf) => write!(f, "fail {conf}; "),
-        }
-    }
-}
-
 /// The entries as a line of text.
 #[derive(Drop)]
 pub(crate) struct Lines<'a>(pub &'a [Entry]);
@@ -78,7 +50,7 @@ pub(crate) struct Lines<'a>(pub &'a [Entry]);
 impl fmt::Display for Lines<'_> {
     fn fmt<W: fmt::Write>(&self, f: &mut fmt::Formatter<W>) -> fmt::Result {
         for entry in self.0 {
-            write!(f, "{}", Line(entry))?;
+            write!(f, "{entry}; ")?;
         }
         Ok(())
     }
