@@ -53,14 +53,19 @@ def try_judged(words, program):
     return None if checked.status == 0 else 'the check: %s' % checked
 
 
+def in_all_weathers(command, tried):
+    """Short runs of each seed in each weather."""
+    for seed in SEEDS:
+        for weather in ROUGH:
+            words = '--ticks 240 --seed %d %s' % (seed, weather)
+            yield command + words, partial(tried, words)
+
+
 def judged():
     """What threads recorded is read and judged."""
     for words in RUNS:
         yield 'totem run ' + words, partial(try_judged, words)
-    for seed in SEEDS:
-        for weather in ROUGH:
-            words = '--ticks 240 --seed %d %s' % (seed, weather)
-            yield 'totem run ' + words, partial(try_judged, words)
+    yield from in_all_weathers('totem run ', try_judged)
 
 
 def try_delivered(nodes, weather, of_ten, program):
@@ -156,7 +161,4 @@ def woven():
     """What threads did on ring 4.1 is one schedule."""
     for words in WOVEN:
         yield 'totem run --weave ' + words, partial(try_woven, words)
-    for seed in SEEDS:
-        for weather in ROUGH:
-            words = '--ticks 240 --seed %d %s' % (seed, weather)
-            yield 'totem run --weave ' + words, partial(try_woven, words)
+    yield from in_all_weathers('totem run --weave ', try_woven)
