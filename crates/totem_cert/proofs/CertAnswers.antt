@@ -1,6 +1,6 @@
 -- What the reader of certificates answers.
 use Rattle.std.specs.Prelude.{codes}
-use Rattle.std.proofs.Common.{◌≡◌, ℕ, List, [], ◌++◌, Ok, Err, sym, ◌∙◌, subst}
+use Rattle.std.proofs.Common.{◌≡◌, ℕ, List, [], ◌++◌, Ok, Err, refl, sym, ◌∙◌, subst}
 use Rattle.std.proofs.lemmas.List.{append-nil}
 use Rattle.std.specs.Io.KnownBytes.{Consumes}
 use Rattle.totem_ids.specs.declared.fault.ReadError.{ReadError}
@@ -8,7 +8,7 @@ use Rattle.totem_ids.specs.declared.fault.ReadError.TheVariants as errors
 use Rattle.totem_ids.specs.declared.fault.TextFault.TheVariants as text
 use Rattle.totem_ids.specs.Sources.{Seen, Comes, Reads}
 use Rattle.totem_ids.specs.Numbers.{word_at}
-use Rattle.totem_ids.proofs.Readers.{begins, called, handed}
+use Rattle.totem_ids.proofs.Readers.{begins, called, handed, breaks_at}
 use Rattle.totem_evs.specs.Certificates.{Numbering}
 use Rattle.totem_evs.specs.RunText.{line}
 use Rattle.totem_cert.specs.CertText.{cert_text}
@@ -25,18 +25,23 @@ was_read old new lines h =
     let same : h.read ≡ cert_text lines = sym (append-nil h.read) ∙ found.1 ∙ append-nil (cert_text lines) in
     record { is = found.0; taken = h; text = subst (λ (read : List ℕ). Consumes old.remaining new.remaining read) same h.taken }
 
+-- no certificate is read from nothing
+cert_none : cert_at [] ≡ Err text.Truncated
+unfolding cert_at word_at
+cert_none = refl
+
 -- a reader's error, passed on
 pub passed_on : (old new : Seen) (e : ReadError) → Reads {Y = List Numbering} old new (Err e) cert_at → ReadsCert old new (Err (cert_fault e))
 passed_on old new errors.Memory h = h
 passed_on old new errors.Read h = h
-passed_on old new (errors.Text text.Header) h = h
-passed_on old new (errors.Text text.Word) h = h
-passed_on old new (errors.Text text.Number) h = h
-passed_on old new (errors.Text text.Order) h = h
+passed_on old new (errors.Text text.Header) h = breaks_at old new cert_at text.Header cert_none refl h
+passed_on old new (errors.Text text.Word) h = breaks_at old new cert_at text.Word cert_none refl h
+passed_on old new (errors.Text text.Number) h = breaks_at old new cert_at text.Number cert_none refl h
+passed_on old new (errors.Text text.Order) h = breaks_at old new cert_at text.Order cert_none refl h
 passed_on old new (errors.Text text.Members) h = absurd (own_fault h.read text.Members h.broken)
 passed_on old new (errors.Text text.End) h = absurd (own_fault h.read text.End h.broken)
 passed_on old new (errors.Text text.Truncated) h = h
-passed_on old new (errors.Text text.TooMany) h = h
+passed_on old new (errors.Text text.TooMany) h = breaks_at old new cert_at text.TooMany cert_none refl h
 
 -- ---- the first line, and then the others
 

@@ -5,6 +5,8 @@ pub mod SpelledNumbers
 pub mod SpelledCert
 pub mod SteadyCert
 pub mod OwnFaults
+pub mod CertParts
+pub mod RestFaults
 pub mod CertGoesOn
 pub mod CertAnswers
 pub mod Classmates

@@ -92,7 +92,7 @@ end_again : (rest : List ℕ) → end_at (codes "nd" ++ 10 ∷ rest) ≡ Ok (Non
 unfolding end_at
 end_again rest = rw (word_again faults.Word (line (codes "nd")) rest) refl
 
-head_again : (full : Bool) (last : ℕ) (head : Option ℕ) (rest : List ℕ) → IsHead full last head → head_at full last (head_text head ++ rest) ≡ Ok (head, rest)
+pub head_again : (full : Bool) (last : ℕ) (head : Option ℕ) (rest : List ℕ) → IsHead full last head → head_at full last (head_text head ++ rest) ≡ Ok (head, rest)
 unfolding head_at
 head_again full last None rest is = end_again rest
 head_again full last (Some p) rest is = ap (head_at full last) (begin_parts p rest) ∙ rw is.0 (begin_again last p rest is.1 is.2)

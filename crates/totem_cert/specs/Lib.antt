@@ -3,6 +3,7 @@ pub mod CertText
 pub mod CertGrammar
 pub mod CertFronts
 pub mod CertFaults
+pub mod CertPlaces
 pub mod Reading
 pub mod Search
 pub mod Progress

@@ -1,12 +1,15 @@
 //! Laws of the text of certificates, each the contract of a function that does nothing.
-ghost use Rattle.std.specs.Prelude.{◌≡◌, ℕ, List, ◌++◌, Ok, Err, false};
+ghost use Rattle.std.specs.Prelude.{◌≡◌, ◌≢◌, ◌↔◌, ℕ, List, ◌++◌, codes, Ok, Err, false};
 ghost use Rattle.totem_ids.specs.declared.fault.TextFault.{TextFault};
-ghost use Rattle.totem_ids.specs.declared.fault.TextFault.TheVariants.{Truncated};
+ghost use Rattle.totem_ids.specs.declared.fault.TextFault.TheVariants.{Header, Word, Number, Order, Truncated, TooMany};
 ghost use Rattle.totem_ids.specs.Sources.{FirstBreak, is_short};
 ghost use Rattle.totem_evs.specs.Certificates.{Numbering};
+ghost use Rattle.totem_evs.specs.RunText.{line};
+ghost use Rattle.totem_evs.specs.TextFaults.{Differs, BreaksNumber};
 ghost use Rattle.totem_cert.specs.CertGrammar.{cert_at};
 ghost use Rattle.totem_cert.specs.CertFaults.{IsOwnFault};
 ghost use Rattle.totem_cert.specs.CertFronts.{IsWideFront, IsFirstWrong};
+ghost use Rattle.totem_cert.specs.CertPlaces.{IsBehindLines, HasFault, HasOrder, HasTooMany, HasNoOther};
 ghost use Rattle.totem_cert.specs.CertText.{cert_text};
 ghost use Rattle.totem_cert.specs.Keeping.{IsCertificate};
 
@@ -50,4 +53,41 @@ pub fn cut_text_goes_on()
 /// breaks a rule of the grammar; with that byte no certificate's text begins.
 pub fn fault_byte_is_first()
     ensures { (bytes : List ℕ) (fault : TextFault) → cert_at bytes ≡ Err fault → is_short fault ≡ false → (break : FirstBreak cert_at bytes fault) × IsFirstWrong break.front break.byte }
+{}
+
+/// Header is the fault exactly where a byte of the first line differs.
+#[tactic(auto, using(crate::proofs::CertParts::header_exactly))]
+pub fn header_is_in_the_first_line()
+    ensures { (bytes : List ℕ) → (cert_at bytes ≡ Err Header) ↔ Differs (line (codes "totem-cert 1")) bytes }
+{}
+
+/// Each fault but Header and Truncated is the fault of a line: the bytes begin with the first line and some lines of a
+/// certificate, and what the grammar then wants next has this fault.
+pub fn a_fault_is_of_a_line()
+    ensures { (bytes : List ℕ) (fault : TextFault) → fault ≢ Header → fault ≢ Truncated → (cert_at bytes ≡ Err fault) ↔ IsBehindLines bytes (HasFault fault) }
+{}
+
+/// Number is the fault exactly where a number is read and none in range begins: its first byte is no digit or a zero, or
+/// a digit takes it out of range.
+#[tactic(auto, using(crate::proofs::RestFaults::cert_number))]
+pub fn number_is_of_a_number()
+    ensures { (bytes : List ℕ) → (cert_at bytes ≡ Err Number) ↔ BreaksNumber cert_at bytes }
+{}
+
+/// Order is the fault exactly where fewer than 32 lines have come and a line begins whose process, complete at the byte
+/// behind it, is not above the last one.
+#[tactic(auto, using(crate::proofs::CertParts::cert_order))]
+pub fn order_is_of_a_line_that_does_not_rise()
+    ensures { (bytes : List ℕ) → (cert_at bytes ≡ Err Order) ↔ IsBehindLines bytes HasOrder }
+{}
+
+/// TooMany is the fault exactly where a 33rd line or the 1,000,001st number of a line begins.
+#[tactic(auto, using(crate::proofs::CertParts::cert_many))]
+pub fn too_many_is_past_a_limit()
+    ensures { (bytes : List ℕ) → (cert_at bytes ≡ Err TooMany) ↔ IsBehindLines bytes HasTooMany }
+{}
+
+/// A fault other than that of a text that ends too soon is Word exactly where no other one has its place.
+pub fn word_is_the_rest()
+    ensures { (bytes : List ℕ) (fault : TextFault) → is_short fault ≡ false → cert_at bytes ≡ Err fault → (fault ≡ Word) ↔ HasNoOther bytes }
 {}

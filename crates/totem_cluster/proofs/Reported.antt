@@ -1,5 +1,5 @@
 -- A run and a certificate behind it, reports that were not written, and a no in words.
-use Rattle.std.proofs.Common.{◌≡◌, ℕ, List, ◌++◌, Option, Some, None, Result, Ok, Err, map, refl, sym, ap, ◌∙◌, IfSome, append_assoc}
+use Rattle.std.proofs.Common.{◌≡◌, inl, inr, ℕ, List, ◌++◌, Option, Some, None, Result, Ok, Err, map, refl, sym, ap, ◌∙◌, IfSome, append_assoc}
 use Rattle.std.specs.Io.KnownBytes.{Consumes}
 use Rattle.totem_ids.specs.Sources.{Seen}
 use Rattle.totem_ids.specs.Writing.{Held}
@@ -13,12 +13,14 @@ use Rattle.totem_evs.specs.WriteRun.{WritesText}
 use Rattle.totem_evs.specs.Reading.{FitsRun}
 use Rattle.totem_evs.specs.Certificates.{Numbering}
 use Rattle.totem_evs.specs.Answers.{No}
+use Rattle.totem_cert.specs.declared.cert_fault.CertFault.{CertFault}
+use Rattle.totem_cert.specs.declared.cert_fault.CertFault.TheVariants as cert_faults
 use Rattle.totem_cert.specs.CertText.{cert_text}
-use Rattle.totem_cluster.specs.IoFaults.{write_io_fault}
+use Rattle.totem_cluster.specs.IoFaults.{cert_io_fault, write_io_fault}
 use Rattle.totem_cluster.specs.AuditIo.{IsWhole, Audits}
 use Rattle.totem_explain.specs.declared.no.ExplainedNo.{ExplainedNo}
 use Rattle.totem_cluster.specs.ExplainIo.{WritesTold, explained_no_text}
-use Rattle.totem_cluster.specs.CheckIo.{IsLast, IsWholePair, ChecksText}
+use Rattle.totem_cluster.specs.CheckIo.{IsLast, IsWholePair, IsUnreadable, ChecksText}
 
 both_texts : (a b : Option (List ℕ)) (x y : List ℕ) → Consumes a b x → IfSome b (λ bytes. bytes ≡ y) → IfSome a (λ bytes. bytes ≡ x ++ y)
 both_texts None b x y p q = tt
@@ -41,6 +43,19 @@ whole_pair a b c run lines fits last = record {
   taken = both_taken a.remaining b.remaining c.remaining (run_text run.logs) (cert_text lines) fits.0.text last.taken;
   failures = last.failures ∙ fits.0.taken.failures;
 }
+
+-- behind the run no certificate was read
+pub certificate_failed : (a b c : Seen) (was : Held) (run : Run) (e : CertFault) → FitsRun a b run → IsUnreadable b c e → ChecksText a c was was (Err (cert_io_fault e))
+certificate_failed a b c was run cert_faults.Memory fits (inl h) = (refl, h ∙ fits.0.taken.failures)
+certificate_failed a b c was run cert_faults.Memory fits (inr (between, lines, is, ends)) = absurd ends
+certificate_failed a b c was run cert_faults.Header fits h = (refl, λ same. cc, (b, run, fits, h))
+certificate_failed a b c was run cert_faults.Word fits h = (refl, λ same. cc, (b, run, fits, h))
+certificate_failed a b c was run cert_faults.Number fits h = (refl, λ same. cc, (b, run, fits, h))
+certificate_failed a b c was run cert_faults.Order fits h = (refl, λ same. cc, (b, run, fits, h))
+certificate_failed a b c was run cert_faults.Truncated fits h = (refl, λ same. cc, (b, run, fits, h))
+certificate_failed a b c was run cert_faults.TooMany fits h = (refl, λ same. cc, (b, run, fits, h))
+certificate_failed a b c was run cert_faults.End fits h = (refl, λ same. cc, (b, run, fits, h))
+certificate_failed a b c was run cert_faults.Read fits h = (refl, λ same. cc, (b, run, fits, h))
 
 -- the report was not written
 pub report_failed : (a c : Seen) (was is : Held) (logs : List Log) (lines : List Numbering) (text : List ℕ) (e : WriteFault)

@@ -1,11 +1,11 @@
 -- A run from its parts: what each call of the reader of parts comes to.
 use Rattle.std.specs.Io.KnownBytes.{Consumes}
 use Rattle.std.proofs.lemmas.List.{append-nil}
-use Rattle.std.proofs.Common.{[], subst, ℕ, ◌+◌, ◌%◌, ◌^◌, List, ◌++◌, Some, None, Ok, Err, sym, ap, ◌∙◌}
+use Rattle.std.proofs.Common.{◌≡◌, [], subst, ℕ, List, ◌++◌, Some, None, Ok, Err, refl, sym, ap, ◌∙◌}
 use Rattle.totem_ids.specs.declared.fault.TextFault.TheVariants as text
 use Rattle.totem_ids.specs.declared.fault.ReadError.TheVariants as errors
 use Rattle.totem_ids.specs.Sources.{Seen, Parsed, Comes, ◌>>=◌}
-use Rattle.totem_ids.proofs.Readers.{called, failed, same_left, begins}
+use Rattle.totem_ids.proofs.Readers.{called, failed, same_left, begins, breaks_at}
 use Rattle.totem_evs.specs.declared.log.Log.{Log}
 use Rattle.totem_evs.specs.declared.part.Part.{Part}
 use Rattle.totem_evs.specs.declared.run_fault.RunFault.{RunFault}
@@ -15,8 +15,9 @@ use Rattle.totem_evs.specs.RunGrammar.{run_at}
 use Rattle.totem_evs.proofs.SpelledRun.{run_is}
 use Rattle.totem_evs.specs.Parts.{header_at, part_at, first_stage, next_stage}
 use Rattle.totem_evs.specs.ReadState.{ReadState}
-use Rattle.totem_evs.specs.Reading.{ReadsAs, HasBegun, BeginsRun, HasPart, HasEnded, FitsNext, LacksLog, ReadsNext, IsRead, FitsRun, LacksRun, ReadsRun}
+use Rattle.totem_evs.specs.Reading.{ReadsAs, HasBegun, BeginsRun, HasPart, HasEnded, FitsPart, LacksLog, ReadsPart, IsRead, FitsRun, LacksRun, ReadsRun}
 use Rattle.totem_evs.specs.Gathered.{GatheredLogs, none_gathered, gathered}
+use Rattle.totem_evs.proofs.PassedOn.{run_none}
 use Rattle.totem_evs.proofs.Folding.{rest_at, behind, step, first_step}
 use Rattle.totem_evs.proofs.Gathers.{GathersIn, limits, goes_gathers, gathers_run, least_lacks}
 
@@ -27,18 +28,18 @@ pub record Folded (a b : Seen) (s : ReadState) (g : GatheredLogs) : Type 0 where
 
 -- a fault is that of what was read so far and then
 fault_on : {X Y W Z : Type 0} (a b c : Seen) (parse : List ℕ → Parsed Z) (sub : List ℕ → Parsed X) (k : X × List ℕ → Parsed Z) (Fits : Y → Type 0) (Fit : W → Type 0) (Lacks Lacking : ℕ → Type 0) (e : RunFault)
-    → Comes a b parse (λ more. sub more >>= k) → ((p : ℕ) → Lacks p → Lacking p) → ReadsAs {X = X} {Y = Y} b c sub Fits Lacks (Err e) → ReadsAs {X = Z} {Y = W} a c parse Fit Lacking (Err e)
-fault_on a b c parse sub k Fits Fit Lacks Lacking faults.Header so_far lacks h = failed a b c parse sub k (errors.Text text.Header) so_far h
-fault_on a b c parse sub k Fits Fit Lacks Lacking faults.Word so_far lacks h = failed a b c parse sub k (errors.Text text.Word) so_far h
-fault_on a b c parse sub k Fits Fit Lacks Lacking faults.Number so_far lacks h = failed a b c parse sub k (errors.Text text.Number) so_far h
-fault_on a b c parse sub k Fits Fit Lacks Lacking faults.Order so_far lacks h = failed a b c parse sub k (errors.Text text.Order) so_far h
-fault_on a b c parse sub k Fits Fit Lacks Lacking faults.Members so_far lacks h = failed a b c parse sub k (errors.Text text.Members) so_far h
-fault_on a b c parse sub k Fits Fit Lacks Lacking faults.End so_far lacks h = failed a b c parse sub k (errors.Text text.End) so_far h
-fault_on a b c parse sub k Fits Fit Lacks Lacking faults.Truncated so_far lacks h = failed a b c parse sub k (errors.Text text.Truncated) so_far h
-fault_on a b c parse sub k Fits Fit Lacks Lacking faults.TooMany so_far lacks h = failed a b c parse sub k (errors.Text text.TooMany) so_far h
-fault_on a b c parse sub k Fits Fit Lacks Lacking (faults.MissingLog p) so_far lacks h = lacks p h
-fault_on a b c parse sub k Fits Fit Lacks Lacking faults.Read so_far lacks h = h ∙ ap (λ (n : ℕ). (n + 1) % 2 ^ 64) so_far.failures
-fault_on a b c parse sub k Fits Fit Lacks Lacking faults.Memory so_far lacks h = h ∙ so_far.failures
+    → parse [] ≡ Err text.Truncated → Comes a b parse (λ more. sub more >>= k) → ((p : ℕ) → Lacks p → Lacking p) → ReadsAs {X = X} {Y = Y} b c sub Fits Lacks (Err e) → ReadsAs {X = Z} {Y = W} a c parse Fit Lacking (Err e)
+fault_on a b c parse sub k Fits Fit Lacks Lacking faults.Header empty so_far lacks h = breaks_at a c parse text.Header empty refl (failed a b c parse sub k (errors.Text text.Header) so_far h.breaks)
+fault_on a b c parse sub k Fits Fit Lacks Lacking faults.Word empty so_far lacks h = breaks_at a c parse text.Word empty refl (failed a b c parse sub k (errors.Text text.Word) so_far h.breaks)
+fault_on a b c parse sub k Fits Fit Lacks Lacking faults.Number empty so_far lacks h = breaks_at a c parse text.Number empty refl (failed a b c parse sub k (errors.Text text.Number) so_far h.breaks)
+fault_on a b c parse sub k Fits Fit Lacks Lacking faults.Order empty so_far lacks h = breaks_at a c parse text.Order empty refl (failed a b c parse sub k (errors.Text text.Order) so_far h.breaks)
+fault_on a b c parse sub k Fits Fit Lacks Lacking faults.Members empty so_far lacks h = breaks_at a c parse text.Members empty refl (failed a b c parse sub k (errors.Text text.Members) so_far h.breaks)
+fault_on a b c parse sub k Fits Fit Lacks Lacking faults.End empty so_far lacks h = breaks_at a c parse text.End empty refl (failed a b c parse sub k (errors.Text text.End) so_far h.breaks)
+fault_on a b c parse sub k Fits Fit Lacks Lacking faults.TooMany empty so_far lacks h = breaks_at a c parse text.TooMany empty refl (failed a b c parse sub k (errors.Text text.TooMany) so_far h.breaks)
+fault_on a b c parse sub k Fits Fit Lacks Lacking faults.Truncated empty so_far lacks h = failed a b c parse sub k (errors.Text text.Truncated) so_far h
+fault_on a b c parse sub k Fits Fit Lacks Lacking (faults.MissingLog p) empty so_far lacks h = lacks p h
+fault_on a b c parse sub k Fits Fit Lacks Lacking faults.Read empty so_far lacks h = failed a b c parse sub k errors.Read so_far h
+fault_on a b c parse sub k Fits Fit Lacks Lacking faults.Memory empty so_far lacks h = h ∙ so_far.failures
 
 -- the first line, and what follows it
 opens : (a : Seen) → Comes a a run_at (λ more. header_at more >>= λ w. rest_at first_stage none_gathered w.1)
@@ -46,7 +47,7 @@ opens a = same_left a a run_at run_at (λ more. header_at more >>= λ w. rest_at
 
 -- the first line was not read
 pub first_fault : (a c : Seen) (e : RunFault) → BeginsRun a c (Err e) → ReadsRun a c (Err e)
-first_fault a c e h = fault_on a a c run_at header_at (λ w. rest_at first_stage none_gathered w.1) (HasBegun a c) (FitsRun a c) (λ p. ⊥) (LacksRun a c) e (opens a) (λ p lacks. absurd lacks) h
+first_fault a c e h = fault_on a a c run_at header_at (λ w. rest_at first_stage none_gathered w.1) (HasBegun a c) (FitsRun a c) (λ p. ⊥) (LacksRun a c) e run_none (opens a) (λ p lacks. absurd lacks) h
 
 -- the first line was read
 pub first_folded : (a c : Seen) (s : ReadState) → HasBegun a c s → (GathersIn s none_gathered) → Folded a c s none_gathered
@@ -84,6 +85,6 @@ end_folded a b c s g h ended =
     record { is = gathers_run s g h.gathers; taken = whole; text = is_text a c g.logs whole }
 
 -- a part was not read, or the run is at its end and a member has no log
-pub next_fault : (a b c : Seen) (s : ReadState) (g : GatheredLogs) (e : RunFault) → Folded a b s g → ReadsNext b c s (Err e) → ReadsRun a c (Err e)
-next_fault a b c s g e h fault = fault_on a b c run_at (part_at s.stage) (λ x. behind s.stage g x.0 x.1) (FitsNext b c s) (FitsRun a c) (LacksLog b c s) (LacksRun a c) e (follows a b s g h)
+pub next_fault : (a b c : Seen) (s t : ReadState) (g : GatheredLogs) (e : RunFault) → Folded a b s g → ReadsPart b c s t (Err e) → ReadsRun a c (Err e)
+next_fault a b c s t g e h fault = fault_on a b c run_at (part_at s.stage) (λ x. behind s.stage g x.0 x.1) (FitsPart b c s t) (FitsRun a c) (LacksLog b c s) (LacksRun a c) e run_none (follows a b s g h)
     (λ p lacks. (g.logs, end_folded a b c s g h lacks.0, least_lacks s g p h.gathers lacks.0.comes lacks.1 lacks.2)) fault

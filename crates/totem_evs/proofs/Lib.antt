@@ -27,6 +27,12 @@ pub mod SpelledLog
 pub mod SpelledRun
 pub mod SteadyRun
 pub mod ReaderSteps
+pub mod OnlyFaults
+pub mod PartFaults
+pub mod MembersFaults
+pub mod FaultParts
+pub mod NumberFaults
+pub mod WordFaults
 pub mod RunLoops
 pub mod Grown
 pub mod Sets

@@ -12,17 +12,19 @@ use Rattle.totem_ids.specs.Names.{MessageName}
 use Rattle.totem_ids.specs.Sources.{Parsed, ◌>>=◌}
 use Rattle.totem_ids.specs.Numbers.{byte_at, word_at, number_at}
 use Rattle.totem_ids.specs.Parsers.{conf_at, message_at}
+use Rattle.totem_ids.specs.Services.{service_at}
 use Rattle.totem_ids.specs.Texts.{conf_text, message_text, service_text, IsConf, IsMessage}
+use Rattle.totem_ids.proofs.ServiceSpelling.{service_is}
 use Rattle.totem_ids.proofs.Spelled.{decimal_push, byte_is, word_is, number_is, conf_is}
 use Rattle.totem_evs.specs.declared.entry.Entry.TheVariants.{Conf, Send, Deliver, Fail}
 use Rattle.totem_evs.specs.declared.ending.Ending.TheVariants.{Standing, Failed}
 use Rattle.totem_evs.specs.declared.line.Line.{Line}
 use Rattle.totem_evs.specs.declared.line.Line.TheVariants as lines
 use Rattle.totem_evs.specs.RunText.{line, members_text}
-use Rattle.totem_evs.specs.RunGrammar.{members_at, change_at, service_at, send_at, delivery_at, open_at, failed_at, fail_at, ail_at, failure_at, line_at}
+use Rattle.totem_evs.specs.RunGrammar.{members_at, change_at, send_at, delivery_at, open_at, failed_at, fail_at, ail_at, failure_at, line_at}
 use Rattle.totem_evs.specs.TextFronts.{IsWideMembers, IsWideEntry}
 use Rattle.totem_evs.proofs.FromLeft.{MembersFrom, are_wide_members}
-use Rattle.totem_evs.proofs.SpelledLine.{IsLineOf, line_text, not_within, service_is}
+use Rattle.totem_evs.proofs.SpelledLine.{IsLineOf, line_text, not_within}
 use Rattle.totem_evs.proofs.GoesOn.{Cut, ok_cut, fault_cut, test_cut, bind_cut, last_cut, byte_cut, word_cut, number_cut, ConfTo, conf_cut, MessageTo, message_cut, first_ring, first_ring_is}
 
 -- ---- a number that may not rise

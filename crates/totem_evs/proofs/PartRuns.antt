@@ -53,21 +53,21 @@ comes_in : (logs last : ℕ) (log : Option OpenLog) (part : Option Part) (bytes 
 comes_in logs last None part bytes rest e = between_comes logs last part bytes rest e
 comes_in logs last (Some log) part bytes rest e = within_comes log.entries log.failed part bytes rest e
 
-comes : (stage : Stage) (part : Option Part) (bytes rest : List ℕ) → part_at stage bytes ≡ Ok (part, rest) → MayCome stage part
+pub comes : (stage : Stage) (part : Option Part) (bytes rest : List ℕ) → part_at stage bytes ≡ Ok (part, rest) → MayCome stage part
 comes stage part bytes rest e = comes_in stage.logs stage.last stage.log part bytes rest e
 
 -- ---- the logs that parts give
 
 -- the open log is that of the last process
-abbrev Placed : Option OpenLog → ℕ → GatheredLogs → Type 0
+abbrev pub Placed : Option OpenLog → ℕ → GatheredLogs → Type 0
 Placed None last g = g.proc ≡ None
 Placed (Some log) last g = g.proc ≡ Some last
 
 -- these logs stand at this stage
-record Stands (stage : Stage) (g : GatheredLogs) : Type 0 where
-  few : stage.logs ≤ 32
-  entries : FewEntries stage.log
-  placed : Placed stage.log stage.last g
+pub record Stands (stage : Stage) (g : GatheredLogs) : Type 0 where
+  pub few : stage.logs ≤ 32
+  pub entries : FewEntries stage.log
+  pub placed : Placed stage.log stage.last g
 
 stands_in : (logs last : ℕ) (log : Option OpenLog) (g : GatheredLogs) (part : Part) → logs ≤ 32 → FewEntries log → Placed log last g → ComesIn logs last log (Some part) → Stands (next_stage (record { logs = logs; last = last; log = log }) part) (gathered g part)
 stands_in logs last None g (parts.Log p) few entries placed may = record { few = below_limit logs 32 may.0 few; entries = omega arith; placed = refl }
@@ -77,10 +77,10 @@ stands_in logs last (Some log) g (parts.Log p) few entries placed may = absurd m
 stands_in logs last (Some log) g (parts.Entry e) few entries placed may = record { few = few; entries = below_limit log.entries 1000000 may entries; placed = placed }
 stands_in logs last (Some log) g (parts.Close ending) few entries placed may = record { few = few; entries = tt; placed = refl }
 
-stands_next : (stage : Stage) (g : GatheredLogs) (part : Part) → Stands stage g → MayCome stage (Some part) → Stands (next_stage stage part) (gathered g part)
+pub stands_next : (stage : Stage) (g : GatheredLogs) (part : Part) → Stands stage g → MayCome stage (Some part) → Stands (next_stage stage part) (gathered g part)
 stands_next stage g part h may = stands_in stage.logs stage.last stage.log g part h.few h.entries h.placed may
 
-of_placed : (log : Option OpenLog) (last : ℕ) (g : GatheredLogs) → Placed log last g → OfLast log last g.proc
+pub of_placed : (log : Option OpenLog) (last : ℕ) (g : GatheredLogs) → Placed log last g → OfLast log last g.proc
 of_placed None last g h = tt
 of_placed (Some log) last g h = h
 
@@ -135,7 +135,7 @@ parts_are (part ∷ ps) stage g bytes rest h reads =
     ∙ ap (λ (xs : List Part). xs ++ ps) (given_in stage.logs stage.last stage.log g part h.placed may)
     ∙ append_assoc (given g) (part ∷ []) ps
 
-stands_first : Stands first_stage none_gathered
+pub stands_first : Stands first_stage none_gathered
 stands_first = record { few = omega arith; entries = tt; placed = refl }
 
 -- parts make the run

@@ -7,12 +7,13 @@ use Rattle.std.proofs.lemmas.Bool.Decides.{nat_tests}
 use Rattle.totem_ids.specs.declared.fault.TextFault.TheVariants as faults
 use Rattle.totem_ids.specs.declared.conf.ConfId.{ConfId}
 use Rattle.totem_ids.specs.declared.message.Service.{Service}
-use Rattle.totem_ids.specs.declared.message.Service.TheVariants.{Agreed, Safe}
 use Rattle.totem_ids.specs.Names.{MessageName}
 use Rattle.totem_ids.specs.Sources.{◌>>=◌}
 use Rattle.totem_ids.specs.Numbers.{byte_at, word_at, number_at}
 use Rattle.totem_ids.specs.Parsers.{conf_at, message_at}
+use Rattle.totem_ids.specs.Services.{service_at}
 use Rattle.totem_ids.specs.Texts.{conf_text, message_text, service_text, IsConf, IsMessage}
+use Rattle.totem_ids.proofs.ServiceSpelling.{service_is, service_again}
 use Rattle.totem_ids.proofs.Spelled.{after, taken, guard_then, guard_else, parsed_is, byte_is, word_is, word_again, number_is, number_again, conf_is, conf_again, message_is, message_again}
 use Rattle.totem_evs.specs.declared.entry.Entry.{Entry}
 use Rattle.totem_evs.specs.declared.entry.Entry.TheVariants.{Conf, Send, Deliver, Fail}
@@ -22,7 +23,7 @@ use Rattle.totem_evs.specs.declared.line.Line.TheVariants as lines
 use Rattle.totem_evs.specs.Members.{IsMembers}
 use Rattle.totem_evs.specs.Runs.{IsEntry}
 use Rattle.totem_evs.specs.RunText.{line, members_text, entry_text, ending_text}
-use Rattle.totem_evs.specs.RunGrammar.{members_at, change_at, service_at, send_at, delivery_at, open_at, failed_at, fail_at, ail_at, failure_at, line_at}
+use Rattle.totem_evs.specs.RunGrammar.{members_at, change_at, send_at, delivery_at, open_at, failed_at, fail_at, ail_at, failure_at, line_at}
 use Rattle.totem_evs.proofs.FromLeft.{MembersFrom, are_members, members_from}
 
 -- ---- members
@@ -115,25 +116,6 @@ change_is full some failed l bytes rest e =
     ap (λ (t : List ℕ). 99 ∷ t) (t1 ∙ ap (λ (t : List ℕ). codes "onf " ++ t) (t2.1 ∙ ap (λ (t : List ℕ). conf_text x ++ t) t3.1)) ∙ sym (change_parts (conf_text x) (members_text ms) b3) in
     let fits : Fits full some failed 99 bytes (lines.Entry (Conf x ms)) b3 = record { is = (g.0, (t2.0, are_members ms t3.0)); spelled = text } in
     rw (← q.0, ← q.1) fits)))
-
-pub service_is : (s : Service) (bytes rest : List ℕ) → service_at bytes ≡ Ok (s, rest) → bytes ≡ service_text s ++ rest
-unfolding service_at
-service_is s bytes rest e =
-    after (byte_at bytes) (λ b. cond (b.0 == 97) (Ok (Agreed, b.1)) (cond (b.0 == 115) (Ok (Safe, b.1)) (Err faults.Word))) (s, rest) e (λ b mid e1 more.
-    let whole = byte_is bytes b mid e1 in
-    elim (taken (b == 97) (Ok (Agreed, mid)) (cond (b == 115) (Ok (Safe, mid)) (Err faults.Word)) (Ok (s, rest)) more) [
-      | inl r ↦
-          let same : b ≡ 97 = eqb-true _ _ r.0 in
-          let q = parsed_is Agreed s mid rest r.1 in
-          let text : bytes ≡ service_text Agreed ++ mid = whole ∙ ap (λ (k : ℕ). k ∷ mid) same in
-          rw (← q.0, ← q.1) text
-      | inr other ↦
-          let t = guard_then (b == 115) (Ok (Safe, mid)) faults.Word (s, rest) other.1 in
-          let same : b ≡ 115 = eqb-true _ _ t.0 in
-          let q = parsed_is Safe s mid rest t.1 in
-          let text : bytes ≡ service_text Safe ++ mid = whole ∙ ap (λ (k : ℕ). k ∷ mid) same in
-          rw (← q.0, ← q.1) text
-    ])
 
 send_is : (full some failed : Bool) (l : Line) (bytes rest : List ℕ) → send_at full bytes ≡ Ok (l, rest) → Fits full some failed 115 bytes l rest
 unfolding send_at
@@ -270,11 +252,6 @@ unfolding change_at
 change_again x ms rest is members =
     let t = members_tail ms rest members in
     rw (t.1, word_again faults.Word (codes "onf ") (conf_text x ++ 32 ∷ t.0), conf_again 32 x t.0 refl is, t.2) refl
-
-service_again : (s : Service) (rest : List ℕ) → service_at (service_text s ++ rest) ≡ Ok (s, rest)
-unfolding service_at
-service_again Agreed rest = refl
-service_again Safe rest = refl
 
 send_again : (x : ConfId) (s : Service) (m : MessageName) (rest : List ℕ) → IsConf x → IsMessage m → send_at false (codes "end " ++ (conf_text x ++ 32 ∷ (service_text s ++ (32 ∷ (message_text m ++ 10 ∷ rest))))) ≡ Ok (lines.Entry (Send m x s), rest)
 unfolding send_at

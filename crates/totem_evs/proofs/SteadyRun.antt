@@ -5,14 +5,14 @@ use Rattle.totem_ids.specs.declared.fault.TextFault.{TextFault}
 use Rattle.totem_ids.specs.declared.fault.TextFault.TheVariants as faults
 use Rattle.totem_ids.specs.Sources.{Parsed, Steady, FirstBreak, is_short, ◌>>=◌}
 use Rattle.totem_ids.specs.Numbers.{word_at}
-use Rattle.totem_ids.specs.declared.message.Service.TheVariants.{Agreed, Safe}
+use Rattle.totem_ids.proofs.ServiceSpelling.{service_steady}
 use Rattle.totem_ids.proofs.Steady.{gives_steady, fault_steady, bind_steady, cond_steady, byte_steady, word_steady, number_steady, conf_steady, message_steady, first_break}
 use Rattle.totem_evs.specs.declared.entry.Entry.{Entry}
 use Rattle.totem_evs.specs.declared.ending.Ending.{Ending}
 use Rattle.totem_evs.specs.declared.log.Log.{Log}
 use Rattle.totem_evs.specs.declared.line.Line.{Line}
 use Rattle.totem_evs.specs.declared.line.Line.TheVariants as lines
-use Rattle.totem_evs.specs.RunGrammar.{is_failure, members_at, change_at, service_at, send_at, delivery_at, open_at, failed_at, fail_at, ail_at, failure_at, line_at, by_line, lines_at, log_at, log_proc_at, begin_at, end_at, head_at, by_head, logs_at, run_at}
+use Rattle.totem_evs.specs.RunGrammar.{is_failure, members_at, change_at, send_at, delivery_at, open_at, failed_at, fail_at, ail_at, failure_at, line_at, by_line, lines_at, log_at, log_proc_at, begin_at, end_at, head_at, by_head, logs_at, run_at}
 
 members_steady : (room last : ℕ) → Steady (members_at room last)
 unfolding members_at
@@ -22,10 +22,6 @@ members_steady (suc room) last = bind_steady _ _ (number_steady 65535) (λ p. co
 change_steady : (full : Bool) → Steady (change_at full)
 unfolding change_at
 change_steady full = cond_steady _ _ _ (fault_steady _) (bind_steady _ _ (word_steady _ _) (λ w. bind_steady _ _ (conf_steady 32) (λ x. bind_steady _ _ (members_steady 32 0) (λ ms. gives_steady _))))
-
-service_steady : Steady service_at
-unfolding service_at
-service_steady = bind_steady _ _ byte_steady (λ b. cond_steady (b == 97) _ _ (gives_steady Agreed) (cond_steady (b == 115) _ _ (gives_steady Safe) (fault_steady faults.Word)))
 
 send_steady : (full : Bool) → Steady (send_at full)
 unfolding send_at

@@ -20,7 +20,7 @@ use Rattle.totem_evs.specs.RingAgreement.{OwnDeliveryIn, AtomicityIn, CausalityI
 use Rattle.totem_evs.specs.RingFaults.{MeetsIn}
 use Rattle.totem_evs.specs.Certificates.{Numbering, Certified}
 use Rattle.totem_evs.specs.Faults.{Breaks}
-use Rattle.totem_evs.specs.Answers.{Answer, Yes, No, ListsCycle, HasCertificate, Meets, MeetsPasses, Lists, ListsRings, ListsEach, ListsConfigurations, IsRing, AreRings, pass_a, pass_b, specs_d}
+use Rattle.totem_evs.specs.Answers.{Yes, No, ListsCycle, HasCertificate, Meets, MeetsPasses, Lists, ListsRings, ListsEach, ListsConfigurations, IsRing, AreRings, pass_a, pass_b, specs_d}
 use Rattle.totem_evs.proofs.Ordered.{ordered}
 use Rattle.totem_evs.proofs.Precedence.{each_log_ordered, each_twins_agree}
 use Rattle.totem_evs.proofs.Causal.{place}

@@ -37,6 +37,7 @@ pub mod ReadState
 pub mod Reading
 pub mod Gathered
 pub mod PartLaws
+pub mod TextFaults
 pub mod Answers
 pub mod Meanings
 pub mod Classes

@@ -1,8 +1,8 @@
 -- What the readers of runs answer, and what they leave (docs/SPECIFICATIONS.md, "Run text").
-use Rattle.std.specs.Prelude.{◌≡◌, ℕ, ◌+◌, ◌%◌, ◌^◌, ◌≤◌, List, ◌∷◌, [], Contains, Some, None, Result, Ok, Err}
+use Rattle.std.specs.Prelude.{◌≡◌, ℕ, ◌+◌, ◌%◌, ◌^◌, ◌≤◌, List, ◌∷◌, [], Contains, Option, Some, None, Result, Ok, Err}
 use Rattle.std.specs.Io.KnownBytes.{Consumes, IsAtEnd, Keeps}
 use Rattle.totem_ids.specs.declared.fault.TextFault.TheVariants as text
-use Rattle.totem_ids.specs.Sources.{Seen, Parsed, Comes, Breaks}
+use Rattle.totem_ids.specs.Sources.{Seen, Parsed, Comes, Breaks, BreaksAt, Stops}
 use Rattle.totem_evs.specs.declared.log.Log.{Log}
 use Rattle.totem_evs.specs.declared.run.Run.{Run}
 use Rattle.totem_evs.specs.declared.run_fault.RunFault.{RunFault}
@@ -18,19 +18,20 @@ use Rattle.totem_evs.specs.Parts.{header_at, part_at}
 use Rattle.totem_evs.specs.ReadState.{ReadState, IsFirst, IsPart, Goes, MayCome}
 
 -- the answer fits; a log is missing; the text is faulty as the grammar says, whatever follows the bytes that were
--- taken; the source failed in this call; or memory was refused
+-- taken, the last of which is the first that breaks a rule; it was at its end and too short; the source failed in this
+-- call, behind bytes that begin a text; or memory was refused
 abbrev pub ReadsAs : {X Y : Type 0} → Seen → Seen → (List ℕ → Parsed X) → (Y → Type 0) → (ℕ → Type 0) → Result Y RunFault → Type 0
 ReadsAs old new parse Fits Lacks (Ok y) = Fits y
-ReadsAs old new parse Fits Lacks (Err faults.Header) = Breaks old new parse text.Header
-ReadsAs old new parse Fits Lacks (Err faults.Word) = Breaks old new parse text.Word
-ReadsAs old new parse Fits Lacks (Err faults.Number) = Breaks old new parse text.Number
-ReadsAs old new parse Fits Lacks (Err faults.Order) = Breaks old new parse text.Order
-ReadsAs old new parse Fits Lacks (Err faults.Members) = Breaks old new parse text.Members
-ReadsAs old new parse Fits Lacks (Err faults.End) = Breaks old new parse text.End
+ReadsAs old new parse Fits Lacks (Err faults.Header) = BreaksAt old new parse text.Header
+ReadsAs old new parse Fits Lacks (Err faults.Word) = BreaksAt old new parse text.Word
+ReadsAs old new parse Fits Lacks (Err faults.Number) = BreaksAt old new parse text.Number
+ReadsAs old new parse Fits Lacks (Err faults.Order) = BreaksAt old new parse text.Order
+ReadsAs old new parse Fits Lacks (Err faults.Members) = BreaksAt old new parse text.Members
+ReadsAs old new parse Fits Lacks (Err faults.End) = BreaksAt old new parse text.End
 ReadsAs old new parse Fits Lacks (Err faults.Truncated) = Breaks old new parse text.Truncated
-ReadsAs old new parse Fits Lacks (Err faults.TooMany) = Breaks old new parse text.TooMany
+ReadsAs old new parse Fits Lacks (Err faults.TooMany) = BreaksAt old new parse text.TooMany
 ReadsAs old new parse Fits Lacks (Err (faults.MissingLog p)) = Lacks p
-ReadsAs old new parse Fits Lacks (Err faults.Read) = new.failures ≡ (old.failures + 1) % 2 ^ 64
+ReadsAs old new parse Fits Lacks (Err faults.Read) = Stops old new parse
 ReadsAs old new parse Fits Lacks (Err faults.Memory) = new.failures ≡ old.failures
 
 -- ---- part by part
@@ -64,6 +65,15 @@ FitsNext old new s next.End = HasEnded old new s × ((q : ℕ) → Contains s.wa
 -- the end, where p is the least member that waits
 abbrev pub LacksLog : Seen → Seen → ReadState → ℕ → Type 0
 LacksLog old new s p = HasEnded old new s × Contains s.waiting p × ((q : ℕ) → Contains s.waiting q → p ≤ q)
+
+-- a part with the state behind it, or the end, where no member waits
+abbrev pub FitsPart : Seen → Seen → ReadState → ReadState → Option Part → Type 0
+FitsPart old new s t (Some part) = HasPart old new s part t
+FitsPart old new s t None = HasEnded old new s × ((q : ℕ) → Contains s.waiting q → ⊥)
+
+-- what a step of reading answers that leads from one state to another
+abbrev pub ReadsPart : Seen → Seen → ReadState → ReadState → Result (Option Part) RunFault → Type 0
+ReadsPart old new s t = ReadsAs old new (part_at s.stage) (FitsPart old new s t) (LacksLog old new s)
 
 -- what reading the next part answers
 abbrev pub ReadsNext : Seen → Seen → ReadState → Result Next RunFault → Type 0

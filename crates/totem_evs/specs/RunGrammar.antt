@@ -1,12 +1,11 @@
 -- The grammar of a run's text, from left to right, with the fault of the first byte that breaks a rule
 -- (docs/SPECIFICATIONS.md, "Run text").
 use Rattle.std.specs.Prelude.{ℕ, zero, suc, List, [], ◌∷◌, codes, Option, Some, None, Ok, Err, Bool, true, false, not, ◌&&◌, nat_le, ◌==◌, if◌then◌else◌}
-use Rattle.totem_ids.specs.declared.message.Service.{Service}
-use Rattle.totem_ids.specs.declared.message.Service.TheVariants.{Agreed, Safe}
 use Rattle.totem_ids.specs.declared.fault.TextFault.TheVariants as faults
 use Rattle.totem_ids.specs.Sources.{Parsed, ◌>>=◌}
 use Rattle.totem_ids.specs.Numbers.{byte_at, word_at, number_at}
 use Rattle.totem_ids.specs.Parsers.{message_at, conf_at}
+use Rattle.totem_ids.specs.Services.{service_at}
 use Rattle.totem_evs.specs.declared.entry.Entry.{Entry}
 use Rattle.totem_evs.specs.declared.entry.Entry.TheVariants.{Conf, Send, Deliver, Fail}
 use Rattle.totem_evs.specs.declared.ending.Ending.{Ending}
@@ -42,12 +41,6 @@ change_at full bytes = if full then Err faults.TooMany else do
   x ← conf_at 32 w.1
   members ← members_at 32 0 x.1
   Ok (lines.Entry (Conf x.0 members.0), members.1)
-
--- a service
-unfoldable pub service_at : List ℕ → Parsed Service
-service_at bytes = do
-  b ← byte_at bytes
-  if b.0 == 97 then Ok (Agreed, b.1) else if b.0 == 115 then Ok (Safe, b.1) else Err faults.Word
 
 -- a send
 unfoldable pub send_at : Bool → List ℕ → Parsed Line

@@ -1,5 +1,5 @@
 //! Gathers the logs of a run from its parts.
-ghost use Rattle.std.specs.Prelude.{◌≡◌, IfOk};
+ghost use Rattle.std.specs.Prelude.{◌≡◌, OnOk};
 ghost use Rattle.totem_evs.specs.Gathered.{none_gathered, gathered, MayGather};
 ghost use Rattle.totem_evs.specs.Runs.{IsRun};
 
@@ -11,6 +11,7 @@ use crate::part::Part;
 use crate::run::Run;
 use std::alloc::{AllocError, Global};
 use std::marker::Model;
+use std::mem;
 use totem_ids::ProcId;
 
 /// The logs that have ended, and of the log that has not ended its process and its entries.
@@ -42,45 +43,32 @@ impl Gathered {
     }
 
     /// Adds the part that comes next.
-    pub fn with(self, alloc: Global, part: Part) -> Result<Gathered, AllocError>
-        requires { MayGather self part }
-        ensures { IfOk result (λ g. g ≡ gathered self part) }
+    pub fn add(&mut self, alloc: Global, part: Part) -> Result<(), AllocError>
+        requires { MayGather self.old part }
+        ensures { OnOk result (self.new ≡ gathered self.old part) }
     {
-        let Gathered {
-            mut logs,
-            proc,
-            mut entries,
-        } = self;
         match part {
-            Part::Log(proc) => Ok(Gathered {
-                logs,
-                proc: Some(proc),
-                entries: Vec::new(alloc),
-            }),
+            Part::Log(proc) => {
+                self.proc = Some(proc);
+                self.entries = Vec::new(alloc);
+            }
             Part::Entry(entry) => {
-                entries.push(entry)?;
-                Ok(Gathered {
-                    logs,
-                    proc,
-                    entries,
-                })
+                self.entries.push(entry)?;
             }
             Part::Close(ending) => {
-                if let Some(proc) = proc {
+                let entries = mem::replace(&mut self.entries, Vec::new(alloc));
+                if let Some(proc) = self.proc {
                     let entries = Entries::of(entries);
-                    logs.push(Log {
+                    self.logs.push(Log {
                         proc,
                         entries,
                         ending,
                     })?;
                 }
-                Ok(Gathered {
-                    logs,
-                    proc: None,
-                    entries: Vec::new(alloc),
-                })
+                self.proc = None;
             }
         }
+        Ok(())
     }
 
     /// Returns the run that has these logs.

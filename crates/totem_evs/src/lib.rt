@@ -18,6 +18,7 @@ mod members;
 mod next;
 mod part;
 mod part_laws;
+mod part_reader;
 mod pending;
 mod read_part;
 mod reading;

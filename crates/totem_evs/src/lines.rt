@@ -2,7 +2,7 @@
 ghost use Rattle.std.specs.Prelude.{IfOk, Bool};
 ghost use Rattle.totem_ids.specs.Sources.{Reads, seen};
 ghost use Rattle.totem_evs.specs.NextLines.{MayFollow};
-ghost use Rattle.totem_evs.specs.RunGrammar.{members_at, change_at, service_at, send_at, delivery_at, open_at, failed_at, fail_at, ail_at, failure_at, line_at};
+ghost use Rattle.totem_evs.specs.RunGrammar.{members_at, change_at, send_at, delivery_at, open_at, failed_at, fail_at, ail_at, failure_at, line_at};
 
 use crate::ending::Ending;
 use crate::entry::Entry;
@@ -10,7 +10,7 @@ use crate::line::Line;
 use crate::members::Members;
 use std::alloc::Global;
 use totem_ids::{
-    ProcId, ReadError, Service, Source, TextFault, next, number, read_conf, read_message, word,
+    ProcId, ReadError, Source, TextFault, next, number, read_conf, read_message, read_service, word,
 };
 
 // Members up to the line end.
@@ -50,21 +50,6 @@ fn read_change<S: Source>(alloc: Global, source: &mut S, full: bool) -> Result<L
     let conf = read_conf(source, b' ')?;
     let members = read_members(alloc, source)?;
     Ok(Line::Entry(Entry::Conf(conf, members)))
-}
-
-#[tactic(auto, using(crate::proofs::ReaderSteps::reader_steps), unfolding(crate::specs::RunGrammar::service_at))]
-fn read_service<S: Source>(source: &mut S) -> Result<Service, ReadError>
-    ensures { Reads (seen S.remaining S.failures source.old)
-        (seen S.remaining S.failures source.new) result service_at }
-{
-    let letter = next(source)?;
-    if letter == b'a' {
-        return Ok(Service::Agreed);
-    }
-    if letter == b's' {
-        return Ok(Service::Safe);
-    }
-    Err(ReadError::Text(TextFault::Word))
 }
 
 #[tactic(auto, using(crate::proofs::ReaderSteps::reader_steps), unfolding(crate::specs::RunGrammar::send_at))]

@@ -3,10 +3,10 @@ ghost use Rattle.totem_ids.specs.Sources.{seen};
 ghost use Rattle.totem_evs.specs.Reading.{ReadsRun, ReadsEnd};
 
 use crate::gathered::Gathered;
-use crate::next::Next;
+use crate::heads::read_header;
+use crate::part_reader::PartReader;
 use crate::run::Run;
 use crate::run_fault::RunFault;
-use crate::run_reader::RunReader;
 use std::alloc::Global;
 use totem_ids::Source;
 
@@ -16,15 +16,13 @@ pub fn read_run<S: Source>(alloc: Global, source: &mut S) -> Result<Run, RunFaul
     ensures { ReadsRun (seen S.remaining S.failures source.old)
         (seen S.remaining S.failures source.new) result }
 {
-    let mut reader = RunReader::begin(alloc, source)?;
+    read_header(source)?;
+    let mut parts = PartReader::new(alloc);
     let mut logs = Gathered::new(alloc);
     'parts: loop {
-        match reader.next(source)? {
-            Next::End => return Ok(logs.into_run()),
-            Next::Part(part, later) => {
-                logs = logs.with(alloc, part)?;
-                reader = later;
-            }
+        match parts.next(alloc, source)? {
+            None => return Ok(logs.into_run()),
+            Some(part) => logs.add(alloc, part)?,
         }
     }
 }

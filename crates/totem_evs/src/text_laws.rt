@@ -1,12 +1,13 @@
 //! Laws of the text of runs, each the contract of a function that does nothing.
-ghost use Rattle.std.specs.Prelude.{◌≡◌, ℕ, List, ◌++◌, Ok, Err, false};
+ghost use Rattle.std.specs.Prelude.{◌≡◌, ◌≢◌, ◌↔◌, ℕ, List, ◌++◌, codes, Ok, Err, false};
 ghost use Rattle.totem_ids.specs.declared.fault.TextFault.{TextFault};
-ghost use Rattle.totem_ids.specs.declared.fault.TextFault.TheVariants.{Truncated};
+ghost use Rattle.totem_ids.specs.declared.fault.TextFault.TheVariants.{Header, Word, Number, Order, Members, End, Truncated, TooMany};
 ghost use Rattle.totem_ids.specs.Sources.{FirstBreak, is_short};
 ghost use Rattle.totem_evs.specs.declared.log.Log.{Log};
 ghost use Rattle.totem_evs.specs.RunGrammar.{run_at};
-ghost use Rattle.totem_evs.specs.RunText.{run_text};
+ghost use Rattle.totem_evs.specs.RunText.{line, run_text};
 ghost use Rattle.totem_evs.specs.Runs.{IsRun};
+ghost use Rattle.totem_evs.specs.TextFaults.{Differs, BreaksNumber, IsInPart, HasFault, HasOrder, HasMembers, HasEnd, HasTooMany, HasNoOther};
 ghost use Rattle.totem_evs.specs.TextFronts.{IsWideFront, IsFirstWrong};
 
 /// What the grammar reads as a run keeps the rules of a run, and the bytes that it read are that run's text.
@@ -44,4 +45,56 @@ pub fn cut_text_goes_on()
 /// a rule of the grammar; with that byte no run's text begins.
 pub fn fault_byte_is_first()
     ensures { (bytes : List ℕ) (fault : TextFault) → run_at bytes ≡ Err fault → is_short fault ≡ false → (break : FirstBreak run_at bytes fault) × IsFirstWrong break.front break.byte }
+{}
+
+/// Header is the fault exactly where a byte of the first line differs.
+#[tactic(auto, using(crate::proofs::FaultParts::header_exactly))]
+pub fn header_is_in_the_first_line()
+    ensures { (bytes : List ℕ) → (run_at bytes ≡ Err Header) ↔ Differs (line (codes "totem-run 1")) bytes }
+{}
+
+/// Each fault but Header and Truncated is the fault of a part: the first line and some parts are read, and what the
+/// grammar then wants next has this fault.
+#[tactic(auto, using(crate::proofs::FaultParts::of_a_part))]
+pub fn a_fault_is_of_a_part()
+    ensures { (bytes : List ℕ) (fault : TextFault) → fault ≢ Header → fault ≢ Truncated → (run_at bytes ≡ Err fault) ↔ IsInPart bytes (HasFault fault) }
+{}
+
+/// Number is the fault exactly where a number is read and none in range begins: its first byte is no digit or a zero, or
+/// a digit takes it out of range.
+#[tactic(auto, using(crate::proofs::NumberFaults::run_number))]
+pub fn number_is_of_a_number()
+    ensures { (bytes : List ℕ) → (run_at bytes ≡ Err Number) ↔ BreaksNumber run_at bytes }
+{}
+
+/// Order is the fault exactly where fewer than 32 logs have come and a log begins whose process, complete at the byte
+/// behind it, is not above the last one.
+#[tactic(auto, using(crate::proofs::FaultParts::run_order))]
+pub fn order_is_of_a_log_that_does_not_rise()
+    ensures { (bytes : List ℕ) → (run_at bytes ≡ Err Order) ↔ IsInPart bytes HasOrder }
+{}
+
+/// Members is the fault exactly where a change has a member, at most its 32nd, that is complete at the byte behind it
+/// and not above the one before.
+#[tactic(auto, using(crate::proofs::FaultParts::run_members))]
+pub fn members_is_of_a_member_that_does_not_rise()
+    ensures { (bytes : List ℕ) → (run_at bytes ≡ Err Members) ↔ IsInPart bytes HasMembers }
+{}
+
+/// End is the fault exactly where a closing word begins, past what an entry could begin with, that the log may not
+/// close with.
+#[tactic(auto, using(crate::proofs::FaultParts::run_end))]
+pub fn end_is_of_a_closing_word()
+    ensures { (bytes : List ℕ) → (run_at bytes ≡ Err End) ↔ IsInPart bytes HasEnd }
+{}
+
+/// TooMany is the fault exactly where a 33rd log, a 1,000,001st entry or a 33rd member of a change begins.
+#[tactic(auto, using(crate::proofs::FaultParts::run_many))]
+pub fn too_many_is_past_a_limit()
+    ensures { (bytes : List ℕ) → (run_at bytes ≡ Err TooMany) ↔ IsInPart bytes HasTooMany }
+{}
+
+/// A fault other than that of a text that ends too soon is Word exactly where no other one has its place.
+pub fn word_is_the_rest()
+    ensures { (bytes : List ℕ) (fault : TextFault) → is_short fault ≡ false → run_at bytes ≡ Err fault → (fault ≡ Word) ↔ HasNoOther bytes }
 {}

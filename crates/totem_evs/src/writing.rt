@@ -2,7 +2,6 @@
 ghost use Rattle.std.specs.Prelude.{◌≡◌, [], ◌∷◌, ◌++◌, codes};
 ghost use Rattle.std.specs.List.{flat_map};
 ghost use Rattle.totem_ids.specs.Writing.{Writes, held};
-ghost use Rattle.totem_ids.specs.Texts.{service_text};
 ghost use Rattle.totem_evs.specs.RunText.{line, members_text, entry_text, ending_text, log_text, run_text};
 ghost use Rattle.totem_evs.specs.WriteRun.{WritesText};
 
@@ -13,7 +12,7 @@ use crate::members::Members;
 use crate::run::Run;
 use std::alloc::Global;
 use thiserror::Error;
-use totem_ids::{Failed, Pieces, Service, Sink};
+use totem_ids::{Failed, Pieces, Sink};
 
 /// Why a text could not be written.
 #[derive(Clone, Copy, Debug, PartialEq, Eq, Error)]
@@ -61,16 +60,6 @@ fn put_members<S: Sink>(pieces: &mut Pieces, sink: &mut S, members: &Members) ->
     Ok(())
 }
 
-fn put_service<S: Sink>(pieces: &mut Pieces, sink: &mut S, service: Service) -> Result<(), Failed>
-    ensures { Writes (held S.contents S.failures pieces.old sink.old)
-        (held S.contents S.failures pieces.new sink.new) result (service_text service) }
-{
-    match service {
-        Service::Agreed => pieces.put(sink, b"a"),
-        Service::Safe => pieces.put(sink, b"s"),
-    }
-}
-
 /// Writes an entry without the end of its line.
 #[tactic(auto, using(totem_ids::proofs::Writers::wrote_then, totem_ids::proofs::Writers::wrote_failed))]
 fn put_entry<S: Sink>(pieces: &mut Pieces, sink: &mut S, entry: &Entry) -> Result<(), Failed>
@@ -87,7 +76,7 @@ fn put_entry<S: Sink>(pieces: &mut Pieces, sink: &mut S, entry: &Entry) -> Resul
             pieces.put(sink, b"send ")?;
             pieces.put_conf(sink, conf)?;
             pieces.put(sink, b" ")?;
-            put_service(pieces, sink, *service)?;
+            pieces.put_service(sink, *service)?;
             pieces.put(sink, b" ")?;
             pieces.put_message(sink, *message)
         }

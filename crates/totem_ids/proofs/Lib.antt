@@ -4,3 +4,6 @@ pub mod Spelled
 pub mod Spellings
 pub mod Orderings
 pub mod Writers
+pub mod ServiceSpelling
+pub mod RankParts
+pub mod Lives

@@ -7,7 +7,7 @@ use Rattle.totem_ids.specs.declared.conf.ConfId.TheVariants.{Regular, Transition
 use Rattle.totem_ids.specs.Names.{RingName, MessageName, PlaceName}
 use Rattle.totem_ids.specs.Orders.{RingBelow, MessageBelow, PlaceBelow, ConfBelow, IsStrictOrder}
 
-numbers : IsStrictOrder (λ (a b : ℕ). a < b)
+pub numbers : IsStrictOrder (λ (a b : ℕ). a < b)
 numbers = record {
   strict = λ a h. omega arith;
   goes_on = λ a b c h k. omega arith;

@@ -48,6 +48,17 @@ pub record FirstBreak {Y : Type 0} (parse : List ℕ → Parsed Y) (bytes : List
   pub before : parse front ≡ Err Truncated
   pub at : parse (front ++ byte ∷ []) ≡ Err fault
 
+-- the last of these bytes is the first that breaks a rule: those in front of it begin a text
+pub record EndsAtBreak {Y : Type 0} (parse : List ℕ → Result Y TextFault) (bytes : List ℕ) : Type 0 where
+  pub front : List ℕ
+  pub byte : ℕ
+  pub whole : bytes ≡ front ++ byte ∷ []
+  pub before : parse front ≡ Err Truncated
+
+-- without the last of these bytes the text is too short
+abbrev pub WantsLast : {Y : Type 0} → (List ℕ → Result Y TextFault) → List ℕ → Type 0
+WantsLast parse bytes = (front : List ℕ) (byte : ℕ) → bytes ≡ front ++ byte ∷ [] → parse front ≡ Err Truncated
+
 -- ---- readers
 
 -- what is known of a source: the bytes that it has left, and how often it has failed
@@ -59,14 +70,17 @@ pub record Seen : Type 0 where
 abbrev pub seen : {S : Type 0} → (S → Option (List ℕ)) → (S → ℕ) → S → Seen
 seen remaining failures s = record { remaining = remaining s; failures = failures s }
 
--- some bytes were taken; whatever follows them, parsing the whole comes to parsing what follows by rest
+-- some bytes were taken, none behind the one that settled the answer; whatever follows them, parsing the whole comes to
+-- parsing what follows by rest
 pub record Comes {Y : Type 0} (old new : Seen) (parse rest : List ℕ → Result Y TextFault) : Type 0 where
   pub read : List ℕ
   pub taken : Consumes old.remaining new.remaining read
   pub failures : new.failures ≡ old.failures
   pub left : (more : List ℕ) → parse (read ++ more) ≡ rest more
+  pub before : WantsLast parse read
 
--- some bytes were taken, and parsing them gives a fault: whatever follows them, or they are all that was left
+-- some bytes were taken, none behind the one that broke a rule, and parsing them gives a fault: whatever follows them, or
+-- they are all that was left
 pub record Breaks {Y : Type 0} (old new : Seen) (parse : List ℕ → Result Y TextFault) (fault : TextFault) : Type 0 where
   pub read : List ℕ
   pub taken : Consumes old.remaining new.remaining read
@@ -74,11 +88,24 @@ pub record Breaks {Y : Type 0} (old new : Seen) (parse : List ℕ → Result Y T
   pub broken : parse read ≡ Err fault
   pub stays : is_short fault ≡ false → (more : List ℕ) → parse (read ++ more) ≡ Err fault
   pub whole : is_short fault ≡ true → IfSome old.remaining (λ bytes. bytes ≡ read)
+  pub before : WantsLast parse read
+
+-- the last byte taken is the first that breaks a rule, and the fault is its fault
+pub record BreaksAt {Y : Type 0} (old new : Seen) (parse : List ℕ → Result Y TextFault) (fault : TextFault) : Type 0 where
+  pub breaks : Breaks old new parse fault
+  pub last : EndsAtBreak parse breaks.read
+
+-- the source failed, and the bytes that were taken until then begin a text
+pub record Stops {Y : Type 0} (old new : Seen) (parse : List ℕ → Result Y TextFault) : Type 0 where
+  pub read : List ℕ
+  pub taken : Consumes old.remaining new.remaining read
+  pub failures : new.failures ≡ (old.failures + 1) % 2 ^ 64
+  pub short : parse read ≡ Err Truncated
 
 -- a reader answers what the parser answers for the bytes that it took, whatever follows them, unless the source
 -- failed in this call or memory was refused
 abbrev pub Reads : {Y : Type 0} → Seen → Seen → Result Y ReadError → (List ℕ → Parsed Y) → Type 0
 Reads old new (Ok y) parse = Comes old new parse (λ more. Ok (y, more))
 Reads old new (Err errors.Memory) parse = new.failures ≡ old.failures
-Reads old new (Err errors.Read) parse = new.failures ≡ (old.failures + 1) % 2 ^ 64
+Reads old new (Err errors.Read) parse = Stops old new parse
 Reads old new (Err (errors.Text fault)) parse = Breaks old new parse fault

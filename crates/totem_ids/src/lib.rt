@@ -7,17 +7,22 @@ mod display;
 mod fault;
 mod fused;
 mod laws;
+mod life;
 mod message;
 mod names;
 mod pieces;
 mod place;
 mod process;
+mod process_laws;
+mod processes;
 mod reading;
 mod retry;
 mod ring;
+mod services;
 mod sink;
 mod source;
 mod text_place;
+mod version;
 mod writing;
 
 pub use buffered::Buffered;
@@ -29,13 +34,18 @@ pub use laws::{
     number_spelling, place_fits, place_order, place_spelling, process_fits, process_spelling,
     ring_fits, ring_order, ring_spelling,
 };
+pub use life::Proc;
 pub use message::{MsgId, Service};
 pub use names::{read_conf, read_message, read_place, read_ring};
 pub use pieces::Pieces;
 pub use place::Place;
 pub use process::ProcId;
+pub use process_laws::{life_fits, life_order, life_spelling, service_spelling};
+pub use processes::{read_process, read_process_to};
 pub use reading::{next, number, number_to, read_proc, word};
 pub use ring::RingId;
+pub use services::read_service;
 pub use sink::{Sink, ToWrite};
 pub use source::{Failed, FromRead, Source};
 pub use text_place::TextPlace;
+pub use version::Version;

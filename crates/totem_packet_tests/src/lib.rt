@@ -2,6 +2,8 @@
 #![tactic(auto)]
 
 #[cfg(test)]
+mod lives;
+#[cfg(test)]
 mod names;
 #[cfg(test)]
 mod old_rings;

@@ -84,10 +84,10 @@ pub(crate) fn memory(text: &str) -> FromRead<&[u8]> {
     FromRead::new(text.as_bytes())
 }
 
-type Text<'a> = FromRead<&'a [u8]>;
+pub(crate) type Text<'a> = FromRead<&'a [u8]>;
 
 /// What was read as it is written, or why it was not.
-fn told<T: Display + Drop>(
+pub(crate) fn told<T: Display + Drop>(
     alloc: Global,
     answer: Result<T, ReadError>,
 ) -> Result<String, AllocError> {

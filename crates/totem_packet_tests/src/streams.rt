@@ -48,7 +48,7 @@ fn answers<S: Sink>(alloc: Global, sink: &mut S, pieces: &[&str]) -> Result<Stri
     Ok(text)
 }
 
-fn push_bytes(text: &mut String, bytes: &[u8]) -> Result<(), AllocError> {
+pub(crate) fn push_bytes(text: &mut String, bytes: &[u8]) -> Result<(), AllocError> {
     for byte in bytes {
         text.push(char::from(*byte))?;
     }

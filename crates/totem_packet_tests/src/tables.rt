@@ -1,11 +1,12 @@
 //! The tables of questions and answers, and the one test that goes through them.
+use crate::lives::LIVES;
 use crate::names::NAMES;
 use crate::old_rings::OLD_RINGS;
 use crate::packet_parts::PARTS;
 use crate::packet_values::Case;
 use crate::process_sets::SETS;
 use crate::streams::STREAMS;
-use crate::{names, old_rings, packet_parts, process_sets, streams};
+use crate::{lives, names, old_rings, packet_parts, process_sets, streams};
 use std::alloc::{AllocError, Global};
 use std::test::Fail;
 
@@ -13,6 +14,7 @@ use std::test::Fail;
 fn told(alloc: Global, topic: &str, words: &str) -> Result<String, AllocError> {
     match topic {
         "names" => names::answer(alloc, words),
+        "lives" => lives::answer(alloc, words),
         "streams" => streams::told(alloc, words),
         "parts" => packet_parts::told(alloc, words),
         "sets" => process_sets::told(alloc, words),
@@ -20,8 +22,9 @@ fn told(alloc: Global, topic: &str, words: &str) -> Result<String, AllocError> {
     }
 }
 
-const TABLES: [(&str, &[Case]); 5] = [
+const TABLES: [(&str, &[Case]); 6] = [
     ("names", &NAMES),
+    ("lives", &LIVES),
     ("streams", &STREAMS),
     ("parts", &PARTS),
     ("sets", &SETS),

@@ -1,7 +1,12 @@
 use Rattle.std.proofs.Common.{refl, rules}
 use Rattle.std.proofs.lemmas.Result.{err_from_is_err_and}
-use Rattle.totem_cluster.proofs.Reported.{whole_pair, report_failed}
+use Rattle.totem_cluster.proofs.Reported.{whole_pair, certificate_failed, report_failed}
 use Rattle.totem_cluster.proofs.checking.check_io.Goals as goal
+
+pub returns-in_err-certificate : goal.returns-in_err-certificate
+returns-in_err-certificate g c =
+    let p = err_from_is_err_and c.from_residual-in_err-certificate.result c.from_residual-in_err-certificate.ensures.1 in
+    rw (p.1, p.2) (certificate_failed _ _ _ _ c.in_ok-run.run' _ c.in_ok-run.ensures c.in_err-certificate.ensures)
 
 pub returns-in_err-write_accepted-in-Ok : goal.returns-in_err-write_accepted-in-Ok
 returns-in_err-write_accepted-in-Ok g c =

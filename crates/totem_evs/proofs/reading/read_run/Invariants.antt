@@ -1,4 +1,5 @@
 use Rattle.totem_ids.specs.Sources.{seen}
+use Rattle.totem_evs.specs.ReadState.{IsReadState}
 use Rattle.totem_evs.proofs.FoldedRun.{Folded}
 use Rattle.totem_evs.proofs.Gathers.{parts_left}
 use Rattle.totem_evs.proofs.reading.read_run.Given as goal
@@ -6,7 +7,7 @@ use Rattle.totem_evs.proofs.reading.read_run.Given as goal
 abbrev pub invariant-parts : goal.invariant-parts
 invariant-parts g l =
     let known = seen g.S.Source.remaining g.S.Source.failures in
-    Folded (known l.fn.source) (known l.source) l.reader l.logs
+    Folded (known l.fn.source) (known l.source) l.parts l.logs × IsReadState l.parts
 
 abbrev pub decreases-parts : goal.decreases-parts
-decreases-parts g l = parts_left l.reader.stage
+decreases-parts g l = parts_left l.parts.stage

@@ -1,0 +1,386 @@
+-- Where a fault of a run's text stands: members that do not rise, and what a limit refuses.
+use Rattle.std.specs.Prelude.{◌==◌, nat_le, codes, decimal, not, ◌&&◌, ◌↔◌}
+use Rattle.std.proofs.Common.{◌≡◌, ℕ, zero, suc, ◌<◌, ◌≤◌, ◌⊎◌, inl, inr, List, [], ◌∷◌, ◌++◌, length, Bool, true, false, cond, Ok, Err, refl, sym, ap, subst, ◌∙◌, append_assoc, arith}
+use Rattle.std.proofs.lemmas.Bool.Decides.{nat_tests}
+use Rattle.totem_ids.specs.declared.conf.ConfId.{ConfId}
+use Rattle.totem_ids.specs.declared.fault.TextFault.{TextFault}
+use Rattle.totem_ids.specs.declared.fault.TextFault.TheVariants as faults
+use Rattle.totem_ids.specs.Sources.{◌>>=◌}
+use Rattle.totem_ids.specs.Numbers.{is_digit, word_at, number_at}
+use Rattle.totem_ids.specs.Parsers.{conf_at}
+use Rattle.totem_ids.specs.Texts.{conf_text, IsConf, IsProcess}
+use Rattle.totem_ids.proofs.Readers.{last_of}
+use Rattle.totem_ids.proofs.Spelled.{taken, word_is, word_again, number_is, number_again, conf_is, conf_again}
+use Rattle.totem_evs.specs.declared.line.Line.{Line}
+use Rattle.totem_evs.specs.declared.line.Line.TheVariants as lines
+use Rattle.totem_evs.specs.declared.entry.Entry.TheVariants.{Conf}
+use Rattle.totem_evs.specs.Members.{IsMembers}
+use Rattle.totem_evs.specs.RunText.{members_text}
+use Rattle.totem_evs.specs.RunGrammar.{members_at, change_at, send_at, delivery_at, fail_at, ail_at, failure_at, line_at}
+use Rattle.totem_evs.specs.TextFaults.{BeginsEntry, HasManyMembers, IsMemberBelow}
+use Rattle.totem_evs.proofs.FromLeft.{Rises, are_members, members_from}
+use Rattle.totem_evs.proofs.SpelledLine.{not_within}
+use Rattle.totem_evs.proofs.OnlyFaults.{OfNames, ok_only, fault_only, word_only, number_only, conf_only, sent_only, delivered_only, lost_only, open_only, failed_only}
+use Rattle.totem_evs.proofs.PartFaults.{bind_case, byte_pick, line_case, ail_case}
+
+-- ---- TooMany
+
+abbrev pub NotMany : TextFault → Type 0
+NotMany faults.Header = Unit {0}
+NotMany faults.Word = Unit {0}
+NotMany faults.Number = Unit {0}
+NotMany faults.Order = Unit {0}
+NotMany faults.Members = Unit {0}
+NotMany faults.End = Unit {0}
+NotMany faults.Truncated = Unit {0}
+NotMany faults.TooMany = ⊥
+
+pub names_not_many : OfNames NotMany
+names_not_many = record { word = tt; number = tt; short = tt }
+
+-- rising members, as many as there may be, and a space
+record IsFull (room last : ℕ) (bytes : List ℕ) : Type 0 where
+  members : List ℕ
+  rest : List ℕ
+  rises : Rises 65535 last members
+  many : length members ≡ room
+  is : 32 ∷ bytes ≡ members_text members ++ 32 ∷ rest
+
+one_member : (p : ℕ) (ms bytes mid rest : List ℕ) → bytes ≡ decimal p ++ 32 ∷ mid → 32 ∷ mid ≡ members_text ms ++ 32 ∷ rest → 32 ∷ bytes ≡ members_text (p ∷ ms) ++ 32 ∷ rest
+one_member p ms bytes mid rest e f =
+    ap (λ (t : List ℕ). 32 ∷ t) (e ∙ ap (λ (t : List ℕ). decimal p ++ t) f ∙ sym (append_assoc (decimal p) (members_text ms) (32 ∷ rest)))
+
+members_full : (room last : ℕ) (bytes : List ℕ) → members_at room last bytes ≡ Err faults.TooMany → IsFull room last bytes
+unfolding members_at
+members_full zero last bytes e = record { members = []; rest = bytes; rises = tt; many = refl; is = refl }
+members_full (suc room) last bytes e =
+    bind_case (number_at 65535 bytes) (λ p. cond (nat_le p.0.0 last) (Err faults.Members) (cond (p.0.1 == 10) (Ok (p.0.0 ∷ [], p.1)) (cond (p.0.1 == 32) (members_at room p.0.0 p.1 >>= λ others. Ok (p.0.0 ∷ others.0, others.1)) (Err faults.Word)))) faults.TooMany e
+    (λ k. absurd ((number_only NotMany 65535 bytes names_not_many).fault faults.TooMany k))
+    (λ p mid e1 k.
+    let x = number_is 65535 p.0 p.1 bytes mid (omega arith) (omega arith) e1 in
+    elim (taken (nat_le p.0 last) (Err faults.Members) (cond (p.1 == 10) (Ok (p.0 ∷ [], mid)) (cond (p.1 == 32) (members_at room p.0 mid >>= λ others. Ok (p.0 ∷ others.0, others.1)) (Err faults.Word))) (Err faults.TooMany) k) [
+      | inl y ↦ absurd ((fault_only {A = List ℕ} NotMany faults.Members tt).fault faults.TooMany y.1)
+      | inr y ↦ byte_pick p.1 10 (Ok (p.0 ∷ [], mid)) (cond (p.1 == 32) (members_at room p.0 mid >>= λ others. Ok (p.0 ∷ others.0, others.1)) (Err faults.Word)) (Err faults.TooMany) y.1
+          (λ h k. absurd ((ok_only {A = List ℕ} NotMany (p.0 ∷ [], mid)).fault faults.TooMany k))
+          (λ k. byte_pick p.1 32 (members_at room p.0 mid >>= λ others. Ok (p.0 ∷ others.0, others.1)) (Err faults.Word) (Err faults.TooMany) k
+          (λ h k. bind_case (members_at room p.0 mid) (λ others. Ok (p.0 ∷ others.0, others.1)) faults.TooMany k
+          (λ k.
+          let tail = members_full room p.0 mid k in
+          record {
+            members = p.0 ∷ tail.members;
+            rest = tail.rest;
+            rises = (not_within p.0 last y.0, x.small, tail.rises);
+            many = ap suc tail.many;
+            is = one_member p.0 tail.members bytes mid tail.rest (x.spelled ∙ ap (λ (b : ℕ). decimal p.0 ++ b ∷ mid) h) tail.is;
+          })
+          (λ others left e2 k. absurd ((ok_only {A = List ℕ} NotMany (p.0 ∷ others, left)).fault faults.TooMany k)))
+          (λ k. absurd ((fault_only {A = List ℕ} NotMany faults.Word tt).fault faults.TooMany k)))
+    ])
+
+full_members : (room last p : ℕ) (ps rest : List ℕ) → Rises 65535 last (p ∷ ps) → length (p ∷ ps) ≡ room → members_at room last (decimal p ++ (members_text ps ++ 32 ∷ rest)) ≡ Err faults.TooMany
+unfolding members_at
+full_members zero last p ps rest h many = absurd (omega arith)
+full_members (suc room) last p [] rest h many =
+    let above : nat_le p last ≡ false = (let lt = h.0 in grind (arith, nat_tests)) in
+    let none : room ≡ 0 = omega arith in
+    rw (number_again 65535 p 32 rest (omega (arith, h.0)) (omega (arith, h.1)) (omega arith) refl, above, none) refl
+full_members (suc room) last p (q ∷ ps) rest h many =
+    let above : nat_le p last ≡ false = (let lt = h.0 in grind (arith, nat_tests)) in
+    let regrouped : members_text (q ∷ ps) ++ 32 ∷ rest ≡ 32 ∷ (decimal q ++ (members_text ps ++ 32 ∷ rest)) = simp append_assoc in
+    rw (regrouped, number_again 65535 p 32 (decimal q ++ (members_text ps ++ 32 ∷ rest)) (omega (arith, h.0)) (omega (arith, h.1)) (omega arith) refl, above, full_members room p q ps rest h.2 (omega arith)) refl
+
+-- a change up to its members
+change_text : (x t u : List ℕ) (rest : List ℕ) → 32 ∷ rest ≡ t ++ u → codes "onf " ++ (x ++ 32 ∷ rest) ≡ codes "onf " ++ (x ++ (t ++ u))
+change_text x t u rest e = ap (λ (k : List ℕ). codes "onf " ++ (x ++ k)) e
+
+change_members : {P : Type 0} (Not : TextFault → Type 0) (bytes : List ℕ) (f : TextFault) → OfNames Not → (Not f → ⊥) → change_at false bytes ≡ Err f
+    → ((x : ConfId) (rest : List ℕ) → IsConf x → bytes ≡ codes "onf " ++ (conf_text x ++ 32 ∷ rest) → members_at 32 0 rest ≡ Err f → P) → P
+unfolding change_at
+change_members Not bytes f names never e then =
+    bind_case (word_at faults.Word (codes "onf ") bytes) (λ w. conf_at 32 w.1 >>= λ x. members_at 32 0 x.1 >>= λ members. Ok (lines.Entry (Conf x.0 members.0), members.1)) f e
+    (λ k. absurd (never ((word_only Not faults.Word (codes "onf ") bytes names.word names.short).fault f k)))
+    (λ w b1 e1 k. bind_case (conf_at 32 b1) (λ x. members_at 32 0 x.1 >>= λ members. Ok (lines.Entry (Conf x.0 members.0), members.1)) f k
+    (λ k. absurd (never ((conf_only Not 32 b1 names).fault f k)))
+    (λ x b2 e2 k. bind_case (members_at 32 0 b2) (λ members. Ok (lines.Entry (Conf x members.0), members.1)) f k
+    (λ k. let y = conf_is 32 x b1 b2 e2 in then x b2 y.0 (word_is faults.Word (codes "onf ") bytes b1 w e1 ∙ ap (λ (t : List ℕ). codes "onf " ++ t) y.1) k)
+    (λ members left e3 k. absurd cc)))
+
+members_change : (x : ConfId) (rest : List ℕ) (f : TextFault) → IsConf x → members_at 32 0 rest ≡ Err f → change_at false (codes "onf " ++ (conf_text x ++ 32 ∷ rest)) ≡ Err f
+unfolding change_at
+members_change x rest f is e = rw (word_again faults.Word (codes "onf ") (conf_text x ++ 32 ∷ rest)) (rw (conf_again 32 x rest refl is) (rw e refl))
+
+change_many : (bytes rest : List ℕ) → bytes ≡ 99 ∷ rest → change_at false rest ≡ Err faults.TooMany → HasManyMembers bytes
+change_many bytes rest is e =
+    change_members NotMany rest faults.TooMany names_not_many (λ no'. no') e (λ x left fits text k.
+    let m = members_full 32 0 left k in
+    record {
+      conf = x;
+      members = m.members;
+      rest = m.rest;
+      conf_fits = fits;
+      are = are_members m.members (record { some = omega (arith, m.many); few = omega (arith, m.many); rises = m.rises });
+      many = m.many;
+      is = is ∙ ap (λ (t : List ℕ). 99 ∷ t) (text ∙ change_text (conf_text x) (members_text m.members) (32 ∷ m.rest) left m.is);
+    })
+
+many_change : (bytes : List ℕ) → HasManyMembers bytes → (rest : List ℕ) × (bytes ≡ 99 ∷ rest) × (change_at false rest ≡ Err faults.TooMany)
+many_change bytes h = go h.members h.are h.many h.is
+  where
+    go : (ms : List ℕ) → IsMembers ms → length ms ≡ 32 → bytes ≡ codes "conf " ++ (conf_text h.conf ++ (members_text ms ++ 32 ∷ h.rest)) → (rest : List ℕ) × (bytes ≡ 99 ∷ rest) × (change_at false rest ≡ Err faults.TooMany)
+    go [] are many is = absurd (omega arith)
+    go (p ∷ ps) are many is =
+        let from = members_from (p ∷ ps) are in
+        let tail = decimal p ++ (members_text ps ++ 32 ∷ h.rest) in
+        let regrouped : members_text (p ∷ ps) ++ 32 ∷ h.rest ≡ 32 ∷ tail = simp append_assoc in (
+          codes "onf " ++ (conf_text h.conf ++ 32 ∷ tail),
+          is ∙ ap (λ (t : List ℕ). codes "conf " ++ (conf_text h.conf ++ t)) regrouped,
+          members_change h.conf tail faults.TooMany h.conf_fits (full_members 32 0 p ps h.rest from.rises many),
+        )
+
+abbrev ManyIn : Bool → Bool → List ℕ → Type 0
+ManyIn full failed bytes = ((full ≡ true) × BeginsEntry failed bytes) ⊎ ((full ≡ false) × HasManyMembers bytes)
+
+full_failure : (failed : Bool) (bytes rest : List ℕ) → bytes ≡ 102 ∷ rest → failure_at true failed rest ≡ Err faults.TooMany → BeginsEntry failed bytes
+unfolding failure_at
+full_failure false bytes rest is e = inr (inl (rest, refl, is))
+full_failure true bytes rest is e =
+    ail_case true true rest faults.TooMany (λ h. absurd cc) (λ h. absurd cc) e
+    (λ more behind k. absurd ((failed_only NotMany true more names_not_many tt).fault faults.TooMany k))
+    (λ more behind k. inr (inr (more, refl, is ∙ ap (λ (t : List ℕ). 102 ∷ t) behind)))
+
+few_failure : (failed : Bool) (rest : List ℕ) → failure_at false failed rest ≡ Err faults.TooMany → ⊥
+unfolding failure_at
+few_failure failed rest e =
+    ail_case false failed rest faults.TooMany (λ h. absurd cc) (λ h. absurd cc) e
+    (λ more behind k. (failed_only NotMany failed more names_not_many tt).fault faults.TooMany k)
+    (λ more behind k. (lost_only NotMany more names_not_many).fault faults.TooMany k)
+
+line_many : (full some failed : Bool) (bytes : List ℕ) → line_at full some failed bytes ≡ Err faults.TooMany → ManyIn full failed bytes
+line_many true some failed bytes e =
+    line_case true some failed bytes faults.TooMany (λ h. absurd cc) (λ h. absurd cc) e
+    (λ rest is k. inl (refl, inl (rest, inl is)))
+    (λ rest is k. inl (refl, inl (rest, inr (inl is))))
+    (λ rest is k. inl (refl, inl (rest, inr (inr is))))
+    (λ rest is k. inl (refl, full_failure failed bytes rest is k))
+    (λ rest is k. absurd ((open_only NotMany some failed rest names_not_many tt).fault faults.TooMany k))
+line_many false some failed bytes e =
+    line_case false some failed bytes faults.TooMany (λ h. absurd cc) (λ h. absurd cc) e
+    (λ rest is k. inr (refl, change_many bytes rest is k))
+    (λ rest is k. absurd ((sent_only NotMany rest names_not_many).fault faults.TooMany k))
+    (λ rest is k. absurd ((delivered_only NotMany rest names_not_many).fault faults.TooMany k))
+    (λ rest is k. absurd (few_failure failed rest k))
+    (λ rest is k. absurd ((open_only NotMany some failed rest names_not_many tt).fault faults.TooMany k))
+
+many_line : (full some failed : Bool) (bytes : List ℕ) → ManyIn full failed bytes → line_at full some failed bytes ≡ Err faults.TooMany
+unfolding line_at change_at send_at delivery_at failure_at ail_at fail_at word_at
+many_line full some failed bytes (inl (is_full, inl (rest, inl is))) = rw (is, is_full) refl
+many_line full some failed bytes (inl (is_full, inl (rest, inr (inl is)))) = rw (is, is_full) refl
+many_line full some failed bytes (inl (is_full, inl (rest, inr (inr is)))) = rw (is, is_full) refl
+many_line full some failed bytes (inl (is_full, inr (inl (rest, ends, is)))) = rw (is, is_full, ends) refl
+many_line full some failed bytes (inl (is_full, inr (inr (rest, ends, is)))) = rw (is, is_full, ends) refl
+many_line full some failed bytes (inr (not_full, h)) = let x = many_change bytes h in rw (x.1, not_full) x.2
+
+pub many_exactly : (full some failed : Bool) (bytes : List ℕ) → (line_at full some failed bytes ≡ Err faults.TooMany) ↔ (((full ≡ true) × BeginsEntry failed bytes) ⊎ ((full ≡ false) × HasManyMembers bytes))
+many_exactly full some failed bytes = (line_many full some failed bytes, many_line full some failed bytes)
+
+-- ---- Members
+
+abbrev pub NotMembers : TextFault → Type 0
+NotMembers faults.Header = Unit {0}
+NotMembers faults.Word = Unit {0}
+NotMembers faults.Number = Unit {0}
+NotMembers faults.Order = Unit {0}
+NotMembers faults.Members = ⊥
+NotMembers faults.End = Unit {0}
+NotMembers faults.Truncated = Unit {0}
+NotMembers faults.TooMany = Unit {0}
+
+pub names_not_members : OfNames NotMembers
+names_not_members = record { word = tt; number = tt; short = tt }
+
+last_from : ℕ → List ℕ → ℕ
+last_from last [] = last
+last_from last (p ∷ ps) = last_from p ps
+
+last_from_end : (last x : ℕ) (front : List ℕ) → last_from last (front ++ x ∷ []) ≡ x
+unfolding last_from
+last_from_end last x [] = refl
+last_from_end last x (p ∷ front) = last_from_end p x front
+
+-- rising members, and one that is not above them
+record Falls (room last : ℕ) (bytes : List ℕ) : Type 0 where
+  members : List ℕ
+  member : ℕ
+  byte : ℕ
+  rest : List ℕ
+  rises : Rises 65535 last members
+  few : length members < room
+  fits : IsProcess member
+  below : member ≤ last_from last members
+  complete : is_digit byte ≡ false
+  is : 32 ∷ bytes ≡ members_text members ++ 32 ∷ (decimal member ++ byte ∷ rest)
+
+within_is : (a b : ℕ) → nat_le a b ≡ true → a ≤ b
+within_is a b h = grind (arith, nat_tests)
+
+members_fall : (room last : ℕ) (bytes : List ℕ) → members_at room last bytes ≡ Err faults.Members → Falls room last bytes
+unfolding members_at last_from
+members_fall zero last bytes e = absurd ((fault_only {A = List ℕ} NotMembers faults.TooMany tt).fault faults.Members e)
+members_fall (suc room) last bytes e =
+    bind_case (number_at 65535 bytes) (λ p. cond (nat_le p.0.0 last) (Err faults.Members) (cond (p.0.1 == 10) (Ok (p.0.0 ∷ [], p.1)) (cond (p.0.1 == 32) (members_at room p.0.0 p.1 >>= λ others. Ok (p.0.0 ∷ others.0, others.1)) (Err faults.Word)))) faults.Members e
+    (λ k. absurd ((number_only NotMembers 65535 bytes names_not_members).fault faults.Members k))
+    (λ p mid e1 k.
+    let x = number_is 65535 p.0 p.1 bytes mid (omega arith) (omega arith) e1 in
+    elim (taken (nat_le p.0 last) (Err faults.Members) (cond (p.1 == 10) (Ok (p.0 ∷ [], mid)) (cond (p.1 == 32) (members_at room p.0 mid >>= λ others. Ok (p.0 ∷ others.0, others.1)) (Err faults.Word))) (Err faults.Members) k) [
+      | inl y ↦ record {
+        members = [];
+        member = p.0;
+        byte = p.1;
+        rest = mid;
+        rises = tt;
+        few = omega arith;
+        fits = record { positive = x.positive; small = x.small };
+        below = within_is p.0 last y.0;
+        complete = x.behind;
+        is = ap (λ (t : List ℕ). 32 ∷ t) x.spelled;
+      }
+      | inr y ↦ byte_pick p.1 10 (Ok (p.0 ∷ [], mid)) (cond (p.1 == 32) (members_at room p.0 mid >>= λ others. Ok (p.0 ∷ others.0, others.1)) (Err faults.Word)) (Err faults.Members) y.1
+          (λ h k. absurd ((ok_only {A = List ℕ} NotMembers (p.0 ∷ [], mid)).fault faults.Members k))
+          (λ k. byte_pick p.1 32 (members_at room p.0 mid >>= λ others. Ok (p.0 ∷ others.0, others.1)) (Err faults.Word) (Err faults.Members) k
+          (λ h k. bind_case (members_at room p.0 mid) (λ others. Ok (p.0 ∷ others.0, others.1)) faults.Members k
+          (λ k.
+          let tail = members_fall room p.0 mid k in
+          record {
+            members = p.0 ∷ tail.members;
+            member = tail.member;
+            byte = tail.byte;
+            rest = tail.rest;
+            rises = (not_within p.0 last y.0, x.small, tail.rises);
+            few = omega (arith, tail.few);
+            fits = tail.fits;
+            below = tail.below;
+            complete = tail.complete;
+            is = one_member p.0 tail.members bytes mid (decimal tail.member ++ tail.byte ∷ tail.rest) (x.spelled ∙ ap (λ (b : ℕ). decimal p.0 ++ b ∷ mid) h) tail.is;
+          })
+          (λ others left e2 k. absurd ((ok_only {A = List ℕ} NotMembers (p.0 ∷ others, left)).fault faults.Members k)))
+          (λ k. absurd ((fault_only {A = List ℕ} NotMembers faults.Word tt).fault faults.Members k)))
+    ])
+
+-- what follows the space before these members
+abbrev behind : List ℕ → List ℕ → List ℕ
+behind [] tail = tail
+behind (p ∷ ps) tail = decimal p ++ (members_text ps ++ 32 ∷ tail)
+
+behind_space : (ps tail : List ℕ) → members_text ps ++ 32 ∷ tail ≡ 32 ∷ behind ps tail
+behind_space [] tail = refl
+behind_space (p ∷ ps) tail = simp append_assoc
+
+fall_members : (room last : ℕ) (ms : List ℕ) (m b : ℕ) (rest : List ℕ) → Rises 65535 last ms → length ms < room → IsProcess m → m ≤ last_from last ms → is_digit b ≡ false → members_at room last (behind ms (decimal m ++ b ∷ rest)) ≡ Err faults.Members
+unfolding members_at last_from
+fall_members zero last ms m b rest rises few fits below complete = absurd (omega arith)
+fall_members (suc room) last [] m b rest rises few fits below complete =
+    let test : nat_le m last ≡ true = grind (arith, nat_tests) in
+    rw (number_again 65535 m b rest fits.positive fits.small (omega arith) complete, test) refl
+fall_members (suc room) last (p ∷ ps) m b rest rises few fits below complete =
+    let above : nat_le p last ≡ false = (let lt = rises.0 in grind (arith, nat_tests)) in
+    let tail = decimal m ++ b ∷ rest in
+    rw (behind_space ps tail, number_again 65535 p 32 (behind ps tail) (omega (arith, rises.0)) (omega (arith, rises.1)) (omega arith) refl, above, fall_members room p ps m b rest rises.2 (omega arith) fits below complete) refl
+
+fallen : (bytes : List ℕ) (x : ConfId) (left : List ℕ) → IsConf x → bytes ≡ codes "conf " ++ (conf_text x ++ 32 ∷ left) → (ms : List ℕ) (m b : ℕ) (tail : List ℕ) → Rises 65535 0 ms → length ms < 32 → IsProcess m → m ≤ last_from 0 ms → is_digit b ≡ false
+    → 32 ∷ left ≡ members_text ms ++ 32 ∷ (decimal m ++ b ∷ tail) → IsMemberBelow false bytes
+unfolding last_from
+fallen bytes x left fits text [] m b tail rises few member below complete is = absurd (omega (arith, member.positive))
+fallen bytes x left fits text (q ∷ qs) m b tail rises few member below complete is =
+    let y = last_of q qs in
+    let same : q ∷ qs ≡ y.0 ++ y.1 ∷ [] = y.2 in
+    record {
+      conf = x;
+      front = y.0;
+      above = y.1;
+      member = m;
+      byte = b;
+      rest = tail;
+      room = refl;
+      conf_fits = fits;
+      members = subst IsMembers same (are_members (q ∷ qs) (record { some = omega arith; few = omega (arith, few); rises = rises }));
+      few = subst (λ (ms : List ℕ). length ms < 32) same few;
+      fits = member;
+      below = subst (λ (n : ℕ). m ≤ n) (ap (last_from 0) same ∙ last_from_end 0 y.1 y.0) below;
+      complete = complete;
+      is = subst (λ (ms : List ℕ). bytes ≡ codes "conf " ++ (conf_text x ++ (members_text ms ++ 32 ∷ (decimal m ++ b ∷ tail)))) same (text ∙ ap (λ (t : List ℕ). codes "conf " ++ (conf_text x ++ t)) is);
+    }
+
+change_fall : (bytes rest : List ℕ) → bytes ≡ 99 ∷ rest → change_at false rest ≡ Err faults.Members → IsMemberBelow false bytes
+change_fall bytes rest is e =
+    change_members NotMembers rest faults.Members names_not_members (λ no'. no') e (λ x left fits text k.
+    let m = members_fall 32 0 left k in
+    fallen bytes x left fits (is ∙ ap (λ (t : List ℕ). 99 ∷ t) text) m.members m.member m.byte m.rest m.rises m.few m.fits m.below m.complete m.is)
+
+fall_change : (bytes : List ℕ) → IsMemberBelow false bytes → (rest : List ℕ) × (bytes ≡ 99 ∷ rest) × (change_at false rest ≡ Err faults.Members)
+fall_change bytes h =
+    let ms = h.front ++ h.above ∷ [] in
+    let tail = decimal h.member ++ h.byte ∷ h.rest in
+    let from = members_from ms h.members in
+    let below : h.member ≤ last_from 0 ms = rw (last_from_end 0 h.above h.front) h.below in (
+      codes "onf " ++ (conf_text h.conf ++ 32 ∷ behind ms tail),
+      h.is ∙ ap (λ (t : List ℕ). codes "conf " ++ (conf_text h.conf ++ t)) (behind_space ms tail),
+      members_change h.conf (behind ms tail) faults.Members h.conf_fits (fall_members 32 0 ms h.member h.byte h.rest from.rises h.few h.fits below h.complete),
+    )
+
+-- a limit that is reached is TooMany
+full_change : (rest : List ℕ) → change_at true rest ≡ Err faults.Members → ⊥
+unfolding change_at
+full_change rest e = (fault_only {A = Line} NotMembers faults.TooMany tt).fault faults.Members e
+
+full_send : (rest : List ℕ) → send_at true rest ≡ Err faults.Members → ⊥
+unfolding send_at
+full_send rest e = (fault_only {A = Line} NotMembers faults.TooMany tt).fault faults.Members e
+
+full_delivery : (rest : List ℕ) → delivery_at true rest ≡ Err faults.Members → ⊥
+unfolding delivery_at
+full_delivery rest e = (fault_only {A = Line} NotMembers faults.TooMany tt).fault faults.Members e
+
+failures_rise : (full failed : Bool) (rest : List ℕ) → failure_at full failed rest ≡ Err faults.Members → ⊥
+unfolding failure_at fail_at
+failures_rise full failed rest e = elim (taken (full && not failed) (Err faults.TooMany) (ail_at full failed rest) (Err faults.Members) e) [
+  | inl x ↦ (fault_only {A = Line} NotMembers faults.TooMany tt).fault faults.Members x.1
+  | inr x ↦ ail_case full failed rest faults.Members (λ h. absurd cc) (λ h. absurd cc) x.1
+      (λ more behind k. (failed_only NotMembers failed more names_not_members tt).fault faults.Members k)
+      (λ more behind k. fails full more k)
+]
+  where
+    fails : (full : Bool) (more : List ℕ) → fail_at full more ≡ Err faults.Members → ⊥
+    fails true more k = (fault_only {A = Line} NotMembers faults.TooMany tt).fault faults.Members k
+    fails false more k = (lost_only NotMembers more names_not_members).fault faults.Members k
+
+line_fall : (full some failed : Bool) (bytes : List ℕ) → line_at full some failed bytes ≡ Err faults.Members → IsMemberBelow full bytes
+line_fall full some failed bytes e =
+    line_case full some failed bytes faults.Members (λ h. absurd cc) (λ h. absurd cc) e
+    (λ rest is k. change full rest is k)
+    (λ rest is k. absurd (sends full rest k))
+    (λ rest is k. absurd (delivers full rest k))
+    (λ rest is k. absurd (fails full failed rest k))
+    (λ rest is k. absurd ((open_only NotMembers some failed rest names_not_members tt).fault faults.Members k))
+  where
+    change : (full : Bool) (rest : List ℕ) → bytes ≡ 99 ∷ rest → change_at full rest ≡ Err faults.Members → IsMemberBelow full bytes
+    change true rest is k = absurd (full_change rest k)
+    change false rest is k = change_fall bytes rest is k
+
+    sends : (full : Bool) (rest : List ℕ) → send_at full rest ≡ Err faults.Members → ⊥
+    sends true rest k = full_send rest k
+    sends false rest k = (sent_only NotMembers rest names_not_members).fault faults.Members k
+
+    delivers : (full : Bool) (rest : List ℕ) → delivery_at full rest ≡ Err faults.Members → ⊥
+    delivers true rest k = full_delivery rest k
+    delivers false rest k = (delivered_only NotMembers rest names_not_members).fault faults.Members k
+
+    fails : (full failed : Bool) (rest : List ℕ) → failure_at full failed rest ≡ Err faults.Members → ⊥
+    fails full failed rest k = failures_rise full failed rest k
+
+fall_line : (full some failed : Bool) (bytes : List ℕ) → IsMemberBelow full bytes → line_at full some failed bytes ≡ Err faults.Members
+unfolding line_at
+fall_line true some failed bytes h = absurd (let k = h.room in cc)
+fall_line false some failed bytes h = let x = fall_change bytes h in rw x.1 x.2
+
+pub members_exactly : (full some failed : Bool) (bytes : List ℕ) → (line_at full some failed bytes ≡ Err faults.Members) ↔ IsMemberBelow full bytes
+members_exactly full some failed bytes = (line_fall full some failed bytes, fall_line full some failed bytes)

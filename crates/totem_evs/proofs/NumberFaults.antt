@@ -1,0 +1,326 @@
+-- Number is the fault of a number that the grammar reads.
+use Rattle.std.specs.Prelude.{◌==◌, decimal, ◌↔◌}
+use Rattle.std.proofs.Common.{◌≡◌, ◌≢◌, ℕ, zero, suc, ◌+◌, ◌-◌, ◌*◌, ◌^◌, ◌<◌, ◌≤◌, ◌⊎◌, inl, inr, List, [], ◌∷◌, ◌++◌, Bool, true, false, cond, Option, Some, None, Ok, Err, refl, sym, ap, subst, ◌∙◌, append_assoc, arith}
+use Rattle.std.proofs.lemmas.Bool.{cases_lt, eqb-true}
+use Rattle.std.proofs.lemmas.Fmt.{decimal_digit}
+use Rattle.totem_ids.specs.declared.fault.TextFault.{TextFault}
+use Rattle.totem_ids.specs.declared.fault.TextFault.TheVariants as faults
+use Rattle.totem_ids.specs.declared.message.Service.TheVariants.{Agreed, Safe}
+use Rattle.totem_ids.specs.Sources.{Parsed, ◌>>=◌}
+use Rattle.totem_ids.specs.Numbers.{is_digit, byte_at, word_at, digits_at, number_at, number_to}
+use Rattle.totem_ids.specs.Parsers.{ring_at, message_at, regular_at, transitional_at, conf_at}
+use Rattle.totem_ids.proofs.Readers.{first_other, next_digit, next_over, next_other}
+use Rattle.totem_ids.proofs.Spelled.{byte_is, decimal_push, reads_decimal, number_is, number_again}
+use Rattle.totem_evs.specs.declared.entry.Entry.{Entry}
+use Rattle.totem_evs.specs.declared.ending.Ending.{Ending}
+use Rattle.totem_evs.specs.declared.line.Line.{Line}
+use Rattle.totem_evs.specs.declared.line.Line.TheVariants as lines
+use Rattle.totem_evs.specs.declared.log.Log.{Log}
+use Rattle.totem_ids.specs.Services.{service_at}
+use Rattle.totem_evs.specs.RunGrammar.{is_failure, members_at, change_at, send_at, delivery_at, open_at, failed_at, fail_at, ail_at, failure_at, line_at, by_line, lines_at, log_at, log_proc_at, begin_at, end_at, head_at, by_head, logs_at, run_at}
+use Rattle.totem_evs.specs.TextFaults.{IsPast, IsNoNumber, BreaksNumber}
+use Rattle.totem_evs.proofs.PartFaults.{bind_case}
+
+-- ---- a parser takes its bytes, and each fault Number of it is that of a number
+
+pub record Taken {A : Type 0} (parse : List ℕ → Parsed A) (bytes : List ℕ) (a : A) (rest : List ℕ) : Type 0 where
+  pub text : List ℕ
+  pub is : bytes ≡ text ++ rest
+  pub again : (more : List ℕ) → parse (text ++ more) ≡ Ok (a, more)
+
+pub record Numbered {A : Type 0} (parse : List ℕ → Parsed A) : Type 0 where
+  pub takes : (bytes : List ℕ) (a : A) (rest : List ℕ) → parse bytes ≡ Ok (a, rest) → Taken parse bytes a rest
+  pub breaks : (bytes : List ℕ) → parse bytes ≡ Err faults.Number → BreaksNumber parse bytes
+
+pub gives_numbered : {A : Type 0} (y : A) → Numbered {A = A} (λ bytes. Ok (y, bytes))
+gives_numbered {A = A} y = record {
+  takes = λ bytes a rest e. record { text = []; is = (let p = pair bytes a rest e in p.1); again = λ more. (let p = pair bytes a rest e in ap (λ (x : A). Ok (x, more)) p.0) };
+  breaks = λ bytes e. absurd cc;
+}
+  where
+    pair : (bytes : List ℕ) (a : A) (rest : List ℕ) → ◌≡◌ {A = Parsed A} (Ok (y, bytes)) (Ok (a, rest)) → (y ≡ a) × (bytes ≡ rest)
+    pair bytes a rest e = let same : ◌≡◌ {A = A × List ℕ} (y, bytes) (a, rest) = cc in (ap (λ (p : A × List ℕ). p.0) same, ap (λ (p : A × List ℕ). p.1) same)
+
+pub fault_numbered : {A : Type 0} (f : TextFault) → f ≢ faults.Number → Numbered {A = A} (λ bytes. Err f)
+fault_numbered f other = record { takes = λ bytes a rest e. absurd cc; breaks = λ bytes e. absurd (other (let same : f ≡ faults.Number = cc in same)) }
+
+pub cond_numbered : {A : Type 0} (t : Bool) (p q : List ℕ → Parsed A) → Numbered p → Numbered q → Numbered (λ bytes. cond t (p bytes) (q bytes))
+cond_numbered true p q a b = record { takes = λ bytes x rest e. let y = a.takes bytes x rest e in record { text = y.text; is = y.is; again = y.again }; breaks = λ bytes e. let y = a.breaks bytes e in record { front = y.front; max = y.max; limit = y.limit; after = y.after; rest = y.rest; is = y.is; wants = y.wants; none = y.none } }
+cond_numbered false p q a b = record { takes = λ bytes x rest e. let y = b.takes bytes x rest e in record { text = y.text; is = y.is; again = y.again }; breaks = λ bytes e. let y = b.breaks bytes e in record { front = y.front; max = y.max; limit = y.limit; after = y.after; rest = y.rest; is = y.is; wants = y.wants; none = y.none } }
+
+bind_ok_case : {A B P : Type 0} (r : Parsed A) (k : A × List ℕ → Parsed B) (b : B) (rest : List ℕ) → (r >>= k) ≡ Ok (b, rest) → ((x : A) (mid : List ℕ) → r ≡ Ok (x, mid) → k (x, mid) ≡ Ok (b, rest) → P) → P
+bind_ok_case (Ok x) k b rest e then = then x.0 x.1 refl e
+bind_ok_case (Err f) k b rest e then = absurd cc
+
+bind_twice : {A B C : Type 0} (r : Parsed A) (j : A × List ℕ → Parsed B) (k : B × List ℕ → Parsed C) → ((r >>= j) >>= k) ≡ (r >>= λ x. j x >>= k)
+bind_twice (Ok x) j k = refl
+bind_twice (Err f) j k = refl
+
+pub bind_numbered : {A B : Type 0} (sub : List ℕ → Parsed A) (k : A × List ℕ → Parsed B) → Numbered sub → ((a : A) → Numbered (λ bytes. k (a, bytes))) → Numbered (λ bytes. sub bytes >>= k)
+bind_numbered {A = A} {B = B} sub k first next = record {
+  takes = λ bytes b rest e. bind_ok_case (sub bytes) k b rest e (λ x mid e1 e2.
+      let one = first.takes bytes x mid e1 in
+      let two = (next x).takes mid b rest e2 in
+      record {
+        text = one.text ++ two.text;
+        is = one.is ∙ ap (λ (t : List ℕ). one.text ++ t) two.is ∙ sym (append_assoc one.text two.text rest);
+        again = λ more. ap (λ (t : List ℕ). sub t >>= k) (append_assoc one.text two.text more) ∙ ap (λ (r : Parsed A). r >>= k) (one.again (two.text ++ more)) ∙ two.again more;
+      });
+  breaks = λ bytes e. bind_case (sub bytes) k faults.Number e
+      (λ e1.
+      let one = first.breaks bytes e1 in
+      record {
+        front = one.front;
+        max = one.max;
+        limit = one.limit;
+        after = λ x. one.after x >>= k;
+        rest = one.rest;
+        is = one.is;
+        wants = λ more. ap (λ (r : Parsed A). r >>= k) (one.wants more) ∙ bind_twice (number_at one.max more) one.after k;
+        none = one.none;
+      })
+      (λ x mid e1 e2.
+      let one = first.takes bytes x mid e1 in
+      let two = (next x).breaks mid e2 in
+      record {
+        front = one.text ++ two.front;
+        max = two.max;
+        limit = two.limit;
+        after = two.after;
+        rest = two.rest;
+        is = one.is ∙ ap (λ (t : List ℕ). one.text ++ t) two.is ∙ sym (append_assoc one.text two.front two.rest);
+        wants = λ more. ap (λ (t : List ℕ). sub t >>= k) (append_assoc one.text two.front more) ∙ ap (λ (r : Parsed A). r >>= k) (one.again (two.front ++ more)) ∙ two.wants more;
+        none = two.none;
+      });
+}
+
+pub byte_numbered : Numbered byte_at
+byte_numbered = record {
+  takes = λ bytes a rest e. record { text = a ∷ []; is = byte_is bytes a rest e; again = λ more. refl };
+  breaks = λ bytes e. absurd (no_byte bytes e);
+}
+  where
+    no_byte : (bytes : List ℕ) → byte_at bytes ≡ Err faults.Number → ⊥
+    no_byte [] e = absurd (let same : faults.Truncated ≡ faults.Number = cc in cc)
+    no_byte (b ∷ bytes) e = absurd cc
+
+pub word_numbered : (fault : TextFault) (word : List ℕ) → fault ≢ faults.Number → Numbered (word_at fault word)
+unfolding word_at
+word_numbered fault [] other = gives_numbered tt
+word_numbered fault (w ∷ word) other = bind_numbered byte_at (λ b. cond (b.0 == w) (word_at fault word b.1) (Err fault)) byte_numbered (λ b. cond_numbered (b == w) (word_at fault word) (λ bytes. Err fault) (word_numbered fault word other) (fault_numbered fault other))
+
+-- ---- numbers
+
+digit_bounds : (b : ℕ) → is_digit b ≡ true → (48 ≤ b) × (b ≤ 57)
+digit_bounds b h = (grind arith, grind arith)
+
+digits_none : (max n : ℕ) (bytes : List ℕ) → max < 2 ^ 32 → 0 < n → n ≤ max → digits_at max n bytes ≡ Err faults.Number → IsPast max (decimal n ++ bytes)
+unfolding digits_at
+digits_none max n [] fits pos small e = absurd (let same : faults.Truncated ≡ faults.Number = cc in cc)
+digits_none max n (b ∷ bytes) fits pos small e = go (is_digit b) refl (λ d pos' small' k. digits_none max (10 * n + d) bytes fits pos' small' k) e
+  where
+    go : (t : Bool) → is_digit b ≡ t
+        → ((d : ℕ) → 0 < 10 * n + d → 10 * n + d ≤ max → digits_at max (10 * n + d) bytes ≡ Err faults.Number → IsPast max (decimal (10 * n + d) ++ bytes))
+        → digits_at max n (b ∷ bytes) ≡ Err faults.Number → IsPast max (decimal n ++ b ∷ bytes)
+    go true digit again k =
+        let bounds = digit_bounds b digit in
+        elim (cases_lt max (10 * n + (b - 48))) [
+          | inl over ↦ record { number = n; byte = b; rest = bytes; fits = record { positive = pos; small = small }; digit = digit; past = over; is = refl }
+          | inr within ↦
+              let e = next_digit max n b (b - 48) digit refl within bytes in
+              let found = again (b - 48) (omega arith) within (sym e ∙ k) in
+              let code : 48 + (b - 48) ≡ b = omega arith in
+              let text : decimal (10 * n + (b - 48)) ≡ decimal n ++ b ∷ [] = rw code at (decimal_push n (b - 48) pos (omega arith) (omega arith)) in
+              subst (IsPast max) (ap (λ (t : List ℕ). t ++ bytes) text ∙ append_assoc (decimal n) (b ∷ []) bytes) found
+        ]
+    go false other again k = absurd (let e = next_other max n b other bytes in cc)
+
+number_none : (max : ℕ) (bytes : List ℕ) → 9 ≤ max → max < 2 ^ 32 → number_at max bytes ≡ Err faults.Number → IsNoNumber max bytes
+unfolding number_at
+number_none max [] nine fits e = absurd (let same : faults.Truncated ≡ faults.Number = cc in cc)
+number_none max (b ∷ bytes) nine fits e = go (is_digit b) (b == 48) refl refl e
+  where
+    go : (t u : Bool) → is_digit b ≡ t → (b == 48) ≡ u → cond t (cond u (Err faults.Number) (digits_at max (b - 48) bytes)) (Err faults.Number) ≡ Err faults.Number → IsNoNumber max (b ∷ bytes)
+    go true true digit zero' k = inl (b, bytes, refl, inr (eqb-true b 48 zero'))
+    go true false digit other k =
+        let bounds = digit_bounds b digit in
+        let differs : b ≢ 48 = λ e. absurd (let f : (48 == 48) ≡ false = rw e at other in cc) in
+        let found = digits_none max (b - 48) bytes fits (omega (arith, bounds.0, differs)) (omega arith) k in
+        let code : 48 + (b - 48) ≡ b = omega arith in
+        let text : decimal (b - 48) ≡ b ∷ [] = rw code at (decimal_digit (b - 48) (omega arith)) in
+        inr (subst (IsPast max) (ap (λ (t : List ℕ). t ++ bytes) text) found)
+    go false u digit zero' k = inl (b, bytes, refl, inl digit)
+
+zero_first : (max : ℕ) (rest : List ℕ) → number_at max (48 ∷ rest) ≡ Err faults.Number
+unfolding number_at
+zero_first max rest = refl
+
+pub none_number : (max : ℕ) (bytes : List ℕ) → max < 2 ^ 32 → IsNoNumber max bytes → number_at max bytes ≡ Err faults.Number
+none_number max bytes fits (inl (b, rest, is, inl other)) = rw is (first_other max b other rest)
+none_number max bytes fits (inl (b, rest, is, inr same)) = rw (is, same) (zero_first max rest)
+none_number max bytes fits (inr h) =
+    rw h.is (reads_decimal h.number max h.number (h.byte ∷ h.rest) (omega arith) h.fits.positive h.fits.small fits ∙ next_over max h.number h.byte (h.byte - 48) h.digit refl h.past h.rest)
+
+-- a limit of numbers
+pub limits : (max : ℕ) → ((max ≡ 65535) ⊎ (max ≡ 4294967295)) → (9 ≤ max) × (max < 2 ^ 32)
+limits max (inl e) = rw e (omega arith, omega arith)
+limits max (inr e) = rw e (omega arith, omega arith)
+
+kept : {A : Type 0} (r : Parsed A) → r ≡ (r >>= λ x. Ok (x.0, x.1))
+kept (Ok x) = refl
+kept (Err f) = refl
+
+pub number_numbered : (max : ℕ) → ((max ≡ 65535) ⊎ (max ≡ 4294967295)) → Numbered (number_at max)
+number_numbered max limit = record {
+  takes = λ bytes a rest e.
+      let x = number_is max a.0 a.1 bytes rest (limits max limit).0 (limits max limit).1 e in
+      record {
+        text = decimal a.0 ++ a.1 ∷ [];
+        is = x.spelled ∙ sym (append_assoc (decimal a.0) (a.1 ∷ []) rest);
+        again = λ more. ap (number_at max) (append_assoc (decimal a.0) (a.1 ∷ []) more) ∙ number_again max a.0 a.1 more x.positive x.small (limits max limit).1 x.behind;
+      };
+  breaks = λ bytes e. record {
+    front = [];
+    max = max;
+    limit = limit;
+    after = λ x. Ok (x.0, x.1);
+    rest = bytes;
+    is = refl;
+    wants = λ more. kept (number_at max more);
+    none = number_none max bytes (limits max limit).0 (limits max limit).1 e;
+  };
+}
+
+pub word' : {A : Type 0} → Numbered {A = A} (λ bytes. Err faults.Word)
+word' = fault_numbered faults.Word (λ h. absurd cc)
+
+number_to_numbered : (max end : ℕ) → ((max ≡ 65535) ⊎ (max ≡ 4294967295)) → Numbered (number_to max end)
+unfolding number_to
+number_to_numbered max end limit = bind_numbered _ _ (number_numbered max limit) (λ n. cond_numbered (n.1 == end) (λ bytes. Ok (n.0, bytes)) (λ bytes. Err faults.Word) (gives_numbered n.0) word')
+
+ring_numbered : (end : ℕ) → Numbered (ring_at end)
+unfolding ring_at
+ring_numbered end = bind_numbered _ _ (number_to_numbered 4294967295 46 (inr refl)) (λ seq. bind_numbered _ _ (number_to_numbered 65535 end (inl refl)) (λ rep. gives_numbered _))
+
+message_numbered : (end : ℕ) → Numbered (message_at end)
+unfolding message_at
+message_numbered end = bind_numbered _ _ (ring_numbered 35) (λ ring. bind_numbered _ _ (number_to_numbered 4294967295 end (inr refl)) (λ number. gives_numbered _))
+
+regular_numbered : (end : ℕ) → Numbered (regular_at end)
+unfolding regular_at
+regular_numbered end = bind_numbered _ _ (ring_numbered end) (λ ring. gives_numbered _)
+
+transitional_numbered : (end : ℕ) → Numbered (transitional_at end)
+unfolding transitional_at
+transitional_numbered end = bind_numbered _ _ (ring_numbered 47) (λ next. bind_numbered _ _ (number_to_numbered 65535 end (inl refl)) (λ least. gives_numbered _))
+
+conf_numbered : (end : ℕ) → Numbered (conf_at end)
+unfolding conf_at
+conf_numbered end = bind_numbered _ _ byte_numbered (λ kind. cond_numbered _ _ _ (regular_numbered end) (cond_numbered _ _ _ (transitional_numbered end) word'))
+
+-- ---- lines
+
+members_numbered : (room last : ℕ) → Numbered (members_at room last)
+unfolding members_at
+members_numbered zero last = fault_numbered faults.TooMany (λ h. absurd cc)
+members_numbered (suc room) last = bind_numbered _ _ (number_numbered 65535 (inl refl)) (λ p. cond_numbered _ _ _ (fault_numbered faults.Members (λ h. absurd cc)) (cond_numbered _ _ _ (gives_numbered _) (cond_numbered _ _ _ (bind_numbered _ _ (members_numbered room p.0) (λ others. gives_numbered _)) word')))
+
+pub too_many : {A : Type 0} → Numbered {A = A} (λ bytes. Err faults.TooMany)
+too_many = fault_numbered faults.TooMany (λ h. absurd cc)
+
+end' : {A : Type 0} → Numbered {A = A} (λ bytes. Err faults.End)
+end' = fault_numbered faults.End (λ h. absurd cc)
+
+pub words : (word : List ℕ) → Numbered (word_at faults.Word word)
+words word = word_numbered faults.Word word (λ h. absurd cc)
+
+change_numbered : (full : Bool) → Numbered (change_at full)
+unfolding change_at
+change_numbered full = cond_numbered _ _ _ too_many (bind_numbered _ _ (words _) (λ w. bind_numbered _ _ (conf_numbered 32) (λ x. bind_numbered _ _ (members_numbered 32 0) (λ ms. gives_numbered _))))
+
+service_numbered : Numbered service_at
+unfolding service_at
+service_numbered = bind_numbered _ _ byte_numbered (λ b. cond_numbered (b == 97) _ _ (gives_numbered Agreed) (cond_numbered (b == 115) _ _ (gives_numbered Safe) word'))
+
+send_numbered : (full : Bool) → Numbered (send_at full)
+unfolding send_at
+send_numbered full = cond_numbered _ _ _ too_many (bind_numbered _ _ (words _) (λ w. bind_numbered _ _ (conf_numbered 32) (λ x. bind_numbered _ _ service_numbered (λ s. bind_numbered _ _ (words _) (λ v. bind_numbered _ _ (message_numbered 10) (λ m. gives_numbered _))))))
+
+delivery_numbered : (full : Bool) → Numbered (delivery_at full)
+unfolding delivery_at
+delivery_numbered full = cond_numbered _ _ _ too_many (bind_numbered _ _ (words _) (λ w. bind_numbered _ _ (conf_numbered 32) (λ x. bind_numbered _ _ (message_numbered 10) (λ m. gives_numbered _))))
+
+open_numbered : (some failed : Bool) → Numbered (open_at some failed)
+unfolding open_at
+open_numbered some failed = cond_numbered _ _ _ (bind_numbered _ _ (words _) (λ w. gives_numbered _)) end'
+
+failed_numbered : (failed : Bool) → Numbered (failed_at failed)
+unfolding failed_at
+failed_numbered failed = cond_numbered _ _ _ (bind_numbered _ _ (words _) (λ w. gives_numbered _)) end'
+
+fail_numbered : (full : Bool) → Numbered (fail_at full)
+unfolding fail_at
+fail_numbered full = cond_numbered _ _ _ too_many (bind_numbered _ _ (conf_numbered 10) (λ x. gives_numbered _))
+
+ail_numbered : (full failed : Bool) → Numbered (ail_at full failed)
+unfolding ail_at
+ail_numbered full failed = bind_numbered _ _ (words _) (λ w. bind_numbered _ _ byte_numbered (λ b. cond_numbered _ _ _ (failed_numbered failed) (cond_numbered _ _ _ (fail_numbered full) word')))
+
+failure_numbered : (full failed : Bool) → Numbered (failure_at full failed)
+unfolding failure_at
+failure_numbered full failed = cond_numbered _ _ _ too_many (ail_numbered full failed)
+
+line_numbered : (full some failed : Bool) → Numbered (line_at full some failed)
+unfolding line_at
+line_numbered full some failed = bind_numbered _ _ byte_numbered (λ b. cond_numbered _ _ _ (change_numbered full) (cond_numbered _ _ _ (send_numbered full) (cond_numbered _ _ _ (delivery_numbered full) (cond_numbered _ _ _ (failure_numbered full failed) (cond_numbered _ _ _ (open_numbered some failed) word')))))
+
+lines_numbered : (room : ℕ) (some failed : Bool) → Numbered (lines_at room some failed)
+unfolding lines_at
+lines_numbered zero some failed = too_many
+lines_numbered (suc room) some failed = bind_numbered _ _ (line_numbered (room == 0) some failed) (λ l. go l (λ e. lines_numbered room true (is_failure e)))
+  where
+    go : (l : Line) → ((e : Entry) → Numbered (lines_at room true (is_failure e))) → Numbered (λ bytes. by_line {Y = Parsed (List Entry × Ending)} l (λ ending. Ok (([], ending), bytes)) (λ e. lines_at room true (is_failure e) bytes >>= λ others. Ok ((e ∷ others.0.0, others.0.1), others.1)))
+    go (lines.Close ending) again = gives_numbered _
+    go (lines.Entry e) again = bind_numbered _ _ (again e) (λ others. gives_numbered _)
+
+log_numbered : (p : ℕ) → Numbered (log_at p)
+unfolding log_at
+log_numbered p = bind_numbered _ _ (lines_numbered 1000001 false false) (λ body. gives_numbered _)
+
+-- ---- logs
+
+proc_numbered : (last : ℕ) → Numbered (log_proc_at last)
+unfolding log_proc_at
+proc_numbered last = bind_numbered _ _ (words _) (λ w. bind_numbered _ _ (number_numbered 65535 (inl refl)) (λ p. cond_numbered _ _ _ (fault_numbered faults.Order (λ h. absurd cc)) (cond_numbered _ _ _ (gives_numbered _) word')))
+
+begin_numbered : (full : Bool) (last : ℕ) → Numbered (begin_at full last)
+unfolding begin_at
+begin_numbered full last = cond_numbered _ _ _ too_many (bind_numbered _ _ (proc_numbered last) (λ p. gives_numbered _))
+
+end_numbered : Numbered end_at
+unfolding end_at
+end_numbered = bind_numbered _ _ (words _) (λ w. gives_numbered _)
+
+head_numbered : (full : Bool) (last : ℕ) → Numbered (head_at full last)
+unfolding head_at
+head_numbered full last = bind_numbered _ _ byte_numbered (λ b. cond_numbered _ _ _ (begin_numbered full last) (cond_numbered _ _ _ end_numbered word'))
+
+logs_numbered : (room last : ℕ) → Numbered (logs_at room last)
+unfolding logs_at
+logs_numbered zero last = too_many
+logs_numbered (suc room) last = bind_numbered _ _ (head_numbered (room == 0) last) (λ head. go head (λ p. logs_numbered room p))
+  where
+    go : (head : Option ℕ) → ((p : ℕ) → Numbered (logs_at room p)) → Numbered (λ bytes. by_head {Y = Parsed (List Log)} head (Ok ([], bytes)) (λ p. log_at p bytes >>= λ log. logs_at room p log.1 >>= λ others. Ok (log.0 ∷ others.0, others.1)))
+    go None again = gives_numbered _
+    go (Some p) again = bind_numbered _ _ (log_numbered p) (λ log. bind_numbered _ _ (again p) (λ others. gives_numbered _))
+
+run_numbered : Numbered run_at
+unfolding run_at
+run_numbered = bind_numbered _ _ (word_numbered faults.Header _ (λ h. absurd cc)) (λ w. logs_numbered 33 0)
+
+-- Number is a number's fault, and a number's fault is Number
+pub run_number : (bytes : List ℕ) → (run_at bytes ≡ Err faults.Number) ↔ BreaksNumber run_at bytes
+run_number bytes = (
+  run_numbered.breaks bytes,
+  λ h. ap run_at h.is ∙ h.wants h.rest ∙ ap (λ (r : Parsed (ℕ × ℕ)). r >>= h.after) (none_number h.max h.rest (limits h.max h.limit).1 h.none),
+)

@@ -1,0 +1,50 @@
+-- Word is the fault where no other one has its place.
+use Rattle.std.specs.Prelude.{◌↔◌}
+use Rattle.std.proofs.Common.{◌≡◌, List, ℕ, Err, false, refl, sym, ap, ◌∙◌}
+use Rattle.totem_ids.specs.declared.fault.TextFault.{TextFault}
+use Rattle.totem_ids.specs.declared.fault.TextFault.TheVariants as faults
+use Rattle.totem_ids.specs.Sources.{is_short}
+use Rattle.totem_evs.specs.declared.log.Log.{Log}
+use Rattle.totem_evs.specs.RunGrammar.{run_at}
+use Rattle.totem_evs.specs.TextFaults.{HasNoOther}
+use Rattle.totem_evs.proofs.OnlyFaults.{fault_only}
+use Rattle.totem_evs.proofs.FaultParts.{header_exactly, run_order, run_members, run_end, run_many}
+use Rattle.totem_evs.proofs.NumberFaults.{run_number}
+
+-- the faults but Word
+abbrev NotWord : TextFault → Type 0
+NotWord faults.Header = Unit {0}
+NotWord faults.Word = ⊥
+NotWord faults.Number = Unit {0}
+NotWord faults.Order = Unit {0}
+NotWord faults.Members = Unit {0}
+NotWord faults.End = Unit {0}
+NotWord faults.Truncated = Unit {0}
+NotWord faults.TooMany = Unit {0}
+
+-- bytes have one fault
+one_fault : (bytes : List ℕ) (f : TextFault) → NotWord f → run_at bytes ≡ Err faults.Word → run_at bytes ≡ Err f → ⊥
+one_fault bytes f is e k = (fault_only {A = List Log} NotWord f is).fault faults.Word (sym k ∙ e)
+
+word_alone : (bytes : List ℕ) → run_at bytes ≡ Err faults.Word → HasNoOther bytes
+word_alone bytes e = record {
+  header = λ h. one_fault bytes faults.Header tt e ((header_exactly bytes).1 h);
+  number = λ h. one_fault bytes faults.Number tt e ((run_number bytes).1 h);
+  order = λ h. one_fault bytes faults.Order tt e ((run_order bytes).1 h);
+  members = λ h. one_fault bytes faults.Members tt e ((run_members bytes).1 h);
+  end = λ h. one_fault bytes faults.End tt e ((run_end bytes).1 h);
+  many = λ h. one_fault bytes faults.TooMany tt e ((run_many bytes).1 h);
+}
+
+alone_word : (bytes : List ℕ) (f : TextFault) → is_short f ≡ false → run_at bytes ≡ Err f → HasNoOther bytes → f ≡ faults.Word
+alone_word bytes faults.Header long e h = absurd (h.header ((header_exactly bytes).0 e))
+alone_word bytes faults.Word long e h = refl
+alone_word bytes faults.Number long e h = absurd (h.number ((run_number bytes).0 e))
+alone_word bytes faults.Order long e h = absurd (h.order ((run_order bytes).0 e))
+alone_word bytes faults.Members long e h = absurd (h.members ((run_members bytes).0 e))
+alone_word bytes faults.End long e h = absurd (h.end ((run_end bytes).0 e))
+alone_word bytes faults.Truncated long e h = absurd cc
+alone_word bytes faults.TooMany long e h = absurd (h.many ((run_many bytes).0 e))
+
+pub word_is_the_rest : (bytes : List ℕ) (f : TextFault) → is_short f ≡ false → run_at bytes ≡ Err f → (f ≡ faults.Word) ↔ HasNoOther bytes
+word_is_the_rest bytes f long e = (λ same. word_alone bytes (e ∙ ap (λ (g : TextFault). Err g) same), λ h. alone_word bytes f long e h)

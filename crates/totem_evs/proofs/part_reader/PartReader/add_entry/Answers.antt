@@ -1,0 +1,8 @@
+use Rattle.totem_evs.proofs.States.{state_entry}
+use Rattle.totem_evs.proofs.part_reader.PartReader.add_entry.Goals as goal
+
+pub returns : goal.returns
+returns c =
+    let limits = rw (← c.self.view_is) at c.requires.limits in
+    let comes = rw (← c.self.view_is) at c.requires.comes in
+    rw (← c.self.view_is) (state_entry _ _ _ c.args.entry.now limits comes c.with_entry-self-inside.ensures (rw (c.members.ensures, c.deref.ensures.value) at c.in_ok-wait_for.ensures))

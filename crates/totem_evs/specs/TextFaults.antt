@@ -1,0 +1,179 @@
+-- Where each fault of a run's text stands (docs/SPECIFICATIONS.md, "Run text").
+use Rattle.std.specs.Prelude.{◌≡◌, ◌≢◌, ℕ, ◌<◌, ◌≤◌, ◌+◌, ◌-◌, ◌*◌, ◌==◌, ◌⊎◌, ◌&&◌, not, List, [], ◌∷◌, ◌++◌, length, codes, decimal, Option, Some, None, Bool, true, false, nat_lt, Ok, Err}
+use Rattle.totem_ids.specs.declared.conf.ConfId.{ConfId}
+use Rattle.totem_ids.specs.declared.fault.TextFault.{TextFault}
+use Rattle.totem_ids.specs.Sources.{Parsed, ◌>>=◌}
+use Rattle.totem_ids.specs.Numbers.{is_digit, number_at}
+use Rattle.totem_ids.specs.Texts.{conf_text, IsUpTo, IsConf, IsProcess}
+use Rattle.totem_evs.specs.declared.part.Part.{Part}
+use Rattle.totem_evs.specs.declared.stage.Stage.{Stage}
+use Rattle.totem_evs.specs.declared.stage.OpenLog.{OpenLog}
+use Rattle.totem_evs.specs.Members.{IsMembers}
+use Rattle.totem_evs.specs.RunText.{line, members_text}
+use Rattle.totem_evs.specs.RunGrammar.{run_at}
+use Rattle.totem_evs.specs.Parts.{header_at, part_at, first_stage, next_stage}
+
+-- ---- the part that has the fault
+
+-- from a stage on the bytes are read as these parts, one after the other; then the stage is `end`, and `rest` is left
+abbrev pub ReadsTo : Stage → List ℕ → List Part → Stage → List ℕ → Type 0
+ReadsTo stage bytes [] end rest = (stage ≡ end) × (bytes ≡ rest)
+ReadsTo stage bytes (part ∷ parts) end rest = (mid : List ℕ) × (part_at stage bytes ≡ Ok (Some part, mid)) × ReadsTo (next_stage stage part) mid parts end rest
+
+-- the first line is read, then some parts, and this holds of the stage and of the bytes that follow them
+pub record IsInPart (bytes : List ℕ) (Is : Stage → List ℕ → Type 0) : Type 0 where
+  pub mid : List ℕ
+  pub header : header_at bytes ≡ Ok (tt, mid)
+  pub parts : List Part
+  pub stage : Stage
+  pub rest : List ℕ
+  pub reads : ReadsTo first_stage mid parts stage rest
+  pub is : Is stage rest
+
+-- that part has this fault
+abbrev pub HasFault : TextFault → Stage → List ℕ → Type 0
+HasFault fault stage rest = part_at stage rest ≡ Err fault
+
+-- ---- the first line
+
+-- the bytes begin as this word, and then one differs
+pub record Differs (word bytes : List ℕ) : Type 0 where
+  pub front : List ℕ
+  pub wanted : ℕ
+  pub behind : List ℕ
+  pub byte : ℕ
+  pub rest : List ℕ
+  pub is_word : word ≡ front ++ wanted ∷ behind
+  pub is_bytes : bytes ≡ front ++ byte ∷ rest
+  pub differs : byte ≢ wanted
+
+-- ---- Number
+
+-- a number up to `max`, and then a digit that takes it past that
+pub record IsPast (max : ℕ) (bytes : List ℕ) : Type 0 where
+  pub number : ℕ
+  pub byte : ℕ
+  pub rest : List ℕ
+  pub fits : IsUpTo max number
+  pub digit : is_digit byte ≡ true
+  pub past : max < 10 * number + (byte - 48)
+  pub is : bytes ≡ decimal number ++ byte ∷ rest
+
+-- no number up to `max` begins: the first byte is no digit, or a zero; or a digit takes it out of range
+abbrev pub IsNoNumber : ℕ → List ℕ → Type 0
+IsNoNumber max bytes = ((byte : ℕ) × (rest : List ℕ) × (bytes ≡ byte ∷ rest) × ((is_digit byte ≡ false) ⊎ (byte ≡ 48))) ⊎ IsPast max bytes
+
+-- behind some of the bytes a grammar reads a number up to `max`, whatever comes there, and none begins
+pub record BreaksNumber {Y : Type 0} (parse : List ℕ → Parsed Y) (bytes : List ℕ) : Type 0 where
+  pub front : List ℕ
+  pub max : ℕ
+  pub limit : (max ≡ 65535) ⊎ (max ≡ 4294967295)
+  pub after : (ℕ × ℕ) × List ℕ → Parsed Y
+  pub rest : List ℕ
+  pub is : bytes ≡ front ++ rest
+  pub wants : (more : List ℕ) → parse (front ++ more) ≡ (number_at max more >>= after)
+  pub none : IsNoNumber max rest
+
+-- ---- Order
+
+-- a log begins whose process is complete at the byte behind it and not above the last one, where a log may begin
+pub record IsLogBelow (logs last : ℕ) (bytes : List ℕ) : Type 0 where
+  pub proc : ℕ
+  pub byte : ℕ
+  pub rest : List ℕ
+  pub room : (logs == 32) ≡ false
+  pub fits : IsProcess proc
+  pub below : proc ≤ last
+  pub complete : is_digit byte ≡ false
+  pub is : bytes ≡ codes "log " ++ (decimal proc ++ byte ∷ rest)
+
+-- where no log is open
+abbrev pub OrderIn : ℕ → ℕ → Option OpenLog → List ℕ → Type 0
+OrderIn logs last None bytes = IsLogBelow logs last bytes
+OrderIn logs last (Some log) bytes = ⊥
+
+abbrev pub HasOrder : Stage → List ℕ → Type 0
+HasOrder stage rest = OrderIn stage.logs stage.last stage.log rest
+
+-- ---- Members
+
+-- a change with a member that is complete at the byte behind it and not above the one before
+pub record IsMemberBelow (full : Bool) (bytes : List ℕ) : Type 0 where
+  pub conf : ConfId
+  pub front : List ℕ
+  pub above : ℕ
+  pub member : ℕ
+  pub byte : ℕ
+  pub rest : List ℕ
+  pub room : full ≡ false
+  pub conf_fits : IsConf conf
+  pub members : IsMembers (front ++ above ∷ [])
+  pub few : length (front ++ above ∷ []) < 32
+  pub fits : IsProcess member
+  pub below : member ≤ above
+  pub complete : is_digit byte ≡ false
+  pub is : bytes ≡ codes "conf " ++ (conf_text conf ++ (members_text (front ++ above ∷ []) ++ 32 ∷ (decimal member ++ byte ∷ rest)))
+
+-- where a log is open
+abbrev pub MembersIn : Option OpenLog → List ℕ → Type 0
+MembersIn None bytes = ⊥
+MembersIn (Some log) bytes = IsMemberBelow (log.entries == 1000000) bytes
+
+abbrev pub HasMembers : Stage → List ℕ → Type 0
+HasMembers stage rest = MembersIn stage.log rest
+
+-- ---- End
+
+-- a log closes as it may not: it has no entry or ends in a failure, and `open` begins; or it does not end in a failure,
+-- may have more entries, and `failed` begins where `fail` and a space could
+abbrev pub ClosesWrong : Bool → Bool → Bool → List ℕ → Type 0
+ClosesWrong full some failed bytes =
+    ((rest : List ℕ) × (bytes ≡ codes "o" ++ rest) × ((some && not failed) ≡ false))
+    ⊎ ((rest : List ℕ) × (bytes ≡ codes "faile" ++ rest) × (full ≡ false) × (failed ≡ false))
+
+-- where a log is open
+abbrev pub EndIn : Option OpenLog → List ℕ → Type 0
+EndIn None bytes = ⊥
+EndIn (Some log) bytes = ClosesWrong (log.entries == 1000000) (nat_lt 0 log.entries) log.failed bytes
+
+abbrev pub HasEnd : Stage → List ℕ → Type 0
+HasEnd stage rest = EndIn stage.log rest
+
+-- ---- TooMany
+
+-- an entry begins in a log that may have none: by its first letter; where the last entry is a failure, `f` may still
+-- become `failed`, and the space behind `fail` is too many
+abbrev pub BeginsEntry : Bool → List ℕ → Type 0
+BeginsEntry failed bytes =
+    ((rest : List ℕ) × ((bytes ≡ codes "c" ++ rest) ⊎ (bytes ≡ codes "s" ++ rest) ⊎ (bytes ≡ codes "d" ++ rest)))
+    ⊎ ((rest : List ℕ) × (failed ≡ false) × (bytes ≡ codes "f" ++ rest))
+    ⊎ ((rest : List ℕ) × (failed ≡ true) × (bytes ≡ codes "fail " ++ rest))
+
+-- a change with a space behind its 32nd member
+pub record HasManyMembers (bytes : List ℕ) : Type 0 where
+  pub conf : ConfId
+  pub members : List ℕ
+  pub rest : List ℕ
+  pub conf_fits : IsConf conf
+  pub are : IsMembers members
+  pub many : length members ≡ 32
+  pub is : bytes ≡ codes "conf " ++ (conf_text conf ++ (members_text members ++ 32 ∷ rest))
+
+-- between logs the `l` of one more; in a log an entry more, or a member more
+abbrev pub TooManyIn : ℕ → Option OpenLog → List ℕ → Type 0
+TooManyIn logs None bytes = (rest : List ℕ) × ((logs == 32) ≡ true) × (bytes ≡ codes "l" ++ rest)
+TooManyIn logs (Some log) bytes = (((log.entries == 1000000) ≡ true) × BeginsEntry log.failed bytes) ⊎ (((log.entries == 1000000) ≡ false) × HasManyMembers bytes)
+
+abbrev pub HasTooMany : Stage → List ℕ → Type 0
+HasTooMany stage rest = TooManyIn stage.logs stage.log rest
+
+-- ---- Word
+
+-- no other fault of the grammar has its place here
+pub record HasNoOther (bytes : List ℕ) : Type 0 where
+  pub header : Differs (line (codes "totem-run 1")) bytes → ⊥
+  pub number : BreaksNumber run_at bytes → ⊥
+  pub order : IsInPart bytes HasOrder → ⊥
+  pub members : IsInPart bytes HasMembers → ⊥
+  pub end : IsInPart bytes HasEnd → ⊥
+  pub many : IsInPart bytes HasTooMany → ⊥

@@ -1,0 +1,139 @@
+//! Reads the parts of a run, one after the other.
+ghost use Rattle.std.specs.Prelude.{◌≡◌, ℕ, ◌↔◌, ◌⊎◌, Contains, Some, IsTrue, IfOk, OnOk};
+ghost use Rattle.totem_ids.specs.Sources.{seen};
+
+use crate::ending::Ending;
+use crate::entry::Entry;
+use crate::part::Part;
+use crate::read_part::read_part;
+use crate::run_fault::RunFault;
+use crate::stage::Stage;
+use crate::unlogged::Unlogged;
+use std::alloc::{AllocError, Global};
+use std::marker::Model;
+use totem_ids::{ProcId, Source};
+
+/// How far reading has come in a run, the processes whose logs have begun, and the members that wait for a log.
+#[derive(Drop)]
+pub struct PartReader {
+    pub stage: Stage,
+    pub begun: Vec<ProcId>,
+    pub waiting: Unlogged,
+}
+
+impl Model for PartReader {
+    ghost use Rattle.totem_evs.specs.ReadState.{ReadState};
+
+    ghost Value = { ReadState };
+
+    ghost view = { λ r. record { stage = r.stage; begun = r.begun.items; waiting = r.waiting } };
+}
+
+fn has_begun(begun: &[ProcId], proc: ProcId) -> bool
+    ensures { IsTrue result ↔ Contains begun.now proc }
+{
+    begun.contains(&proc)
+}
+
+// These wait, but for those whose logs have begun.
+fn wait_for(waiting: &mut Unlogged, begun: &[ProcId], members: &[ProcId]) -> Result<(), AllocError>
+    ensures { OnOk result ((q : ℕ) → Contains waiting.new q
+        ↔ (Contains waiting.old q ⊎ (Contains members.now q × (Contains begun.now q → ⊥)))) }
+{
+    for member in members {
+        if !has_begun(begun, *member) {
+            waiting.add(*member)?;
+        }
+    }
+    Ok(())
+}
+
+impl PartReader {
+    ghost use Rattle.totem_evs.specs.ReadState.{IsFirst, IsReadState, Goes, MayCome};
+    ghost use Rattle.totem_evs.specs.Reading.{ReadsPart};
+    ghost use Rattle.totem_evs.specs.declared.part.Part.TheVariants as parts;
+
+    /// Returns the reader behind the first line.
+    pub fn new(alloc: Global) -> PartReader
+        ensures first { IsFirst result }
+        ensures limits { IsReadState result }
+    {
+        PartReader {
+            stage: Stage::first(),
+            begun: Vec::new(alloc),
+            waiting: Unlogged::new(alloc),
+        }
+    }
+
+    // A log has begun.
+    fn add_log(&mut self, proc: ProcId) -> Result<(), AllocError>
+        requires limits { IsReadState self.old }
+        requires comes { MayCome self.old.stage (Some (parts.Log proc)) }
+        ensures { OnOk result (IsReadState self.new × Goes self.old (parts.Log proc) self.new) }
+    {
+        self.begun.push(proc)?;
+        self.waiting.remove(proc);
+        self.stage = self.stage.with_log(proc);
+        Ok(())
+    }
+
+    // An entry has come.
+    fn add_entry(&mut self, entry: &Entry) -> Result<(), AllocError>
+        requires limits { IsReadState self.old }
+        requires comes { MayCome self.old.stage (Some (parts.Entry entry.now)) }
+        ensures { OnOk result (IsReadState self.new × Goes self.old (parts.Entry entry.now) self.new) }
+    {
+        wait_for(&mut self.waiting, &self.begun, entry.members())?;
+        self.stage = self.stage.with_entry(entry);
+        Ok(())
+    }
+
+    // A log has ended.
+    fn end_log(&mut self, ending: Ending)
+        requires limits { IsReadState self.old }
+        ensures { IsReadState self.new × Goes self.old (parts.Close ending) self.new }
+    {
+        self.stage = self.stage.without_log();
+    }
+
+    // A part has come.
+    fn add(&mut self, part: &Part) -> Result<(), AllocError>
+        requires limits { IsReadState self.old }
+        requires comes { MayCome self.old.stage (Some part.now) }
+        ensures { OnOk result (IsReadState self.new × Goes self.old part.now self.new) }
+    {
+        match part {
+            Part::Log(proc) => self.add_log(*proc),
+            Part::Entry(entry) => self.add_entry(entry),
+            Part::Close(ending) => {
+                self.end_log(*ending);
+                Ok(())
+            }
+        }
+    }
+
+    /// Reads the next part, or returns `None` once it has read the last line. That a member has no log is found there. Behind a
+    /// fault nothing is known of the reader.
+    pub fn next<S: Source>(
+        &mut self,
+        alloc: Global,
+        source: &mut S,
+    ) -> Result<Option<Part>, RunFault>
+        requires { IsReadState self.old }
+        ensures read { ReadsPart (seen S.remaining S.failures source.old)
+            (seen S.remaining S.failures source.new) self.old self.new result }
+        ensures limits { IfOk result (λ part. IsReadState self.new) }
+    {
+        match read_part(alloc, source, self.stage)? {
+            None => match self.waiting.least() {
+                None => Ok(None),
+                Some(proc) => Err(RunFault::MissingLog(proc)),
+            },
+            Some(part) => {
+                part.keeps_its_rule();
+                self.add(&part)?;
+                Ok(Some(part))
+            }
+        }
+    }
+}

@@ -1,0 +1,60 @@
+-- Processes of a run as text: with their lives where the version of the text writes them.
+use Rattle.std.specs.Prelude.{◌≡◌, ℕ, List, ◌++◌, codes, decimal, Ok, Err, Bool, true, false, ◌==◌, if◌then◌else◌}
+use Rattle.totem_ids.specs.declared.version.Version.{Version}
+use Rattle.totem_ids.specs.declared.version.Version.TheVariants.{One, Two, Three}
+use Rattle.totem_ids.specs.declared.fault.TextFault.TheVariants.{Word}
+use Rattle.totem_ids.specs.Sources.{Parsed, ◌>>=◌}
+use Rattle.totem_ids.specs.Numbers.{number_at, number_to}
+use Rattle.totem_ids.specs.Ranks.{rank_of, id_of, life_of}
+use Rattle.totem_ids.specs.Texts.{IsUpTo, IsProcess}
+
+-- whether texts of this version write lives
+abbrev pub writes_lives : Version → Bool
+writes_lives One = false
+writes_lives Two = true
+writes_lives Three = true
+
+-- ---- spellings
+
+-- a process with its life: its identifier, a colon, its life
+abbrev pub life_text : ℕ → List ℕ
+life_text rank = decimal (id_of rank) ++ codes ":" ++ decimal (life_of rank)
+
+-- a process as texts of this version write it
+abbrev pub process_text : Version → ℕ → List ℕ
+process_text version rank = if writes_lives version then life_text rank else decimal (id_of rank)
+
+-- an entry of a process's log as texts of this version write it: the process, an at sign, the entry
+abbrev pub place_text_in : Version → ℕ → ℕ → List ℕ
+place_text_in version rank at = process_text version rank ++ codes "@" ++ decimal at
+
+-- a process that texts of this version can write: its parts are in range, and its life is 1 where none is written
+pub record IsProcessIn (version : Version) (rank : ℕ) : Type 0 where
+  pub id_fits : IsProcess (id_of rank)
+  pub life_fits : IsUpTo 65535 (life_of rank)
+  pub first : writes_lives version ≡ false → life_of rank ≡ 1
+
+-- ---- parsers
+
+-- a process of life 1, which is not written, and the byte behind it
+unfoldable pub first_life_then : List ℕ → Parsed (ℕ × ℕ)
+first_life_then bytes = do
+  id ← number_at 65535 bytes
+  Ok ((rank_of id.0.0 1, id.0.1), id.1)
+
+-- a process with its life, and the byte behind it
+unfoldable pub life_then : List ℕ → Parsed (ℕ × ℕ)
+life_then bytes = do
+  id ← number_to 65535 58 bytes
+  life ← number_at 65535 id.1
+  Ok ((rank_of id.0 life.0.0, life.0.1), life.1)
+
+-- a process of a text of this version, and the byte behind it
+unfoldable pub process_then : Version → List ℕ → Parsed (ℕ × ℕ)
+process_then version bytes = if writes_lives version then life_then bytes else first_life_then bytes
+
+-- a process of a text of this version, with this byte behind it
+unfoldable pub process_to : Version → ℕ → List ℕ → Parsed ℕ
+process_to version end bytes = do
+  p ← process_then version bytes
+  if p.0.1 == end then Ok (p.0.0, p.1) else Err Word
