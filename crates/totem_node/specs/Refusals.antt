@@ -1,12 +1,12 @@
 -- Which steps of a node are refused, and as what (docs/PROTOCOL.md, "The node").
-use Rattle.std.specs.Prelude.{◌≡◌, ◌≢◌, ℕ, ◌+◌, ◌^◌, List, [], ◌∷◌, length, ◌&&◌, not, IsTrue, Bool, false, Option, None, Some, Result, Ok, Err, if◌then◌else◌, nat_le, nat_lt, max}
+use Rattle.std.specs.Prelude.{◌≡◌, ◌≢◌, ℕ, ◌+◌, ◌^◌, List, [], ◌∷◌, length, ◌&&◌, not, Bool, true, false, is_some, Option, None, Some, Result, Ok, Err, if◌then◌else◌, nat_le, nat_lt, max}
 use Rattle.totem_packets.specs.declared.message.Message.{Message}
 use Rattle.totem_packets.specs.declared.token.Token.{Token}
 use Rattle.totem_packets.specs.declared.join.Join.{Join}
 use Rattle.totem_packets.specs.declared.commit.CommitToken.{CommitToken}
 use Rattle.totem_packets.specs.declared.packet.Packet.{Packet}
 use Rattle.totem_packets.specs.declared.packet.Packet.TheVariants as packet
-use Rattle.totem_packets.specs.Sets.{has, with_process}
+use Rattle.totem_packets.specs.Sets.{has, with_process, is_least}
 use Rattle.totem_ring.specs.declared.fault.RingFault.{RingFault}
 use Rattle.totem_ring.specs.Rings.{Ring, same_ring, first_token}
 use Rattle.totem_ring.specs.Refusals.{message_refusal, token_refusal}
@@ -16,7 +16,7 @@ use Rattle.totem_member.specs.declared.views.Act.TheVariants.{Filled, Entered, S
 use Rattle.totem_member.specs.declared.views.Phase.{Phase}
 use Rattle.totem_member.specs.declared.views.Phase.TheVariants as phase
 use Rattle.totem_member.specs.declared.fault.MemberFault.{MemberFault}
-use Rattle.totem_member.specs.Gathers.{Gather, new_gather, is_stranger}
+use Rattle.totem_member.specs.Gathers.{Gather, new_gather, gathered, consensus, is_stranger, after_join, after_timeout}
 use Rattle.totem_member.specs.Commits.{on_commit}
 use Rattle.totem_member.specs.Shown.{act_of}
 use Rattle.totem_recover.specs.Exchange.{next_bodies}
@@ -155,36 +155,56 @@ refusal n i = if n.crashed then Some Stopped else refused_by_input n i
 
 -- ---- What that says of the step
 
--- the greatest ring number that the gathering, and the Join, know
-abbrev pub state_seq : State → ℕ
-state_seq Operational = 0
-state_seq (Gathering g) = g.seq
-state_seq (Committing g) = g.seq
-state_seq (InRecovery x) = x.gather.seq
+-- The gathering comes to consensus, its least is this node, and no ring number is left for its ring: those that are known come
+-- within 4 of the greatest.
+abbrev pub has_no_number : Node → Gather → Bool
+has_no_number n g = is_some (consensus g) && (is_least (gathered g) n.me && nat_le (2 ^ 32) (max n.seq g.seq + 4))
 
-abbrev pub packet_seq : Packet → ℕ
-packet_seq (packet.Message m) = 0
-packet_seq (packet.Token t) = 0
-packet_seq (packet.Join j) = j.seq
-packet_seq (packet.Commit token) = 0
+-- the gathering that begins, once it has heard the Join that caused it, if any
+abbrev pub having_heard : Gather → Option Join → Gather
+having_heard g None = g
+having_heard g (Some j) = after_join g j
 
-abbrev pub input_seq : Input → ℕ
-input_seq (input.Submit service payload) = 0
-input_seq (input.Packet p) = packet_seq p
-input_seq input.Timer = 0
-input_seq input.Crash = 0
+abbrev pub begins_at_the_end : Node → List ℕ → Option Join → Bool
+begins_at_the_end n extra cause = has_no_number n (having_heard (new_gather n.me (gather_base n extra) n.seq) cause)
 
--- no ring number is left for another ring: those that are known come within 4 of the greatest
-abbrev pub has_no_number : ℕ → Bool
-has_no_number seq = nat_le (2 ^ 32) (seq + 4)
+-- only a message of another ring is a cause to gather
+abbrev pub message_at_the_end : Node → Message → State → Bool
+message_at_the_end n m Operational = not (same_ring m.ring n.installed.ring) && begins_at_the_end n (m.sender ∷ []) None
+message_at_the_end n m (Gathering g) = false
+message_at_the_end n m (Committing g) = false
+message_at_the_end n m (InRecovery x) = false
 
+abbrev pub join_at_the_end : Node → Join → State → Bool
+join_at_the_end n j Operational = begins_at_the_end n [] (Some j)
+join_at_the_end n j (Gathering g) = has_no_number n (after_join g j)
+join_at_the_end n j (Committing g) = begins_at_the_end n [] (Some j)
+join_at_the_end n j (InRecovery x) = begins_at_the_end n [] (Some j)
+
+abbrev pub packet_at_the_end : Node → Packet → Bool
+packet_at_the_end n (packet.Message m) = message_at_the_end n m n.state
+packet_at_the_end n (packet.Token t) = false
+packet_at_the_end n (packet.Join j) = join_at_the_end n j n.state
+packet_at_the_end n (packet.Commit token) = false
+
+-- only a timer that isn't counted alone
+abbrev pub timer_at_the_end : Node → State → Bool
+timer_at_the_end n Operational = is_quiet n && begins_at_the_end n [] None
+timer_at_the_end n (Gathering g) = nat_le 2 (n.quiet + 1) && has_no_number n (after_timeout g)
+timer_at_the_end n (Committing g) = is_quiet n && begins_at_the_end n [] None
+timer_at_the_end n (InRecovery x) = is_quiet n && begins_at_the_end n [] None
+
+-- what `refusal` leaves open: the gathering that this input begins, or goes on with, has no number for its ring
 abbrev pub is_at_the_end : Node → Input → Bool
-is_at_the_end n i = has_no_number (max (max n.seq (state_seq n.state)) (input_seq i))
+is_at_the_end n (input.Submit service payload) = false
+is_at_the_end n (input.Packet p) = packet_at_the_end n p
+is_at_the_end n input.Timer = timer_at_the_end n n.state
+is_at_the_end n input.Crash = false
 
--- The step is taken; only where no ring number is left, a gathering that comes to consensus may be refused as Range.
+-- The step is taken; but where its gathering has no number for its ring it is refused as Range, and nowhere else.
 abbrev pub IsTaken : {A : Type 0} → Bool → Outcome A → Type 0
-IsTaken at_the_end (Ok x) = Unit {0}
-IsTaken at_the_end (Err fault) = (fault ≡ Range) × IsTrue at_the_end
+IsTaken at_the_end (Ok x) = at_the_end ≡ false
+IsTaken at_the_end (Err fault) = (fault ≡ Range) × (at_the_end ≡ true)
 
 -- A refusal is that of the step, and never want of memory; where there is none, the step is taken.
 abbrev pub Tells : {A : Type 0} → Option NodeFault → Bool → Outcome A → Type 0

@@ -311,8 +311,8 @@ impl NodeCore {
     }
 
     /// Returns why `step` would refuse this input, or `None` if it would take it. Takes no memory. Whether a gathering
-    /// comes to consensus when no ring number is left, and is refused as `Range` then, is not known before its sets are
-    /// made: there the answer is `None` too.
+    /// comes to consensus is not known before its sets are made. So where one does, and is refused as `Range` because no
+    /// number is left for its ring, the answer is `None` too. Only a foreign message, a Join or a timer can lead there.
     #[tactic(auto, using(crate::proofs::Foretelling::told))]
     pub fn refusal(&self, alloc: Global, input: &Input) -> Option<NodeFault>
         ensures { Tells result (is_at_the_end self.now input.now) (step self.now input.now) }

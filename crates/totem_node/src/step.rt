@@ -92,7 +92,8 @@ impl NodeCore {
     }
 
     /// Takes an input (docs/PROTOCOL.md, "The node"). A step that is refused changes nothing, and is refused before any
-    /// memory is taken (`refusal`). So `Memory` comes only where the step would be taken.
+    /// memory is taken (`refusal`). So `Memory` comes only where the step would be taken, or would be refused as `Range` because no
+    /// number is left for the ring of a gathering.
     pub fn step(&mut self, alloc: Global, input: Input) -> Result<StepOut, NodeFault>
         ensures step { IsStep self.old self.new result (step self.old input) }
         ensures wanting { result ≡ Err Memory → IsTaken (is_at_the_end self.old input) (step self.old input) }
