@@ -1,15 +1,17 @@
 -- Where a log ends.
-use Rattle.std.proofs.Common.{◌≡◌, ◌↔◌, ◌-◌, ◌+◌, ◌<◌, ◌≤◌, ℕ, inl, inr, List, length, slice_get, Some, Bool, false, IsTrue, refl, arith}
+use Rattle.std.proofs.Common.{◌≡◌, ◌↔◌, ◌⊎◌, ◌-◌, ◌+◌, ◌<◌, ◌≤◌, ℕ, zero, suc, inl, inr, List, [], ◌∷◌, ◌++◌, length, slice_get, Option, None, Some, Bool, false, IsTrue, refl, ◌∙◌, ap, arith}
+use Rattle.std.proofs.lemmas.List.{length_push}
 use Rattle.std.proofs.lemmas.Option.{slice_get_within}
 use Rattle.totem_ids.specs.declared.conf.ConfId.{ConfId}
 use Rattle.totem_evs.specs.declared.entry.Entry.{Entry}
 use Rattle.totem_evs.specs.declared.entry.Entry.TheVariants.{Conf, Send, Deliver, Fail}
+use Rattle.totem_evs.specs.declared.log.Log.{Log}
 use Rattle.totem_evs.specs.Events.{ChangesTo, IsChange}
 use Rattle.totem_evs.specs.Changes.{StaysInPlace}
 use Rattle.totem_evs.specs.Unsettled.{EndsIn}
 use Rattle.totem_evs.proofs.LogOf.{less_or_not}
 use Rattle.totem_passes.specs.Sent.{IsChangeTo}
-use Rattle.totem_agreement.specs.Endings.{GoesOn, StandsAtEnd, EndsNowhere}
+use Rattle.totem_agreement.specs.Endings.{GoesOn, StandsAtEnd, EndsNowhere, IsEnd, AreEnds}
 
 -- what fails fails at its end
 pub goes_on : (log : List Entry) (e : Entry) → StaysInPlace log → 0 < length log → slice_get log (length log - 1) ≡ Some e → ((x : ConfId) → e ≡ Fail x → ⊥) → GoesOn log
@@ -88,3 +90,41 @@ ends_decided log i e x b stands at decides = (λ t. ends (change_is e x (decides
 
 pub ends_not : (log : List Entry) (x : ConfId) → EndsNowhere log → IsTrue false ↔ EndsIn log x
 ends_not log x nowhere = (λ t. absurd cc, λ h. absurd (nowhere.never x h))
+
+-- ---- the ends of all logs
+
+pub end_stands : (log : List Entry) (last : Option ℕ) (i : ℕ) → last ≡ Some i → IsEnd log last → StandsAtEnd log i
+end_stands log last i is end = rw is at end
+
+pub end_nowhere : (log : List Entry) (last : Option ℕ) → last ≡ None → IsEnd log last → EndsNowhere log
+end_nowhere log last is end = rw is at end
+
+push_cases : {X : Type 0} (xs : List X) (y : X) (k : ℕ) (x : X) → slice_get (xs ++ y ∷ []) k ≡ Some x → (slice_get xs k ≡ Some x) ⊎ ((k ≡ length xs) × (y ≡ x))
+push_cases [] y zero x h = inr (refl, cc)
+push_cases [] y (suc k) x h = absurd cc
+push_cases (z ∷ xs) y zero x h = inl h
+push_cases (z ∷ xs) y (suc k) x h = elim (push_cases xs y k x h) [ inl in_xs ↦ inl in_xs | inr (place, same) ↦ inr (ap (λ n. suc n) place, same) ]
+
+pub end_nowhere_but : (log : List Entry) (last : Option ℕ) → IsEnd log last → ((i : ℕ) → last ≡ Some i → ⊥) → EndsNowhere log
+end_nowhere_but log None end not = end
+end_nowhere_but log (Some i) end not = absurd (not i refl)
+
+-- those of the first n logs
+pub record EndsBefore (run : List Log) (n : ℕ) (ends : List (Option ℕ)) : Type 0 where
+  pub many : length ends ≡ n
+  pub each : (k : ℕ) (log : Log) (last : Option ℕ) → slice_get run k ≡ Some log → slice_get ends k ≡ Some last → IsEnd log.entries last
+
+pub no_ends : (run : List Log) → EndsBefore run 0 []
+no_ends run = record { many = refl; each = λ k log last at end. absurd cc }
+
+pub ends_more : (run : List Log) (n : ℕ) (log : Log) (last : Option ℕ) (ends : List (Option ℕ)) → slice_get run n ≡ Some log → IsEnd log.entries last → EndsBefore run n ends → EndsBefore run (n + 1) (ends ++ last ∷ [])
+ends_more run n log last ends at end before = record {
+  many = length_push ends last ∙ ap (λ m. m + 1) before.many;
+  each = λ k l e at_k end_k. elim (push_cases ends last k e end_k) [
+    | inl old ↦ before.each k l e at_k old
+    | inr new ↦ (let here : k ≡ n = new.0 ∙ before.many in let there : slice_get run n ≡ Some l = rw here at at_k in let one : l ≡ log = cc in rw (one, ← new.1) end)
+  ];
+}
+
+pub all_ends : (run : List Log) (n : ℕ) (ends : List (Option ℕ)) → n ≡ length run → EndsBefore run n ends → AreEnds run ends
+all_ends run n ends all before = record { many = before.many ∙ all; each = before.each }

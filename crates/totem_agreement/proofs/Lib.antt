@@ -9,6 +9,7 @@ pub mod Rooms
 pub mod Keeping
 pub mod Answering
 pub mod Searching
+mod Seeing
 pub mod Facts
 pub mod Rests
 pub mod Causing

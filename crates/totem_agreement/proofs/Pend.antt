@@ -120,13 +120,11 @@ was_sent run c stay sender x meets is m =
 no_send_at_turn : (log : List Entry) (c : RingId) (i turn : ℕ) (m : MsgId) (v : Service) → i ≡ turn → TurnsAt log c turn → slice_get log i ≡ Some (Send m (Regular c) v) → ⊥
 no_send_at_turn log c i turn m v same turns at = let change : slice_get log i ≡ Some (Conf turns.conf turns.change.0) = rw (sym same) at turns.change.1 in cc
 
-pub all_senders : (cmp : Pending → Pending → Ordering) (run : List Log) (c : RingId) (stays : List Stay) (stay : Stay) (n : ℕ) (s t : BTreeSet Pending) → MeetsPasses run → AreStays run c stays → ((sender : Stay) → IsAmong stays sender → IsStayOf run c sender) → length stays ≤ n
-    → Adds cmp (Between (MissesOf c stays stay) 0 n) s t → Adds cmp (Misses run c stay) s t
-all_senders cmp run c stays stay n s t meets are is end h = adds_alike cmp (Between (MissesOf c stays stay) 0 n) (Misses run c stay) s t (λ x b. to x b.index b.holds) (λ x m. from x m (m.sent)) h
+-- what the process of a stay misses was sent by one of the stays
+pub one_sent : (run : List Log) (c : RingId) (stays : List Stay) (stay : Stay) (n : ℕ) → MeetsPasses run → AreStays run c stays → ((sender : Stay) → IsAmong stays sender → IsStayOf run c sender) → length stays ≤ n
+    → (x : Pending) → Misses run c stay x → Between (MissesOf c stays stay) 0 n x
+one_sent run c stays stay n meets are is end x m = from x m m.sent
   where
-    to : (x : Pending) (k : ℕ) → MissesOf c stays stay k x → Misses run c stay x
-    to x k m = record { sent = was_sent run c stay m.sender x meets (is m.sender (record { at = k; stands = m.stands })) m.misses; missing = m.misses.misses.missing; proc = m.misses.proc }
-
     regular_part : (sender : Stay) (i : ℕ) (m : MsgId) (v : Service) → IsStayOf run c sender → slice_get sender.log.now i ≡ Some (Send m (Regular c) v) → (sender.from < i) × (i < sender.turn)
     regular_part sender i m v of at =
         let inside = of.is.here i (Regular c) (Send m (Regular c) v, at, refl) (inl refl) in (
@@ -158,6 +156,13 @@ all_senders cmp run c stays stay n s t meets are is end h = adds_alike cmp (Betw
 
     from : (x : Pending) → Misses run c stay x → WasSentIn run x.msg (Regular c) → Between (MissesOf c stays stay) 0 n x
     from x m (p, i, (v, at)) = (let standing = sent_in run p i x.msg (Regular c) meets (v, at) in from_stay x p i v m at (are.whole p standing.from standing.change))
+
+pub all_senders : (cmp : Pending → Pending → Ordering) (run : List Log) (c : RingId) (stays : List Stay) (stay : Stay) (n : ℕ) (s t : BTreeSet Pending) → MeetsPasses run → AreStays run c stays → ((sender : Stay) → IsAmong stays sender → IsStayOf run c sender) → length stays ≤ n
+    → Adds cmp (Between (MissesOf c stays stay) 0 n) s t → Adds cmp (Misses run c stay) s t
+all_senders cmp run c stays stay n s t meets are is end h = adds_alike cmp (Between (MissesOf c stays stay) 0 n) (Misses run c stay) s t (λ x b. to x b.index b.holds) (one_sent run c stays stay n meets are is end) h
+  where
+    to : (x : Pending) (k : ℕ) → MissesOf c stays stay k x → Misses run c stay x
+    to x k m = record { sent = was_sent run c stay m.sender x meets (is m.sender (record { at = k; stands = m.stands })) m.misses; missing = m.misses.misses.missing; proc = m.misses.proc }
 
 -- ---- all who are open
 

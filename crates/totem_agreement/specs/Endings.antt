@@ -1,5 +1,5 @@
 -- Where the logs of a run end, and who waits there (docs/SPECIFICATIONS.md, "Pending and waiting").
-use Rattle.std.specs.Prelude.{◌≡◌, ◌↔◌, ℕ, ◌<◌, List, AllPairs, Contains}
+use Rattle.std.specs.Prelude.{◌≡◌, ◌↔◌, ℕ, ◌<◌, List, length, slice_get, Option, None, Some, AllPairs, Contains}
 use Rattle.totem_ids.specs.declared.conf.ConfId.{ConfId}
 use Rattle.totem_evs.specs.declared.entry.Entry.{Entry}
 use Rattle.totem_evs.specs.declared.log.Log.{Log}
@@ -27,6 +27,16 @@ pub record StandsAtEnd (log : List Entry) (i : ℕ) : Type 0 where
 -- the log ends in no configuration
 pub record EndsNowhere (log : List Entry) : Type 0 where
   pub never : (x : ConfId) → EndsIn log x → ⊥
+
+-- the log's last change stands here, or the log ends in no configuration
+abbrev pub IsEnd : List Entry → Option ℕ → Type 0
+IsEnd log (Some i) = StandsAtEnd log i
+IsEnd log None = EndsNowhere log
+
+-- so ends each log of the run
+pub record AreEnds (run : List Log) (ends : List (Option ℕ)) : Type 0 where
+  pub many : length ends ≡ length run
+  pub each : (k : ℕ) (log : Log) (last : Option ℕ) → slice_get run k ≡ Some log → slice_get ends k ≡ Some last → IsEnd log.entries last
 
 -- for whom p waits, in rising order
 pub record AreWaitingAt (run : List Log) (p : ℕ) (list : List Waiting) : Type 0 where

@@ -51,6 +51,10 @@ pub record Misses (run : List Log) (c : RingId) (stay : Stay) (x : Pending) : Ty
   pub missing : HasDelivered stay.log.now c x.msg → ⊥
   pub proc : x.proc ≡ stay.proc
 
+-- there is no such message
+pub record MissesNone (P : Pending → Type 0) : Type 0 where
+  pub none : (x : Pending) → P x → ⊥
+
 -- x is pending in c
 pub record IsPendingIn (run : List Log) (c : RingId) (x : Pending) : Type 0 where
   pub sent : WasSentIn run x.msg (Regular c)

@@ -21,7 +21,7 @@ pub struct Kept {
 }
 
 impl Kept {
-    ghost use Rattle.std.specs.Prelude.{All, IfOk, OnOk};
+    ghost use Rattle.std.specs.Prelude.{[], ◌∷◌, All, IfOk, OnOk};
     ghost use Rattle.std.specs.BTreeMap.{IsEmpty};
     ghost use Rattle.totem_agreement.specs.Stays.{IsShortStay};
     ghost use Rattle.totem_agreement.specs.Search.{IsInside};
@@ -84,6 +84,16 @@ impl Kept {
         for stay in stays {
             kept.enter_stay(stay)?;
         }
+        Ok(kept)
+    }
+
+    /// Notes what this stay sent and delivered.
+    pub fn of_stay(alloc: Global, stay: &Stay) -> Result<Kept, AllocError>
+        requires { IsShortStay stay.now }
+        ensures { IfOk result (λ kept. AreKept ⟦<Delivery as Ord>⟧.cmp ⟦<MsgId as Ord>⟧.cmp kept.deliveries kept.sends (stay.now ∷ [])) }
+    {
+        let mut kept = Kept::new(alloc);
+        kept.enter_stay(stay)?;
         Ok(kept)
     }
 }

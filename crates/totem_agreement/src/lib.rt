@@ -20,6 +20,7 @@ mod own;
 mod pass;
 mod pendings;
 mod replay;
+mod ring_stays;
 mod safety;
 mod search;
 mod sequence;
@@ -32,6 +33,6 @@ mod waitings;
 
 pub use findings::Findings;
 pub use jobs::Jobs;
-pub use pass::{Found, pass_d};
-pub use pendings::pending;
+pub use pass::{Found, pass_d, pass_d_of};
+pub use pendings::{pending, pending_of};
 pub use waitings::waiting;

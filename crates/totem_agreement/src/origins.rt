@@ -58,7 +58,7 @@ pub fn origins_of(
 ) -> Result<Option<Origins>, AllocError>
     ensures { IfOk result (λ found. IfSome found (λ origins. AreOrigins replays.now messages.now origins.list.items origins.taken.items)) }
 {
-    let mut list = Vec::new(alloc);
+    let mut list = Vec::with_capacity(alloc, messages.len())?;
     let mut taken = vec![in alloc; 0usize; replays.len()]?;
     for (place, message) in messages.iter().enumerate() {
         let Some(origin) = next_origin(replays, &taken, place, message) else {

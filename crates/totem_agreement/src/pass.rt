@@ -1,6 +1,7 @@
 //! Pass D of the audit (docs/SPECIFICATIONS.md, "Passes").
 ghost use Rattle.std.specs.Prelude.{◌≡◌, ◌++◌, IfOk};
 ghost use Rattle.totem_evs.specs.Answers.{MeetsPasses, ListsConfigurations};
+ghost use Rattle.totem_agreement.specs.Jobs.{AreJobs};
 
 use crate::findings::Findings;
 use crate::jobs::Jobs;
@@ -73,16 +74,24 @@ impl Found {
     }
 }
 
-/// Does pass D of a run that has passed the others. Returns, for each of 3, 4, 5, 6.3, 7.1 and 7.2 and for each regular configuration
-/// in which the run breaks it, the least events that do. The jobs are done in their order, on the thread that asks.
-pub fn pass_d(alloc: Global, run: &Run) -> Result<Vec<Fault>, AllocError>
-    requires { MeetsPasses run.now.logs }
-    ensures { IfOk result (λ faults. ListsConfigurations run.now.logs faults.items) }
+/// Does these jobs in their order, on the thread that asks. Returns, for each of 3, 4, 5, 6.3, 7.1 and 7.2 and for each regular
+/// configuration in which the run breaks it, the least events that do.
+pub fn pass_d_of(alloc: Global, jobs: &Jobs<'_>) -> Result<Vec<Fault>, AllocError>
+    requires { AreJobs jobs.now.run.now.logs jobs.now }
+    ensures { IfOk result (λ faults. ListsConfigurations jobs.now.run.now.logs faults.items) }
 {
-    let jobs = Jobs::build(alloc, run)?;
     let mut found = Found::new(alloc);
     for index in 0..jobs.rings.len() {
         found = found.with(jobs.findings(alloc, index)?)?;
     }
     found.into_faults()
+}
+
+/// Does pass D of a run that has passed the others.
+pub fn pass_d(alloc: Global, run: &Run) -> Result<Vec<Fault>, AllocError>
+    requires { MeetsPasses run.now.logs }
+    ensures { IfOk result (λ faults. ListsConfigurations run.now.logs faults.items) }
+{
+    let jobs = Jobs::build(alloc, run)?;
+    pass_d_of(alloc, &jobs)
 }

@@ -1,5 +1,5 @@
 //! What is pending (docs/SPECIFICATIONS.md, "Pending and waiting").
-ghost use Rattle.std.specs.Prelude.{◌≡◌, ◌↔◌, ◌<◌, IsTrue, IfSome, IfNone, IfOk, OnOk, All, length};
+ghost use Rattle.std.specs.Prelude.{◌≡◌, ◌↔◌, ◌<◌, [], ◌∷◌, IsTrue, IfSome, IfNone, IfOk, OnOk, All, length};
 ghost use Rattle.std.specs.Bool.{OnTrue};
 ghost use Rattle.std.specs.BTreeSet as sorted;
 ghost use Rattle.totem_evs.specs.Answers.{MeetsPasses};
@@ -7,12 +7,15 @@ ghost use Rattle.totem_evs.specs.Following.{OpenIn};
 ghost use Rattle.totem_evs.specs.Unsettled.{ArePending, IsPending};
 ghost use Rattle.totem_agreement.specs.Acts.{IsAmong};
 ghost use Rattle.totem_agreement.specs.Stays.{AreStays};
-ghost use Rattle.totem_agreement.specs.Pendings.{Adds, MissesAt, MissesNothingAt, MissesFrom, Misses, IsPendingIn, IsPlacedStay, EndsClosed, HasNonePending};
+ghost use Rattle.totem_agreement.specs.Jobs.{AreJobs};
+ghost use Rattle.totem_agreement.specs.Kept.{AreKept};
+ghost use Rattle.totem_agreement.specs.Pendings.{Adds, MissesNone, MissesAt, MissesNothingAt, MissesFrom, Misses, IsPendingIn, IsPlacedStay, EndsClosed, HasNonePending};
 
-use crate::comings::Comings;
+use crate::jobs::Jobs;
+use crate::kept::{Delivery, Kept};
+use crate::ring_stays::RingStays;
 use crate::standing::has_failed;
 use crate::stay::Stay;
-use crate::stays::Stays;
 use crate::uniform::is_complete;
 use std::alloc::{AllocError, Global};
 use std::collections::BTreeSet;
@@ -20,7 +23,7 @@ use totem_evs::{Entry, Pending, Run};
 use totem_ids::{MsgId, RingId};
 
 /// Whether the process of this stay is open in it.
-fn is_open(stays: &Stays, stay: &Stay) -> bool
+fn is_open(stays: &RingStays, stay: &Stay) -> bool
     requires { IsAmong stays.now.list.items stay.now }
     ensures { IsTrue result ↔ OpenIn stay.now.log.now stays.now.ring }
 {
@@ -28,8 +31,15 @@ fn is_open(stays: &Stays, stay: &Stay) -> bool
 }
 
 /// The message that this entry sends, if the process of the stay has not delivered it.
-fn missing_at(stays: &Stays, stay: &Stay, sender: &[Entry], at: usize) -> Option<MsgId>
+fn missing_at(
+    stays: &RingStays,
+    kept: &Kept,
+    stay: &Stay,
+    sender: &[Entry],
+    at: usize,
+) -> Option<MsgId>
     requires among { IsAmong stays.now.list.items stay.now }
+    requires keeps { AreKept ⟦<Delivery as Ord>⟧.cmp ⟦<MsgId as Ord>⟧.cmp kept.now.deliveries kept.now.sends (stay.now ∷ []) }
     requires within { at < length sender.now }
     ensures found { IfSome result (MissesAt stays.now.ring stay.now sender.now at) }
     ensures none { IfNone result (MissesNothingAt stays.now.ring stay.now sender.now at) }
@@ -37,7 +47,7 @@ fn missing_at(stays: &Stays, stay: &Stay, sender: &[Entry], at: usize) -> Option
     let Entry::Send(message, _, _) = &sender[at] else {
         return None;
     };
-    match stays.delivery_of(stay, message) {
+    match stays.delivery_of(kept, stay, message) {
         Some(_) => None,
         None => Some(*message),
     }
@@ -46,41 +56,112 @@ fn missing_at(stays: &Stays, stay: &Stay, sender: &[Entry], at: usize) -> Option
 /// Adds what this sender sent and the process of the stay has not delivered.
 fn add_missing_from(
     set: &mut BTreeSet<Pending>,
-    stays: &Stays,
+    stays: &RingStays,
+    kept: &Kept,
     stay: &Stay,
     sender: &Stay,
 ) -> Result<(), AllocError>
     requires among { IsAmong stays.now.list.items stay.now }
+    requires keeps { AreKept ⟦<Delivery as Ord>⟧.cmp ⟦<MsgId as Ord>⟧.cmp kept.now.deliveries kept.now.sends (stay.now ∷ []) }
     requires sender { IsAmong stays.now.list.items sender.now }
     ensures { OnOk result (Adds ⟦<Pending as Ord>⟧.cmp (MissesFrom stays.now.ring stay.now sender.now) set.old set.new) }
 {
     let proc = stay.proc;
     for at in sender.from + 1..sender.turn {
-        if let Some(msg) = missing_at(stays, stay, sender.log, at) {
+        if let Some(msg) = missing_at(stays, kept, stay, sender.log, at) {
             set.insert(Pending { proc, msg })?;
         }
     }
     Ok(())
 }
 
-/// Adds what was sent and the process of the stay has not delivered.
-fn add_missing(set: &mut BTreeSet<Pending>, stays: &Stays, stay: &Stay) -> Result<(), AllocError>
+/// Whether the process of the stay is seen to deliver what the entry at this index sends, if it sends.
+fn is_seen(stays: &RingStays, stay: &Stay, sender: &[Entry], at: usize) -> bool
+    requires among { IsAmong stays.now.list.items stay.now }
+    requires within { at < length sender.now }
+    ensures { OnTrue result (MissesNothingAt stays.now.ring stay.now sender.now at) }
+{
+    match &sender[at] {
+        Entry::Send(message, _, _) => match stays.seen(stay, message) {
+            Some(_) => true,
+            None => false,
+        },
+        _ => true,
+    }
+}
+
+/// Whether the process of the stay is seen to deliver all that this sender sent. A no is not to be trusted.
+fn sees_all_from(stays: &RingStays, stay: &Stay, sender: &Stay) -> bool
+    requires among { IsAmong stays.now.list.items stay.now }
+    requires sender { IsAmong stays.now.list.items sender.now }
+    ensures { OnTrue result (MissesNone (MissesFrom stays.now.ring stay.now sender.now)) }
+{
+    for at in sender.from + 1..sender.turn {
+        if !is_seen(stays, stay, sender.log, at) {
+            return false;
+        }
+    }
+    true
+}
+
+/// Whether the process of the stay is seen to deliver all that was sent. A no is not to be trusted.
+fn sees_all(stays: &RingStays, stay: &Stay) -> bool
     requires { IsAmong stays.now.list.items stay.now }
+    ensures { OnTrue result (MissesNone (Misses stays.now.run.now.logs stays.now.ring stay.now)) }
+{
+    for sender in &stays.list {
+        if !sees_all_from(stays, stay, sender) {
+            return false;
+        }
+    }
+    true
+}
+
+/// Adds what was sent and the process of the stay has not delivered, of which what it delivers is kept.
+fn add_kept(
+    set: &mut BTreeSet<Pending>,
+    stays: &RingStays,
+    kept: &Kept,
+    stay: &Stay,
+) -> Result<(), AllocError>
+    requires among { IsAmong stays.now.list.items stay.now }
+    requires keeps { AreKept ⟦<Delivery as Ord>⟧.cmp ⟦<MsgId as Ord>⟧.cmp kept.now.deliveries kept.now.sends (stay.now ∷ []) }
     ensures { OnOk result (Adds ⟦<Pending as Ord>⟧.cmp (Misses stays.now.run.now.logs stays.now.ring stay.now) set.old set.new) }
 {
     for sender in &stays.list {
-        add_missing_from(set, stays, stay, sender)?;
+        add_missing_from(set, stays, kept, stay, sender)?;
     }
     Ok(())
 }
 
+/// Adds what was sent and the process of the stay has not delivered.
+fn add_missing(
+    alloc: Global,
+    set: &mut BTreeSet<Pending>,
+    stays: &RingStays,
+    stay: &Stay,
+) -> Result<(), AllocError>
+    requires { IsAmong stays.now.list.items stay.now }
+    ensures { OnOk result (Adds ⟦<Pending as Ord>⟧.cmp (Misses stays.now.run.now.logs stays.now.ring stay.now) set.old set.new) }
+{
+    if sees_all(stays, stay) {
+        return Ok(());
+    }
+    let kept = Kept::of_stay(alloc, stay)?;
+    add_kept(set, stays, &kept, stay)
+}
+
 /// Adds what is pending in one configuration.
-fn add_pending(set: &mut BTreeSet<Pending>, stays: &Stays) -> Result<(), AllocError>
+fn add_pending(
+    alloc: Global,
+    set: &mut BTreeSet<Pending>,
+    stays: &RingStays,
+) -> Result<(), AllocError>
     ensures { OnOk result (Adds ⟦<Pending as Ord>⟧.cmp (IsPendingIn stays.now.run.now.logs stays.now.ring) set.old set.new) }
 {
     for stay in &stays.list {
         if is_open(stays, stay) {
-            add_missing(set, stays, stay)?;
+            add_missing(alloc, set, stays, stay)?;
         }
     }
     Ok(())
@@ -130,20 +211,28 @@ fn in_order(alloc: Global, set: &BTreeSet<Pending>) -> Result<Vec<Pending>, Allo
     Ok(list)
 }
 
+/// Returns all that is pending in the run of these jobs, by process and then by message.
+pub fn pending_of(alloc: Global, jobs: &Jobs<'_>) -> Result<Vec<Pending>, AllocError>
+    requires { AreJobs jobs.now.run.now.logs jobs.now }
+    ensures { IfOk result (λ list. ArePending jobs.now.run.now.logs list.items) }
+{
+    let run = jobs.run;
+    let mut set = BTreeSet::new(alloc);
+    for ring in &jobs.rings {
+        let list = jobs.comings.stays(alloc, run, *ring)?;
+        if !has_nothing_pending(alloc, run, *ring, &list)? {
+            let stays = RingStays::build(alloc, run, *ring, list)?;
+            add_pending(alloc, &mut set, &stays)?;
+        }
+    }
+    in_order(alloc, &set)
+}
+
 /// Returns all that is pending in a run that has passed the first two passes, by process and then by message.
 pub fn pending(alloc: Global, run: &Run) -> Result<Vec<Pending>, AllocError>
     requires { MeetsPasses run.now.logs }
     ensures { IfOk result (λ list. ArePending run.now.logs list.items) }
 {
-    let comings = Comings::build(alloc, run)?;
-    let rings = comings.rings(alloc)?;
-    let mut set = BTreeSet::new(alloc);
-    for ring in &rings {
-        let list = comings.stays(alloc, run, *ring)?;
-        if !has_nothing_pending(alloc, run, *ring, &list)? {
-            let stays = Stays::build(alloc, run, *ring, list)?;
-            add_pending(&mut set, &stays)?;
-        }
-    }
-    in_order(alloc, &set)
+    let jobs = Jobs::build(alloc, run)?;
+    pending_of(alloc, &jobs)
 }

@@ -77,7 +77,7 @@ pub fn replayed(
         return Ok(None);
     }
     let mut sends = Vec::new(alloc);
-    let mut places: Vec<usize> = Vec::new(alloc);
+    let mut places: Vec<usize> = Vec::with_capacity(alloc, messages.len())?;
     let mut regular = 0usize;
     let mut next = 0usize;
     for at in stay.from + 1..stay.end {
@@ -122,7 +122,7 @@ pub fn replay_all(
     requires { All IsShortStay stays.now }
     ensures { IfOk result (λ found. IfSome found (λ replays. AreReplays messages.now stays.now replays.items)) }
 {
-    let mut replays = Vec::new(alloc);
+    let mut replays = Vec::with_capacity(alloc, stays.len())?;
     for stay in stays {
         match replayed(alloc, stay, messages)? {
             Some(one) => replays.push(one)?,

@@ -1,10 +1,10 @@
 //! Where logs end (docs/SPECIFICATIONS.md, "Pending and waiting").
-ghost use Rattle.std.specs.Prelude.{◌↔◌, IsTrue, IfSome, IfNone};
+ghost use Rattle.std.specs.Prelude.{◌↔◌, IsTrue};
 ghost use Rattle.std.specs.Bool.{OnTrue, OnFalse};
 ghost use Rattle.totem_evs.specs.Changes.{StaysInPlace};
 ghost use Rattle.totem_evs.specs.Unsettled.{EndsIn};
 ghost use Rattle.totem_passes.specs.Sent.{IsChangeTo};
-ghost use Rattle.totem_agreement.specs.Endings.{HasFailed, GoesOn, StandsAtEnd, EndsNowhere};
+ghost use Rattle.totem_agreement.specs.Endings.{HasFailed, GoesOn, IsEnd};
 
 use totem_evs::Entry;
 use totem_ids::ConfId;
@@ -24,8 +24,7 @@ pub fn has_failed(log: &[Entry]) -> bool
 /// The index of the last change of a log that has no failure.
 pub fn last_change(log: &[Entry]) -> Option<usize>
     requires { StaysInPlace log.now }
-    ensures found { IfSome result (StandsAtEnd log.now) }
-    ensures none { IfNone result (EndsNowhere log.now) }
+    ensures { IsEnd log.now result }
 {
     if has_failed(log) {
         return None;
@@ -48,12 +47,12 @@ fn is_change_to(entry: &Entry, conf: &ConfId) -> bool
     }
 }
 
-/// Whether the log ends in the configuration: it has no failure, and its last change is to it.
-pub fn ends_in(log: &[Entry], conf: &ConfId) -> bool
-    requires { StaysInPlace log.now }
+/// Whether the log ends in the configuration: it has no failure, and its last change, at index `last`, is to it.
+pub fn ends_in(log: &[Entry], last: Option<usize>, conf: &ConfId) -> bool
+    requires { IsEnd log.now last }
     ensures { IsTrue result ↔ EndsIn log.now conf.now }
 {
-    match last_change(log) {
+    match last {
         Some(at) => is_change_to(&log[at], conf),
         None => false,
     }

@@ -1,23 +1,37 @@
 //! Who waits, and for whom (docs/SPECIFICATIONS.md, "Pending and waiting").
-ghost use Rattle.std.specs.Prelude.{◌≡◌, ◌↔◌, ◌≤◌, IsTrue, IfOk, length};
+ghost use Rattle.std.specs.Prelude.{◌≡◌, ◌↔◌, IsTrue, IfOk};
 ghost use Rattle.totem_evs.specs.Events.{log_of};
 ghost use Rattle.totem_evs.specs.Answers.{MeetsPasses};
 ghost use Rattle.totem_evs.specs.Unsettled.{EndsIn, AreWaiting};
-ghost use Rattle.totem_agreement.specs.Endings.{AreWaitingAt};
+ghost use Rattle.totem_agreement.specs.Endings.{IsEnd, AreEnds, AreWaitingAt};
 
 use crate::standing::{ends_in, last_change};
 use std::alloc::{AllocError, Global};
 use totem_evs::{Entry, Run, Waiting};
 use totem_ids::{ConfId, ProcId};
 
-/// Whether this process ends in the configuration; one without a log doesn't.
-fn is_there(run: &Run, proc: ProcId, conf: &ConfId) -> bool
+/// The index of the last change of each log, but for those that have a failure.
+fn last_changes(alloc: Global, run: &Run) -> Result<Vec<Option<usize>>, AllocError>
     requires { MeetsPasses run.now.logs }
+    ensures { IfOk result (λ ends. AreEnds run.now.logs ends.items) }
+{
+    let logs = run.logs.as_slice();
+    let mut ends = Vec::with_capacity(alloc, logs.len())?;
+    for log in logs {
+        ends.push(last_change(log.entries.as_slice()))?;
+    }
+    Ok(ends)
+}
+
+/// Whether this process ends in the configuration; one without a log doesn't.
+fn is_there(run: &Run, ends: &[Option<usize>], proc: ProcId, conf: &ConfId) -> bool
+    requires { AreEnds run.now.logs ends.now }
     ensures { IsTrue result ↔ EndsIn (log_of run.now.logs proc) conf.now }
 {
-    for log in run.logs.as_slice() {
+    for (k, log) in run.logs.as_slice().iter().enumerate() {
         if log.proc == proc {
-            return ends_in(log.entries.as_slice(), conf);
+            let last = ends[k];
+            return ends_in(log.entries.as_slice(), last, conf);
         }
     }
     false
@@ -27,23 +41,26 @@ fn is_there(run: &Run, proc: ProcId, conf: &ConfId) -> bool
 fn waiting_of(
     alloc: Global,
     run: &Run,
+    ends: &[Option<usize>],
     proc: ProcId,
     entries: &[Entry],
+    last: Option<usize>,
 ) -> Result<Vec<Waiting>, AllocError>
     requires meets { MeetsPasses run.now.logs }
+    requires ends { AreEnds run.now.logs ends.now }
     requires log { entries.now ≡ log_of run.now.logs proc }
-    requires few { length entries.now ≤ 1000000 }
+    requires last { IsEnd entries.now last }
     ensures { IfOk result (λ list. AreWaitingAt run.now.logs proc list.items) }
 {
     let mut list = Vec::new(alloc);
-    let Some(at) = last_change(entries) else {
+    let Some(at) = last else {
         return Ok(list);
     };
     let Entry::Conf(conf, members) = &entries[at] else {
         return Ok(list);
     };
     for other in members.as_slice() {
-        if !is_there(run, *other, conf) {
+        if !is_there(run, ends, *other, conf) {
             let conf = *conf;
             let other = *other;
             list.push(Waiting { proc, conf, other })?;
@@ -57,9 +74,12 @@ pub fn waiting(alloc: Global, run: &Run) -> Result<Vec<Waiting>, AllocError>
     requires { MeetsPasses run.now.logs }
     ensures { IfOk result (λ list. AreWaiting run.now.logs list.items) }
 {
+    let ends = last_changes(alloc, run)?;
     let mut list = Vec::new(alloc);
-    for log in run.logs.as_slice() {
-        let others = waiting_of(alloc, run, log.proc, log.entries.as_slice())?;
+    for (k, log) in run.logs.as_slice().iter().enumerate() {
+        let entries = log.entries.as_slice();
+        let last = ends[k];
+        let others = waiting_of(alloc, run, &ends, log.proc, entries, last)?;
         list.extend_from_slice(&others)?;
     }
     Ok(list)

@@ -2,6 +2,7 @@
 ghost use Rattle.std.specs.Prelude.{IfOk};
 ghost use Rattle.totem_evs.specs.Answers.{ListsConfigurations, IsAnswered};
 ghost use Rattle.totem_evs.specs.Meanings.{IsSound};
+ghost use Rattle.totem_agreement.specs.Jobs.{AreJobs};
 ghost use Rattle.totem_audit.specs.Verdicts.{answer_of};
 ghost use Rattle.totem_audit.specs.Early.{IsOrdered};
 
@@ -13,29 +14,30 @@ use crate::workers::Workers;
 use std::alloc::{AllocError, Global};
 use std::sync::Wait;
 use std::thread::Threads;
-use totem_agreement::{pass_d, pending, waiting};
+use totem_agreement::{Jobs, pass_d_of, pending_of, waiting};
 use totem_cert::Certificate;
 use totem_evs::{Fault, Run};
 
-/// The verdict of a run that has passed the first three passes, from the faults of the last one: where there is none, a yes with
-/// what is left open.
+/// The verdict of a run that has passed the first three passes, from its jobs and the faults of the last one: where there is none, a
+/// yes with what is left open.
 fn settle(
     alloc: Global,
-    run: &Run,
+    jobs: &Jobs<'_>,
     certificate: Certificate,
     broken: Vec<Fault>,
 ) -> Result<Verdict, AllocError>
-    requires passed { IsOrdered run.now.logs certificate }
-    requires broken { ListsConfigurations run.now.logs broken.items }
-    ensures { IfOk result (λ verdict. IsAnswered run.now.logs (answer_of verdict)) }
+    requires jobs { AreJobs jobs.now.run.now.logs jobs.now }
+    requires passed { IsOrdered jobs.now.run.now.logs certificate }
+    requires broken { ListsConfigurations jobs.now.run.now.logs broken.items }
+    ensures { IfOk result (λ verdict. IsAnswered jobs.now.run.now.logs (answer_of verdict)) }
 {
     if !broken.is_empty() {
         return Ok(Verdict::No { faults: broken });
     }
     Ok(Verdict::Yes {
         certificate,
-        pending: pending(alloc, run)?,
-        waiting: waiting(alloc, run)?,
+        pending: pending_of(alloc, jobs)?,
+        waiting: waiting(alloc, jobs.run)?,
     })
 }
 
@@ -46,7 +48,11 @@ fn pass_all(alloc: Global, run: &Run) -> Result<Verdict, AllocError>
 {
     match first_passes(alloc, run)? {
         FirstPasses::Broken(faults) => Ok(Verdict::No { faults }),
-        FirstPasses::Ordered(certificate) => settle(alloc, run, certificate, pass_d(alloc, run)?),
+        FirstPasses::Ordered(certificate) => {
+            let jobs = Jobs::build(alloc, run)?;
+            let broken = pass_d_of(alloc, &jobs)?;
+            settle(alloc, &jobs, certificate, broken)
+        }
     }
 }
 
@@ -64,8 +70,9 @@ fn pass_all_with<T: Threads + Wait + Sync, G: Gate>(
     match first_passes(alloc, run)? {
         FirstPasses::Broken(faults) => Ok(Verdict::No { faults }),
         FirstPasses::Ordered(certificate) => {
-            let broken = pass_d_with(rt, alloc, run, workers, gate)?;
-            settle(alloc, run, certificate, broken)
+            let jobs = Jobs::build(alloc, run)?;
+            let broken = pass_d_with(rt, alloc, &jobs, workers, gate)?;
+            settle(alloc, &jobs, certificate, broken)
         }
     }
 }

@@ -1,6 +1,6 @@
 //! Pass D by many threads (docs/SPECIFICATIONS.md, "Passes").
 ghost use Rattle.std.specs.Prelude.{◌<◌, IfOk};
-ghost use Rattle.totem_evs.specs.Answers.{MeetsPasses, ListsConfigurations};
+ghost use Rattle.totem_evs.specs.Answers.{ListsConfigurations};
 ghost use Rattle.totem_agreement.specs.Jobs.{AreJobs};
 ghost use Rattle.totem_audit.specs.Jobs.{AreRight, AreNamed, AreKnown};
 
@@ -17,7 +17,7 @@ use std::marker::Brand;
 use std::sync::Wait;
 use std::thread::Threads;
 use totem_agreement::{Findings, Jobs};
-use totem_evs::{Fault, Run};
+use totem_evs::Fault;
 
 /// Notes these results.
 #[tactic(auto, using(crate::proofs::Known::popped))]
@@ -76,24 +76,22 @@ fn shared<N: JobsName + Send + Sync, T: Threads + Wait + Sync, G: Gate>(
     by_job(rt, alloc, jobs, &results)
 }
 
-/// Pass D of a run that has passed the others, its jobs shared by so many workers. One worker alone does them one after the other,
-/// without a channel.
+/// Pass D by its jobs, which so many workers share. One worker alone does them one after the other, without a channel.
 #[tactic(auto, using(crate::proofs::Known::nothing_is_known))]
 pub fn pass_d_with<T: Threads + Wait + Sync, G: Gate>(
     rt: &T,
     alloc: Global,
-    run: &Run,
+    jobs: &Jobs<'_>,
     workers: Workers,
     gate: &G,
 ) -> Result<Vec<Fault>, AllocError>
-    requires { MeetsPasses run.now.logs }
-    ensures { IfOk result (λ faults. ListsConfigurations run.now.logs faults.items) }
+    requires { AreJobs jobs.now.run.now.logs jobs.now }
+    ensures { IfOk result (λ faults. ListsConfigurations jobs.now.run.now.logs faults.items) }
 {
-    let jobs = Jobs::build(alloc, run)?;
     let known = if workers.count() == 1 {
         nothing_known(alloc, jobs.rings.len())?
     } else {
-        shared::<Brand, T, G>(rt, alloc, &jobs, workers.count(), gate)?
+        shared::<Brand, T, G>(rt, alloc, jobs, workers.count(), gate)?
     };
-    complete(alloc, &jobs, known, gate)
+    complete(alloc, jobs, known, gate)
 }

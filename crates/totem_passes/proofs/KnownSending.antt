@@ -2,28 +2,15 @@
 use Rattle.std.proofs.Common.{◌≡◌, ℕ, List, slice_get, Some, Bool, true, false}
 use Rattle.std.specs.Bool.{OnTrue}
 use Rattle.std.proofs.lemmas.Option.{slice_get_within}
-use Rattle.totem_ids.specs.declared.ring.RingId.{RingId}
 use Rattle.totem_ids.specs.declared.conf.ConfId.{ConfId}
-use Rattle.totem_ids.specs.declared.conf.ConfId.TheVariants.{Regular}
 use Rattle.totem_ids.specs.declared.message.MsgId.{MsgId}
-use Rattle.totem_ids.specs.declared.message.Service.{Service}
 use Rattle.totem_evs.specs.declared.entry.Entry.{Entry}
-use Rattle.totem_evs.specs.declared.entry.Entry.TheVariants.{Send, Deliver}
+use Rattle.totem_evs.specs.declared.entry.Entry.TheVariants.{Deliver}
 use Rattle.totem_evs.specs.declared.log.Log.{Log}
-use Rattle.totem_evs.specs.Runs.{IsRun}
-use Rattle.totem_evs.specs.Events.{log_of, WasSentIn}
+use Rattle.totem_evs.specs.Events.{log_of}
 use Rattle.totem_evs.specs.Delivery.{DeliversWhatWasSent}
-use Rattle.totem_evs.proofs.LogOf.{log_of_at}
 use Rattle.totem_passes.specs.Registers.{KnowsRun}
-use Rattle.totem_passes.specs.Sent.{WasSentTo, IsSendIn, IsSentBy, IsSentHere}
-
--- the send that stands there
-pub sent_there : (run : List Log) (k i : ℕ) (log : Log) (m : MsgId) (c : RingId) (service : Service) → IsRun run → slice_get run k ≡ Some log → slice_get log.entries i ≡ Some (Send m (Regular c) service) → WasSentIn run m (Regular c)
-sent_there run k i log m c service is at sends = (log.proc, i, (service, rw (log_of_at run k log is.rising at) sends))
-
-pub sent_if_there : (run : List Log) (k i : ℕ) (log : Log) (e : Entry) (m : MsgId) (c : RingId) (b : Bool) → IsRun run → slice_get run k ≡ Some log → slice_get log.entries i ≡ Some e → OnTrue b (IsSendIn e m c) → OnTrue b (WasSentIn run m (Regular c))
-sent_if_there run k i log e m c true is at entry sends = sent_there run k i log m c sends.service is at (rw (← sends.is) entry)
-sent_if_there run k i log e m c false is at entry sends = tt
+use Rattle.totem_passes.specs.Sent.{WasSentTo, IsSentBy, IsSentHere}
 
 -- what it delivers, if it delivers anything
 pub delivers_known : (run : List Log) (p : ℕ) (m : MsgId) (d : ConfId) (b : Bool) → OnTrue b (WasSentTo run (log_of run p) m d) → OnTrue b (IsSentBy run p (Deliver m d))

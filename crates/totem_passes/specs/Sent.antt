@@ -1,5 +1,5 @@
 -- 1.3, as it is searched: the sends for a delivery (docs/SPECIFICATIONS.md, "1 Basic delivery").
-use Rattle.std.specs.Prelude.{◌≡◌, ℕ, List}
+use Rattle.std.specs.Prelude.{◌≡◌, ℕ, List, All, Option, None, Some}
 use Rattle.totem_ids.specs.declared.conf.ConfId.{ConfId}
 use Rattle.totem_ids.specs.declared.conf.ConfId.TheVariants.{Regular, Transitional}
 use Rattle.totem_ids.specs.declared.message.MsgId.{MsgId}
@@ -10,6 +10,7 @@ use Rattle.totem_evs.specs.declared.entry.Entry.TheVariants.{Conf, Send, Deliver
 use Rattle.totem_evs.specs.declared.log.Log.{Log}
 use Rattle.totem_evs.specs.Events.{ChangesTo, Delivers, WasSentIn, log_of}
 use Rattle.totem_evs.specs.Following.{Com}
+use Rattle.totem_passes.specs.declared.known_sends.KnownSend.{KnownSend}
 
 -- a change to x
 abbrev pub IsChangeTo : Entry → ConfId → Type 0
@@ -30,6 +31,14 @@ WasSentTo run log m d = (c : RingId) × WasSentIn run m (Regular c) × Com log c
 pub record IsSendIn (entry : Entry) (m : MsgId) (c : RingId) : Type 0 where
   pub service : Service
   pub is : entry ≡ Send m (Regular c) service
+
+-- where a send is noted, there is one
+abbrev pub IsKnownSend : List Log → Option KnownSend → Type 0
+IsKnownSend run None = Unit {0}
+IsKnownSend run (Some s) = WasSentIn run s.message (Regular s.ring)
+
+abbrev pub AreKnownSends : List Log → List (Option KnownSend) → Type 0
+AreKnownSends run = All (IsKnownSend run)
 
 -- what this entry of p's log delivers was sent for it
 pub record IsSentBy (run : List Log) (p : ℕ) (entry : Entry) : Type 0 where

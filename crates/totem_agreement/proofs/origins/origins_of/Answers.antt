@@ -5,7 +5,7 @@ use Rattle.totem_agreement.proofs.Taking.{one_more_origin, no_origins, is_one_mo
 use Rattle.totem_agreement.proofs.origins.origins_of.Goals as goal
 
 pub loop-place-init : goal.loop-place-init
-loop-place-init c = rw c.new-list.ensures.items (no_origins _ _ _ (c.in_ok-taken.ensures.items_if_clones_equal (λ y same. same)))
+loop-place-init c = rw c.in_ok-list.ensures.items (no_origins _ _ _ (c.in_ok-taken.ensures.items_if_clones_equal (λ y same. same)))
 
 pub loop-place-preserved : goal.loop-place-preserved
 loop-place-preserved c =

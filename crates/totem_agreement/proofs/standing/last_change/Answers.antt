@@ -3,8 +3,8 @@ use Rattle.std.proofs.lemmas.Option.{slice_get_read}
 use Rattle.totem_agreement.proofs.Ending.{none_more, stands_here}
 use Rattle.totem_agreement.proofs.standing.last_change.Goals as goal
 
-pub returns-in-Conf-clause-found : goal.returns-in-Conf-clause-found
-returns-in-Conf-clause-found c =
+pub returns-in-Conf : goal.returns-in-Conf
+returns-in-Conf c =
     let at = slice_get_read c.args.log.now _ _ c.index-log-at.result refl (omega (arith, c.loop-back-test.true)) c.index-log-at.is in
     stands_here _ _ _ _ _ c.loop-back-test.true at c.in-Conf.is c.if-has_failed.ensures.goes_on c.loop-back.invariant
 

@@ -1,29 +1,40 @@
-use Rattle.std.proofs.Common.{refl, sym, ◌∙◌, ap}
-use Rattle.std.proofs.lemmas.Option.{slice_get_read}
+use Rattle.std.proofs.Common.{◌<◌, length, None, refl, sym, ◌∙◌, ap}
+use Rattle.std.proofs.lemmas.Option.{slice_get_read, slice_get_within, slice_get-get_or}
 use Rattle.totem_evs.specs.LogRecord.{LogRecord}
 use Rattle.totem_evs.specs.Events.{log_of}
 use Rattle.totem_evs.proofs.LogOf.{log_of_at}
 use Rattle.totem_agreement.proofs.Waits.{not_same, same, not_more, no_log}
 use Rattle.totem_agreement.proofs.waitings.is_there.Goals as goal
 
-pub loop-log-preserved : goal.loop-log-preserved
-loop-log-preserved c =
-    let at = slice_get_read c.as_slice-log-items.result.now _ _ c.log-item.result refl c.loop-log-test.true c.log-item.is in
+pub loop-k-preserved : goal.loop-k-preserved
+loop-k-preserved c =
+    let at = slice_get_read c.as_slice-log-items.result.now _ _ c.log-item.result refl c.loop-k-test.true c.log-item.is in
     let procs = ap (λ (l : LogRecord). l.proc) c.log.view_is in
-    not_more _ _ _ _ at (not_same _ _ _ procs c.if-eq.ensures) c.loop-log.invariant
+    not_more _ _ _ _ at (not_same _ _ _ procs c.if-eq.ensures) c.loop-k.invariant
 
 pub returns : goal.returns
-returns c = rw (← c.as_slice-log-items.ensures.value) (no_log _ _ _ _ c.loop-log-test.false c.loop-log.invariant)
+returns c = rw (← c.as_slice-log-items.ensures.value) (no_log _ _ _ _ c.loop-k-test.false c.loop-k.invariant)
+
+pub bounds-ends-k : goal.bounds-ends-k
+bounds-ends-k c =
+    let at = slice_get_read c.as_slice-log-items.result.now _ _ c.log-item.result refl c.loop-k-test.true c.log-item.is in
+    let within = slice_get_within _ _ _ at in
+    let many = c.requires.many in
+    let logs = c.as_slice-log-items.ensures.value in
+    rw (many, ← logs) within
 
 pub ends_in-requires : goal.ends_in-requires
 ends_in-requires c =
-    let at = slice_get_read c.as_slice-log-items.result.now _ _ c.log-item.result refl c.loop-log-test.true c.log-item.is in
+    let at = slice_get_read c.as_slice-log-items.result.now _ _ c.log-item.result refl c.loop-k-test.true c.log-item.is in
     let entries = ap (λ (l : LogRecord). l.entries) c.log.view_is in
-    rw (c.as_slice.ensures.value ∙ entries ∙ sym (log_of_at c.args.run.now.logs _ _ c.as_slice-log-items.ensures.run.rising (rw c.as_slice-log-items.ensures.value at at))) (c.requires.placed _)
+    let there = rw c.as_slice-log-items.ensures.value at at in
+    let in_run : c.loop-k.k < length c.args.run.now.logs = slice_get_within _ _ _ there in
+    let within : c.loop-k.k < length c.args.ends.now = rw c.requires.many in_run in
+    rw (c.as_slice.ensures.value ∙ entries) (c.requires.each _ _ _ there (slice_get-get_or c.args.ends.now c.loop-k.k None within))
 
 pub returns-then-eq : goal.returns-then-eq
 returns-then-eq c =
-    let at = slice_get_read c.as_slice-log-items.result.now _ _ c.log-item.result refl c.loop-log-test.true c.log-item.is in
+    let at = slice_get_read c.as_slice-log-items.result.now _ _ c.log-item.result refl c.loop-k-test.true c.log-item.is in
     let entries = ap (λ (l : LogRecord). l.entries) c.log.view_is in
     let procs = ap (λ (l : LogRecord). l.proc) c.log.view_is in
     let here = c.as_slice.ensures.value ∙ entries ∙ sym (log_of_at c.args.run.now.logs _ _ c.as_slice-log-items.ensures.run.rising (rw c.as_slice-log-items.ensures.value at at)) in

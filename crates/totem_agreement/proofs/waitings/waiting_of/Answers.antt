@@ -3,22 +3,20 @@ use Rattle.std.specs.Prelude.{AllPairs}
 use Rattle.totem_evs.specs.declared.entry.Entry.TheVariants.{Conf}
 use Rattle.std.proofs.lemmas.Option.{slice_get_read}
 use Rattle.totem_agreement.proofs.Waits.{waits_not, waits_more, waits_all_in, waits_nowhere_in, change_at_end, end_within}
+use Rattle.totem_agreement.proofs.Ending.{end_stands, end_nowhere_but}
 use Rattle.totem_agreement.proofs.waitings.waiting_of.Goals.{then-not-is_there+in_ok-push, else-not-is_there}
 use Rattle.totem_agreement.proofs.waitings.waiting_of.Goals as goal
 
-pub last_change-requires : goal.last_change-requires
-last_change-requires c = rw c.requires.log (c.requires.meets.placed _)
-
 pub returns-in_default : goal.returns-in_default
-returns-in_default c = waits_nowhere_in _ _ _ _ c.requires.log c.new-list.ensures.items c.in_default.ensures.none
+returns-in_default c = waits_nowhere_in _ _ _ _ c.requires.log c.new-list.ensures.items (end_nowhere_but _ _ c.requires.last c.in_default.not-Some)
 
 pub bounds-entries-at : goal.bounds-entries-at
-bounds-entries-at c = end_within _ _ c.in-Some.ensures.found
+bounds-entries-at c = end_within _ _ (end_stands _ _ _ c.in-Some.is c.requires.last)
 
 pub returns-in_default-entries : goal.returns-in_default-entries
 returns-in_default-entries c =
-    let at = slice_get_read c.args.entries.now _ _ c.index-entries-at.result refl (end_within _ _ c.in-Some.ensures.found) c.index-entries-at.is in
-    absurd (change_at_end _ _ _ c.in-Some.ensures.found at c.in_default-entries.not-Conf)
+    let at = slice_get_read c.args.entries.now _ _ c.index-entries-at.result refl (end_within _ _ (end_stands _ _ _ c.in-Some.is c.requires.last)) c.index-entries-at.is in
+    absurd (change_at_end _ _ _ (end_stands _ _ _ c.in-Some.is c.requires.last) at c.in_default-entries.not-Conf)
 
 pub loop-other-preserved : goal.loop-other-preserved
 loop-other-preserved c =
@@ -32,5 +30,5 @@ loop-other-preserved c =
 
 pub returns : goal.returns
 returns c =
-    let at = slice_get_read c.args.entries.now _ _ c.index-entries-at.result refl (end_within _ _ c.in-Some.ensures.found) c.index-entries-at.is in
-    waits_all_in _ _ _ _ _ _ _ _ _ c.requires.meets c.requires.log c.in-Some.ensures.found at (c.in-Conf.is ∙ ap (λ ms. Conf c.in-Conf.conf ms) (sym c.as_slice-other-items.ensures.value)) c.loop-other-test.false c.loop-other.invariant
+    let at = slice_get_read c.args.entries.now _ _ c.index-entries-at.result refl (end_within _ _ (end_stands _ _ _ c.in-Some.is c.requires.last)) c.index-entries-at.is in
+    waits_all_in _ _ _ _ _ _ _ _ _ c.requires.meets c.requires.log (end_stands _ _ _ c.in-Some.is c.requires.last) at (c.in-Conf.is ∙ ap (λ ms. Conf c.in-Conf.conf ms) (sym c.as_slice-other-items.ensures.value)) c.loop-other-test.false c.loop-other.invariant

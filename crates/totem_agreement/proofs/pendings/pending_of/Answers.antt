@@ -3,16 +3,15 @@ use Rattle.std.proofs.lemmas.Option.{slice_get_read}
 use Rattle.totem_evs.specs.contracts.pending.PendingOrd.TheImpl as pending
 use Rattle.totem_evs.specs.Answers.{AreRings}
 use Rattle.totem_agreement.proofs.Adding.{between_more}
-use Rattle.totem_agreement.proofs.Ringing.{are_rings}
 use Rattle.totem_agreement.specs.Pendings.{HasNonePending}
 use Rattle.totem_agreement.proofs.Pend.{PendingAt, of_one_ring, none_of_ring, all_rings}
-use Rattle.totem_agreement.proofs.pendings.pending.Goals.{then-not-branch+in_ok-stays+in_ok-add_pending, else-not-branch}
+use Rattle.totem_agreement.proofs.pendings.pending_of.Goals.{then-not-branch+in_ok-stays+in_ok-add_pending, else-not-branch}
 use Rattle.totem_agreement.proofs.PendOrder.{are_pending_if_ok, empty_has_none}
-use Rattle.totem_agreement.proofs.pendings.pending.Goals as goal
+use Rattle.totem_agreement.proofs.pendings.pending_of.Goals as goal
 
 pub loop-ring-preserved : goal.loop-ring-preserved
 loop-ring-preserved c =
-    let run = c.args.run.now.logs in
+    let run = c.args.jobs.now.run.now.logs in
     let at = slice_get_read c.deref-ring-items.result.now _ _ c.ring-item.result refl c.loop-ring-test.true c.ring-item.is in
     elim c.if-not-branch.branch [
       | then-not-branch+in_ok-stays+in_ok-add_pending w ↦ rw w.set-is
@@ -26,7 +25,8 @@ loop-ring-preserved c =
 
 pub returns : goal.returns
 returns c =
-    let are : AreRings c.args.run.now.logs c.deref-ring-items.result.now = rw (c.deref-ring-items.ensures.value, c.in_ok-rings.ensures.keys) (are_rings _ c.in_ok-comings.comings.rings c.in_ok-comings.comings.indices c.args.run.now.logs c.in_ok-comings.ensures c.in_ok-rings.ensures.ordered) in
+    let jobs = c.args.jobs.now in
+    let are : AreRings jobs.run.now.logs c.deref-ring-items.result.now = rw c.deref-ring-items.ensures.value c.requires.rings in
     are_pending_if_ok _ c.loop-ring.set _
-    (all_rings _ c.args.run.now.logs c.deref-ring-items.result.now _ c.new-set.result _ are c.loop-ring-test.false (empty_has_none c.new-set.result c.new-set.ensures.empty) c.loop-ring.invariant)
+    (all_rings _ jobs.run.now.logs c.deref-ring-items.result.now _ c.new-set.result _ are c.loop-ring-test.false (empty_has_none c.new-set.result c.new-set.ensures.empty) c.loop-ring.invariant)
     c.in_order.ensures.items c.in_order.ensures.ordered
