@@ -3,12 +3,13 @@
 #
 #     examples/join-logs.sh FOLDER > my.run
 #
-# FOLDER has a file P.log for each process P, with one line for each entry, as docs/OWN-LOGS.md tells. A last line that was cut off is
+# FOLDER has a file P.log for each process P, with one line for each entry, as docs/OWN-LOGS.md tells. Where processes come back, it
+# has a file P.L.log for each life L of each process P instead, and the lines name members as P:L. A last line that was cut off is
 # left out. A log is closed with `failed` where its last entry is a failure, else with `open`.
 set -eu
 
 if [ $# -ne 1 ] || [ ! -d "$1" ]; then
-    echo "usage: join-logs.sh FOLDER, which has a file P.log for each process P" >&2
+    echo "usage: join-logs.sh FOLDER, which has a file P.log for each process P, or P.L.log for each life L of it" >&2
     exit 64
 fi
 cd "$1"
@@ -22,15 +23,31 @@ whole_lines() {
     fi
 }
 
+put_log() {
+    echo "log $1"
+    whole_lines "$2" | awk '{ print; last = $1 } END { print (last == "fail" ? "failed" : "open") }'
+}
+
 processes=$(ls | sed -n 's/^\([1-9][0-9]*\)\.log$/\1/p' | sort -n)
-if [ -z "$processes" ]; then
-    echo "join-logs.sh: $1 has no file P.log" >&2
+lives=$(ls | sed -n 's/^\([1-9][0-9]*\.[1-9][0-9]*\)\.log$/\1/p' | sort -t . -k 1,1n -k 2,2n)
+if [ -z "$processes$lives" ]; then
+    echo "join-logs.sh: $1 has no file P.log or P.L.log" >&2
+    exit 1
+fi
+if [ -n "$processes" ] && [ -n "$lives" ]; then
+    echo "join-logs.sh: $1 has files P.log and files P.L.log: give each of them its life" >&2
     exit 1
 fi
 
-echo "totem-run 1"
+if [ -n "$lives" ]; then
+    echo "totem-run 2"
+else
+    echo "totem-run 1"
+fi
 for process in $processes; do
-    echo "log $process"
-    whole_lines "$process.log" | awk '{ print; last = $1 } END { print (last == "fail" ? "failed" : "open") }'
+    put_log "$process" "$process.log"
+done
+for life in $lives; do
+    put_log "$(echo "$life" | tr . :)" "$life.log"
 done
 echo "end"

@@ -11,12 +11,31 @@ NUMBER = r'[1-9][0-9]*'
 RING = r'%s\.%s' % (NUMBER, NUMBER)
 CONFIGURATION = r'(?:r%s|t%s/%s)' % (RING, RING, NUMBER)
 MESSAGE = r'%s#%s' % (RING, NUMBER)
-FAULT = r'fault [1-7](?:\.[1-4])?(?: %s@%s)+\n' % (NUMBER, NUMBER)
-LEFT_OPEN = r'(?:pending %s %s\n)*(?:waiting %s %s %s\n)*' % (NUMBER, MESSAGE, NUMBER, CONFIGURATION, NUMBER)
-CERTIFICATE = r'totem-cert 1\n(?:pos %s(?: %s)+\n)*' % (NUMBER, NUMBER)
-ENTRY = r'(?:conf {c}(?: {n})+|send r{r} [as] {m}|dlv {c} {m}|fail {c})\n'.format(
-    c=CONFIGURATION, n=NUMBER, r=RING, m=MESSAGE)
-RUN = r'totem-run 1\n(?:log %s\n(?:%s)+(?:open|failed)\n)*end\n' % (NUMBER, ENTRY)
+
+
+class _Texts:
+    """The forms of texts of one version: where a process is written so."""
+
+    def __init__(self, version, process):
+        self.fault = r'fault [1-7](?:\.[1-4])?(?: %s@%s)+\n' % (process, NUMBER)
+        self.left_open = r'(?:pending %s %s\n)*(?:waiting %s %s %s\n)*' % (
+            process, MESSAGE, process, CONFIGURATION, process)
+        self.certificate = r'totem-cert %d\n(?:pos %s(?: %s)+\n)*' % (version, process, NUMBER)
+        entry = r'(?:conf {c}(?: {p})+|send r{r} [as] {m}|dlv {c} {m}|fail {c})\n'.format(
+            c=CONFIGURATION, p=process, r=RING, m=MESSAGE)
+        self.run = r'totem-run %d\n(?:log %s\n(?:%s)+(?:open|failed)\n)*end\n' % (version, process, entry)
+        self.missing = r'totem: run refused: 9 MissingLog %s\n' % process
+
+
+TEXTS = (_Texts(1, NUMBER), _Texts(2, NUMBER + ':' + NUMBER))
+
+
+def _of_either(form):
+    """The form of a text of either version."""
+    return '(?:%s)' % '|'.join(form(texts) for texts in TEXTS)
+
+
+RUN = _of_either(lambda texts: texts.run)
 
 
 def _named(front, names):
@@ -28,8 +47,8 @@ def _one_of(lines):
     return '(?:%s)' % '|'.join(map(re.escape, lines))
 
 
-RUN_REFUSED = r'(?:%s|totem: run refused: 9 MissingLog %s\n)' % (
-    _one_of(_named('run refused', RUN_FAULTS)), NUMBER)
+RUN_REFUSED = '(?:%s|%s)' % (
+    _one_of(_named('run refused', RUN_FAULTS)), _of_either(lambda texts: texts.missing))
 CERTIFICATE_REFUSED = _one_of(
     _named('certificate unreadable', CERTIFICATE_FAULTS) + _named('certificate refused', REFUSALS))
 SCRIPT_REFUSED = _one_of(_named('script refused', SCRIPT_FAULTS))
@@ -39,11 +58,11 @@ PICTURE = r'<svg [ -~]+\n%s' % LINES
 
 # For each verb (with what it is asked for beside workers) and status the output, and the errors.
 FORMS = {
-    'audit': {0: ('verdict yes\n%s%send\n' % (LEFT_OPEN, CERTIFICATE), ''),
-              1: ('verdict no\n(?:%s)+end\n' % FAULT, ''),
+    'audit': {0: (_of_either(lambda texts: 'verdict yes\n%s%send\n' % (texts.left_open, texts.certificate)), ''),
+              1: (_of_either(lambda texts: 'verdict no\n(?:%s)+end\n' % texts.fault), ''),
               2: ('', RUN_REFUSED)},
-    'check': {0: ('verdict yes\n%send\n' % LEFT_OPEN, ''),
-              1: ('verdict no\n%send\n' % FAULT, ''),
+    'check': {0: (_of_either(lambda texts: 'verdict yes\n%send\n' % texts.left_open), ''),
+              1: (_of_either(lambda texts: 'verdict no\n%send\n' % texts.fault), ''),
               2: ('', '(?:%s|%s)' % (RUN_REFUSED, CERTIFICATE_REFUSED))},
     'explain': {0: (r'Yes: [ -~]+\n' + LINES, ''),
                 1: (r'No: [ -~]+\n' + LINES, ''),

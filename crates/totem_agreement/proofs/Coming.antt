@@ -1,5 +1,5 @@
 -- Entering the changes to regular configurations, and reading them.
-use Rattle.std.proofs.Common.{◌≡◌, ℕ, inl, inr, List, slice_get, Some, true, sym, ◌∙◌, subst}
+use Rattle.std.proofs.Common.{◌≡◌, ℕ, inl, inr, List, slice_get, Some, None, true, IsTrue, sym, ◌∙◌, subst}
 use Rattle.std.specs.declared.cmp.Ordering.{Ordering}
 use Rattle.std.specs.BTreeMap.{BTreeMap}
 use Rattle.std.specs.BTreeMap as tree
@@ -15,10 +15,10 @@ use Rattle.totem_evs.specs.declared.log.Log.{Log}
 use Rattle.totem_evs.specs.Events.{log_of, ChangesTo}
 use Rattle.totem_evs.specs.Answers.{IsRing}
 use Rattle.totem_passes.specs.declared.visit.Visit.{Visit}
-use Rattle.totem_passes.specs.Registers.{StaysSound}
+use Rattle.totem_passes.specs.Registers.{Keeps, StaysSound}
 use Rattle.totem_passes.proofs.Knowing.{equal_at, apart_or_at}
 use Rattle.totem_passes.proofs.QuickSends.{visit}
-use Rattle.totem_agreement.specs.Comings.{AreComings}
+use Rattle.totem_agreement.specs.Comings.{KnowsComing, AreComings}
 
 pub one_more : (by_ring : RingId → RingId → Ordering) (by_visit : Visit → Visit → Ordering) → CmpEqualImpliesEq by_ring → CmpEqualImpliesEq by_visit
     → (r s : BTreeSet RingId) (m n : BTreeMap Visit ℕ) (p i : ℕ) (log : List Entry) (x : ConfId) (c : RingId) (ms : List ℕ) → slice_get log i ≡ Some (Conf x ms) → x ≡ Regular c
@@ -45,3 +45,22 @@ one_more by_ring by_visit exact_ring exact_visit r s m n p i log x c ms at is ad
         | inl at_v ↦ index_here run v j logs (exact_visit (visit p (Regular c)) v (equal_at (by_visit (visit p (Regular c)) v) at_v)) is_j
       ];
     }
+
+pub keeps_comings : (by_ring : RingId → RingId → Ordering) (by_visit : Visit → Visit → Ordering) → CmpEqualImpliesEq by_ring → CmpEqualImpliesEq by_visit
+    → (r s : BTreeSet RingId) (m n : BTreeMap Visit ℕ) (p i : ℕ) (c : RingId) → sorted.Updates by_ring r s c true → tree.Updates by_visit m n (visit p (Regular c)) (Some i)
+    → Keeps (KnowsComing by_ring by_visit r m) (KnowsComing by_ring by_visit s n)
+keeps_comings by_ring by_visit exact_ring exact_visit r s m n p i c added updated = record {
+  each = λ q log j known. record {
+    ring = λ d change. elim (apart_or_at by_ring c d) [
+      | inr apart ↦ added.2 d apart ∙ known.ring d change
+      | inl at_d ↦ subst (λ (z : RingId). IsTrue (sorted.contains by_ring s z)) (exact_ring c d (equal_at (by_ring c d) at_d)) added.1
+    ];
+    index = λ d change none. elim (apart_or_at by_visit (visit p (Regular c)) (visit q (Regular d))) [
+      | inr apart ↦ known.index d change (sym (updated.2 (visit q (Regular d)) apart) ∙ none)
+      | inl at_v ↦ found_here (sym (subst (λ (z : Visit). tree.get by_visit n z ≡ Some i) (exact_visit (visit p (Regular c)) (visit q (Regular d)) (equal_at (by_visit (visit p (Regular c)) (visit q (Regular d))) at_v)) updated.1) ∙ none)
+    ];
+  };
+}
+  where
+    found_here : Some i ≡ None → ⊥
+    found_here e = cc

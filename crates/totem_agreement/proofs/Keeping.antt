@@ -2,18 +2,20 @@
 use Rattle.std.proofs.Common.{◌≡◌, ℕ, ◌+◌, ◌<◌, ◌≤◌, ◌⊎◌, inl, inr, List, length, slice_get, Some, None, refl, sym, subst, ap, ◌∙◌, arith}
 use Rattle.std.specs.declared.cmp.Ordering.{Ordering}
 use Rattle.std.specs.declared.cmp.Ordering.TheVariants.{Less, Equal, Greater}
-use Rattle.std.specs.Ordering.{ordering_then, nat_cmp}
+use Rattle.std.specs.Ordering.{ordering_then}
 use Rattle.std.specs.BTreeMap.{BTreeMap, IsEmpty}
 use Rattle.std.specs.BTreeMap as tree
-use Rattle.std.proofs.lemmas.Map.Lookups.{CmpEqualImpliesEq, exact_unsigned}
+use Rattle.std.proofs.lemmas.Map.Lookups.{CmpEqualImpliesEq}
 use Rattle.std.proofs.lemmas.Option.{slice_get_within}
 use Rattle.totem_ids.specs.declared.conf.ConfId.{ConfId}
 use Rattle.totem_ids.specs.declared.message.MsgId.{MsgId}
 use Rattle.totem_ids.specs.declared.message.Service.{Service}
+use Rattle.totem_ids.specs.contracts.life.ProcOrd.TheImpl as life
 use Rattle.totem_ids.specs.contracts.message.MsgIdOrd.TheImpl as message
 use Rattle.totem_evs.specs.declared.entry.Entry.{Entry}
 use Rattle.totem_evs.specs.declared.entry.Entry.TheVariants.{Send, Deliver}
 use Rattle.totem_evs.proofs.LogOf.{less_or_not}
+use Rattle.totem_evs.proofs.ProcOrder.{exact_proc}
 use Rattle.totem_passes.proofs.Exact.{exact_message}
 use Rattle.totem_passes.proofs.Knowing.{equal_at, apart_or_at}
 use Rattle.totem_agreement.specs.declared.stay.Stay.{Stay}
@@ -33,8 +35,8 @@ delivery_of p m = record { proc = p; message = m }
 
 -- deliveries that compare as equal are the same
 pub exact_delivery : CmpEqualImpliesEq delivery.cmp-value.it
-exact_delivery k q e = let h = both_equal (nat_cmp k.proc q.proc) (message.cmp-value.it k.message q.message) e in
-    ap (λ (x : ℕ). delivery_of x k.message) (exact_unsigned k.proc q.proc h.0) ∙ ap (delivery_of q.proc) (exact_message k.message q.message h.1)
+exact_delivery k q e = let h = both_equal (life.cmp-value.it k.proc q.proc) (message.cmp-value.it k.message q.message) e in
+    ap (λ (x : ℕ). delivery_of x k.message) (exact_proc k.proc q.proc h.0) ∙ ap (delivery_of q.proc) (exact_message k.message q.message h.1)
 
 -- an update of a map keeps what it held, and adds what stands now under the key
 module _ {K V : Type 0} (cmp : K → K → Ordering) (exact : CmpEqualImpliesEq cmp) where

@@ -1,12 +1,16 @@
 -- Who waits, log by log.
-use Rattle.std.proofs.Common.{◌≡◌, ◌⊎◌, ◌↔◌, ◌+◌, ◌<◌, ◌≤◌, ℕ, inl, inr, List, [], ◌∷◌, ◌++◌, length, slice_get, Some, true, false, IsTrue, refl, sym, ◌∙◌, arith}
+use Rattle.std.proofs.Common.{◌≡◌, ◌⊎◌, ◌↔◌, ◌+◌, ◌<◌, ◌≤◌, ℕ, inl, inr, List, [], ◌∷◌, ◌++◌, length, slice_get, Some, Bool, true, false, ◌&&◌, IsTrue, refl, sym, ap, ◌∙◌, arith}
 use Rattle.std.specs.Prelude.{AllPairs, Contains}
 use Rattle.std.proofs.lemmas.Option.{slice_get_within, slice_get_read, get_or_from_slice_get}
 use Rattle.std.proofs.Math.Dec.{eqb}
-use Rattle.std.proofs.lemmas.Bool.{eq-eqb}
+use Rattle.std.proofs.lemmas.Bool.{eq-eqb, eqb-true}
 use Rattle.std.proofs.lemmas.List.Quantifiers.{all_pairs_push}
 use Rattle.std.proofs.lemmas.List.Elements.{Contains-append_left, Contains-get_or, Contains-push, Contains-push_cases}
 use Rattle.totem_ids.specs.declared.conf.ConfId.{ConfId}
+use Rattle.totem_ids.specs.Ranks.{rank_of, id_of, life_of}
+use Rattle.totem_ids.proofs.Lives.{below_is_less}
+use Rattle.totem_ids.proofs.RankParts.{rank_of_parts}
+use Rattle.totem_evs.specs.Members.{IsBelow}
 use Rattle.totem_evs.specs.declared.entry.Entry.{Entry}
 use Rattle.totem_evs.specs.declared.entry.Entry.TheVariants.{Conf}
 use Rattle.totem_evs.specs.declared.log.Log.{Log}
@@ -21,11 +25,29 @@ use Rattle.totem_agreement.proofs.Gathering.{HasLogBefore, Gathered, none_gather
 -- ---- whether a process ends in a configuration
 
 -- comparing processes
-pub not_same : (a b c : ℕ) → a ≡ b → false ≡ eqb a c → b ≡ c → ⊥
-not_same a b c is e same = let t = eq-eqb a c (is ∙ same) in cc
+both_true : (s t : Bool) → true ≡ (s && t) → (s ≡ true) × (t ≡ true)
+both_true true t e = (refl, sym e)
+both_true false t e = absurd cc
 
-pub same : (a b c : ℕ) → a ≡ b → true ≡ eqb a c → b ≡ c
-same a b c is e = let h : a ≡ c = grind arith in sym is ∙ h
+same_parts : (a b : ℕ) → true ≡ (eqb (id_of a) (id_of b) && eqb (life_of a) (life_of b)) → a ≡ b
+same_parts a b e =
+    let h = both_true (eqb (id_of a) (id_of b)) (eqb (life_of a) (life_of b)) e in
+    sym (rank_of_parts a)
+    ∙ ap (λ (x : ℕ). rank_of x (life_of a)) (eqb-true (id_of a) (id_of b) h.0)
+    ∙ ap (λ (x : ℕ). rank_of (id_of b) x) (eqb-true (life_of a) (life_of b) h.1)
+    ∙ rank_of_parts b
+
+pub other_parts : (a b : ℕ) → a ≡ b → false ≡ (eqb (id_of a) (id_of b) && eqb (life_of a) (life_of b)) → ⊥
+other_parts a b same e =
+    let ids = eq-eqb (id_of a) (id_of b) (ap (λ (x : ℕ). id_of x) same) in
+    let lives = eq-eqb (life_of a) (life_of b) (ap (λ (x : ℕ). life_of x) same) in
+    absurd (let h : false ≡ true = rw (ids, lives) at e in cc)
+
+pub not_same : (a b c : ℕ) → a ≡ b → false ≡ (eqb (id_of a) (id_of c) && eqb (life_of a) (life_of c)) → b ≡ c → ⊥
+not_same a b c is e same = other_parts a c (is ∙ same) e
+
+pub same : (a b c : ℕ) → a ≡ b → true ≡ (eqb (id_of a) (id_of c) && eqb (life_of a) (life_of c)) → b ≡ c
+same a b c is e = sym is ∙ same_parts a c e
 
 -- none of the first k logs is p's
 pub record NotBefore (run : List Log) (k p : ℕ) : Type 0 where
@@ -53,6 +75,10 @@ no_log run k p x end before = (λ t. absurd cc, λ h. go (log_of_cases run p) h)
     go (inr (j, log, at, same, is)) h = absurd (before.none j log (let lt = slice_get_within run j log at in omega arith) at same)
 
 -- ---- for whom one process waits
+
+-- members rise by identifier, so as processes do
+pub members_rise : (ms : List ℕ) → AllPairs IsBelow ms → AllPairs (λ a b. a < b) ms
+members_rise ms rises = λ i j d lt within. (below_is_less _ _).0 (inl (rises i j d lt within))
 
 pairs_at : (ms : List ℕ) (j n a b : ℕ) → AllPairs (λ a b. a < b) ms → j < n → slice_get ms j ≡ Some a → slice_get ms n ≡ Some b → a < b
 pairs_at ms j n a b rises lt at_j at_n = (let h = rises j n a lt (slice_get_within ms n b at_n) in rw (get_or_from_slice_get ms j a a at_j, get_or_from_slice_get ms n b a at_n) at h)

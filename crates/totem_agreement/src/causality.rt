@@ -17,7 +17,7 @@ use crate::suspects::suspects_of;
 use std::alloc::{AllocError, Global};
 use std::collections::BTreeSet;
 use totem_evs::{Entry, Places, SpecNo};
-use totem_ids::{MsgId, Place, ProcId};
+use totem_ids::{MsgId, Place, Proc};
 
 /// The deliveries of a message that come without its cause.
 #[derive(Clone, Copy)]
@@ -52,7 +52,7 @@ impl Finder for Surprises<'_, '_, '_> {
 struct Effects<'s, 'r, 'm> {
     stays: &'s Stays<'r>,
     cause: &'m MsgId,
-    proc: ProcId,
+    proc: Proc,
     at: usize,
 }
 

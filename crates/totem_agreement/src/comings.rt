@@ -6,7 +6,7 @@ use crate::stay::{Stay, stay_from};
 use std::alloc::{AllocError, Global};
 use std::collections::{BTreeMap, BTreeSet};
 use totem_evs::{Entry, Run};
-use totem_ids::{ConfId, ProcId, RingId};
+use totem_ids::{ConfId, Proc, RingId};
 use totem_passes::{Register, Visit, enter_run};
 
 /// The rings of the regular configurations, and the index at which each process changes to each of these.
@@ -26,7 +26,7 @@ impl Register for Comings {
     fn enter(
         &mut self,
         _alloc: Global,
-        proc: ProcId,
+        proc: Proc,
         log: &[Entry],
         at: usize,
     ) -> Result<(), AllocError> {

@@ -16,14 +16,14 @@ use crate::stay::Stay;
 use crate::stays::Stays;
 use std::alloc::{AllocError, Global};
 use totem_evs::{Entry, Places, SpecNo};
-use totem_ids::{MsgId, Place, ProcId};
+use totem_ids::{MsgId, Place, Proc};
 use totem_passes::begin_with;
 
 /// The deliveries of a later message by processes that do not deliver the earlier one, where its sender is a member.
 #[derive(Clone, Copy)]
 struct Lacks<'s, 'r, 'm> {
     stays: &'s Stays<'r>,
-    sender: ProcId,
+    sender: Proc,
     earlier: &'m MsgId,
     later: &'m MsgId,
 }
@@ -68,7 +68,7 @@ impl Finder for Lacks<'_, '_, '_> {
 #[derive(Clone, Copy)]
 struct Later<'s, 'r, 'm> {
     stays: &'s Stays<'r>,
-    sender: ProcId,
+    sender: Proc,
     earlier: &'m MsgId,
     at: usize,
 }

@@ -2,7 +2,7 @@
 use crate::stay::Stay;
 use std::alloc::{AllocError, Global};
 use totem_evs::Entry;
-use totem_ids::{MsgId, ProcId};
+use totem_ids::{MsgId, Proc};
 
 /// How many times the deliveries of a stay the span of their numbers may be.
 const SPARSEST: usize = 4;
@@ -10,7 +10,7 @@ const SPARSEST: usize = 4;
 /// The index of each delivery of a stay, by the number of its message from `first` on, or 0.
 #[derive(Drop)]
 struct Row {
-    proc: ProcId,
+    proc: Proc,
     first: u32,
     indexes: Vec<u32>,
 }

@@ -11,7 +11,7 @@ use crate::stay::Stay;
 use crate::stays::Stays;
 use std::alloc::{AllocError, Global};
 use totem_evs::{Entry, Places, SpecNo};
-use totem_ids::{Place, ProcId};
+use totem_ids::{Place, Proc};
 
 /// The deliveries of safe messages in the regular configuration, to which a member never changes.
 #[derive(Clone, Copy)]
@@ -21,7 +21,7 @@ struct Uninstalled<'s, 'r> {
 
 impl Uninstalled<'_, '_> {
     /// The first of these members whose log never changes to the regular configuration.
-    fn first_absent(&self, members: &[ProcId]) -> Option<ProcId>
+    fn first_absent(&self, members: &[Proc]) -> Option<Proc>
         ensures member { IfSome result (λ q. Contains members.now q) }
         ensures absent { IfSome result (λ q. NeverComes self.now.stays.now.run.now.logs self.now.stays.now.ring q) }
         ensures none { IfNone result (HoldsOfNo members.now (NeverComes self.now.stays.now.run.now.logs self.now.stays.now.ring)) }

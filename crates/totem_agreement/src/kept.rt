@@ -4,12 +4,12 @@ use crate::stays::Sending;
 use std::alloc::{AllocError, Global};
 use std::collections::BTreeMap;
 use totem_evs::Entry;
-use totem_ids::{MsgId, ProcId};
+use totem_ids::{MsgId, Proc};
 
 /// A message, and a process that delivers it.
 #[derive(Clone, Copy, PartialEq, Eq, PartialOrd, Ord)]
 pub struct Delivery {
-    pub proc: ProcId,
+    pub proc: Proc,
     pub message: MsgId,
 }
 

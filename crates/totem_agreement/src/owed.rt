@@ -9,7 +9,7 @@ use crate::replay::Replay;
 use crate::stay::Stay;
 use crate::stays::members_of;
 use std::alloc::{AllocError, Global};
-use totem_ids::{ProcId, Service};
+use totem_ids::{Proc, Service};
 
 /// For each number below the count whether it is one of these places.
 pub fn tell_places(alloc: Global, places: &[usize], count: usize) -> Result<Vec<bool>, AllocError>
@@ -76,7 +76,7 @@ pub fn last_place(places: &[usize]) -> usize
 }
 
 /// Whether the process is a member of what follows the regular configuration in this stay.
-pub fn is_turn_member(stay: &Stay, proc: ProcId) -> bool
+pub fn is_turn_member(stay: &Stay, proc: Proc) -> bool
     ensures { OnFalse result (IsNoTurnMember stay.now proc) }
 {
     match stay.log.get(stay.turn) {

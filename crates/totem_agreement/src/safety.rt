@@ -10,7 +10,7 @@ use crate::stay::Stay;
 use crate::stays::Stays;
 use std::alloc::{AllocError, Global};
 use totem_evs::{Entry, Places, SpecNo};
-use totem_ids::{MsgId, Place, ProcId};
+use totem_ids::{MsgId, Place, Proc};
 
 /// The deliveries of safe messages that a member neither delivers nor is excused from.
 #[derive(Clone, Copy)]
@@ -20,7 +20,7 @@ struct Unreached<'s, 'r> {
 
 impl Unreached<'_, '_> {
     /// Whether this process ought to deliver the message and does not.
-    fn is_missed(&self, proc: ProcId, message: &MsgId) -> bool
+    fn is_missed(&self, proc: Proc, message: &MsgId) -> bool
         ensures { IsTrue result ↔ IsMissed self.now.stays.now.run.now.logs self.now.stays.now.ring message.now proc }
     {
         let Some(stay) = self.stays.stay_of(proc) else {
@@ -36,7 +36,7 @@ impl Unreached<'_, '_> {
     }
 
     /// The first of these members that ought to deliver the message and does not.
-    fn first_missed(&self, members: &[ProcId], message: &MsgId) -> Option<ProcId>
+    fn first_missed(&self, members: &[Proc], message: &MsgId) -> Option<Proc>
         ensures member { IfSome result (λ q. Contains members.now q) }
         ensures missed { IfSome result (λ q. IsMissed self.now.stays.now.run.now.logs self.now.stays.now.ring message.now q) }
         ensures none { IfNone result (HoldsOfNo members.now (IsMissed self.now.stays.now.run.now.logs self.now.stays.now.ring message.now)) }

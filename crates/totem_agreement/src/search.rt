@@ -11,7 +11,7 @@ use crate::stay::Stay;
 use crate::stays::Stays;
 use std::alloc::{AllocError, Global};
 use totem_evs::Places;
-use totem_ids::{Place, ProcId};
+use totem_ids::{Place, Proc};
 use totem_passes::begin_with;
 
 /// A relation on lists of events that begin in one of the stays.
@@ -48,7 +48,7 @@ pub trait Finder {
 }
 
 /// The place of the entry at this index of a process's log.
-pub fn place_at(proc: ProcId, at: usize) -> Place
+pub fn place_at(proc: Proc, at: usize) -> Place
     requires { at < 1000000 }
     ensures { result ≡ place proc at }
 {
@@ -59,7 +59,7 @@ pub fn place_at(proc: ProcId, at: usize) -> Place
 }
 
 /// The list of the one event at this index of a process's log.
-pub fn only(alloc: Global, proc: ProcId, at: usize) -> Result<Vec<Place>, AllocError>
+pub fn only(alloc: Global, proc: Proc, at: usize) -> Result<Vec<Place>, AllocError>
     requires { at < 1000000 }
     ensures { IfOk result (λ list. list.items ≡ place proc at ∷ []) }
 {

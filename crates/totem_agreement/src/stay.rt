@@ -5,13 +5,13 @@ ghost use Rattle.totem_agreement.specs.Stays.{IsNextOrEnd, AreNextTwo};
 ghost use Rattle.totem_agreement.specs.Acts.{DeliversHere};
 
 use totem_evs::{Entry, Log};
-use totem_ids::{MsgId, ProcId};
+use totem_ids::{MsgId, Proc};
 
 /// The stay of a process: its log changes to the regular configuration at `from` and to what follows that at `turn`, and
 /// the entries before `end` are those that stand in these two. Where nothing follows, `turn` is `end`.
 #[derive(Clone, Copy)]
 pub struct Stay<'r> {
-    pub proc: ProcId,
+    pub proc: Proc,
     pub log: &'r [Entry],
     pub from: usize,
     pub turn: usize,

@@ -13,12 +13,12 @@ use crate::kept::{Delivery, Kept};
 use crate::stay::Stay;
 use std::alloc::{AllocError, Global};
 use totem_evs::{Entry, Run};
-use totem_ids::{MsgId, ProcId, RingId, Service};
+use totem_ids::{MsgId, Proc, RingId, Service};
 
 /// A send: by whom, at which index of the log, and as what.
 #[derive(Clone, Copy)]
 pub struct Sending {
-    pub proc: ProcId,
+    pub proc: Proc,
     pub at: usize,
     pub service: Service,
 }
@@ -43,7 +43,7 @@ fn is_safe_service(service: Service) -> bool
 }
 
 /// The members of a change.
-pub fn members_of(entry: &Entry) -> &[ProcId]
+pub fn members_of(entry: &Entry) -> &[Proc]
     ensures { result.now ≡ members_of entry.now }
 {
     match entry {
@@ -77,7 +77,7 @@ impl<'r> Stays<'r> {
     }
 
     /// The stay of this process, if its log changes to the regular configuration.
-    pub fn stay_of(&self, proc: ProcId) -> Option<&Stay<'r>>
+    pub fn stay_of(&self, proc: Proc) -> Option<&Stay<'r>>
         ensures found { IfSome result (λ stay. IsAmong self.now.list.items stay.now) }
         ensures proc { IfSome result (λ stay. stay.now.proc ≡ proc) }
         ensures none { IfNone result (NeverComes self.now.run.now.logs self.now.ring proc) }
@@ -134,7 +134,7 @@ impl<'r> Stays<'r> {
     }
 
     /// The members of the configuration in which the entry at this index stands.
-    pub fn members_at<'s>(&self, stay: &'s Stay<'r>, at: usize) -> &'s [ProcId]
+    pub fn members_at<'s>(&self, stay: &'s Stay<'r>, at: usize) -> &'s [Proc]
         requires among { IsAmong self.now.list.items stay.now }
         requires inside { IsInside stay.now at }
         ensures { AreMembersAt stay.now.log.now at result.now }

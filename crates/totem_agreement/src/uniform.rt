@@ -14,9 +14,9 @@ use crate::sequence::{ordered_sequence, sequence_of};
 use crate::stay::Stay;
 use crate::stays::members_of;
 use std::alloc::{AllocError, Global};
-use totem_ids::{MsgId, ProcId};
+use totem_ids::{MsgId, Proc};
 
-fn has_stay(stays: &[Stay], proc: ProcId) -> bool
+fn has_stay(stays: &[Stay], proc: Proc) -> bool
     ensures { OnTrue result (HasStay stays.now proc) }
 {
     for stay in stays {
@@ -28,7 +28,7 @@ fn has_stay(stays: &[Stay], proc: ProcId) -> bool
 }
 
 /// Whether there is a stay of each of these.
-fn have_stays(stays: &[Stay], members: &[ProcId]) -> bool
+fn have_stays(stays: &[Stay], members: &[Proc]) -> bool
     ensures { OnTrue result (HasAll stays.now members.now) }
 {
     for member in members {

@@ -8,7 +8,7 @@ ghost use Rattle.totem_agreement.specs.Endings.{IsEnd, AreEnds, AreWaitingAt};
 use crate::standing::{ends_in, last_change};
 use std::alloc::{AllocError, Global};
 use totem_evs::{Entry, Run, Waiting};
-use totem_ids::{ConfId, ProcId};
+use totem_ids::{ConfId, Proc};
 
 /// The index of the last change of each log, but for those that have a failure.
 fn last_changes(alloc: Global, run: &Run) -> Result<Vec<Option<usize>>, AllocError>
@@ -24,7 +24,7 @@ fn last_changes(alloc: Global, run: &Run) -> Result<Vec<Option<usize>>, AllocErr
 }
 
 /// Whether this process ends in the configuration; one without a log doesn't.
-fn is_there(run: &Run, ends: &[Option<usize>], proc: ProcId, conf: &ConfId) -> bool
+fn is_there(run: &Run, ends: &[Option<usize>], proc: Proc, conf: &ConfId) -> bool
     requires { AreEnds run.now.logs ends.now }
     ensures { IsTrue result ↔ EndsIn (log_of run.now.logs proc) conf.now }
 {
@@ -42,7 +42,7 @@ fn waiting_of(
     alloc: Global,
     run: &Run,
     ends: &[Option<usize>],
-    proc: ProcId,
+    proc: Proc,
     entries: &[Entry],
     last: Option<usize>,
 ) -> Result<Vec<Waiting>, AllocError>

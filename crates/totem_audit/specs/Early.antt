@@ -1,8 +1,9 @@
 -- What the first three passes come to (docs/SPECIFICATIONS.md, "Passes").
-use Rattle.std.specs.Prelude.{◌≢◌, ◌⊎◌, List, [], ◌∷◌}
+use Rattle.std.specs.Prelude.{◌≡◌, ◌≢◌, ◌⊎◌, List, [], ◌∷◌}
 use Rattle.totem_evs.specs.declared.log.Log.{Log}
 use Rattle.totem_evs.specs.declared.fault.Fault.{Fault}
 use Rattle.totem_evs.specs.Answers.{Lists, ListsCycle, MeetsPasses, HasCertificate, pass_a, pass_b}
+use Rattle.totem_evs.specs.RunRecord.{RunRecord}
 use Rattle.totem_evs.specs.Certificates.{Numbering}
 use Rattle.totem_evs.specs.Positions.{IsPositions}
 use Rattle.totem_audit.specs.declared.first_passes.FirstPasses.{FirstPasses}
@@ -19,10 +20,10 @@ pub record BreaksEarly (run : List Log) (faults : List Fault) : Type 0 where
   pub some : faults ≢ []
   pub first : Lists run pass_a faults ⊎ (Lists run pass_a [] × Lists run pass_b faults) ⊎ (Lists run pass_a [] × Lists run pass_b [] × ListsCycle run faults)
 
--- what they come to: the faults of the first that has one, or the order of the events
-abbrev pub IsEarly : List Log → FirstPasses → Type 0
-IsEarly run (Broken faults) = BreaksEarly run faults.items
-IsEarly run (Ordered certificate) = IsOrdered run certificate
+-- what they come to: the faults of the first that has one, or the order of the events, in the version of the run
+abbrev pub IsEarly : RunRecord → FirstPasses → Type 0
+IsEarly run (Broken faults) = BreaksEarly run.logs faults.items
+IsEarly run (Ordered certificate) = IsOrdered run.logs certificate.lines × (certificate.version ≡ run.version)
 
 -- none of the three has a fault: the run meets the specifications of the first two, and its events can be numbered as the
 -- order asks

@@ -3,7 +3,7 @@ ghost use Rattle.std.specs.Prelude.{IfOk};
 ghost use Rattle.totem_evs.specs.Answers.{ListsConfigurations, IsAnswered};
 ghost use Rattle.totem_evs.specs.Meanings.{IsSound};
 ghost use Rattle.totem_agreement.specs.Jobs.{AreJobs};
-ghost use Rattle.totem_audit.specs.Verdicts.{answer_of};
+ghost use Rattle.totem_audit.specs.Verdicts.{answer_of, HasVersion};
 ghost use Rattle.totem_audit.specs.Early.{IsOrdered};
 
 use crate::first_passes::{FirstPasses, first_passes};
@@ -27,9 +27,10 @@ fn settle(
     broken: Vec<Fault>,
 ) -> Result<Verdict, AllocError>
     requires jobs { AreJobs jobs.now.run.now.logs jobs.now }
-    requires passed { IsOrdered jobs.now.run.now.logs certificate }
+    requires passed { IsOrdered jobs.now.run.now.logs certificate.lines }
     requires broken { ListsConfigurations jobs.now.run.now.logs broken.items }
-    ensures { IfOk result (λ verdict. IsAnswered jobs.now.run.now.logs (answer_of verdict)) }
+    ensures answer { IfOk result (λ verdict. IsAnswered jobs.now.run.now.logs (answer_of verdict)) }
+    ensures version { IfOk result (HasVersion certificate.version) }
 {
     if !broken.is_empty() {
         return Ok(Verdict::No { faults: broken });
@@ -44,7 +45,8 @@ fn settle(
 /// The passes in their order, on the thread that asks.
 #[tactic(auto, using(crate::proofs::Firsts::broken_answer))]
 fn pass_all(alloc: Global, run: &Run) -> Result<Verdict, AllocError>
-    ensures { IfOk result (λ verdict. IsAnswered run.now.logs (answer_of verdict)) }
+    ensures answer { IfOk result (λ verdict. IsAnswered run.now.logs (answer_of verdict)) }
+    ensures version { IfOk result (λ verdict. HasVersion run.now.version verdict) }
 {
     match first_passes(alloc, run)? {
         FirstPasses::Broken(faults) => Ok(Verdict::No { faults }),
@@ -65,7 +67,8 @@ fn pass_all_with<T: Threads + Wait + Sync, G: Gate>(
     workers: Workers,
     gate: &G,
 ) -> Result<Verdict, AllocError>
-    ensures { IfOk result (λ verdict. IsAnswered run.now.logs (answer_of verdict)) }
+    ensures answer { IfOk result (λ verdict. IsAnswered run.now.logs (answer_of verdict)) }
+    ensures version { IfOk result (λ verdict. HasVersion run.now.version verdict) }
 {
     match first_passes(alloc, run)? {
         FirstPasses::Broken(faults) => Ok(Verdict::No { faults }),
@@ -81,6 +84,7 @@ fn pass_all_with<T: Threads + Wait + Sync, G: Gate>(
 pub fn audit(alloc: Global, run: &Run) -> Result<Verdict, AllocError>
     ensures answer { IfOk result (λ verdict. IsAnswered run.now.logs (answer_of verdict)) }
     ensures sound { IfOk result (λ verdict. IsSound run.now.logs (answer_of verdict)) }
+    ensures version { IfOk result (λ verdict. HasVersion run.now.version verdict) }
 {
     pass_all(alloc, run)
 }
@@ -97,6 +101,7 @@ pub fn audit_with<T: Threads + Wait + Sync, G: Gate>(
 ) -> Result<Verdict, AllocError>
     ensures answer { IfOk result (λ verdict. IsAnswered run.now.logs (answer_of verdict)) }
     ensures sound { IfOk result (λ verdict. IsSound run.now.logs (answer_of verdict)) }
+    ensures version { IfOk result (λ verdict. HasVersion run.now.version verdict) }
 {
     pass_all_with(rt, alloc, run, workers, gate)
 }

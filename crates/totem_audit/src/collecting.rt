@@ -86,7 +86,9 @@ fn take_in(jobs: &Jobs<'_>, known: &mut Vec<Option<Findings>>, done: JobResult<'
     ensures known { AreKnown jobs.now.run.now.logs jobs.now.rings.items known.new.items }
     ensures first { done.entry.logs ≡ jobs.now.run.now.logs → slice_index_or known.old.items (done.entry.job - 1) None ≡ None → known.new.items ≡ slice_set known.old.items (done.entry.job - 1) (Some done.entry.findings) }
 {
-    if !done.run().is(jobs.run) {
+    let judged = done.run();
+    let run = jobs.run;
+    if !judged.logs.is(&run.logs) {
         return;
     }
     let index = done.job() as usize - 1;

@@ -1,6 +1,7 @@
 //! The first three passes (docs/SPECIFICATIONS.md, "Passes").
-ghost use Rattle.std.specs.Prelude.{◌≡◌, [], ◌∷◌, IfOk};
+ghost use Rattle.std.specs.Prelude.{◌≡◌, [], ◌∷◌, IfOk, IfSome};
 ghost use Rattle.totem_evs.specs.Answers.{Lists, pass_a, pass_b};
+ghost use Rattle.totem_table.specs.Tables.{IsTable};
 ghost use Rattle.totem_audit.specs.Early.{IsEarly, ListsEarly};
 
 use std::alloc::{AllocError, Global};
@@ -30,7 +31,8 @@ fn one_fault(alloc: Global, fault: Fault) -> Result<Vec<Fault>, AllocError>
 fn pass_c(alloc: Global, run: &Run, table: Option<Table>) -> Result<FirstPasses, AllocError>
     requires a { Lists run.now.logs pass_a [] }
     requires b { Lists run.now.logs pass_b [] }
-    ensures { IfOk result (IsEarly run.now.logs) }
+    requires table { IfSome table (IsTable run.now.logs) }
+    ensures { IfOk result (IsEarly run.now) }
 {
     match positions_over(alloc, run, table)? {
         Order::Positions(certificate) => Ok(FirstPasses::Ordered(certificate)),
@@ -41,7 +43,7 @@ fn pass_c(alloc: Global, run: &Run, table: Option<Table>) -> Result<FirstPasses,
 /// Does passes A, B and C, up to the first that finds a fault.
 #[tactic(auto, using(crate::proofs::Firsts::first_breaks, crate::proofs::Firsts::first_a, crate::proofs::Firsts::first_b))]
 pub fn first_passes(alloc: Global, run: &Run) -> Result<FirstPasses, AllocError>
-    ensures { IfOk result (IsEarly run.now.logs) }
+    ensures { IfOk result (IsEarly run.now) }
 {
     let table = Table::build(alloc, run)?;
     let faults = pass_a_and_b(alloc, run, table.as_ref())?;

@@ -1,5 +1,6 @@
 ghost use Rattle.std.specs.Prelude.{◌≡◌, IfOk};
-ghost use Rattle.totem_audit.specs.Verdicts.{answer_of};
+ghost use Rattle.totem_ids.specs.declared.version.Version.{Version};
+ghost use Rattle.totem_audit.specs.Verdicts.{answer_of, HasVersion};
 
 use std::alloc::{AllocError, Global};
 use totem_cert::Certificate;
@@ -33,7 +34,8 @@ fn clone_faults(alloc: Global, faults: &[Fault]) -> Result<Vec<Fault>, AllocErro
 
 impl Verdict {
     pub fn try_clone(&self, alloc: Global) -> Result<Verdict, AllocError>
-        ensures { IfOk result (λ verdict. answer_of verdict ≡ answer_of self.now) }
+        ensures answer { IfOk result (λ verdict. answer_of verdict ≡ answer_of self.now) }
+        ensures version { IfOk result (λ verdict. (version : Version) → HasVersion version self.now → HasVersion version verdict) }
     {
         match self {
             Verdict::Yes {

@@ -30,7 +30,7 @@ fn push_audit(alloc: Global, text: &mut String, run: &Run) -> Result<(), AllocEr
 fn push_audit_of_first(alloc: Global, text: &mut String, run: Run) -> Result<(), AllocError> {
     let mut logs = run.into_logs();
     logs.truncate(1);
-    match Run::new(logs) {
+    match Run::of(logs) {
         Ok(run) => push_audit(alloc, text, &run),
         Err(refused) => write!(text, "{refused}"),
     }

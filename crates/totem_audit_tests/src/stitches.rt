@@ -3,7 +3,7 @@ use crate::values::is_told;
 use std::alloc::{AllocError, Global};
 use std::fmt::Display;
 use totem_evs::read_run;
-use totem_ids::{ConfId, FromRead, ProcId, RingId};
+use totem_ids::{ConfId, FromRead, Proc, ProcId, RingId};
 use totem_stitch::Stitch;
 
 /// The transitional configuration before the regular one of this ring, with 1 as its least member.
@@ -40,7 +40,7 @@ struct Row {
 }
 
 fn push_answer(text: &mut String, stitch: &Stitch, row: &Row) -> Result<(), AllocError> {
-    let proc = ProcId::of(row.proc.max(1));
+    let proc = Proc::first(ProcId::of(row.proc.max(1)));
     let ring = RingId {
         seq: row.ring.max(1),
         rep: ProcId::of(1),

@@ -7,7 +7,7 @@ use crate::values::is_told;
 use std::alloc::{AllocError, Global};
 use totem_audit::{Stitch, walk};
 use totem_evs::{Run, read_run};
-use totem_ids::{FromRead, ProcId, RingId};
+use totem_ids::{FromRead, Proc, ProcId, RingId};
 use totem_passes::{pass_a, pass_b};
 use totem_walk::{causality_is_of_pairs, entries_of};
 
@@ -73,8 +73,8 @@ fn push_walk(alloc: Global, text: &mut String, run: &Run, row: &Row) -> Result<(
         seq: 4,
         rep: ProcId::of(1),
     };
-    let sender = ProcId::of(row.sender.max(1));
-    let receiver = ProcId::of(row.receiver.max(1));
+    let sender = Proc::first(ProcId::of(row.sender.max(1)));
+    let receiver = Proc::first(ProcId::of(row.receiver.max(1)));
     let _ = entries_of(run, sender);
     let _ = entries_of(run, receiver);
     let mut looks = 0;

@@ -1,6 +1,6 @@
 //! A node's book: the node, its calls and its log.
 ghost use Rattle.std.specs.Prelude.{◌≡◌, ◌+◌, Err, IfOk, IfErr, OnErr, length};
-ghost use Rattle.totem_evs.specs.Members.{IsMembers};
+ghost use Rattle.totem_recover.specs.FirstLives.{IsRingMembers};
 ghost use Rattle.totem_books.specs.Replies.{answer_of};
 ghost use Rattle.totem_books.specs.History.{begun, start_with, log_of, answer, called, receipt, followed_by, IsFull};
 
@@ -12,9 +12,10 @@ use crate::level::Level;
 use crate::reply::Reply;
 use std::alloc::{AllocError, Global};
 use std::marker::Model;
-use totem_evs::{Entry, Members};
+use totem_evs::Entry;
 use totem_ids::{ProcId, RingId};
 use totem_node::{Input, NodeCore};
+use totem_recover::RingMembers;
 
 /// How many calls, and how many entries, make a book full.
 const MOST: usize = 1_000_000;
@@ -24,7 +25,7 @@ const MOST: usize = 1_000_000;
 pub struct Book {
     me: ProcId,
     ring: RingId,
-    members: Members,
+    members: RingMembers,
     node: Level,
     entries: Vec<Entry>,
     calls: Vec<Call>,
@@ -50,7 +51,7 @@ impl Book {
         ring: RingId,
         members: &[ProcId],
     ) -> Result<Book, AllocError>
-        requires { IsMembers members.now }
+        requires { IsRingMembers members.now }
         ensures { IfOk result (λ b. b ≡ begun (start_with me ring members.now)) }
     {
         let (node, change) = NodeCore::new(alloc, me, ring, members)?;
@@ -59,7 +60,7 @@ impl Book {
         Ok(Book {
             me,
             ring,
-            members: Members::of(members.to_vec(alloc)?),
+            members: RingMembers::of(members.to_vec(alloc)?),
             node: Level::new(node),
             entries,
             calls: Vec::new(alloc),

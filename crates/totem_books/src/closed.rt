@@ -1,19 +1,20 @@
 //! A book that takes no more calls.
 ghost use Rattle.std.specs.Prelude.{◌≡◌};
 ghost use Rattle.totem_books.specs.Replay.{IsRecorded};
-ghost use Rattle.totem_evs.specs.Members.{IsMembers};
+ghost use Rattle.totem_recover.specs.FirstLives.{IsRingMembers};
 
 use crate::call::Call;
 use std::marker::Model;
-use totem_evs::{Entry, Members};
+use totem_evs::Entry;
 use totem_ids::{ProcId, RingId};
+use totem_recover::RingMembers;
 
 /// A book that takes no more calls. Its log and the stored replies are the replay of the stored inputs.
 #[derive(Debug, Drop)]
 pub struct ClosedBook {
     pub(crate) me: ProcId,
     pub(crate) ring: RingId,
-    pub(crate) members: Members,
+    pub(crate) members: RingMembers,
     pub(crate) calls: Vec<Call>,
     pub(crate) log: Vec<Entry>,
 }
@@ -48,7 +49,7 @@ impl ClosedBook {
     /// Returns the members of that ring.
     pub fn members(&self) -> &[ProcId]
         ensures value { result.now ≡ self.now.start.members }
-        ensures members { IsMembers self.now.start.members }
+        ensures members { IsRingMembers self.now.start.members }
     {
         self.members.as_slice()
     }

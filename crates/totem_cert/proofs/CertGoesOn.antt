@@ -1,27 +1,34 @@
 -- Where the text of a certificate is too short, it goes on.
 use Rattle.std.specs.Prelude.{decimal, nat_le, ◌==◌, codes}
-use Rattle.std.proofs.Common.{◌≡◌, ℕ, zero, suc, ◌+◌, ◌<◌, ◌≤◌, inl, inr, List, [], ◌∷◌, ◌++◌, Option, Some, None, Ok, Err, Bool, false, cond, refl, sym, ◌∙◌, ap, append_assoc, arith}
+use Rattle.std.proofs.Common.{◌≡◌, ℕ, zero, suc, ◌<◌, inl, inr, List, [], ◌∷◌, ◌++◌, Option, Some, None, Ok, Err, Bool, false, cond, refl, sym, ◌∙◌, ap, append_assoc, arith}
 use Rattle.std.proofs.lemmas.Bool.{eqb-true}
 use Rattle.std.proofs.lemmas.Bool.Decides.{nat_tests}
 use Rattle.std.proofs.lemmas.List.{append-nil}
+use Rattle.totem_ids.specs.declared.version.Version.{Version}
+use Rattle.totem_ids.specs.declared.version.Version.TheVariants.{One, Two}
 use Rattle.totem_ids.specs.declared.fault.TextFault.{TextFault}
 use Rattle.totem_ids.specs.declared.fault.TextFault.TheVariants as faults
 use Rattle.totem_ids.specs.Sources.{Parsed, Follows, FirstBreak, is_short, ◌>>=◌}
 use Rattle.totem_ids.specs.Numbers.{byte_at, word_at, number_at}
+use Rattle.totem_ids.specs.Processes.{process_text, process_then, IsProcessIn}
+use Rattle.totem_ids.specs.Ranks.{rank_of}
+use Rattle.totem_ids.proofs.Lives.{process_then_is}
 use Rattle.totem_ids.proofs.Spelled.{byte_is, word_is, number_is}
 use Rattle.totem_evs.specs.Certificates.{Numbering}
-use Rattle.totem_evs.specs.RunText.{line}
+use Rattle.totem_evs.specs.Runs.{IsOfText}
+use Rattle.totem_evs.specs.RunText.{line, version_digit}
 use Rattle.totem_evs.specs.RunGrammar.{by_head}
-use Rattle.totem_evs.proofs.GoesOn.{Cut, Splits, ok_cut, fault_cut, test_cut, bind_cut, last_cut, cut_as, byte_cut, word_cut, number_cut}
-use Rattle.totem_evs.proofs.LineGoesOn.{AboveTo, above_cut}
+use Rattle.totem_evs.proofs.GoesOn.{Cut, Splits, ok_cut, fault_cut, test_cut, bind_cut, last_cut, byte_cut, word_cut, number_cut}
+use Rattle.totem_evs.proofs.LineGoesOn.{ProcessTo, process_cut, first_process_is}
+use Rattle.totem_cert.specs.CertRecord.{CertRecord}
 use Rattle.totem_cert.specs.Keeping.{IsNumber}
-use Rattle.totem_cert.specs.CertText.{numbers_text, cert_text}
-use Rattle.totem_cert.specs.CertGrammar.{numbers_at, line_proc_at, begin_at, end_at, head_at, lines_at, cert_at}
-use Rattle.totem_cert.specs.CertFronts.{IsFront, IsWideLine, IsWideCertificate, IsWideFront, IsFirstWrong}
-use Rattle.totem_cert.proofs.LinesFromLeft.{NumbersFrom, are_numbers, LinesFrom, is_wide_certificate}
+use Rattle.totem_cert.specs.CertText.{numbers_text, header_text, cert_text}
+use Rattle.totem_cert.specs.CertGrammar.{numbers_at, line_proc_at, begin_at, end_at, head_at, lines_at, header_end, header_at, cert_at}
+use Rattle.totem_cert.specs.CertFronts.{IsFront, IsLooseCertificate, IsLooseFront, IsFirstWrong}
+use Rattle.totem_cert.proofs.LinesFromLeft.{NumbersFrom, LooseLinesFrom, line_loosely, is_loose_certificate}
 use Rattle.totem_cert.proofs.CertLoops.{numbering}
 use Rattle.totem_cert.proofs.SpelledNumbers.{numbers_is}
-use Rattle.totem_cert.proofs.SpelledCert.{head_text, IsHead, lines_text, lines_parts, head_is, cert_parts, no_cert}
+use Rattle.totem_cert.proofs.SpelledCert.{head_text, IsHead, lines_text, lines_parts, made_line, head_is, header_is, cert_parts, no_cert}
 use Rattle.totem_cert.proofs.SteadyCert.{cert_steady, cert_first_break}
 
 -- ---- numbers
@@ -73,27 +80,27 @@ numbers_cut (suc room) bytes =
 
 -- ---- a line up to its numbers, or the last line
 
-abbrev ProcTo : ℕ → List ℕ → Type 0
-ProcTo last t = (p : ℕ) × (last < p) × (p ≤ 9999999999) × (t ≡ codes "os " ++ (decimal p ++ 32 ∷ []))
+abbrev ProcTo : Version → List ℕ → Type 0
+ProcTo version t = (p : ℕ) × IsProcessIn version p × (t ≡ codes "os " ++ (process_text version p ++ 32 ∷ []))
 
-proc_cut : (last : ℕ) (bytes : List ℕ) → last ≤ 65535 → Cut (line_proc_at last bytes) (ProcTo last) bytes
+proc_cut : (version : Version) (last : ℕ) (bytes : List ℕ) → Cut (line_proc_at version last bytes) (ProcTo version) bytes
 unfolding line_proc_at
-proc_cut last bytes le =
-    bind_cut (word_at faults.Word (codes "os ") bytes) (λ w. number_at 65535 w.1 >>= λ p. cond (nat_le p.0.0 last) (Err faults.Order) (cond (p.0.1 == 32) (Ok (p.0.0, p.1)) (Err faults.Word))) (λ t. t ≡ codes "os ") (ProcTo last) bytes (word_cut faults.Word (codes "os ") bytes refl)
+proc_cut version last bytes =
+    bind_cut (word_at faults.Word (codes "os ") bytes) (λ w. process_then version w.1 >>= λ p. cond (nat_le p.0.0 last) (Err faults.Order) (cond (p.0.1 == 32) (Ok (p.0.0, p.1)) (Err faults.Word))) (λ t. t ≡ codes "os ") (ProcTo version) bytes (word_cut faults.Word (codes "os ") bytes refl)
     (λ t e.
-    let u = decimal (last + 1) ++ 32 ∷ [] in
-    (u, (last + 1, omega arith, omega arith, ap (λ (k : List ℕ). k ++ u) e)))
+    let u = process_text version (rank_of 1 1) ++ 32 ∷ [] in
+    (u, (rank_of 1 1, first_process_is version, ap (λ (k : List ℕ). k ++ u) e)))
     (λ w rest e. record {
       text = codes "os ";
       whole = word_is faults.Word (codes "os ") bytes rest w e;
-      next = bind_cut (number_at 65535 rest) (λ p. cond (nat_le p.0.0 last) (Err faults.Order) (cond (p.0.1 == 32) (Ok (p.0.0, p.1)) (Err faults.Word))) (AboveTo last) Is rest (above_cut last rest le)
-          (λ t x. (32 ∷ [], (x.0, x.1, x.2, ap (λ (k : List ℕ). codes "os " ++ (k ++ 32 ∷ [])) x.3)))
+      next = bind_cut (process_then version rest) (λ p. cond (nat_le p.0.0 last) (Err faults.Order) (cond (p.0.1 == 32) (Ok (p.0.0, p.1)) (Err faults.Word))) (ProcessTo version) Is rest (process_cut version rest)
+          (λ t x. (32 ∷ [], (x.0, x.1, ap (λ (k : List ℕ). codes "os " ++ (k ++ 32 ∷ [])) x.2)))
           (λ n rest2 e2.
-          let x = number_is 65535 n.0 n.1 rest rest2 (omega arith) (omega arith) e2 in
-          let Then : List ℕ → Type 0 = λ u. Is ((decimal n.0 ++ n.1 ∷ []) ++ u) in
+          let x = process_then_is version n.0 n.1 rest rest2 e2 in
+          let Then : List ℕ → Type 0 = λ u. Is ((process_text version n.0 ++ n.1 ∷ []) ++ u) in
           record {
-            text = decimal n.0 ++ n.1 ∷ [];
-            whole = x.spelled ∙ sym (append_assoc (decimal n.0) (n.1 ∷ []) rest2);
+            text = process_text version n.0 ++ n.1 ∷ [];
+            whole = x.spelled ∙ sym (append_assoc (process_text version n.0) (n.1 ∷ []) rest2);
             next = test_cut (nat_le n.0 last) (Err faults.Order) (cond (n.1 == 32) (Ok (n.0, rest2)) (Err faults.Word)) Then rest2
                 (λ h. fault_cut faults.Order Then rest2 refl)
                 (λ h. test_cut (n.1 == 32) (Ok (n.0, rest2)) (Err faults.Word) Then rest2
@@ -103,102 +110,98 @@ proc_cut last bytes le =
     })
   where
     Is : List ℕ → Type 0
-    Is u = ProcTo last (codes "os " ++ u)
+    Is u = ProcTo version (codes "os " ++ u)
 
-abbrev IsWideHead : Bool → ℕ → Option ℕ → Type 0
-IsWideHead full last None = Unit {0}
-IsWideHead full last (Some p) = (full ≡ false) × (last < p) × (p ≤ 9999999999)
+abbrev IsLooseHead : Version → Bool → Option ℕ → Type 0
+IsLooseHead version full None = Unit {0}
+IsLooseHead version full (Some p) = (full ≡ false) × IsProcessIn version p
 
-abbrev pub HeadTo : Bool → ℕ → List ℕ → Type 0
-HeadTo full last t = (head : Option ℕ) × IsWideHead full last head × (t ≡ head_text head)
+abbrev pub HeadTo : Version → Bool → List ℕ → Type 0
+HeadTo version full t = (head : Option ℕ) × IsLooseHead version full head × (t ≡ head_text version head)
 
-begin_cut : (full : Bool) (last : ℕ) (bytes : List ℕ) → last ≤ 65535 → Cut (begin_at full last bytes) (λ u. HeadTo full last (112 ∷ u)) bytes
+begin_cut : (version : Version) (full : Bool) (last : ℕ) (bytes : List ℕ) → Cut (begin_at version full last bytes) (λ u. HeadTo version full (112 ∷ u)) bytes
 unfolding begin_at
-begin_cut full last bytes le =
-    test_cut full (Err faults.TooMany) (line_proc_at last bytes >>= λ p. Ok (Some p.0, p.1)) Is bytes
+begin_cut version full last bytes =
+    test_cut full (Err faults.TooMany) (line_proc_at version last bytes >>= λ p. Ok (Some p.0, p.1)) Is bytes
     (λ h. fault_cut faults.TooMany Is bytes refl)
-    (λ h. last_cut (line_proc_at last bytes) (λ p. (Some p.0, p.1)) (ProcTo last) Is bytes (proc_cut last bytes le) (λ t x. (Some x.0, (h, x.1, x.2), ap (λ (k : List ℕ). 112 ∷ k) x.3)))
+    (λ h. last_cut (line_proc_at version last bytes) (λ p. (Some p.0, p.1)) (ProcTo version) Is bytes (proc_cut version last bytes) (λ t x. (Some x.0, (h, x.1), ap (λ (k : List ℕ). 112 ∷ k) x.2)))
   where
     Is : List ℕ → Type 0
-    Is u = HeadTo full last (112 ∷ u)
+    Is u = HeadTo version full (112 ∷ u)
 
-end_cut : (full : Bool) (last : ℕ) (bytes : List ℕ) → Cut (end_at bytes) (λ u. HeadTo full last (101 ∷ u)) bytes
+end_cut : (version : Version) (full : Bool) (bytes : List ℕ) → Cut (end_at bytes) (λ u. HeadTo version full (101 ∷ u)) bytes
 unfolding end_at
-end_cut full last bytes =
-    last_cut (word_at faults.Word (line (codes "nd")) bytes) (λ w. (None, w.1)) (λ t. t ≡ line (codes "nd")) (λ u. HeadTo full last (101 ∷ u)) bytes (word_cut faults.Word (line (codes "nd")) bytes refl) (λ t e. (None, tt, ap (λ (k : List ℕ). 101 ∷ k) e))
+end_cut version full bytes =
+    last_cut (word_at faults.Word (line (codes "nd")) bytes) (λ w. (None, w.1)) (λ t. t ≡ line (codes "nd")) (λ u. HeadTo version full (101 ∷ u)) bytes (word_cut faults.Word (line (codes "nd")) bytes refl) (λ t e. (None, tt, ap (λ (k : List ℕ). 101 ∷ k) e))
 
-head_cut : (full : Bool) (last : ℕ) (bytes : List ℕ) → last ≤ 65535 → Cut (head_at full last bytes) (HeadTo full last) bytes
+head_cut : (version : Version) (full : Bool) (last : ℕ) (bytes : List ℕ) → Cut (head_at version full last bytes) (HeadTo version full) bytes
 unfolding head_at
-head_cut full last bytes le =
-    bind_cut (byte_at bytes) (λ b. cond (b.0 == 112) (begin_at full last b.1) (cond (b.0 == 101) (end_at b.1) (Err faults.Word))) (λ t. t ≡ 101 ∷ []) (HeadTo full last) bytes (byte_cut 101 bytes)
+head_cut version full last bytes =
+    bind_cut (byte_at bytes) (λ b. cond (b.0 == 112) (begin_at version full last b.1) (cond (b.0 == 101) (end_at b.1) (Err faults.Word))) (λ t. t ≡ 101 ∷ []) (HeadTo version full) bytes (byte_cut 101 bytes)
     (λ t e. (line (codes "nd"), (None, tt, ap (λ (k : List ℕ). k ++ line (codes "nd")) e)))
     (λ b rest e. record {
       text = b ∷ [];
       whole = byte_is bytes b rest e;
-      next = test_cut (b == 112) (begin_at full last rest) (cond (b == 101) (end_at rest) (Err faults.Word)) (λ u. HeadTo full last (b ∷ u)) rest
-          (λ h. let same : b ≡ 112 = eqb-true b 112 h in rw same (begin_cut full last rest le))
-          (λ h. test_cut (b == 101) (end_at rest) (Err faults.Word) (λ u. HeadTo full last (b ∷ u)) rest
-          (λ h. let same : b ≡ 101 = eqb-true b 101 h in rw same (end_cut full last rest))
-          (λ h. fault_cut faults.Word (λ u. HeadTo full last (b ∷ u)) rest refl));
+      next = test_cut (b == 112) (begin_at version full last rest) (cond (b == 101) (end_at rest) (Err faults.Word)) (λ u. HeadTo version full (b ∷ u)) rest
+          (λ h. let same : b ≡ 112 = eqb-true b 112 h in rw same (begin_cut version full last rest))
+          (λ h. test_cut (b == 101) (end_at rest) (Err faults.Word) (λ u. HeadTo version full (b ∷ u)) rest
+          (λ h. let same : b ≡ 101 = eqb-true b 101 h in rw same (end_cut version full rest))
+          (λ h. fault_cut faults.Word (λ u. HeadTo version full (b ∷ u)) rest refl));
     })
 
 -- ---- lines
 
-abbrev pub LinesTo : ℕ → ℕ → List ℕ → Type 0
-LinesTo room last t = (lines : List Numbering) × LinesFrom IsWideLine room last lines × (t ≡ lines_text lines [])
+abbrev pub LinesTo : Version → ℕ → ℕ → List ℕ → Type 0
+LinesTo version room last t = (lines : List Numbering) × LooseLinesFrom version room last lines × (t ≡ lines_text version lines [])
 
 not_zero : (n : ℕ) → (n == 0) ≡ false → 0 < n
 not_zero n h = grind (arith, nat_tests)
 
-joined : (p : ℕ) (ns : List ℕ) (lines : List Numbering) (t u : List ℕ) → 32 ∷ t ≡ numbers_text ns ++ 10 ∷ [] → u ≡ lines_text lines [] → head_text (Some p) ++ (t ++ u) ≡ lines_text (numbering p ns ∷ lines) []
-joined p ns lines t u e f =
-    sym (lines_parts (numbering p ns) lines (t ++ u) [] (ap (λ (k : List ℕ). k ++ u) e ∙ append_assoc (numbers_text ns) (10 ∷ []) u ∙ ap (λ (k : List ℕ). numbers_text ns ++ 10 ∷ k) f))
-
-wide_line : (last p : ℕ) (ns : List ℕ) → last < p → p ≤ 9999999999 → NumbersFrom 1000000 ns → IsWideLine (numbering p ns)
-wide_line last p ns lt le h = record { process = record { positive = omega arith; small = le }; numbers = are_numbers ns h }
+joined : (version : Version) (p : ℕ) (ns : List ℕ) (lines : List Numbering) (t u : List ℕ) → 32 ∷ t ≡ numbers_text ns ++ 10 ∷ [] → u ≡ lines_text version lines [] → head_text version (Some p) ++ (t ++ u) ≡ lines_text version (numbering p ns ∷ lines) []
+joined version p ns lines t u e f =
+    sym (lines_parts version (numbering p ns) lines (t ++ u) [] (ap (λ (k : List ℕ). k ++ u) e ∙ append_assoc (numbers_text ns) (10 ∷ []) u ∙ ap (λ (k : List ℕ). numbers_text ns ++ 10 ∷ k) f))
 
 one_of : NumbersFrom 1000000 (1 ∷ [])
 one_of = record { some = omega arith; few = omega arith; each = (one_number, tt) }
 
 -- the last line, or a line that came last but for its numbers
-lines_from : (room last : ℕ) (head : Option ℕ) (t : List ℕ) → IsWideHead (room == 0) last head → t ≡ head_text head → (u : List ℕ) × LinesTo (suc room) last (t ++ u)
-lines_from room last None t is e = ([], ([], record { few = omega arith; rises = tt }, ap (λ (k : List ℕ). k ++ []) e))
-lines_from room last (Some p) t is e =
-    let u = (decimal 1 ++ 10 ∷ []) ++ lines_text [] [] in
+lines_from : (version : Version) (room last : ℕ) (head : Option ℕ) (t : List ℕ) → IsLooseHead version (room == 0) head → t ≡ head_text version head → (u : List ℕ) × LinesTo version (suc room) last (t ++ u)
+lines_from version room last None t is e = ([], ([], record { few = omega arith; rises = tt }, ap (λ (k : List ℕ). k ++ []) e))
+lines_from version room last (Some p) t is e =
+    let u = (decimal 1 ++ 10 ∷ []) ++ lines_text version [] [] in
     let few : 0 < room = not_zero room is.0 in (
       u,
       (
         numbering p (1 ∷ []) ∷ [],
-        record { few = omega (arith, few); rises = (is.1, wide_line last p (1 ∷ []) is.1 is.2 one_of, tt) },
-        ap (λ (k : List ℕ). k ++ u) e ∙ joined p (1 ∷ []) [] (decimal 1 ++ 10 ∷ []) (lines_text [] []) (one_number_text 1) refl,
+        record { few = omega (arith, few); rises = made_line version p (1 ∷ []) is.1 one_of },
+        ap (λ (k : List ℕ). k ++ u) e ∙ joined version p (1 ∷ []) [] (decimal 1 ++ 10 ∷ []) (lines_text version [] []) (one_number_text 1) refl,
       ),
     )
 
-lines_step : (room last : ℕ) (head : Option ℕ) (bytes rest : List ℕ) → IsHead (room == 0) last head × (bytes ≡ head_text head ++ rest)
-    → ((p : ℕ) (rest2 : List ℕ) → p ≤ 65535 → Cut (lines_at room p rest2) (LinesTo room p) rest2)
-    → Splits (by_head {Y = Parsed (List Numbering)} head (Ok ([], rest)) (λ p. numbers_at 1000000 rest >>= λ numbers. lines_at room p numbers.1 >>= λ others. Ok (numbering p numbers.0 ∷ others.0, others.1))) (LinesTo (suc room) last) bytes rest
-lines_step room last None bytes rest found again = record { text = head_text None; whole = found.1; next = ok_cut ([], rest) (λ u. LinesTo (suc room) last (head_text None ++ u)) rest }
-lines_step room last (Some p) bytes rest found again =
+lines_step : (version : Version) (room last : ℕ) (head : Option ℕ) (bytes rest : List ℕ) → IsHead version (room == 0) last head × (bytes ≡ head_text version head ++ rest)
+    → ((p : ℕ) (rest2 : List ℕ) → Cut (lines_at version room p rest2) (LinesTo version room p) rest2)
+    → Splits (by_head {Y = Parsed (List Numbering)} head (Ok ([], rest)) (λ p. numbers_at 1000000 rest >>= λ numbers. lines_at version room p numbers.1 >>= λ others. Ok (numbering p numbers.0 ∷ others.0, others.1))) (LinesTo version (suc room) last) bytes rest
+lines_step version room last None bytes rest found again = record { text = head_text version None; whole = found.1; next = ok_cut ([], rest) (λ u. LinesTo version (suc room) last (head_text version None ++ u)) rest }
+lines_step version room last (Some p) bytes rest found again =
     let few : 0 < room = not_zero room found.0.0 in
-    let wide : p ≤ 9999999999 = omega (arith, found.0.2) in
     record {
-      text = head_text (Some p);
+      text = head_text version (Some p);
       whole = found.1;
-      next = bind_cut (numbers_at 1000000 rest) (λ numbers. lines_at room p numbers.1 >>= λ others. Ok (numbering p numbers.0 ∷ others.0, others.1)) (NumbersTo 1000000) Is rest (numbers_cut 1000000 rest)
-          (λ t x. (lines_text [] [], (numbering p x.0 ∷ [], record { few = omega (arith, few); rises = (found.0.1, wide_line last p x.0 found.0.1 wide x.1, tt) }, joined p x.0 [] t (lines_text [] []) x.2 refl)))
+      next = bind_cut (numbers_at 1000000 rest) (λ numbers. lines_at version room p numbers.1 >>= λ others. Ok (numbering p numbers.0 ∷ others.0, others.1)) (NumbersTo 1000000) Is rest (numbers_cut 1000000 rest)
+          (λ t x. (lines_text version [] [], (numbering p x.0 ∷ [], record { few = omega (arith, few); rises = made_line version p x.0 found.0.2 x.1 }, joined version p x.0 [] t (lines_text version [] []) x.2 refl)))
           (λ ns rest2 e2.
           let one = numbers_is 1000000 ns rest rest2 e2 in
           let t = tail_of ns one.0 in
           record {
             text = t.0;
             whole = tails rest (t.0 ++ rest2) (one.1 ∙ sym (append_assoc (numbers_text ns) (10 ∷ []) rest2) ∙ ap (λ (k : List ℕ). k ++ rest2) (sym t.1));
-            next = last_cut (lines_at room p rest2) (λ others. (numbering p ns ∷ others.0, others.1)) (LinesTo room p) (λ u. Is (t.0 ++ u)) rest2 (again p rest2 found.0.2)
-                (λ u x. (numbering p ns ∷ x.0, record { few = omega (arith, x.1.few); rises = (found.0.1, wide_line last p ns found.0.1 wide one.0, x.1.rises) }, joined p ns x.0 t.0 u t.1 x.2));
+            next = last_cut (lines_at version room p rest2) (λ others. (numbering p ns ∷ others.0, others.1)) (LinesTo version room p) (λ u. Is (t.0 ++ u)) rest2 (again p rest2)
+                (λ u x. (numbering p ns ∷ x.0, record { few = omega (arith, x.1.few); rises = line_loosely version last (numbering p ns) x.0 found.0.1 (made_line version p ns found.0.2 one.0) x.1.rises }, joined version p ns x.0 t.0 u t.1 x.2));
           });
     }
   where
     Is : List ℕ → Type 0
-    Is u = LinesTo (suc room) last (head_text (Some p) ++ u)
+    Is u = LinesTo version (suc room) last (head_text version (Some p) ++ u)
 
     tails : (xs ys : List ℕ) → 32 ∷ xs ≡ 32 ∷ ys → xs ≡ ys
     tails xs ys e = cc
@@ -207,35 +210,72 @@ lines_step room last (Some p) bytes rest found again =
     tail_of [] h = absurd (omega (arith, h.some))
     tail_of (n ∷ ns) h = ((decimal n ++ numbers_text ns) ++ 10 ∷ [], refl)
 
-lines_cut : (room last : ℕ) (bytes : List ℕ) → last ≤ 65535 → Cut (lines_at room last bytes) (LinesTo room last) bytes
+lines_cut : (version : Version) (room last : ℕ) (bytes : List ℕ) → Cut (lines_at version room last bytes) (LinesTo version room last) bytes
 unfolding lines_at
-lines_cut zero last bytes le = fault_cut faults.TooMany (LinesTo zero last) bytes refl
-lines_cut (suc room) last bytes le =
-    bind_cut (head_at (room == 0) last bytes) (λ head. by_head head.0 (Ok ([], head.1)) (λ p. numbers_at 1000000 head.1 >>= λ numbers. lines_at room p numbers.1 >>= λ others. Ok (numbering p numbers.0 ∷ others.0, others.1))) (HeadTo (room == 0) last) (LinesTo (suc room) last) bytes (head_cut (room == 0) last bytes le)
-    (λ t x. lines_from room last x.0 t x.1 x.2)
-    (λ head rest e. lines_step room last head bytes rest (head_is (room == 0) last head bytes rest e) (λ p rest2 small. lines_cut room p rest2 small))
+lines_cut version zero last bytes = fault_cut faults.TooMany (LinesTo version zero last) bytes refl
+lines_cut version (suc room) last bytes =
+    bind_cut (head_at version (room == 0) last bytes) (λ head. by_head head.0 (Ok ([], head.1)) (λ p. numbers_at 1000000 head.1 >>= λ numbers. lines_at version room p numbers.1 >>= λ others. Ok (numbering p numbers.0 ∷ others.0, others.1))) (HeadTo version (room == 0)) (LinesTo version (suc room) last) bytes (head_cut version (room == 0) last bytes)
+    (λ t x. lines_from version room last x.0 t x.1 x.2)
+    (λ head rest e. lines_step version room last head bytes rest (head_is version (room == 0) last head bytes rest e) (λ p rest2. lines_cut version room p rest2))
 
 -- ---- certificates
 
-abbrev pub CertTo : List ℕ → Type 0
-CertTo t = (lines : List Numbering) × IsWideCertificate lines × (cert_text lines ≡ t)
+abbrev pub HeaderTo : List ℕ → Type 0
+HeaderTo t = (version : Version) × IsOfText version × (t ≡ header_text version)
 
-cert_of : (lines : List Numbering) (t : List ℕ) → LinesFrom IsWideLine 33 0 lines → t ≡ lines_text lines [] → CertTo (line (codes "totem-cert 1") ++ t)
-cert_of lines t is e = (lines, is_wide_certificate lines is, sym (append-nil (cert_text lines)) ∙ cert_parts lines [] ∙ ap (λ (k : List ℕ). line (codes "totem-cert 1") ++ k) (sym e))
+header_end_cut : (version : Version) (bytes : List ℕ) → IsOfText version → Cut (header_end version bytes) (λ u. HeaderTo (codes "totem-cert " ++ version_digit version ∷ u)) bytes
+unfolding header_end
+header_end_cut version bytes is =
+    last_cut (word_at faults.Header (line []) bytes) (λ w. (version, w.1)) (λ t. t ≡ line []) (λ u. HeaderTo (codes "totem-cert " ++ version_digit version ∷ u)) bytes (word_cut faults.Header (line []) bytes refl)
+    (λ t e. (version, is, ap (λ (k : List ℕ). codes "totem-cert " ++ version_digit version ∷ k) e))
+
+header_cut : (bytes : List ℕ) → Cut (header_at bytes) HeaderTo bytes
+unfolding header_at
+header_cut bytes =
+    bind_cut (word_at faults.Header (codes "totem-cert ") bytes) (λ w. byte_at w.1 >>= λ v. cond (v.0 == 49) (header_end One v.1) (cond (v.0 == 50) (header_end Two v.1) (Err faults.Header))) (λ t. t ≡ codes "totem-cert ") HeaderTo bytes (word_cut faults.Header (codes "totem-cert ") bytes refl)
+    (λ t e. (49 ∷ 10 ∷ [], (One, tt, ap (λ (k : List ℕ). k ++ 49 ∷ 10 ∷ []) e)))
+    (λ w rest e. record {
+      text = codes "totem-cert ";
+      whole = word_is faults.Header (codes "totem-cert ") bytes rest w e;
+      next = bind_cut (byte_at rest) (λ v. cond (v.0 == 49) (header_end One v.1) (cond (v.0 == 50) (header_end Two v.1) (Err faults.Header))) (λ t. t ≡ 49 ∷ []) Is rest (byte_cut 49 rest)
+          (λ t e. (10 ∷ [], (One, tt, ap (λ (k : List ℕ). codes "totem-cert " ++ (k ++ 10 ∷ [])) e)))
+          (λ v rest2 e2. record {
+            text = v ∷ [];
+            whole = byte_is rest v rest2 e2;
+            next = test_cut (v == 49) (header_end One rest2) (cond (v == 50) (header_end Two rest2) (Err faults.Header)) (λ u. Is (v ∷ u)) rest2
+                (λ h. let same : v ≡ 49 = eqb-true v 49 h in rw same (header_end_cut One rest2 tt))
+                (λ h. test_cut (v == 50) (header_end Two rest2) (Err faults.Header) (λ u. Is (v ∷ u)) rest2
+                (λ h. let same : v ≡ 50 = eqb-true v 50 h in rw same (header_end_cut Two rest2 tt))
+                (λ h. fault_cut faults.Header (λ u. Is (v ∷ u)) rest2 refl));
+          });
+    })
+  where
+    Is : List ℕ → Type 0
+    Is u = HeaderTo (codes "totem-cert " ++ u)
+
+abbrev pub CertTo : List ℕ → Type 0
+CertTo t = (cert : CertRecord) × IsOfText cert.version × IsLooseCertificate cert.version cert.lines × (cert_text cert ≡ t)
+
+cert_of : (version : Version) (lines : List Numbering) (t : List ℕ) → IsOfText version → LooseLinesFrom version 33 0 lines → t ≡ lines_text version lines [] → CertTo (header_text version ++ t)
+cert_of version lines t of is e =
+    let cert : CertRecord = record { version = version; lines = lines } in
+    (cert, of, is_loose_certificate version lines is, sym (append-nil (cert_text cert)) ∙ cert_parts cert [] ∙ ap (λ (k : List ℕ). header_text version ++ k) (sym e))
 
 cert_cut : (bytes : List ℕ) → Cut (cert_at bytes) CertTo bytes
 unfolding cert_at
 cert_cut bytes =
-    bind_cut (word_at faults.Header (line (codes "totem-cert 1")) bytes) (λ w. lines_at 33 0 w.1) (λ t. t ≡ line (codes "totem-cert 1")) CertTo bytes (word_cut faults.Header (line (codes "totem-cert 1")) bytes refl)
-    (λ t e. (lines_text [] [], rw e (cert_of [] (lines_text [] []) (record { few = omega arith; rises = tt }) refl)))
-    (λ w rest e. record {
-      text = line (codes "totem-cert 1");
-      whole = word_is faults.Header (line (codes "totem-cert 1")) bytes rest w e;
-      next = cut_as (lines_at 33 0 rest) (LinesTo 33 0) (λ u. CertTo (line (codes "totem-cert 1") ++ u)) rest (lines_cut 33 0 rest (omega arith)) (λ t x. cert_of x.0 t x.1 x.2);
+    bind_cut (header_at bytes) (λ v. lines_at v.0 33 0 v.1 >>= λ lines. Ok (record { version = v.0; lines = lines.0 }, lines.1)) HeaderTo CertTo bytes (header_cut bytes)
+    (λ t x. (lines_text x.0 [] [], rw x.2 (cert_of x.0 [] (lines_text x.0 [] []) x.1 (record { few = omega arith; rises = tt }) refl)))
+    (λ v rest e.
+    let y = header_is v bytes rest e in
+    record {
+      text = header_text v;
+      whole = y.1;
+      next = last_cut {B = CertRecord} (lines_at v 33 0 rest) (λ lines. (record { version = v; lines = lines.0 }, lines.1)) (LinesTo v 33 0) (λ u. CertTo (header_text v ++ u)) rest (lines_cut v 33 0 rest) (λ t x. cert_of v x.0 t y.0 x.1 x.2);
     })
 
-pub cut_front : (bytes : List ℕ) → cert_at bytes ≡ Err faults.Truncated → IsWideFront bytes
-cut_front bytes e = let found = (cert_cut bytes).goes e in (found.1.0, found.0, found.1.1, found.1.2)
+pub cut_front : (bytes : List ℕ) → cert_at bytes ≡ Err faults.Truncated → IsLooseFront bytes
+cut_front bytes e = let found = (cert_cut bytes).goes e in (found.1.0, found.0, found.1.1, found.1.2, found.1.3)
 
 -- behind a byte that breaks a rule no certificate's text goes on
 no_front : (bytes : List ℕ) (fault : TextFault) → cert_at bytes ≡ Err fault → is_short fault ≡ false → IsFront bytes → ⊥

@@ -3,6 +3,7 @@ use Rattle.std.specs.Prelude.{◌==◌}
 use Rattle.std.proofs.Common.{◌≡◌, ℕ, suc, List, [], ◌∷◌, ◌++◌, Bool, true, false, cond, Option, Some, None, Ok, Err, refl, ap, append_assoc}
 use Rattle.std.proofs.lemmas.List.{append-nil}
 use Rattle.totem_ids.specs.declared.fault.TextFault.TheVariants as faults
+use Rattle.totem_ids.specs.declared.version.Version.{Version}
 use Rattle.totem_ids.specs.Sources.{Seen, Parsed, Comes, ◌>>=◌}
 use Rattle.totem_ids.specs.Numbers.{number_at}
 use Rattle.totem_ids.proofs.Readers.{gives, same_left}
@@ -53,38 +54,38 @@ numbers_first room bytes = go (numbers_at room bytes)
 abbrev pub numbering : ℕ → List ℕ → Numbering
 numbering p numbers = record { proc = p; numbers = numbers }
 
-abbrev pub with_lines : List Numbering → ℕ → ℕ → List ℕ → Parsed (List Numbering)
-with_lines front room last bytes = lines_at room last bytes >>= λ x. gives (front ++ x.0) x.1
+abbrev pub with_lines : Version → List Numbering → ℕ → ℕ → List ℕ → Parsed (List Numbering)
+with_lines version front room last bytes = lines_at version room last bytes >>= λ x. gives (front ++ x.0) x.1
 
-pub lines_step : (front : List Numbering) (room room' last : ℕ) (full : Bool) → room ≡ suc room' → (room' == 0) ≡ full → (bytes : List ℕ) → with_lines front room last bytes ≡ (head_at full last bytes >>= λ head.
-    by_head head.0 (gives front head.1) (λ p. numbers_at 1000000 head.1 >>= λ numbers. with_lines (front ++ numbering p numbers.0 ∷ []) room' p numbers.1))
+pub lines_step : (version : Version) (front : List Numbering) (room room' last : ℕ) (full : Bool) → room ≡ suc room' → (room' == 0) ≡ full → (bytes : List ℕ) → with_lines version front room last bytes ≡ (head_at version full last bytes >>= λ head.
+    by_head head.0 (gives front head.1) (λ p. numbers_at 1000000 head.1 >>= λ numbers. with_lines version (front ++ numbering p numbers.0 ∷ []) room' p numbers.1))
 unfolding lines_at
-lines_step front room room' last full e same bytes = rw (e, same) (go (head_at full last bytes))
+lines_step version front room room' last full e same bytes = rw (e, same) (go (head_at version full last bytes))
   where
     lined : (p : ℕ) (r : Parsed (List ℕ)) →
-        ((r >>= λ numbers. lines_at room' p numbers.1 >>= λ others. gives (numbering p numbers.0 ∷ others.0) others.1) >>= λ x. gives (front ++ x.0) x.1)
-        ≡ (r >>= λ numbers. with_lines (front ++ numbering p numbers.0 ∷ []) room' p numbers.1)
-    lined p (Ok numbers) = one_more front (numbering p numbers.0) (lines_at room' p numbers.1)
+        ((r >>= λ numbers. lines_at version room' p numbers.1 >>= λ others. gives (numbering p numbers.0 ∷ others.0) others.1) >>= λ x. gives (front ++ x.0) x.1)
+        ≡ (r >>= λ numbers. with_lines version (front ++ numbering p numbers.0 ∷ []) room' p numbers.1)
+    lined p (Ok numbers) = one_more front (numbering p numbers.0) (lines_at version room' p numbers.1)
     lined p (Err f) = refl
 
     headed : (head : Option ℕ) (rest : List ℕ) →
-        (by_head head (gives [] rest) (λ p. numbers_at 1000000 rest >>= λ numbers. lines_at room' p numbers.1 >>= λ others. gives (numbering p numbers.0 ∷ others.0) others.1) >>= λ x. gives (front ++ x.0) x.1)
-        ≡ by_head head (gives front rest) (λ p. numbers_at 1000000 rest >>= λ numbers. with_lines (front ++ numbering p numbers.0 ∷ []) room' p numbers.1)
+        (by_head head (gives [] rest) (λ p. numbers_at 1000000 rest >>= λ numbers. lines_at version room' p numbers.1 >>= λ others. gives (numbering p numbers.0 ∷ others.0) others.1) >>= λ x. gives (front ++ x.0) x.1)
+        ≡ by_head head (gives front rest) (λ p. numbers_at 1000000 rest >>= λ numbers. with_lines version (front ++ numbering p numbers.0 ∷ []) room' p numbers.1)
     headed None rest = ap (λ (ls : List Numbering). gives ls rest) (append-nil front)
     headed (Some p) rest = lined p (numbers_at 1000000 rest)
 
     go : (r : Parsed (Option ℕ)) →
-        ((r >>= λ head. by_head head.0 (gives [] head.1) (λ p. numbers_at 1000000 head.1 >>= λ numbers. lines_at room' p numbers.1 >>= λ others. gives (numbering p numbers.0 ∷ others.0) others.1)) >>= λ x. gives (front ++ x.0) x.1)
-        ≡ (r >>= λ head. by_head head.0 (gives front head.1) (λ p. numbers_at 1000000 head.1 >>= λ numbers. with_lines (front ++ numbering p numbers.0 ∷ []) room' p numbers.1))
+        ((r >>= λ head. by_head head.0 (gives [] head.1) (λ p. numbers_at 1000000 head.1 >>= λ numbers. lines_at version room' p numbers.1 >>= λ others. gives (numbering p numbers.0 ∷ others.0) others.1)) >>= λ x. gives (front ++ x.0) x.1)
+        ≡ (r >>= λ head. by_head head.0 (gives front head.1) (λ p. numbers_at 1000000 head.1 >>= λ numbers. with_lines version (front ++ numbering p numbers.0 ∷ []) room' p numbers.1))
     go (Ok head) = headed head.0 head.1
     go (Err f) = refl
 
-pub lines_none : (front : List Numbering) (room last : ℕ) → room ≡ 0 → (bytes : List ℕ) → with_lines front room last bytes ≡ Err faults.TooMany
+pub lines_none : (version : Version) (front : List Numbering) (room last : ℕ) → room ≡ 0 → (bytes : List ℕ) → with_lines version front room last bytes ≡ Err faults.TooMany
 unfolding lines_at
-lines_none front room last e bytes = rw e refl
+lines_none version front room last e bytes = rw e refl
 
-pub lines_first : (room last : ℕ) (bytes : List ℕ) → lines_at room last bytes ≡ with_lines [] room last bytes
-lines_first room last bytes = go (lines_at room last bytes)
+pub lines_first : (version : Version) (room last : ℕ) (bytes : List ℕ) → lines_at version room last bytes ≡ with_lines version [] room last bytes
+lines_first version room last bytes = go (lines_at version room last bytes)
   where
     go : (r : Parsed (List Numbering)) → r ≡ (r >>= λ x. gives ([] ++ x.0) x.1)
     go (Ok x) = refl
@@ -93,14 +94,14 @@ lines_first room last bytes = go (lines_at room last bytes)
 -- ---- the steps of the reader of lines
 
 -- behind a line up to its numbers, or the last line, this is still read
-abbrev pub behind : List Numbering → ℕ → Option ℕ → List ℕ → Parsed (List Numbering)
-behind front room head more = by_head head (gives front more) (λ p. numbers_at 1000000 more >>= λ numbers. with_lines (front ++ numbering p numbers.0 ∷ []) room p numbers.1)
+abbrev pub behind : Version → List Numbering → ℕ → Option ℕ → List ℕ → Parsed (List Numbering)
+behind version front room head more = by_head head (gives front more) (λ p. numbers_at 1000000 more >>= λ numbers. with_lines version (front ++ numbering p numbers.0 ∷ []) room p numbers.1)
 
 -- the last line was read
-pub ended : (a b : Seen) (parse : List ℕ → Parsed (List Numbering)) (front : List Numbering) (room : ℕ) (head : Option ℕ) → Comes a b parse (behind front room head) → head ≡ None → Comes a b parse (gives front)
-ended a b parse front room head so_far e = same_left a b parse (behind front room head) (gives front) so_far (λ more. ap (λ (h : Option ℕ). behind front room h more) e)
+pub ended : (version : Version) (a b : Seen) (parse : List ℕ → Parsed (List Numbering)) (front : List Numbering) (room : ℕ) (head : Option ℕ) → Comes a b parse (behind version front room head) → head ≡ None → Comes a b parse (gives front)
+ended version a b parse front room head so_far e = same_left a b parse (behind version front room head) (gives front) so_far (λ more. ap (λ (h : Option ℕ). behind version front room h more) e)
 
 -- a line was read up to its numbers
-pub begun : (a b : Seen) (parse : List ℕ → Parsed (List Numbering)) (front : List Numbering) (room : ℕ) (head : Option ℕ) (p : ℕ) → Comes a b parse (behind front room head) → head ≡ Some p
-    → Comes a b parse (λ more. numbers_at 1000000 more >>= λ numbers. with_lines (front ++ numbering p numbers.0 ∷ []) room p numbers.1)
-begun a b parse front room head p so_far e = same_left a b parse (behind front room head) (behind front room (Some p)) so_far (λ more. ap (λ (h : Option ℕ). behind front room h more) e)
+pub begun : (version : Version) (a b : Seen) (parse : List ℕ → Parsed (List Numbering)) (front : List Numbering) (room : ℕ) (head : Option ℕ) (p : ℕ) → Comes a b parse (behind version front room head) → head ≡ Some p
+    → Comes a b parse (λ more. numbers_at 1000000 more >>= λ numbers. with_lines version (front ++ numbering p numbers.0 ∷ []) room p numbers.1)
+begun version a b parse front room head p so_far e = same_left a b parse (behind version front room head) (behind version front room (Some p)) so_far (λ more. ap (λ (h : Option ℕ). behind version front room h more) e)

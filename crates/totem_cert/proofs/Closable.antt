@@ -2,16 +2,17 @@
 use Rattle.std.proofs.Common.{◌≡◌, ℕ, ◌<◌, ◌≤◌, ◌⊎◌, inl, inr, List, length, get_or, slice_get, Some, None, arith}
 use Rattle.std.specs.Prelude.{All}
 use Rattle.std.proofs.lemmas.Option.{slice_get_within, slice_get-get_or, slice_get_cases, get_or_from_slice_get}
+use Rattle.totem_ids.specs.declared.version.Version.{Version}
 use Rattle.totem_evs.specs.declared.log.Log.{Log}
-use Rattle.totem_evs.specs.Runs.{IsRun, IsLog}
+use Rattle.totem_evs.specs.Runs.{IsRunIn, IsLogIn}
 use Rattle.totem_evs.specs.Certificates.{Numbering, number_at}
 use Rattle.totem_cert.specs.Search.{place}
-use Rattle.totem_cert.specs.Keeping.{IsLine, IsCertificate}
+use Rattle.totem_cert.specs.Keeping.{IsLineIn, IsCertificateIn}
 use Rattle.totem_cert.specs.Progress.{IsSound, IsFull}
 use Rattle.totem_evs.proofs.LogOf.{in_order}
 use Rattle.totem_cert.proofs.LineFacts.{stands_at}
 
-module _ (run : List Log) (lines : List Numbering) (is_run : IsRun run) (sound : IsSound run lines) (full : IsFull run lines) where
+module _ (version : Version) (run : List Log) (lines : List Numbering) (is_run : IsRunIn version run) (sound : IsSound run lines) (full : IsFull run lines) where
   log_at : (k : ℕ) → k < length lines → (log : Log) × (slice_get run k ≡ Some log)
   log_at k lt = go (slice_get_cases run k).1
     where
@@ -19,10 +20,10 @@ module _ (run : List Log) (lines : List Numbering) (is_run : IsRun run) (sound :
       go (inl (log, within, at, same)) = (log, at)
       go (inr (le, none)) = absurd (let c = sound.fits.count in omega arith)
 
-  line_is : (k : ℕ) (log : Log) (line : Numbering) → slice_get run k ≡ Some log → slice_get lines k ≡ Some line → IsLine line
+  line_is : (k : ℕ) (log : Log) (line : Numbering) → slice_get run k ≡ Some log → slice_get lines k ≡ Some line → IsLineIn version line
   line_is k log line at_l at_n =
       let h = is_run.each k log (slice_get_within run k log at_l) in
-      let l : IsLog log = rw (get_or_from_slice_get run k log log at_l) at h in
+      let l : IsLogIn version log = rw (get_or_from_slice_get run k log log at_l) at h in
       let proc = sound.fits.proc k log line at_l at_n in
       let short = sound.fits.short k log line at_l at_n in
       let long = full.full k log line at_l at_n in
@@ -43,10 +44,10 @@ module _ (run : List Log) (lines : List Numbering) (is_run : IsRun run) (sound :
         };
       }
 
-  pub each_line : All IsLine lines
+  pub each_line : All (IsLineIn version) lines
   each_line = λ k d lt. (let l = log_at k lt in line_is k l.0 (get_or lines k d) l.1 (slice_get-get_or lines k d lt))
 
-  pub closable : IsCertificate lines
+  pub closable : IsCertificateIn version lines
   closable = record {
     few = (let c = sound.fits.count in let f = is_run.few in omega arith);
     rising = λ i j d lt below. (

@@ -1,3 +1,4 @@
+pub mod WrittenLives
 pub mod LinesFromLeft
 pub mod CertLoops
 pub mod GrownLines
@@ -37,3 +38,8 @@ pub mod Noting
 pub mod Turning
 pub mod ClosedOne
 pub mod Ordering
+pub mod Sums
+pub mod CountSteps
+pub mod Countable
+pub mod CountingOne
+pub mod Alone

@@ -4,9 +4,13 @@ use Rattle.std.specs.List.{AllByRecursion}
 use Rattle.std.proofs.Common.{ℕ, suc, ◌<◌, ◌≤◌, List, [], ◌∷◌, length, arith}
 use Rattle.std.proofs.lemmas.List.Kept.{AllPairs-cons}
 use Rattle.std.proofs.lemmas.List.Elements.{All-from_recursion, recursion_from_All}
+use Rattle.totem_ids.specs.declared.version.Version.{Version}
+use Rattle.totem_ids.specs.Processes.{IsProcessIn}
+use Rattle.totem_ids.specs.Ranks.{id_of}
 use Rattle.totem_evs.specs.Certificates.{Numbering}
-use Rattle.totem_cert.specs.Keeping.{IsNumber, IsNumbers, IsLine, IsBelowLine, IsCertificate}
-use Rattle.totem_cert.specs.CertFronts.{IsWideLine, IsWideCertificate}
+use Rattle.totem_evs.specs.TextFronts.{but_last}
+use Rattle.totem_cert.specs.Keeping.{IsNumber, IsNumbers, IsLineIn, IsBelowLine, IsCertificateIn}
+use Rattle.totem_cert.specs.CertFronts.{IsLooseCertificate}
 
 -- ---- numbers
 
@@ -24,46 +28,87 @@ numbers_from ns is = record { some = is.some; few = is.few; each = recursion_fro
 
 -- ---- lines
 
--- above `last`, rising, and each of this kind
-abbrev pub LinesRise : (Numbering → Type 0) → ℕ → List Numbering → Type 0
-LinesRise L last [] = Unit {0}
-LinesRise L last (l ∷ ls) = (last < l.proc) × L l × LinesRise L l.proc ls
+-- above `last`, rising, and each one that texts of this version can write
+abbrev pub LinesRise : Version → ℕ → List Numbering → Type 0
+LinesRise version last [] = Unit {0}
+LinesRise version last (l ∷ ls) = (last < l.proc) × IsLineIn version l × LinesRise version l.proc ls
 
-pub record LinesFrom (L : Numbering → Type 0) (room last : ℕ) (lines : List Numbering) : Type 0 where
+pub record LinesFrom (version : Version) (room last : ℕ) (lines : List Numbering) : Type 0 where
   pub few : length lines < room
-  pub rises : LinesRise L last lines
+  pub rises : LinesRise version last lines
 
-lines_above : (L : Numbering → Type 0) (last low : ℕ) (lines : List Numbering) → low ≤ last → LinesRise L last lines → AllByRecursion (λ l. low < l.proc) lines
-lines_above L last low [] le h = tt
-lines_above L last low (l ∷ ls) le h = (omega (arith, h.0), lines_above L l.proc low ls (omega (arith, h.0)) h.2)
+lines_above : (version : Version) (last low : ℕ) (lines : List Numbering) → low ≤ last → LinesRise version last lines → AllByRecursion (λ l. low < l.proc) lines
+lines_above version last low [] le h = tt
+lines_above version last low (l ∷ ls) le h = (omega (arith, h.0), lines_above version l.proc low ls (omega (arith, h.0)) h.2)
 
-lines_each : (L : Numbering → Type 0) (last : ℕ) (lines : List Numbering) → LinesRise L last lines → AllByRecursion L lines
-lines_each L last [] h = tt
-lines_each L last (l ∷ ls) h = (h.1, lines_each L l.proc ls h.2)
+lines_each : (version : Version) (last : ℕ) (lines : List Numbering) → LinesRise version last lines → AllByRecursion (IsLineIn version) lines
+lines_each version last [] h = tt
+lines_each version last (l ∷ ls) h = (h.1, lines_each version l.proc ls h.2)
 
-lines_pairs : (L : Numbering → Type 0) (last : ℕ) (lines : List Numbering) → LinesRise L last lines → AllPairs IsBelowLine lines
-lines_pairs L last [] h = λ i j d lt within. absurd (omega arith)
-lines_pairs L last (l ∷ ls) h = AllPairs-cons IsBelowLine l ls (All-from_recursion (λ b. l.proc < b.proc) ls (lines_above L l.proc l.proc ls (omega arith) h.2)) (lines_pairs L l.proc ls h.2)
+lines_pairs : (version : Version) (last : ℕ) (lines : List Numbering) → LinesRise version last lines → AllPairs IsBelowLine lines
+lines_pairs version last [] h = λ i j d lt within. absurd (omega arith)
+lines_pairs version last (l ∷ ls) h = AllPairs-cons IsBelowLine l ls (All-from_recursion (λ b. l.proc < b.proc) ls (lines_above version l.proc l.proc ls (omega arith) h.2)) (lines_pairs version l.proc ls h.2)
 
-pub is_certificate : (lines : List Numbering) → LinesFrom IsLine 33 0 lines → IsCertificate lines
-is_certificate lines h = record { few = omega (arith, h.few); rising = lines_pairs IsLine 0 lines h.rises; each = All-from_recursion IsLine lines (lines_each IsLine 0 lines h.rises) }
-
-pub is_wide_certificate : (lines : List Numbering) → LinesFrom IsWideLine 33 0 lines → IsWideCertificate lines
-is_wide_certificate lines h = record { few = omega (arith, h.few); rising = lines_pairs IsWideLine 0 lines h.rises; each = All-from_recursion IsWideLine lines (lines_each IsWideLine 0 lines h.rises) }
+pub is_certificate : (version : Version) (lines : List Numbering) → LinesFrom version 33 0 lines → IsCertificateIn version lines
+is_certificate version lines h = record { few = omega (arith, h.few); rising = lines_pairs version 0 lines h.rises; each = All-from_recursion (IsLineIn version) lines (lines_each version 0 lines h.rises) }
 
 pairs_tail : {X : Type 0} (R : X → X → Type 0) (x : X) (xs : List X) → AllPairs R (x ∷ xs) → AllPairs R xs
 pairs_tail R x xs h i j d lt within = h (suc i) (suc j) d (omega arith) (omega arith)
 
-lines_from : (last : ℕ) (lines : List Numbering) → AllByRecursion (λ l. last < l.proc) lines → AllByRecursion IsLine lines → AllPairs IsBelowLine lines → LinesRise IsLine last lines
-lines_from last [] above each pairs = tt
-lines_from last (l ∷ ls) above each pairs = (above.0, each.0, lines_from l.proc ls (firsts l ls pairs) each.1 (pairs_tail IsBelowLine l ls pairs))
+lines_from : (version : Version) (last : ℕ) (lines : List Numbering) → AllByRecursion (λ l. last < l.proc) lines → AllByRecursion (IsLineIn version) lines → AllPairs IsBelowLine lines → LinesRise version last lines
+lines_from version last [] above each pairs = tt
+lines_from version last (l ∷ ls) above each pairs = (above.0, each.0, lines_from version l.proc ls (firsts l ls pairs) each.1 (pairs_tail IsBelowLine l ls pairs))
   where
     firsts : (l : Numbering) (ls : List Numbering) → AllPairs IsBelowLine (l ∷ ls) → AllByRecursion (λ b. l.proc < b.proc) ls
     firsts l ls pairs = recursion_from_All (λ b. l.proc < b.proc) ls (λ j d within. pairs 0 (suc j) d (omega arith) (omega arith))
 
-positive : (lines : List Numbering) → AllByRecursion IsLine lines → AllByRecursion (λ l. 0 < l.proc) lines
-positive [] each = tt
-positive (l ∷ ls) each = (each.0.process.positive, positive ls each.1)
+above_none : (version : Version) (p : ℕ) → IsProcessIn version p → 0 < p
+above_none version p is = let h : 0 < id_of p = is.id_fits.positive in omega arith
 
-pub certificate_from : (lines : List Numbering) → IsCertificate lines → LinesFrom IsLine 33 0 lines
-certificate_from lines is = record { few = omega (arith, is.few); rises = (let each = recursion_from_All IsLine lines is.each in lines_from 0 lines (positive lines each) each is.rising) }
+positive : (version : Version) (lines : List Numbering) → AllByRecursion (IsLineIn version) lines → AllByRecursion (λ l. 0 < l.proc) lines
+positive version [] each = tt
+positive version (l ∷ ls) each = (above_none version l.proc each.0.process, positive version ls each.1)
+
+pub certificate_from : (version : Version) (lines : List Numbering) → IsCertificateIn version lines → LinesFrom version 33 0 lines
+certificate_from version lines is = record {
+  few = omega (arith, is.few);
+  rises = (let each = recursion_from_All (IsLineIn version) lines is.each in lines_from version 0 lines (positive version lines each) each is.rising);
+}
+
+-- ---- lines that rise but for the last
+
+abbrev pub LinesLoosely : Version → ℕ → List Numbering → Type 0
+LinesLoosely version last [] = Unit {0}
+LinesLoosely version last (l ∷ []) = IsLineIn version l
+LinesLoosely version last (l ∷ k ∷ ls) = (last < l.proc) × IsLineIn version l × LinesLoosely version l.proc (k ∷ ls)
+
+pub record LooseLinesFrom (version : Version) (room last : ℕ) (lines : List Numbering) : Type 0 where
+  pub few : length lines < room
+  pub rises : LinesLoosely version last lines
+
+pub line_loosely : (version : Version) (last : ℕ) (l : Numbering) (ls : List Numbering) → last < l.proc → IsLineIn version l → LinesLoosely version l.proc ls → LinesLoosely version last (l ∷ ls)
+line_loosely version last l [] above is h = is
+line_loosely version last l (k ∷ ls) above is h = (above, is, h)
+
+loose_above : (version : Version) (last low : ℕ) (lines : List Numbering) → low ≤ last → LinesLoosely version last lines → AllByRecursion (λ l. low < l.proc) (but_last lines)
+loose_above version last low [] le h = tt
+loose_above version last low (l ∷ []) le h = tt
+loose_above version last low (l ∷ k ∷ ls) le h = (omega (arith, h.0), loose_above version l.proc low (k ∷ ls) (omega (arith, h.0)) h.2)
+
+loose_pairs : (version : Version) (last : ℕ) (lines : List Numbering) → LinesLoosely version last lines → AllPairs IsBelowLine (but_last lines)
+loose_pairs version last [] h = λ i j d lt within. absurd (omega arith)
+loose_pairs version last (l ∷ []) h = λ i j d lt within. absurd (omega arith)
+loose_pairs version last (l ∷ k ∷ ls) h =
+    AllPairs-cons IsBelowLine l (but_last (k ∷ ls)) (All-from_recursion (λ b. l.proc < b.proc) (but_last (k ∷ ls)) (loose_above version l.proc l.proc (k ∷ ls) (omega arith) h.2)) (loose_pairs version l.proc (k ∷ ls) h.2)
+
+loose_each : (version : Version) (last : ℕ) (lines : List Numbering) → LinesLoosely version last lines → AllByRecursion (IsLineIn version) lines
+loose_each version last [] h = tt
+loose_each version last (l ∷ []) h = (h, tt)
+loose_each version last (l ∷ k ∷ ls) h = (h.1, loose_each version l.proc (k ∷ ls) h.2)
+
+pub is_loose_certificate : (version : Version) (lines : List Numbering) → LooseLinesFrom version 33 0 lines → IsLooseCertificate version lines
+is_loose_certificate version lines h = record {
+  few = omega (arith, h.few);
+  rising = loose_pairs version 0 lines h.rises;
+  each = All-from_recursion (IsLineIn version) lines (loose_each version 0 lines h.rises);
+}

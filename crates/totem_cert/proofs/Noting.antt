@@ -7,7 +7,9 @@ use Rattle.std.specs.BTreeMap.{BTreeMap, get, Updates}
 use Rattle.std.proofs.lemmas.Cmp.{ranked}
 use Rattle.std.proofs.lemmas.Option.{slice_get_within}
 use Rattle.totem_ids.specs.declared.place.Place.{Place}
+use Rattle.totem_ids.specs.contracts.life.ProcOrd.TheImpl as processes
 use Rattle.totem_evs.specs.ClosedLists.{Visit}
+use Rattle.totem_evs.proofs.ProcOrder.{exact_proc}
 use Rattle.totem_cert.specs.Progress.{IsVisitedAt, IsNotVisited}
 use Rattle.totem_cert.specs.Visited.{place_order, IsNoted}
 use Rattle.totem_cert.proofs.Walking.{push_at, push_below, push_cases}
@@ -22,8 +24,8 @@ both Greater b h = absurd cc
 
 same_place : (e f : Place) → place_order e f ≡ Equal → e ≡ f
 same_place e f h =
-    let parts = both (nat_cmp e.proc f.proc) (nat_cmp e.at f.at) h in
-    ap (λ (r : ℕ). let g : Place = record { proc = r; at = e.at } in g) (same_number e.proc f.proc parts.0) ∙ ap (λ (i : ℕ). let g : Place = record { proc = f.proc; at = i } in g) (same_number e.at f.at parts.1)
+    let parts = both (processes.cmp-value.it e.proc f.proc) (nat_cmp e.at f.at) h in
+    ap (λ (r : ℕ). let g : Place = record { proc = r; at = e.at } in g) (exact_proc e.proc f.proc parts.0) ∙ ap (λ (i : ℕ). let g : Place = record { proc = f.proc; at = i } in g) (same_number e.at f.at parts.1)
 
 equal_if : (o : Ordering) → is_eq o ≡ true → o ≡ Equal
 equal_if Less h = absurd cc

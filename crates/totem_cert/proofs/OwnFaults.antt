@@ -1,14 +1,17 @@
 -- Which faults a certificate's grammar gives.
 use Rattle.std.specs.Prelude.{◌==◌, nat_le}
 use Rattle.std.proofs.Common.{◌≡◌, ℕ, ◌+◌, ◌-◌, ◌*◌, zero, suc, List, [], ◌∷◌, Bool, true, false, cond, Option, Some, None, Ok, Err, refl}
+use Rattle.totem_ids.specs.declared.version.Version.{Version}
+use Rattle.totem_ids.specs.declared.version.Version.TheVariants.{One, Two}
+use Rattle.totem_ids.specs.Processes.{writes_lives, first_life_then, life_then, process_then}
 use Rattle.totem_ids.specs.declared.fault.TextFault.{TextFault}
 use Rattle.totem_ids.specs.declared.fault.TextFault.TheVariants as faults
 use Rattle.totem_ids.specs.Sources.{Parsed, ◌>>=◌}
-use Rattle.totem_ids.specs.Numbers.{is_digit, byte_at, word_at, digits_at, number_at}
+use Rattle.totem_ids.specs.Numbers.{is_digit, byte_at, word_at, digits_at, number_at, number_to}
 use Rattle.totem_evs.specs.Certificates.{Numbering}
 use Rattle.totem_evs.specs.RunGrammar.{by_head}
 use Rattle.totem_cert.specs.CertFaults.{IsOwnFault}
-use Rattle.totem_cert.specs.CertGrammar.{numbers_at, line_proc_at, begin_at, end_at, head_at, lines_at, cert_at}
+use Rattle.totem_cert.specs.CertGrammar.{numbers_at, line_proc_at, begin_at, end_at, head_at, lines_at, header_end, header_at, cert_at}
 use Rattle.totem_cert.proofs.CertLoops.{numbering}
 
 -- an answer is a value, or a fault of certificates
@@ -57,34 +60,58 @@ unfolding numbers_at
 numbers_own zero bytes = fault_own faults.TooMany tt
 numbers_own (suc room) bytes = bind_own (number_at 4294967295 bytes) _ (number_own 4294967295 bytes) (λ n. cond_own (n.0.1 == 10) _ _ (ok_own _) (cond_own (n.0.1 == 32) _ _ (bind_own _ _ (numbers_own room n.1) (λ others. ok_own _)) (fault_own faults.Word tt)))
 
-proc_own : (last : ℕ) (bytes : List ℕ) → Own (line_proc_at last bytes)
-unfolding line_proc_at
-proc_own last bytes = bind_own _ _ (word_own faults.Word _ bytes tt) (λ w. bind_own _ _ (number_own 65535 w.1) (λ p. cond_own _ _ _ (fault_own faults.Order tt) (cond_own _ _ _ (ok_own _) (fault_own faults.Word tt))))
+first_life_own : (bytes : List ℕ) → Own (first_life_then bytes)
+unfolding first_life_then
+first_life_own bytes = bind_own _ _ (number_own 65535 bytes) (λ id. ok_own _)
 
-begin_own : (full : Bool) (last : ℕ) (bytes : List ℕ) → Own (begin_at full last bytes)
+identifier_own : (bytes : List ℕ) → Own (number_to 65535 58 bytes)
+unfolding number_to
+identifier_own bytes = bind_own _ _ (number_own 65535 bytes) (λ n. cond_own _ _ _ (ok_own _) (fault_own faults.Word tt))
+
+life_own : (bytes : List ℕ) → Own (life_then bytes)
+unfolding life_then
+life_own bytes = bind_own _ _ (identifier_own bytes) (λ id. bind_own _ _ (number_own 65535 id.1) (λ life. ok_own _))
+
+process_own : (version : Version) (bytes : List ℕ) → Own (process_then version bytes)
+unfolding process_then
+process_own version bytes = cond_own (writes_lives version) (life_then bytes) (first_life_then bytes) (life_own bytes) (first_life_own bytes)
+
+proc_own : (version : Version) (last : ℕ) (bytes : List ℕ) → Own (line_proc_at version last bytes)
+unfolding line_proc_at
+proc_own version last bytes = bind_own _ _ (word_own faults.Word _ bytes tt) (λ w. bind_own _ _ (process_own version w.1) (λ p. cond_own _ _ _ (fault_own faults.Order tt) (cond_own _ _ _ (ok_own _) (fault_own faults.Word tt))))
+
+begin_own : (version : Version) (full : Bool) (last : ℕ) (bytes : List ℕ) → Own (begin_at version full last bytes)
 unfolding begin_at
-begin_own full last bytes = cond_own full _ _ (fault_own faults.TooMany tt) (bind_own _ _ (proc_own last bytes) (λ p. ok_own _))
+begin_own version full last bytes = cond_own full _ _ (fault_own faults.TooMany tt) (bind_own _ _ (proc_own version last bytes) (λ p. ok_own _))
 
 end_own : (bytes : List ℕ) → Own (end_at bytes)
 unfolding end_at
 end_own bytes = bind_own _ _ (word_own faults.Word _ bytes tt) (λ w. ok_own _)
 
-head_own : (full : Bool) (last : ℕ) (bytes : List ℕ) → Own (head_at full last bytes)
+head_own : (version : Version) (full : Bool) (last : ℕ) (bytes : List ℕ) → Own (head_at version full last bytes)
 unfolding head_at
-head_own full last bytes = bind_own _ _ (byte_own bytes) (λ b. cond_own _ _ _ (begin_own full last b.1) (cond_own _ _ _ (end_own b.1) (fault_own faults.Word tt)))
+head_own version full last bytes = bind_own _ _ (byte_own bytes) (λ b. cond_own _ _ _ (begin_own version full last b.1) (cond_own _ _ _ (end_own b.1) (fault_own faults.Word tt)))
 
-lines_own : (room last : ℕ) (bytes : List ℕ) → Own (lines_at room last bytes)
+lines_own : (version : Version) (room last : ℕ) (bytes : List ℕ) → Own (lines_at version room last bytes)
 unfolding lines_at
-lines_own zero last bytes = fault_own faults.TooMany tt
-lines_own (suc room) last bytes = bind_own _ _ (head_own (room == 0) last bytes) (λ head. go head.0 head.1 (λ p rest. lines_own room p rest))
+lines_own version zero last bytes = fault_own faults.TooMany tt
+lines_own version (suc room) last bytes = bind_own _ _ (head_own version (room == 0) last bytes) (λ head. go head.0 head.1 (λ p rest. lines_own version room p rest))
   where
-    go : (head : Option ℕ) (rest : List ℕ) → ((p : ℕ) (rest : List ℕ) → Own (lines_at room p rest)) → Own (by_head {Y = Parsed (List Numbering)} head (Ok ([], rest)) (λ p. numbers_at 1000000 rest >>= λ numbers. lines_at room p numbers.1 >>= λ others. Ok (numbering p numbers.0 ∷ others.0, others.1)))
+    go : (head : Option ℕ) (rest : List ℕ) → ((p : ℕ) (rest : List ℕ) → Own (lines_at version room p rest)) → Own (by_head {Y = Parsed (List Numbering)} head (Ok ([], rest)) (λ p. numbers_at 1000000 rest >>= λ numbers. lines_at version room p numbers.1 >>= λ others. Ok (numbering p numbers.0 ∷ others.0, others.1)))
     go None rest again = ok_own _
     go (Some p) rest again = bind_own _ _ (numbers_own 1000000 rest) (λ numbers. bind_own _ _ (again p numbers.1) (λ others. ok_own _))
 
+header_end_own : (version : Version) (bytes : List ℕ) → Own (header_end version bytes)
+unfolding header_end
+header_end_own version bytes = bind_own _ _ (word_own faults.Header _ bytes tt) (λ w. ok_own _)
+
+header_own : (bytes : List ℕ) → Own (header_at bytes)
+unfolding header_at
+header_own bytes = bind_own _ _ (word_own faults.Header _ bytes tt) (λ w. bind_own _ _ (byte_own w.1) (λ v. cond_own _ _ _ (header_end_own One v.1) (cond_own _ _ _ (header_end_own Two v.1) (fault_own faults.Header tt))))
+
 cert_own : (bytes : List ℕ) → Own (cert_at bytes)
 unfolding cert_at
-cert_own bytes = bind_own _ _ (word_own faults.Header _ bytes tt) (λ w. lines_own 33 0 w.1)
+cert_own bytes = bind_own _ _ (header_own bytes) (λ v. bind_own _ _ (lines_own v.0 33 0 v.1) (λ lines. ok_own _))
 
 pub own_fault : (bytes : List ℕ) (f : TextFault) → cert_at bytes ≡ Err f → IsOwnFault f
 own_fault bytes f e = (cert_own bytes).fault f e

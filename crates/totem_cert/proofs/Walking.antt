@@ -156,24 +156,24 @@ round run start (x ∷ xs) next again walking at =
 code : Visit → ℕ
 code v = v.to.proc * 1048576 + v.to.at
 
-code_few : (run : List Log) (v : Visit) → IsRun run → IsEvent run v.to → (v.to.at < 1048576) × (v.to.proc < 65536)
+code_few : (run : List Log) (v : Visit) → IsRun run → IsEvent run v.to → (v.to.at < 1048576) × (v.to.proc < 4294967296)
 code_few run v is_run (x, at) = go (index_of run v.to x at) (log_of_cases run v.to.proc)
   where
     go : (i : ℕ) × (v.to ≡ place v.to.proc i) × (slice_get (log_of run v.to.proc) i ≡ Some x)
-        → (log_of run v.to.proc ≡ []) ⊎ ((k : ℕ) × (log : Log) × (slice_get run k ≡ Some log) × (log.proc ≡ v.to.proc) × (log_of run v.to.proc ≡ log.entries)) → (v.to.at < 1048576) × (v.to.proc < 65536)
+        → (log_of run v.to.proc ≡ []) ⊎ ((k : ℕ) × (log : Log) × (slice_get run k ≡ Some log) × (log.proc ≡ v.to.proc) × (log_of run v.to.proc ≡ log.entries)) → (v.to.at < 1048576) × (v.to.proc < 4294967296)
     go (i, is, at_i) (inl none) = absurd (let h : slice_get {X = Entry} [] i ≡ Some x = rw none at at_i in cc)
     go (i, is, at_i) (inr (k, log, at_k, proc, entries)) =
         let h = is_run.each k log (slice_get_within run k log at_k) in
         let l : IsLog log = rw (get_or_from_slice_get run k log log at_k) at h in
         let lt = slice_get_within log.entries i x (rw entries at at_i) in
         let few = l.entries.few in
-        let p = l.process.small in
+        let p = l.process.id_fits.small in
         let e : v.to.at ≡ suc i = ap (λ (f : Place). f.at) is in
         (omega arith, omega arith)
 
 -- steps to different events
 record AreApart (visits : List Visit) : Type 0 where
-  few : (i : ℕ) (v : Visit) → slice_get visits i ≡ Some v → (v.to.at < 1048576) × (v.to.proc < 65536)
+  few : (i : ℕ) (v : Visit) → slice_get visits i ≡ Some v → (v.to.at < 1048576) × (v.to.proc < 4294967296)
   apart : (i j : ℕ) (v w : Visit) → slice_get visits i ≡ Some v → slice_get visits j ≡ Some w → i < j → v.to ≡ w.to → ⊥
 
 apart_tail : (v : Visit) (vs : List Visit) → AreApart (v ∷ vs) → AreApart vs
@@ -200,7 +200,7 @@ unfolding IsDistinct
 distinct [] h = tt
 distinct (v ∷ vs) h = (others v vs (λ i w at same. h.apart 0 (suc i) v w refl at (omega arith) (same_code v w (h.few 0 v refl).0 (h.few (suc i) w at).0 same)), distinct vs (apart_tail v vs h))
 
-below : (vs : List Visit) (q : ℕ) → AreApart vs → list_any (eqb q) (map code vs) ≡ true → q < 68719476736
+below : (vs : List Visit) (q : ℕ) → AreApart vs → list_any (eqb q) (map code vs) ≡ true → q < 4503599627370496
 unfolding code
 below [] q h any = absurd cc
 below (v ∷ vs) q h any = go (eqb q (code v)) refl any (below vs q (apart_tail v vs h))
@@ -208,7 +208,7 @@ below (v ∷ vs) q h any = go (eqb q (code v)) refl any (below vs q (apart_tail 
     is_eqb : (a b : ℕ) → eqb a b ≡ true → a ≡ b
     is_eqb a b e = grind arith
 
-    go : (b : Bool) → eqb q (code v) ≡ b → list_any (eqb q) (map code (v ∷ vs)) ≡ true → (list_any (eqb q) (map code vs) ≡ true → q < 68719476736) → q < 68719476736
+    go : (b : Bool) → eqb q (code v) ≡ b → list_any (eqb q) (map code (v ∷ vs)) ≡ true → (list_any (eqb q) (map code vs) ≡ true → q < 4503599627370496) → q < 4503599627370496
     go true e any rest = let same = is_eqb q (code v) e in let few = h.few 0 v refl in let a = few.0 in let p = few.1 in omega arith
     go false e any rest = rest (rw e at any)
 
@@ -216,9 +216,9 @@ same_count : (vs : List Visit) → length (map code vs) ≡ length vs
 same_count [] = refl
 same_count (v ∷ vs) = let h = same_count vs in omega arith
 
-pub walk_short : (run : List Log) (start : Place) (visits : List Visit) → IsRun run → IsWalk run start visits → length visits ≤ 68719476736
+pub walk_short : (run : List Log) (start : Place) (visits : List Visit) → IsRun run → IsWalk run start visits → length visits ≤ 4503599627370496
 walk_short run start visits is_run walk =
-    let h = length-le_from_distinct_below (map code visits) 68719476736 (distinct visits apart) (λ q any. below visits q apart any) in
+    let h = length-le_from_distinct_below (map code visits) 4503599627370496 (distinct visits apart) (λ q any. below visits q apart any) in
     rw (same_count visits) at h
   where
     apart : AreApart visits

@@ -1,8 +1,13 @@
 -- What a certificate keeps, and what is wrong with numbers that a line can't hold (docs/SPECIFICATIONS.md,
 -- "Certificates").
 use Rattle.std.specs.Prelude.{◌≡◌, ℕ, ◌<◌, ◌≤◌, List, [], length, take, slice_get, Some, All, AllPairs}
-use Rattle.totem_ids.specs.Texts.{IsUpTo, IsProcess}
+use Rattle.totem_ids.specs.declared.version.Version.{Version}
+use Rattle.totem_ids.specs.declared.version.Version.TheVariants.{Two}
+use Rattle.totem_ids.specs.Processes.{IsProcessIn}
+use Rattle.totem_ids.specs.Texts.{IsUpTo}
 use Rattle.totem_evs.specs.Certificates.{Numbering}
+use Rattle.totem_evs.specs.Runs.{IsOfText}
+use Rattle.totem_cert.specs.CertRecord.{CertRecord}
 use Rattle.totem_cert.specs.declared.numbers.NumbersFault.{NumbersFault}
 use Rattle.totem_cert.specs.declared.numbers.NumbersFault.TheVariants.{Empty, TooMany, Zero}
 
@@ -16,19 +21,33 @@ pub record IsNumbers (numbers : List ℕ) : Type 0 where
   pub few : length numbers ≤ 1000000
   pub each : All IsNumber numbers
 
-pub record IsLine (line : Numbering) : Type 0 where
-  pub process : IsProcess line.proc
+pub record IsLineIn (version : Version) (line : Numbering) : Type 0 where
+  pub process : IsProcessIn version line.proc
   pub numbers : IsNumbers line.numbers
 
--- one process is below the other
+-- a line whose process has any life
+abbrev pub IsLine : Numbering → Type 0
+IsLine = IsLineIn Two
+
+-- one process is below the other: by identifier, and then by life
 abbrev pub IsBelowLine : Numbering → Numbering → Type 0
 IsBelowLine a b = a.proc < b.proc
 
--- 0 to 32 lines, their processes strictly rising
-pub record IsCertificate (lines : List Numbering) : Type 0 where
+-- the lines of a certificate that texts of this version can write: 0 to 32, their processes strictly rising. Where a
+-- version writes no lives, each process has life 1
+pub record IsCertificateIn (version : Version) (lines : List Numbering) : Type 0 where
   pub few : length lines ≤ 32
   pub rising : AllPairs IsBelowLine lines
-  pub each : All IsLine lines
+  pub each : All (IsLineIn version) lines
+
+-- the lines of a certificate whose processes have any lives
+abbrev pub IsCertificate : List Numbering → Type 0
+IsCertificate = IsCertificateIn Two
+
+-- a certificate: the lines are ones that texts of its version can write. Its versions are those of runs
+pub record IsCertificateOf (certificate : CertRecord) : Type 0 where
+  pub version : IsOfText certificate.version
+  pub lines : IsCertificateIn certificate.version certificate.lines
 
 -- the numbers before `at` are above 0, and the one there is 0
 pub record IsFirstZero (numbers : List ℕ) (at : ℕ) : Type 0 where

@@ -1,4 +1,6 @@
+pub mod CertRecord
 pub mod Keeping
+pub mod CertLives
 pub mod CertText
 pub mod CertGrammar
 pub mod CertFronts
@@ -13,3 +15,4 @@ pub mod Laws
 pub mod Keys
 pub mod Keepers
 pub mod Counted
+pub mod Counts

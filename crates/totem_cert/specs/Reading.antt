@@ -1,21 +1,21 @@
 -- What the reader of certificates answers, and what it leaves (docs/SPECIFICATIONS.md, "Certificate text").
-use Rattle.std.specs.Prelude.{◌≡◌, List, Result, Ok, Err}
+use Rattle.std.specs.Prelude.{◌≡◌, Result, Ok, Err}
 use Rattle.std.specs.Io.KnownBytes.{Consumes}
 use Rattle.totem_ids.specs.declared.fault.TextFault.TheVariants as text
 use Rattle.totem_ids.specs.Sources.{Seen, Comes, Breaks, BreaksAt, Stops}
-use Rattle.totem_evs.specs.Certificates.{Numbering}
+use Rattle.totem_cert.specs.CertRecord.{CertRecord}
 use Rattle.totem_cert.specs.declared.certificate.Certificate.{Certificate}
 use Rattle.totem_cert.specs.declared.cert_fault.CertFault.{CertFault}
 use Rattle.totem_cert.specs.declared.cert_fault.CertFault.TheVariants as faults
-use Rattle.totem_cert.specs.Keeping.{IsCertificate}
+use Rattle.totem_cert.specs.Keeping.{IsCertificateOf}
 use Rattle.totem_cert.specs.CertText.{cert_text}
 use Rattle.totem_cert.specs.CertGrammar.{cert_at}
 
 -- the bytes that were taken are the text of this certificate, and are read as it, whatever follows
-pub record IsRead (old new : Seen) (lines : List Numbering) : Type 0 where
-  pub is : IsCertificate lines
-  pub taken : Comes old new cert_at (λ more. Ok (lines, more))
-  pub text : Consumes old.remaining new.remaining (cert_text lines)
+pub record IsRead (old new : Seen) (cert : CertRecord) : Type 0 where
+  pub is : IsCertificateOf cert
+  pub taken : Comes old new cert_at (λ more. Ok (cert, more))
+  pub text : Consumes old.remaining new.remaining (cert_text cert)
 
 -- a certificate was read; the text is faulty as the grammar says, whatever follows the bytes that were taken, the last
 -- of which is the first that breaks a rule; it was at its end and too short; the source failed in this call, behind

@@ -8,7 +8,7 @@ use totem_ids::{ReadError, TextFault};
 /// Why a certificate could not be read (docs/SPECIFICATIONS.md, "Certificate text").
 #[derive(Clone, Copy, Debug, PartialEq, Eq, Error)]
 pub enum CertFault {
-    #[error("the text does not begin with the line `totem-cert 1`")]
+    #[error("the text does not begin with the line `totem-cert 1` or `totem-cert 2`")]
     Header,
     #[error("a byte that does not fit")]
     Word,

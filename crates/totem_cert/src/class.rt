@@ -2,7 +2,7 @@ ghost use Rattle.std.specs.Prelude.{◌≡◌, ◌↔◌, IsTrue};
 ghost use Rattle.totem_cert.specs.Progress.{AreAlike, IsMate};
 
 use totem_evs::Entry;
-use totem_ids::ProcId;
+use totem_ids::Proc;
 
 /// Returns whether two entries belong to one class wherever they stand.
 fn are_alike(entry: &Entry, other: &Entry) -> bool
@@ -17,10 +17,10 @@ fn are_alike(entry: &Entry, other: &Entry) -> bool
 
 /// Returns whether the entry at index `at` of a process's log is in the class of the other one.
 pub fn is_mate(
-    proc: ProcId,
+    proc: Proc,
     at: usize,
     entry: &Entry,
-    other_proc: ProcId,
+    other_proc: Proc,
     other_at: usize,
     other: &Entry,
 ) -> bool

@@ -47,8 +47,8 @@ pub fn forward(alloc: Global, visits: &[Visit], again: usize) -> Result<Vec<Plac
 fn is_at_most(e: &Place, f: &Place) -> bool
     ensures { IsTrue result ↔ IsAtMost e.now f.now }
 {
-    let p = e.proc.number();
-    let q = f.proc.number();
+    let p = e.proc.rank();
+    let q = f.proc.rank();
     p < q || (p == q && e.at <= f.at)
 }
 

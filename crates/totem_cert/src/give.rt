@@ -7,10 +7,10 @@ use crate::class::is_mate;
 use crate::open_line::OpenLine;
 use std::alloc::AllocError;
 use totem_evs::{Entry, Log, Run};
-use totem_ids::ProcId;
+use totem_ids::Proc;
 
 /// Returns whether the head of a log is in the class of the entry at index `at` of the process's log.
-fn is_head_mate(proc: ProcId, at: usize, entry: &Entry, log: &Log, line: &OpenLine) -> bool
+pub fn is_head_mate(proc: Proc, at: usize, entry: &Entry, log: &Log, line: &OpenLine) -> bool
     ensures { IsTrue result ↔ HeadIsMate proc at entry.now log.now line.now }
 {
     let entries = log.entries.as_slice();
@@ -26,7 +26,7 @@ fn is_head_mate(proc: ProcId, at: usize, entry: &Entry, log: &Log, line: &OpenLi
 pub fn give(
     run: &Run,
     lines: &mut Vec<OpenLine>,
-    proc: ProcId,
+    proc: Proc,
     at: usize,
     entry: &Entry,
     number: u32,

@@ -4,12 +4,12 @@ ghost use Rattle.totem_cert.specs.Keeping.{IsLine};
 use crate::numbers::Numbers;
 use std::alloc::{AllocError, Global};
 use std::marker::Model;
-use totem_ids::{ProcId, process_fits};
+use totem_ids::{Proc, Version, life_fits};
 
 /// A line of a certificate: a process, and a number for each entry of its log.
 #[derive(Debug, Drop)]
 pub struct Line {
-    pub proc: ProcId,
+    pub proc: Proc,
     pub numbers: Numbers,
 }
 
@@ -26,7 +26,7 @@ impl Line {
     pub(crate) fn keeps_its_rules(&self)
         ensures { IsLine self.now }
     {
-        process_fits(self.proc);
+        life_fits(Version::Two, self.proc);
         let _ = self.numbers.as_slice();
     }
 

@@ -33,13 +33,13 @@ fn first_fall(list: &[Line]) -> Option<usize>
     ensures found { IfSome result (λ at. FallsAt IsBelowLine list.now at) }
     ensures rising { IfNone result (AllPairs IsBelowLine list.now) }
 {
-    let mut last = 0u16;
+    let mut last = 0u32;
     for (at, line) in list.iter().enumerate() {
-        let number = line.proc.number();
-        if number <= last {
+        let rank = line.proc.rank();
+        if rank <= last {
             return Some(at);
         }
-        last = number;
+        last = rank;
     }
     None
 }

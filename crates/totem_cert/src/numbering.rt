@@ -10,13 +10,14 @@ use crate::ready::first_ready;
 use std::alloc::{AllocError, Global};
 use totem_evs::{Log, Run};
 
-/// Returns a line without numbers for each log.
-fn started(alloc: Global, logs: &[Log]) -> Result<Vec<OpenLine>, AllocError>
+/// Returns a line without numbers for each log, with room for all of them.
+pub fn started(alloc: Global, logs: &[Log]) -> Result<Vec<OpenLine>, AllocError>
     ensures { IfOk result (λ lines. lines.items ≡ map empty_line logs.now) }
 {
     let mut lines = Vec::with_capacity(alloc, logs.len())?;
     for log in logs {
-        lines.push(OpenLine::new(alloc, log.proc))?;
+        let room = log.entries.as_slice().len();
+        lines.push(OpenLine::with_room(alloc, log.proc, room)?)?;
     }
     Ok(lines)
 }

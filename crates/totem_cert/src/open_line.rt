@@ -1,16 +1,16 @@
-ghost use Rattle.std.specs.Prelude.{◌≡◌, [], ◌∷◌, ◌++◌, length, OnOk, OnErr};
+ghost use Rattle.std.specs.Prelude.{◌≡◌, [], ◌∷◌, ◌++◌, length, IfOk, OnOk, OnErr};
 ghost use Rattle.totem_cert.specs.Keeping.{IsLine};
 
 use crate::line::Line;
 use crate::numbers::Numbers;
 use std::alloc::{AllocError, Global};
 use std::marker::Model;
-use totem_ids::ProcId;
+use totem_ids::Proc;
 
 /// The numbers that the entries of a log have so far, from the first entry on.
 #[derive(Drop)]
 pub struct OpenLine {
-    proc: ProcId,
+    proc: Proc,
     numbers: Vec<u32>,
 }
 
@@ -23,16 +23,17 @@ impl Model for OpenLine {
 }
 
 impl OpenLine {
-    pub fn new(alloc: Global, proc: ProcId) -> OpenLine
-        ensures { result ≡ record { proc = proc; numbers = [] } }
+    /// Makes a line without numbers, with room for as many.
+    pub fn with_room(alloc: Global, proc: Proc, room: usize) -> Result<OpenLine, AllocError>
+        ensures { IfOk result (λ line. line ≡ record { proc = proc; numbers = [] }) }
     {
-        OpenLine {
+        Ok(OpenLine {
             proc,
-            numbers: Vec::new(alloc),
-        }
+            numbers: Vec::with_capacity(alloc, room)?,
+        })
     }
 
-    pub fn proc(&self) -> ProcId
+    pub fn proc(&self) -> Proc
         ensures { result ≡ self.now.proc }
     {
         self.proc

@@ -1,11 +1,14 @@
-ghost use Rattle.std.specs.Prelude.{◌≡◌, IfOk};
+ghost use Rattle.std.specs.Prelude.{◌≡◌, IfOk, IfSome};
 ghost use Rattle.totem_cert.specs.Answer.{IsOrder};
 ghost use Rattle.totem_cert.specs.Progress.{IsSound, IsFull};
+ghost use Rattle.totem_table.specs.Tables.{IsTable};
 
 use crate::certificate::Certificate;
 use crate::closed_list::closed_list;
+use crate::counted::number_by_counts;
 use crate::index::Index;
 use crate::line::Line;
+use crate::lines::Lines;
 use crate::numbering::{first_left, number_all};
 use crate::open_line::OpenLine;
 use std::alloc::{AllocError, Global};
@@ -34,33 +37,63 @@ impl Order {
 fn certificate(alloc: Global, run: &Run, lines: Vec<OpenLine>) -> Result<Certificate, AllocError>
     requires sound { IsSound run.now.logs lines.items }
     requires full { IsFull run.now.logs lines.items }
-    ensures { IfOk result (λ c. c ≡ lines.items) }
+    ensures version { IfOk result (λ c. c.version ≡ run.now.version) }
+    ensures lines { IfOk result (λ c. c.lines ≡ lines.items) }
 {
     let _ = run.logs.as_slice();
     let mut list: Vec<Line> = Vec::with_capacity(alloc, lines.len())?;
     for line in lines {
         list.push(line.close())?;
     }
-    Ok(Certificate::of(list))
+    Ok(Certificate {
+        version: run.version,
+        lines: Lines::of(list),
+    })
 }
 
 /// Gives each event a number: again and again the ready class that holds the least place gets the next one
 /// (docs/SPECIFICATIONS.md, "Positions"). If classes are left and none is ready, names a closed list of steps instead.
 pub fn positions(alloc: Global, run: &Run) -> Result<Order, AllocError>
-    ensures { IfOk result (λ order. IsOrder run.now.logs order) }
+    ensures { IfOk result (λ order. IsOrder run.now order) }
 {
     let table = Table::build(alloc, run)?;
     positions_over(alloc, run, table)
 }
 
-/// The same over a table of the run. Without one it sorts, and takes longer.
-pub fn positions_over(alloc: Global, run: &Run, table: Option<Table>) -> Result<Order, AllocError>
-    ensures { IfOk result (λ order. IsOrder run.now.logs order) }
+/// Numbers over a table of the run, and finds a closed list only where one is needed.
+fn over_table(alloc: Global, run: &Run, table: Table) -> Result<Order, AllocError>
+    requires { IsTable run.now.logs table }
+    ensures { IfOk result (λ order. IsOrder run.now order) }
 {
-    let index = Index::of(alloc, run, table)?;
+    let lines = number_by_counts(alloc, run, &table)?;
+    match first_left(run, &lines) {
+        None => Ok(Order::Positions(certificate(alloc, run, lines)?)),
+        Some(k) => {
+            let index = Index::of(alloc, run, Some(table))?;
+            Ok(Order::Cycle(closed_list(alloc, run, &index, &lines, k)?))
+        }
+    }
+}
+
+/// Numbers by keys, which are sorted.
+fn by_keys(alloc: Global, run: &Run) -> Result<Order, AllocError>
+    ensures { IfOk result (λ order. IsOrder run.now order) }
+{
+    let index = Index::of(alloc, run, None)?;
     let lines = number_all(alloc, run, &index)?;
     match first_left(run, &lines) {
         None => Ok(Order::Positions(certificate(alloc, run, lines)?)),
         Some(k) => Ok(Order::Cycle(closed_list(alloc, run, &index, &lines, k)?)),
+    }
+}
+
+/// The same over a table of the run. Without one it sorts, and takes longer.
+pub fn positions_over(alloc: Global, run: &Run, table: Option<Table>) -> Result<Order, AllocError>
+    requires { IfSome table (IsTable run.now.logs) }
+    ensures { IfOk result (λ order. IsOrder run.now order) }
+{
+    match table {
+        Some(table) => over_table(alloc, run, table),
+        None => by_keys(alloc, run),
     }
 }

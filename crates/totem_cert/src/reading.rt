@@ -5,12 +5,12 @@ ghost use Rattle.totem_cert.specs.Reading.{ReadsCert};
 
 use crate::cert_fault::CertFault;
 use crate::certificate::Certificate;
-use crate::heads::read_head;
+use crate::heads::{read_head, read_header};
 use crate::line::Line;
 use crate::lines::Lines;
 use crate::numbers::Numbers;
 use std::alloc::Global;
-use totem_ids::{ReadError, Source, TextFault, number, word};
+use totem_ids::{ReadError, Source, TextFault, Version, number};
 
 // Numbers up to the line end.
 fn read_numbers<S: Source>(alloc: Global, source: &mut S) -> Result<Numbers, ReadError>
@@ -32,21 +32,25 @@ fn read_numbers<S: Source>(alloc: Global, source: &mut S) -> Result<Numbers, Rea
 }
 
 // Lines up to the last one.
-fn read_lines<S: Source>(alloc: Global, source: &mut S) -> Result<Lines, ReadError>
+fn read_lines<S: Source>(
+    alloc: Global,
+    source: &mut S,
+    version: Version,
+) -> Result<Lines, ReadError>
     ensures { Reads (seen S.remaining S.failures source.old)
-        (seen S.remaining S.failures source.new) result (lines_at 33 0) }
+        (seen S.remaining S.failures source.new) result (lines_at version 33 0) }
 {
     let mut lines = Vec::new(alloc);
-    let mut last = 0u16;
+    let mut last = 0u32;
     'lines: for count in 0..33u32 {
-        match read_head(source, count == 32, last)? {
+        match read_head(source, version, count == 32, last)? {
             None => return Ok(Lines::of(lines)),
             Some(proc) => {
                 let numbers = read_numbers(alloc, source)?;
                 let line = Line { proc, numbers };
                 line.keeps_its_rules();
                 lines.push(line)?;
-                last = proc.number();
+                last = proc.rank();
             }
         }
     }
@@ -58,9 +62,9 @@ fn read_text<S: Source>(alloc: Global, source: &mut S) -> Result<Certificate, Re
     ensures { Reads (seen S.remaining S.failures source.old)
         (seen S.remaining S.failures source.new) result cert_at }
 {
-    word(source, b"totem-cert 1\n", TextFault::Header)?;
-    let lines = read_lines(alloc, source)?;
-    Ok(Certificate { lines })
+    let version = read_header(source)?;
+    let lines = read_lines(alloc, source, version)?;
+    Ok(Certificate { version, lines })
 }
 
 /// Reads a certificate from the first byte to the line `end`, and leaves unread what follows.

@@ -14,19 +14,19 @@ use crate::open_line::OpenLine;
 use crate::visit::Visit;
 use crate::wanted::{Wanted, first_place};
 use totem_evs::{Entry, Run};
-use totem_ids::{Place, ProcId};
+use totem_ids::{Place, Proc};
 
 /// An entry, with the process and the index at which it stands.
 #[derive(Clone, Copy)]
 struct Standing<'a> {
-    proc: ProcId,
+    proc: Proc,
     at: usize,
     entry: &'a Entry,
 }
 
 /// Returns how many entries of a process have a number.
 #[tactic(auto, using(crate::proofs::Given::numbers_of_here, crate::proofs::Given::numbers_of_more, crate::proofs::Given::numbers_of_end))]
-pub fn given(lines: &[OpenLine], proc: ProcId) -> usize
+pub fn given(lines: &[OpenLine], proc: Proc) -> usize
     ensures { result ≡ length (numbers_of lines.now proc) }
 {
     for line in lines {
@@ -38,7 +38,7 @@ pub fn given(lines: &[OpenLine], proc: ProcId) -> usize
 }
 
 /// Returns the entry at an index of a process's log.
-pub fn entry_at(run: &Run, proc: ProcId, at: usize) -> Option<&Entry>
+pub fn entry_at(run: &Run, proc: Proc, at: usize) -> Option<&Entry>
     ensures { option_copied result ≡ slice_get (log_of run.now.logs proc) at }
 {
     for log in run.logs.as_slice() {
@@ -55,7 +55,7 @@ pub fn entry_at(run: &Run, proc: ProcId, at: usize) -> Option<&Entry>
 }
 
 /// Returns the index of a process's log among the logs, or any number if it has none.
-fn log_index(run: &Run, proc: ProcId) -> usize {
+fn log_index(run: &Run, proc: Proc) -> usize {
     for (k, log) in run.logs.as_slice().iter().enumerate() {
         if log.proc == proc {
             return k;
@@ -86,7 +86,7 @@ fn open_send(
 }
 
 /// Returns the place of an entry that is alone in its class, if it is held up.
-fn held_alone(lines: &[OpenLine], proc: ProcId, at: usize, waits: bool) -> Option<Place>
+fn held_alone(lines: &[OpenLine], proc: Proc, at: usize, waits: bool) -> Option<Place>
     requires { at < 1000000 }
     ensures found { IfSome result (λ e. (e ≡ place proc at) × (IsTrue waits ⊎ (length (numbers_of lines.now proc) < at))) }
     ensures none { IfNone result (IsTrue waits ⊎ (length (numbers_of lines.now proc) < at) → ⊥) }

@@ -1,36 +1,35 @@
 //! Laws of the text of certificates, each the contract of a function that does nothing.
-ghost use Rattle.std.specs.Prelude.{◌≡◌, ◌≢◌, ◌↔◌, ℕ, List, ◌++◌, codes, Ok, Err, false};
+ghost use Rattle.std.specs.Prelude.{◌≡◌, ◌≢◌, ◌↔◌, ℕ, List, ◌++◌, Ok, Err, false};
 ghost use Rattle.totem_ids.specs.declared.fault.TextFault.{TextFault};
 ghost use Rattle.totem_ids.specs.declared.fault.TextFault.TheVariants.{Header, Word, Number, Order, Truncated, TooMany};
 ghost use Rattle.totem_ids.specs.Sources.{FirstBreak, is_short};
-ghost use Rattle.totem_evs.specs.Certificates.{Numbering};
-ghost use Rattle.totem_evs.specs.RunText.{line};
-ghost use Rattle.totem_evs.specs.TextFaults.{Differs, BreaksNumber};
+ghost use Rattle.totem_evs.specs.TextFaults.{BreaksNumber};
+ghost use Rattle.totem_cert.specs.CertRecord.{CertRecord};
 ghost use Rattle.totem_cert.specs.CertGrammar.{cert_at};
 ghost use Rattle.totem_cert.specs.CertFaults.{IsOwnFault};
-ghost use Rattle.totem_cert.specs.CertFronts.{IsWideFront, IsFirstWrong};
-ghost use Rattle.totem_cert.specs.CertPlaces.{IsBehindLines, HasFault, HasOrder, HasTooMany, HasNoOther};
+ghost use Rattle.totem_cert.specs.CertFronts.{IsLooseFront, IsFirstWrong};
+ghost use Rattle.totem_cert.specs.CertPlaces.{IsBehindLines, BreaksHeader, HasFault, HasOrder, HasTooMany, HasNoOther};
 ghost use Rattle.totem_cert.specs.CertText.{cert_text};
-ghost use Rattle.totem_cert.specs.Keeping.{IsCertificate};
+ghost use Rattle.totem_cert.specs.Keeping.{IsCertificateOf};
 
 /// What the grammar reads as a certificate keeps the rules of a certificate, and the bytes that it read are its text.
 pub fn read_is_spelled()
-    ensures { (lines : List Numbering) (bytes rest : List ℕ) → cert_at bytes ≡ Ok (lines, rest) → IsCertificate lines × (bytes ≡ cert_text lines ++ rest) }
+    ensures { (cert : CertRecord) (bytes rest : List ℕ) → cert_at bytes ≡ Ok (cert, rest) → IsCertificateOf cert × (bytes ≡ cert_text cert ++ rest) }
 {}
 
 /// The text of a certificate is read as that certificate, whatever follows it.
 pub fn spelled_is_read()
-    ensures { (lines : List Numbering) (rest : List ℕ) → IsCertificate lines → cert_at (cert_text lines ++ rest) ≡ Ok (lines, rest) }
+    ensures { (cert : CertRecord) (rest : List ℕ) → IsCertificateOf cert → cert_at (cert_text cert ++ rest) ≡ Ok (cert, rest) }
 {}
 
 /// No text of a certificate is the beginning of another.
 pub fn no_text_begins_another()
-    ensures { (a b : List Numbering) (more rest : List ℕ) → IsCertificate a → IsCertificate b → cert_text a ++ more ≡ cert_text b ++ rest → (a ≡ b) × (more ≡ rest) }
+    ensures { (a b : CertRecord) (more rest : List ℕ) → IsCertificateOf a → IsCertificateOf b → cert_text a ++ more ≡ cert_text b ++ rest → (a ≡ b) × (more ≡ rest) }
 {}
 
 /// If the grammar gives a fault, the bytes begin with no text of a certificate.
 pub fn a_fault_is_no_text()
-    ensures { (bytes : List ℕ) (fault : TextFault) → cert_at bytes ≡ Err fault → (lines : List Numbering) (rest : List ℕ) → IsCertificate lines → bytes ≡ cert_text lines ++ rest → ⊥ }
+    ensures { (bytes : List ℕ) (fault : TextFault) → cert_at bytes ≡ Err fault → (cert : CertRecord) (rest : List ℕ) → IsCertificateOf cert → bytes ≡ cert_text cert ++ rest → ⊥ }
 {}
 
 /// The grammar gives neither a fault of members nor one of bytes behind the last line.
@@ -43,10 +42,10 @@ pub fn fault_is_first()
     ensures { (bytes : List ℕ) (fault : TextFault) → is_short fault ≡ false → cert_at bytes ≡ Err fault → FirstBreak cert_at bytes fault }
 {}
 
-/// Where the grammar finds the input too short, some text of a certificate goes on from it. It may name processes above
-/// the greatest: whether a process rises is judged only at the byte behind its number.
+/// Where the grammar finds the input too short, some text of a certificate goes on from it, but for this: its last process
+/// need not be above the one before. Whether a process rises is judged only at the byte behind it.
 pub fn cut_text_goes_on()
-    ensures { (bytes : List ℕ) → cert_at bytes ≡ Err Truncated → IsWideFront bytes }
+    ensures { (bytes : List ℕ) → cert_at bytes ≡ Err Truncated → IsLooseFront bytes }
 {}
 
 /// At each other fault, some text of a certificate goes on, in the same sense, from the bytes before the first one that
@@ -55,10 +54,9 @@ pub fn fault_byte_is_first()
     ensures { (bytes : List ℕ) (fault : TextFault) → cert_at bytes ≡ Err fault → is_short fault ≡ false → (break : FirstBreak cert_at bytes fault) × IsFirstWrong break.front break.byte }
 {}
 
-/// Header is the fault exactly where a byte of the first line differs.
-#[tactic(auto, using(crate::proofs::CertParts::header_exactly))]
+/// Header is the fault exactly where a byte of the first line differs, also where its digit is of no version that is read.
 pub fn header_is_in_the_first_line()
-    ensures { (bytes : List ℕ) → (cert_at bytes ≡ Err Header) ↔ Differs (line (codes "totem-cert 1")) bytes }
+    ensures { (bytes : List ℕ) → (cert_at bytes ≡ Err Header) ↔ BreaksHeader bytes }
 {}
 
 /// Each fault but Header and Truncated is the fault of a line: the bytes begin with the first line and some lines of a

@@ -1,16 +1,17 @@
 //! Writes the text of a certificate.
 ghost use Rattle.std.specs.Prelude.{◌≡◌, []};
 ghost use Rattle.std.specs.List.{flat_map};
+ghost use Rattle.totem_ids.specs.Processes.{process_text};
 ghost use Rattle.totem_ids.specs.Writing.{Writes, held};
 ghost use Rattle.totem_evs.specs.WriteRun.{WritesText};
-ghost use Rattle.totem_cert.specs.CertText.{numbers_text, line_text, cert_text};
+ghost use Rattle.totem_cert.specs.CertText.{numbers_text, line_text, header_text, cert_text};
 
 use crate::certificate::Certificate;
 use crate::line::Line;
 use crate::numbers::Numbers;
 use std::alloc::Global;
 use totem_evs::WriteFault;
-use totem_ids::{Failed, Pieces, Sink};
+use totem_ids::{Failed, Pieces, Sink, Version};
 
 fn put_numbers<S: Sink>(pieces: &mut Pieces, sink: &mut S, numbers: &Numbers) -> Result<(), Failed>
     ensures { Writes (held S.contents S.failures pieces.old sink.old)
@@ -24,24 +25,45 @@ fn put_numbers<S: Sink>(pieces: &mut Pieces, sink: &mut S, numbers: &Numbers) ->
 }
 
 #[tactic(auto, using(totem_ids::proofs::Writers::wrote_then, totem_ids::proofs::Writers::wrote_failed))]
-fn put_line<S: Sink>(pieces: &mut Pieces, sink: &mut S, line: &Line) -> Result<(), Failed>
+fn put_line<S: Sink>(
+    pieces: &mut Pieces,
+    sink: &mut S,
+    version: Version,
+    line: &Line,
+) -> Result<(), Failed>
     ensures { Writes (held S.contents S.failures pieces.old sink.old)
-        (held S.contents S.failures pieces.new sink.new) result (line_text line.now) }
+        (held S.contents S.failures pieces.new sink.new) result (line_text (process_text version) line.now) }
 {
     pieces.put(sink, b"pos ")?;
-    pieces.put_number(sink, u32::from(line.proc.number()))?;
+    pieces.put_process(sink, version, line.proc)?;
     put_numbers(pieces, sink, &line.numbers)?;
     pieces.put(sink, b"\n")
 }
 
-fn put_lines<S: Sink>(pieces: &mut Pieces, sink: &mut S, lines: &[Line]) -> Result<(), Failed>
+fn put_lines<S: Sink>(
+    pieces: &mut Pieces,
+    sink: &mut S,
+    version: Version,
+    lines: &[Line],
+) -> Result<(), Failed>
     ensures { Writes (held S.contents S.failures pieces.old sink.old)
-        (held S.contents S.failures pieces.new sink.new) result (flat_map line_text lines.now) }
+        (held S.contents S.failures pieces.new sink.new) result (flat_map (line_text (process_text version)) lines.now) }
 {
     for line in lines {
-        put_line(pieces, sink, line)?;
+        put_line(pieces, sink, version, line)?;
     }
     Ok(())
+}
+
+fn put_header<S: Sink>(pieces: &mut Pieces, sink: &mut S, version: Version) -> Result<(), Failed>
+    ensures { Writes (held S.contents S.failures pieces.old sink.old)
+        (held S.contents S.failures pieces.new sink.new) result (header_text version) }
+{
+    match version {
+        Version::One => pieces.put(sink, b"totem-cert 1\n"),
+        Version::Two => pieces.put(sink, b"totem-cert 2\n"),
+        Version::Three => pieces.put(sink, b"totem-cert 3\n"),
+    }
 }
 
 /// Gathers the text of a certificate.
@@ -54,8 +76,13 @@ pub fn put_cert<S: Sink>(
     ensures { Writes (held S.contents S.failures pieces.old sink.old)
         (held S.contents S.failures pieces.new sink.new) result (cert_text certificate.now) }
 {
-    pieces.put(sink, b"totem-cert 1\n")?;
-    put_lines(pieces, sink, certificate.as_slice())?;
+    put_header(pieces, sink, certificate.version)?;
+    put_lines(
+        pieces,
+        sink,
+        certificate.version,
+        certificate.lines.as_slice(),
+    )?;
     pieces.put(sink, b"end\n")
 }
 

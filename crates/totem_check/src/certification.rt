@@ -16,8 +16,8 @@ use totem_evs::Run;
 /// Tests whether the certificate certifies the run. The fault is the first reason why it does not. Every two entries
 /// are compared, so the time grows with the square of the entries. Takes no memory.
 pub fn certified(run: &Run, certificate: &Certificate) -> Result<(), CertificateFault>
-    ensures answer { Answers run.now.logs certificate.now result }
-    ensures exact { IsOk result ↔ Certified run.now.logs certificate.now }
+    ensures answer { Answers run.now.logs certificate.now.lines result }
+    ensures exact { IsOk result ↔ Certified run.now.logs certificate.now.lines }
 {
     let logs = run.logs.as_slice();
     let lines = certificate.as_slice();

@@ -39,8 +39,8 @@ fn first_fault(alloc: Global, run: &Run) -> Result<Option<Fault>, AllocError>
 /// Checks that the certificate certifies the run and that the run meets specifications 1 to 7 (docs/SPECIFICATIONS.md,
 /// "The checker"). It does not matter who made the certificate, or what an audit said.
 pub fn check(alloc: Global, run: &Run, certificate: &Certificate) -> Result<Accepted, CheckFault>
-    ensures answer { Checks run.now.logs certificate.now result }
-    ensures exact { RefusesRightly run.now.logs certificate.now result }
+    ensures answer { Checks run.now.logs certificate.now.lines result }
+    ensures exact { RefusesRightly run.now.logs certificate.now.lines result }
 {
     certified(run, certificate)?;
     if let Some(fault) = first_fault(alloc, run)? {

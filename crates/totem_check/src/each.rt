@@ -9,7 +9,7 @@ ghost use Rattle.totem_check.specs.Each.{EachEvent, SomeEvent};
 
 use totem_cert::Line;
 use totem_evs::{Entry, Log};
-use totem_ids::{Place, ProcId};
+use totem_ids::{Place, Proc};
 
 /// An entry with its place and its number.
 #[derive(Clone, Copy)]
@@ -35,7 +35,7 @@ pub trait Question {
 }
 
 // Asks of each entry of one log.
-fn every_in<Q: Question>(question: &Q, proc: ProcId, entries: &[Entry], numbers: &[u32]) -> bool
+fn every_in<Q: Question>(question: &Q, proc: Proc, entries: &[Entry], numbers: &[u32]) -> bool
     requires ready { Q.ready question.now }
     requires same { length entries.now ≡ length numbers.now }
     requires few { length entries.now ≤ 1000000 }

@@ -11,10 +11,10 @@ use Rattle.totem_script.specs.ScriptFaults.{fault_number as script_fault_number,
 use Rattle.totem_cert.specs.declared.cert_fault.CertFault.{CertFault}
 use Rattle.totem_cert.specs.declared.cert_fault.CertFault.TheVariants as cert_faults
 use Rattle.totem_cert.specs.CertFaults.{fault_number as cert_fault_number, fault_name as cert_fault_name}
-use Rattle.totem_cluster.specs.Endings.{refusal_text, process_text, run_line, cert_line, script_line, script_line_of}
+use Rattle.totem_cluster.specs.Endings.{refusal_text, missing_text, run_line, cert_line, script_line, script_line_of}
 
 pub run_not_read : (fault : RunFault) → (fault ≡ run_faults.Read → ⊥)
-    → line (refusal_text (codes "totem: run refused: ") (fault_number fault) (fault_name fault) ++ process_text fault) ≡ run_line fault
+    → line (refusal_text (codes "totem: run refused: ") (fault_number fault) (fault_name fault) ++ missing_text fault) ≡ run_line fault
 run_not_read run_faults.Header no_read = refl
 run_not_read run_faults.Word no_read = refl
 run_not_read run_faults.Number no_read = refl

@@ -3,19 +3,20 @@ use Rattle.std.specs.Prelude.{◌≡◌, ◌≢◌, ◌⊎◌, ℕ, ◌+◌, ◌
 use Rattle.std.specs.Io.KnownBytes.{Consumes, Keeps}
 use Rattle.totem_ids.specs.Sources.{Seen}
 use Rattle.totem_ids.specs.Writing.{Held, Wrote}
-use Rattle.totem_evs.specs.declared.log.Log.{Log}
+use Rattle.totem_evs.specs.RunRecord.{RunRecord}
 use Rattle.totem_evs.specs.declared.fault.Fault.{Fault}
 use Rattle.totem_evs.specs.declared.run.Run.{Run}
 use Rattle.totem_evs.specs.declared.run_fault.RunFault.TheVariants as run_faults
-use Rattle.totem_evs.specs.Runs.{IsRun}
+use Rattle.totem_evs.specs.Runs.{IsRunOf}
 use Rattle.totem_evs.specs.RunText.{run_text}
 use Rattle.totem_evs.specs.Missing.{EachHasLog, all_members}
 use Rattle.totem_evs.specs.Reading.{ReadsRun, FitsRun}
-use Rattle.totem_evs.specs.Certificates.{Numbering, Certified}
+use Rattle.totem_evs.specs.Certificates.{Certified}
 use Rattle.totem_cert.specs.declared.certificate.Certificate.{Certificate}
 use Rattle.totem_cert.specs.declared.cert_fault.CertFault.{CertFault}
 use Rattle.totem_cert.specs.declared.cert_fault.CertFault.TheVariants as cert_faults
-use Rattle.totem_cert.specs.Keeping.{IsCertificate}
+use Rattle.totem_cert.specs.CertRecord.{CertRecord}
+use Rattle.totem_cert.specs.Keeping.{IsCertificateOf}
 use Rattle.totem_cert.specs.CertText.{cert_text}
 use Rattle.totem_cert.specs.Reading.{ReadsCert, IsRead}
 use Rattle.totem_check.specs.declared.accepted.Accepted.{Accepted}
@@ -31,10 +32,10 @@ use Rattle.totem_cluster.specs.declared.io_fault.IoFault.TheVariants as faults
 -- ---- the certificate, to the end of the input
 
 -- all that was left is the text of a certificate, and nothing is left now
-pub record IsLast (old new : Seen) (lines : List Numbering) : Type 0 where
-  pub certificate : IsCertificate lines
-  pub text : IfSome old.remaining (λ bytes. bytes ≡ cert_text lines)
-  pub taken : Consumes old.remaining new.remaining (cert_text lines)
+pub record IsLast (old new : Seen) (cert : CertRecord) : Type 0 where
+  pub is : IsCertificateOf cert
+  pub text : IfSome old.remaining (λ bytes. bytes ≡ cert_text cert)
+  pub taken : Consumes old.remaining new.remaining (cert_text cert)
   pub failures : new.failures ≡ old.failures
 
 -- what comes in place of the end: a byte, which was taken, or a failure of the source
@@ -45,7 +46,7 @@ EndsNot old new fault = ⊥
 
 -- reading the certificate answers this fault, or it was read and this is what comes in place of the end
 abbrev pub IsUnreadable : Seen → Seen → CertFault → Type 0
-IsUnreadable old new fault = ReadsCert old new (Err fault) ⊎ ((between : Seen) × (lines : List Numbering) × IsRead old between lines × EndsNot between new fault)
+IsUnreadable old new fault = ReadsCert old new (Err fault) ⊎ ((between : Seen) × (cert : CertRecord) × IsRead old between cert × EndsNot between new fault)
 
 -- what reading the last certificate answers
 abbrev pub ReadsLast : Seen → Seen → Result Certificate CertFault → Type 0
@@ -56,12 +57,12 @@ ReadsLast old new (Err fault) = IsUnreadable old new fault
 
 -- all that was left is the text of a run in which each member has a log and then that of a certificate, and nothing is
 -- left now
-pub record IsWholePair (old new : Seen) (logs : List Log) (lines : List Numbering) : Type 0 where
-  pub run : IsRun logs
-  pub logged : EachHasLog logs (all_members logs)
-  pub certificate : IsCertificate lines
-  pub text : IfSome old.remaining (λ bytes. bytes ≡ run_text logs ++ cert_text lines)
-  pub taken : Consumes old.remaining new.remaining (run_text logs ++ cert_text lines)
+pub record IsWholePair (old new : Seen) (run : RunRecord) (cert : CertRecord) : Type 0 where
+  pub is : IsRunOf run
+  pub logged : EachHasLog run.logs (all_members run.logs)
+  pub certificate : IsCertificateOf cert
+  pub text : IfSome old.remaining (λ bytes. bytes ≡ run_text run ++ cert_text cert)
+  pub taken : Consumes old.remaining new.remaining (run_text run ++ cert_text cert)
   pub failures : new.failures ≡ old.failures
 
 -- a run was read, and behind it no certificate
@@ -70,17 +71,17 @@ LacksCertificate old new fault = (between : Seen) × (run : Run) × FitsRun old 
 
 -- the outcome, with its report: accepted, with what is pending and who waits, or the first fault that the audit of the
 -- run lists
-abbrev pub IsReported : List Log → List Numbering → Held → Held → Outcome → Type 0
-IsReported logs lines was is outcomes.Yes = IsAcceptable logs lines × ((accepted : Accepted) × ListsOpen logs accepted × Wrote was is (accepted_text accepted.pending.items accepted.waiting.items))
-IsReported logs lines was is outcomes.No = Certified logs lines × ((fault : Fault) × IsFirstFault logs fault × Wrote was is (no_text (fault ∷ [])))
-IsReported logs lines was is outcomes.Made = ⊥
+abbrev pub IsReported : RunRecord → CertRecord → Held → Held → Outcome → Type 0
+IsReported run cert was is outcomes.Yes = IsAcceptable run.logs cert.lines × ((accepted : Accepted) × ListsOpen run.logs accepted × Wrote was is (accepted_text run.version accepted.pending.items accepted.waiting.items))
+IsReported run cert was is outcomes.No = Certified run.logs cert.lines × ((fault : Fault) × IsFirstFault run.logs fault × Wrote was is (no_text run.version (fault ∷ [])))
+IsReported run cert was is outcomes.Made = ⊥
 
 -- a run and a certificate were read, and the checker's report of them was written and nothing else
 pub record IsChecked (old new : Seen) (was is : Held) (outcome : Outcome) : Type 0 where
-  pub logs : List Log
-  pub lines : List Numbering
-  pub whole : IsWholePair old new logs lines
-  pub report : IsReported logs lines was is outcome
+  pub run : RunRecord
+  pub cert : CertRecord
+  pub whole : IsWholePair old new run cert
+  pub report : IsReported run cert was is outcome
 
 -- the certificate does not certify the run
 abbrev pub IsOfCertificate : CheckFault → Type 0
@@ -90,10 +91,10 @@ IsOfCertificate fault = Unit {0}
 
 -- this is the first reason why the certificate does not certify the run
 pub record IsRefusedFor (old new : Seen) (fault : CheckFault) : Type 0 where
-  pub logs : List Log
-  pub lines : List Numbering
-  pub whole : IsWholePair old new logs lines
-  pub reason : Checks logs lines (Err fault)
+  pub run : RunRecord
+  pub cert : CertRecord
+  pub whole : IsWholePair old new run cert
+  pub reason : Checks run.logs cert.lines (Err fault)
   pub of_certificate : IsOfCertificate fault
 
 -- the report was written; or nothing was: the input was refused or failed, or memory was refused; or the sink failed
@@ -106,4 +107,4 @@ ChecksText old new was is (Err (faults.Refused fault)) = (is ≡ was) × IsRefus
 ChecksText old new was is (Err (faults.Script fault)) = ⊥
 ChecksText old new was is (Err (faults.Book trouble)) = ⊥
 ChecksText old new was is (Err faults.Memory) = (is ≡ was) × (new.failures ≡ old.failures)
-ChecksText old new was is (Err faults.Write) = (is.failures ≡ (was.failures + 1) % 2 ^ 64) × ((logs : List Log) × (lines : List Numbering) × IsWholePair old new logs lines)
+ChecksText old new was is (Err faults.Write) = (is.failures ≡ (was.failures + 1) % 2 ^ 64) × ((run : RunRecord) × (cert : CertRecord) × IsWholePair old new run cert)

@@ -2,7 +2,7 @@
 use Rattle.std.specs.Prelude.{List, [], ℕ, Result, Ok, Err}
 use Rattle.totem_ids.specs.Sources.{Seen}
 use Rattle.totem_ids.specs.Writing.{Held, Wrote}
-use Rattle.totem_evs.specs.declared.log.Log.{Log}
+use Rattle.totem_evs.specs.RunRecord.{RunRecord}
 use Rattle.totem_evs.specs.declared.writing.WriteFault.{WriteFault}
 use Rattle.totem_evs.specs.WriteRun.{WritesText}
 use Rattle.totem_evs.specs.Answers.{Answer, IsAnswered}
@@ -18,11 +18,11 @@ WritesDrawn was is (Err e) = WritesText {A = Unit {0}} was is (Err e) []
 
 -- a whole run was read, and a text was written and nothing else; the outcome is that of the run's answer
 pub record IsDrawn (old new : Seen) (was is : Held) (outcome : Outcome) : Type 0 where
-  pub logs : List Log
-  pub whole : IsWhole old new logs
+  pub run : RunRecord
+  pub whole : IsWhole old new run
   pub answer : Answer
-  pub written : IsAnswered logs answer
-  pub sound : IsSound logs answer
+  pub written : IsAnswered run.logs answer
+  pub sound : IsSound run.logs answer
   pub drawn : WritesDrawn {A = Unit {0}} was is (Ok tt)
   pub says : Says answer outcome
 

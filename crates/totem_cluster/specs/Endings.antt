@@ -3,6 +3,7 @@ use Rattle.std.specs.Prelude.{◌≡◌, ◌⊎◌, ℕ, ◌+◌, ◌%◌, ◌^�
 use Rattle.std.specs.declared.option.Option.{Option}
 use Rattle.clap.specs.declared.error.kind.ErrorKind.{ErrorKind}
 use Rattle.clap.specs.declared.error.kind.ErrorKind.TheVariants as kinds
+use Rattle.totem_ids.specs.Processes.{process_text}
 use Rattle.totem_ids.specs.Sources.{Seen}
 use Rattle.totem_ids.specs.Writing.{Held, Wrote}
 use Rattle.totem_evs.specs.declared.run_fault.RunFault.{RunFault}
@@ -52,13 +53,13 @@ abbrev pub refusal_text : List ℕ → ℕ → List ℕ → List ℕ
 refusal_text front number name = front ++ decimal number ++ codes " " ++ name
 
 -- the process of a run's fault, where it has one
-abbrev pub process_text : RunFault → List ℕ
-process_text (run_faults.MissingLog p) = codes " " ++ decimal p
-process_text fault = []
+abbrev pub missing_text : RunFault → List ℕ
+missing_text (run_faults.MissingLog p) = codes " " ++ process_text p.version p.process
+missing_text fault = []
 
 abbrev pub run_line : RunFault → List ℕ
 run_line run_faults.Read = line (codes "totem: read failed")
-run_line fault = line (refusal_text (codes "totem: run refused: ") (fault_number fault) (fault_name fault) ++ process_text fault)
+run_line fault = line (refusal_text (codes "totem: run refused: ") (fault_number fault) (fault_name fault) ++ missing_text fault)
 
 abbrev pub cert_line : CertFault → List ℕ
 cert_line cert_faults.Read = line (codes "totem: read failed")

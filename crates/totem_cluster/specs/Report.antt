@@ -1,6 +1,8 @@
--- The text of a report (docs/SPECIFICATIONS.md, "Report text").
+-- The text of a report on a run of some version (docs/SPECIFICATIONS.md, "Report text").
 use Rattle.std.specs.Prelude.{ℕ, List, ◌++◌, codes}
 use Rattle.std.specs.List.{flat_map}
+use Rattle.totem_ids.specs.declared.version.Version.{Version}
+use Rattle.totem_ids.specs.Processes.{process_text}
 use Rattle.totem_evs.specs.declared.fault.Fault.{Fault}
 use Rattle.totem_evs.specs.declared.pending.Pending.{Pending}
 use Rattle.totem_evs.specs.declared.pending.Waiting.{Waiting}
@@ -10,18 +12,26 @@ use Rattle.totem_evs.specs.Answers.{Answer, Yes, No}
 use Rattle.totem_cert.specs.CertText.{cert_text}
 
 -- a no: a line for each fault
-abbrev pub no_text : List Fault → List ℕ
-no_text faults = line (codes "verdict no") ++ flat_map (λ fault. line (fault_text fault)) faults ++ line (codes "end")
+abbrev pub no_text : Version → List Fault → List ℕ
+no_text version faults = line (codes "verdict no") ++ flat_map (λ fault. line (fault_text (process_text version) fault)) faults ++ line (codes "end")
+
+-- the line of a process that may still deliver a message
+unfoldable pub pending_line : Version → Pending → List ℕ
+pending_line version p = line (pending_text (process_text version) p)
+
+-- the line of a process that waits for another
+unfoldable pub waiting_line : Version → Waiting → List ℕ
+waiting_line version w = line (waiting_text (process_text version) w)
 
 -- a yes: a line for all that is pending, and for each who waits
-abbrev pub yes_text : List Pending → List Waiting → List ℕ
-yes_text pending waiting = line (codes "verdict yes") ++ flat_map (λ p. line (pending_text p)) pending ++ flat_map (λ w. line (waiting_text w)) waiting
+abbrev pub yes_text : Version → List Pending → List Waiting → List ℕ
+yes_text version pending waiting = line (codes "verdict yes") ++ flat_map (pending_line version) pending ++ flat_map (waiting_line version) waiting
 
 -- the report of an audit: a yes is followed by the certificate
-abbrev pub report_text : Answer → List ℕ
-report_text (Yes lines pending waiting) = yes_text pending waiting ++ cert_text lines
-report_text (No faults) = no_text faults
+abbrev pub report_text : Version → Answer → List ℕ
+report_text version (Yes lines pending waiting) = yes_text version pending waiting ++ cert_text (record { version = version; lines = lines })
+report_text version (No faults) = no_text version faults
 
 -- the checker's yes
-abbrev pub accepted_text : List Pending → List Waiting → List ℕ
-accepted_text pending waiting = yes_text pending waiting ++ line (codes "end")
+abbrev pub accepted_text : Version → List Pending → List Waiting → List ℕ
+accepted_text version pending waiting = yes_text version pending waiting ++ line (codes "end")

@@ -91,7 +91,7 @@ pub record IsSimulated (old new : Seen) (was is : Held) : Type 0 where
   pub made : simulate read ≡ Ok run
   -- where the bytes are known, the run is that of all of them
   pub of_all : IfSome old.remaining (λ bytes. simulate bytes ≡ Ok run)
-  pub written : Wrote was is (run_text run.logs)
+  pub written : Wrote was is (run_text run)
 
 -- a script was read, and makes no run
 pub record IsNoScript (old new : Seen) (fault : ScriptFault) : Type 0 where

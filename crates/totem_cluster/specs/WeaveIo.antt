@@ -2,7 +2,8 @@
 use Rattle.std.specs.Prelude.{◌≡◌, ℕ, ◌+◌, ◌%◌, ◌^◌, List, ◌++◌, length, slice_get, Some, codes, decimal, Result, Ok, Err}
 use Rattle.std.specs.List.{flat_map}
 use Rattle.totem_ids.specs.Names.{PlaceName}
-use Rattle.totem_ids.specs.Texts.{message_text, place_text}
+use Rattle.totem_ids.specs.Processes.{place_text}
+use Rattle.totem_ids.specs.Texts.{message_text}
 use Rattle.totem_ids.specs.Writing.{Held, Wrote}
 use Rattle.totem_packets.specs.declared.message.Message.{Message}
 use Rattle.totem_evs.specs.LogRecord.{LogRecord}

@@ -4,7 +4,7 @@ ghost use Rattle.totem_ids.specs.Sources.{seen};
 ghost use Rattle.totem_ids.specs.Writing.{held};
 ghost use Rattle.totem_evs.specs.Answers.{IsAnswered};
 ghost use Rattle.totem_evs.specs.Meanings.{IsSound};
-ghost use Rattle.totem_audit.specs.Verdicts.{answer_of};
+ghost use Rattle.totem_audit.specs.Verdicts.{answer_of, HasVersion};
 ghost use Rattle.totem_cluster.specs.AuditIo.{Audits, ReadsWhole, Says};
 
 use crate::io_fault::IoFault;
@@ -45,6 +45,7 @@ pub(crate) fn judge<T: Threads + Wait + Sync>(
 ) -> Result<Verdict, AllocError>
     ensures answer { IfOk result (λ verdict. IsAnswered run.now.logs (answer_of verdict)) }
     ensures sound { IfOk result (λ verdict. IsSound run.now.logs (answer_of verdict)) }
+    ensures version { IfOk result (λ verdict. HasVersion run.now.version verdict) }
 {
     if workers.count() == 1 {
         return audit(alloc, run);
@@ -68,6 +69,6 @@ pub fn audit_io<T: Threads + Wait + Sync, R: Source, W: Sink>(
     let Ok(verdict) = judge(rt, alloc, &run, workers) else {
         return Err(IoFault::Memory);
     };
-    write_report(alloc, &verdict, output)?;
+    write_report(alloc, run.version, &verdict, output)?;
     Ok(outcome(&verdict))
 }

@@ -39,11 +39,11 @@ pub fn check_io<R: Source, W: Sink>(
     let certificate = read_last(alloc, input)?;
     match check(alloc, &run, &certificate) {
         Ok(accepted) => {
-            write_accepted(alloc, &accepted, output)?;
+            write_accepted(alloc, run.version, &accepted, output)?;
             Ok(Outcome::Yes)
         }
         Err(CheckFault::Broken(fault)) => {
-            write_no(alloc, &[fault], output)?;
+            write_no(alloc, run.version, &[fault], output)?;
             Ok(Outcome::No)
         }
         Err(CheckFault::Memory) => Err(IoFault::Memory),

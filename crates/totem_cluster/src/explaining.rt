@@ -17,15 +17,20 @@ use std::thread::Threads;
 use totem_audit::{Verdict, Workers};
 use totem_evs::{Run, WriteFault};
 use totem_explain::{Explained, ExplainedNo, explain_no, explain_yes};
-use totem_ids::{Failed, Pieces, Sink, Source};
+use totem_ids::{Failed, Pieces, Sink, Source, Version};
 
 #[tactic(auto, using(totem_ids::proofs::Writers::wrote_then, totem_ids::proofs::Writers::wrote_failed))]
-fn put_explained<S: Sink>(pieces: &mut Pieces, sink: &mut S, one: &Explained) -> Result<(), Failed>
+fn put_explained<S: Sink>(
+    pieces: &mut Pieces,
+    sink: &mut S,
+    version: Version,
+    one: &Explained,
+) -> Result<(), Failed>
     ensures { Writes (held S.contents S.failures pieces.old sink.old)
-        (held S.contents S.failures pieces.new sink.new) result (explained_text one.now) }
+        (held S.contents S.failures pieces.new sink.new) result (explained_text version one.now) }
 {
     pieces.put(sink, b"\n")?;
-    put_fault(pieces, sink, &one.fault)?;
+    put_fault(pieces, sink, version, &one.fault)?;
     pieces.put(sink, b"\n")?;
     pieces.put(sink, one.text.as_bytes())
 }
@@ -33,35 +38,46 @@ fn put_explained<S: Sink>(pieces: &mut Pieces, sink: &mut S, one: &Explained) ->
 fn put_each_explained<S: Sink>(
     pieces: &mut Pieces,
     sink: &mut S,
+    version: Version,
     list: &[Explained],
 ) -> Result<(), Failed>
     ensures { Writes (held S.contents S.failures pieces.old sink.old)
-        (held S.contents S.failures pieces.new sink.new) result (flat_map explained_text list.now) }
+        (held S.contents S.failures pieces.new sink.new) result (flat_map (explained_text version) list.now) }
 {
     for one in list {
-        put_explained(pieces, sink, one)?;
+        put_explained(pieces, sink, version, one)?;
     }
     Ok(())
 }
 
 #[tactic(auto, using(totem_ids::proofs::Writers::wrote_then, totem_ids::proofs::Writers::wrote_failed))]
-fn put_no<S: Sink>(pieces: &mut Pieces, sink: &mut S, words: &ExplainedNo) -> Result<(), Failed>
+fn put_no<S: Sink>(
+    pieces: &mut Pieces,
+    sink: &mut S,
+    version: Version,
+    words: &ExplainedNo,
+) -> Result<(), Failed>
     ensures { Writes (held S.contents S.failures pieces.old sink.old)
-        (held S.contents S.failures pieces.new sink.new) result (explained_no_text words.now) }
+        (held S.contents S.failures pieces.new sink.new) result (explained_no_text version words.now) }
 {
     pieces.put(sink, words.heading.as_bytes())?;
-    put_each_explained(pieces, sink, &words.faults)
+    put_each_explained(pieces, sink, version, &words.faults)
 }
 
 /// Writes a no in words.
-fn write_no<S: Sink>(alloc: Global, words: &ExplainedNo, sink: &mut S) -> Result<(), WriteFault>
+fn write_no<S: Sink>(
+    alloc: Global,
+    version: Version,
+    words: &ExplainedNo,
+    sink: &mut S,
+) -> Result<(), WriteFault>
     ensures { WritesText (held S.contents S.failures [] sink.old)
-        (held S.contents S.failures [] sink.new) result (explained_no_text words.now) }
+        (held S.contents S.failures [] sink.new) result (explained_no_text version words.now) }
 {
     let Ok(mut pieces) = Pieces::new(alloc) else {
         return Err(WriteFault::Memory);
     };
-    if put_no(&mut pieces, sink, words).is_err() || pieces.flush(sink).is_err() {
+    if put_no(&mut pieces, sink, version, words).is_err() || pieces.flush(sink).is_err() {
         return Err(WriteFault::Write);
     }
     Ok(())
@@ -74,7 +90,7 @@ fn write_told<S: Sink>(
     verdict: &Verdict,
     sink: &mut S,
 ) -> Result<(), WriteFault>
-    ensures { WritesTold (held S.contents S.failures [] sink.old)
+    ensures { WritesTold run.now.version (held S.contents S.failures [] sink.old)
         (held S.contents S.failures [] sink.new) result (answer_of verdict.now) }
 {
     match verdict {
@@ -92,7 +108,7 @@ fn write_told<S: Sink>(
             let Ok(words) = explain_no(alloc, run, faults) else {
                 return Err(WriteFault::Memory);
             };
-            write_no(alloc, &words, sink)
+            write_no(alloc, run.version, &words, sink)
         }
     }
 }

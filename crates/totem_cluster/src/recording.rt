@@ -1,6 +1,7 @@
 //! Runs of nodes in threads.
 ghost use Rattle.std.specs.Prelude.{[], IfOk, IfErr};
 ghost use Rattle.totem_ids.specs.Writing.{held};
+ghost use Rattle.totem_evs.specs.Lives.{IsFirstVersion};
 ghost use Rattle.totem_threads.specs.Starts.{IsInRange};
 ghost use Rattle.totem_threads.specs.Books.{IsRunOf};
 ghost use Rattle.totem_cluster.specs.RunIo.{Records, IsOfThreads};
@@ -27,6 +28,7 @@ pub fn run_threads<S: Start, R: Threads + Wait + Sync>(
 ) -> Result<(Run, Vec<ClosedBook>), IoFault>
     requires { IsInRange plan }
     ensures run { IfOk result (λ made. IsRunOf plan.nodes made.1.items made.0.logs) }
+    ensures version { IfOk result (λ made. IsFirstVersion made.0.version made.0.logs) }
     ensures faults { IfErr result IsOfThreads }
 {
     run_watched(rt, alloc, plan, start, &mut Unwatched)
@@ -42,6 +44,7 @@ pub(crate) fn run_watched<S: Start, R: Threads + Wait + Sync, P: Progress>(
 ) -> Result<(Run, Vec<ClosedBook>), IoFault>
     requires { IsInRange plan }
     ensures run { IfOk result (λ made. IsRunOf plan.nodes made.1.items made.0.logs) }
+    ensures version { IfOk result (λ made. IsFirstVersion made.0.version made.0.logs) }
     ensures faults { IfErr result IsOfThreads }
 {
     Ok(run_nodes(rt, alloc, plan, start, progress)?)

@@ -1,13 +1,14 @@
 //! What the program tells on its stream of errors. Telling takes no memory, and passes over a failure of that stream.
 ghost use Rattle.std.specs.Prelude.{◌≡◌, ◌++◌, decimal};
+ghost use Rattle.totem_ids.specs.Processes.{process_text};
 ghost use Rattle.totem_ids.specs.Writing.{Writes};
 ghost use Rattle.totem_cluster.specs.declared.io_fault.IoFault.TheVariants.{Book};
-ghost use Rattle.totem_cluster.specs.Endings.{Tells, bare, refusal_text, process_text, run_line, cert_line, script_line, fault_line, script_status, fault_status};
+ghost use Rattle.totem_cluster.specs.Endings.{Tells, bare, refusal_text, missing_text, run_line, cert_line, script_line, fault_line, script_status, fault_status};
 
 use crate::io_fault::IoFault;
 use totem_cert::CertFault;
 use totem_evs::RunFault;
-use totem_ids::{Failed, Sink};
+use totem_ids::{Failed, Sink, WrittenProc};
 use totem_script::{ScriptFault, ScriptFaultKind};
 use totem_threads::BookTrouble;
 
@@ -42,13 +43,29 @@ fn put_refusal<E: Sink>(errors: &mut E, front: &str, number: u8, name: &str) -> 
     put_text(errors, name)
 }
 
-/// Writes the end of the line of a run's fault: its process, if it names one.
-fn put_process<E: Sink>(errors: &mut E, fault: &RunFault) -> Result<(), Failed>
-    ensures { Writes (bare E.contents E.failures errors.old) (bare E.contents E.failures errors.new) result (process_text fault.now) }
+/// Writes a process as the texts do in which it is named.
+#[tactic(auto, using(totem_ids::proofs::Writers::wrote_then, totem_ids::proofs::Writers::wrote_failed))]
+fn put_process<E: Sink>(errors: &mut E, proc: WrittenProc) -> Result<(), Failed>
+    ensures { Writes (bare E.contents E.failures errors.old) (bare E.contents E.failures errors.new)
+        result (process_text proc.version proc.process) }
+{
+    let process = proc.process;
+    if !proc.version.lives() {
+        return put_number(errors, process.id().number());
+    }
+    put_number(errors, process.id().number())?;
+    put_text(errors, ":")?;
+    put_number(errors, process.life())
+}
+
+/// Writes the end of the line of a run's fault: the process that has no log, if it is that.
+#[tactic(auto, using(totem_ids::proofs::Writers::wrote_then, totem_ids::proofs::Writers::wrote_failed))]
+fn put_missing<E: Sink>(errors: &mut E, fault: &RunFault) -> Result<(), Failed>
+    ensures { Writes (bare E.contents E.failures errors.old) (bare E.contents E.failures errors.new) result (missing_text fault.now) }
 {
     if let RunFault::MissingLog(proc) = fault {
         put_text(errors, " ")?;
-        put_number(errors, proc.number())?;
+        return put_process(errors, *proc);
     }
     Ok(())
 }
@@ -60,7 +77,7 @@ fn put_run_fault<E: Sink>(errors: &mut E, fault: &RunFault) -> Result<(), Failed
         return put_text(errors, "totem: read failed\n");
     }
     put_refusal(errors, "totem: run refused: ", fault.number(), fault.name())?;
-    put_process(errors, fault)?;
+    put_missing(errors, fault)?;
     put_text(errors, "\n")
 }
 

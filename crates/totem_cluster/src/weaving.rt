@@ -8,7 +8,6 @@ ghost use Rattle.totem_threads.specs.Starts.{IsInRange};
 ghost use Rattle.totem_cluster.specs.WeaveIo.{names_text, handed_text, steps_text, woven_text, orphan_text, weave_status, TellsRefusal, WeavesBooks, WeavesRun};
 
 use crate::io_fault::IoFault;
-use crate::left_open::put_proc;
 use crate::outcome::Outcome;
 use crate::recording::run_watched;
 use std::alloc::Global;
@@ -50,6 +49,13 @@ fn put_count<S: Sink>(pieces: &mut Pieces, sink: &mut S, count: usize) -> Result
 {
     let mut digits = itoa::Buffer::new();
     pieces.put(sink, digits.format(count).as_bytes())
+}
+
+fn put_proc<S: Sink>(pieces: &mut Pieces, sink: &mut S, proc: ProcId) -> Result<(), Failed>
+    ensures { Writes (held S.contents S.failures pieces.old sink.old)
+        (held S.contents S.failures pieces.new sink.new) result (decimal proc) }
+{
+    pieces.put_number(sink, u32::from(proc.number()))
 }
 
 fn put_names<S: Sink>(pieces: &mut Pieces, sink: &mut S, messages: &[Message]) -> Result<(), Failed>
@@ -124,7 +130,7 @@ fn put_orphan<S: Sink>(pieces: &mut Pieces, sink: &mut S, place: Place) -> Resul
         (held S.contents S.failures pieces.new sink.new) result (orphan_text place) }
 {
     pieces.put(sink, b"orphan ")?;
-    pieces.put_place(sink, place)?;
+    pieces.put_place(sink, place.proc.first_version(), place)?;
     pieces.put(sink, b"\nend\n")
 }
 

@@ -144,7 +144,7 @@ fn a_failure_of_the_errors_is_passed_over(rt: HostRuntime) -> Result<(), Fail> {
     let alloc = rt.alloc();
     for (asked, status) in [("audit", 2u8), ("adit", 64u8)] {
         let words = words(alloc, asked)?;
-        let mut input = FromRead::new(b"totem-run 2".as_slice());
+        let mut input = FromRead::new(b"totem-run 3".as_slice());
         let mut output = ToWrite::new(Vec::new(alloc));
         let mut errors = Fused::new(ToWrite::new(Vec::new(alloc)), 0);
         let found = program(

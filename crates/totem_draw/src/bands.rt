@@ -4,7 +4,7 @@ use crate::shapes::{Point, push_band, push_label, push_words};
 use std::alloc::{AllocError, Global};
 use totem_evs::Ending;
 use totem_explain::Lane;
-use totem_ids::ConfId;
+use totem_ids::{ConfId, Version};
 
 /// A stretch of a lane in one configuration.
 #[derive(Clone, Copy)]
@@ -91,12 +91,13 @@ fn ending(lane: &Lane) -> &'static str {
 fn push_lane(
     alloc: Global,
     text: &mut String,
+    version: Version,
     frame: &Frame,
     y: u32,
     lane: &Lane,
     known: &mut Vec<ConfId>,
 ) -> Result<(), AllocError> {
-    let proc = lane.proc;
+    let proc = lane.proc.written(version);
     let name = format!(in alloc; "process {proc}")?;
     push_words(text, Point { x: 16, y }, name.as_str())?;
     let below = y.saturating_add(14);
@@ -111,13 +112,22 @@ fn push_lane(
 pub fn push_bands(
     alloc: Global,
     text: &mut String,
+    version: Version,
     frame: &Frame,
     lanes: &[Lane],
 ) -> Result<(), AllocError> {
     let mut known = Vec::new(alloc);
     let mut number = 0u32;
     for lane in lanes {
-        push_lane(alloc, text, frame, frame.y(number), lane, &mut known)?;
+        push_lane(
+            alloc,
+            text,
+            version,
+            frame,
+            frame.y(number),
+            lane,
+            &mut known,
+        )?;
         number = number.saturating_add(1);
     }
     Ok(())

@@ -4,7 +4,7 @@ use crate::marks::{number_of, told};
 use crate::shapes::{Point, push_bar, push_cross, push_dot, push_label, push_mark, push_ring};
 use crate::subject::Subject;
 use std::alloc::{AllocError, Global};
-use totem_explain::{Lane, Spot, What};
+use totem_explain::{Lane, Spot, What, place_name};
 use totem_ids::{MsgId, Place};
 
 /// Adds the message's name below its event.
@@ -67,8 +67,10 @@ fn push_spot(
     if let What::LeftOut(_) = spot.what {
         return push_shape(alloc, text, at, spot.what);
     }
-    let event = told(alloc, subject.run, place)?;
-    write!(text, "<g><title>{place}: {event}</title>\n")?;
+    let run = subject.run;
+    let event = told(alloc, run, place)?;
+    let name = place_name(alloc, run.version, place)?;
+    write!(text, "<g><title>{name}: {event}</title>\n")?;
     push_shape(alloc, text, at, spot.what)?;
     if let Some(number) = number_of(subject.marked, place) {
         push_mark(text, at, number)?;

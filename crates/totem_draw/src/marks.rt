@@ -1,7 +1,7 @@
 //! The places that a picture marks, and what it says of them.
 use std::alloc::{AllocError, Global};
 use totem_evs::Run;
-use totem_explain::{entry_at, event_of};
+use totem_explain::{entry_at, event_of, place_name};
 use totem_ids::Place;
 
 /// How many places are told of in words.
@@ -16,7 +16,7 @@ pub fn number_of(places: &[Place], place: Place) -> Option<usize> {
 /// Returns what happened at a place.
 pub fn told(alloc: Global, run: &Run, place: Place) -> Result<String, AllocError> {
     match entry_at(run, place) {
-        Some(entry) => event_of(alloc, place.proc, entry),
+        Some(entry) => event_of(alloc, run.version, place.proc, entry),
         None => String::from_str(alloc, "no entry of this run"),
     }
 }
@@ -28,6 +28,7 @@ pub fn lines_of(alloc: Global, run: &Run, places: &[Place]) -> Result<Vec<String
     for place in places.iter().take(TOLD) {
         number = number.saturating_add(1);
         let event = told(alloc, run, *place)?;
+        let place = place_name(alloc, run.version, *place)?;
         lines.push(format!(in alloc; "{number}: {place}, {event}")?)?;
     }
     let more = places.len().saturating_sub(TOLD);

@@ -35,7 +35,8 @@ fn push_lanes(
     lanes: &[Lane],
     subject: &Subject<'_>,
 ) -> Result<(), AllocError> {
-    push_bands(alloc, text, frame, lanes)?;
+    let run = subject.run;
+    push_bands(alloc, text, run.version, frame, lanes)?;
     push_lines(text, frame, lanes)?;
     push_pending(text, frame, lanes, subject.pending)?;
     push_events(alloc, text, frame, lanes, subject)

@@ -9,7 +9,7 @@ use Rattle.totem_evs.specs.Steps.{Strict, Precedes, here, strict}
 use Rattle.totem_evs.specs.Events.{ChangesTo, Delivers, log_of}
 use Rattle.totem_evs.specs.Following.{Follows, DeliversIn, HasDelivered}
 use Rattle.totem_evs.specs.Delivery.{WasSentFor}
-use Rattle.totem_evs.specs.Examples.{ring, ring_of_3, regular, transitional, first, second, alone, pair, all_three, lone_3}
+use Rattle.totem_evs.specs.Examples.{ring, ring_of_3, regular, transitional, first, second, alone, pair, all_three, lone_3, first_life}
 use Rattle.totem_evs.specs.Examples as runs
 use Rattle.totem_evs.specs.ExampleClaims.{place}
 use Rattle.totem_evs.specs.ExampleClaims as claim
@@ -31,7 +31,7 @@ NoSend p i (Send m x service) = ⊥
 NoSend p i (Deliver m x) = Unit {0}
 NoSend p i (Fail x) = Unit {0}
 
-never_sent : WasSentFor runs.delivered_never_sent 2 first (regular 4) → ⊥
+never_sent : WasSentFor runs.delivered_never_sent (first_life 2) first (regular 4) → ⊥
 never_sent (c, (p, i, (service, at)), stays) =
     in_run NoSend runs.delivered_never_sent ((tt, tt), ((tt, (tt, tt)), tt)) p i (Send first (Regular c) service) at
 
@@ -52,7 +52,7 @@ LaterAt i (Send m x service) = Unit {0}
 LaterAt i (Deliver m x) = Unit {0}
 LaterAt i (Fail x) = Unit {0}
 
-later_at : InLog LaterAt 0 (log_of runs.delivered_two_rings_later 1)
+later_at : InLog LaterAt 0 (log_of runs.delivered_two_rings_later (first_life 1))
 later_at = (
   ((λ e. refl), (λ e. absurd (other_conf (regular 4) (transitional 12) (λ n. omega arith) e))),
   (
@@ -71,16 +71,16 @@ sent_on_ring_4 : InRun SentOnRing4 runs.delivered_two_rings_later
 sent_on_ring_4 =
     ((tt, (tt, (tt, (tt, (tt, (tt, tt)))))), ((tt, (tt, (tt, (tt, (tt, (tt, tt)))))), ((tt, (refl, (tt, tt))), tt)))
 
-follows_later : Follows (log_of runs.delivered_two_rings_later 1) (ring 4) (transitional 12) → ⊥
+follows_later : Follows (log_of runs.delivered_two_rings_later (first_life 1)) (ring 4) (transitional 12) → ⊥
 follows_later f =
-    let log : List Entry = log_of runs.delivered_two_rings_later 1 in
+    let log : List Entry = log_of runs.delivered_two_rings_later (first_life 1) in
     let from_is : (regular 4) ≡ regular 4 → f.from ≡ 0 = (in_log LaterAt log later_at f.from (Conf (regular 4) f.first.change.0) f.first.change.1).0 in
     let to_is : transitional 12 ≡ transitional 12 → f.to ≡ 3 = (in_log LaterAt log later_at f.to (Conf (transitional 12) f.change.0) f.change.1).1 in
     let at_from : f.from ≡ 0 = from_is refl in
     let at_to : f.to ≡ 3 = to_is refl in
     f.next.none_between 1 (omega arith) (omega arith) (transitional 8, (pair, refl))
 
-sent_for : WasSentFor runs.delivered_two_rings_later 1 first (transitional 12) → ⊥
+sent_for : WasSentFor runs.delivered_two_rings_later (first_life 1) first (transitional 12) → ⊥
 sent_for (c, (p, i, (service, at)), inl same) = cc
 sent_for (c, (p, i, (service, at)), inr follows) =
     let same : Regular c ≡ regular 4 = in_run SentOnRing4 runs.delivered_two_rings_later sent_on_ring_4 p i (Send first (Regular c) service) at in
@@ -129,7 +129,7 @@ sender_moved_on = (
     (
       first,
       (Agreed, refl),
-      moved_on (log_of runs.sender_moved_on 1) 3 (ring 8) (ring 4) alone first refl (omega arith, (tt, (omega arith, (omega arith, tt)))) (other_ring (ring 4) (ring 8) (λ e. omega arith)),
+      moved_on (log_of runs.sender_moved_on (first_life 1)) 3 (ring 8) (ring 4) alone first refl (omega arith, (tt, (omega arith, (omega arith, tt)))) (other_ring (ring 4) (ring 8) (λ e. omega arith)),
     ),
   ),
 )
@@ -141,8 +141,8 @@ NoDelivery i (Send m x service) = Unit {0}
 NoDelivery i (Deliver m x) = ⊥
 NoDelivery i (Fail x) = Unit {0}
 
-no_delivery : (l : ℕ) → Delivers (log_of runs.went_on_together 2) l first (regular 4) → ⊥
-no_delivery l at = in_log NoDelivery (log_of runs.went_on_together 2) (tt, (tt, (tt, tt))) l (Deliver first (regular 4)) at
+no_delivery : (l : ℕ) → Delivers (log_of runs.went_on_together (first_life 2)) l first (regular 4) → ⊥
+no_delivery l at = in_log NoDelivery (log_of runs.went_on_together (first_life 2)) (tt, (tt, (tt, tt))) l (Deliver first (regular 4)) at
 
 pub went_on_together : claim.WentOnTogether
 went_on_together = (
@@ -168,7 +168,7 @@ went_on_together = (
               record {
                 change = (transitional 8, (pair, refl));
                 later = lit< tt;
-                none_between = none_between (log_of runs.went_on_together 1) 0 3 ((λ above below. omega arith), (tt, (tt, ((λ above below. omega arith), ((λ above below. omega arith), tt)))));
+                none_between = none_between (log_of runs.went_on_together (first_life 1)) 0 3 ((λ above below. omega arith), (tt, (tt, ((λ above below. omega arith), ((λ above below. omega arith), tt)))));
               },
               (pair, refl),
             ),
@@ -190,7 +190,7 @@ precedes = (
   strict (inl ((Deliver first (regular 4), refl), (Send second (regular 4) Agreed, refl), (refl, lit< tt))) here,
 )
 
-never : (i : ℕ) → i < 1 → DeliversIn (log_of runs.cause_never_delivered 3) (ring 4) first i → ⊥
+never : (i : ℕ) → i < 1 → DeliversIn (log_of runs.cause_never_delivered (first_life 3)) (ring 4) first i → ⊥
 never zero lt (d, at, stays) = cc
 never (suc i) lt h = omega arith
 
@@ -216,7 +216,7 @@ two_orders = (
   inl strict_step,
 )
 
-follows : Follows (log_of runs.gap_where_the_sender_stayed 1) (ring 4) (transitional 8)
+follows : Follows (log_of runs.gap_where_the_sender_stayed (first_life 1)) (ring 4) (transitional 8)
 follows = record {
   from = 0;
   to = 2;
@@ -224,7 +224,7 @@ follows = record {
   next = record {
     change = (transitional 8, (all_three, refl));
     later = lit< tt;
-    none_between = none_between (log_of runs.gap_where_the_sender_stayed 1) 0 2 ((λ above below. omega arith), (tt, ((λ above below. omega arith), (tt, ((λ above below. omega arith), tt)))));
+    none_between = none_between (log_of runs.gap_where_the_sender_stayed (first_life 1)) 0 2 ((λ above below. omega arith), (tt, ((λ above below. omega arith), (tt, ((λ above below. omega arith), tt)))));
   };
   change = (all_three, refl);
   transitional = tt;
@@ -237,10 +237,10 @@ OnlySecond i (Send m x service) = Unit {0}
 OnlySecond i (Deliver m x) = m ≡ second
 OnlySecond i (Fail x) = Unit {0}
 
-first_missing : HasDelivered (log_of runs.gap_where_the_sender_stayed 1) (ring 4) first → ⊥
+first_missing : HasDelivered (log_of runs.gap_where_the_sender_stayed (first_life 1)) (ring 4) first → ⊥
 first_missing (i, (d, at, stays)) =
     other_message first second (λ e. omega arith)
-    (in_log OnlySecond (log_of runs.gap_where_the_sender_stayed 1) (tt, (tt, (tt, (refl, (tt, tt))))) i (Deliver first d) at)
+    (in_log OnlySecond (log_of runs.gap_where_the_sender_stayed (first_life 1)) (tt, (tt, (tt, (refl, (tt, tt))))) i (Deliver first d) at)
 
 pub gap_where_the_sender_stayed : claim.GapWhereTheSenderStayed
 gap_where_the_sender_stayed = (
@@ -261,7 +261,7 @@ gap_where_the_sender_stayed = (
             second,
             transitional 8,
             (regular 4),
-            3,
+            first_life 3,
             1,
             (regular 4, refl, inl refl),
             (regular 4, refl, inl refl),
@@ -269,7 +269,7 @@ gap_where_the_sender_stayed = (
             refl,
             inr follows,
             (Agreed, refl),
-            (1, 2, all_three, refl, search rules),
+            (first_life 1, 2, all_three, refl, search rules),
             first_missing,
           ),
         ),
@@ -287,12 +287,12 @@ safe_with_a_member_that_moved_on = (
     (
       first,
       (regular 4),
-      3,
-      (1, 1, regular 4, refl),
+      first_life 3,
+      (first_life 1, 1, regular 4, refl),
       refl,
       inl refl,
-      (1, 0, all_three, refl, search rules),
-      moved_on (log_of runs.safe_with_a_member_that_moved_on 3) 2 (ring_of_3 8) (ring 4) lone_3 first refl (omega arith, (omega arith, (omega arith, tt)))
+      (first_life 1, 0, all_three, refl, search rules),
+      moved_on (log_of runs.safe_with_a_member_that_moved_on (first_life 3)) 2 (ring_of_3 8) (ring 4) lone_3 first refl (omega arith, (omega arith, (omega arith, tt)))
           (other_ring (ring 4) (ring_of_3 8) (λ e. omega arith)),
     ),
   ),
@@ -307,12 +307,12 @@ safe_with_a_member_that_never_came = (
     (
       first,
       (regular 4),
-      3,
-      (1, 1, regular 4, refl),
+      first_life 3,
+      (first_life 1, 1, regular 4, refl),
       refl,
       inl refl,
-      (1, 0, all_three, refl, search rules),
-      moved_on (log_of runs.safe_with_a_member_that_never_came 3) 0 (ring_of_3 1) (ring 4) lone_3 first refl (omega arith, tt)
+      (first_life 1, 0, all_three, refl, search rules),
+      moved_on (log_of runs.safe_with_a_member_that_never_came (first_life 3)) 0 (ring_of_3 1) (ring 4) lone_3 first refl (omega arith, tt)
           (other_ring (ring 4) (ring_of_3 1) (λ e. omega arith)),
     ),
   ),
@@ -325,10 +325,10 @@ Elsewhere i (Send m x service) = Unit {0}
 Elsewhere i (Deliver m x) = Unit {0}
 Elsewhere i (Fail x) = Unit {0}
 
-never_installed : (j : ℕ) → ChangesTo (log_of runs.safe_with_a_member_that_never_came 3) j (regular 4) → ⊥
+never_installed : (j : ℕ) → ChangesTo (log_of runs.safe_with_a_member_that_never_came (first_life 3)) j (regular 4) → ⊥
 never_installed j (members, at) =
-    let same : (regular 4) ≡ Regular (ring_of_3 1) = in_log Elsewhere (log_of runs.safe_with_a_member_that_never_came 3) (refl, tt) j (Conf (regular 4) members) at in
+    let same : (regular 4) ≡ Regular (ring_of_3 1) = in_log Elsewhere (log_of runs.safe_with_a_member_that_never_came (first_life 3)) (refl, tt) j (Conf (regular 4) members) at in
     other_conf (regular 4) (Regular (ring_of_3 1)) (λ e. omega arith) same
 
 pub safe_where_a_member_never_came : claim.SafeWhereAMemberNeverCame
-safe_where_a_member_never_came = (2, refl, (ring 4, (first, 3, (1, 1, regular 4, refl), refl, (1, 0, all_three, refl, search rules), never_installed)))
+safe_where_a_member_never_came = (2, refl, (ring 4, (first, first_life 3, (first_life 1, 1, regular 4, refl), refl, (first_life 1, 0, all_three, refl, search rules), never_installed)))

@@ -1,4 +1,5 @@
 -- The certificate of the small run that is virtually synchronous.
+use Rattle.totem_ids.specs.Ranks.{id_of}
 use Rattle.std.proofs.Common.{◌≡◌, ℕ, zero, suc, ◌+◌, ◌<◌, ◌⊎◌, inl, inr, List, [], ◌∷◌, slice_get, Some, refl, sym, ◌∙◌, ap, lit<, arith}
 use Rattle.std.specs.Prelude.{All, Contains}
 use Rattle.totem_ids.specs.declared.conf.ConfId.{ConfId}
@@ -12,9 +13,9 @@ use Rattle.totem_evs.specs.declared.log.Log.{Log}
 use Rattle.totem_evs.specs.Events.{ChangesWith, Delivers, Fails, at_place, entry_at, log_of}
 use Rattle.totem_evs.specs.Steps.{SameClass}
 use Rattle.totem_evs.specs.Certificates.{Certified, Numbering, numbers_of, number_in, number_at}
-use Rattle.totem_evs.specs.Examples.{regular, first, pair}
+use Rattle.totem_evs.specs.Examples.{regular, first, pair, first_life}
 use Rattle.totem_evs.specs.Examples as runs
-use Rattle.totem_evs.specs.ExampleClaims.{place, numbers}
+use Rattle.totem_evs.specs.ExampleClaims.{numbers}
 use Rattle.totem_evs.proofs.ExampleSteps.{InRun, in_run}
 use Rattle.totem_evs.proofs.ExamplePlaces.{all_of}
 
@@ -30,7 +31,7 @@ pub record IsTheChange (p i : ℕ) (x : ConfId) (ms : List ℕ) : Type 0 where
 
 -- the second entry of 1 sends the message
 pub record IsTheSend (p i : ℕ) (m : MsgId) (x : ConfId) (s : Service) : Type 0 where
-  pub proc : p ≡ 1
+  pub proc : p ≡ first_life 1
   pub index : i ≡ 1
   pub msg : m ≡ first
   pub conf : x ≡ regular 4
@@ -38,8 +39,8 @@ pub record IsTheSend (p i : ℕ) (m : MsgId) (x : ConfId) (s : Service) : Type 0
 
 -- the third entry of 1, and the second of 2, deliver the message
 pub record IsTheDelivery (p i : ℕ) (m : MsgId) (x : ConfId) : Type 0 where
-  pub member : (p ≡ 1) ⊎ (p ≡ 2)
-  pub index : p + i ≡ 3
+  pub member : (p ≡ first_life 1) ⊎ (p ≡ first_life 2)
+  pub index : id_of p + i ≡ 3
   pub later : 0 < i
   pub msg : m ≡ first
   pub conf : x ≡ regular 4
@@ -124,8 +125,11 @@ in_order p i j (Conf x ms) (Fail y) a b lt = absurd b
 in_order p i j (Send m x s) (Fail y) a b lt = absurd b
 in_order p i j (Deliver m x) (Fail y) a b lt = absurd b
 
+abbrev entry_of : ℕ → ℕ → Place
+entry_of p a = record { proc = p; at = a }
+
 same_place : (e f : Place) → e.proc ≡ f.proc → e.at ≡ f.at → e ≡ f
-same_place e f proc at = ap (λ (p : ℕ). place p e.at) proc ∙ ap (λ (a : ℕ). place f.proc a) at
+same_place e f proc at = ap (λ (p : ℕ). entry_of p e.at) proc ∙ ap (λ (a : ℕ). entry_of f.proc a) at
 
 -- one number, one class
 one_class : (e f : Place) (x y : Entry) → entry_at both e ≡ Some x → entry_at both f ≡ Some y → IsThere e x → IsThere f y → number_of x ≡ number_of y → (e ≡ f) ⊎ SameClass both e f

@@ -15,7 +15,7 @@ use Rattle.totem_evs.specs.Changes.{NamesOnly, StandsIn, StaysInPlace, ChangesNe
 use Rattle.totem_evs.specs.Agreement.{SelfDelivery, FailureAtomicity, NoGaps, SafeDelivery}
 use Rattle.totem_evs.specs.OneHop.{OneHopIsFine}
 use Rattle.totem_evs.specs.Unsettled.{IsWaiting, EndsIn}
-use Rattle.totem_evs.specs.Examples.{ring, regular, first, pair}
+use Rattle.totem_evs.specs.Examples.{ring, regular, first, pair, first_life}
 use Rattle.totem_evs.specs.ExampleClaims.{numbers}
 use Rattle.totem_evs.specs.ExampleClaims as claim
 use Rattle.totem_evs.proofs.ExamplePlaces.{each_log}
@@ -26,27 +26,27 @@ use Rattle.totem_evs.proofs.Causal.{chains}
 use Rattle.totem_evs.proofs.Ordered.{ordered}
 
 -- a member is 1 or 2
-one_or_two : (q : ℕ) → Contains pair q → (q ≡ 1) ⊎ (q ≡ 2)
+one_or_two : (q : ℕ) → Contains pair q → (q ≡ first_life 1) ⊎ (q ≡ first_life 2)
 one_or_two q (zero, lt, e) = inl (sym e)
 one_or_two q (suc zero, lt, e) = inr (sym e)
 one_or_two q (suc (suc k), lt, e) = absurd (omega arith)
 
 -- each begins in ring 4, and delivers the message there
-begins : (q : ℕ) → (q ≡ 1) ⊎ (q ≡ 2) → ChangesWith (log_of both q) 0 (regular 4) pair
+begins : (q : ℕ) → (q ≡ first_life 1) ⊎ (q ≡ first_life 2) → ChangesWith (log_of both q) 0 (regular 4) pair
 begins q (inl e) = rw e refl
 begins q (inr e) = rw e refl
 
-delivers : (q : ℕ) → (q ≡ 1) ⊎ (q ≡ 2) → HasDelivered (log_of both q) (ring 4) first
+delivers : (q : ℕ) → (q ≡ first_life 1) ⊎ (q ≡ first_life 2) → HasDelivered (log_of both q) (ring 4) first
 delivers q (inl e) = rw e (2, (regular 4, refl, inl refl))
 delivers q (inr e) = rw e (1, (regular 4, refl, inl refl))
 
-delivers_it : (q : ℕ) (c : RingId) (m : MsgId) → (q ≡ 1) ⊎ (q ≡ 2) → Regular c ≡ regular 4 → m ≡ first → HasDelivered (log_of both q) c m
+delivers_it : (q : ℕ) (c : RingId) (m : MsgId) → (q ≡ first_life 1) ⊎ (q ≡ first_life 2) → Regular c ≡ regular 4 → m ≡ first → HasDelivered (log_of both q) c m
 delivers_it q c m member conf msg = let same : c ≡ ring 4 = cc in rw (same, msg) (delivers q member)
 
 sent : DeliversWhatWasSent both
 sent p i m d at =
     let h = is_delivery p i m d at in
-    (ring 4, (1, 1, (Agreed, ap (λ (k : MsgId). Some (Send k (regular 4) Agreed)) (sym h.msg))), inl h.conf)
+    (ring 4, (first_life 1, 1, (Agreed, ap (λ (k : MsgId). Some (Send k (regular 4) Agreed)) (sym h.msg))), inl h.conf)
 
 once : DeliversOnce both
 once = record {
@@ -58,7 +58,7 @@ once = record {
 begins_with_change : (p : ℕ) → 0 < length (log_of both p) → IsChange (log_of both p) 0
 begins_with_change = each_log (λ log. 0 < length log → IsChange log 0) both (λ lt. absurd (omega arith)) ((λ lt. (regular 4, (pair, refl))), ((λ lt. (regular 4, (pair, refl))), tt))
 
-stands : (p i : ℕ) (x : ConfId) → (p ≡ 1) ⊎ (p ≡ 2) → 0 < i → x ≡ regular 4 → StandsIn (log_of both p) i x
+stands : (p i : ℕ) (x : ConfId) → (p ≡ first_life 1) ⊎ (p ≡ first_life 2) → 0 < i → x ≡ regular 4 → StandsIn (log_of both p) i x
 stands p i x member later conf = record {
   from = 0;
   before = later;
@@ -157,7 +157,7 @@ not_pending q m c p i (s, at) (d, goes_on, last, stays) =
     let b = is_change q last.index d last.change.0 last.change.1 in
     delivers_it q c m (one_or_two q b.member) a.conf a.msg
 
-ends_in : (q : ℕ) (x : ConfId) → (q ≡ 1) ⊎ (q ≡ 2) → x ≡ regular 4 → EndsIn (log_of both q) x
+ends_in : (q : ℕ) (x : ConfId) → (q ≡ first_life 1) ⊎ (q ≡ first_life 2) → x ≡ regular 4 → EndsIn (log_of both q) x
 ends_in q x member conf = record {
   goes_on = λ i y fails. no_failure q i y fails;
   last = record { index = 0; change = (pair, rw conf (begins q member)); none_after = λ k later (y, (ms, at)). let h = is_change q k y ms at in omega arith };

@@ -9,7 +9,7 @@ use Rattle.totem_evs.specs.declared.entry.Entry.TheVariants.{Conf, Send, Deliver
 use Rattle.totem_evs.specs.Events.{ChangesWith, log_of}
 use Rattle.totem_evs.specs.Following.{NeverFails, LastChange, OpenIn, HasDelivered}
 use Rattle.totem_evs.specs.Unsettled.{IsPending}
-use Rattle.totem_evs.specs.Examples.{ring, regular, first, pair}
+use Rattle.totem_evs.specs.Examples.{ring, regular, first, pair, first_life}
 use Rattle.totem_evs.specs.Examples as runs
 use Rattle.totem_evs.specs.ExampleClaims as claim
 use Rattle.totem_evs.proofs.ExampleSteps.{InLog, in_log}
@@ -41,38 +41,38 @@ pub sent_and_open : claim.SentAndOpen
 sent_and_open = (
   record {
     ring = ring 4;
-    sent = (1, 1, (Agreed, refl));
-    still_open = open_in (log_of runs.sent_and_open 1) pair (refl, (tt, tt)) refl;
-    missing = missing (log_of runs.sent_and_open 1) first (refl, (tt, tt));
+    sent = (first_life 1, 1, (Agreed, refl));
+    still_open = open_in (log_of runs.sent_and_open (first_life 1)) pair (refl, (tt, tt)) refl;
+    missing = missing (log_of runs.sent_and_open (first_life 1)) first (refl, (tt, tt));
   },
   record {
     ring = ring 4;
-    sent = (1, 1, (Agreed, refl));
-    still_open = open_in (log_of runs.sent_and_open 2) pair (refl, tt) refl;
-    missing = missing (log_of runs.sent_and_open 2) first (refl, tt);
+    sent = (first_life 1, 1, (Agreed, refl));
+    still_open = open_in (log_of runs.sent_and_open (first_life 2)) pair (refl, tt) refl;
+    missing = missing (log_of runs.sent_and_open (first_life 2)) first (refl, tt);
   },
 )
 
-failed_is_not_open : IsPending runs.sent_and_failed 1 first → ⊥
+failed_is_not_open : IsPending runs.sent_and_failed (first_life 1) first → ⊥
 failed_is_not_open pending = still_open pending.still_open
   where
-    still_open : {c : RingId} → OpenIn (log_of runs.sent_and_failed 1) c → ⊥
+    still_open : {c : RingId} → OpenIn (log_of runs.sent_and_failed (first_life 1)) c → ⊥
     still_open (d, goes_on, last, stays) = goes_on 2 (regular 4) refl
 
 pub sent_and_failed : claim.SentAndFailed
 sent_and_failed = (
   record {
     ring = ring 4;
-    sent = (1, 1, (Agreed, refl));
-    still_open = open_in (log_of runs.sent_and_failed 2) pair (refl, tt) refl;
-    missing = missing (log_of runs.sent_and_failed 2) first (refl, tt);
+    sent = (first_life 1, 1, (Agreed, refl));
+    still_open = open_in (log_of runs.sent_and_failed (first_life 2)) pair (refl, tt) refl;
+    missing = missing (log_of runs.sent_and_failed (first_life 2)) first (refl, tt);
   },
   failed_is_not_open,
 )
 
 pub failed_while_the_other_waits : claim.FailedWhileTheOtherWaits
 failed_while_the_other_waits = record {
-  stands = record { goes_on = never_fails (log_of runs.sent_and_failed 2) (refl, tt); last = last_change (log_of runs.sent_and_failed 2) (regular 4) pair (refl, tt) refl };
-  member = (1, 0, pair, refl, search rules);
+  stands = record { goes_on = never_fails (log_of runs.sent_and_failed (first_life 2)) (refl, tt); last = last_change (log_of runs.sent_and_failed (first_life 2)) (regular 4) pair (refl, tt) refl };
+  member = (first_life 1, 0, pair, refl, search rules);
   other = λ ends. ends.goes_on 2 (regular 4) refl;
 }

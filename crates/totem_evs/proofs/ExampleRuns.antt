@@ -1,4 +1,7 @@
 -- The small runs keep the rules of a run.
+use Rattle.totem_ids.specs.declared.version.Version.TheVariants.{Two}
+use Rattle.totem_ids.specs.Processes.{IsProcessIn}
+use Rattle.totem_ids.proofs.RankParts.{id_of_rank, life_of_rank}
 use Rattle.std.specs.Prelude.{nat_lt, nat_le, ◌&&◌}
 use Rattle.std.proofs.Common.{zero, suc, Bool, true, false, slice_get, Some, ◌≡◌, ℕ, ◌+◌, ◌<◌, ◌≤◌, List, [], ◌∷◌, length, get_or, refl, lit<, arith}
 use Rattle.std.proofs.lemmas.Bool.{ltb-true, leb-true}
@@ -9,25 +12,32 @@ use Rattle.totem_evs.specs.declared.log.Log.{Log}
 use Rattle.totem_ids.specs.declared.conf.ConfId.{ConfId}
 use Rattle.totem_ids.specs.declared.conf.ConfId.TheVariants.{Regular, Transitional}
 use Rattle.totem_ids.specs.Names.{RingName, MessageName}
-use Rattle.totem_ids.specs.Texts.{IsProcess, IsUpTo, IsRing, IsConf, IsMessage}
+use Rattle.totem_ids.specs.Texts.{IsUpTo, IsRing, IsConf, IsMessage}
 use Rattle.totem_evs.specs.Members.{IsMembers, IsBelow}
 use Rattle.totem_evs.specs.Runs.{IsEntry, IsFailure, IsLog, IsBelowLog, IsRun}
 use Rattle.totem_ids.specs.declared.message.Service.TheVariants.{Agreed}
-use Rattle.totem_evs.specs.Examples.{regular, first, alone, pair, all_three, lone_3, standing, failed}
+use Rattle.totem_evs.specs.Examples.{regular, first, alone, pair, all_three, lone_3, standing, failed, first_life}
 use Rattle.totem_evs.specs.Examples as runs
 use Rattle.totem_evs.specs.ExampleClaims.{examples}
 use Rattle.totem_evs.specs.ExampleClaims as claim
 use Rattle.totem_evs.proofs.ExampleSteps.{InLog, in_log}
 use Rattle.totem_evs.proofs.ExamplePlaces.{Each, all_of, Pairwise, pairs_of}
 
-first_process : IsProcess 1
-first_process = record { positive = lit< tt; small = omega arith }
+process : (id : ℕ) → 0 < id → id ≤ 65535 → IsProcessIn Two (first_life id)
+process id some few = record {
+  id_fits = rw (id_of_rank id 1 (lit< tt)) (record { positive = some; small = few });
+  life_fits = rw (life_of_rank id 1 (lit< tt)) (record { positive = lit< tt; small = omega arith });
+  first = λ h. absurd cc;
+}
 
-second_process : IsProcess 2
-second_process = record { positive = lit< tt; small = omega arith }
+first_process : IsProcessIn Two (first_life 1)
+first_process = process 1 (lit< tt) (omega arith)
 
-third_process : IsProcess 3
-third_process = record { positive = lit< tt; small = omega arith }
+second_process : IsProcessIn Two (first_life 2)
+second_process = process 2 (lit< tt) (omega arith)
+
+third_process : IsProcessIn Two (first_life 3)
+third_process = process 3 (lit< tt) (omega arith)
 
 -- the lists of members
 of_1 : IsMembers alone
@@ -35,7 +45,7 @@ of_1 = record {
   some = lit< tt;
   few = omega arith;
   rising = pairs_of IsBelow alone (tt, tt);
-  processes = all_of IsProcess alone (first_process, tt);
+  processes = all_of (IsProcessIn Two) alone (first_process, tt);
 }
 
 of_2 : IsMembers pair
@@ -43,7 +53,7 @@ of_2 = record {
   some = lit< tt;
   few = omega arith;
   rising = pairs_of IsBelow pair ((lit< tt, tt), (tt, tt));
-  processes = all_of IsProcess pair (first_process, (second_process, tt));
+  processes = all_of (IsProcessIn Two) pair (first_process, (second_process, tt));
 }
 
 of_3 : IsMembers all_three
@@ -51,7 +61,7 @@ of_3 = record {
   some = lit< tt;
   few = omega arith;
   rising = pairs_of IsBelow all_three ((lit< tt, (lit< tt, tt)), ((lit< tt, tt), (tt, tt)));
-  processes = all_of IsProcess all_three (first_process, (second_process, (third_process, tt)));
+  processes = all_of (IsProcessIn Two) all_three (first_process, (second_process, (third_process, tt)));
 }
 
 of_lone_3 : IsMembers lone_3
@@ -59,7 +69,7 @@ of_lone_3 = record {
   some = lit< tt;
   few = omega arith;
   rising = pairs_of IsBelow lone_3 (tt, tt);
-  processes = all_of IsProcess lone_3 (third_process, tt);
+  processes = all_of (IsProcessIn Two) lone_3 (third_process, tt);
 }
 
 -- a change has members that rise
@@ -128,7 +138,7 @@ GoesOn n i x = HasMembers x × (n ≡ i + 1 → IsFailure x → ⊥)
 on : {A B : Type 0} → A → A × (B → ⊥ → ⊥)
 on a = (a, λ e fails. fails)
 
-goes_on : (p : ℕ) (entries : List Entry) → IsProcess p → 0 < length entries → length entries ≤ 1000000 → each_in_range entries ≡ true → InLog (GoesOn (length entries)) 0 entries
+goes_on : (p : ℕ) (entries : List Entry) → IsProcessIn Two (first_life p) → 0 < length entries → length entries ≤ 1000000 → each_in_range entries ≡ true → InLog (GoesOn (length entries)) 0 entries
     → IsLog (standing p entries)
 goes_on p entries process some few in_range all = record {
   process = process;
@@ -147,120 +157,120 @@ is_run run few rising each = record { few = few; rising = pairs_of IsBelowLog ru
 delivered_before_sent : IsRun runs.delivered_before_sent
 delivered_before_sent =
     is_run runs.delivered_before_sent (omega arith) (tt, tt)
-    (goes_on _ _ first_process (lit< tt) (omega arith) refl (on of_1, (on tt, (on tt, tt))), tt)
+    (goes_on 1 _ first_process (lit< tt) (omega arith) refl (on of_1, (on tt, (on tt, tt))), tt)
 
 delivered_never_sent : IsRun runs.delivered_never_sent
 delivered_never_sent =
     is_run runs.delivered_never_sent (omega arith) ((lit< tt, tt), (tt, tt)) (
-      goes_on _ _ first_process (lit< tt) (omega arith) refl (on of_2, tt),
-      (goes_on _ _ second_process (lit< tt) (omega arith) refl (on of_2, (on tt, tt)), tt),
+      goes_on 1 _ first_process (lit< tt) (omega arith) refl (on of_2, tt),
+      (goes_on 2 _ second_process (lit< tt) (omega arith) refl (on of_2, (on tt, tt)), tt),
     )
 
 delivered_two_rings_later : IsRun runs.delivered_two_rings_later
 delivered_two_rings_later =
     is_run runs.delivered_two_rings_later (omega arith) ((lit< tt, (lit< tt, tt)), ((lit< tt, tt), (tt, tt))) (
-      goes_on _ _ first_process (lit< tt) (omega arith) refl (on of_3, (on of_2, (on of_2, (on of_2, (on tt, (on of_2, tt)))))),
+      goes_on 1 _ first_process (lit< tt) (omega arith) refl (on of_3, (on of_2, (on of_2, (on of_2, (on tt, (on of_2, tt)))))),
       (
-        goes_on _ _ second_process (lit< tt) (omega arith) refl (on of_3, (on of_2, (on of_2, (on of_2, (on tt, (on of_2, tt)))))),
-        (goes_on _ _ third_process (lit< tt) (omega arith) refl (on of_3, (on tt, (on tt, tt))), tt),
+        goes_on 2 _ second_process (lit< tt) (omega arith) refl (on of_3, (on of_2, (on of_2, (on of_2, (on tt, (on of_2, tt)))))),
+        (goes_on 3 _ third_process (lit< tt) (omega arith) refl (on of_3, (on tt, (on tt, tt))), tt),
       ),
     )
 
 sent_twice : IsRun runs.sent_twice
 sent_twice =
     is_run runs.sent_twice (omega arith) (tt, tt)
-    (goes_on _ _ first_process (lit< tt) (omega arith) refl (on of_1, (on tt, (on tt, tt))), tt)
+    (goes_on 1 _ first_process (lit< tt) (omega arith) refl (on of_1, (on tt, (on tt, tt))), tt)
 
 goes_on_after_a_failure : IsRun runs.goes_on_after_a_failure
 goes_on_after_a_failure =
     is_run runs.goes_on_after_a_failure (omega arith) (tt, tt)
-    (goes_on _ _ first_process (lit< tt) (omega arith) refl (on of_1, ((tt, λ e fails. omega arith), (on tt, tt))), tt)
+    (goes_on 1 _ first_process (lit< tt) (omega arith) refl (on of_1, ((tt, λ e fails. omega arith), (on tt, tt))), tt)
 
 one_configuration_twice : IsRun runs.one_configuration_twice
 one_configuration_twice =
     is_run runs.one_configuration_twice (omega arith) (tt, tt)
-    (goes_on _ _ first_process (lit< tt) (omega arith) refl (on of_1, (on of_1, tt)), tt)
+    (goes_on 1 _ first_process (lit< tt) (omega arith) refl (on of_1, (on of_1, tt)), tt)
 
 sender_moved_on : IsRun runs.sender_moved_on
 sender_moved_on =
     is_run runs.sender_moved_on (omega arith) ((lit< tt, tt), (tt, tt)) (
-      goes_on _ _ first_process (lit< tt) (omega arith) refl (on of_2, (on tt, (on of_1, (on of_1, tt)))),
-      (goes_on _ _ second_process (lit< tt) (omega arith) refl (on of_2, tt), tt),
+      goes_on 1 _ first_process (lit< tt) (omega arith) refl (on of_2, (on tt, (on of_1, (on of_1, tt)))),
+      (goes_on 2 _ second_process (lit< tt) (omega arith) refl (on of_2, tt), tt),
     )
 
 went_on_together : IsRun runs.went_on_together
 went_on_together =
     is_run runs.went_on_together (omega arith) ((lit< tt, tt), (tt, tt)) (
-      goes_on _ _ first_process (lit< tt) (omega arith) refl (on of_2, (on tt, (on tt, (on of_2, (on of_2, tt))))),
-      (goes_on _ _ second_process (lit< tt) (omega arith) refl (on of_2, (on of_2, (on of_2, tt))), tt),
+      goes_on 1 _ first_process (lit< tt) (omega arith) refl (on of_2, (on tt, (on tt, (on of_2, (on of_2, tt))))),
+      (goes_on 2 _ second_process (lit< tt) (omega arith) refl (on of_2, (on of_2, (on of_2, tt))), tt),
     )
 
 cause_never_delivered : IsRun runs.cause_never_delivered
 cause_never_delivered =
     is_run runs.cause_never_delivered (omega arith) ((lit< tt, (lit< tt, tt)), ((lit< tt, tt), (tt, tt))) (
-      goes_on _ _ first_process (lit< tt) (omega arith) refl (on of_3, (on tt, (on tt, tt))),
+      goes_on 1 _ first_process (lit< tt) (omega arith) refl (on of_3, (on tt, (on tt, tt))),
       (
-        goes_on _ _ second_process (lit< tt) (omega arith) refl (on of_3, (on tt, (on tt, tt))),
-        (goes_on _ _ third_process (lit< tt) (omega arith) refl (on of_3, (on tt, tt)), tt),
+        goes_on 2 _ second_process (lit< tt) (omega arith) refl (on of_3, (on tt, (on tt, tt))),
+        (goes_on 3 _ third_process (lit< tt) (omega arith) refl (on of_3, (on tt, tt)), tt),
       ),
     )
 
 two_orders : IsRun runs.two_orders
 two_orders =
     is_run runs.two_orders (omega arith) ((lit< tt, tt), (tt, tt)) (
-      goes_on _ _ first_process (lit< tt) (omega arith) refl (on of_2, (on tt, (on tt, (on tt, (on tt, tt))))),
-      (goes_on _ _ second_process (lit< tt) (omega arith) refl (on of_2, (on tt, (on tt, tt))), tt),
+      goes_on 1 _ first_process (lit< tt) (omega arith) refl (on of_2, (on tt, (on tt, (on tt, (on tt, tt))))),
+      (goes_on 2 _ second_process (lit< tt) (omega arith) refl (on of_2, (on tt, (on tt, tt))), tt),
     )
 
 gap_where_the_sender_stayed : IsRun runs.gap_where_the_sender_stayed
 gap_where_the_sender_stayed =
     is_run runs.gap_where_the_sender_stayed (omega arith) ((lit< tt, (lit< tt, tt)), ((lit< tt, tt), (tt, tt))) (
-      goes_on _ _ first_process (lit< tt) (omega arith) refl (on of_3, (on tt, (on of_3, (on tt, (on of_3, tt))))),
+      goes_on 1 _ first_process (lit< tt) (omega arith) refl (on of_3, (on tt, (on of_3, (on tt, (on of_3, tt))))),
       (
-        goes_on _ _ second_process (lit< tt) (omega arith) refl (on of_3, (on of_3, (on tt, (on of_3, tt)))),
-        (goes_on _ _ third_process (lit< tt) (omega arith) refl (on of_3, (on tt, (on tt, (on tt, tt)))), tt),
+        goes_on 2 _ second_process (lit< tt) (omega arith) refl (on of_3, (on of_3, (on tt, (on of_3, tt)))),
+        (goes_on 3 _ third_process (lit< tt) (omega arith) refl (on of_3, (on tt, (on tt, (on tt, tt)))), tt),
       ),
     )
 
 safe_with_a_member_that_moved_on : IsRun runs.safe_with_a_member_that_moved_on
 safe_with_a_member_that_moved_on =
     is_run runs.safe_with_a_member_that_moved_on (omega arith) ((lit< tt, (lit< tt, tt)), ((lit< tt, tt), (tt, tt))) (
-      goes_on _ _ first_process (lit< tt) (omega arith) refl (on of_3, (on tt, (on tt, (on of_2, (on of_2, tt))))),
+      goes_on 1 _ first_process (lit< tt) (omega arith) refl (on of_3, (on tt, (on tt, (on of_2, (on of_2, tt))))),
       (
-        goes_on _ _ second_process (lit< tt) (omega arith) refl (on of_3, (on tt, (on of_2, (on of_2, tt)))),
-        (goes_on _ _ third_process (lit< tt) (omega arith) refl (on of_3, (on of_lone_3, (on of_lone_3, tt))), tt),
+        goes_on 2 _ second_process (lit< tt) (omega arith) refl (on of_3, (on tt, (on of_2, (on of_2, tt)))),
+        (goes_on 3 _ third_process (lit< tt) (omega arith) refl (on of_3, (on of_lone_3, (on of_lone_3, tt))), tt),
       ),
     )
 
 safe_with_a_member_that_never_came : IsRun runs.safe_with_a_member_that_never_came
 safe_with_a_member_that_never_came =
     is_run runs.safe_with_a_member_that_never_came (omega arith) ((lit< tt, (lit< tt, tt)), ((lit< tt, tt), (tt, tt))) (
-      goes_on _ _ first_process (lit< tt) (omega arith) refl (on of_3, (on tt, (on tt, tt))),
+      goes_on 1 _ first_process (lit< tt) (omega arith) refl (on of_3, (on tt, (on tt, tt))),
       (
-        goes_on _ _ second_process (lit< tt) (omega arith) refl (on of_3, (on tt, tt)),
-        (goes_on _ _ third_process (lit< tt) (omega arith) refl (on of_lone_3, tt), tt),
+        goes_on 2 _ second_process (lit< tt) (omega arith) refl (on of_3, (on tt, tt)),
+        (goes_on 3 _ third_process (lit< tt) (omega arith) refl (on of_lone_3, tt), tt),
       ),
     )
 
 one_message_delivered_by_both : IsRun runs.one_message_delivered_by_both
 one_message_delivered_by_both =
     is_run runs.one_message_delivered_by_both (omega arith) ((lit< tt, tt), (tt, tt)) (
-      goes_on _ _ first_process (lit< tt) (omega arith) refl (on of_2, (on tt, (on tt, tt))),
-      (goes_on _ _ second_process (lit< tt) (omega arith) refl (on of_2, (on tt, tt)), tt),
+      goes_on 1 _ first_process (lit< tt) (omega arith) refl (on of_2, (on tt, (on tt, tt))),
+      (goes_on 2 _ second_process (lit< tt) (omega arith) refl (on of_2, (on tt, tt)), tt),
     )
 
 safe_message_on_the_way : IsRun runs.safe_message_on_the_way
 safe_message_on_the_way =
     is_run runs.safe_message_on_the_way (omega arith) ((lit< tt, tt), (tt, tt)) (
-      goes_on _ _ first_process (lit< tt) (omega arith) refl (on of_2, (on tt, (on of_2, (on tt, (on of_2, tt))))),
-      (goes_on _ _ second_process (lit< tt) (omega arith) refl (on of_2, (on of_2, (on tt, (on of_2, tt)))), tt),
+      goes_on 1 _ first_process (lit< tt) (omega arith) refl (on of_2, (on tt, (on of_2, (on tt, (on of_2, tt))))),
+      (goes_on 2 _ second_process (lit< tt) (omega arith) refl (on of_2, (on of_2, (on tt, (on of_2, tt)))), tt),
     )
 
 sent_and_open : IsRun runs.sent_and_open
 sent_and_open =
     is_run runs.sent_and_open (omega arith) ((lit< tt, tt), (tt, tt)) (
-      goes_on _ _ first_process (lit< tt) (omega arith) refl (on of_2, (on tt, tt)),
-      (goes_on _ _ second_process (lit< tt) (omega arith) refl (on of_2, tt), tt),
+      goes_on 1 _ first_process (lit< tt) (omega arith) refl (on of_2, (on tt, tt)),
+      (goes_on 2 _ second_process (lit< tt) (omega arith) refl (on of_2, tt), tt),
     )
 
 failed_log : IsLog (failed 1 (Conf (regular 4) pair ∷ Send first (regular 4) Agreed ∷ Fail (regular 4) ∷ []))
@@ -279,7 +289,7 @@ sent_and_failed : IsRun runs.sent_and_failed
 sent_and_failed =
     is_run runs.sent_and_failed (omega arith) ((lit< tt, tt), (tt, tt)) (
       failed_log,
-      (goes_on _ _ second_process (lit< tt) (omega arith) refl (on of_2, tt), tt),
+      (goes_on 2 _ second_process (lit< tt) (omega arith) refl (on of_2, tt), tt),
     )
 
 pub each_is_a_run : claim.EachIsARun

@@ -1,4 +1,5 @@
 -- The certificate of the small run on the way to ring 8.
+use Rattle.totem_ids.specs.Ranks.{id_of}
 use Rattle.std.proofs.Common.{◌≡◌, ℕ, zero, suc, ◌+◌, ◌-◌, ◌<◌, ◌≤◌, ◌⊎◌, inl, inr, List, [], ◌∷◌, slice_get, Some, refl, sym, ◌∙◌, ap, lit<, arith}
 use Rattle.std.specs.Prelude.{All, Contains}
 use Rattle.totem_ids.specs.declared.conf.ConfId.{ConfId}
@@ -12,9 +13,9 @@ use Rattle.totem_evs.specs.declared.log.Log.{Log}
 use Rattle.totem_evs.specs.Events.{at_place, entry_at, log_of}
 use Rattle.totem_evs.specs.Steps.{SameClass}
 use Rattle.totem_evs.specs.Certificates.{Certified, Numbering, numbers_of, number_in, number_at}
-use Rattle.totem_evs.specs.Examples.{regular, transitional, first, pair}
+use Rattle.totem_evs.specs.Examples.{regular, transitional, first, pair, first_life}
 use Rattle.totem_evs.specs.Examples as runs
-use Rattle.totem_evs.specs.ExampleClaims.{place, numbers_on_the_way}
+use Rattle.totem_evs.specs.ExampleClaims.{numbers_on_the_way}
 use Rattle.totem_evs.proofs.ExampleSteps.{InRun, in_run}
 use Rattle.totem_evs.proofs.ExamplePlaces.{all_of}
 
@@ -32,20 +33,20 @@ number_of (Send m x service) = 2
 number_of (Deliver m x) = 4
 number_of (Fail x) = 0
 
--- the first entry of a log has the number 1, and entry i of p the number p + i
+-- the first entry of a log has the number 1, and entry i of p the number of p's identifier plus i
 abbrev pub IsNumbered : ℕ → ℕ → ℕ → Type 0
-IsNumbered p i n = ((n ≡ 1) × (i ≡ 0)) ⊎ ((1 < n) × (p + i ≡ n))
+IsNumbered p i n = ((n ≡ 1) × (i ≡ 0)) ⊎ ((1 < n) × (id_of p + i ≡ n))
 
 -- the process is 1 or 2
 pub record IsMemberOfBoth (p : ℕ) : Type 0 where
-  pub low : 0 < p
-  pub high : p ≤ 2
+  pub low : 0 < id_of p
+  pub high : id_of p ≤ 2
   pub own : Contains pair p
 
-first_member : IsMemberOfBoth 1
+first_member : IsMemberOfBoth (first_life 1)
 first_member = record { low = lit< tt; high = omega arith; own = (0, lit< tt, refl) }
 
-second_member : IsMemberOfBoth 2
+second_member : IsMemberOfBoth (first_life 2)
 second_member = record { low = lit< tt; high = omega arith; own = (1, lit< tt, refl) }
 
 pub record IsAChange (x : ConfId) (ms : List ℕ) : Type 0 where
@@ -53,7 +54,7 @@ pub record IsAChange (x : ConfId) (ms : List ℕ) : Type 0 where
   pub conf : (x ≡ regular 4) ⊎ (x ≡ transitional 8) ⊎ (x ≡ regular 8)
 
 pub record IsTheSend (p : ℕ) (m : MsgId) (x : ConfId) (s : Service) : Type 0 where
-  pub proc : p ≡ 1
+  pub proc : p ≡ first_life 1
   pub msg : m ≡ first
   pub conf : x ≡ regular 4
 
@@ -146,8 +147,11 @@ there_in p (suc i) x at = let h = fact p i x at in (i, refl, h, h.number)
 is_there : (e : Place) (x : Entry) → entry_at run e ≡ Some x → IsThere e x
 is_there e x at = let h = there_in e.proc e.at x at in record { index = h.0; place = h.1; here = h.2; number = h.3 }
 
+abbrev entry_of : ℕ → ℕ → Place
+entry_of p a = record { proc = p; at = a }
+
 same_place : (e f : Place) → e.proc ≡ f.proc → e.at ≡ f.at → e ≡ f
-same_place e f proc at = ap (λ (p : ℕ). place p e.at) proc ∙ ap (λ (a : ℕ). place f.proc a) at
+same_place e f proc at = ap (λ (p : ℕ). entry_of p e.at) proc ∙ ap (λ (a : ℕ). entry_of f.proc a) at
 
 -- a change has one of the numbers 1, 3 and 5, and the number tells the configuration
 pub one_conf : (x y : ConfId) → (x ≡ regular 4) ⊎ (x ≡ transitional 8) ⊎ (x ≡ regular 8) → (y ≡ regular 4) ⊎ (y ≡ transitional 8) ⊎ (y ≡ regular 8) → stage x ≡ stage y → y ≡ x

@@ -1,4 +1,5 @@
 -- The small run on the way to ring 8 is virtually synchronous.
+use Rattle.totem_ids.specs.Ranks.{id_of}
 use Rattle.std.proofs.Common.{◌≡◌, ℕ, zero, suc, ◌+◌, ◌<◌, ◌⊎◌, inl, inr, List, length, slice_get, Some, refl, sym, ◌∙◌, ap, lit<, arith}
 use Rattle.std.specs.Prelude.{All, Contains}
 use Rattle.std.proofs.lemmas.List.Elements.{All-contains_itself}
@@ -16,7 +17,7 @@ use Rattle.totem_evs.specs.Changes.{NamesOnly, StandsIn, StaysInPlace, ChangesNe
 use Rattle.totem_evs.specs.Agreement.{SelfDelivery, FailureAtomicity, NoGaps, SafeDelivery}
 use Rattle.totem_evs.specs.OneHop.{OneHopIsFine}
 use Rattle.totem_evs.specs.Synchrony.{IsVirtuallySynchronous}
-use Rattle.totem_evs.specs.Examples.{ring, regular, transitional, first, pair}
+use Rattle.totem_evs.specs.Examples.{ring, regular, transitional, first, pair, first_life}
 use Rattle.totem_evs.specs.ExampleClaims.{numbers_on_the_way}
 use Rattle.totem_evs.specs.ExampleClaims as claim
 use Rattle.totem_evs.proofs.ExampleSteps.{none_between}
@@ -27,7 +28,7 @@ use Rattle.totem_evs.proofs.Causal.{chains}
 use Rattle.totem_evs.proofs.Ordered.{ordered}
 
 -- what holds of 1 and of 2 holds of each member
-each_member : (P : ℕ → Type 0) → P 1 → P 2 → (p : ℕ) → IsMemberOfBoth p → P p
+each_member : (P : ℕ → Type 0) → P (first_life 1) → P (first_life 2) → (p : ℕ) → IsMemberOfBoth p → P p
 each_member P first second p member = go member.own
   where
     go : Contains pair p → P p
@@ -41,7 +42,7 @@ of_contains p (suc zero, lt, e) = record { low = omega arith; high = omega arith
 of_contains p (suc (suc k), lt, e) = absurd (omega arith)
 
 -- each changes to the transitional configuration, from that of ring 4
-follows_1 : Follows (log_of run 1) (ring 4) (transitional 8)
+follows_1 : Follows (log_of run (first_life 1)) (ring 4) (transitional 8)
 follows_1 = record {
   from = 0;
   to = 2;
@@ -49,13 +50,13 @@ follows_1 = record {
   next = record {
     change = (transitional 8, (pair, refl));
     later = lit< tt;
-    none_between = none_between (log_of run 1) 0 2 ((λ above below. omega arith), (tt, ((λ above below. omega arith), (tt, ((λ above below. omega arith), tt)))));
+    none_between = none_between (log_of run (first_life 1)) 0 2 ((λ above below. omega arith), (tt, ((λ above below. omega arith), (tt, ((λ above below. omega arith), tt)))));
   };
   change = (pair, refl);
   transitional = tt;
 }
 
-follows_2 : Follows (log_of run 2) (ring 4) (transitional 8)
+follows_2 : Follows (log_of run (first_life 2)) (ring 4) (transitional 8)
 follows_2 = record {
   from = 0;
   to = 1;
@@ -75,13 +76,13 @@ delivers_it : (p : ℕ) (c : RingId) (m : MsgId) → IsMemberOfBoth p → c ≡ 
 delivers_it p c m member same msg = rw (same, msg) (delivers p member)
 
 -- where p changes to the transitional configuration
-leaves : (p : ℕ) → IsMemberOfBoth p → (k : ℕ) × (p + k ≡ 3) × ChangesWith (log_of run p) k (transitional 8) pair
-leaves p member = each_member (λ q. (k : ℕ) × (q + k ≡ 3) × ChangesWith (log_of run q) k (transitional 8) pair) (2, refl, refl) (1, refl, refl) p member
+leaves : (p : ℕ) → IsMemberOfBoth p → (k : ℕ) × (id_of p + k ≡ 3) × ChangesWith (log_of run p) k (transitional 8) pair
+leaves p member = each_member (λ q. (k : ℕ) × (id_of q + k ≡ 3) × ChangesWith (log_of run q) k (transitional 8) pair) (2, refl, refl) (1, refl, refl) p member
 
 sent : DeliversWhatWasSent run
 sent p i m d at =
     let h = fact p i (Deliver m d) at in
-    (ring 4, (1, 1, (Safe, ap (λ (k : MsgId). Some (Send k (regular 4) Safe)) (sym h.entry.msg))), inr (rw h.entry.conf (follows p h.member)))
+    (ring 4, (first_life 1, 1, (Safe, ap (λ (k : MsgId). Some (Send k (regular 4) Safe)) (sym h.entry.msg))), inr (rw h.entry.conf (follows p h.member)))
 
 once : DeliversOnce run
 once = record {
@@ -97,19 +98,19 @@ once = record {
 begins_with_change : (p : ℕ) → 0 < length (log_of run p) → IsChange (log_of run p) 0
 begins_with_change = each_log (λ log. 0 < length log → IsChange log 0) run (λ lt. absurd (omega arith)) ((λ lt. (regular 4, (pair, refl))), ((λ lt. (regular 4, (pair, refl))), tt))
 
-stands_at_send : (p i : ℕ) (x : ConfId) → p ≡ 1 → i ≡ 1 → x ≡ regular 4 → StandsIn (log_of run p) i x
+stands_at_send : (p i : ℕ) (x : ConfId) → p ≡ first_life 1 → i ≡ 1 → x ≡ regular 4 → StandsIn (log_of run p) i x
 stands_at_send p i x proc index conf = rw (proc, index, conf) (record { from = 0; before = lit< tt; change = (pair, refl); none_between = λ k above below h. omega arith })
 
-stands_at_delivery : (p i : ℕ) (x : ConfId) → IsMemberOfBoth p → p + i ≡ 4 → x ≡ transitional 8 → StandsIn (log_of run p) i x
+stands_at_delivery : (p i : ℕ) (x : ConfId) → IsMemberOfBoth p → id_of p + i ≡ 4 → x ≡ transitional 8 → StandsIn (log_of run p) i x
 stands_at_delivery p i x member index conf =
     let there = leaves p member in
     rw conf (record { from = there.0; before = omega (arith, there.1); change = (pair, there.2); none_between = λ k above below h. omega (arith, there.1) })
 
-second_index : (i : ℕ) → IsNumbered 1 i 2 → i ≡ 1
+second_index : (i : ℕ) → IsNumbered (first_life 1) i 2 → i ≡ 1
 second_index i (inl (e, at)) = omega arith
 second_index i (inr (lt, at)) = omega arith
 
-delivery_index : (p i : ℕ) → IsNumbered p i 4 → p + i ≡ 4
+delivery_index : (p i : ℕ) → IsNumbered p i 4 → id_of p + i ≡ 4
 delivery_index p i (inl (e, at)) = omega arith
 delivery_index p i (inr (lt, at)) = at
 
@@ -134,7 +135,7 @@ in_place p = record {
 abbrev Neighbours : ConfId → ConfId → Type 0
 Neighbours x y = ((x ≡ regular 4) × (y ≡ transitional 8)) ⊎ ((x ≡ transitional 8) × (y ≡ regular 8))
 
-not_skipped : (p i j k : ℕ) → p + k ≡ 3 → IsMemberOfBoth p → IsNumbered p i 1 → IsNumbered p j 5 → (i < k) × (k < j)
+not_skipped : (p i j k : ℕ) → id_of p + k ≡ 3 → IsMemberOfBoth p → IsNumbered p i 1 → IsNumbered p j 5 → (i < k) × (k < j)
 not_skipped p i j k between member (inl (e, at)) (inl (g, to)) = absurd (omega arith)
 not_skipped p i j k between member (inl (e, at)) (inr (g, to)) = (omega arith, omega arith)
 not_skipped p i j k between member (inr (e, at)) to = absurd (omega arith)

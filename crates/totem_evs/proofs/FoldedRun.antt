@@ -1,4 +1,7 @@
 -- A run from its parts: what each call of the reader of parts comes to.
+use Rattle.totem_ids.specs.declared.life.WrittenProc.{WrittenProc}
+use Rattle.totem_evs.specs.RunRecord.{RunRecord}
+use Rattle.totem_evs.specs.Runs.{IsRunOf}
 use Rattle.std.specs.Io.KnownBytes.{Consumes}
 use Rattle.std.proofs.lemmas.List.{append-nil}
 use Rattle.std.proofs.Common.{◌≡◌, [], subst, ℕ, List, ◌++◌, Some, None, Ok, Err, refl, sym, ap, ◌∙◌}
@@ -6,20 +9,19 @@ use Rattle.totem_ids.specs.declared.fault.TextFault.TheVariants as text
 use Rattle.totem_ids.specs.declared.fault.ReadError.TheVariants as errors
 use Rattle.totem_ids.specs.Sources.{Seen, Parsed, Comes, ◌>>=◌}
 use Rattle.totem_ids.proofs.Readers.{called, failed, same_left, begins, breaks_at}
-use Rattle.totem_evs.specs.declared.log.Log.{Log}
 use Rattle.totem_evs.specs.declared.part.Part.{Part}
 use Rattle.totem_evs.specs.declared.run_fault.RunFault.{RunFault}
 use Rattle.totem_evs.specs.declared.run_fault.RunFault.TheVariants as faults
 use Rattle.totem_evs.specs.RunText.{run_text}
-use Rattle.totem_evs.specs.RunGrammar.{run_at}
+use Rattle.totem_evs.specs.RunGrammar.{header_at, run_at}
 use Rattle.totem_evs.proofs.SpelledRun.{run_is}
-use Rattle.totem_evs.specs.Parts.{header_at, part_at, first_stage, next_stage}
+use Rattle.totem_evs.specs.Parts.{part_at, first_stage, next_stage}
 use Rattle.totem_evs.specs.ReadState.{ReadState}
 use Rattle.totem_evs.specs.Reading.{ReadsAs, HasBegun, BeginsRun, HasPart, HasEnded, FitsPart, LacksLog, ReadsPart, IsRead, FitsRun, LacksRun, ReadsRun}
 use Rattle.totem_evs.specs.Gathered.{GatheredLogs, none_gathered, gathered}
 use Rattle.totem_evs.proofs.PassedOn.{run_none}
 use Rattle.totem_evs.proofs.Folding.{rest_at, behind, step, first_step}
-use Rattle.totem_evs.proofs.Gathers.{GathersIn, limits, goes_gathers, gathers_run, least_lacks}
+use Rattle.totem_evs.proofs.Gathers.{GathersIn, limits, goes_gathers, least_lacks}
 
 -- what was read so far comes to what is still read behind these logs
 pub record Folded (a b : Seen) (s : ReadState) (g : GatheredLogs) : Type 0 where
@@ -27,8 +29,8 @@ pub record Folded (a b : Seen) (s : ReadState) (g : GatheredLogs) : Type 0 where
   pub gathers : GathersIn s g
 
 -- a fault is that of what was read so far and then
-fault_on : {X Y W Z : Type 0} (a b c : Seen) (parse : List ℕ → Parsed Z) (sub : List ℕ → Parsed X) (k : X × List ℕ → Parsed Z) (Fits : Y → Type 0) (Fit : W → Type 0) (Lacks Lacking : ℕ → Type 0) (e : RunFault)
-    → parse [] ≡ Err text.Truncated → Comes a b parse (λ more. sub more >>= k) → ((p : ℕ) → Lacks p → Lacking p) → ReadsAs {X = X} {Y = Y} b c sub Fits Lacks (Err e) → ReadsAs {X = Z} {Y = W} a c parse Fit Lacking (Err e)
+fault_on : {X Y W Z : Type 0} (a b c : Seen) (parse : List ℕ → Parsed Z) (sub : List ℕ → Parsed X) (k : X × List ℕ → Parsed Z) (Fits : Y → Type 0) (Fit : W → Type 0) (Lacks Lacking : WrittenProc → Type 0) (e : RunFault)
+    → parse [] ≡ Err text.Truncated → Comes a b parse (λ more. sub more >>= k) → ((p : WrittenProc) → Lacks p → Lacking p) → ReadsAs {X = X} {Y = Y} b c sub Fits Lacks (Err e) → ReadsAs {X = Z} {Y = W} a c parse Fit Lacking (Err e)
 fault_on a b c parse sub k Fits Fit Lacks Lacking faults.Header empty so_far lacks h = breaks_at a c parse text.Header empty refl (failed a b c parse sub k (errors.Text text.Header) so_far h.breaks)
 fault_on a b c parse sub k Fits Fit Lacks Lacking faults.Word empty so_far lacks h = breaks_at a c parse text.Word empty refl (failed a b c parse sub k (errors.Text text.Word) so_far h.breaks)
 fault_on a b c parse sub k Fits Fit Lacks Lacking faults.Number empty so_far lacks h = breaks_at a c parse text.Number empty refl (failed a b c parse sub k (errors.Text text.Number) so_far h.breaks)
@@ -42,18 +44,18 @@ fault_on a b c parse sub k Fits Fit Lacks Lacking faults.Read empty so_far lacks
 fault_on a b c parse sub k Fits Fit Lacks Lacking faults.Memory empty so_far lacks h = h ∙ so_far.failures
 
 -- the first line, and what follows it
-opens : (a : Seen) → Comes a a run_at (λ more. header_at more >>= λ w. rest_at first_stage none_gathered w.1)
-opens a = same_left a a run_at run_at (λ more. header_at more >>= λ w. rest_at first_stage none_gathered w.1) (begins a run_at) first_step
+opens : (a : Seen) → Comes a a run_at (λ more. header_at more >>= λ v. rest_at (first_stage v.0) none_gathered v.1)
+opens a = same_left a a run_at run_at (λ more. header_at more >>= λ v. rest_at (first_stage v.0) none_gathered v.1) (begins a run_at) first_step
 
 -- the first line was not read
 pub first_fault : (a c : Seen) (e : RunFault) → BeginsRun a c (Err e) → ReadsRun a c (Err e)
-first_fault a c e h = fault_on a a c run_at header_at (λ w. rest_at first_stage none_gathered w.1) (HasBegun a c) (FitsRun a c) (λ p. ⊥) (LacksRun a c) e run_none (opens a) (λ p lacks. absurd lacks) h
+first_fault a c e h = fault_on a a c run_at header_at (λ v. rest_at (first_stage v.0) none_gathered v.1) (HasBegun a c) (FitsRun a c) (λ p. ⊥) (LacksRun a c) e run_none (opens a) (λ p lacks. absurd lacks) h
 
 -- the first line was read
 pub first_folded : (a c : Seen) (s : ReadState) → HasBegun a c s → (GathersIn s none_gathered) → Folded a c s none_gathered
 first_folded a c s begun gathers = record {
-  so_far = same_left a c run_at (λ more. rest_at first_stage none_gathered more) (rest_at s.stage none_gathered)
-      (called a a c run_at header_at (λ w. rest_at first_stage none_gathered w.1) tt (opens a) begun.taken)
+  so_far = same_left a c run_at (λ more. rest_at (first_stage begun.version) none_gathered more) (rest_at s.stage none_gathered)
+      (called a a c run_at header_at (λ v. rest_at (first_stage v.0) none_gathered v.1) begun.version (opens a) begun.taken)
       (λ more. ap (λ st. rest_at st none_gathered more) (sym begun.first.stage));
   gathers = gathers;
 }
@@ -72,19 +74,23 @@ part_folded a b c s t g part h next = record {
   gathers = goes_gathers s t part g h.gathers next.is next.comes next.goes;
 }
 
--- what was read as a run is its text
-is_text : (a c : Seen) (logs : List Log) → Comes a c run_at (λ more. Ok (logs, more)) → Consumes a.remaining c.remaining (run_text logs)
-is_text a c logs h =
-    let found = run_is logs (h.read ++ []) [] (h.left []) in
-    subst (λ (t : List ℕ). Consumes a.remaining c.remaining t) (sym (append-nil h.read) ∙ found.1 ∙ append-nil (run_text logs)) h.taken
+-- what was read as a run keeps the rules of a run, and is its text
+as_text : (a c : Seen) (run : RunRecord) → Comes a c run_at (λ more. Ok (run, more)) → IsRunOf run × Consumes a.remaining c.remaining (run_text run)
+as_text a c run h =
+    let found = run_is run (h.read ++ []) [] (h.left []) in
+    (found.0, subst (λ (t : List ℕ). Consumes a.remaining c.remaining t) (sym (append-nil h.read) ∙ found.1 ∙ append-nil (run_text run)) h.taken)
+
+-- the run of these logs
+abbrev pub run_of : ReadState → GatheredLogs → RunRecord
+run_of s g = record { version = s.stage.version; logs = g.logs }
 
 -- the last line was read
-pub end_folded : (a b c : Seen) (s : ReadState) (g : GatheredLogs) → Folded a b s g → HasEnded b c s → IsRead a c g.logs
+pub end_folded : (a b c : Seen) (s : ReadState) (g : GatheredLogs) → Folded a b s g → HasEnded b c s → IsRead a c (run_of s g)
 end_folded a b c s g h ended =
     let whole = called a b c run_at (part_at s.stage) (λ x. behind s.stage g x.0 x.1) None (follows a b s g h) ended.taken in
-    record { is = gathers_run s g h.gathers; taken = whole; text = is_text a c g.logs whole }
+    record { is = (as_text a c (run_of s g) whole).0; taken = whole; text = (as_text a c (run_of s g) whole).1 }
 
 -- a part was not read, or the run is at its end and a member has no log
 pub next_fault : (a b c : Seen) (s t : ReadState) (g : GatheredLogs) (e : RunFault) → Folded a b s g → ReadsPart b c s t (Err e) → ReadsRun a c (Err e)
 next_fault a b c s t g e h fault = fault_on a b c run_at (part_at s.stage) (λ x. behind s.stage g x.0 x.1) (FitsPart b c s t) (FitsRun a c) (LacksLog b c s) (LacksRun a c) e run_none (follows a b s g h)
-    (λ p lacks. (g.logs, end_folded a b c s g h lacks.0, least_lacks s g p h.gathers lacks.0.comes lacks.1 lacks.2)) fault
+    (λ p lacks. (run_of s g, end_folded a b c s g h lacks.0, lacks.1, least_lacks s g p.process h.gathers lacks.0.comes lacks.2 lacks.3)) fault

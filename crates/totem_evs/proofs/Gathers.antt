@@ -1,4 +1,7 @@
 -- What is known of the logs so far, part after part.
+use Rattle.totem_ids.specs.declared.version.Version.{Version}
+use Rattle.totem_ids.specs.declared.version.Version.TheVariants.{Two}
+use Rattle.totem_ids.specs.Processes.{IsProcessIn}
 use Rattle.std.specs.Prelude.{nat_lt, ◌==◌, All, AllPairs, Contains, IsTrue, ◌↔◌}
 use Rattle.std.specs.List.{flat_map}
 use Rattle.std.proofs.Common.{◌≡◌, ◌⊎◌, ◌+◌, ◌-◌, ◌*◌, ◌<◌, ◌≤◌, ℕ, List, [], ◌∷◌, ◌++◌, length, Bool, true, false, Option, Some, None, inl, inr, refl, sym, ap, subst, ◌∙◌, append_assoc, arith}
@@ -9,7 +12,6 @@ use Rattle.std.proofs.lemmas.List.Quantifiers.{all_pairs_push, Any-push}
 use Rattle.std.proofs.lemmas.List.Elements.{All-push, Contains-push, Contains-push_cases, Contains-append_left, Contains-append_right, Contains-append_cases}
 use Rattle.std.proofs.lemmas.Grind.{flat_map-append}
 use Rattle.std.proofs.lemmas.Bool.Decides.{nat_tests}
-use Rattle.totem_ids.specs.Texts.{IsProcess}
 use Rattle.totem_evs.specs.declared.ending.Ending.{Ending}
 use Rattle.totem_evs.specs.declared.ending.Ending.TheVariants.{Standing, Failed}
 use Rattle.totem_evs.specs.declared.entry.Entry.{Entry}
@@ -37,7 +39,7 @@ pub record Idle (last : ℕ) (g : GatheredLogs) : Type 0 where
 -- in a log
 pub record Busy (log : OpenLog) (last : ℕ) (g : GatheredLogs) : Type 0 where
   pub proc : g.proc ≡ Some last
-  pub process : IsProcess last
+  pub process : IsProcessIn Two last
   pub count : length g.entries ≡ log.entries
   pub few : log.entries ≤ 1000000
   pub each : All IsEntry g.entries
@@ -165,10 +167,10 @@ none_yet = record {
   waits = λ q. ((λ c. absurd (in_none q c)), (λ c. absurd (in_none q c.0)));
 }
 
-pub first_gathers : (s : ReadState) → IsFirst s → GathersIn s none_gathered
-first_gathers s first = subst (λ (st : Stage). Gathers st.logs st.last st.log s.begun s.waiting none_gathered) (sym first.stage) (rw (first.begun, first.waiting) none_yet)
+pub first_gathers : (version : Version) (s : ReadState) → IsFirst version s → GathersIn s none_gathered
+first_gathers version s first = subst (λ (st : Stage). Gathers st.logs st.last st.log s.begun s.waiting none_gathered) (sym first.stage) (rw (first.begun, first.waiting) none_yet)
 
-goes_log : (logs last : ℕ) (log : Option OpenLog) (begun waiting next : List ℕ) (g : GatheredLogs) (p : ℕ) → Gathers logs last log begun waiting g → IsProcess p → ComesIn logs last log (Some (parts.Log p)) → Waits waiting [] (begun ++ p ∷ []) next
+goes_log : (logs last : ℕ) (log : Option OpenLog) (begun waiting next : List ℕ) (g : GatheredLogs) (p : ℕ) → Gathers logs last log begun waiting g → IsProcessIn Two p → ComesIn logs last log (Some (parts.Log p)) → Waits waiting [] (begun ++ p ∷ []) next
     → Gathers (logs + 1) p (Some (record { entries = 0; failed = false })) (begun ++ p ∷ []) next (gathered g (parts.Log p))
 goes_log logs last (Some l) begun waiting next g p h is comes w = absurd comes
 goes_log logs last None begun waiting next g p h is comes w = record {
@@ -297,16 +299,16 @@ pending (Some log) = 1000002 - log.entries
 abbrev pub parts_left : Stage → ℕ
 parts_left stage = 1000003 * (33 - stage.logs) + pending stage.log
 
-falls_in : (logs last : ℕ) (log : Option OpenLog) (part : Part) → logs ≤ 32 → FewEntries log → ComesIn logs last log (Some part) → parts_left (next_stage (record { logs = logs; last = last; log = log }) part) < parts_left (record { logs = logs; last = last; log = log })
-falls_in logs last None (parts.Log p) few entries comes = omega arith
-falls_in logs last None (parts.Entry e) few entries comes = absurd comes
-falls_in logs last None (parts.Close ending) few entries comes = absurd comes
-falls_in logs last (Some l) (parts.Log p) few entries comes = absurd comes
-falls_in logs last (Some l) (parts.Entry e) few entries comes = omega (arith, entries)
-falls_in logs last (Some l) (parts.Close ending) few entries comes = omega (arith, entries)
+falls_in : (version : Version) (logs last : ℕ) (log : Option OpenLog) (part : Part) → logs ≤ 32 → FewEntries log → ComesIn logs last log (Some part) → parts_left (next_stage (record { version = version; logs = logs; last = last; log = log }) part) < parts_left (record { version = version; logs = logs; last = last; log = log })
+falls_in version logs last None (parts.Log p) few entries comes = omega arith
+falls_in version logs last None (parts.Entry e) few entries comes = absurd comes
+falls_in version logs last None (parts.Close ending) few entries comes = absurd comes
+falls_in version logs last (Some l) (parts.Log p) few entries comes = absurd comes
+falls_in version logs last (Some l) (parts.Entry e) few entries comes = omega (arith, entries)
+falls_in version logs last (Some l) (parts.Close ending) few entries comes = omega (arith, entries)
 
 pub falls : (s t : ReadState) (part : Part) (g : GatheredLogs) → GathersIn s g → MayCome s.stage (Some part) → Goes s part t → parts_left t.stage < parts_left s.stage
-falls s t part g h comes goes = rw goes.stage (falls_in s.stage.logs s.stage.last s.stage.log part h.few (limits s g h).0 comes)
+falls s t part g h comes goes = rw goes.stage (falls_in s.stage.version s.stage.logs s.stage.last s.stage.log part h.few (limits s g h).0 comes)
 
 -- ---- the end
 

@@ -19,6 +19,9 @@ pub mod ExampleRuns
 pub mod ExampleTravel
 pub mod ExampleTravelGood
 pub mod FromLeft
+pub mod LooseFrom
+pub mod Weaker
+pub mod ProcOrder
 pub mod GoesOn
 pub mod LineGoesOn
 pub mod RunGoesOn

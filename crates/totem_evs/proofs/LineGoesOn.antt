@@ -1,6 +1,11 @@
 -- Where a line of a log is too short, it goes on.
+use Rattle.totem_ids.specs.declared.version.Version.{Version}
+use Rattle.totem_ids.specs.Ranks.{rank_of, id_of, life_of}
+use Rattle.totem_ids.specs.Processes.{writes_lives, process_text, first_life_then, life_then, process_then, IsProcessIn}
+use Rattle.totem_ids.proofs.RankParts.{id_of_rank, life_of_rank}
+use Rattle.totem_ids.proofs.Lives.{process_then_is}
 use Rattle.std.specs.Prelude.{decimal, nat_le, ◌==◌, codes, not, ◌&&◌}
-use Rattle.std.proofs.Common.{◌≡◌, ℕ, zero, suc, ◌+◌, ◌*◌, ◌^◌, ◌<◌, ◌≤◌, inl, inr, List, [], ◌∷◌, ◌++◌, Ok, Err, Bool, true, false, cond, refl, sym, ◌∙◌, ap, append_assoc, arith}
+use Rattle.std.proofs.Common.{◌≡◌, ℕ, zero, suc, inl, inr, List, [], ◌∷◌, ◌++◌, Ok, Err, Bool, true, false, cond, refl, sym, ◌∙◌, ap, append_assoc, arith}
 use Rattle.std.proofs.lemmas.Bool.{eqb-true}
 use Rattle.std.proofs.lemmas.List.{append-nil}
 use Rattle.totem_ids.specs.declared.fault.TextFault.TheVariants as faults
@@ -10,126 +15,168 @@ use Rattle.totem_ids.specs.declared.message.Service.{Service}
 use Rattle.totem_ids.specs.declared.message.Service.TheVariants.{Agreed, Safe}
 use Rattle.totem_ids.specs.Names.{MessageName}
 use Rattle.totem_ids.specs.Sources.{Parsed, ◌>>=◌}
-use Rattle.totem_ids.specs.Numbers.{byte_at, word_at, number_at}
+use Rattle.totem_ids.specs.Numbers.{byte_at, word_at, number_at, number_to}
 use Rattle.totem_ids.specs.Parsers.{conf_at, message_at}
 use Rattle.totem_ids.specs.Services.{service_at}
-use Rattle.totem_ids.specs.Texts.{conf_text, message_text, service_text, IsConf, IsMessage}
+use Rattle.totem_ids.specs.Texts.{conf_text, message_text, service_text, IsUpTo, IsConf, IsMessage}
 use Rattle.totem_ids.proofs.ServiceSpelling.{service_is}
-use Rattle.totem_ids.proofs.Spelled.{decimal_push, byte_is, word_is, number_is, conf_is}
+use Rattle.totem_ids.proofs.Spelled.{byte_is, word_is, number_to_is, conf_is}
 use Rattle.totem_evs.specs.declared.entry.Entry.TheVariants.{Conf, Send, Deliver, Fail}
 use Rattle.totem_evs.specs.declared.ending.Ending.TheVariants.{Standing, Failed}
 use Rattle.totem_evs.specs.declared.line.Line.{Line}
 use Rattle.totem_evs.specs.declared.line.Line.TheVariants as lines
 use Rattle.totem_evs.specs.RunText.{line, members_text}
 use Rattle.totem_evs.specs.RunGrammar.{members_at, change_at, send_at, delivery_at, open_at, failed_at, fail_at, ail_at, failure_at, line_at}
-use Rattle.totem_evs.specs.TextFronts.{IsWideMembers, IsWideEntry}
-use Rattle.totem_evs.proofs.FromLeft.{MembersFrom, are_wide_members}
+use Rattle.totem_evs.specs.TextFronts.{IsLooseMembers, IsLooseEntry}
+use Rattle.totem_evs.proofs.LooseFrom.{LooseMembersFrom, loose_member, are_loose_members}
 use Rattle.totem_evs.proofs.SpelledLine.{IsLineOf, line_text, not_within}
-use Rattle.totem_evs.proofs.GoesOn.{Cut, ok_cut, fault_cut, test_cut, bind_cut, last_cut, byte_cut, word_cut, number_cut, ConfTo, conf_cut, MessageTo, message_cut, first_ring, first_ring_is}
+use Rattle.totem_evs.proofs.GoesOn.{Cut, ok_cut, fault_cut, test_cut, bind_cut, last_cut, cut_as, byte_cut, word_cut, number_cut, NumberTo, number_to_cut, ConfTo, conf_cut, MessageTo, message_cut, first_ring, first_ring_is}
 
--- ---- a number that may not rise
+-- ---- processes
 
--- a zero behind a number
-ten_times : (n : ℕ) (bytes : List ℕ) → 0 < n → n < 2 ^ 40 → bytes ≡ decimal n → bytes ++ 48 ∷ [] ≡ decimal (10 * n)
-ten_times n bytes pos fits e =
-    let whole : 10 * n + 0 ≡ 10 * n = omega arith in
-    ap (λ (t : List ℕ). t ++ 48 ∷ []) e ∙ sym (decimal_push n 0 pos (omega arith) (omega arith)) ∙ ap decimal whole
+-- a process that texts of this version can write
+abbrev pub ProcessTo : Version → List ℕ → Type 0
+ProcessTo version t = (p : ℕ) × IsProcessIn version p × (t ≡ process_text version p)
 
--- a number above `last`
-abbrev pub AboveTo : ℕ → List ℕ → Type 0
-AboveTo last t = (p : ℕ) × (last < p) × (p ≤ 9999999999) × (t ≡ decimal p)
+-- a process from its parts
+made_process : (version : Version) (id life : ℕ) → IsUpTo 65535 id → IsUpTo 65535 life → (writes_lives version ≡ false → life ≡ 1) → IsProcessIn version (rank_of id life)
+made_process version id life id_fits life_fits first =
+    let i : id_of (rank_of id life) ≡ id = id_of_rank id life (omega (arith, life_fits.small)) in
+    let l : life_of (rank_of id life) ≡ life = life_of_rank id life (omega (arith, life_fits.small)) in
+    record { id_fits = rw i id_fits; life_fits = rw l life_fits; first = λ h. l ∙ first h }
 
-five_zeros : (last n : ℕ) (bytes : List ℕ) → last ≤ 65535 → 0 < n → n ≤ 65535 → bytes ≡ decimal n → AboveTo last (bytes ++ 48 ∷ 48 ∷ 48 ∷ 48 ∷ 48 ∷ [])
-five_zeros last n bytes le pos small e =
-    let a = ten_times n bytes pos (omega arith) e in
-    let b = ten_times (10 * n) (bytes ++ 48 ∷ []) (omega arith) (omega arith) a in
-    let c = ten_times (10 * (10 * n)) ((bytes ++ 48 ∷ []) ++ 48 ∷ []) (omega arith) (omega arith) b in
-    let d = ten_times (10 * (10 * (10 * n))) (((bytes ++ 48 ∷ []) ++ 48 ∷ []) ++ 48 ∷ []) (omega arith) (omega arith) c in
-    let f = ten_times (10 * (10 * (10 * (10 * n)))) ((((bytes ++ 48 ∷ []) ++ 48 ∷ []) ++ 48 ∷ []) ++ 48 ∷ []) (omega arith) (omega arith) d in
-    let regrouped : bytes ++ 48 ∷ 48 ∷ 48 ∷ 48 ∷ 48 ∷ [] ≡ ((((bytes ++ 48 ∷ []) ++ 48 ∷ []) ++ 48 ∷ []) ++ 48 ∷ []) ++ 48 ∷ [] = sym (simp append_assoc) in
-    (10 * (10 * (10 * (10 * (10 * n)))), omega arith, omega arith, regrouped ∙ f)
+first_of_numbers : IsUpTo 65535 1
+first_of_numbers = record { positive = omega arith; small = omega arith }
 
-pub above_cut : (last : ℕ) (bytes : List ℕ) → last ≤ 65535 → Cut (number_at 65535 bytes) (AboveTo last) bytes
-above_cut last bytes le = record {
+-- the first process
+pub first_process_is : (version : Version) → IsProcessIn version (rank_of 1 1)
+first_process_is version = made_process version 1 1 first_of_numbers first_of_numbers (λ h. refl)
+
+-- whether lives are written
+abbrev Written : Bool → List ℕ → Type 0
+Written lives t = (id : ℕ) × (life : ℕ) × IsUpTo 65535 id × IsUpTo 65535 life × (lives ≡ false → life ≡ 1) × (t ≡ cond lives (decimal id ++ codes ":" ++ decimal life) (decimal id))
+
+some_number : (bytes : List ℕ) → Cut (number_at 65535 bytes) (λ t. (n : ℕ) × IsUpTo 65535 n × (t ≡ decimal n)) bytes
+some_number bytes = record {
   goes = λ e. elim (number_cut 65535 bytes (omega arith) (omega arith) e) [
-    | inl none ↦ (decimal (last + 1), (last + 1, omega arith, omega arith, ap (λ (t : List ℕ). t ++ decimal (last + 1)) none))
-    | inr x ↦ (48 ∷ 48 ∷ 48 ∷ 48 ∷ 48 ∷ [], five_zeros last x.0 bytes le x.1.positive x.1.small x.2)
+    | inl none ↦ (decimal 1, (1, first_of_numbers, ap (λ (t : List ℕ). t ++ decimal 1) none))
+    | inr x ↦ ([], (x.0, x.1, append-nil bytes ∙ x.2))
   ];
 }
 
+first_life_cut : (bytes : List ℕ) → Cut (first_life_then bytes) (Written false) bytes
+unfolding first_life_then
+first_life_cut bytes =
+    last_cut (number_at 65535 bytes) (λ id. ((rank_of id.0.0 1, id.0.1), id.1)) (λ t. (n : ℕ) × IsUpTo 65535 n × (t ≡ decimal n)) (Written false) bytes (some_number bytes)
+    (λ t x. (x.0, 1, x.1, first_of_numbers, (λ h. refl), x.2))
+
+colon_between : (a b : List ℕ) → (a ++ 58 ∷ []) ++ b ≡ a ++ codes ":" ++ b
+colon_between a b = simp append_assoc
+
+life_cut : (bytes : List ℕ) → Cut (life_then bytes) (Written true) bytes
+unfolding life_then
+life_cut bytes =
+    bind_cut (number_to 65535 58 bytes) (λ id. number_at 65535 id.1 >>= λ life. Ok ((rank_of id.0 life.0.0, life.0.1), life.1)) (NumberTo 65535 58) (Written true) bytes (number_to_cut 65535 58 bytes (omega arith) (omega arith))
+    (λ t x. (decimal 1, (x.0, 1, x.1, first_of_numbers, (λ h. absurd cc), ap (λ (k : List ℕ). k ++ decimal 1) x.2 ∙ colon_between (decimal x.0) (decimal 1))))
+    (λ id rest e.
+    let y = number_to_is 65535 58 id bytes rest (omega arith) (omega arith) e in
+    record {
+      text = decimal id ++ 58 ∷ [];
+      whole = y.spelled ∙ sym (append_assoc (decimal id) (58 ∷ []) rest);
+      next = last_cut (number_at 65535 rest) (λ life. ((rank_of id life.0.0, life.0.1), life.1)) (λ t. (n : ℕ) × IsUpTo 65535 n × (t ≡ decimal n)) (λ u. Written true ((decimal id ++ 58 ∷ []) ++ u)) rest (some_number rest)
+          (λ t x. (id, x.0, record { positive = y.positive; small = y.small }, x.1, (λ h. absurd cc), ap (λ (k : List ℕ). (decimal id ++ 58 ∷ []) ++ k) x.2 ∙ colon_between (decimal id) (decimal x.0)));
+    })
+
+written_is : (version : Version) (t : List ℕ) → Written (writes_lives version) t → ProcessTo version t
+written_is version t x =
+    let id = x.0 in
+    let life = x.1 in
+    let i : id_of (rank_of id life) ≡ id = id_of_rank id life (omega (arith, x.3.small)) in
+    let l : life_of (rank_of id life) ≡ life = life_of_rank id life (omega (arith, x.3.small)) in
+    (rank_of id life, made_process version id life x.2 x.3 x.4, rw (i, l) x.5)
+
+pub process_cut : (version : Version) (bytes : List ℕ) → Cut (process_then version bytes) (ProcessTo version) bytes
+unfolding process_then
+process_cut version bytes = cut_as (cond (writes_lives version) (life_then bytes) (first_life_then bytes)) (Written (writes_lives version)) (ProcessTo version) bytes (go (writes_lives version)) (written_is version)
+  where
+    go : (t : Bool) → Cut (cond t (life_then bytes) (first_life_then bytes)) (Written t) bytes
+    go true = life_cut bytes
+    go false = first_life_cut bytes
+
 -- ---- members
 
-abbrev pub MembersTo : ℕ → ℕ → List ℕ → Type 0
-MembersTo room last t = (ms : List ℕ) × MembersFrom 9999999999 room last ms × (32 ∷ t ≡ members_text ms ++ 10 ∷ [])
+abbrev pub MembersTo : Version → ℕ → ℕ → List ℕ → Type 0
+MembersTo version room last t = (ms : List ℕ) × LooseMembersFrom version room last ms × (32 ∷ t ≡ members_text (process_text version) ms ++ 10 ∷ [])
 
-one_member_text : (p : ℕ) → 32 ∷ (decimal p ++ 10 ∷ []) ≡ members_text (p ∷ []) ++ 10 ∷ []
-one_member_text p = ap (λ (t : List ℕ). 32 ∷ (t ++ 10 ∷ [])) (sym (append-nil (decimal p)))
+one_member_text : (version : Version) (p : ℕ) → 32 ∷ (process_text version p ++ 10 ∷ []) ≡ members_text (process_text version) (p ∷ []) ++ 10 ∷ []
+one_member_text version p = ap (λ (t : List ℕ). 32 ∷ (t ++ 10 ∷ [])) (sym (append-nil (process_text version p)))
 
-members_parts : (p : ℕ) (ms t : List ℕ) → 32 ∷ t ≡ members_text ms ++ 10 ∷ [] → 32 ∷ ((decimal p ++ 32 ∷ []) ++ t) ≡ members_text (p ∷ ms) ++ 10 ∷ []
-members_parts p ms t e = ap (λ (k : List ℕ). 32 ∷ k) (append_assoc (decimal p) (32 ∷ []) t ∙ ap (λ (k : List ℕ). decimal p ++ k) e ∙ sym (append_assoc (decimal p) (members_text ms) (10 ∷ [])))
+members_parts : (version : Version) (p : ℕ) (ms t : List ℕ) → 32 ∷ t ≡ members_text (process_text version) ms ++ 10 ∷ [] → 32 ∷ ((process_text version p ++ 32 ∷ []) ++ t) ≡ members_text (process_text version) (p ∷ ms) ++ 10 ∷ []
+members_parts version p ms t e = ap (λ (k : List ℕ). 32 ∷ k) (append_assoc (process_text version p) (32 ∷ []) t ∙ ap (λ (k : List ℕ). process_text version p ++ k) e ∙ sym (append_assoc (process_text version p) (members_text (process_text version) ms) (10 ∷ [])))
 
-pub members_cut : (room last : ℕ) (bytes : List ℕ) → last ≤ 65535 → Cut (members_at room last bytes) (MembersTo room last) bytes
+pub members_cut : (version : Version) (room last : ℕ) (bytes : List ℕ) → Cut (members_at version room last bytes) (MembersTo version room last) bytes
 unfolding members_at
-members_cut zero last bytes le = fault_cut faults.TooMany (MembersTo zero last) bytes refl
-members_cut (suc room) last bytes le =
-    bind_cut (number_at 65535 bytes) (λ p. cond (nat_le p.0.0 last) (Err faults.Members) (cond (p.0.1 == 10) (Ok (p.0.0 ∷ [], p.1)) (cond (p.0.1 == 32) (members_at room p.0.0 p.1 >>= λ others. Ok (p.0.0 ∷ others.0, others.1)) (Err faults.Word)))) (AboveTo last) (MembersTo (suc room) last) bytes (above_cut last bytes le)
-    (λ t x. (10 ∷ [], (x.0 ∷ [], record { some = omega arith; few = omega arith; rises = (x.1, x.2, tt) }, ap (λ (k : List ℕ). 32 ∷ (k ++ 10 ∷ [])) x.3 ∙ one_member_text x.0)))
+members_cut version zero last bytes = fault_cut faults.TooMany (MembersTo version zero last) bytes refl
+members_cut version (suc room) last bytes =
+    bind_cut (process_then version bytes) (λ p. cond (nat_le (id_of p.0.0) last) (Err faults.Members) (cond (p.0.1 == 10) (Ok (p.0.0 ∷ [], p.1)) (cond (p.0.1 == 32) (members_at version room (id_of p.0.0) p.1 >>= λ others. Ok (p.0.0 ∷ others.0, others.1)) (Err faults.Word)))) (ProcessTo version) (MembersTo version (suc room) last) bytes (process_cut version bytes)
+    (λ t x. (10 ∷ [], (x.0 ∷ [], record { some = omega arith; few = omega arith; rises = x.1 }, ap (λ (k : List ℕ). 32 ∷ (k ++ 10 ∷ [])) x.2 ∙ one_member_text version x.0)))
     (λ p rest e.
-    let x = number_is 65535 p.0 p.1 bytes rest (omega arith) (omega arith) e in
-    let Is : List ℕ → Type 0 = λ u. MembersTo (suc room) last ((decimal p.0 ++ p.1 ∷ []) ++ u) in
+    let x = process_then_is version p.0 p.1 bytes rest e in
+    let is_process : IsProcessIn version p.0 = record { id_fits = x.id_fits; life_fits = x.life_fits; first = x.first } in
+    let Is : List ℕ → Type 0 = λ u. MembersTo version (suc room) last ((process_text version p.0 ++ p.1 ∷ []) ++ u) in
     record {
-      text = decimal p.0 ++ p.1 ∷ [];
-      whole = x.spelled ∙ sym (append_assoc (decimal p.0) (p.1 ∷ []) rest);
-      next = test_cut (nat_le p.0 last) (Err faults.Members) (cond (p.1 == 10) (Ok (p.0 ∷ [], rest)) (cond (p.1 == 32) (members_at room p.0 rest >>= λ others. Ok (p.0 ∷ others.0, others.1)) (Err faults.Word))) Is rest
+      text = process_text version p.0 ++ p.1 ∷ [];
+      whole = x.spelled ∙ sym (append_assoc (process_text version p.0) (p.1 ∷ []) rest);
+      next = test_cut (nat_le (id_of p.0) last) (Err faults.Members) (cond (p.1 == 10) (Ok (p.0 ∷ [], rest)) (cond (p.1 == 32) (members_at version room (id_of p.0) rest >>= λ others. Ok (p.0 ∷ others.0, others.1)) (Err faults.Word))) Is rest
           (λ h. fault_cut faults.Members Is rest refl)
-          (λ above. test_cut (p.1 == 10) (Ok (p.0 ∷ [], rest)) (cond (p.1 == 32) (members_at room p.0 rest >>= λ others. Ok (p.0 ∷ others.0, others.1)) (Err faults.Word)) Is rest
+          (λ above. test_cut (p.1 == 10) (Ok (p.0 ∷ [], rest)) (cond (p.1 == 32) (members_at version room (id_of p.0) rest >>= λ others. Ok (p.0 ∷ others.0, others.1)) (Err faults.Word)) Is rest
           (λ h. ok_cut (p.0 ∷ [], rest) Is rest)
-          (λ h. test_cut (p.1 == 32) (members_at room p.0 rest >>= λ others. Ok (p.0 ∷ others.0, others.1)) (Err faults.Word) Is rest
+          (λ h. test_cut (p.1 == 32) (members_at version room (id_of p.0) rest >>= λ others. Ok (p.0 ∷ others.0, others.1)) (Err faults.Word) Is rest
           (λ h. let same : p.1 ≡ 32 = eqb-true p.1 32 h in
-          last_cut (members_at room p.0 rest) (λ others. (p.0 ∷ others.0, others.1)) (MembersTo room p.0) Is rest (members_cut room p.0 rest x.small)
-          (λ t m. (p.0 ∷ m.0, record { some = omega arith; few = omega (arith, m.1.few); rises = (not_within p.0 last above, omega (arith, x.small), m.1.rises) }, ap (λ (b : ℕ). 32 ∷ ((decimal p.0 ++ b ∷ []) ++ t)) same ∙ members_parts p.0 m.0 t m.2)))
+          last_cut (members_at version room (id_of p.0) rest) (λ others. (p.0 ∷ others.0, others.1)) (MembersTo version room (id_of p.0)) Is rest (members_cut version room (id_of p.0) rest)
+          (λ t m. (p.0 ∷ m.0, record { some = omega arith; few = omega (arith, m.1.few); rises = loose_member version last p.0 m.0 (not_within (id_of p.0) last above) is_process m.1.rises }, ap (λ (b : ℕ). 32 ∷ ((process_text version p.0 ++ b ∷ []) ++ t)) same ∙ members_parts version p.0 m.0 t m.2)))
           (λ h. fault_cut faults.Word Is rest refl)));
     })
 
 -- ---- lines
 
-abbrev pub LineTo : Bool → Bool → Bool → List ℕ → Type 0
-LineTo full some failed t = (l : Line) × IsLineOf IsWideEntry full some failed l × (t ≡ line_text l)
+abbrev pub LineTo : Version → Bool → Bool → Bool → List ℕ → Type 0
+LineTo version full some failed t = (l : Line) × IsLineOf (IsLooseEntry version) full some failed l × (t ≡ line_text version l)
 
-one_member : IsWideMembers (1 ∷ [])
-one_member = are_wide_members (1 ∷ []) (record { some = omega arith; few = omega arith; rises = (omega arith, omega arith, tt) })
+one_member : (version : Version) → IsLooseMembers version (rank_of 1 1 ∷ [])
+one_member version = are_loose_members version (rank_of 1 1 ∷ []) (record { some = omega arith; few = omega arith; rises = first_process_is version })
 
 change_whole : (x ms t : List ℕ) → 32 ∷ t ≡ ms ++ 10 ∷ [] → 99 ∷ (codes "onf " ++ ((x ++ 32 ∷ []) ++ t)) ≡ (codes "conf " ++ x ++ ms) ++ 10 ∷ []
 change_whole x ms t e = ap (λ (k : List ℕ). codes "conf " ++ k) (append_assoc x (32 ∷ []) t ∙ ap (λ (k : List ℕ). x ++ k) e ∙ sym (append_assoc x ms (10 ∷ [])))
 
-pub change_cut : (full some failed : Bool) (bytes : List ℕ) → Cut (change_at full bytes) (λ u. LineTo full some failed (99 ∷ u)) bytes
+pub change_cut : (version : Version) (full some failed : Bool) (bytes : List ℕ) → Cut (change_at version full bytes) (λ u. LineTo version full some failed (99 ∷ u)) bytes
 unfolding change_at
-change_cut full some failed bytes =
-    test_cut full (Err faults.TooMany) (word_at faults.Word (codes "onf ") bytes >>= λ w. conf_at 32 w.1 >>= λ x. members_at 32 0 x.1 >>= λ members. Ok (lines.Entry (Conf x.0 members.0), members.1)) Is bytes
+change_cut version full some failed bytes =
+    test_cut full (Err faults.TooMany) (word_at faults.Word (codes "onf ") bytes >>= λ w. conf_at 32 w.1 >>= λ x. members_at version 32 0 x.1 >>= λ members. Ok (lines.Entry (Conf x.0 members.0), members.1)) Is bytes
     (λ h. fault_cut faults.TooMany Is bytes refl)
-    (λ h. bind_cut (word_at faults.Word (codes "onf ") bytes) (λ w. conf_at 32 w.1 >>= λ x. members_at 32 0 x.1 >>= λ members. Ok (lines.Entry (Conf x.0 members.0), members.1)) (λ t. t ≡ codes "onf ") Is bytes (word_cut faults.Word (codes "onf ") bytes refl)
+    (λ h. bind_cut (word_at faults.Word (codes "onf ") bytes) (λ w. conf_at 32 w.1 >>= λ x. members_at version 32 0 x.1 >>= λ members. Ok (lines.Entry (Conf x.0 members.0), members.1)) (λ t. t ≡ codes "onf ") Is bytes (word_cut faults.Word (codes "onf ") bytes refl)
     (λ t e.
-    let u = (conf_text (Regular first_ring) ++ 32 ∷ []) ++ (decimal 1 ++ 10 ∷ []) in
-    (u, (lines.Entry (Conf (Regular first_ring) (1 ∷ [])), (h, (first_ring_is, one_member)), ap (λ (k : List ℕ). 99 ∷ (k ++ u)) e ∙ change_whole (conf_text (Regular first_ring)) (members_text (1 ∷ [])) (decimal 1 ++ 10 ∷ []) (one_member_text 1))))
+    let u = (conf_text (Regular first_ring) ++ 32 ∷ []) ++ (process_text version (rank_of 1 1) ++ 10 ∷ []) in
+    (u, (lines.Entry (Conf (Regular first_ring) (rank_of 1 1 ∷ [])), (h, (first_ring_is, one_member version)), ap (λ (k : List ℕ). 99 ∷ (k ++ u)) e ∙ change_whole (conf_text (Regular first_ring)) (members_text (process_text version) (rank_of 1 1 ∷ [])) (process_text version (rank_of 1 1) ++ 10 ∷ []) (one_member_text version (rank_of 1 1)))))
     (λ w rest e. record {
       text = codes "onf ";
       whole = word_is faults.Word (codes "onf ") bytes rest w e;
-      next = bind_cut (conf_at 32 rest) (λ x. members_at 32 0 x.1 >>= λ members. Ok (lines.Entry (Conf x.0 members.0), members.1)) (ConfTo 32) (λ u. Is (codes "onf " ++ u)) rest (conf_cut 32 rest)
+      next = bind_cut (conf_at 32 rest) (λ x. members_at version 32 0 x.1 >>= λ members. Ok (lines.Entry (Conf x.0 members.0), members.1)) (ConfTo 32) (λ u. Is (codes "onf " ++ u)) rest (conf_cut 32 rest)
           (λ t x.
-          let u = decimal 1 ++ 10 ∷ [] in
-          (u, (lines.Entry (Conf x.0 (1 ∷ [])), (h, (x.1, one_member)), ap (λ (k : List ℕ). 99 ∷ (codes "onf " ++ (k ++ u))) x.2 ∙ change_whole (conf_text x.0) (members_text (1 ∷ [])) u (one_member_text 1))))
+          let u = process_text version (rank_of 1 1) ++ 10 ∷ [] in
+          (u, (lines.Entry (Conf x.0 (rank_of 1 1 ∷ [])), (h, (x.1, one_member version)), ap (λ (k : List ℕ). 99 ∷ (codes "onf " ++ (k ++ u))) x.2 ∙ change_whole (conf_text x.0) (members_text (process_text version) (rank_of 1 1 ∷ [])) u (one_member_text version (rank_of 1 1)))))
           (λ x rest2 e2.
           let y = conf_is 32 x rest rest2 e2 in
           record {
             text = conf_text x ++ 32 ∷ [];
             whole = y.1 ∙ sym (append_assoc (conf_text x) (32 ∷ []) rest2);
-            next = last_cut (members_at 32 0 rest2) (λ members. (lines.Entry (Conf x members.0), members.1)) (MembersTo 32 0) (λ u. Is (codes "onf " ++ ((conf_text x ++ 32 ∷ []) ++ u))) rest2 (members_cut 32 0 rest2 (omega arith))
-                (λ t m. (lines.Entry (Conf x m.0), (h, (y.0, are_wide_members m.0 m.1)), change_whole (conf_text x) (members_text m.0) t m.2));
+            next = last_cut (members_at version 32 0 rest2) (λ members. (lines.Entry (Conf x members.0), members.1)) (MembersTo version 32 0) (λ u. Is (codes "onf " ++ ((conf_text x ++ 32 ∷ []) ++ u))) rest2 (members_cut version 32 0 rest2)
+                (λ t m. (lines.Entry (Conf x m.0), (h, (y.0, are_loose_members version m.0 m.1)), change_whole (conf_text x) (members_text (process_text version) m.0) t m.2));
           });
     }))
   where
     Is : List ℕ → Type 0
-    Is u = LineTo full some failed (99 ∷ u)
+    Is u = LineTo version full some failed (99 ∷ u)
 
 -- a service
 abbrev pub ServiceTo : List ℕ → Type 0
@@ -165,10 +212,10 @@ send_whole : (x s m : List ℕ) → 115 ∷ (codes "end " ++ ((x ++ 32 ∷ []) +
 send_whole x s m = simp append_assoc
 
 -- what is behind the configuration of a send
-send_tail : (full some failed : Bool) (x : ConfId) (rest : List ℕ) → full ≡ false → IsConf x
-    → Cut (service_at rest >>= λ service. word_at faults.Word (codes " ") service.1 >>= λ space. message_at 10 space.1 >>= λ m. Ok (lines.Entry (Send m.0 x service.0), m.1)) (λ u. LineTo full some failed (115 ∷ (codes "end " ++ ((conf_text x ++ 32 ∷ []) ++ u)))) rest
+send_tail : (version : Version) (full some failed : Bool) (x : ConfId) (rest : List ℕ) → full ≡ false → IsConf x
+    → Cut (service_at rest >>= λ service. word_at faults.Word (codes " ") service.1 >>= λ space. message_at 10 space.1 >>= λ m. Ok (lines.Entry (Send m.0 x service.0), m.1)) (λ u. LineTo version full some failed (115 ∷ (codes "end " ++ ((conf_text x ++ 32 ∷ []) ++ u)))) rest
 unfolding message_end
-send_tail full some failed x rest h is =
+send_tail version full some failed x rest h is =
     bind_cut (service_at rest) (λ service. word_at faults.Word (codes " ") service.1 >>= λ space. message_at 10 space.1 >>= λ m. Ok (lines.Entry (Send m.0 x service.0), m.1)) ServiceTo Is rest (service_cut rest)
     (λ t s. (codes " " ++ message_end, (lines.Entry (Send first_message x s.0), (h, (first_message_is, is)), ap (λ (k : List ℕ). 115 ∷ (codes "end " ++ ((conf_text x ++ 32 ∷ []) ++ (k ++ (codes " " ++ message_end))))) s.1 ∙ send_whole (conf_text x) (service_text s.0) (message_text first_message))))
     (λ s rest2 e2. record {
@@ -185,11 +232,11 @@ send_tail full some failed x rest h is =
     })
   where
     Is : List ℕ → Type 0
-    Is u = LineTo full some failed (115 ∷ (codes "end " ++ ((conf_text x ++ 32 ∷ []) ++ u)))
+    Is u = LineTo version full some failed (115 ∷ (codes "end " ++ ((conf_text x ++ 32 ∷ []) ++ u)))
 
-pub send_cut : (full some failed : Bool) (bytes : List ℕ) → Cut (send_at full bytes) (λ u. LineTo full some failed (115 ∷ u)) bytes
+pub send_cut : (version : Version) (full some failed : Bool) (bytes : List ℕ) → Cut (send_at full bytes) (λ u. LineTo version full some failed (115 ∷ u)) bytes
 unfolding send_at message_end
-send_cut full some failed bytes =
+send_cut version full some failed bytes =
     test_cut full (Err faults.TooMany) (word_at faults.Word (codes "end ") bytes >>= λ w. conf_at 32 w.1 >>= λ x. service_at x.1 >>= λ service. word_at faults.Word (codes " ") service.1 >>= λ space. message_at 10 space.1 >>= λ m. Ok (lines.Entry (Send m.0 x.0 service.0), m.1)) Is bytes
     (λ h. fault_cut faults.TooMany Is bytes refl)
     (λ h. bind_cut (word_at faults.Word (codes "end ") bytes) (λ w. conf_at 32 w.1 >>= λ x. service_at x.1 >>= λ service. word_at faults.Word (codes " ") service.1 >>= λ space. message_at 10 space.1 >>= λ m. Ok (lines.Entry (Send m.0 x.0 service.0), m.1)) (λ t. t ≡ codes "end ") Is bytes (word_cut faults.Word (codes "end ") bytes refl)
@@ -208,19 +255,19 @@ send_cut full some failed bytes =
           record {
             text = conf_text x ++ 32 ∷ [];
             whole = y.1 ∙ sym (append_assoc (conf_text x) (32 ∷ []) rest2);
-            next = send_tail full some failed x rest2 h y.0;
+            next = send_tail version full some failed x rest2 h y.0;
           });
     }))
   where
     Is : List ℕ → Type 0
-    Is u = LineTo full some failed (115 ∷ u)
+    Is u = LineTo version full some failed (115 ∷ u)
 
 delivery_whole : (x m : List ℕ) → 100 ∷ (codes "lv " ++ ((x ++ 32 ∷ []) ++ (m ++ 10 ∷ []))) ≡ (codes "dlv " ++ x ++ codes " " ++ m) ++ 10 ∷ []
 delivery_whole x m = simp append_assoc
 
-pub delivery_cut : (full some failed : Bool) (bytes : List ℕ) → Cut (delivery_at full bytes) (λ u. LineTo full some failed (100 ∷ u)) bytes
+pub delivery_cut : (version : Version) (full some failed : Bool) (bytes : List ℕ) → Cut (delivery_at full bytes) (λ u. LineTo version full some failed (100 ∷ u)) bytes
 unfolding delivery_at message_end
-delivery_cut full some failed bytes =
+delivery_cut version full some failed bytes =
     test_cut full (Err faults.TooMany) (word_at faults.Word (codes "lv ") bytes >>= λ w. conf_at 32 w.1 >>= λ x. message_at 10 x.1 >>= λ m. Ok (lines.Entry (Deliver m.0 x.0), m.1)) Is bytes
     (λ h. fault_cut faults.TooMany Is bytes refl)
     (λ h. bind_cut (word_at faults.Word (codes "lv ") bytes) (λ w. conf_at 32 w.1 >>= λ x. message_at 10 x.1 >>= λ m. Ok (lines.Entry (Deliver m.0 x.0), m.1)) (λ t. t ≡ codes "lv ") Is bytes (word_cut faults.Word (codes "lv ") bytes refl)
@@ -243,7 +290,7 @@ delivery_cut full some failed bytes =
     }))
   where
     Is : List ℕ → Type 0
-    Is u = LineTo full some failed (100 ∷ u)
+    Is u = LineTo version full some failed (100 ∷ u)
 
 -- ---- closing words and failures
 
@@ -252,44 +299,44 @@ both_true true true h = absurd cc
 both_true true false h = (refl, refl)
 both_true false b h = absurd cc
 
-open_cut : (full some failed : Bool) (bytes : List ℕ) → Cut (open_at some failed bytes) (λ u. LineTo full some failed (111 ∷ u)) bytes
+open_cut : (version : Version) (full some failed : Bool) (bytes : List ℕ) → Cut (open_at some failed bytes) (λ u. LineTo version full some failed (111 ∷ u)) bytes
 unfolding open_at
-open_cut full some failed bytes =
+open_cut version full some failed bytes =
     test_cut (some && not failed) (word_at faults.Word (line (codes "pen")) bytes >>= λ w. Ok (lines.Close Standing, w.1)) (Err faults.End) Is bytes
     (λ h. last_cut (word_at faults.Word (line (codes "pen")) bytes) (λ w. (lines.Close Standing, w.1)) (λ t. t ≡ line (codes "pen")) Is bytes (word_cut faults.Word (line (codes "pen")) bytes refl) (λ t e. (lines.Close Standing, both_true some failed h, ap (λ (k : List ℕ). 111 ∷ k) e)))
     (λ h. fault_cut faults.End Is bytes refl)
   where
     Is : List ℕ → Type 0
-    Is u = LineTo full some failed (111 ∷ u)
+    Is u = LineTo version full some failed (111 ∷ u)
 
-failed_cut : (full some failed : Bool) (bytes : List ℕ) → Cut (failed_at failed bytes) (λ u. LineTo full some failed (codes "faile" ++ u)) bytes
+failed_cut : (version : Version) (full some failed : Bool) (bytes : List ℕ) → Cut (failed_at failed bytes) (λ u. LineTo version full some failed (codes "faile" ++ u)) bytes
 unfolding failed_at
-failed_cut full some failed bytes =
+failed_cut version full some failed bytes =
     test_cut failed (word_at faults.Word (line (codes "d")) bytes >>= λ w. Ok (lines.Close Failed, w.1)) (Err faults.End) Is bytes
     (λ h. last_cut (word_at faults.Word (line (codes "d")) bytes) (λ w. (lines.Close Failed, w.1)) (λ t. t ≡ line (codes "d")) Is bytes (word_cut faults.Word (line (codes "d")) bytes refl) (λ t e. (lines.Close Failed, h, ap (λ (k : List ℕ). codes "faile" ++ k) e)))
     (λ h. fault_cut faults.End Is bytes refl)
   where
     Is : List ℕ → Type 0
-    Is u = LineTo full some failed (codes "faile" ++ u)
+    Is u = LineTo version full some failed (codes "faile" ++ u)
 
-fail_cut : (full some failed : Bool) (bytes : List ℕ) → Cut (fail_at full bytes) (λ u. LineTo full some failed (codes "fail " ++ u)) bytes
+fail_cut : (version : Version) (full some failed : Bool) (bytes : List ℕ) → Cut (fail_at full bytes) (λ u. LineTo version full some failed (codes "fail " ++ u)) bytes
 unfolding fail_at
-fail_cut full some failed bytes =
+fail_cut version full some failed bytes =
     test_cut full (Err faults.TooMany) (conf_at 10 bytes >>= λ x. Ok (lines.Entry (Fail x.0), x.1)) Is bytes
     (λ h. fault_cut faults.TooMany Is bytes refl)
     (λ h. last_cut (conf_at 10 bytes) (λ x. (lines.Entry (Fail x.0), x.1)) (ConfTo 10) Is bytes (conf_cut 10 bytes) (λ t x. (lines.Entry (Fail x.0), (h, x.1), ap (λ (k : List ℕ). codes "fail " ++ k) x.2)))
   where
     Is : List ℕ → Type 0
-    Is u = LineTo full some failed (codes "fail " ++ u)
+    Is u = LineTo version full some failed (codes "fail " ++ u)
 
 -- some line goes on from these bytes
-first_failure : (full some failed : Bool) → full ≡ false → LineTo full some failed (codes "fail " ++ (conf_text (Regular first_ring) ++ 10 ∷ []))
-first_failure full some failed h = (lines.Entry (Fail (Regular first_ring)), (h, first_ring_is), refl)
+first_failure : (version : Version) (full some failed : Bool) → full ≡ false → LineTo version full some failed (codes "fail " ++ (conf_text (Regular first_ring) ++ 10 ∷ []))
+first_failure version full some failed h = (lines.Entry (Fail (Regular first_ring)), (h, first_ring_is), refl)
 
-ail_from : (full some failed : Bool) (bytes : List ℕ) (b : ℕ) (u : List ℕ) → LineTo full some failed (codes "fail" ++ b ∷ u) → Cut (ail_at full failed bytes) (λ u. LineTo full some failed (102 ∷ u)) bytes
+ail_from : (version : Version) (full some failed : Bool) (bytes : List ℕ) (b : ℕ) (u : List ℕ) → LineTo version full some failed (codes "fail" ++ b ∷ u) → Cut (ail_at full failed bytes) (λ u. LineTo version full some failed (102 ∷ u)) bytes
 unfolding ail_at
-ail_from full some failed bytes b u one =
-    bind_cut (word_at faults.Word (codes "ail") bytes) (λ w. byte_at w.1 >>= λ b. cond (b.0 == 101) (failed_at failed b.1) (cond (b.0 == 32) (fail_at full b.1) (Err faults.Word))) (λ t. t ≡ codes "ail") (λ u. LineTo full some failed (102 ∷ u)) bytes (word_cut faults.Word (codes "ail") bytes refl)
+ail_from version full some failed bytes b u one =
+    bind_cut (word_at faults.Word (codes "ail") bytes) (λ w. byte_at w.1 >>= λ b. cond (b.0 == 101) (failed_at failed b.1) (cond (b.0 == 32) (fail_at full b.1) (Err faults.Word))) (λ t. t ≡ codes "ail") (λ u. LineTo version full some failed (102 ∷ u)) bytes (word_cut faults.Word (codes "ail") bytes refl)
     (λ t e. (b ∷ u, rw e one))
     (λ w rest e. record {
       text = codes "ail";
@@ -300,53 +347,53 @@ ail_from full some failed bytes b u one =
             text = c ∷ [];
             whole = byte_is rest c rest2 e2;
             next = test_cut (c == 101) (failed_at failed rest2) (cond (c == 32) (fail_at full rest2) (Err faults.Word)) (λ v. Is (c ∷ v)) rest2
-                (λ h. let same : c ≡ 101 = eqb-true c 101 h in rw same (failed_cut full some failed rest2))
+                (λ h. let same : c ≡ 101 = eqb-true c 101 h in rw same (failed_cut version full some failed rest2))
                 (λ h. test_cut (c == 32) (fail_at full rest2) (Err faults.Word) (λ v. Is (c ∷ v)) rest2
-                (λ h. let same : c ≡ 32 = eqb-true c 32 h in rw same (fail_cut full some failed rest2))
+                (λ h. let same : c ≡ 32 = eqb-true c 32 h in rw same (fail_cut version full some failed rest2))
                 (λ h. fault_cut faults.Word (λ v. Is (c ∷ v)) rest2 refl));
           });
     })
   where
     Is : List ℕ → Type 0
-    Is v = LineTo full some failed (codes "fail" ++ v)
+    Is v = LineTo version full some failed (codes "fail" ++ v)
 
-failure_cut : (full some failed : Bool) (bytes : List ℕ) → Cut (failure_at full failed bytes) (λ u. LineTo full some failed (102 ∷ u)) bytes
+failure_cut : (version : Version) (full some failed : Bool) (bytes : List ℕ) → Cut (failure_at full failed bytes) (λ u. LineTo version full some failed (102 ∷ u)) bytes
 unfolding failure_at
-failure_cut full some failed bytes = go full failed
+failure_cut version full some failed bytes = go full failed
   where
-    go : (full failed : Bool) → Cut (cond (full && not failed) (Err faults.TooMany) (ail_at full failed bytes)) (λ u. LineTo full some failed (102 ∷ u)) bytes
-    go false failed = ail_from false some failed bytes 32 (conf_text (Regular first_ring) ++ 10 ∷ []) (first_failure false some failed refl)
-    go true true = ail_from true some true bytes 101 (codes "d" ++ 10 ∷ []) (lines.Close Failed, refl, refl)
-    go true false = fault_cut faults.TooMany (λ u. LineTo true some false (102 ∷ u)) bytes refl
+    go : (full failed : Bool) → Cut (cond (full && not failed) (Err faults.TooMany) (ail_at full failed bytes)) (λ u. LineTo version full some failed (102 ∷ u)) bytes
+    go false failed = ail_from version false some failed bytes 32 (conf_text (Regular first_ring) ++ 10 ∷ []) (first_failure version false some failed refl)
+    go true true = ail_from version true some true bytes 101 (codes "d" ++ 10 ∷ []) (lines.Close Failed, refl, refl)
+    go true false = fault_cut faults.TooMany (λ u. LineTo version true some false (102 ∷ u)) bytes refl
 
-line_from : (full some failed : Bool) (bytes : List ℕ) (b : ℕ) (u : List ℕ) → LineTo full some failed (b ∷ u) → Cut (line_at full some failed bytes) (LineTo full some failed) bytes
+line_from : (version : Version) (full some failed : Bool) (bytes : List ℕ) (b : ℕ) (u : List ℕ) → LineTo version full some failed (b ∷ u) → Cut (line_at version full some failed bytes) (LineTo version full some failed) bytes
 unfolding line_at
-line_from full some failed bytes b u one =
-    bind_cut (byte_at bytes) (λ b. cond (b.0 == 99) (change_at full b.1) (cond (b.0 == 115) (send_at full b.1) (cond (b.0 == 100) (delivery_at full b.1) (cond (b.0 == 102) (failure_at full failed b.1) (cond (b.0 == 111) (open_at some failed b.1) (Err faults.Word)))))) (λ t. t ≡ b ∷ []) (LineTo full some failed) bytes (byte_cut b bytes)
+line_from version full some failed bytes b u one =
+    bind_cut (byte_at bytes) (λ b. cond (b.0 == 99) (change_at version full b.1) (cond (b.0 == 115) (send_at full b.1) (cond (b.0 == 100) (delivery_at full b.1) (cond (b.0 == 102) (failure_at full failed b.1) (cond (b.0 == 111) (open_at some failed b.1) (Err faults.Word)))))) (λ t. t ≡ b ∷ []) (LineTo version full some failed) bytes (byte_cut b bytes)
     (λ t e. (u, rw e one))
     (λ c rest e. record {
       text = c ∷ [];
       whole = byte_is bytes c rest e;
-      next = test_cut (c == 99) (change_at full rest) (cond (c == 115) (send_at full rest) (cond (c == 100) (delivery_at full rest) (cond (c == 102) (failure_at full failed rest) (cond (c == 111) (open_at some failed rest) (Err faults.Word))))) (Is c) rest
-          (λ h. by c 99 rest (change_at full rest) h (change_cut full some failed rest))
+      next = test_cut (c == 99) (change_at version full rest) (cond (c == 115) (send_at full rest) (cond (c == 100) (delivery_at full rest) (cond (c == 102) (failure_at full failed rest) (cond (c == 111) (open_at some failed rest) (Err faults.Word))))) (Is c) rest
+          (λ h. by c 99 rest (change_at version full rest) h (change_cut version full some failed rest))
           (λ h. test_cut (c == 115) (send_at full rest) (cond (c == 100) (delivery_at full rest) (cond (c == 102) (failure_at full failed rest) (cond (c == 111) (open_at some failed rest) (Err faults.Word)))) (Is c) rest
-          (λ h. by c 115 rest (send_at full rest) h (send_cut full some failed rest))
+          (λ h. by c 115 rest (send_at full rest) h (send_cut version full some failed rest))
           (λ h. test_cut (c == 100) (delivery_at full rest) (cond (c == 102) (failure_at full failed rest) (cond (c == 111) (open_at some failed rest) (Err faults.Word))) (Is c) rest
-          (λ h. by c 100 rest (delivery_at full rest) h (delivery_cut full some failed rest))
+          (λ h. by c 100 rest (delivery_at full rest) h (delivery_cut version full some failed rest))
           (λ h. test_cut (c == 102) (failure_at full failed rest) (cond (c == 111) (open_at some failed rest) (Err faults.Word)) (Is c) rest
-          (λ h. by c 102 rest (failure_at full failed rest) h (failure_cut full some failed rest))
+          (λ h. by c 102 rest (failure_at full failed rest) h (failure_cut version full some failed rest))
           (λ h. test_cut (c == 111) (open_at some failed rest) (Err faults.Word) (Is c) rest
-          (λ h. by c 111 rest (open_at some failed rest) h (open_cut full some failed rest))
+          (λ h. by c 111 rest (open_at some failed rest) h (open_cut version full some failed rest))
           (λ h. fault_cut faults.Word (Is c) rest refl)))));
     })
   where
     Is : ℕ → List ℕ → Type 0
-    Is c u = LineTo full some failed (c ∷ u)
+    Is c u = LineTo version full some failed (c ∷ u)
 
     by : (c letter : ℕ) (rest : List ℕ) (r : Parsed Line) → (c == letter) ≡ true → Cut r (Is letter) rest → Cut r (Is c) rest
     by c letter rest r h found = let same : c ≡ letter = eqb-true c letter h in rw same found
 
-pub line_cut : (full some failed : Bool) (bytes : List ℕ) → (some ≡ false → full ≡ false) → Cut (line_at full some failed bytes) (LineTo full some failed) bytes
-line_cut full false failed bytes room = line_from full false failed bytes 102 (codes "ail " ++ (conf_text (Regular first_ring) ++ 10 ∷ [])) (first_failure full false failed (room refl))
-line_cut full true false bytes room = line_from full true false bytes 111 (codes "pen" ++ 10 ∷ []) (lines.Close Standing, (refl, refl), refl)
-line_cut full true true bytes room = line_from full true true bytes 102 (codes "ailed" ++ 10 ∷ []) (lines.Close Failed, refl, refl)
+pub line_cut : (version : Version) (full some failed : Bool) (bytes : List ℕ) → (some ≡ false → full ≡ false) → Cut (line_at version full some failed bytes) (LineTo version full some failed) bytes
+line_cut version full false failed bytes room = line_from version full false failed bytes 102 (codes "ail " ++ (conf_text (Regular first_ring) ++ 10 ∷ [])) (first_failure version full false failed (room refl))
+line_cut version full true false bytes room = line_from version full true false bytes 111 (codes "pen" ++ 10 ∷ []) (lines.Close Standing, (refl, refl), refl)
+line_cut version full true true bytes room = line_from version full true true bytes 102 (codes "ailed" ++ 10 ∷ []) (lines.Close Failed, refl, refl)

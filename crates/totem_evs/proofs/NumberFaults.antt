@@ -1,4 +1,8 @@
 -- Number is the fault of a number that the grammar reads.
+use Rattle.totem_ids.specs.declared.version.Version.{Version}
+use Rattle.totem_ids.specs.declared.version.Version.TheVariants.{One, Two}
+use Rattle.totem_ids.specs.Ranks.{id_of}
+use Rattle.totem_ids.specs.Processes.{writes_lives, first_life_then, life_then, process_then}
 use Rattle.std.specs.Prelude.{◌==◌, decimal, ◌↔◌}
 use Rattle.std.proofs.Common.{◌≡◌, ◌≢◌, ℕ, zero, suc, ◌+◌, ◌-◌, ◌*◌, ◌^◌, ◌<◌, ◌≤◌, ◌⊎◌, inl, inr, List, [], ◌∷◌, ◌++◌, Bool, true, false, cond, Option, Some, None, Ok, Err, refl, sym, ap, subst, ◌∙◌, append_assoc, arith}
 use Rattle.std.proofs.lemmas.Bool.{cases_lt, eqb-true}
@@ -17,7 +21,7 @@ use Rattle.totem_evs.specs.declared.line.Line.{Line}
 use Rattle.totem_evs.specs.declared.line.Line.TheVariants as lines
 use Rattle.totem_evs.specs.declared.log.Log.{Log}
 use Rattle.totem_ids.specs.Services.{service_at}
-use Rattle.totem_evs.specs.RunGrammar.{is_failure, members_at, change_at, send_at, delivery_at, open_at, failed_at, fail_at, ail_at, failure_at, line_at, by_line, lines_at, log_at, log_proc_at, begin_at, end_at, head_at, by_head, logs_at, run_at}
+use Rattle.totem_evs.specs.RunGrammar.{is_failure, members_at, change_at, send_at, delivery_at, open_at, failed_at, fail_at, ail_at, failure_at, line_at, by_line, lines_at, log_at, log_proc_at, begin_at, end_at, head_at, by_head, logs_at, header_end, header_at, run_at}
 use Rattle.totem_evs.specs.TextFaults.{IsPast, IsNoNumber, BreaksNumber}
 use Rattle.totem_evs.proofs.PartFaults.{bind_case}
 
@@ -198,6 +202,18 @@ number_to_numbered : (max end : ℕ) → ((max ≡ 65535) ⊎ (max ≡ 429496729
 unfolding number_to
 number_to_numbered max end limit = bind_numbered _ _ (number_numbered max limit) (λ n. cond_numbered (n.1 == end) (λ bytes. Ok (n.0, bytes)) (λ bytes. Err faults.Word) (gives_numbered n.0) word')
 
+first_life_numbered : Numbered first_life_then
+unfolding first_life_then
+first_life_numbered = bind_numbered _ _ (number_numbered 65535 (inl refl)) (λ id. gives_numbered _)
+
+life_numbered : Numbered life_then
+unfolding life_then
+life_numbered = bind_numbered _ _ (number_to_numbered 65535 58 (inl refl)) (λ id. bind_numbered _ _ (number_numbered 65535 (inl refl)) (λ life. gives_numbered _))
+
+process_numbered : (version : Version) → Numbered (process_then version)
+unfolding process_then
+process_numbered version = cond_numbered (writes_lives version) life_then first_life_then life_numbered first_life_numbered
+
 ring_numbered : (end : ℕ) → Numbered (ring_at end)
 unfolding ring_at
 ring_numbered end = bind_numbered _ _ (number_to_numbered 4294967295 46 (inr refl)) (λ seq. bind_numbered _ _ (number_to_numbered 65535 end (inl refl)) (λ rep. gives_numbered _))
@@ -220,10 +236,10 @@ conf_numbered end = bind_numbered _ _ byte_numbered (λ kind. cond_numbered _ _ 
 
 -- ---- lines
 
-members_numbered : (room last : ℕ) → Numbered (members_at room last)
+members_numbered : (version : Version) (room last : ℕ) → Numbered (members_at version room last)
 unfolding members_at
-members_numbered zero last = fault_numbered faults.TooMany (λ h. absurd cc)
-members_numbered (suc room) last = bind_numbered _ _ (number_numbered 65535 (inl refl)) (λ p. cond_numbered _ _ _ (fault_numbered faults.Members (λ h. absurd cc)) (cond_numbered _ _ _ (gives_numbered _) (cond_numbered _ _ _ (bind_numbered _ _ (members_numbered room p.0) (λ others. gives_numbered _)) word')))
+members_numbered version zero last = fault_numbered faults.TooMany (λ h. absurd cc)
+members_numbered version (suc room) last = bind_numbered _ _ (process_numbered version) (λ p. cond_numbered _ _ _ (fault_numbered faults.Members (λ h. absurd cc)) (cond_numbered _ _ _ (gives_numbered _) (cond_numbered _ _ _ (bind_numbered _ _ (members_numbered version room (id_of p.0)) (λ others. gives_numbered _)) word')))
 
 pub too_many : {A : Type 0} → Numbered {A = A} (λ bytes. Err faults.TooMany)
 too_many = fault_numbered faults.TooMany (λ h. absurd cc)
@@ -234,9 +250,9 @@ end' = fault_numbered faults.End (λ h. absurd cc)
 pub words : (word : List ℕ) → Numbered (word_at faults.Word word)
 words word = word_numbered faults.Word word (λ h. absurd cc)
 
-change_numbered : (full : Bool) → Numbered (change_at full)
+change_numbered : (version : Version) (full : Bool) → Numbered (change_at version full)
 unfolding change_at
-change_numbered full = cond_numbered _ _ _ too_many (bind_numbered _ _ (words _) (λ w. bind_numbered _ _ (conf_numbered 32) (λ x. bind_numbered _ _ (members_numbered 32 0) (λ ms. gives_numbered _))))
+change_numbered version full = cond_numbered _ _ _ too_many (bind_numbered _ _ (words _) (λ w. bind_numbered _ _ (conf_numbered 32) (λ x. bind_numbered _ _ (members_numbered version 32 0) (λ ms. gives_numbered _))))
 
 service_numbered : Numbered service_at
 unfolding service_at
@@ -270,53 +286,64 @@ failure_numbered : (full failed : Bool) → Numbered (failure_at full failed)
 unfolding failure_at
 failure_numbered full failed = cond_numbered _ _ _ too_many (ail_numbered full failed)
 
-line_numbered : (full some failed : Bool) → Numbered (line_at full some failed)
+line_numbered : (version : Version) (full some failed : Bool) → Numbered (line_at version full some failed)
 unfolding line_at
-line_numbered full some failed = bind_numbered _ _ byte_numbered (λ b. cond_numbered _ _ _ (change_numbered full) (cond_numbered _ _ _ (send_numbered full) (cond_numbered _ _ _ (delivery_numbered full) (cond_numbered _ _ _ (failure_numbered full failed) (cond_numbered _ _ _ (open_numbered some failed) word')))))
+line_numbered version full some failed = bind_numbered _ _ byte_numbered (λ b. cond_numbered _ _ _ (change_numbered version full) (cond_numbered _ _ _ (send_numbered full) (cond_numbered _ _ _ (delivery_numbered full) (cond_numbered _ _ _ (failure_numbered full failed) (cond_numbered _ _ _ (open_numbered some failed) word')))))
 
-lines_numbered : (room : ℕ) (some failed : Bool) → Numbered (lines_at room some failed)
+lines_numbered : (version : Version) (room : ℕ) (some failed : Bool) → Numbered (lines_at version room some failed)
 unfolding lines_at
-lines_numbered zero some failed = too_many
-lines_numbered (suc room) some failed = bind_numbered _ _ (line_numbered (room == 0) some failed) (λ l. go l (λ e. lines_numbered room true (is_failure e)))
+lines_numbered version zero some failed = too_many
+lines_numbered version (suc room) some failed = bind_numbered _ _ (line_numbered version (room == 0) some failed) (λ l. go l (λ e. lines_numbered version room true (is_failure e)))
   where
-    go : (l : Line) → ((e : Entry) → Numbered (lines_at room true (is_failure e))) → Numbered (λ bytes. by_line {Y = Parsed (List Entry × Ending)} l (λ ending. Ok (([], ending), bytes)) (λ e. lines_at room true (is_failure e) bytes >>= λ others. Ok ((e ∷ others.0.0, others.0.1), others.1)))
+    go : (l : Line) → ((e : Entry) → Numbered (lines_at version room true (is_failure e))) → Numbered (λ bytes. by_line {Y = Parsed (List Entry × Ending)} l (λ ending. Ok (([], ending), bytes)) (λ e. lines_at version room true (is_failure e) bytes >>= λ others. Ok ((e ∷ others.0.0, others.0.1), others.1)))
     go (lines.Close ending) again = gives_numbered _
     go (lines.Entry e) again = bind_numbered _ _ (again e) (λ others. gives_numbered _)
 
-log_numbered : (p : ℕ) → Numbered (log_at p)
+log_numbered : (version : Version) (p : ℕ) → Numbered (log_at version p)
 unfolding log_at
-log_numbered p = bind_numbered _ _ (lines_numbered 1000001 false false) (λ body. gives_numbered _)
+log_numbered version p = bind_numbered _ _ (lines_numbered version 1000001 false false) (λ body. gives_numbered _)
 
 -- ---- logs
 
-proc_numbered : (last : ℕ) → Numbered (log_proc_at last)
+proc_numbered : (version : Version) (last : ℕ) → Numbered (log_proc_at version last)
 unfolding log_proc_at
-proc_numbered last = bind_numbered _ _ (words _) (λ w. bind_numbered _ _ (number_numbered 65535 (inl refl)) (λ p. cond_numbered _ _ _ (fault_numbered faults.Order (λ h. absurd cc)) (cond_numbered _ _ _ (gives_numbered _) word')))
+proc_numbered version last = bind_numbered _ _ (words _) (λ w. bind_numbered _ _ (process_numbered version) (λ p. cond_numbered _ _ _ (fault_numbered faults.Order (λ h. absurd cc)) (cond_numbered _ _ _ (gives_numbered _) word')))
 
-begin_numbered : (full : Bool) (last : ℕ) → Numbered (begin_at full last)
+begin_numbered : (version : Version) (full : Bool) (last : ℕ) → Numbered (begin_at version full last)
 unfolding begin_at
-begin_numbered full last = cond_numbered _ _ _ too_many (bind_numbered _ _ (proc_numbered last) (λ p. gives_numbered _))
+begin_numbered version full last = cond_numbered _ _ _ too_many (bind_numbered _ _ (proc_numbered version last) (λ p. gives_numbered _))
 
 end_numbered : Numbered end_at
 unfolding end_at
 end_numbered = bind_numbered _ _ (words _) (λ w. gives_numbered _)
 
-head_numbered : (full : Bool) (last : ℕ) → Numbered (head_at full last)
+head_numbered : (version : Version) (full : Bool) (last : ℕ) → Numbered (head_at version full last)
 unfolding head_at
-head_numbered full last = bind_numbered _ _ byte_numbered (λ b. cond_numbered _ _ _ (begin_numbered full last) (cond_numbered _ _ _ end_numbered word'))
+head_numbered version full last = bind_numbered _ _ byte_numbered (λ b. cond_numbered _ _ _ (begin_numbered version full last) (cond_numbered _ _ _ end_numbered word'))
 
-logs_numbered : (room last : ℕ) → Numbered (logs_at room last)
+logs_numbered : (version : Version) (room last : ℕ) → Numbered (logs_at version room last)
 unfolding logs_at
-logs_numbered zero last = too_many
-logs_numbered (suc room) last = bind_numbered _ _ (head_numbered (room == 0) last) (λ head. go head (λ p. logs_numbered room p))
+logs_numbered version zero last = too_many
+logs_numbered version (suc room) last = bind_numbered _ _ (head_numbered version (room == 0) last) (λ head. go head (λ p. logs_numbered version room p))
   where
-    go : (head : Option ℕ) → ((p : ℕ) → Numbered (logs_at room p)) → Numbered (λ bytes. by_head {Y = Parsed (List Log)} head (Ok ([], bytes)) (λ p. log_at p bytes >>= λ log. logs_at room p log.1 >>= λ others. Ok (log.0 ∷ others.0, others.1)))
+    go : (head : Option ℕ) → ((p : ℕ) → Numbered (logs_at version room p)) → Numbered (λ bytes. by_head {Y = Parsed (List Log)} head (Ok ([], bytes)) (λ p. log_at version p bytes >>= λ log. logs_at version room p log.1 >>= λ others. Ok (log.0 ∷ others.0, others.1)))
     go None again = gives_numbered _
-    go (Some p) again = bind_numbered _ _ (log_numbered p) (λ log. bind_numbered _ _ (again p) (λ others. gives_numbered _))
+    go (Some p) again = bind_numbered _ _ (log_numbered version p) (λ log. bind_numbered _ _ (again p) (λ others. gives_numbered _))
+
+header_words : (word : List ℕ) → Numbered (word_at faults.Header word)
+header_words word = word_numbered faults.Header word (λ h. absurd cc)
+
+header_end_numbered : (version : Version) → Numbered (header_end version)
+unfolding header_end
+header_end_numbered version = bind_numbered _ _ (header_words _) (λ w. gives_numbered _)
+
+header_numbered : Numbered header_at
+unfolding header_at
+header_numbered = bind_numbered _ _ (header_words _) (λ w. bind_numbered _ _ byte_numbered (λ v. cond_numbered _ _ _ (header_end_numbered One) (cond_numbered _ _ _ (header_end_numbered Two) (fault_numbered faults.Header (λ h. absurd cc)))))
 
 run_numbered : Numbered run_at
 unfolding run_at
-run_numbered = bind_numbered _ _ (word_numbered faults.Header _ (λ h. absurd cc)) (λ w. logs_numbered 33 0)
+run_numbered = bind_numbered _ _ header_numbered (λ v. bind_numbered _ _ (logs_numbered v 33 0) (λ logs. gives_numbered _))
 
 -- Number is a number's fault, and a number's fault is Number
 pub run_number : (bytes : List ℕ) → (run_at bytes ≡ Err faults.Number) ↔ BreaksNumber run_at bytes

@@ -1,4 +1,8 @@
 -- Which faults the grammar of a run's text can give.
+use Rattle.totem_ids.specs.declared.version.Version.TheVariants.{One, Two}
+use Rattle.totem_ids.specs.declared.version.Version.{Version}
+use Rattle.totem_ids.specs.Ranks.{id_of}
+use Rattle.totem_ids.specs.Processes.{writes_lives, first_life_then, life_then, process_then}
 use Rattle.std.specs.Prelude.{◌==◌, nat_le}
 use Rattle.std.proofs.Common.{◌≡◌, ℕ, ◌+◌, ◌-◌, ◌*◌, zero, suc, List, [], ◌∷◌, Bool, true, false, cond, Ok, Err, refl}
 use Rattle.totem_ids.specs.declared.fault.TextFault.{TextFault}
@@ -8,7 +12,7 @@ use Rattle.totem_ids.specs.Sources.{Parsed, ◌>>=◌}
 use Rattle.totem_ids.specs.Numbers.{is_digit, byte_at, word_at, digits_at, number_at, number_to}
 use Rattle.totem_ids.specs.Parsers.{ring_at, message_at, regular_at, transitional_at, conf_at}
 use Rattle.totem_ids.specs.Services.{service_at}
-use Rattle.totem_evs.specs.RunGrammar.{members_at, change_at, send_at, delivery_at, open_at, failed_at, fail_at, ail_at, failure_at, line_at, log_proc_at, begin_at, end_at, head_at}
+use Rattle.totem_evs.specs.RunGrammar.{members_at, change_at, send_at, delivery_at, open_at, failed_at, fail_at, ail_at, failure_at, line_at, log_proc_at, begin_at, end_at, head_at, header_end, header_at}
 
 -- an answer is a value, or a fault of this kind
 pub record Only {A : Type 0} (P : TextFault → Type 0) (r : Parsed A) : Type 0 where
@@ -67,6 +71,19 @@ number_to_only : (P : TextFault → Type 0) (max end : ℕ) (bytes : List ℕ) �
 unfolding number_to
 number_to_only P max end bytes is = bind_only P _ _ (number_only P max bytes is) (λ n. cond_only P _ _ _ (ok_only P _) (fault_only P faults.Word is.word))
 
+-- a process
+first_life_only : (P : TextFault → Type 0) (bytes : List ℕ) → OfNames P → Only P (first_life_then bytes)
+unfolding first_life_then
+first_life_only P bytes is = bind_only P _ _ (number_only P 65535 bytes is) (λ id. ok_only P _)
+
+life_only : (P : TextFault → Type 0) (bytes : List ℕ) → OfNames P → Only P (life_then bytes)
+unfolding life_then
+life_only P bytes is = bind_only P _ _ (number_to_only P 65535 58 bytes is) (λ id. bind_only P _ _ (number_only P 65535 id.1 is) (λ life. ok_only P _))
+
+pub process_only : (P : TextFault → Type 0) (version : Version) (bytes : List ℕ) → OfNames P → Only P (process_then version bytes)
+unfolding process_then
+process_only P version bytes is = cond_only P (writes_lives version) (life_then bytes) (first_life_then bytes) (life_only P bytes is) (first_life_only P bytes is)
+
 ring_only : (P : TextFault → Type 0) (end : ℕ) (bytes : List ℕ) → OfNames P → Only P (ring_at end bytes)
 unfolding ring_at
 ring_only P end bytes is = bind_only P _ _ (number_to_only P 4294967295 46 bytes is) (λ seq. bind_only P _ _ (number_to_only P 65535 end seq.1 is) (λ rep. ok_only P _))
@@ -87,17 +104,26 @@ pub conf_only : (P : TextFault → Type 0) (end : ℕ) (bytes : List ℕ) → Of
 unfolding conf_at
 conf_only P end bytes is = bind_only P _ _ (byte_only P bytes is.short) (λ kind. cond_only P _ _ _ (regular_only P end kind.1 is) (cond_only P _ _ _ (transitional_only P end kind.1 is) (fault_only P faults.Word is.word)))
 
+-- the first line
+header_end_only : (P : TextFault → Type 0) (version : Version) (bytes : List ℕ) → P faults.Header → P faults.Truncated → Only P (header_end version bytes)
+unfolding header_end
+header_end_only P version bytes is short = bind_only P _ _ (word_only P faults.Header _ bytes is short) (λ w. ok_only P _)
+
+pub header_only : (P : TextFault → Type 0) (bytes : List ℕ) → P faults.Header → P faults.Truncated → Only P (header_at bytes)
+unfolding header_at
+header_only P bytes is short = bind_only P _ _ (word_only P faults.Header _ bytes is short) (λ w. bind_only P _ _ (byte_only P w.1 short) (λ v. cond_only P _ _ _ (header_end_only P One v.1 is short) (cond_only P _ _ _ (header_end_only P Two v.1 is short) (fault_only P faults.Header is))))
+
 -- ---- lines
 
-pub members_only : (P : TextFault → Type 0) (room last : ℕ) (bytes : List ℕ) → OfEntries P → Only P (members_at room last bytes)
+pub members_only : (version : Version) (P : TextFault → Type 0) (room last : ℕ) (bytes : List ℕ) → OfEntries P → Only P (members_at version room last bytes)
 unfolding members_at
-members_only P zero last bytes is = fault_only P faults.TooMany is.many
-members_only P (suc room) last bytes is = bind_only P _ _ (number_only P 65535 bytes is.names) (λ p. cond_only P _ _ _ (fault_only P faults.Members is.members) (cond_only P _ _ _ (ok_only P _)
-    (cond_only P _ _ _ (bind_only P _ _ (members_only P room p.0.0 p.1 is) (λ others. ok_only P _)) (fault_only P faults.Word is.names.word))))
+members_only version P zero last bytes is = fault_only P faults.TooMany is.many
+members_only version P (suc room) last bytes is = bind_only P _ _ (process_only P version bytes is.names) (λ p. cond_only P _ _ _ (fault_only P faults.Members is.members) (cond_only P _ _ _ (ok_only P _)
+    (cond_only P _ _ _ (bind_only P _ _ (members_only version P room (id_of p.0.0) p.1 is) (λ others. ok_only P _)) (fault_only P faults.Word is.names.word))))
 
-pub change_only : (P : TextFault → Type 0) (full : Bool) (bytes : List ℕ) → OfEntries P → Only P (change_at full bytes)
+pub change_only : (version : Version) (P : TextFault → Type 0) (full : Bool) (bytes : List ℕ) → OfEntries P → Only P (change_at version full bytes)
 unfolding change_at
-change_only P full bytes is = cond_only P _ _ _ (fault_only P faults.TooMany is.many) (bind_only P _ _ (word_only P faults.Word _ bytes is.names.word is.names.short) (λ w. bind_only P _ _ (conf_only P 32 w.1 is.names) (λ x. bind_only P _ _ (members_only P 32 0 x.1 is) (λ members. ok_only P _))))
+change_only version P full bytes is = cond_only P _ _ _ (fault_only P faults.TooMany is.many) (bind_only P _ _ (word_only P faults.Word _ bytes is.names.word is.names.short) (λ w. bind_only P _ _ (conf_only P 32 w.1 is.names) (λ x. bind_only P _ _ (members_only version P 32 0 x.1 is) (λ members. ok_only P _))))
 
 service_only : (P : TextFault → Type 0) (bytes : List ℕ) → OfNames P → Only P (service_at bytes)
 unfolding service_at
@@ -147,25 +173,25 @@ failure_only : (P : TextFault → Type 0) (full failed : Bool) (bytes : List ℕ
 unfolding failure_at
 failure_only P full failed bytes is end = cond_only P _ _ _ (fault_only P faults.TooMany is.many) (ail_only P full failed bytes is end)
 
-pub line_only : (P : TextFault → Type 0) (full some failed : Bool) (bytes : List ℕ) → OfEntries P → P faults.End → Only P (line_at full some failed bytes)
+pub line_only : (version : Version) (P : TextFault → Type 0) (full some failed : Bool) (bytes : List ℕ) → OfEntries P → P faults.End → Only P (line_at version full some failed bytes)
 unfolding line_at
-line_only P full some failed bytes is end = bind_only P _ _ (byte_only P bytes is.names.short) (λ b. cond_only P _ _ _ (change_only P full b.1 is) (cond_only P _ _ _ (send_only P full b.1 is) (cond_only P _ _ _ (delivery_only P full b.1 is)
+line_only version P full some failed bytes is end = bind_only P _ _ (byte_only P bytes is.names.short) (λ b. cond_only P _ _ _ (change_only version P full b.1 is) (cond_only P _ _ _ (send_only P full b.1 is) (cond_only P _ _ _ (delivery_only P full b.1 is)
     (cond_only P _ _ _ (failure_only P full failed b.1 is end) (cond_only P _ _ _ (open_only P some failed b.1 is.names end) (fault_only P faults.Word is.names.word))))))
 
 -- ---- between logs
 
-pub log_proc_only : (P : TextFault → Type 0) (last : ℕ) (bytes : List ℕ) → OfNames P → P faults.Order → Only P (log_proc_at last bytes)
+pub log_proc_only : (version : Version) (P : TextFault → Type 0) (last : ℕ) (bytes : List ℕ) → OfNames P → P faults.Order → Only P (log_proc_at version last bytes)
 unfolding log_proc_at
-log_proc_only P last bytes is order = bind_only P _ _ (word_only P faults.Word _ bytes is.word is.short) (λ w. bind_only P _ _ (number_only P 65535 w.1 is) (λ p. cond_only P _ _ _ (fault_only P faults.Order order) (cond_only P _ _ _ (ok_only P _) (fault_only P faults.Word is.word))))
+log_proc_only version P last bytes is order = bind_only P _ _ (word_only P faults.Word _ bytes is.word is.short) (λ w. bind_only P _ _ (process_only P version w.1 is) (λ p. cond_only P _ _ _ (fault_only P faults.Order order) (cond_only P _ _ _ (ok_only P _) (fault_only P faults.Word is.word))))
 
 pub end_only : (P : TextFault → Type 0) (bytes : List ℕ) → OfNames P → Only P (end_at bytes)
 unfolding end_at
 end_only P bytes is = bind_only P _ _ (word_only P faults.Word _ bytes is.word is.short) (λ w. ok_only P _)
 
-begin_only : (P : TextFault → Type 0) (full : Bool) (last : ℕ) (bytes : List ℕ) → OfNames P → P faults.Order → P faults.TooMany → Only P (begin_at full last bytes)
+begin_only : (version : Version) (P : TextFault → Type 0) (full : Bool) (last : ℕ) (bytes : List ℕ) → OfNames P → P faults.Order → P faults.TooMany → Only P (begin_at version full last bytes)
 unfolding begin_at
-begin_only P full last bytes is order many = cond_only P _ _ _ (fault_only P faults.TooMany many) (bind_only P _ _ (log_proc_only P last bytes is order) (λ p. ok_only P _))
+begin_only version P full last bytes is order many = cond_only P _ _ _ (fault_only P faults.TooMany many) (bind_only P _ _ (log_proc_only version P last bytes is order) (λ p. ok_only P _))
 
-pub head_only : (P : TextFault → Type 0) (full : Bool) (last : ℕ) (bytes : List ℕ) → OfNames P → P faults.Order → P faults.TooMany → Only P (head_at full last bytes)
+pub head_only : (version : Version) (P : TextFault → Type 0) (full : Bool) (last : ℕ) (bytes : List ℕ) → OfNames P → P faults.Order → P faults.TooMany → Only P (head_at version full last bytes)
 unfolding head_at
-head_only P full last bytes is order many = bind_only P _ _ (byte_only P bytes is.short) (λ b. cond_only P _ _ _ (begin_only P full last b.1 is order many) (cond_only P _ _ _ (end_only P b.1 is) (fault_only P faults.Word is.word)))
+head_only version P full last bytes is order many = bind_only P _ _ (byte_only P bytes is.short) (λ b. cond_only P _ _ _ (begin_only version P full last b.1 is order many) (cond_only P _ _ _ (end_only P b.1 is) (fault_only P faults.Word is.word)))

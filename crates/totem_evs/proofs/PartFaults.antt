@@ -1,20 +1,23 @@
 -- Where a fault of a run's text stands: between logs and in a log.
-use Rattle.std.specs.Prelude.{◌==◌, nat_le, codes, decimal, not, ◌&&◌, ◌↔◌}
+use Rattle.totem_ids.specs.declared.version.Version.{Version}
+use Rattle.totem_ids.specs.Processes.{process_text, process_then}
+use Rattle.totem_ids.proofs.Lives.{process_then_is, process_then_again}
+use Rattle.std.specs.Prelude.{◌==◌, nat_le, codes, not, ◌&&◌, ◌↔◌}
 use Rattle.std.proofs.Common.{◌≡◌, ◌≢◌, ℕ, ◌≤◌, inl, inr, List, [], ◌∷◌, ◌++◌, Bool, true, false, cond, Option, Some, Ok, Err, refl, sym, ap, ◌∙◌, arith}
 use Rattle.std.proofs.lemmas.Bool.{eqb-true}
 use Rattle.std.proofs.lemmas.Bool.Decides.{nat_tests}
 use Rattle.totem_ids.specs.declared.fault.TextFault.{TextFault}
 use Rattle.totem_ids.specs.declared.fault.TextFault.TheVariants as faults
 use Rattle.totem_ids.specs.Sources.{Parsed, ◌>>=◌}
-use Rattle.totem_ids.specs.Numbers.{byte_at, word_at, number_at}
-use Rattle.totem_ids.proofs.Spelled.{taken, word_is, word_again, number_is, number_again}
+use Rattle.totem_ids.specs.Numbers.{byte_at, word_at}
+use Rattle.totem_ids.proofs.Spelled.{taken, word_is, word_again}
 use Rattle.totem_evs.specs.declared.line.Line.{Line}
 use Rattle.totem_evs.specs.declared.line.Line.TheVariants as lines
 use Rattle.totem_evs.specs.declared.ending.Ending.TheVariants.{Standing, Failed}
 use Rattle.totem_evs.specs.RunText.{line}
 use Rattle.totem_evs.specs.RunGrammar.{change_at, send_at, delivery_at, open_at, failed_at, fail_at, ail_at, failure_at, line_at, log_proc_at, begin_at, end_at, head_at}
 use Rattle.totem_evs.specs.TextFaults.{IsLogBelow, ClosesWrong}
-use Rattle.totem_evs.proofs.OnlyFaults.{OfNames, OfEntries, fault_only, word_only, number_only, change_only, send_only, delivery_only, fail_only, end_only}
+use Rattle.totem_evs.proofs.OnlyFaults.{OfNames, OfEntries, fault_only, word_only, process_only, change_only, send_only, delivery_only, fail_only, end_only}
 
 -- ---- steps and tests that failed
 
@@ -34,17 +37,17 @@ byte_pick {A = A} {P = P} b n p q r e same other = go (b == n) refl e
     go false h k = other k
 
 -- the lines of a log, by their first letters
-pub line_case : {P : Type 0} (full some failed : Bool) (bytes : List ℕ) (f : TextFault) → f ≢ faults.Truncated → f ≢ faults.Word → line_at full some failed bytes ≡ Err f
-    → ((rest : List ℕ) → bytes ≡ 99 ∷ rest → change_at full rest ≡ Err f → P)
+pub line_case : {P : Type 0} (version : Version) (full some failed : Bool) (bytes : List ℕ) (f : TextFault) → f ≢ faults.Truncated → f ≢ faults.Word → line_at version full some failed bytes ≡ Err f
+    → ((rest : List ℕ) → bytes ≡ 99 ∷ rest → change_at version full rest ≡ Err f → P)
     → ((rest : List ℕ) → bytes ≡ 115 ∷ rest → send_at full rest ≡ Err f → P)
     → ((rest : List ℕ) → bytes ≡ 100 ∷ rest → delivery_at full rest ≡ Err f → P)
     → ((rest : List ℕ) → bytes ≡ 102 ∷ rest → failure_at full failed rest ≡ Err f → P)
     → ((rest : List ℕ) → bytes ≡ 111 ∷ rest → open_at some failed rest ≡ Err f → P)
     → P
 unfolding line_at
-line_case {P = P} full some failed bytes f long fits e change send delivery failure open' =
-    byte_case bytes (λ b. cond (b.0 == 99) (change_at full b.1) (cond (b.0 == 115) (send_at full b.1) (cond (b.0 == 100) (delivery_at full b.1) (cond (b.0 == 102) (failure_at full failed b.1) (cond (b.0 == 111) (open_at some failed b.1) (Err faults.Word)))))) f long e (λ b rest is k.
-    byte_pick b 99 (change_at full rest) (cond (b == 115) (send_at full rest) (cond (b == 100) (delivery_at full rest) (cond (b == 102) (failure_at full failed rest) (cond (b == 111) (open_at some failed rest) (Err faults.Word))))) (Err f) k (λ h. change rest (is ∙ ap (λ (c : ℕ). c ∷ rest) h)) (λ k.
+line_case {P = P} version full some failed bytes f long fits e change send delivery failure open' =
+    byte_case bytes (λ b. cond (b.0 == 99) (change_at version full b.1) (cond (b.0 == 115) (send_at full b.1) (cond (b.0 == 100) (delivery_at full b.1) (cond (b.0 == 102) (failure_at full failed b.1) (cond (b.0 == 111) (open_at some failed b.1) (Err faults.Word)))))) f long e (λ b rest is k.
+    byte_pick b 99 (change_at version full rest) (cond (b == 115) (send_at full rest) (cond (b == 100) (delivery_at full rest) (cond (b == 102) (failure_at full failed rest) (cond (b == 111) (open_at some failed rest) (Err faults.Word))))) (Err f) k (λ h. change rest (is ∙ ap (λ (c : ℕ). c ∷ rest) h)) (λ k.
     byte_pick b 115 (send_at full rest) (cond (b == 100) (delivery_at full rest) (cond (b == 102) (failure_at full failed rest) (cond (b == 111) (open_at some failed rest) (Err faults.Word)))) (Err f) k (λ h. send rest (is ∙ ap (λ (c : ℕ). c ∷ rest) h)) (λ k.
     byte_pick b 100 (delivery_at full rest) (cond (b == 102) (failure_at full failed rest) (cond (b == 111) (open_at some failed rest) (Err faults.Word))) (Err f) k (λ h. delivery rest (is ∙ ap (λ (c : ℕ). c ∷ rest) h)) (λ k.
     byte_pick b 102 (failure_at full failed rest) (cond (b == 111) (open_at some failed rest) (Err faults.Word)) (Err f) k (λ h. failure rest (is ∙ ap (λ (c : ℕ). c ∷ rest) h)) (λ k.
@@ -126,22 +129,22 @@ failure_end full some failed bytes rest is e = elim (taken (full && not failed) 
   | inr x ↦ ail_end full some failed bytes rest x.0 is x.1
 ]
 
-line_end : (full some failed : Bool) (bytes : List ℕ) → line_at full some failed bytes ≡ Err faults.End → ClosesWrong full some failed bytes
-line_end full some failed bytes e =
-    line_case full some failed bytes faults.End (λ h. absurd cc) (λ h. absurd cc) e
-    (λ rest is k. absurd ((change_only NotEnd full rest entries_not_end).fault faults.End k))
+line_end : (version : Version) (full some failed : Bool) (bytes : List ℕ) → line_at version full some failed bytes ≡ Err faults.End → ClosesWrong full some failed bytes
+line_end version full some failed bytes e =
+    line_case version full some failed bytes faults.End (λ h. absurd cc) (λ h. absurd cc) e
+    (λ rest is k. absurd ((change_only version NotEnd full rest entries_not_end).fault faults.End k))
     (λ rest is k. absurd ((send_only NotEnd full rest entries_not_end).fault faults.End k))
     (λ rest is k. absurd ((delivery_only NotEnd full rest entries_not_end).fault faults.End k))
     (λ rest is k. failure_end full some failed bytes rest is k)
     (λ rest is k. inl (rest, is, open_end some failed rest k))
 
-end_line : (full some failed : Bool) (bytes : List ℕ) → ClosesWrong full some failed bytes → line_at full some failed bytes ≡ Err faults.End
+end_line : (version : Version) (full some failed : Bool) (bytes : List ℕ) → ClosesWrong full some failed bytes → line_at version full some failed bytes ≡ Err faults.End
 unfolding line_at open_at failure_at ail_at failed_at word_at
-end_line full some failed bytes (inl (rest, is, wrong)) = rw (is, wrong) refl
-end_line full some failed bytes (inr (rest, is, room, ends)) = rw (is, room, ends) refl
+end_line version full some failed bytes (inl (rest, is, wrong)) = rw (is, wrong) refl
+end_line version full some failed bytes (inr (rest, is, room, ends)) = rw (is, room, ends) refl
 
-pub end_exactly : (full some failed : Bool) (bytes : List ℕ) → (line_at full some failed bytes ≡ Err faults.End) ↔ ClosesWrong full some failed bytes
-end_exactly full some failed bytes = (line_end full some failed bytes, end_line full some failed bytes)
+pub end_exactly : (version : Version) (full some failed : Bool) (bytes : List ℕ) → (line_at version full some failed bytes ≡ Err faults.End) ↔ ClosesWrong full some failed bytes
+end_exactly version full some failed bytes = (line_end version full some failed bytes, end_line version full some failed bytes)
 
 -- ---- Order
 
@@ -161,23 +164,23 @@ names_not_order = record { word = tt; number = tt; short = tt }
 within_is : (a b : ℕ) → nat_le a b ≡ true → a ≤ b
 within_is a b h = grind (arith, nat_tests)
 
-proc_order : (logs last : ℕ) (bytes rest : List ℕ) → (logs == 32) ≡ false → bytes ≡ 108 ∷ rest → log_proc_at last rest ≡ Err faults.Order → IsLogBelow logs last bytes
+proc_order : (version : Version) (logs last : ℕ) (bytes rest : List ℕ) → (logs == 32) ≡ false → bytes ≡ 108 ∷ rest → log_proc_at version last rest ≡ Err faults.Order → IsLogBelow version logs last bytes
 unfolding log_proc_at
-proc_order logs last bytes rest room is e =
-    bind_case (word_at faults.Word (codes "og ") rest) (λ w. number_at 65535 w.1 >>= λ p. cond (nat_le p.0.0 last) (Err faults.Order) (cond (p.0.1 == 10) (Ok (p.0.0, p.1)) (Err faults.Word))) faults.Order e
+proc_order version logs last bytes rest room is e =
+    bind_case (word_at faults.Word (codes "og ") rest) (λ w. process_then version w.1 >>= λ p. cond (nat_le p.0.0 last) (Err faults.Order) (cond (p.0.1 == 10) (Ok (p.0.0, p.1)) (Err faults.Word))) faults.Order e
     (λ k. absurd ((word_only NotOrder faults.Word (codes "og ") rest tt tt).fault faults.Order k))
     (λ w b1 e1 k.
-    bind_case (number_at 65535 b1) (λ p. cond (nat_le p.0.0 last) (Err faults.Order) (cond (p.0.1 == 10) (Ok (p.0.0, p.1)) (Err faults.Word))) faults.Order k
-    (λ k. absurd ((number_only NotOrder 65535 b1 names_not_order).fault faults.Order k))
+    bind_case (process_then version b1) (λ p. cond (nat_le p.0.0 last) (Err faults.Order) (cond (p.0.1 == 10) (Ok (p.0.0, p.1)) (Err faults.Word))) faults.Order k
+    (λ k. absurd ((process_only NotOrder version b1 names_not_order).fault faults.Order k))
     (λ p b2 e2 k.
-    let x = number_is 65535 p.0 p.1 b1 b2 (omega arith) (omega arith) e2 in
+    let x = process_then_is version p.0 p.1 b1 b2 e2 in
     elim (taken (nat_le p.0 last) (Err faults.Order) (cond (p.1 == 10) (Ok (p.0, b2)) (Err faults.Word)) (Err faults.Order) k) [
       | inl y ↦ record {
         proc = p.0;
         byte = p.1;
         rest = b2;
         room = room;
-        fits = record { positive = x.positive; small = x.small };
+        fits = record { id_fits = x.id_fits; life_fits = x.life_fits; first = x.first };
         below = within_is p.0 last y.0;
         complete = x.behind;
         is = is ∙ ap (λ (t : List ℕ). 108 ∷ t) (word_is faults.Word (codes "og ") rest b1 w e1) ∙ ap (λ (t : List ℕ). codes "log " ++ t) x.spelled;
@@ -189,26 +192,26 @@ proc_order logs last bytes rest room is e =
     never true x e = absurd cc
     never false x e = (fault_only {A = ℕ} NotOrder faults.Word tt).fault faults.Order e
 
-head_order : (logs last : ℕ) (bytes : List ℕ) → head_at (logs == 32) last bytes ≡ Err faults.Order → IsLogBelow logs last bytes
+head_order : (version : Version) (logs last : ℕ) (bytes : List ℕ) → head_at version (logs == 32) last bytes ≡ Err faults.Order → IsLogBelow version logs last bytes
 unfolding head_at begin_at
-head_order logs last bytes e =
-    byte_case bytes (λ b. cond (b.0 == 108) (begin_at (logs == 32) last b.1) (cond (b.0 == 101) (end_at b.1) (Err faults.Word))) faults.Order (λ h. absurd cc) e (λ b rest is k.
-    byte_pick b 108 (begin_at (logs == 32) last rest) (cond (b == 101) (end_at rest) (Err faults.Word)) (Err faults.Order) k
-    (λ h k. elim (taken (logs == 32) (Err faults.TooMany) (log_proc_at last rest >>= λ p. Ok (Some p.0, p.1)) (Err faults.Order) k) [
+head_order version logs last bytes e =
+    byte_case bytes (λ b. cond (b.0 == 108) (begin_at version (logs == 32) last b.1) (cond (b.0 == 101) (end_at b.1) (Err faults.Word))) faults.Order (λ h. absurd cc) e (λ b rest is k.
+    byte_pick b 108 (begin_at version (logs == 32) last rest) (cond (b == 101) (end_at rest) (Err faults.Word)) (Err faults.Order) k
+    (λ h k. elim (taken (logs == 32) (Err faults.TooMany) (log_proc_at version last rest >>= λ p. Ok (Some p.0, p.1)) (Err faults.Order) k) [
       | inl x ↦ absurd ((fault_only {A = Option ℕ} NotOrder faults.TooMany tt).fault faults.Order x.1)
-      | inr x ↦ bind_case (log_proc_at last rest) (λ p. Ok (Some p.0, p.1)) faults.Order x.1 (proc_order logs last bytes rest x.0 (is ∙ ap (λ (c : ℕ). c ∷ rest) h)) (λ p mid e1 k. absurd cc)
+      | inr x ↦ bind_case (log_proc_at version last rest) (λ p. Ok (Some p.0, p.1)) faults.Order x.1 (proc_order version logs last bytes rest x.0 (is ∙ ap (λ (c : ℕ). c ∷ rest) h)) (λ p mid e1 k. absurd cc)
     ])
     (λ k. byte_pick b 101 (end_at rest) (Err faults.Word) (Err faults.Order) k
     (λ h k. absurd ((end_only NotOrder rest names_not_order).fault faults.Order k))
     (λ k. absurd ((fault_only {A = Option ℕ} NotOrder faults.Word tt).fault faults.Order k))))
 
-order_head : (logs last : ℕ) (bytes : List ℕ) → IsLogBelow logs last bytes → head_at (logs == 32) last bytes ≡ Err faults.Order
+order_head : (version : Version) (logs last : ℕ) (bytes : List ℕ) → IsLogBelow version logs last bytes → head_at version (logs == 32) last bytes ≡ Err faults.Order
 unfolding head_at begin_at log_proc_at
-order_head logs last bytes h =
+order_head version logs last bytes h =
     let test : nat_le h.proc last ≡ true = (let le = h.below in grind (arith, nat_tests)) in
     rw (h.is, h.room) (
-    rw (word_again faults.Word (codes "og ") (decimal h.proc ++ h.byte ∷ h.rest)) (
-    rw (number_again 65535 h.proc h.byte h.rest h.fits.positive h.fits.small (omega arith) h.complete, test) refl))
+    rw (word_again faults.Word (codes "og ") (process_text version h.proc ++ h.byte ∷ h.rest)) (
+    rw (process_then_again version h.proc h.byte h.rest h.complete h.fits, test) refl))
 
-pub order_exactly : (logs last : ℕ) (bytes : List ℕ) → (head_at (logs == 32) last bytes ≡ Err faults.Order) ↔ IsLogBelow logs last bytes
-order_exactly logs last bytes = (head_order logs last bytes, order_head logs last bytes)
+pub order_exactly : (version : Version) (logs last : ℕ) (bytes : List ℕ) → (head_at version (logs == 32) last bytes ≡ Err faults.Order) ↔ IsLogBelow version logs last bytes
+order_exactly version logs last bytes = (head_order version logs last bytes, order_head version logs last bytes)

@@ -1,4 +1,6 @@
 -- What the readers of runs answer.
+use Rattle.totem_ids.specs.declared.life.WrittenProc.{WrittenProc}
+use Rattle.totem_ids.specs.declared.version.Version.{Version}
 use Rattle.std.proofs.Common.{◌≡◌, ℕ, List, [], Option, Some, None, Err, refl}
 use Rattle.totem_ids.specs.declared.fault.ReadError.{ReadError}
 use Rattle.totem_ids.specs.declared.fault.ReadError.TheVariants as errors
@@ -8,8 +10,8 @@ use Rattle.totem_ids.specs.Numbers.{word_at}
 use Rattle.totem_ids.proofs.Readers.{breaks_at}
 use Rattle.totem_evs.specs.declared.stage.Stage.{Stage}
 use Rattle.totem_evs.specs.declared.stage.OpenLog.{OpenLog}
-use Rattle.totem_evs.specs.Parts.{header_at, begun_at, within_at, next_at, part_at}
-use Rattle.totem_evs.specs.RunGrammar.{head_at, line_at, run_at}
+use Rattle.totem_evs.specs.Parts.{begun_at, within_at, next_at, part_at}
+use Rattle.totem_evs.specs.RunGrammar.{head_at, line_at, header_at, run_at}
 use Rattle.totem_evs.specs.declared.run_fault.RunFault.{RunFault}
 use Rattle.totem_evs.specs.declared.run_fault.RunFault.TheVariants as faults
 use Rattle.totem_evs.specs.RunFaults.{run_fault}
@@ -18,7 +20,7 @@ use Rattle.totem_evs.specs.ReadState.{ReadState}
 use Rattle.totem_evs.specs.Reading.{ReadsAs, HasBegun, BeginsRun, FitsPart, FitsNext, LacksLog, ReadsPart, ReadsNext}
 
 -- a reader's error, passed on
-passed_on : {X Y : Type 0} (old new : Seen) (parse : List ℕ → Parsed X) (Fits : Y → Type 0) (Lacks : ℕ → Type 0) (e : ReadError) → parse [] ≡ Err text.Truncated → Reads {Y = X} old new (Err e) parse → ReadsAs old new parse Fits Lacks (Err (run_fault e))
+passed_on : {X Y : Type 0} (old new : Seen) (parse : List ℕ → Parsed X) (Fits : Y → Type 0) (Lacks : WrittenProc → Type 0) (e : ReadError) → parse [] ≡ Err text.Truncated → Reads {Y = X} old new (Err e) parse → ReadsAs old new parse Fits Lacks (Err (run_fault e))
 passed_on old new parse Fits Lacks errors.Memory empty h = h
 passed_on old new parse Fits Lacks errors.Read empty h = h
 passed_on old new parse Fits Lacks (errors.Text text.Truncated) empty h = h
@@ -39,16 +41,16 @@ part_none : (stage : Stage) → part_at stage [] ≡ Err text.Truncated
 unfolding begun_at within_at head_at line_at
 part_none stage = next_none stage.log
   where
-    next_none : (log : Option OpenLog) → next_at stage.logs stage.last log [] ≡ Err text.Truncated
+    next_none : (log : Option OpenLog) → next_at stage.version stage.logs stage.last log [] ≡ Err text.Truncated
     next_none None = refl
     next_none (Some log) = refl
 
 pub run_none : run_at [] ≡ Err text.Truncated
-unfolding run_at word_at
+unfolding run_at header_at word_at
 run_none = refl
 
 -- the first line was not read
-pub header_fault : (old new : Seen) (e : ReadError) → Reads {Y = Unit {0}} old new (Err e) header_at → BeginsRun old new (Err (run_fault e))
+pub header_fault : (old new : Seen) (e : ReadError) → Reads {Y = Version} old new (Err e) header_at → BeginsRun old new (Err (run_fault e))
 header_fault old new e h = passed_on old new header_at (HasBegun old new) (λ p. ⊥) e header_none h
 
 -- a part was not read
@@ -56,7 +58,7 @@ pub part_fault : (old new : Seen) (s t : ReadState) (e : ReadError) → Reads {Y
 part_fault old new s t e h = passed_on old new (part_at s.stage) (FitsPart old new s t) (LacksLog old new s) e (part_none s.stage) h
 
 -- a fault says nothing of what fits
-same_fault : {X Y W : Type 0} (old new : Seen) (parse : List ℕ → Parsed X) (Fits : Y → Type 0) (Fit : W → Type 0) (Lacks : ℕ → Type 0) (e : RunFault) → ReadsAs old new parse Fits Lacks (Err e) → ReadsAs old new parse Fit Lacks (Err e)
+same_fault : {X Y W : Type 0} (old new : Seen) (parse : List ℕ → Parsed X) (Fits : Y → Type 0) (Fit : W → Type 0) (Lacks : WrittenProc → Type 0) (e : RunFault) → ReadsAs old new parse Fits Lacks (Err e) → ReadsAs old new parse Fit Lacks (Err e)
 same_fault old new parse Fits Fit Lacks faults.Header h = h
 same_fault old new parse Fits Fit Lacks faults.Word h = h
 same_fault old new parse Fits Fit Lacks faults.Number h = h

@@ -1,136 +1,117 @@
 -- Where the text of a run is too short, it goes on.
-use Rattle.std.specs.Prelude.{decimal, nat_le, ◌==◌, codes}
-use Rattle.std.proofs.Common.{◌≡◌, ℕ, zero, suc, ◌+◌, ◌<◌, ◌≤◌, List, [], ◌∷◌, ◌++◌, Option, Some, None, Ok, Err, Bool, true, false, cond, refl, sym, ◌∙◌, ap, append_assoc, arith}
+use Rattle.totem_evs.specs.RunRecord.{RunRecord}
+use Rattle.totem_evs.specs.Runs.{IsOfText}
+use Rattle.totem_ids.specs.declared.version.Version.{Version}
+use Rattle.totem_ids.specs.declared.version.Version.TheVariants.{One, Two}
+use Rattle.totem_ids.specs.Ranks.{rank_of}
+use Rattle.totem_ids.specs.Processes.{process_text, process_then, IsProcessIn}
+use Rattle.totem_ids.proofs.Lives.{process_then_is}
+use Rattle.std.specs.Prelude.{nat_le, ◌==◌, codes}
+use Rattle.std.proofs.Common.{◌≡◌, ℕ, zero, suc, ◌<◌, List, [], ◌∷◌, ◌++◌, Option, Some, None, Ok, Err, Bool, true, false, cond, refl, sym, ◌∙◌, ap, append_assoc, arith}
 use Rattle.std.proofs.lemmas.Bool.{eqb-true}
 use Rattle.std.proofs.lemmas.Bool.Decides.{nat_tests}
 use Rattle.std.proofs.lemmas.List.{append-nil}
-use Rattle.std.proofs.lemmas.List.Elements.{All-from_recursion}
 use Rattle.totem_ids.specs.declared.conf.ConfId.TheVariants.{Regular}
 use Rattle.totem_ids.specs.declared.fault.TextFault.{TextFault}
 use Rattle.totem_ids.specs.declared.fault.TextFault.TheVariants as faults
 use Rattle.totem_ids.specs.Sources.{Parsed, Follows, FirstBreak, is_short, ◌>>=◌}
-use Rattle.totem_ids.specs.Numbers.{byte_at, word_at, number_at}
-use Rattle.totem_ids.proofs.Spelled.{byte_is, word_is, number_is}
+use Rattle.totem_ids.specs.Numbers.{byte_at, word_at}
+use Rattle.totem_ids.proofs.Spelled.{byte_is, word_is}
 use Rattle.totem_evs.specs.declared.entry.Entry.{Entry}
-use Rattle.totem_evs.specs.declared.entry.Entry.TheVariants.{Conf, Send, Deliver, Fail}
+use Rattle.totem_evs.specs.declared.entry.Entry.TheVariants.{Fail}
 use Rattle.totem_evs.specs.declared.ending.Ending.{Ending}
 use Rattle.totem_evs.specs.declared.ending.Ending.TheVariants.{Failed}
 use Rattle.totem_evs.specs.declared.line.Line.{Line}
 use Rattle.totem_evs.specs.declared.line.Line.TheVariants as lines
 use Rattle.totem_evs.specs.declared.log.Log.{Log}
-use Rattle.totem_evs.specs.Members.{IsMembers}
-use Rattle.totem_evs.specs.Runs.{IsEntry, IsLog}
-use Rattle.totem_evs.specs.RunText.{line, entry_text, ending_text, run_text}
-use Rattle.totem_evs.specs.RunGrammar.{is_failure, line_at, by_line, lines_at, log_at, log_proc_at, begin_at, end_at, head_at, by_head, logs_at, run_at}
-use Rattle.totem_evs.specs.TextFronts.{IsFront, IsWideProcess, IsWideMembers, IsWideEntry, IsWideLog, IsWideRun, IsWideFront, IsFirstWrong}
-use Rattle.totem_evs.proofs.FromLeft.{LogsFrom, is_wide_run}
+use Rattle.totem_evs.specs.RunText.{line, entry_text, ending_text, version_digit, header_text, run_text}
+use Rattle.totem_evs.specs.RunGrammar.{is_failure, line_at, by_line, lines_at, log_at, log_proc_at, begin_at, end_at, head_at, by_head, logs_at, header_end, header_at, run_at}
+use Rattle.totem_evs.specs.TextFronts.{IsFront, IsLooseEntry, IsLooseLog, IsLooseRun, IsLooseFront, IsFirstWrong}
+use Rattle.totem_evs.proofs.LooseFrom.{EachLoosely, entry_loosely, loose_entries, LooseLogsFrom, log_loosely, is_loose_run}
 use Rattle.totem_evs.proofs.SpelledLine.{IsLineOf, IsLine, line_text, line_is}
 use Rattle.totem_evs.proofs.SpelledLog.{entries_text, body_text, ending_if, IsBodyOf, closing, closed_by, some_of, log_is}
-use Rattle.totem_evs.proofs.SpelledRun.{head_text, IsHead, logs_text, logs_parts, head_is, run_parts, no_run}
+use Rattle.totem_evs.proofs.SpelledRun.{head_text, IsHead, logs_text, logs_parts, head_is, header_is, run_parts, no_run}
 use Rattle.totem_evs.proofs.SteadyRun.{run_steady, run_first_break}
-use Rattle.totem_evs.proofs.GoesOn.{Cut, Splits, ok_cut, fault_cut, test_cut, bind_cut, last_cut, cut_as, byte_cut, word_cut, first_ring, first_ring_is}
-use Rattle.totem_evs.proofs.LineGoesOn.{AboveTo, above_cut, LineTo, line_cut}
-
--- ---- what is in range is so in the wide sense
-
-wide_members : (ms : List ℕ) → IsMembers ms → IsWideMembers ms
-wide_members ms is = record {
-  some = is.some;
-  few = is.few;
-  rising = is.rising;
-  processes = λ j d within. let p = is.processes j d within in record { positive = p.positive; small = omega (arith, p.small) };
-}
-
-wide_entry : (e : Entry) → IsEntry e → IsWideEntry e
-wide_entry (Conf x members) is = (is.0, wide_members members is.1)
-wide_entry (Send m x service) is = is
-wide_entry (Deliver m x) is = is
-wide_entry (Fail x) is = is
-
-wide_log : (log : Log) → IsLog log → IsWideLog log
-wide_log log is = record {
-  process = record { positive = is.process.positive; small = omega (arith, is.process.small) };
-  entries = record { some = is.entries.some; few = is.entries.few; each = λ j d within. wide_entry _ (is.entries.each j d within) };
-  ending = is.ending;
-}
+use Rattle.totem_evs.proofs.GoesOn.{Cut, Splits, ok_cut, fault_cut, test_cut, bind_cut, last_cut, byte_cut, word_cut, first_ring, first_ring_is}
+use Rattle.totem_evs.proofs.LineGoesOn.{ProcessTo, process_cut, first_process_is, LineTo, line_cut}
 
 -- ---- the lines of a log
 
-abbrev pub BodyTo : ℕ → Bool → Bool → List ℕ → Type 0
-BodyTo room some failed t = (es : List Entry) × (ending : Ending) × IsBodyOf IsWideEntry room some failed es ending × (t ≡ body_text es ending [])
+abbrev pub BodyTo : Version → ℕ → Bool → Bool → List ℕ → Type 0
+BodyTo version room some failed t = (es : List Entry) × (ending : Ending) × IsBodyOf (EachLoosely version) room some failed es ending × (t ≡ body_text version es ending [])
 
 not_zero : (n : ℕ) → (n == 0) ≡ false → 0 < n
 not_zero n h = grind (arith, nat_tests)
 
 -- a line that came last but for the closing word
-body_from : (room : ℕ) (some failed : Bool) (l : Line) (t : List ℕ) → (failed ≡ true → some ≡ true) → IsLineOf IsWideEntry (room == 0) some failed l → t ≡ line_text l → (u : List ℕ) × BodyTo (suc room) some failed (t ++ u)
-body_from room some failed (lines.Close x) t so is e = ([], ([], x, closing IsWideEntry room (room == 0) some failed x so is, ap (λ (k : List ℕ). k ++ []) e))
-body_from room some failed (lines.Entry x) t so is e =
-    let u = body_text [] (ending_if (is_failure x)) [] in
+body_from : (version : Version) (room : ℕ) (some failed : Bool) (l : Line) (t : List ℕ) → (failed ≡ true → some ≡ true) → IsLineOf (IsLooseEntry version) (room == 0) some failed l → t ≡ line_text version l → (u : List ℕ) × BodyTo version (suc room) some failed (t ++ u)
+body_from version room some failed (lines.Close x) t so is e = ([], ([], x, closing (IsLooseEntry version) (EachLoosely version) tt room (room == 0) some failed x so is, ap (λ (k : List ℕ). k ++ []) e))
+body_from version room some failed (lines.Entry x) t so is e =
+    let u = body_text version [] (ending_if (is_failure x)) [] in
     let few : 0 < room = not_zero room is.0 in
-    (u, (x ∷ [], ending_if (is_failure x), record { few = omega (arith, few); entries = (is.1, tt); has = refl; ends = refl }, ap (λ (k : List ℕ). k ++ u) (e ∙ sym (append-nil (line (entry_text x))))))
+    (u, (x ∷ [], ending_if (is_failure x), record { few = omega (arith, few); entries = is.1; has = refl; ends = refl }, ap (λ (k : List ℕ). k ++ u) (e ∙ sym (append-nil (line (entry_text (process_text version) x))))))
 
-body_step : (room : ℕ) (some failed : Bool) (l : Line) (bytes rest : List ℕ) → IsLine (room == 0) some failed l × (bytes ≡ line_text l ++ rest)
-    → ((x : Entry) → Cut (lines_at room true (is_failure x) rest) (BodyTo room true (is_failure x)) rest)
-    → Splits (by_line {Y = Parsed (List Entry × Ending)} l (λ ending. Ok (([], ending), rest)) (λ e. lines_at room true (is_failure e) rest >>= λ others. Ok ((e ∷ others.0.0, others.0.1), others.1))) (BodyTo (suc room) some failed) bytes rest
-body_step room some failed (lines.Close x) bytes rest found again = record { text = line_text (lines.Close x); whole = found.1; next = ok_cut (([], x), rest) (λ u. BodyTo (suc room) some failed (line_text (lines.Close x) ++ u)) rest }
-body_step room some failed (lines.Entry x) bytes rest found again = record {
-  text = line_text (lines.Entry x);
+body_step : (version : Version) (room : ℕ) (some failed : Bool) (l : Line) (bytes rest : List ℕ) → IsLine version (room == 0) some failed l × (bytes ≡ line_text version l ++ rest)
+    → ((x : Entry) → Cut (lines_at version room true (is_failure x) rest) (BodyTo version room true (is_failure x)) rest)
+    → Splits (by_line {Y = Parsed (List Entry × Ending)} l (λ ending. Ok (([], ending), rest)) (λ e. lines_at version room true (is_failure e) rest >>= λ others. Ok ((e ∷ others.0.0, others.0.1), others.1))) (BodyTo version (suc room) some failed) bytes rest
+body_step version room some failed (lines.Close x) bytes rest found again = record { text = line_text version (lines.Close x); whole = found.1; next = ok_cut (([], x), rest) (λ u. BodyTo version (suc room) some failed (line_text version (lines.Close x) ++ u)) rest }
+body_step version room some failed (lines.Entry x) bytes rest found again = record {
+  text = line_text version (lines.Entry x);
   whole = found.1;
-  next = last_cut (lines_at room true (is_failure x) rest) (λ others. ((x ∷ others.0.0, others.0.1), others.1)) (BodyTo room true (is_failure x)) (λ u. BodyTo (suc room) some failed (line_text (lines.Entry x) ++ u)) rest (again x)
-      (λ t b. (x ∷ b.0, b.1, record { few = omega (arith, b.2.few); entries = (wide_entry x found.0.1, b.2.entries); has = refl; ends = b.2.ends }, ap (λ (k : List ℕ). line (entry_text x) ++ k) b.3 ∙ sym (append_assoc (line (entry_text x)) (entries_text b.0) (line (ending_text b.1) ++ []))));
+  next = last_cut (lines_at version room true (is_failure x) rest) (λ others. ((x ∷ others.0.0, others.0.1), others.1)) (BodyTo version room true (is_failure x)) (λ u. BodyTo version (suc room) some failed (line_text version (lines.Entry x) ++ u)) rest (again x)
+      (λ t b. (x ∷ b.0, b.1, record { few = omega (arith, b.2.few); entries = entry_loosely version x b.0 found.0.1 b.2.entries; has = refl; ends = b.2.ends }, ap (λ (k : List ℕ). line (entry_text (process_text version) x) ++ k) b.3 ∙ sym (append_assoc (line (entry_text (process_text version) x)) (entries_text version b.0) (line (ending_text b.1) ++ []))));
 }
 
-lines_cut : (room : ℕ) (some failed : Bool) (bytes : List ℕ) → (some ≡ false → 1 < room) → (failed ≡ true → some ≡ true) → Cut (lines_at room some failed bytes) (BodyTo room some failed) bytes
+lines_cut : (version : Version) (room : ℕ) (some failed : Bool) (bytes : List ℕ) → (some ≡ false → 1 < room) → (failed ≡ true → some ≡ true) → Cut (lines_at version room some failed bytes) (BodyTo version room some failed) bytes
 unfolding lines_at
-lines_cut zero some failed bytes more so = fault_cut faults.TooMany (BodyTo zero some failed) bytes refl
-lines_cut (suc room) some failed bytes more so =
-    bind_cut (line_at (room == 0) some failed bytes) (λ l. by_line l.0 (λ ending. Ok (([], ending), l.1)) (λ e. lines_at room true (is_failure e) l.1 >>= λ others. Ok ((e ∷ others.0.0, others.0.1), others.1))) (LineTo (room == 0) some failed) (BodyTo (suc room) some failed) bytes
-    (line_cut (room == 0) some failed bytes (λ h. let lt : 1 < suc room = more h in let k : 0 < room = omega (arith, lt) in grind (arith, nat_tests)))
-    (λ t x. body_from room some failed x.0 t so x.1 x.2)
-    (λ l rest e. body_step room some failed l bytes rest (line_is (room == 0) some failed l bytes rest e) (λ x. lines_cut room true (is_failure x) rest (λ h. absurd cc) (λ h. refl)))
+lines_cut version zero some failed bytes more so = fault_cut faults.TooMany (BodyTo version zero some failed) bytes refl
+lines_cut version (suc room) some failed bytes more so =
+    bind_cut (line_at version (room == 0) some failed bytes) (λ l. by_line l.0 (λ ending. Ok (([], ending), l.1)) (λ e. lines_at version room true (is_failure e) l.1 >>= λ others. Ok ((e ∷ others.0.0, others.0.1), others.1))) (LineTo version (room == 0) some failed) (BodyTo version (suc room) some failed) bytes
+    (line_cut version (room == 0) some failed bytes (λ h. let lt : 1 < suc room = more h in let k : 0 < room = omega (arith, lt) in grind (arith, nat_tests)))
+    (λ t x. body_from version room some failed x.0 t so x.1 x.2)
+    (λ l rest e. body_step version room some failed l bytes rest (line_is version (room == 0) some failed l bytes rest e) (λ x. lines_cut version room true (is_failure x) rest (λ h. absurd cc) (λ h. refl)))
 
 -- ---- a log
 
-made_log : (p : ℕ) (es : List Entry) (ending : Ending) → IsWideProcess p → IsBodyOf IsWideEntry 1000001 false false es ending → IsWideLog (record { proc = p; entries = es; ending = ending })
-made_log p es ending process body = record {
+made_log : (version : Version) (p : ℕ) (es : List Entry) (ending : Ending) → IsProcessIn version p → IsBodyOf (EachLoosely version) 1000001 false false es ending → IsLooseLog version (record { proc = p; entries = es; ending = ending })
+made_log version p es ending process body = record {
   process = process;
-  entries = record { some = some_of es body.has; few = omega (arith, body.few); each = All-from_recursion IsWideEntry es body.entries };
+  entries = loose_entries version es (some_of es body.has) (omega (arith, body.few)) body.entries;
   ending = closed_by es ending body.ends;
 }
 
-abbrev pub LogTo : ℕ → List ℕ → Type 0
-LogTo p t = (log : Log) × IsWideLog log × (log.proc ≡ p) × (t ≡ body_text log.entries log.ending [])
+abbrev pub LogTo : Version → ℕ → List ℕ → Type 0
+LogTo version p t = (log : Log) × IsLooseLog version log × (log.proc ≡ p) × (t ≡ body_text version log.entries log.ending [])
 
-log_cut : (p : ℕ) (bytes : List ℕ) → IsWideProcess p → Cut (log_at p bytes) (LogTo p) bytes
+log_cut : (version : Version) (p : ℕ) (bytes : List ℕ) → IsProcessIn version p → Cut (log_at version p bytes) (LogTo version p) bytes
 unfolding log_at
-log_cut p bytes process =
-    last_cut {B = Log} (lines_at 1000001 false false bytes) (λ body. (record { proc = p; entries = body.0.0; ending = body.0.1 }, body.1)) (BodyTo 1000001 false false) (LogTo p) bytes (lines_cut 1000001 false false bytes (λ h. omega arith) (λ h. absurd cc))
-    (λ t b. (record { proc = p; entries = b.0; ending = b.1 }, made_log p b.0 b.1 process b.2, refl, b.3))
+log_cut version p bytes process =
+    last_cut {B = Log} (lines_at version 1000001 false false bytes) (λ body. (record { proc = p; entries = body.0.0; ending = body.0.1 }, body.1)) (BodyTo version 1000001 false false) (LogTo version p) bytes (lines_cut version 1000001 false false bytes (λ h. omega arith) (λ h. absurd cc))
+    (λ t b. (record { proc = p; entries = b.0; ending = b.1 }, made_log version p b.0 b.1 process b.2, refl, b.3))
 
 -- ---- the first line of a log, or the last line
 
-abbrev pub ProcTo : ℕ → List ℕ → Type 0
-ProcTo last t = (p : ℕ) × (last < p) × (p ≤ 9999999999) × (t ≡ codes "og " ++ (decimal p ++ 10 ∷ []))
+abbrev pub ProcTo : Version → List ℕ → Type 0
+ProcTo version t = (p : ℕ) × IsProcessIn version p × (t ≡ codes "og " ++ (process_text version p ++ 10 ∷ []))
 
-log_proc_cut : (last : ℕ) (bytes : List ℕ) → last ≤ 65535 → Cut (log_proc_at last bytes) (ProcTo last) bytes
+log_proc_cut : (version : Version) (last : ℕ) (bytes : List ℕ) → Cut (log_proc_at version last bytes) (ProcTo version) bytes
 unfolding log_proc_at
-log_proc_cut last bytes le =
-    bind_cut (word_at faults.Word (codes "og ") bytes) (λ w. number_at 65535 w.1 >>= λ p. cond (nat_le p.0.0 last) (Err faults.Order) (cond (p.0.1 == 10) (Ok (p.0.0, p.1)) (Err faults.Word))) (λ t. t ≡ codes "og ") (ProcTo last) bytes (word_cut faults.Word (codes "og ") bytes refl)
+log_proc_cut version last bytes =
+    bind_cut (word_at faults.Word (codes "og ") bytes) (λ w. process_then version w.1 >>= λ p. cond (nat_le p.0.0 last) (Err faults.Order) (cond (p.0.1 == 10) (Ok (p.0.0, p.1)) (Err faults.Word))) (λ t. t ≡ codes "og ") (ProcTo version) bytes (word_cut faults.Word (codes "og ") bytes refl)
     (λ t e.
-    let u = decimal (last + 1) ++ 10 ∷ [] in
-    (u, (last + 1, omega arith, omega arith, ap (λ (k : List ℕ). k ++ u) e)))
+    let u = process_text version (rank_of 1 1) ++ 10 ∷ [] in
+    (u, (rank_of 1 1, first_process_is version, ap (λ (k : List ℕ). k ++ u) e)))
     (λ w rest e. record {
       text = codes "og ";
       whole = word_is faults.Word (codes "og ") bytes rest w e;
-      next = bind_cut (number_at 65535 rest) (λ p. cond (nat_le p.0.0 last) (Err faults.Order) (cond (p.0.1 == 10) (Ok (p.0.0, p.1)) (Err faults.Word))) (AboveTo last) Is rest (above_cut last rest le)
-          (λ t x. (10 ∷ [], (x.0, x.1, x.2, ap (λ (k : List ℕ). codes "og " ++ (k ++ 10 ∷ [])) x.3)))
+      next = bind_cut (process_then version rest) (λ p. cond (nat_le p.0.0 last) (Err faults.Order) (cond (p.0.1 == 10) (Ok (p.0.0, p.1)) (Err faults.Word))) (ProcessTo version) Is rest (process_cut version rest)
+          (λ t x. (10 ∷ [], (x.0, x.1, ap (λ (k : List ℕ). codes "og " ++ (k ++ 10 ∷ [])) x.2)))
           (λ n rest2 e2.
-          let x = number_is 65535 n.0 n.1 rest rest2 (omega arith) (omega arith) e2 in
-          let Then : List ℕ → Type 0 = λ u. Is ((decimal n.0 ++ n.1 ∷ []) ++ u) in
+          let x = process_then_is version n.0 n.1 rest rest2 e2 in
+          let Then : List ℕ → Type 0 = λ u. Is ((process_text version n.0 ++ n.1 ∷ []) ++ u) in
           record {
-            text = decimal n.0 ++ n.1 ∷ [];
-            whole = x.spelled ∙ sym (append_assoc (decimal n.0) (n.1 ∷ []) rest2);
+            text = process_text version n.0 ++ n.1 ∷ [];
+            whole = x.spelled ∙ sym (append_assoc (process_text version n.0) (n.1 ∷ []) rest2);
             next = test_cut (nat_le n.0 last) (Err faults.Order) (cond (n.1 == 10) (Ok (n.0, rest2)) (Err faults.Word)) Then rest2
                 (λ h. fault_cut faults.Order Then rest2 refl)
                 (λ h. test_cut (n.1 == 10) (Ok (n.0, rest2)) (Err faults.Word) Then rest2
@@ -140,132 +121,166 @@ log_proc_cut last bytes le =
     })
   where
     Is : List ℕ → Type 0
-    Is u = ProcTo last (codes "og " ++ u)
+    Is u = ProcTo version (codes "og " ++ u)
 
-abbrev IsWideHead : Bool → ℕ → Option ℕ → Type 0
-IsWideHead full last None = Unit {0}
-IsWideHead full last (Some p) = (full ≡ false) × (last < p) × (p ≤ 9999999999)
+abbrev IsLooseHead : Version → Bool → Option ℕ → Type 0
+IsLooseHead version full None = Unit {0}
+IsLooseHead version full (Some p) = (full ≡ false) × IsProcessIn version p
 
-abbrev pub HeadTo : Bool → ℕ → List ℕ → Type 0
-HeadTo full last t = (head : Option ℕ) × IsWideHead full last head × (t ≡ head_text head)
+abbrev pub HeadTo : Version → Bool → List ℕ → Type 0
+HeadTo version full t = (head : Option ℕ) × IsLooseHead version full head × (t ≡ head_text version head)
 
-begin_cut : (full : Bool) (last : ℕ) (bytes : List ℕ) → last ≤ 65535 → Cut (begin_at full last bytes) (λ u. HeadTo full last (108 ∷ u)) bytes
+begin_cut : (version : Version) (full : Bool) (last : ℕ) (bytes : List ℕ) → Cut (begin_at version full last bytes) (λ u. HeadTo version full (108 ∷ u)) bytes
 unfolding begin_at
-begin_cut full last bytes le =
-    test_cut full (Err faults.TooMany) (log_proc_at last bytes >>= λ p. Ok (Some p.0, p.1)) Is bytes
+begin_cut version full last bytes =
+    test_cut full (Err faults.TooMany) (log_proc_at version last bytes >>= λ p. Ok (Some p.0, p.1)) Is bytes
     (λ h. fault_cut faults.TooMany Is bytes refl)
-    (λ h. last_cut (log_proc_at last bytes) (λ p. (Some p.0, p.1)) (ProcTo last) Is bytes (log_proc_cut last bytes le) (λ t x. (Some x.0, (h, x.1, x.2), ap (λ (k : List ℕ). 108 ∷ k) x.3)))
+    (λ h. last_cut (log_proc_at version last bytes) (λ p. (Some p.0, p.1)) (ProcTo version) Is bytes (log_proc_cut version last bytes) (λ t x. (Some x.0, (h, x.1), ap (λ (k : List ℕ). 108 ∷ k) x.2)))
   where
     Is : List ℕ → Type 0
-    Is u = HeadTo full last (108 ∷ u)
+    Is u = HeadTo version full (108 ∷ u)
 
-end_cut : (full : Bool) (last : ℕ) (bytes : List ℕ) → Cut (end_at bytes) (λ u. HeadTo full last (101 ∷ u)) bytes
+end_cut : (version : Version) (full : Bool) (bytes : List ℕ) → Cut (end_at bytes) (λ u. HeadTo version full (101 ∷ u)) bytes
 unfolding end_at
-end_cut full last bytes =
-    last_cut (word_at faults.Word (line (codes "nd")) bytes) (λ w. (None, w.1)) (λ t. t ≡ line (codes "nd")) (λ u. HeadTo full last (101 ∷ u)) bytes (word_cut faults.Word (line (codes "nd")) bytes refl) (λ t e. (None, tt, ap (λ (k : List ℕ). 101 ∷ k) e))
+end_cut version full bytes =
+    last_cut (word_at faults.Word (line (codes "nd")) bytes) (λ w. (None, w.1)) (λ t. t ≡ line (codes "nd")) (λ u. HeadTo version full (101 ∷ u)) bytes (word_cut faults.Word (line (codes "nd")) bytes refl) (λ t e. (None, tt, ap (λ (k : List ℕ). 101 ∷ k) e))
 
-head_cut : (full : Bool) (last : ℕ) (bytes : List ℕ) → last ≤ 65535 → Cut (head_at full last bytes) (HeadTo full last) bytes
+head_cut : (version : Version) (full : Bool) (last : ℕ) (bytes : List ℕ) → Cut (head_at version full last bytes) (HeadTo version full) bytes
 unfolding head_at
-head_cut full last bytes le =
-    bind_cut (byte_at bytes) (λ b. cond (b.0 == 108) (begin_at full last b.1) (cond (b.0 == 101) (end_at b.1) (Err faults.Word))) (λ t. t ≡ 101 ∷ []) (HeadTo full last) bytes (byte_cut 101 bytes)
+head_cut version full last bytes =
+    bind_cut (byte_at bytes) (λ b. cond (b.0 == 108) (begin_at version full last b.1) (cond (b.0 == 101) (end_at b.1) (Err faults.Word))) (λ t. t ≡ 101 ∷ []) (HeadTo version full) bytes (byte_cut 101 bytes)
     (λ t e. (line (codes "nd"), (None, tt, ap (λ (k : List ℕ). k ++ line (codes "nd")) e)))
     (λ b rest e. record {
       text = b ∷ [];
       whole = byte_is bytes b rest e;
-      next = test_cut (b == 108) (begin_at full last rest) (cond (b == 101) (end_at rest) (Err faults.Word)) (λ u. HeadTo full last (b ∷ u)) rest
-          (λ h. let same : b ≡ 108 = eqb-true b 108 h in rw same (begin_cut full last rest le))
-          (λ h. test_cut (b == 101) (end_at rest) (Err faults.Word) (λ u. HeadTo full last (b ∷ u)) rest
-          (λ h. let same : b ≡ 101 = eqb-true b 101 h in rw same (end_cut full last rest))
-          (λ h. fault_cut faults.Word (λ u. HeadTo full last (b ∷ u)) rest refl));
+      next = test_cut (b == 108) (begin_at version full last rest) (cond (b == 101) (end_at rest) (Err faults.Word)) (λ u. HeadTo version full (b ∷ u)) rest
+          (λ h. let same : b ≡ 108 = eqb-true b 108 h in rw same (begin_cut version full last rest))
+          (λ h. test_cut (b == 101) (end_at rest) (Err faults.Word) (λ u. HeadTo version full (b ∷ u)) rest
+          (λ h. let same : b ≡ 101 = eqb-true b 101 h in rw same (end_cut version full rest))
+          (λ h. fault_cut faults.Word (λ u. HeadTo version full (b ∷ u)) rest refl));
     })
 
 -- ---- logs
 
-abbrev pub LogsTo : ℕ → ℕ → List ℕ → Type 0
-LogsTo room last t = (logs : List Log) × LogsFrom IsWideLog room last logs × (t ≡ logs_text logs [])
+abbrev pub LogsTo : Version → ℕ → ℕ → List ℕ → Type 0
+LogsTo version room last t = (logs : List Log) × LooseLogsFrom version room last logs × (t ≡ logs_text version logs [])
 
-body_more : (es : List Entry) (ending : Ending) (rest : List ℕ) → body_text es ending [] ++ rest ≡ body_text es ending rest
-body_more es ending rest = append_assoc (entries_text es) (line (ending_text ending) ++ []) rest ∙ ap (λ (k : List ℕ). entries_text es ++ k) (append_assoc (line (ending_text ending)) [] rest)
+body_more : (version : Version) (es : List Entry) (ending : Ending) (rest : List ℕ) → body_text version es ending [] ++ rest ≡ body_text version es ending rest
+body_more version es ending rest = append_assoc (entries_text version es) (line (ending_text ending) ++ []) rest ∙ ap (λ (k : List ℕ). entries_text version es ++ k) (append_assoc (line (ending_text ending)) [] rest)
 
-joined : (p : ℕ) (log : Log) (logs : List Log) (t : List ℕ) → log.proc ≡ p → t ≡ logs_text logs [] → head_text (Some p) ++ (body_text log.entries log.ending [] ++ t) ≡ logs_text (log ∷ logs) []
-joined p log logs t same e =
-    ap (λ (k : List ℕ). head_text (Some p) ++ k) (body_more log.entries log.ending t ∙ ap (λ (k : List ℕ). body_text log.entries log.ending k) e)
-    ∙ ap (λ (k : ℕ). head_text (Some k) ++ body_text log.entries log.ending (logs_text logs [])) (sym same) ∙ sym (logs_parts log logs [])
+joined : (version : Version) (p : ℕ) (log : Log) (logs : List Log) (t : List ℕ) → log.proc ≡ p → t ≡ logs_text version logs [] → head_text version (Some p) ++ (body_text version log.entries log.ending [] ++ t) ≡ logs_text version (log ∷ logs) []
+joined version p log logs t same e =
+    ap (λ (k : List ℕ). head_text version (Some p) ++ k) (body_more version log.entries log.ending t ∙ ap (λ (k : List ℕ). body_text version log.entries log.ending k) e)
+    ∙ ap (λ (k : ℕ). head_text version (Some k) ++ body_text version log.entries log.ending (logs_text version logs [])) (sym same) ∙ sym (logs_parts version log logs [])
 
 -- a log of one failure
 first_log : ℕ → Log
 first_log p = record { proc = p; entries = Fail (Regular first_ring) ∷ []; ending = Failed }
 
-first_log_is : (p : ℕ) → IsWideProcess p → IsWideLog (first_log p)
+first_log_is : (version : Version) (p : ℕ) → IsProcessIn version p → IsLooseLog version (first_log p)
 unfolding first_log
-first_log_is p process = made_log p (Fail (Regular first_ring) ∷ []) Failed process (record { few = omega arith; entries = (first_ring_is, tt); has = refl; ends = refl })
-
-wide_above : (last p : ℕ) → last < p → p ≤ 9999999999 → IsWideProcess p
-wide_above last p lt le = record { positive = omega arith; small = le }
+first_log_is version p process = made_log version p (Fail (Regular first_ring) ∷ []) Failed process (record { few = omega arith; entries = first_ring_is; has = refl; ends = refl })
 
 -- the last line, or a first line that came last but for a log's others
-logs_from : (room last : ℕ) (head : Option ℕ) (t : List ℕ) → IsWideHead (room == 0) last head → t ≡ head_text head → (u : List ℕ) × LogsTo (suc room) last (t ++ u)
+logs_from : (version : Version) (room last : ℕ) (head : Option ℕ) (t : List ℕ) → IsLooseHead version (room == 0) head → t ≡ head_text version head → (u : List ℕ) × LogsTo version (suc room) last (t ++ u)
 unfolding first_log
-logs_from room last None t is e = ([], ([], record { few = omega arith; rises = tt }, ap (λ (k : List ℕ). k ++ []) e))
-logs_from room last (Some p) t is e =
+logs_from version room last None t is e = ([], ([], record { few = omega arith; rises = tt }, ap (λ (k : List ℕ). k ++ []) e))
+logs_from version room last (Some p) t is e =
     let log = first_log p in
-    let u = body_text log.entries log.ending [] ++ logs_text [] [] in
+    let u = body_text version log.entries log.ending [] ++ logs_text version [] [] in
     let few : 0 < room = not_zero room is.0 in
-    (u, (log ∷ [], record { few = omega (arith, few); rises = (is.1, first_log_is p (wide_above last p is.1 is.2), tt) }, ap (λ (k : List ℕ). k ++ u) e ∙ joined p log [] (logs_text [] []) refl refl))
+    (u, (log ∷ [], record { few = omega (arith, few); rises = first_log_is version p is.1 }, ap (λ (k : List ℕ). k ++ u) e ∙ joined version p log [] (logs_text version [] []) refl refl))
 
-logs_step : (room last : ℕ) (head : Option ℕ) (bytes rest : List ℕ) → IsHead (room == 0) last head × (bytes ≡ head_text head ++ rest)
-    → ((p : ℕ) (rest2 : List ℕ) → p ≤ 65535 → Cut (logs_at room p rest2) (LogsTo room p) rest2)
-    → Splits (by_head {Y = Parsed (List Log)} head (Ok ([], rest)) (λ p. log_at p rest >>= λ log. logs_at room p log.1 >>= λ others. Ok (log.0 ∷ others.0, others.1))) (LogsTo (suc room) last) bytes rest
-logs_step room last None bytes rest found again = record { text = head_text None; whole = found.1; next = ok_cut ([], rest) (λ u. LogsTo (suc room) last (head_text None ++ u)) rest }
-logs_step room last (Some p) bytes rest found again =
+logs_step : (version : Version) (room last : ℕ) (head : Option ℕ) (bytes rest : List ℕ) → IsHead version (room == 0) last head × (bytes ≡ head_text version head ++ rest)
+    → ((p : ℕ) (rest2 : List ℕ) → Cut (logs_at version room p rest2) (LogsTo version room p) rest2)
+    → Splits (by_head {Y = Parsed (List Log)} head (Ok ([], rest)) (λ p. log_at version p rest >>= λ log. logs_at version room p log.1 >>= λ others. Ok (log.0 ∷ others.0, others.1))) (LogsTo version (suc room) last) bytes rest
+logs_step version room last None bytes rest found again = record { text = head_text version None; whole = found.1; next = ok_cut ([], rest) (λ u. LogsTo version (suc room) last (head_text version None ++ u)) rest }
+logs_step version room last (Some p) bytes rest found again =
     let few : 0 < room = not_zero room found.0.0 in
     record {
-      text = head_text (Some p);
+      text = head_text version (Some p);
       whole = found.1;
-      next = bind_cut (log_at p rest) (λ log. logs_at room p log.1 >>= λ others. Ok (log.0 ∷ others.0, others.1)) (LogTo p) Is rest (log_cut p rest (record { positive = omega (arith, found.0.1); small = omega (arith, found.0.2) }))
-          (λ t x. (logs_text [] [], (x.0 ∷ [], record { few = omega (arith, few); rises = (rw x.2 found.0.1, x.1, tt) }, ap (λ (k : List ℕ). head_text (Some p) ++ (k ++ logs_text [] [])) x.3 ∙ joined p x.0 [] (logs_text [] []) x.2 refl)))
+      next = bind_cut (log_at version p rest) (λ log. logs_at version room p log.1 >>= λ others. Ok (log.0 ∷ others.0, others.1)) (LogTo version p) Is rest (log_cut version p rest found.0.2)
+          (λ t x. (logs_text version [] [], (x.0 ∷ [], record { few = omega (arith, few); rises = x.1 }, ap (λ (k : List ℕ). head_text version (Some p) ++ (k ++ logs_text version [] [])) x.3 ∙ joined version p x.0 [] (logs_text version [] []) x.2 refl)))
           (λ log rest2 e2.
-          let one = log_is p log rest rest2 (record { positive = omega (arith, found.0.1); small = found.0.2 }) e2 in
+          let one = log_is version p log rest rest2 found.0.2 e2 in
           record {
-            text = body_text log.entries log.ending [];
-            whole = one.2 ∙ sym (body_more log.entries log.ending rest2);
-            next = last_cut (logs_at room p rest2) (λ others. (log ∷ others.0, others.1)) (LogsTo room p) (λ u. Is (body_text log.entries log.ending [] ++ u)) rest2 (again p rest2 found.0.2)
-                (λ t x. (log ∷ x.0, record { few = omega (arith, x.1.few); rises = (rw one.1 found.0.1, wide_log log one.0, rw one.1 x.1.rises) }, joined p log x.0 t one.1 x.2));
+            text = body_text version log.entries log.ending [];
+            whole = one.2 ∙ sym (body_more version log.entries log.ending rest2);
+            next = last_cut (logs_at version room p rest2) (λ others. (log ∷ others.0, others.1)) (LogsTo version room p) (λ u. Is (body_text version log.entries log.ending [] ++ u)) rest2 (again p rest2)
+                (λ t x. (log ∷ x.0, record { few = omega (arith, x.1.few); rises = log_loosely version last log x.0 (rw one.1 found.0.1) one.0 (rw one.1 x.1.rises) }, joined version p log x.0 t one.1 x.2));
           });
     }
   where
     Is : List ℕ → Type 0
-    Is u = LogsTo (suc room) last (head_text (Some p) ++ u)
+    Is u = LogsTo version (suc room) last (head_text version (Some p) ++ u)
 
-logs_cut : (room last : ℕ) (bytes : List ℕ) → last ≤ 65535 → Cut (logs_at room last bytes) (LogsTo room last) bytes
+logs_cut : (version : Version) (room last : ℕ) (bytes : List ℕ) → Cut (logs_at version room last bytes) (LogsTo version room last) bytes
 unfolding logs_at
-logs_cut zero last bytes le = fault_cut faults.TooMany (LogsTo zero last) bytes refl
-logs_cut (suc room) last bytes le =
-    bind_cut (head_at (room == 0) last bytes) (λ head. by_head head.0 (Ok ([], head.1)) (λ p. log_at p head.1 >>= λ log. logs_at room p log.1 >>= λ others. Ok (log.0 ∷ others.0, others.1))) (HeadTo (room == 0) last) (LogsTo (suc room) last) bytes (head_cut (room == 0) last bytes le)
-    (λ t x. logs_from room last x.0 t x.1 x.2)
-    (λ head rest e. logs_step room last head bytes rest (head_is (room == 0) last head bytes rest e) (λ p rest2 small. logs_cut room p rest2 small))
+logs_cut version zero last bytes = fault_cut faults.TooMany (LogsTo version zero last) bytes refl
+logs_cut version (suc room) last bytes =
+    bind_cut (head_at version (room == 0) last bytes) (λ head. by_head head.0 (Ok ([], head.1)) (λ p. log_at version p head.1 >>= λ log. logs_at version room p log.1 >>= λ others. Ok (log.0 ∷ others.0, others.1))) (HeadTo version (room == 0)) (LogsTo version (suc room) last) bytes (head_cut version (room == 0) last bytes)
+    (λ t x. logs_from version room last x.0 t x.1 x.2)
+    (λ head rest e. logs_step version room last head bytes rest (head_is version (room == 0) last head bytes rest e) (λ p rest2. logs_cut version room p rest2))
 
 -- ---- runs
 
-abbrev pub RunTo : List ℕ → Type 0
-RunTo t = (run : List Log) × IsWideRun run × (run_text run ≡ t)
+abbrev pub HeaderTo : List ℕ → Type 0
+HeaderTo t = (version : Version) × IsOfText version × (t ≡ header_text version)
 
-run_of : (logs : List Log) (t : List ℕ) → LogsFrom IsWideLog 33 0 logs → t ≡ logs_text logs [] → RunTo (line (codes "totem-run 1") ++ t)
-run_of logs t is e = (logs, is_wide_run logs is, sym (append-nil (run_text logs)) ∙ run_parts logs [] ∙ ap (λ (k : List ℕ). line (codes "totem-run 1") ++ k) (sym e))
+header_end_cut : (version : Version) (bytes : List ℕ) → IsOfText version → Cut (header_end version bytes) (λ u. HeaderTo (codes "totem-run " ++ version_digit version ∷ u)) bytes
+unfolding header_end
+header_end_cut version bytes is =
+    last_cut (word_at faults.Header (line []) bytes) (λ w. (version, w.1)) (λ t. t ≡ line []) (λ u. HeaderTo (codes "totem-run " ++ version_digit version ∷ u)) bytes (word_cut faults.Header (line []) bytes refl)
+    (λ t e. (version, is, ap (λ (k : List ℕ). codes "totem-run " ++ version_digit version ∷ k) e))
+
+header_cut : (bytes : List ℕ) → Cut (header_at bytes) HeaderTo bytes
+unfolding header_at
+header_cut bytes =
+    bind_cut (word_at faults.Header (codes "totem-run ") bytes) (λ w. byte_at w.1 >>= λ v. cond (v.0 == 49) (header_end One v.1) (cond (v.0 == 50) (header_end Two v.1) (Err faults.Header))) (λ t. t ≡ codes "totem-run ") HeaderTo bytes (word_cut faults.Header (codes "totem-run ") bytes refl)
+    (λ t e. (49 ∷ 10 ∷ [], (One, tt, ap (λ (k : List ℕ). k ++ 49 ∷ 10 ∷ []) e)))
+    (λ w rest e. record {
+      text = codes "totem-run ";
+      whole = word_is faults.Header (codes "totem-run ") bytes rest w e;
+      next = bind_cut (byte_at rest) (λ v. cond (v.0 == 49) (header_end One v.1) (cond (v.0 == 50) (header_end Two v.1) (Err faults.Header))) (λ t. t ≡ 49 ∷ []) Is rest (byte_cut 49 rest)
+          (λ t e. (10 ∷ [], (One, tt, ap (λ (k : List ℕ). codes "totem-run " ++ (k ++ 10 ∷ [])) e)))
+          (λ v rest2 e2. record {
+            text = v ∷ [];
+            whole = byte_is rest v rest2 e2;
+            next = test_cut (v == 49) (header_end One rest2) (cond (v == 50) (header_end Two rest2) (Err faults.Header)) (λ u. Is (v ∷ u)) rest2
+                (λ h. let same : v ≡ 49 = eqb-true v 49 h in rw same (header_end_cut One rest2 tt))
+                (λ h. test_cut (v == 50) (header_end Two rest2) (Err faults.Header) (λ u. Is (v ∷ u)) rest2
+                (λ h. let same : v ≡ 50 = eqb-true v 50 h in rw same (header_end_cut Two rest2 tt))
+                (λ h. fault_cut faults.Header (λ u. Is (v ∷ u)) rest2 refl));
+          });
+    })
+  where
+    Is : List ℕ → Type 0
+    Is u = HeaderTo (codes "totem-run " ++ u)
+
+abbrev pub RunTo : List ℕ → Type 0
+RunTo t = (run : RunRecord) × IsOfText run.version × IsLooseRun run.version run.logs × (run_text run ≡ t)
+
+run_of : (version : Version) (logs : List Log) (t : List ℕ) → IsOfText version → LooseLogsFrom version 33 0 logs → t ≡ logs_text version logs [] → RunTo (header_text version ++ t)
+run_of version logs t of is e =
+    let run : RunRecord = record { version = version; logs = logs } in
+    (run, of, is_loose_run version logs is, sym (append-nil (run_text run)) ∙ run_parts run [] ∙ ap (λ (k : List ℕ). header_text version ++ k) (sym e))
 
 run_cut : (bytes : List ℕ) → Cut (run_at bytes) RunTo bytes
 unfolding run_at
 run_cut bytes =
-    bind_cut (word_at faults.Header (line (codes "totem-run 1")) bytes) (λ w. logs_at 33 0 w.1) (λ t. t ≡ line (codes "totem-run 1")) RunTo bytes (word_cut faults.Header (line (codes "totem-run 1")) bytes refl)
-    (λ t e. (logs_text [] [], rw e (run_of [] (logs_text [] []) (record { few = omega arith; rises = tt }) refl)))
-    (λ w rest e. record {
-      text = line (codes "totem-run 1");
-      whole = word_is faults.Header (line (codes "totem-run 1")) bytes rest w e;
-      next = cut_as (logs_at 33 0 rest) (LogsTo 33 0) (λ u. RunTo (line (codes "totem-run 1") ++ u)) rest (logs_cut 33 0 rest (omega arith)) (λ t x. run_of x.0 t x.1 x.2);
+    bind_cut (header_at bytes) (λ v. logs_at v.0 33 0 v.1 >>= λ logs. Ok (record { version = v.0; logs = logs.0 }, logs.1)) HeaderTo RunTo bytes (header_cut bytes)
+    (λ t x. (logs_text x.0 [] [], rw x.2 (run_of x.0 [] (logs_text x.0 [] []) x.1 (record { few = omega arith; rises = tt }) refl)))
+    (λ v rest e.
+    let y = header_is v bytes rest e in
+    record {
+      text = header_text v;
+      whole = y.1;
+      next = last_cut {B = RunRecord} (logs_at v 33 0 rest) (λ logs. (record { version = v; logs = logs.0 }, logs.1)) (LogsTo v 33 0) (λ u. RunTo (header_text v ++ u)) rest (logs_cut v 33 0 rest) (λ t x. run_of v x.0 t y.0 x.1 x.2);
     })
 
-pub cut_front : (bytes : List ℕ) → run_at bytes ≡ Err faults.Truncated → IsWideFront bytes
-cut_front bytes e = let found = (run_cut bytes).goes e in (found.1.0, found.0, found.1.1, found.1.2)
+pub cut_front : (bytes : List ℕ) → run_at bytes ≡ Err faults.Truncated → IsLooseFront bytes
+cut_front bytes e = let found = (run_cut bytes).goes e in (found.1.0, found.0, found.1.1, found.1.2, found.1.3)
 
 -- behind a byte that breaks a rule no run's text goes on
 no_front : (bytes : List ℕ) (fault : TextFault) → run_at bytes ≡ Err fault → is_short fault ≡ false → IsFront bytes → ⊥

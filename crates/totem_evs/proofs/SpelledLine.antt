@@ -1,5 +1,9 @@
 -- What is read is spelled so, and what is spelled so is read: the lines of a log.
-use Rattle.std.specs.Prelude.{decimal, nat_le, ◌==◌, codes, not, ◌&&◌}
+use Rattle.totem_ids.specs.declared.version.Version.{Version}
+use Rattle.totem_ids.specs.Processes.{process_text, process_then, IsProcessIn}
+use Rattle.totem_ids.specs.Ranks.{id_of}
+use Rattle.totem_ids.proofs.Lives.{process_then_is, process_then_again}
+use Rattle.std.specs.Prelude.{nat_le, ◌==◌, codes, not, ◌&&◌}
 use Rattle.std.proofs.Common.{◌≡◌, ℕ, zero, suc, ◌<◌, inl, inr, List, [], ◌∷◌, ◌++◌, Ok, Err, Bool, true, false, cond, refl, sym, ◌∙◌, ap, append_assoc, arith}
 use Rattle.std.proofs.lemmas.Bool.{eqb-true}
 use Rattle.std.proofs.lemmas.List.{append-nil}
@@ -9,19 +13,19 @@ use Rattle.totem_ids.specs.declared.conf.ConfId.{ConfId}
 use Rattle.totem_ids.specs.declared.message.Service.{Service}
 use Rattle.totem_ids.specs.Names.{MessageName}
 use Rattle.totem_ids.specs.Sources.{◌>>=◌}
-use Rattle.totem_ids.specs.Numbers.{byte_at, word_at, number_at}
+use Rattle.totem_ids.specs.Numbers.{byte_at, word_at}
 use Rattle.totem_ids.specs.Parsers.{conf_at, message_at}
 use Rattle.totem_ids.specs.Services.{service_at}
 use Rattle.totem_ids.specs.Texts.{conf_text, message_text, service_text, IsConf, IsMessage}
 use Rattle.totem_ids.proofs.ServiceSpelling.{service_is, service_again}
-use Rattle.totem_ids.proofs.Spelled.{after, taken, guard_then, guard_else, parsed_is, byte_is, word_is, word_again, number_is, number_again, conf_is, conf_again, message_is, message_again}
+use Rattle.totem_ids.proofs.Spelled.{after, taken, guard_then, guard_else, parsed_is, byte_is, word_is, word_again, conf_is, conf_again, message_is, message_again}
 use Rattle.totem_evs.specs.declared.entry.Entry.{Entry}
 use Rattle.totem_evs.specs.declared.entry.Entry.TheVariants.{Conf, Send, Deliver, Fail}
 use Rattle.totem_evs.specs.declared.ending.Ending.TheVariants.{Standing, Failed}
 use Rattle.totem_evs.specs.declared.line.Line.{Line}
 use Rattle.totem_evs.specs.declared.line.Line.TheVariants as lines
-use Rattle.totem_evs.specs.Members.{IsMembers}
-use Rattle.totem_evs.specs.Runs.{IsEntry}
+use Rattle.totem_evs.specs.Members.{IsMembersIn}
+use Rattle.totem_evs.specs.Runs.{IsEntryIn}
 use Rattle.totem_evs.specs.RunText.{line, members_text, entry_text, ending_text}
 use Rattle.totem_evs.specs.RunGrammar.{members_at, change_at, send_at, delivery_at, open_at, failed_at, fail_at, ail_at, failure_at, line_at}
 use Rattle.totem_evs.proofs.FromLeft.{MembersFrom, are_members, members_from}
@@ -31,49 +35,54 @@ use Rattle.totem_evs.proofs.FromLeft.{MembersFrom, are_members, members_from}
 pub not_within : (a b : ℕ) → nat_le a b ≡ false → b < a
 not_within a b h = grind (arith, nat_tests)
 
-pub members_is : (room last : ℕ) (ms bytes rest : List ℕ) → members_at room last bytes ≡ Ok (ms, rest) → MembersFrom 65535 room last ms × (32 ∷ bytes ≡ members_text ms ++ 10 ∷ rest)
+-- the first of some members
+pub members_first : (spell : ℕ → List ℕ) (p : ℕ) (ps rest : List ℕ) → members_text spell (p ∷ ps) ++ rest ≡ 32 ∷ (spell p ++ (members_text spell ps ++ rest))
+members_first spell p ps rest = append_assoc (32 ∷ spell p) (members_text spell ps) rest
+
+pub members_is : (version : Version) (room last : ℕ) (ms bytes rest : List ℕ) → members_at version room last bytes ≡ Ok (ms, rest) → MembersFrom version room last ms × (32 ∷ bytes ≡ members_text (process_text version) ms ++ 10 ∷ rest)
 unfolding members_at
-members_is zero last ms bytes rest e = absurd cc
-members_is (suc room) last ms bytes rest e =
-    after (number_at 65535 bytes) (λ p. cond (nat_le p.0.0 last) (Err faults.Members) (cond (p.0.1 == 10) (Ok (p.0.0 ∷ [], p.1)) (cond (p.0.1 == 32) (members_at room p.0.0 p.1 >>= λ others. Ok (p.0.0 ∷ others.0, others.1)) (Err faults.Word)))) (ms, rest) e (λ p mid e1 more.
-    let x = number_is 65535 p.0 p.1 bytes mid (omega arith) (omega arith) e1 in
-    let g = guard_else (nat_le p.0 last) (cond (p.1 == 10) (Ok (p.0 ∷ [], mid)) (cond (p.1 == 32) (members_at room p.0 mid >>= λ others. Ok (p.0 ∷ others.0, others.1)) (Err faults.Word))) faults.Members (ms, rest) more in
-    let above : last < p.0 = not_within p.0 last g.0 in
-    elim (taken (p.1 == 10) (Ok (p.0 ∷ [], mid)) (cond (p.1 == 32) (members_at room p.0 mid >>= λ others. Ok (p.0 ∷ others.0, others.1)) (Err faults.Word)) (Ok (ms, rest)) g.1) [
+members_is version zero last ms bytes rest e = absurd cc
+members_is version (suc room) last ms bytes rest e =
+    after (process_then version bytes) (λ p. cond (nat_le (id_of p.0.0) last) (Err faults.Members) (cond (p.0.1 == 10) (Ok (p.0.0 ∷ [], p.1)) (cond (p.0.1 == 32) (members_at version room (id_of p.0.0) p.1 >>= λ others. Ok (p.0.0 ∷ others.0, others.1)) (Err faults.Word)))) (ms, rest) e (λ p mid e1 more.
+    let x = process_then_is version p.0 p.1 bytes mid e1 in
+    let is_process : IsProcessIn version p.0 = record { id_fits = x.id_fits; life_fits = x.life_fits; first = x.first } in
+    let g = guard_else (nat_le (id_of p.0) last) (cond (p.1 == 10) (Ok (p.0 ∷ [], mid)) (cond (p.1 == 32) (members_at version room (id_of p.0) mid >>= λ others. Ok (p.0 ∷ others.0, others.1)) (Err faults.Word))) faults.Members (ms, rest) more in
+    let above : last < id_of p.0 = not_within (id_of p.0) last g.0 in
+    elim (taken (p.1 == 10) (Ok (p.0 ∷ [], mid)) (cond (p.1 == 32) (members_at version room (id_of p.0) mid >>= λ others. Ok (p.0 ∷ others.0, others.1)) (Err faults.Word)) (Ok (ms, rest)) g.1) [
       | inl r ↦
           let same : p.1 ≡ 10 = eqb-true _ _ r.0 in
           let q = parsed_is (p.0 ∷ []) ms mid rest r.1 in
-          let text : 32 ∷ bytes ≡ members_text (p.0 ∷ []) ++ 10 ∷ mid = ap (λ (t : List ℕ). 32 ∷ t) (x.spelled ∙ ap (λ (b : ℕ). decimal p.0 ++ b ∷ mid) same ∙ ap (λ (t : List ℕ). t ++ 10 ∷ mid) (sym (append-nil (decimal p.0)))) in
-          let is : MembersFrom 65535 (suc room) last (p.0 ∷ []) = record { some = omega arith; few = omega arith; rises = (above, x.small, tt) } in
+          let text : 32 ∷ bytes ≡ members_text (process_text version) (p.0 ∷ []) ++ 10 ∷ mid = ap (λ (t : List ℕ). 32 ∷ t) (x.spelled ∙ ap (λ (b : ℕ). process_text version p.0 ++ b ∷ mid) same ∙ ap (λ (t : List ℕ). t ++ 10 ∷ mid) (sym (append-nil (process_text version p.0)))) in
+          let is : MembersFrom version (suc room) last (p.0 ∷ []) = record { some = omega arith; few = omega arith; rises = (above, is_process, tt) } in
           rw (← q.0, ← q.1) (is, text)
       | inr other ↦
-          let t = guard_then (p.1 == 32) (members_at room p.0 mid >>= λ others. Ok (p.0 ∷ others.0, others.1)) faults.Word (ms, rest) other.1 in
+          let t = guard_then (p.1 == 32) (members_at version room (id_of p.0) mid >>= λ others. Ok (p.0 ∷ others.0, others.1)) faults.Word (ms, rest) other.1 in
           let same : p.1 ≡ 32 = eqb-true _ _ t.0 in
-          after (members_at room p.0 mid) (λ others. Ok (p.0 ∷ others.0, others.1)) (ms, rest) t.1 (λ others left e2 made.
+          after (members_at version room (id_of p.0) mid) (λ others. Ok (p.0 ∷ others.0, others.1)) (ms, rest) t.1 (λ others left e2 made.
           let q = parsed_is (p.0 ∷ others) ms left rest made in
-          let tail = members_is room p.0 others mid left e2 in
-          let text : 32 ∷ bytes ≡ members_text (p.0 ∷ others) ++ 10 ∷ left = ap (λ (t : List ℕ). 32 ∷ t) (x.spelled ∙ ap (λ (b : ℕ). decimal p.0 ++ b ∷ mid) same ∙ ap (λ (t : List ℕ). decimal p.0 ++ t) tail.1 ∙ sym (append_assoc (decimal p.0) (members_text others) (10 ∷ left))) in
-          let is : MembersFrom 65535 (suc room) last (p.0 ∷ others) = record { some = omega arith; few = omega (arith, tail.0.few); rises = (above, x.small, tail.0.rises) } in
+          let tail = members_is version room (id_of p.0) others mid left e2 in
+          let text : 32 ∷ bytes ≡ members_text (process_text version) (p.0 ∷ others) ++ 10 ∷ left = ap (λ (t : List ℕ). 32 ∷ t) (x.spelled ∙ ap (λ (b : ℕ). process_text version p.0 ++ b ∷ mid) same ∙ ap (λ (t : List ℕ). process_text version p.0 ++ t) tail.1 ∙ sym (append_assoc (process_text version p.0) (members_text (process_text version) others) (10 ∷ left))) in
+          let is : MembersFrom version (suc room) last (p.0 ∷ others) = record { some = omega arith; few = omega (arith, tail.0.few); rises = (above, is_process, tail.0.rises) } in
           rw (← q.0, ← q.1) (is, text))
     ])
 
-pub members_again : (room last p : ℕ) (ps rest : List ℕ) → MembersFrom 65535 room last (p ∷ ps) → members_at room last (decimal p ++ (members_text ps ++ 10 ∷ rest)) ≡ Ok (p ∷ ps, rest)
+pub members_again : (version : Version) (room last p : ℕ) (ps rest : List ℕ) → MembersFrom version room last (p ∷ ps) → members_at version room last (process_text version p ++ (members_text (process_text version) ps ++ 10 ∷ rest)) ≡ Ok (p ∷ ps, rest)
 unfolding members_at
-members_again zero last p ps rest h = absurd (omega (arith, h.few))
-members_again (suc room) last p [] rest h =
-    let above : nat_le p last ≡ false = (let lt = h.rises.0 in grind (arith, nat_tests)) in
-    rw (number_again 65535 p 10 rest (omega (arith, h.rises.0)) (omega (arith, h.rises.1)) (omega arith) refl, above) refl
-members_again (suc room) last p (q ∷ ps) rest h =
-    let above : nat_le p last ≡ false = (let lt = h.rises.0 in grind (arith, nat_tests)) in
-    let regrouped : members_text (q ∷ ps) ++ 10 ∷ rest ≡ 32 ∷ (decimal q ++ (members_text ps ++ 10 ∷ rest)) = simp append_assoc in
-    let others : MembersFrom 65535 room p (q ∷ ps) = record { some = omega arith; few = omega (arith, h.few); rises = h.rises.2 } in
-    rw (regrouped, number_again 65535 p 32 (decimal q ++ (members_text ps ++ 10 ∷ rest)) (omega (arith, h.rises.0)) (omega (arith, h.rises.1)) (omega arith) refl, above, members_again room p q ps rest others) refl
+members_again version zero last p ps rest h = absurd (omega (arith, h.few))
+members_again version (suc room) last p [] rest h =
+    let above : nat_le (id_of p) last ≡ false = (let lt = h.rises.0 in grind (arith, nat_tests)) in
+    rw (process_then_again version p 10 rest refl h.rises.1, above) refl
+members_again version (suc room) last p (q ∷ ps) rest h =
+    let above : nat_le (id_of p) last ≡ false = (let lt = h.rises.0 in grind (arith, nat_tests)) in
+    let regrouped : members_text (process_text version) (q ∷ ps) ++ 10 ∷ rest ≡ 32 ∷ (process_text version q ++ (members_text (process_text version) ps ++ 10 ∷ rest)) = members_first (process_text version) q ps (10 ∷ rest) in
+    let others : MembersFrom version room (id_of p) (q ∷ ps) = record { some = omega arith; few = omega (arith, h.few); rises = h.rises.2 } in
+    rw (regrouped, process_then_again version p 32 (process_text version q ++ (members_text (process_text version) ps ++ 10 ∷ rest)) refl h.rises.1, above, members_again version room (id_of p) q ps rest others) refl
 
 -- ---- lines
 
-abbrev pub line_text : Line → List ℕ
-line_text (lines.Entry e) = line (entry_text e)
-line_text (lines.Close ending) = line (ending_text ending)
+abbrev pub line_text : Version → Line → List ℕ
+line_text version (lines.Entry e) = line (entry_text (process_text version) e)
+line_text version (lines.Close ending) = line (ending_text ending)
 
 -- a line that may come next; of its entry this holds
 abbrev pub IsLineOf : (Entry → Type 0) → Bool → Bool → Bool → Line → Type 0
@@ -81,8 +90,8 @@ IsLineOf E full some failed (lines.Entry e) = (full ≡ false) × E e
 IsLineOf E full some failed (lines.Close Standing) = (some ≡ true) × (failed ≡ false)
 IsLineOf E full some failed (lines.Close Failed) = failed ≡ true
 
-abbrev pub IsLine : Bool → Bool → Bool → Line → Type 0
-IsLine full some failed l = IsLineOf IsEntry full some failed l
+abbrev pub IsLine : Version → Bool → Bool → Bool → Line → Type 0
+IsLine version full some failed l = IsLineOf (IsEntryIn version) full some failed l
 
 pub send_parts : (x s m rest : List ℕ) → (codes "send " ++ x ++ codes " " ++ s ++ codes " " ++ m ++ 10 ∷ []) ++ rest ≡ 115 ∷ (codes "end " ++ (x ++ 32 ∷ (s ++ (32 ∷ (m ++ 10 ∷ rest)))))
 send_parts x s m rest = simp append_assoc
@@ -97,29 +106,29 @@ pub fail_parts : (x rest : List ℕ) → (codes "fail " ++ x ++ 10 ∷ []) ++ re
 fail_parts x rest = simp append_assoc
 
 -- what a part of a line is read as, behind its first letter
-pub record Fits (full some failed : Bool) (letter : ℕ) (bytes : List ℕ) (l : Line) (rest : List ℕ) : Type 0 where
-  pub is : IsLine full some failed l
-  pub spelled : letter ∷ bytes ≡ line_text l ++ rest
+pub record Fits (version : Version) (full some failed : Bool) (letter : ℕ) (bytes : List ℕ) (l : Line) (rest : List ℕ) : Type 0 where
+  pub is : IsLine version full some failed l
+  pub spelled : letter ∷ bytes ≡ line_text version l ++ rest
 
-change_is : (full some failed : Bool) (l : Line) (bytes rest : List ℕ) → change_at full bytes ≡ Ok (l, rest) → Fits full some failed 99 bytes l rest
+change_is : (version : Version) (full some failed : Bool) (l : Line) (bytes rest : List ℕ) → change_at version full bytes ≡ Ok (l, rest) → Fits version full some failed 99 bytes l rest
 unfolding change_at
-change_is full some failed l bytes rest e =
-    let g = guard_else full (word_at faults.Word (codes "onf ") bytes >>= λ w. conf_at 32 w.1 >>= λ x. members_at 32 0 x.1 >>= λ members. Ok (lines.Entry (Conf x.0 members.0), members.1)) faults.TooMany (l, rest) e in
-    after (word_at faults.Word (codes "onf ") bytes) (λ w. conf_at 32 w.1 >>= λ x. members_at 32 0 x.1 >>= λ members. Ok (lines.Entry (Conf x.0 members.0), members.1)) (l, rest) g.1 (λ w b1 e1 m1.
-    after (conf_at 32 b1) (λ x. members_at 32 0 x.1 >>= λ members. Ok (lines.Entry (Conf x.0 members.0), members.1)) (l, rest) m1 (λ x b2 e2 m2.
-    after (members_at 32 0 b2) (λ members. Ok (lines.Entry (Conf x members.0), members.1)) (l, rest) m2 (λ ms b3 e3 made.
+change_is version full some failed l bytes rest e =
+    let g = guard_else full (word_at faults.Word (codes "onf ") bytes >>= λ w. conf_at 32 w.1 >>= λ x. members_at version 32 0 x.1 >>= λ members. Ok (lines.Entry (Conf x.0 members.0), members.1)) faults.TooMany (l, rest) e in
+    after (word_at faults.Word (codes "onf ") bytes) (λ w. conf_at 32 w.1 >>= λ x. members_at version 32 0 x.1 >>= λ members. Ok (lines.Entry (Conf x.0 members.0), members.1)) (l, rest) g.1 (λ w b1 e1 m1.
+    after (conf_at 32 b1) (λ x. members_at version 32 0 x.1 >>= λ members. Ok (lines.Entry (Conf x.0 members.0), members.1)) (l, rest) m1 (λ x b2 e2 m2.
+    after (members_at version 32 0 b2) (λ members. Ok (lines.Entry (Conf x members.0), members.1)) (l, rest) m2 (λ ms b3 e3 made.
     let q = parsed_is (lines.Entry (Conf x ms)) l b3 rest made in
     let t1 = word_is faults.Word (codes "onf ") bytes b1 w e1 in
     let t2 = conf_is 32 x b1 b2 e2 in
-    let t3 = members_is 32 0 ms b2 b3 e3 in
-    let text : 99 ∷ bytes ≡ (codes "conf " ++ conf_text x ++ members_text ms ++ 10 ∷ []) ++ b3 =
-    ap (λ (t : List ℕ). 99 ∷ t) (t1 ∙ ap (λ (t : List ℕ). codes "onf " ++ t) (t2.1 ∙ ap (λ (t : List ℕ). conf_text x ++ t) t3.1)) ∙ sym (change_parts (conf_text x) (members_text ms) b3) in
-    let fits : Fits full some failed 99 bytes (lines.Entry (Conf x ms)) b3 = record { is = (g.0, (t2.0, are_members ms t3.0)); spelled = text } in
+    let t3 = members_is version 32 0 ms b2 b3 e3 in
+    let text : 99 ∷ bytes ≡ (codes "conf " ++ conf_text x ++ members_text (process_text version) ms ++ 10 ∷ []) ++ b3 =
+    ap (λ (t : List ℕ). 99 ∷ t) (t1 ∙ ap (λ (t : List ℕ). codes "onf " ++ t) (t2.1 ∙ ap (λ (t : List ℕ). conf_text x ++ t) t3.1)) ∙ sym (change_parts (conf_text x) (members_text (process_text version) ms) b3) in
+    let fits : Fits version full some failed 99 bytes (lines.Entry (Conf x ms)) b3 = record { is = (g.0, (t2.0, are_members version ms t3.0)); spelled = text } in
     rw (← q.0, ← q.1) fits)))
 
-send_is : (full some failed : Bool) (l : Line) (bytes rest : List ℕ) → send_at full bytes ≡ Ok (l, rest) → Fits full some failed 115 bytes l rest
+send_is : (version : Version) (full some failed : Bool) (l : Line) (bytes rest : List ℕ) → send_at full bytes ≡ Ok (l, rest) → Fits version full some failed 115 bytes l rest
 unfolding send_at
-send_is full some failed l bytes rest e =
+send_is version full some failed l bytes rest e =
     let g = guard_else full (word_at faults.Word (codes "end ") bytes >>= λ w. conf_at 32 w.1 >>= λ x. service_at x.1 >>= λ service. word_at faults.Word (codes " ") service.1 >>= λ space. message_at 10 space.1 >>= λ m. Ok (lines.Entry (Send m.0 x.0 service.0), m.1)) faults.TooMany (l, rest) e in
     after (word_at faults.Word (codes "end ") bytes) (λ w. conf_at 32 w.1 >>= λ x. service_at x.1 >>= λ service. word_at faults.Word (codes " ") service.1 >>= λ space. message_at 10 space.1 >>= λ m. Ok (lines.Entry (Send m.0 x.0 service.0), m.1)) (l, rest) g.1 (λ w b1 e1 m1.
     after (conf_at 32 b1) (λ x. service_at x.1 >>= λ service. word_at faults.Word (codes " ") service.1 >>= λ space. message_at 10 space.1 >>= λ m. Ok (lines.Entry (Send m.0 x.0 service.0), m.1)) (l, rest) m1 (λ x b2 e2 m2.
@@ -134,12 +143,12 @@ send_is full some failed l bytes rest e =
     let t5 = message_is 10 m b4 b5 e5 in
     let text : 115 ∷ bytes ≡ (codes "send " ++ conf_text x ++ codes " " ++ service_text s ++ codes " " ++ message_text m ++ 10 ∷ []) ++ b5 =
     ap (λ (t : List ℕ). 115 ∷ t) (t1 ∙ ap (λ (t : List ℕ). codes "end " ++ t) (t2.1 ∙ ap (λ (t : List ℕ). conf_text x ++ 32 ∷ t) (t3 ∙ ap (λ (t : List ℕ). service_text s ++ t) (t4 ∙ ap (λ (t : List ℕ). 32 ∷ t) t5.1)))) ∙ sym (send_parts (conf_text x) (service_text s) (message_text m) b5) in
-    let fits : Fits full some failed 115 bytes (lines.Entry (Send m x s)) b5 = record { is = (g.0, (t5.0, t2.0)); spelled = text } in
+    let fits : Fits version full some failed 115 bytes (lines.Entry (Send m x s)) b5 = record { is = (g.0, (t5.0, t2.0)); spelled = text } in
     rw (← q.0, ← q.1) fits)))))
 
-delivery_is : (full some failed : Bool) (l : Line) (bytes rest : List ℕ) → delivery_at full bytes ≡ Ok (l, rest) → Fits full some failed 100 bytes l rest
+delivery_is : (version : Version) (full some failed : Bool) (l : Line) (bytes rest : List ℕ) → delivery_at full bytes ≡ Ok (l, rest) → Fits version full some failed 100 bytes l rest
 unfolding delivery_at
-delivery_is full some failed l bytes rest e =
+delivery_is version full some failed l bytes rest e =
     let g = guard_else full (word_at faults.Word (codes "lv ") bytes >>= λ w. conf_at 32 w.1 >>= λ x. message_at 10 x.1 >>= λ m. Ok (lines.Entry (Deliver m.0 x.0), m.1)) faults.TooMany (l, rest) e in
     after (word_at faults.Word (codes "lv ") bytes) (λ w. conf_at 32 w.1 >>= λ x. message_at 10 x.1 >>= λ m. Ok (lines.Entry (Deliver m.0 x.0), m.1)) (l, rest) g.1 (λ w b1 e1 m1.
     after (conf_at 32 b1) (λ x. message_at 10 x.1 >>= λ m. Ok (lines.Entry (Deliver m.0 x.0), m.1)) (l, rest) m1 (λ x b2 e2 m2.
@@ -150,7 +159,7 @@ delivery_is full some failed l bytes rest e =
     let t3 = message_is 10 m b2 b3 e3 in
     let text : 100 ∷ bytes ≡ (codes "dlv " ++ conf_text x ++ codes " " ++ message_text m ++ 10 ∷ []) ++ b3 =
     ap (λ (t : List ℕ). 100 ∷ t) (t1 ∙ ap (λ (t : List ℕ). codes "lv " ++ t) (t2.1 ∙ ap (λ (t : List ℕ). conf_text x ++ 32 ∷ t) t3.1)) ∙ sym (delivery_parts (conf_text x) (message_text m) b3) in
-    let fits : Fits full some failed 100 bytes (lines.Entry (Deliver m x)) b3 = record { is = (g.0, (t3.0, t2.0)); spelled = text } in
+    let fits : Fits version full some failed 100 bytes (lines.Entry (Deliver m x)) b3 = record { is = (g.0, (t3.0, t2.0)); spelled = text } in
     rw (← q.0, ← q.1) fits)))
 
 both_true : (a b : Bool) → (a && b) ≡ true → (a ≡ true) × (b ≡ true)
@@ -161,40 +170,40 @@ not_true : (a : Bool) → not a ≡ true → a ≡ false
 not_true true h = absurd cc
 not_true false h = refl
 
-open_is : (full some failed : Bool) (l : Line) (bytes rest : List ℕ) → open_at some failed bytes ≡ Ok (l, rest) → Fits full some failed 111 bytes l rest
+open_is : (version : Version) (full some failed : Bool) (l : Line) (bytes rest : List ℕ) → open_at some failed bytes ≡ Ok (l, rest) → Fits version full some failed 111 bytes l rest
 unfolding open_at
-open_is full some failed l bytes rest e =
+open_is version full some failed l bytes rest e =
     let g = guard_then (some && not failed) (word_at faults.Word (line (codes "pen")) bytes >>= λ w. Ok (lines.Close Standing, w.1)) faults.End (l, rest) e in
     let tests = both_true some (not failed) g.0 in
     after (word_at faults.Word (line (codes "pen")) bytes) (λ w. Ok (lines.Close Standing, w.1)) (l, rest) g.1 (λ w b1 e1 made.
     let q = parsed_is (lines.Close Standing) l b1 rest made in
     let t1 = word_is faults.Word (line (codes "pen")) bytes b1 w e1 in
-    let fits : Fits full some failed 111 bytes (lines.Close Standing) b1 = record { is = (tests.0, not_true failed tests.1); spelled = ap (λ (t : List ℕ). 111 ∷ t) t1 } in
+    let fits : Fits version full some failed 111 bytes (lines.Close Standing) b1 = record { is = (tests.0, not_true failed tests.1); spelled = ap (λ (t : List ℕ). 111 ∷ t) t1 } in
     rw (← q.0, ← q.1) fits)
 
-failed_is : (full some failed : Bool) (l : Line) (bytes rest : List ℕ) → failed_at failed bytes ≡ Ok (l, rest) → IsLine full some failed l × (codes "faile" ++ bytes ≡ line_text l ++ rest)
+failed_is : (version : Version) (full some failed : Bool) (l : Line) (bytes rest : List ℕ) → failed_at failed bytes ≡ Ok (l, rest) → IsLine version full some failed l × (codes "faile" ++ bytes ≡ line_text version l ++ rest)
 unfolding failed_at
-failed_is full some failed l bytes rest e =
+failed_is version full some failed l bytes rest e =
     let g = guard_then failed (word_at faults.Word (line (codes "d")) bytes >>= λ w. Ok (lines.Close Failed, w.1)) faults.End (l, rest) e in
     after (word_at faults.Word (line (codes "d")) bytes) (λ w. Ok (lines.Close Failed, w.1)) (l, rest) g.1 (λ w b1 e1 made.
     let q = parsed_is (lines.Close Failed) l b1 rest made in
     let t1 = word_is faults.Word (line (codes "d")) bytes b1 w e1 in
-    let fits : IsLine full some failed (lines.Close Failed) × (codes "faile" ++ bytes ≡ line_text (lines.Close Failed) ++ b1) = (g.0, ap (λ (t : List ℕ). codes "faile" ++ t) t1) in
+    let fits : IsLine version full some failed (lines.Close Failed) × (codes "faile" ++ bytes ≡ line_text version (lines.Close Failed) ++ b1) = (g.0, ap (λ (t : List ℕ). codes "faile" ++ t) t1) in
     rw (← q.0, ← q.1) fits)
 
-fail_is : (full some failed : Bool) (l : Line) (bytes rest : List ℕ) → fail_at full bytes ≡ Ok (l, rest) → IsLine full some failed l × (codes "fail " ++ bytes ≡ line_text l ++ rest)
+fail_is : (version : Version) (full some failed : Bool) (l : Line) (bytes rest : List ℕ) → fail_at full bytes ≡ Ok (l, rest) → IsLine version full some failed l × (codes "fail " ++ bytes ≡ line_text version l ++ rest)
 unfolding fail_at
-fail_is full some failed l bytes rest e =
+fail_is version full some failed l bytes rest e =
     let g = guard_else full (conf_at 10 bytes >>= λ x. Ok (lines.Entry (Fail x.0), x.1)) faults.TooMany (l, rest) e in
     after (conf_at 10 bytes) (λ x. Ok (lines.Entry (Fail x.0), x.1)) (l, rest) g.1 (λ x b1 e1 made.
     let q = parsed_is (lines.Entry (Fail x)) l b1 rest made in
     let t1 = conf_is 10 x bytes b1 e1 in
-    let fits : IsLine full some failed (lines.Entry (Fail x)) × (codes "fail " ++ bytes ≡ line_text (lines.Entry (Fail x)) ++ b1) = ((g.0, t1.0), ap (λ (t : List ℕ). codes "fail " ++ t) t1.1 ∙ sym (fail_parts (conf_text x) b1)) in
+    let fits : IsLine version full some failed (lines.Entry (Fail x)) × (codes "fail " ++ bytes ≡ line_text version (lines.Entry (Fail x)) ++ b1) = ((g.0, t1.0), ap (λ (t : List ℕ). codes "fail " ++ t) t1.1 ∙ sym (fail_parts (conf_text x) b1)) in
     rw (← q.0, ← q.1) fits)
 
-ail_is : (full some failed : Bool) (l : Line) (bytes rest : List ℕ) → ail_at full failed bytes ≡ Ok (l, rest) → Fits full some failed 102 bytes l rest
+ail_is : (version : Version) (full some failed : Bool) (l : Line) (bytes rest : List ℕ) → ail_at full failed bytes ≡ Ok (l, rest) → Fits version full some failed 102 bytes l rest
 unfolding ail_at
-ail_is full some failed l bytes rest e =
+ail_is version full some failed l bytes rest e =
     after (word_at faults.Word (codes "ail") bytes) (λ w. byte_at w.1 >>= λ b. cond (b.0 == 101) (failed_at failed b.1) (cond (b.0 == 32) (fail_at full b.1) (Err faults.Word))) (l, rest) e (λ w b1 e1 m1.
     after (byte_at b1) (λ b. cond (b.0 == 101) (failed_at failed b.1) (cond (b.0 == 32) (fail_at full b.1) (Err faults.Word))) (l, rest) m1 (λ b b2 e2 m2.
     let t1 = word_is faults.Word (codes "ail") bytes b1 w e1 in
@@ -203,39 +212,39 @@ ail_is full some failed l bytes rest e =
     elim (taken (b == 101) (failed_at failed b2) (cond (b == 32) (fail_at full b2) (Err faults.Word)) (Ok (l, rest)) m2) [
       | inl r ↦
           let same : b ≡ 101 = eqb-true _ _ r.0 in
-          let found = failed_is full some failed l b2 rest r.1 in
+          let found = failed_is version full some failed l b2 rest r.1 in
           record { is = found.0; spelled = whole ∙ ap (λ (k : ℕ). codes "fail" ++ k ∷ b2) same ∙ found.1 }
       | inr other ↦
           let t = guard_then (b == 32) (fail_at full b2) faults.Word (l, rest) other.1 in
           let same : b ≡ 32 = eqb-true _ _ t.0 in
-          let found = fail_is full some failed l b2 rest t.1 in
+          let found = fail_is version full some failed l b2 rest t.1 in
           record { is = found.0; spelled = whole ∙ ap (λ (k : ℕ). codes "fail" ++ k ∷ b2) same ∙ found.1 }
     ]))
 
-failure_is : (full some failed : Bool) (l : Line) (bytes rest : List ℕ) → failure_at full failed bytes ≡ Ok (l, rest) → Fits full some failed 102 bytes l rest
+failure_is : (version : Version) (full some failed : Bool) (l : Line) (bytes rest : List ℕ) → failure_at full failed bytes ≡ Ok (l, rest) → Fits version full some failed 102 bytes l rest
 unfolding failure_at
-failure_is full some failed l bytes rest e = ail_is full some failed l bytes rest (guard_else (full && not failed) (ail_at full failed bytes) faults.TooMany (l, rest) e).1
+failure_is version full some failed l bytes rest e = ail_is version full some failed l bytes rest (guard_else (full && not failed) (ail_at full failed bytes) faults.TooMany (l, rest) e).1
 
 -- by the letter
-led : (full some failed : Bool) (letter b : ℕ) (bytes mid : List ℕ) (l : Line) (rest : List ℕ) → bytes ≡ b ∷ mid → (b == letter) ≡ true → Fits full some failed letter mid l rest → IsLine full some failed l × (bytes ≡ line_text l ++ rest)
-led full some failed letter b bytes mid l rest whole test fits = (fits.is, whole ∙ ap (λ (k : ℕ). k ∷ mid) (eqb-true b letter test) ∙ fits.spelled)
+led : (version : Version) (full some failed : Bool) (letter b : ℕ) (bytes mid : List ℕ) (l : Line) (rest : List ℕ) → bytes ≡ b ∷ mid → (b == letter) ≡ true → Fits version full some failed letter mid l rest → IsLine version full some failed l × (bytes ≡ line_text version l ++ rest)
+led version full some failed letter b bytes mid l rest whole test fits = (fits.is, whole ∙ ap (λ (k : ℕ). k ∷ mid) (eqb-true b letter test) ∙ fits.spelled)
 
-pub line_is : (full some failed : Bool) (l : Line) (bytes rest : List ℕ) → line_at full some failed bytes ≡ Ok (l, rest) → IsLine full some failed l × (bytes ≡ line_text l ++ rest)
+pub line_is : (version : Version) (full some failed : Bool) (l : Line) (bytes rest : List ℕ) → line_at version full some failed bytes ≡ Ok (l, rest) → IsLine version full some failed l × (bytes ≡ line_text version l ++ rest)
 unfolding line_at
-line_is full some failed l bytes rest e =
-    after (byte_at bytes) (λ b. cond (b.0 == 99) (change_at full b.1) (cond (b.0 == 115) (send_at full b.1) (cond (b.0 == 100) (delivery_at full b.1) (cond (b.0 == 102) (failure_at full failed b.1) (cond (b.0 == 111) (open_at some failed b.1) (Err faults.Word)))))) (l, rest) e (λ b mid e1 more.
+line_is version full some failed l bytes rest e =
+    after (byte_at bytes) (λ b. cond (b.0 == 99) (change_at version full b.1) (cond (b.0 == 115) (send_at full b.1) (cond (b.0 == 100) (delivery_at full b.1) (cond (b.0 == 102) (failure_at full failed b.1) (cond (b.0 == 111) (open_at some failed b.1) (Err faults.Word)))))) (l, rest) e (λ b mid e1 more.
     let whole = byte_is bytes b mid e1 in
-    elim (taken (b == 99) (change_at full mid) (cond (b == 115) (send_at full mid) (cond (b == 100) (delivery_at full mid) (cond (b == 102) (failure_at full failed mid) (cond (b == 111) (open_at some failed mid) (Err faults.Word))))) (Ok (l, rest)) more) [
-      | inl r ↦ led full some failed 99 b bytes mid l rest whole r.0 (change_is full some failed l mid rest r.1)
+    elim (taken (b == 99) (change_at version full mid) (cond (b == 115) (send_at full mid) (cond (b == 100) (delivery_at full mid) (cond (b == 102) (failure_at full failed mid) (cond (b == 111) (open_at some failed mid) (Err faults.Word))))) (Ok (l, rest)) more) [
+      | inl r ↦ led version full some failed 99 b bytes mid l rest whole r.0 (change_is version full some failed l mid rest r.1)
       | inr o1 ↦ elim (taken (b == 115) (send_at full mid) (cond (b == 100) (delivery_at full mid) (cond (b == 102) (failure_at full failed mid) (cond (b == 111) (open_at some failed mid) (Err faults.Word)))) (Ok (l, rest)) o1.1) [
-        | inl r ↦ led full some failed 115 b bytes mid l rest whole r.0 (send_is full some failed l mid rest r.1)
+        | inl r ↦ led version full some failed 115 b bytes mid l rest whole r.0 (send_is version full some failed l mid rest r.1)
         | inr o2 ↦ elim (taken (b == 100) (delivery_at full mid) (cond (b == 102) (failure_at full failed mid) (cond (b == 111) (open_at some failed mid) (Err faults.Word))) (Ok (l, rest)) o2.1) [
-          | inl r ↦ led full some failed 100 b bytes mid l rest whole r.0 (delivery_is full some failed l mid rest r.1)
+          | inl r ↦ led version full some failed 100 b bytes mid l rest whole r.0 (delivery_is version full some failed l mid rest r.1)
           | inr o3 ↦ elim (taken (b == 102) (failure_at full failed mid) (cond (b == 111) (open_at some failed mid) (Err faults.Word)) (Ok (l, rest)) o3.1) [
-            | inl r ↦ led full some failed 102 b bytes mid l rest whole r.0 (failure_is full some failed l mid rest r.1)
+            | inl r ↦ led version full some failed 102 b bytes mid l rest whole r.0 (failure_is version full some failed l mid rest r.1)
             | inr o4 ↦
                 let t = guard_then (b == 111) (open_at some failed mid) faults.Word (l, rest) o4.1 in
-                led full some failed 111 b bytes mid l rest whole t.0 (open_is full some failed l mid rest t.1)
+                led version full some failed 111 b bytes mid l rest whole t.0 (open_is version full some failed l mid rest t.1)
           ]
         ]
       ]
@@ -243,14 +252,14 @@ line_is full some failed l bytes rest e =
 
 -- ---- a line that is spelled so
 
-members_tail : (ms rest : List ℕ) → IsMembers ms → (bytes : List ℕ) × (members_text ms ++ 10 ∷ rest ≡ 32 ∷ bytes) × (members_at 32 0 bytes ≡ Ok (ms, rest))
-members_tail [] rest is = absurd (omega (arith, is.some))
-members_tail (p ∷ ps) rest is = (decimal p ++ (members_text ps ++ 10 ∷ rest), simp append_assoc, members_again 32 0 p ps rest (members_from (p ∷ ps) is))
+members_tail : (version : Version) (ms rest : List ℕ) → IsMembersIn version ms → (bytes : List ℕ) × (members_text (process_text version) ms ++ 10 ∷ rest ≡ 32 ∷ bytes) × (members_at version 32 0 bytes ≡ Ok (ms, rest))
+members_tail version [] rest is = absurd (omega (arith, is.some))
+members_tail version (p ∷ ps) rest is = (process_text version p ++ (members_text (process_text version) ps ++ 10 ∷ rest), members_first (process_text version) p ps (10 ∷ rest), members_again version 32 0 p ps rest (members_from version (p ∷ ps) is))
 
-change_again : (x : ConfId) (ms rest : List ℕ) → IsConf x → IsMembers ms → change_at false (codes "onf " ++ (conf_text x ++ (members_text ms ++ 10 ∷ rest))) ≡ Ok (lines.Entry (Conf x ms), rest)
+change_again : (version : Version) (x : ConfId) (ms rest : List ℕ) → IsConf x → IsMembersIn version ms → change_at version false (codes "onf " ++ (conf_text x ++ (members_text (process_text version) ms ++ 10 ∷ rest))) ≡ Ok (lines.Entry (Conf x ms), rest)
 unfolding change_at
-change_again x ms rest is members =
-    let t = members_tail ms rest members in
+change_again version x ms rest is members =
+    let t = members_tail version ms rest members in
     rw (t.1, word_again faults.Word (codes "onf ") (conf_text x ++ 32 ∷ t.0), conf_again 32 x t.0 refl is, t.2) refl
 
 send_again : (x : ConfId) (s : Service) (m : MessageName) (rest : List ℕ) → IsConf x → IsMessage m → send_at false (codes "end " ++ (conf_text x ++ 32 ∷ (service_text s ++ (32 ∷ (message_text m ++ 10 ∷ rest))))) ≡ Ok (lines.Entry (Send m x s), rest)
@@ -280,11 +289,11 @@ open_again : (rest : List ℕ) → open_at true false (codes "pen" ++ 10 ∷ res
 unfolding open_at
 open_again rest = rw (word_again faults.Word (line (codes "pen")) rest) refl
 
-pub line_again : (full some failed : Bool) (l : Line) (rest : List ℕ) → IsLine full some failed l → line_at full some failed (line_text l ++ rest) ≡ Ok (l, rest)
+pub line_again : (version : Version) (full some failed : Bool) (l : Line) (rest : List ℕ) → IsLine version full some failed l → line_at version full some failed (line_text version l ++ rest) ≡ Ok (l, rest)
 unfolding line_at
-line_again full some failed (lines.Entry (Conf x ms)) rest is = ap (line_at full some failed) (change_parts (conf_text x) (members_text ms) rest) ∙ rw is.0 (change_again x ms rest is.1.0 is.1.1)
-line_again full some failed (lines.Entry (Send m x s)) rest is = ap (line_at full some failed) (send_parts (conf_text x) (service_text s) (message_text m) rest) ∙ rw is.0 (send_again x s m rest is.1.1 is.1.0)
-line_again full some failed (lines.Entry (Deliver m x)) rest is = ap (line_at full some failed) (delivery_parts (conf_text x) (message_text m) rest) ∙ rw is.0 (delivery_again x m rest is.1.1 is.1.0)
-line_again full some failed (lines.Entry (Fail x)) rest is = ap (line_at full some failed) (fail_parts (conf_text x) rest) ∙ rw is.0 (fail_again x failed rest is.1)
-line_again full some failed (lines.Close Standing) rest is = rw (is.0, is.1) (open_again rest)
-line_again full some failed (lines.Close Failed) rest is = rw is (failed_again full rest)
+line_again version full some failed (lines.Entry (Conf x ms)) rest is = ap (line_at version full some failed) (change_parts (conf_text x) (members_text (process_text version) ms) rest) ∙ rw is.0 (change_again version x ms rest is.1.0 is.1.1)
+line_again version full some failed (lines.Entry (Send m x s)) rest is = ap (line_at version full some failed) (send_parts (conf_text x) (service_text s) (message_text m) rest) ∙ rw is.0 (send_again x s m rest is.1.1 is.1.0)
+line_again version full some failed (lines.Entry (Deliver m x)) rest is = ap (line_at version full some failed) (delivery_parts (conf_text x) (message_text m) rest) ∙ rw is.0 (delivery_again x m rest is.1.1 is.1.0)
+line_again version full some failed (lines.Entry (Fail x)) rest is = ap (line_at version full some failed) (fail_parts (conf_text x) rest) ∙ rw is.0 (fail_again x failed rest is.1)
+line_again version full some failed (lines.Close Standing) rest is = rw (is.0, is.1) (open_again rest)
+line_again version full some failed (lines.Close Failed) rest is = rw is (failed_again full rest)

@@ -1,11 +1,12 @@
 -- What is read is spelled so, and what is spelled so is read: a log.
+use Rattle.totem_ids.specs.declared.version.Version.{Version}
+use Rattle.totem_ids.specs.Processes.{process_text, IsProcessIn}
 use Rattle.std.specs.Prelude.{◌==◌, slice_get}
 use Rattle.std.specs.List.{flat_map, AllByRecursion}
 use Rattle.std.proofs.Common.{◌≡◌, ℕ, zero, suc, ◌+◌, ◌<◌, List, [], ◌∷◌, ◌++◌, length, Some, Ok, Bool, true, false, cond, refl, sym, ◌∙◌, ap, append_assoc, arith}
 use Rattle.std.proofs.lemmas.List.Elements.{All-from_recursion, recursion_from_All}
 use Rattle.std.proofs.lemmas.Bool.Decides.{nat_tests}
 use Rattle.totem_ids.specs.Sources.{Parsed, ◌>>=◌}
-use Rattle.totem_ids.specs.Texts.{IsProcess}
 use Rattle.totem_ids.proofs.Spelled.{after, parsed_is}
 use Rattle.totem_evs.specs.declared.entry.Entry.{Entry}
 use Rattle.totem_evs.specs.declared.entry.Entry.TheVariants.{Conf, Send, Deliver, Fail}
@@ -14,7 +15,7 @@ use Rattle.totem_evs.specs.declared.ending.Ending.TheVariants.{Standing, Failed}
 use Rattle.totem_evs.specs.declared.line.Line.{Line}
 use Rattle.totem_evs.specs.declared.line.Line.TheVariants as lines
 use Rattle.totem_evs.specs.declared.log.Log.{Log}
-use Rattle.totem_evs.specs.Runs.{IsEntry, IsFailure, EndsInFail, IsClosedBy, IsLog}
+use Rattle.totem_evs.specs.Runs.{IsEntryIn, IsFailure, EndsInFail, IsClosedBy, IsLogIn}
 use Rattle.totem_evs.specs.RunText.{line, entry_text, ending_text}
 use Rattle.totem_evs.specs.RunGrammar.{is_failure, line_at, by_line, lines_at, log_at}
 use Rattle.totem_evs.proofs.SpelledLine.{IsLineOf, IsLine, line_is, line_again}
@@ -74,73 +75,73 @@ closes_by (e ∷ es) ending some h = go ending (ends_in_failure (is_failure e) e
 
 -- ---- the lines of a log
 
-abbrev pub entries_text : List Entry → List ℕ
-entries_text entries = flat_map (λ entry. line (entry_text entry)) entries
+abbrev pub entries_text : Version → List Entry → List ℕ
+entries_text version entries = flat_map (λ entry. line (entry_text (process_text version) entry)) entries
 
 abbrev pub has_some : Bool → List Entry → Bool
 has_some some [] = some
 has_some some (e ∷ es) = true
 
--- what may follow, room being one more than the entries that may; of each entry this holds
-pub record IsBodyOf (E : Entry → Type 0) (room : ℕ) (some failed : Bool) (es : List Entry) (ending : Ending) : Type 0 where
+-- what may follow, room being one more than the entries that may; of the entries this holds
+pub record IsBodyOf (Each : List Entry → Type 0) (room : ℕ) (some failed : Bool) (es : List Entry) (ending : Ending) : Type 0 where
   pub few : length es < room
-  pub entries : AllByRecursion E es
+  pub entries : Each es
   pub has : has_some some es ≡ true
   pub ends : ending ≡ ending_if (ends_in_failure failed es)
 
-abbrev pub IsBody : ℕ → Bool → Bool → List Entry → Ending → Type 0
-IsBody room some failed es ending = IsBodyOf IsEntry room some failed es ending
+abbrev pub IsBody : Version → ℕ → Bool → Bool → List Entry → Ending → Type 0
+IsBody version room some failed es ending = IsBodyOf (AllByRecursion (IsEntryIn version)) room some failed es ending
 
-pub closing : (E : Entry → Type 0) (room : ℕ) (full some failed : Bool) (ending : Ending) → (failed ≡ true → some ≡ true) → IsLineOf E full some failed (lines.Close ending) → IsBodyOf E (suc room) some failed [] ending
-closing E room full some failed Standing so is = record { few = omega arith; entries = tt; has = is.0; ends = rw is.1 refl }
-closing E room full some failed Failed so is = record { few = omega arith; entries = tt; has = so is; ends = rw is refl }
+pub closing : (E : Entry → Type 0) (Each : List Entry → Type 0) (none : Each []) (room : ℕ) (full some failed : Bool) (ending : Ending) → (failed ≡ true → some ≡ true) → IsLineOf E full some failed (lines.Close ending) → IsBodyOf Each (suc room) some failed [] ending
+closing E Each none room full some failed Standing so is = record { few = omega arith; entries = none; has = is.0; ends = rw is.1 refl }
+closing E Each none room full some failed Failed so is = record { few = omega arith; entries = none; has = so is; ends = rw is refl }
 
-pub lines_is : (room : ℕ) (some failed : Bool) (es : List Entry) (ending : Ending) (bytes rest : List ℕ) → (failed ≡ true → some ≡ true) → lines_at room some failed bytes ≡ Ok ((es, ending), rest)
-    → IsBody room some failed es ending × (bytes ≡ entries_text es ++ (line (ending_text ending) ++ rest))
+pub lines_is : (version : Version) (room : ℕ) (some failed : Bool) (es : List Entry) (ending : Ending) (bytes rest : List ℕ) → (failed ≡ true → some ≡ true) → lines_at version room some failed bytes ≡ Ok ((es, ending), rest)
+    → IsBody version room some failed es ending × (bytes ≡ entries_text version es ++ (line (ending_text ending) ++ rest))
 unfolding lines_at
-lines_is zero some failed es ending bytes rest so e = absurd cc
-lines_is (suc room) some failed es ending bytes rest so e =
-    after (line_at (room == 0) some failed bytes) (λ l. by_line l.0 (λ x. Ok (([], x), l.1)) (λ x. lines_at room true (is_failure x) l.1 >>= λ others. Ok ((x ∷ others.0.0, others.0.1), others.1))) ((es, ending), rest) e (λ l mid e1 more.
-    go l mid e1 more (λ x es' ending' left k. lines_is room true (is_failure x) es' ending' mid left (λ h. refl) k))
+lines_is version zero some failed es ending bytes rest so e = absurd cc
+lines_is version (suc room) some failed es ending bytes rest so e =
+    after (line_at version (room == 0) some failed bytes) (λ l. by_line l.0 (λ x. Ok (([], x), l.1)) (λ x. lines_at version room true (is_failure x) l.1 >>= λ others. Ok ((x ∷ others.0.0, others.0.1), others.1))) ((es, ending), rest) e (λ l mid e1 more.
+    go l mid e1 more (λ x es' ending' left k. lines_is version room true (is_failure x) es' ending' mid left (λ h. refl) k))
   where
     pair_is : (xs ys : List Entry) (a b : Ending) → ◌≡◌ {A = List Entry × Ending} (xs, a) (ys, b) → (xs ≡ ys) × (a ≡ b)
     pair_is xs ys a b h = (ap (λ (p : List Entry × Ending). p.0) h, ap (λ (p : List Entry × Ending). p.1) h)
 
-    go : (l : Line) (mid : List ℕ) → line_at (room == 0) some failed bytes ≡ Ok (l, mid)
-        → by_line {Y = Parsed (List Entry × Ending)} l (λ x. Ok (([], x), mid)) (λ x. lines_at room true (is_failure x) mid >>= λ others. Ok ((x ∷ others.0.0, others.0.1), others.1)) ≡ Ok ((es, ending), rest)
-        → ((x : Entry) (es' : List Entry) (ending' : Ending) (left : List ℕ) → lines_at room true (is_failure x) mid ≡ Ok ((es', ending'), left) → IsBody room true (is_failure x) es' ending' × (mid ≡ entries_text es' ++ (line (ending_text ending') ++ left)))
-        → IsBody (suc room) some failed es ending × (bytes ≡ entries_text es ++ (line (ending_text ending) ++ rest))
+    go : (l : Line) (mid : List ℕ) → line_at version (room == 0) some failed bytes ≡ Ok (l, mid)
+        → by_line {Y = Parsed (List Entry × Ending)} l (λ x. Ok (([], x), mid)) (λ x. lines_at version room true (is_failure x) mid >>= λ others. Ok ((x ∷ others.0.0, others.0.1), others.1)) ≡ Ok ((es, ending), rest)
+        → ((x : Entry) (es' : List Entry) (ending' : Ending) (left : List ℕ) → lines_at version room true (is_failure x) mid ≡ Ok ((es', ending'), left) → IsBody version room true (is_failure x) es' ending' × (mid ≡ entries_text version es' ++ (line (ending_text ending') ++ left)))
+        → IsBody version (suc room) some failed es ending × (bytes ≡ entries_text version es ++ (line (ending_text ending) ++ rest))
     go (lines.Close x) mid e1 more again =
-        let found = line_is (room == 0) some failed (lines.Close x) bytes mid e1 in
+        let found = line_is version (room == 0) some failed (lines.Close x) bytes mid e1 in
         let q = parsed_is ([], x) (es, ending) mid rest more in
         let p = pair_is [] es x ending q.0 in
-        let whole : IsBody (suc room) some failed [] x × (bytes ≡ entries_text [] ++ (line (ending_text x) ++ mid)) = (closing IsEntry room (room == 0) some failed x so found.0, found.1) in
+        let whole : IsBody version (suc room) some failed [] x × (bytes ≡ entries_text version [] ++ (line (ending_text x) ++ mid)) = (closing (IsEntryIn version) (AllByRecursion (IsEntryIn version)) tt room (room == 0) some failed x so found.0, found.1) in
         rw (← p.0, ← p.1, ← q.1) whole
     go (lines.Entry x) mid e1 more again =
-        let found = line_is (room == 0) some failed (lines.Entry x) bytes mid e1 in
-        after (lines_at room true (is_failure x) mid) (λ others. Ok ((x ∷ others.0.0, others.0.1), others.1)) ((es, ending), rest) more (λ others left e2 made.
+        let found = line_is version (room == 0) some failed (lines.Entry x) bytes mid e1 in
+        after (lines_at version room true (is_failure x) mid) (λ others. Ok ((x ∷ others.0.0, others.0.1), others.1)) ((es, ending), rest) more (λ others left e2 made.
         let q = parsed_is (x ∷ others.0, others.1) (es, ending) left rest made in
         let p = pair_is (x ∷ others.0) es others.1 ending q.0 in
         let tail = again x others.0 others.1 left e2 in
-        let body : IsBody (suc room) some failed (x ∷ others.0) others.1 = record { few = omega (arith, tail.0.few); entries = (found.0.1, tail.0.entries); has = refl; ends = tail.0.ends } in
-        let text : bytes ≡ entries_text (x ∷ others.0) ++ (line (ending_text others.1) ++ left) =
-        found.1 ∙ ap (λ (t : List ℕ). line (entry_text x) ++ t) tail.1 ∙ sym (append_assoc (line (entry_text x)) (entries_text others.0) (line (ending_text others.1) ++ left)) in
+        let body : IsBody version (suc room) some failed (x ∷ others.0) others.1 = record { few = omega (arith, tail.0.few); entries = (found.0.1, tail.0.entries); has = refl; ends = tail.0.ends } in
+        let text : bytes ≡ entries_text version (x ∷ others.0) ++ (line (ending_text others.1) ++ left) =
+        found.1 ∙ ap (λ (t : List ℕ). line (entry_text (process_text version) x) ++ t) tail.1 ∙ sym (append_assoc (line (entry_text (process_text version) x)) (entries_text version others.0) (line (ending_text others.1) ++ left)) in
         rw (← p.0, ← p.1, ← q.1) (body, text))
 
-pub lines_again : (room : ℕ) (some failed : Bool) (es : List Entry) (ending : Ending) (rest : List ℕ) → IsBody room some failed es ending
-    → lines_at room some failed (entries_text es ++ (line (ending_text ending) ++ rest)) ≡ Ok ((es, ending), rest)
+pub lines_again : (version : Version) (room : ℕ) (some failed : Bool) (es : List Entry) (ending : Ending) (rest : List ℕ) → IsBody version room some failed es ending
+    → lines_at version room some failed (entries_text version es ++ (line (ending_text ending) ++ rest)) ≡ Ok ((es, ending), rest)
 unfolding lines_at
-lines_again zero some failed es ending rest is = absurd (omega (arith, is.few))
-lines_again (suc room) some failed [] ending rest is = rw (line_again (room == 0) some failed (lines.Close ending) rest (closes failed is.ends)) refl
+lines_again version zero some failed es ending rest is = absurd (omega (arith, is.few))
+lines_again version (suc room) some failed [] ending rest is = rw (line_again version (room == 0) some failed (lines.Close ending) rest (closes failed is.ends)) refl
   where
-    closes : (f : Bool) → ending ≡ ending_if f → IsLine (room == 0) some f (lines.Close ending)
+    closes : (f : Bool) → ending ≡ ending_if f → IsLine version (room == 0) some f (lines.Close ending)
     closes true h = rw h refl
     closes false h = rw h (is.has, refl)
-lines_again (suc room) some failed (e ∷ es) ending rest is =
+lines_again version (suc room) some failed (e ∷ es) ending rest is =
     let more : (room == 0) ≡ false = (let k : 0 < room = omega (arith, is.few) in grind (arith, nat_tests)) in
-    let regrouped : entries_text (e ∷ es) ++ (line (ending_text ending) ++ rest) ≡ line (entry_text e) ++ (entries_text es ++ (line (ending_text ending) ++ rest)) = append_assoc (line (entry_text e)) (entries_text es) (line (ending_text ending) ++ rest) in
-    let others : IsBody room true (is_failure e) es ending = record { few = omega (arith, is.few); entries = is.entries.1; has = has_true es; ends = is.ends } in
-    rw (regrouped, line_again (room == 0) some failed (lines.Entry e) (entries_text es ++ (line (ending_text ending) ++ rest)) (more, is.entries.0), lines_again room true (is_failure e) es ending rest others) refl
+    let regrouped : entries_text version (e ∷ es) ++ (line (ending_text ending) ++ rest) ≡ line (entry_text (process_text version) e) ++ (entries_text version es ++ (line (ending_text ending) ++ rest)) = append_assoc (line (entry_text (process_text version) e)) (entries_text version es) (line (ending_text ending) ++ rest) in
+    let others : IsBody version room true (is_failure e) es ending = record { few = omega (arith, is.few); entries = is.entries.1; has = has_true es; ends = is.ends } in
+    rw (regrouped, line_again version (room == 0) some failed (lines.Entry e) (entries_text version es ++ (line (ending_text ending) ++ rest)) (more, is.entries.0), lines_again version room true (is_failure e) es ending rest others) refl
   where
     has_true : (es : List Entry) → has_some true es ≡ true
     has_true [] = refl
@@ -149,41 +150,41 @@ lines_again (suc room) some failed (e ∷ es) ending rest is =
 -- ---- logs
 
 -- the lines of a log behind its first one
-abbrev pub body_text : List Entry → Ending → List ℕ → List ℕ
-body_text entries ending rest = entries_text entries ++ (line (ending_text ending) ++ rest)
+abbrev pub body_text : Version → List Entry → Ending → List ℕ → List ℕ
+body_text version entries ending rest = entries_text version entries ++ (line (ending_text ending) ++ rest)
 
 pub some_of : (es : List Entry) → has_some false es ≡ true → 0 < length es
 some_of [] h = absurd cc
 some_of (e ∷ es) h = omega arith
 
 -- a log is made of what was read
-pub made_log : (p : ℕ) (es : List Entry) (ending : Ending) → IsProcess p → IsBody 1000001 false false es ending → IsLog (record { proc = p; entries = es; ending = ending })
-made_log p es ending proc body = record {
+pub made_log : (version : Version) (p : ℕ) (es : List Entry) (ending : Ending) → IsProcessIn version p → IsBody version 1000001 false false es ending → IsLogIn version (record { proc = p; entries = es; ending = ending })
+made_log version p es ending proc body = record {
   process = proc;
-  entries = record { some = some_of es body.has; few = omega (arith, body.few); each = All-from_recursion IsEntry es body.entries };
+  entries = record { some = some_of es body.has; few = omega (arith, body.few); each = All-from_recursion (IsEntryIn version) es body.entries };
   ending = closed_by es ending body.ends;
 }
 
-pub log_is : (p : ℕ) (log : Log) (bytes rest : List ℕ) → IsProcess p → log_at p bytes ≡ Ok (log, rest) → IsLog log × (log.proc ≡ p) × (bytes ≡ body_text log.entries log.ending rest)
+pub log_is : (version : Version) (p : ℕ) (log : Log) (bytes rest : List ℕ) → IsProcessIn version p → log_at version p bytes ≡ Ok (log, rest) → IsLogIn version log × (log.proc ≡ p) × (bytes ≡ body_text version log.entries log.ending rest)
 unfolding log_at
-log_is p log bytes rest proc e =
-    after (lines_at 1000001 false false bytes) (λ body. Ok (record { proc = p; entries = body.0.0; ending = body.0.1 }, body.1)) (log, rest) e (λ body mid e1 made.
+log_is version p log bytes rest proc e =
+    after (lines_at version 1000001 false false bytes) (λ body. Ok (record { proc = p; entries = body.0.0; ending = body.0.1 }, body.1)) (log, rest) e (λ body mid e1 made.
     let new : Log = record { proc = p; entries = body.0; ending = body.1 } in
     let q = parsed_is new log mid rest made in
-    let found = lines_is 1000001 false false body.0 body.1 bytes mid (λ h. absurd cc) e1 in
-    let whole : IsLog new × (new.proc ≡ p) × (bytes ≡ body_text new.entries new.ending mid) = (made_log p body.0 body.1 proc found.0, refl, found.1) in
+    let found = lines_is version 1000001 false false body.0 body.1 bytes mid (λ h. absurd cc) e1 in
+    let whole : IsLogIn version new × (new.proc ≡ p) × (bytes ≡ body_text version new.entries new.ending mid) = (made_log version p body.0 body.1 proc found.0, refl, found.1) in
     rw (← q.0, ← q.1) whole)
 
-pub log_again : (log : Log) (rest : List ℕ) → IsLog log → log_at log.proc (body_text log.entries log.ending rest) ≡ Ok (log, rest)
+pub log_again : (version : Version) (log : Log) (rest : List ℕ) → IsLogIn version log → log_at version log.proc (body_text version log.entries log.ending rest) ≡ Ok (log, rest)
 unfolding log_at
-log_again log rest is =
-    let body : IsBody 1000001 false false log.entries log.ending = record {
+log_again version log rest is =
+    let body : IsBody version 1000001 false false log.entries log.ending = record {
       few = omega (arith, is.entries.few);
-      entries = recursion_from_All IsEntry log.entries is.entries.each;
+      entries = recursion_from_All (IsEntryIn version) log.entries is.entries.each;
       has = has_of log.entries is.entries.some;
       ends = closes_by log.entries log.ending is.entries.some is.ending;
     } in
-    rw (lines_again 1000001 false false log.entries log.ending rest body) refl
+    rw (lines_again version 1000001 false false log.entries log.ending rest body) refl
   where
     has_of : (es : List Entry) → 0 < length es → has_some false es ≡ true
     has_of [] h = absurd (omega arith)

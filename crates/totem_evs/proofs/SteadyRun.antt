@@ -1,4 +1,8 @@
 -- What a run's grammar answers doesn't change by what follows.
+use Rattle.totem_ids.specs.Ranks.{id_of}
+use Rattle.totem_ids.specs.declared.version.Version.{Version}
+use Rattle.totem_ids.specs.declared.version.Version.TheVariants.{One, Two}
+use Rattle.totem_ids.proofs.Lives.{process_then_steady}
 use Rattle.std.specs.Prelude.{◌==◌}
 use Rattle.std.proofs.Common.{◌≡◌, ℕ, zero, suc, List, [], ◌∷◌, Bool, true, false, Option, Some, None, Ok, Err, refl}
 use Rattle.totem_ids.specs.declared.fault.TextFault.{TextFault}
@@ -6,22 +10,22 @@ use Rattle.totem_ids.specs.declared.fault.TextFault.TheVariants as faults
 use Rattle.totem_ids.specs.Sources.{Parsed, Steady, FirstBreak, is_short, ◌>>=◌}
 use Rattle.totem_ids.specs.Numbers.{word_at}
 use Rattle.totem_ids.proofs.ServiceSpelling.{service_steady}
-use Rattle.totem_ids.proofs.Steady.{gives_steady, fault_steady, bind_steady, cond_steady, byte_steady, word_steady, number_steady, conf_steady, message_steady, first_break}
+use Rattle.totem_ids.proofs.Steady.{gives_steady, fault_steady, bind_steady, cond_steady, byte_steady, word_steady, conf_steady, message_steady, first_break}
 use Rattle.totem_evs.specs.declared.entry.Entry.{Entry}
 use Rattle.totem_evs.specs.declared.ending.Ending.{Ending}
 use Rattle.totem_evs.specs.declared.log.Log.{Log}
 use Rattle.totem_evs.specs.declared.line.Line.{Line}
 use Rattle.totem_evs.specs.declared.line.Line.TheVariants as lines
-use Rattle.totem_evs.specs.RunGrammar.{is_failure, members_at, change_at, send_at, delivery_at, open_at, failed_at, fail_at, ail_at, failure_at, line_at, by_line, lines_at, log_at, log_proc_at, begin_at, end_at, head_at, by_head, logs_at, run_at}
+use Rattle.totem_evs.specs.RunGrammar.{is_failure, members_at, change_at, send_at, delivery_at, open_at, failed_at, fail_at, ail_at, failure_at, line_at, by_line, lines_at, log_at, log_proc_at, begin_at, end_at, head_at, by_head, logs_at, header_end, header_at, run_at}
 
-members_steady : (room last : ℕ) → Steady (members_at room last)
+members_steady : (version : Version) (room last : ℕ) → Steady (members_at version room last)
 unfolding members_at
-members_steady zero last = fault_steady _
-members_steady (suc room) last = bind_steady _ _ (number_steady 65535) (λ p. cond_steady _ _ _ (fault_steady _) (cond_steady _ _ _ (gives_steady _) (cond_steady _ _ _ (bind_steady _ _ (members_steady room p.0) (λ others. gives_steady _)) (fault_steady _))))
+members_steady version zero last = fault_steady _
+members_steady version (suc room) last = bind_steady _ _ (process_then_steady version) (λ p. cond_steady _ _ _ (fault_steady _) (cond_steady _ _ _ (gives_steady _) (cond_steady _ _ _ (bind_steady _ _ (members_steady version room (id_of p.0)) (λ others. gives_steady _)) (fault_steady _))))
 
-change_steady : (full : Bool) → Steady (change_at full)
+change_steady : (version : Version) (full : Bool) → Steady (change_at version full)
 unfolding change_at
-change_steady full = cond_steady _ _ _ (fault_steady _) (bind_steady _ _ (word_steady _ _) (λ w. bind_steady _ _ (conf_steady 32) (λ x. bind_steady _ _ (members_steady 32 0) (λ ms. gives_steady _))))
+change_steady version full = cond_steady _ _ _ (fault_steady _) (bind_steady _ _ (word_steady _ _) (λ w. bind_steady _ _ (conf_steady 32) (λ x. bind_steady _ _ (members_steady version 32 0) (λ ms. gives_steady _))))
 
 send_steady : (full : Bool) → Steady (send_at full)
 unfolding send_at
@@ -51,54 +55,62 @@ failure_steady : (full failed : Bool) → Steady (failure_at full failed)
 unfolding failure_at
 failure_steady full failed = cond_steady _ _ _ (fault_steady _) (ail_steady full failed)
 
-line_steady : (full some failed : Bool) → Steady (line_at full some failed)
+line_steady : (version : Version) (full some failed : Bool) → Steady (line_at version full some failed)
 unfolding line_at
-line_steady full some failed = bind_steady _ _ byte_steady (λ b. cond_steady _ _ _ (change_steady full) (cond_steady _ _ _ (send_steady full) (cond_steady _ _ _ (delivery_steady full) (cond_steady _ _ _ (failure_steady full failed) (cond_steady _ _ _ (open_steady some failed) (fault_steady _))))))
+line_steady version full some failed = bind_steady _ _ byte_steady (λ b. cond_steady _ _ _ (change_steady version full) (cond_steady _ _ _ (send_steady full) (cond_steady _ _ _ (delivery_steady full) (cond_steady _ _ _ (failure_steady full failed) (cond_steady _ _ _ (open_steady some failed) (fault_steady _))))))
 
-lines_steady : (room : ℕ) (some failed : Bool) → Steady (lines_at room some failed)
+lines_steady : (version : Version) (room : ℕ) (some failed : Bool) → Steady (lines_at version room some failed)
 unfolding lines_at
-lines_steady zero some failed = fault_steady _
-lines_steady (suc room) some failed = bind_steady _ _ (line_steady (room == 0) some failed) (λ l. go l (λ e. lines_steady room true (is_failure e)))
+lines_steady version zero some failed = fault_steady _
+lines_steady version (suc room) some failed = bind_steady _ _ (line_steady version (room == 0) some failed) (λ l. go l (λ e. lines_steady version room true (is_failure e)))
   where
-    go : (l : Line) → ((e : Entry) → Steady (lines_at room true (is_failure e))) → Steady (λ bytes. by_line {Y = Parsed (List Entry × Ending)} l (λ ending. Ok (([], ending), bytes)) (λ e. lines_at room true (is_failure e) bytes >>= λ others. Ok ((e ∷ others.0.0, others.0.1), others.1)))
+    go : (l : Line) → ((e : Entry) → Steady (lines_at version room true (is_failure e))) → Steady (λ bytes. by_line {Y = Parsed (List Entry × Ending)} l (λ ending. Ok (([], ending), bytes)) (λ e. lines_at version room true (is_failure e) bytes >>= λ others. Ok ((e ∷ others.0.0, others.0.1), others.1)))
     go (lines.Close ending) again = gives_steady _
     go (lines.Entry e) again = bind_steady _ _ (again e) (λ others. gives_steady _)
 
-log_steady : (p : ℕ) → Steady (log_at p)
+log_steady : (version : Version) (p : ℕ) → Steady (log_at version p)
 unfolding log_at
-log_steady p = bind_steady _ _ (lines_steady 1000001 false false) (λ body. gives_steady _)
+log_steady version p = bind_steady _ _ (lines_steady version 1000001 false false) (λ body. gives_steady _)
 
-proc_steady : (last : ℕ) → Steady (log_proc_at last)
+proc_steady : (version : Version) (last : ℕ) → Steady (log_proc_at version last)
 unfolding log_proc_at
-proc_steady last = bind_steady _ _ (word_steady _ _) (λ w. bind_steady _ _ (number_steady 65535) (λ p. cond_steady _ _ _ (fault_steady _) (cond_steady _ _ _ (gives_steady _) (fault_steady _))))
+proc_steady version last = bind_steady _ _ (word_steady _ _) (λ w. bind_steady _ _ (process_then_steady version) (λ p. cond_steady _ _ _ (fault_steady _) (cond_steady _ _ _ (gives_steady _) (fault_steady _))))
 
-begin_steady : (full : Bool) (last : ℕ) → Steady (begin_at full last)
+begin_steady : (version : Version) (full : Bool) (last : ℕ) → Steady (begin_at version full last)
 unfolding begin_at
-begin_steady full last = cond_steady _ _ _ (fault_steady _) (bind_steady _ _ (proc_steady last) (λ p. gives_steady _))
+begin_steady version full last = cond_steady _ _ _ (fault_steady _) (bind_steady _ _ (proc_steady version last) (λ p. gives_steady _))
 
 end_steady : Steady end_at
 unfolding end_at
 end_steady = bind_steady _ _ (word_steady _ _) (λ w. gives_steady _)
 
-head_steady : (full : Bool) (last : ℕ) → Steady (head_at full last)
+head_steady : (version : Version) (full : Bool) (last : ℕ) → Steady (head_at version full last)
 unfolding head_at
-head_steady full last = bind_steady _ _ byte_steady (λ b. cond_steady _ _ _ (begin_steady full last) (cond_steady _ _ _ end_steady (fault_steady _)))
+head_steady version full last = bind_steady _ _ byte_steady (λ b. cond_steady _ _ _ (begin_steady version full last) (cond_steady _ _ _ end_steady (fault_steady _)))
 
-logs_steady : (room last : ℕ) → Steady (logs_at room last)
+logs_steady : (version : Version) (room last : ℕ) → Steady (logs_at version room last)
 unfolding logs_at
-logs_steady zero last = fault_steady _
-logs_steady (suc room) last = bind_steady _ _ (head_steady (room == 0) last) (λ head. go head (λ p. logs_steady room p))
+logs_steady version zero last = fault_steady _
+logs_steady version (suc room) last = bind_steady _ _ (head_steady version (room == 0) last) (λ head. go head (λ p. logs_steady version room p))
   where
-    go : (head : Option ℕ) → ((p : ℕ) → Steady (logs_at room p)) → Steady (λ bytes. by_head {Y = Parsed (List Log)} head (Ok ([], bytes)) (λ p. log_at p bytes >>= λ log. logs_at room p log.1 >>= λ others. Ok (log.0 ∷ others.0, others.1)))
+    go : (head : Option ℕ) → ((p : ℕ) → Steady (logs_at version room p)) → Steady (λ bytes. by_head {Y = Parsed (List Log)} head (Ok ([], bytes)) (λ p. log_at version p bytes >>= λ log. logs_at version room p log.1 >>= λ others. Ok (log.0 ∷ others.0, others.1)))
     go None again = gives_steady _
-    go (Some p) again = bind_steady _ _ (log_steady p) (λ log. bind_steady _ _ (again p) (λ others. gives_steady _))
+    go (Some p) again = bind_steady _ _ (log_steady version p) (λ log. bind_steady _ _ (again p) (λ others. gives_steady _))
+
+header_end_steady : (version : Version) → Steady (header_end version)
+unfolding header_end
+header_end_steady version = bind_steady _ _ (word_steady _ _) (λ w. gives_steady _)
+
+header_steady : Steady header_at
+unfolding header_at
+header_steady = bind_steady _ _ (word_steady _ _) (λ w. bind_steady _ _ byte_steady (λ v. cond_steady _ _ _ (header_end_steady One) (cond_steady _ _ _ (header_end_steady Two) (fault_steady _))))
 
 pub run_steady : Steady run_at
 unfolding run_at
-run_steady = bind_steady _ _ (word_steady _ _) (λ w. logs_steady 33 0)
+run_steady = bind_steady _ _ header_steady (λ v. bind_steady _ _ (logs_steady v 33 0) (λ logs. gives_steady _))
 
 run_empty : run_at [] ≡ Err faults.Truncated
-unfolding run_at word_at
+unfolding run_at header_at word_at
 run_empty = refl
 
 pub run_first_break : (bytes : List ℕ) (f : TextFault) → is_short f ≡ false → run_at bytes ≡ Err f → FirstBreak run_at bytes f

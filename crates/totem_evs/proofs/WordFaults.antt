@@ -1,10 +1,10 @@
 -- Word is the fault where no other one has its place.
+use Rattle.totem_evs.specs.RunRecord.{RunRecord}
 use Rattle.std.specs.Prelude.{◌↔◌}
 use Rattle.std.proofs.Common.{◌≡◌, List, ℕ, Err, false, refl, sym, ap, ◌∙◌}
 use Rattle.totem_ids.specs.declared.fault.TextFault.{TextFault}
 use Rattle.totem_ids.specs.declared.fault.TextFault.TheVariants as faults
 use Rattle.totem_ids.specs.Sources.{is_short}
-use Rattle.totem_evs.specs.declared.log.Log.{Log}
 use Rattle.totem_evs.specs.RunGrammar.{run_at}
 use Rattle.totem_evs.specs.TextFaults.{HasNoOther}
 use Rattle.totem_evs.proofs.OnlyFaults.{fault_only}
@@ -24,7 +24,7 @@ NotWord faults.TooMany = Unit {0}
 
 -- bytes have one fault
 one_fault : (bytes : List ℕ) (f : TextFault) → NotWord f → run_at bytes ≡ Err faults.Word → run_at bytes ≡ Err f → ⊥
-one_fault bytes f is e k = (fault_only {A = List Log} NotWord f is).fault faults.Word (sym k ∙ e)
+one_fault bytes f is e k = (fault_only {A = RunRecord} NotWord f is).fault faults.Word (sym k ∙ e)
 
 word_alone : (bytes : List ℕ) → run_at bytes ≡ Err faults.Word → HasNoOther bytes
 word_alone bytes e = record {

@@ -11,12 +11,12 @@ use Rattle.totem_evs.specs.Unsettled.{IsPending, IsWaiting}
 use Rattle.totem_evs.specs.Synchrony.{IsVirtuallySynchronous}
 use Rattle.totem_evs.specs.Faults.{Breaks}
 use Rattle.totem_evs.specs.Certificates.{Numbering, Certified}
-use Rattle.totem_evs.specs.Examples.{regular, first}
+use Rattle.totem_evs.specs.Examples.{regular, first, first_life}
 use Rattle.totem_evs.specs.Examples as runs
 
--- entry i of p, from 1
+-- entry i of the first life of p, from 1
 abbrev pub place : ℕ → ℕ → Place
-place p i = record { proc = p; at = i }
+place p i = record { proc = first_life p; at = i }
 
 -- 1.1: the delivery and the send
 abbrev pub DeliveredBeforeSent : Type 0
@@ -80,19 +80,19 @@ SafeWhereAMemberNeverCame = Breaks runs.safe_with_a_member_that_never_came spec.
 
 -- 1 and 2 may still deliver the message
 abbrev pub SentAndOpen : Type 0
-SentAndOpen = IsPending runs.sent_and_open 1 first × IsPending runs.sent_and_open 2 first
+SentAndOpen = IsPending runs.sent_and_open (first_life 1) first × IsPending runs.sent_and_open (first_life 2) first
 
 -- 2 may still deliver the message, and 1 may not
 abbrev pub SentAndFailed : Type 0
-SentAndFailed = IsPending runs.sent_and_failed 2 first × (IsPending runs.sent_and_failed 1 first → ⊥)
+SentAndFailed = IsPending runs.sent_and_failed (first_life 2) first × (IsPending runs.sent_and_failed (first_life 1) first → ⊥)
 
 -- 2 stands in ring 4, and 1 does no more
 abbrev pub FailedWhileTheOtherWaits : Type 0
-FailedWhileTheOtherWaits = IsWaiting runs.sent_and_failed 2 (regular 4) 1
+FailedWhileTheOtherWaits = IsWaiting runs.sent_and_failed (first_life 2) (regular 4) (first_life 1)
 
 -- a number for each event: the changes, the send, the deliveries
 abbrev pub numbers : List Numbering
-numbers = record { proc = 1; numbers = 1 ∷ 2 ∷ 3 ∷ [] } ∷ record { proc = 2; numbers = 1 ∷ 3 ∷ [] } ∷ []
+numbers = record { proc = first_life 1; numbers = 1 ∷ 2 ∷ 3 ∷ [] } ∷ record { proc = first_life 2; numbers = 1 ∷ 3 ∷ [] } ∷ []
 
 -- they are a certificate
 abbrev pub CertifiedByItsNumbers : Type 0
@@ -113,7 +113,7 @@ NothingLeftOpen = ((q : ℕ) (m : MsgId) → IsPending runs.one_message_delivere
 
 -- a number for each event of the run on the way to ring 8
 abbrev pub numbers_on_the_way : List Numbering
-numbers_on_the_way = record { proc = 1; numbers = 1 ∷ 2 ∷ 3 ∷ 4 ∷ 5 ∷ [] } ∷ record { proc = 2; numbers = 1 ∷ 3 ∷ 4 ∷ 5 ∷ [] } ∷ []
+numbers_on_the_way = record { proc = first_life 1; numbers = 1 ∷ 2 ∷ 3 ∷ 4 ∷ 5 ∷ [] } ∷ record { proc = first_life 2; numbers = 1 ∷ 3 ∷ 4 ∷ 5 ∷ [] } ∷ []
 
 -- that run too has a certificate, and meets specifications 1 to 7
 abbrev pub SafeMessageOnTheWay : Type 0

@@ -1,5 +1,6 @@
 -- Small runs, each made to break one specification, to leave something open, or to meet them all.
 use Rattle.std.specs.Prelude.{ℕ, List, [], ◌∷◌}
+use Rattle.totem_ids.specs.Ranks.{rank_of}
 use Rattle.totem_ids.specs.declared.ring.RingId.{RingId}
 use Rattle.totem_ids.specs.declared.conf.ConfId.{ConfId}
 use Rattle.totem_ids.specs.declared.conf.ConfId.TheVariants.{Regular, Transitional}
@@ -31,25 +32,29 @@ first = record { ring = ring 4; number = 1 }
 abbrev pub second : MsgId
 second = record { ring = ring 4; number = 2 }
 
+-- the first life of a process
+abbrev pub first_life : ℕ → ℕ
+first_life id = rank_of id 1
+
 -- members: 1; 1 and 2; 1 to 3; 3
 abbrev pub alone : List ℕ
-alone = 1 ∷ []
+alone = first_life 1 ∷ []
 
 abbrev pub pair : List ℕ
-pair = 1 ∷ 2 ∷ []
+pair = first_life 1 ∷ first_life 2 ∷ []
 
 abbrev pub all_three : List ℕ
-all_three = 1 ∷ 2 ∷ 3 ∷ []
+all_three = first_life 1 ∷ first_life 2 ∷ first_life 3 ∷ []
 
 abbrev pub lone_3 : List ℕ
-lone_3 = 3 ∷ []
+lone_3 = first_life 3 ∷ []
 
--- the log of p, which goes on, and that of p, which failed
+-- the log of the first life of p, which goes on, and that of p, which failed
 abbrev pub standing : ℕ → List Entry → Log
-standing p entries = record { proc = p; entries = entries; ending = Standing }
+standing p entries = record { proc = first_life p; entries = entries; ending = Standing }
 
 abbrev pub failed : ℕ → List Entry → Log
-failed p entries = record { proc = p; entries = entries; ending = Failed }
+failed p entries = record { proc = first_life p; entries = entries; ending = Failed }
 
 -- 1 delivers a message and then sends it
 abbrev pub delivered_before_sent : List Log

@@ -1,7 +1,9 @@
 pub mod Lists
 pub mod Members
 pub mod LogRecord
+pub mod RunRecord
 pub mod Runs
+pub mod Lives
 pub mod SpecNo
 pub mod Events
 pub mod Steps

@@ -1,13 +1,22 @@
 -- The members of a configuration (docs/SPECIFICATIONS.md, "Runs").
 use Rattle.std.specs.Prelude.{ℕ, ◌<◌, ◌≤◌, List, length, All, AllPairs}
-use Rattle.totem_ids.specs.Texts.{IsProcess}
+use Rattle.totem_ids.specs.declared.version.Version.{Version}
+use Rattle.totem_ids.specs.declared.version.Version.TheVariants.{Two}
+use Rattle.totem_ids.specs.Processes.{IsProcessIn}
+use Rattle.totem_ids.specs.Ranks.{id_of}
 
+-- by identifier
 abbrev pub IsBelow : ℕ → ℕ → Type 0
-IsBelow p q = p < q
+IsBelow p q = id_of p < id_of q
 
--- 1 to 32 processes, strictly rising
-pub record IsMembers (members : List ℕ) : Type 0 where
+-- 1 to 32 processes that texts of this version can write, their identifiers strictly rising: of an identifier there is
+-- one life at most
+pub record IsMembersIn (version : Version) (members : List ℕ) : Type 0 where
   pub some : 0 < length members
   pub few : length members ≤ 32
   pub rising : AllPairs IsBelow members
-  pub processes : All IsProcess members
+  pub processes : All (IsProcessIn version) members
+
+-- members of any lives
+abbrev pub IsMembers : List ℕ → Type 0
+IsMembers = IsMembersIn Two

@@ -1,12 +1,15 @@
 -- Laws of the parts of a run (docs/SPECIFICATIONS.md, "Run text").
+use Rattle.totem_ids.specs.declared.version.Version.{Version}
+use Rattle.totem_evs.specs.RunRecord.{RunRecord}
 use Rattle.std.specs.Prelude.{◌≡◌, List, ℕ, [], ◌∷◌, ◌++◌, Some, None, Ok, codes}
 use Rattle.std.specs.List.{flat_map}
+use Rattle.totem_ids.specs.Processes.{process_text}
 use Rattle.totem_evs.specs.declared.log.Log.{Log}
 use Rattle.totem_evs.specs.declared.part.Part.{Part}
 use Rattle.totem_evs.specs.declared.stage.Stage.{Stage}
-use Rattle.totem_evs.specs.RunText.{line, run_text}
-use Rattle.totem_evs.specs.RunGrammar.{run_at}
-use Rattle.totem_evs.specs.Parts.{header_at, part_at, first_stage, next_stage, part_text, run_parts}
+use Rattle.totem_evs.specs.RunText.{line, header_text, run_text}
+use Rattle.totem_evs.specs.RunGrammar.{header_at, run_at}
+use Rattle.totem_evs.specs.Parts.{part_at, first_stage, next_stage, part_text, run_parts}
 
 -- from a stage on the bytes are read as these parts, one after the other, and the last line; the rest is left
 abbrev pub ReadsParts : Stage → List ℕ → List Part → List ℕ → Type 0
@@ -15,8 +18,9 @@ ReadsParts stage bytes (part ∷ parts) rest = (mid : List ℕ) × (part_at stag
 
 -- what is read part by part is a run that is read at once, and they are its parts
 abbrev pub PartsMakeTheRun : Type 0
-PartsMakeTheRun = (bytes mid rest : List ℕ) (parts : List Part) → header_at bytes ≡ Ok (tt, mid) → ReadsParts first_stage mid parts rest → (run : List Log) × (run_at bytes ≡ Ok (run, rest)) × (run_parts run ≡ parts)
+PartsMakeTheRun = (version : Version) (bytes mid rest : List ℕ) (parts : List Part) → header_at bytes ≡ Ok (version, mid) → ReadsParts (first_stage version) mid parts rest
+    → (logs : List Log) × (run_at bytes ≡ Ok (record { version = version; logs = logs }, rest)) × (run_parts logs ≡ parts)
 
 -- a run's text is its first line, the lines of its parts, and its last line
 abbrev pub TextIsOfParts : Type 0
-TextIsOfParts = (run : List Log) → run_text run ≡ line (codes "totem-run 1") ++ flat_map part_text (run_parts run) ++ line (codes "end")
+TextIsOfParts = (run : RunRecord) → run_text run ≡ header_text run.version ++ flat_map (part_text (process_text run.version)) (run_parts run.logs) ++ line (codes "end")

@@ -1,9 +1,8 @@
 -- The text of a run, a part at a time (docs/SPECIFICATIONS.md, "Run text").
-use Rattle.std.specs.Prelude.{ℕ, ◌+◌, List, [], ◌∷◌, ◌++◌, Option, Some, None, Ok, Bool, false, nat_lt, ◌==◌, codes, decimal}
+use Rattle.std.specs.Prelude.{ℕ, ◌+◌, List, [], ◌∷◌, ◌++◌, Option, Some, None, Ok, Bool, false, nat_lt, ◌==◌, codes}
 use Rattle.std.specs.List.{flat_map}
-use Rattle.totem_ids.specs.declared.fault.TextFault.TheVariants.{Header}
 use Rattle.totem_ids.specs.Sources.{Parsed, ◌>>=◌}
-use Rattle.totem_ids.specs.Numbers.{word_at}
+use Rattle.totem_ids.specs.declared.version.Version.{Version}
 use Rattle.totem_evs.specs.declared.entry.Entry.{Entry}
 use Rattle.totem_evs.specs.declared.log.Log.{Log}
 use Rattle.totem_evs.specs.declared.part.Part.{Part}
@@ -13,38 +12,34 @@ use Rattle.totem_evs.specs.declared.stage.OpenLog.{OpenLog}
 use Rattle.totem_evs.specs.RunText.{line, entry_text, ending_text}
 use Rattle.totem_evs.specs.RunGrammar.{is_failure, line_at, head_at, by_line, by_head}
 
--- the first line
-unfoldable pub header_at : List ℕ → Parsed (Unit {0})
-header_at bytes = word_at Header (line (codes "totem-run 1")) bytes
-
 -- ---- parts
 
 -- a log begins, or the last line comes, which is no part
-unfoldable pub begun_at : ℕ → ℕ → List ℕ → Parsed (Option Part)
-begun_at logs last bytes = do
-  head ← head_at (logs == 32) last bytes
+unfoldable pub begun_at : Version → ℕ → ℕ → List ℕ → Parsed (Option Part)
+begun_at version logs last bytes = do
+  head ← head_at version (logs == 32) last bytes
   Ok (by_head head.0 None (λ p. Some (parts.Log p)), head.1)
 
 -- the next entry of a log, or its end
-unfoldable pub within_at : ℕ → Bool → List ℕ → Parsed (Option Part)
-within_at entries failed bytes = do
-  l ← line_at (entries == 1000000) (nat_lt 0 entries) failed bytes
+unfoldable pub within_at : Version → ℕ → Bool → List ℕ → Parsed (Option Part)
+within_at version entries failed bytes = do
+  l ← line_at version (entries == 1000000) (nat_lt 0 entries) failed bytes
   Ok (Some (by_line l.0 parts.Close parts.Entry), l.1)
 
 -- the next part, by whether a log is open
-abbrev pub next_at : ℕ → ℕ → Option OpenLog → List ℕ → Parsed (Option Part)
-next_at logs last None bytes = begun_at logs last bytes
-next_at logs last (Some log) bytes = within_at log.entries log.failed bytes
+abbrev pub next_at : Version → ℕ → ℕ → Option OpenLog → List ℕ → Parsed (Option Part)
+next_at version logs last None bytes = begun_at version logs last bytes
+next_at version logs last (Some log) bytes = within_at version log.entries log.failed bytes
 
 -- the next part of a run
 abbrev pub part_at : Stage → List ℕ → Parsed (Option Part)
-part_at stage bytes = next_at stage.logs stage.last stage.log bytes
+part_at stage bytes = next_at stage.version stage.logs stage.last stage.log bytes
 
 -- ---- how far reading has come
 
 -- nothing but the first line has come
-abbrev pub first_stage : Stage
-first_stage = record { logs = 0; last = 0; log = None }
+abbrev pub first_stage : Version → Stage
+first_stage version = record { version = version; logs = 0; last = 0; log = None }
 
 -- one entry more
 abbrev pub with_entry : Option OpenLog → Entry → Option OpenLog
@@ -53,17 +48,17 @@ with_entry (Some log) e = Some (record { entries = log.entries + 1; failed = is_
 
 -- how far reading has come with this part
 abbrev pub next_stage : Stage → Part → Stage
-next_stage stage (parts.Log p) = record { logs = stage.logs + 1; last = p; log = Some (record { entries = 0; failed = false }) }
-next_stage stage (parts.Entry e) = record { logs = stage.logs; last = stage.last; log = with_entry stage.log e }
-next_stage stage (parts.Close ending) = record { logs = stage.logs; last = stage.last; log = None }
+next_stage stage (parts.Log p) = record { version = stage.version; logs = stage.logs + 1; last = p; log = Some (record { entries = 0; failed = false }) }
+next_stage stage (parts.Entry e) = record { version = stage.version; logs = stage.logs; last = stage.last; log = with_entry stage.log e }
+next_stage stage (parts.Close ending) = record { version = stage.version; logs = stage.logs; last = stage.last; log = None }
 
 -- ---- the parts of a run
 
--- the line of a part
-abbrev pub part_text : Part → List ℕ
-part_text (parts.Log p) = line (codes "log " ++ decimal p)
-part_text (parts.Entry e) = line (entry_text e)
-part_text (parts.Close ending) = line (ending_text ending)
+-- the line of a part, by the spelling of processes
+abbrev pub part_text : (ℕ → List ℕ) → Part → List ℕ
+part_text spell (parts.Log p) = line (codes "log " ++ spell p)
+part_text spell (parts.Entry e) = line (entry_text spell e)
+part_text spell (parts.Close ending) = line (ending_text ending)
 
 -- the entries of a log
 abbrev pub entry_parts : List Entry → List Part

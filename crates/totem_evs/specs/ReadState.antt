@@ -1,4 +1,5 @@
 -- How far the reading of a run has come, and what a next part does to that (docs/SPECIFICATIONS.md, "Run text").
+use Rattle.totem_ids.specs.declared.version.Version.{Version}
 use Rattle.std.specs.Prelude.{◌≡◌, ℕ, ◌<◌, ◌≤◌, ◌==◌, ◌++◌, ◌↔◌, ◌⊎◌, List, [], ◌∷◌, length, Contains, Option, Some, None, Bool, true, false, nat_lt}
 use Rattle.std.specs.Option.{ForSome}
 use Rattle.totem_evs.specs.declared.ending.Ending.TheVariants.{Standing, Failed}
@@ -6,7 +7,8 @@ use Rattle.totem_evs.specs.declared.part.Part.{Part}
 use Rattle.totem_evs.specs.declared.part.Part.TheVariants as parts
 use Rattle.totem_evs.specs.declared.stage.Stage.{Stage}
 use Rattle.totem_evs.specs.declared.stage.OpenLog.{OpenLog}
-use Rattle.totem_ids.specs.Texts.{IsProcess}
+use Rattle.totem_ids.specs.declared.version.Version.TheVariants.{Two}
+use Rattle.totem_ids.specs.Processes.{IsProcessIn}
 use Rattle.totem_evs.specs.Runs.{IsEntry}
 use Rattle.totem_evs.specs.Missing.{members_of}
 use Rattle.totem_evs.specs.Parts.{first_stage, next_stage}
@@ -24,9 +26,9 @@ pub record IsReadState (s : ReadState) : Type 0 where
   pub count : length s.begun ≡ s.stage.logs
   pub apart : (q : ℕ) → Contains s.waiting q → Contains s.begun q → ⊥
 
--- nothing but the first line has come
-pub record IsFirst (s : ReadState) : Type 0 where
-  pub stage : s.stage ≡ first_stage
+-- nothing but the first line has come, which is that of this version
+pub record IsFirst (version : Version) (s : ReadState) : Type 0 where
+  pub stage : s.stage ≡ first_stage version
   pub begun : s.begun ≡ []
   pub waiting : s.waiting ≡ []
 
@@ -50,7 +52,7 @@ pub record Goes (old : ReadState) (part : Part) (new : ReadState) : Type 0 where
 
 -- its names are in range
 abbrev pub IsPart : Part → Type 0
-IsPart (parts.Log p) = IsProcess p
+IsPart (parts.Log p) = IsProcessIn Two p
 IsPart (parts.Entry e) = IsEntry e
 IsPart (parts.Close ending) = Unit {0}
 

@@ -1,26 +1,28 @@
 -- What the readers of runs answer, and what they leave (docs/SPECIFICATIONS.md, "Run text").
+use Rattle.totem_ids.specs.declared.life.WrittenProc.{WrittenProc}
+use Rattle.totem_ids.specs.declared.version.Version.{Version}
+use Rattle.totem_evs.specs.RunRecord.{RunRecord}
 use Rattle.std.specs.Prelude.{◌≡◌, ℕ, ◌+◌, ◌%◌, ◌^◌, ◌≤◌, List, ◌∷◌, [], Contains, Option, Some, None, Result, Ok, Err}
 use Rattle.std.specs.Io.KnownBytes.{Consumes, IsAtEnd, Keeps}
 use Rattle.totem_ids.specs.declared.fault.TextFault.TheVariants as text
 use Rattle.totem_ids.specs.Sources.{Seen, Parsed, Comes, Breaks, BreaksAt, Stops}
-use Rattle.totem_evs.specs.declared.log.Log.{Log}
 use Rattle.totem_evs.specs.declared.run.Run.{Run}
 use Rattle.totem_evs.specs.declared.run_fault.RunFault.{RunFault}
 use Rattle.totem_evs.specs.declared.run_fault.RunFault.TheVariants as faults
 use Rattle.totem_evs.specs.declared.part.Part.{Part}
 use Rattle.totem_evs.specs.declared.next.Next.{Next}
 use Rattle.totem_evs.specs.declared.next.Next.TheVariants as next
-use Rattle.totem_evs.specs.Runs.{IsRun}
+use Rattle.totem_evs.specs.Runs.{IsRunOf}
 use Rattle.totem_evs.specs.RunText.{run_text}
-use Rattle.totem_evs.specs.RunGrammar.{run_at}
+use Rattle.totem_evs.specs.RunGrammar.{header_at, run_at}
 use Rattle.totem_evs.specs.Missing.{EachHasLog, IsLeastMissing, all_members}
-use Rattle.totem_evs.specs.Parts.{header_at, part_at}
+use Rattle.totem_evs.specs.Parts.{part_at}
 use Rattle.totem_evs.specs.ReadState.{ReadState, IsFirst, IsPart, Goes, MayCome}
 
 -- the answer fits; a log is missing; the text is faulty as the grammar says, whatever follows the bytes that were
 -- taken, the last of which is the first that breaks a rule; it was at its end and too short; the source failed in this
 -- call, behind bytes that begin a text; or memory was refused
-abbrev pub ReadsAs : {X Y : Type 0} → Seen → Seen → (List ℕ → Parsed X) → (Y → Type 0) → (ℕ → Type 0) → Result Y RunFault → Type 0
+abbrev pub ReadsAs : {X Y : Type 0} → Seen → Seen → (List ℕ → Parsed X) → (Y → Type 0) → (WrittenProc → Type 0) → Result Y RunFault → Type 0
 ReadsAs old new parse Fits Lacks (Ok y) = Fits y
 ReadsAs old new parse Fits Lacks (Err faults.Header) = BreaksAt old new parse text.Header
 ReadsAs old new parse Fits Lacks (Err faults.Word) = BreaksAt old new parse text.Word
@@ -38,8 +40,9 @@ ReadsAs old new parse Fits Lacks (Err faults.Memory) = new.failures ≡ old.fail
 
 -- the first line was taken
 pub record HasBegun (old new : Seen) (s : ReadState) : Type 0 where
-  pub taken : Comes old new header_at (λ more. Ok (tt, more))
-  pub first : IsFirst s
+  pub version : Version
+  pub taken : Comes old new header_at (λ more. Ok (version, more))
+  pub first : IsFirst version s
 
 -- what beginning a run answers
 abbrev pub BeginsRun : Seen → Seen → Result ReadState RunFault → Type 0
@@ -62,9 +65,9 @@ abbrev pub FitsNext : Seen → Seen → ReadState → Next → Type 0
 FitsNext old new s (next.Part part t) = HasPart old new s part t
 FitsNext old new s next.End = HasEnded old new s × ((q : ℕ) → Contains s.waiting q → ⊥)
 
--- the end, where p is the least member that waits
-abbrev pub LacksLog : Seen → Seen → ReadState → ℕ → Type 0
-LacksLog old new s p = HasEnded old new s × Contains s.waiting p × ((q : ℕ) → Contains s.waiting q → p ≤ q)
+-- the end, where p is the least member that waits, named as texts of this version are written
+abbrev pub LacksLog : Seen → Seen → ReadState → WrittenProc → Type 0
+LacksLog old new s p = HasEnded old new s × (p.version ≡ s.stage.version) × Contains s.waiting p.process × ((q : ℕ) → Contains s.waiting q → p.process ≤ q)
 
 -- a part with the state behind it, or the end, where no member waits
 abbrev pub FitsPart : Seen → Seen → ReadState → ReadState → Option Part → Type 0
@@ -82,18 +85,18 @@ ReadsNext old new s = ReadsAs old new (part_at s.stage) (FitsNext old new s) (La
 -- ---- the whole run
 
 -- the bytes that were taken are the text of these logs, and are read as them, whatever follows
-pub record IsRead (old new : Seen) (logs : List Log) : Type 0 where
-  pub is : IsRun logs
-  pub taken : Comes old new run_at (λ more. Ok (logs, more))
-  pub text : Consumes old.remaining new.remaining (run_text logs)
+pub record IsRead (old new : Seen) (run : RunRecord) : Type 0 where
+  pub is : IsRunOf run
+  pub taken : Comes old new run_at (λ more. Ok (run, more))
+  pub text : Consumes old.remaining new.remaining (run_text run)
 
 -- a run was read, and each of its members has a log
 abbrev pub FitsRun : Seen → Seen → Run → Type 0
-FitsRun old new run = IsRead old new run.logs × EachHasLog run.logs (all_members run.logs)
+FitsRun old new run = IsRead old new run × EachHasLog run.logs (all_members run.logs)
 
--- a run was read, and p is its least member without a log
-abbrev pub LacksRun : Seen → Seen → ℕ → Type 0
-LacksRun old new p = (logs : List Log) × IsRead old new logs × IsLeastMissing logs (all_members logs) p
+-- a run was read, and p is its least member without a log, named as texts of the run's version are written
+abbrev pub LacksRun : Seen → Seen → WrittenProc → Type 0
+LacksRun old new p = (run : RunRecord) × IsRead old new run × (p.version ≡ run.version) × IsLeastMissing run.logs (all_members run.logs) p.process
 
 -- what reading a run answers
 abbrev pub ReadsRun : Seen → Seen → Result Run RunFault → Type 0

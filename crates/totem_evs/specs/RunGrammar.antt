@@ -1,9 +1,14 @@
 -- The grammar of a run's text, from left to right, with the fault of the first byte that breaks a rule
 -- (docs/SPECIFICATIONS.md, "Run text").
+use Rattle.totem_evs.specs.RunRecord.{RunRecord}
 use Rattle.std.specs.Prelude.{ℕ, zero, suc, List, [], ◌∷◌, codes, Option, Some, None, Ok, Err, Bool, true, false, not, ◌&&◌, nat_le, ◌==◌, if◌then◌else◌}
 use Rattle.totem_ids.specs.declared.fault.TextFault.TheVariants as faults
 use Rattle.totem_ids.specs.Sources.{Parsed, ◌>>=◌}
-use Rattle.totem_ids.specs.Numbers.{byte_at, word_at, number_at}
+use Rattle.totem_ids.specs.Numbers.{byte_at, word_at}
+use Rattle.totem_ids.specs.declared.version.Version.{Version}
+use Rattle.totem_ids.specs.declared.version.Version.TheVariants.{One, Two}
+use Rattle.totem_ids.specs.Processes.{process_then}
+use Rattle.totem_ids.specs.Ranks.{id_of}
 use Rattle.totem_ids.specs.Parsers.{message_at, conf_at}
 use Rattle.totem_ids.specs.Services.{service_at}
 use Rattle.totem_evs.specs.declared.entry.Entry.{Entry}
@@ -22,24 +27,24 @@ is_failure (Send m x service) = false
 is_failure (Deliver m x) = false
 is_failure (Fail x) = true
 
--- members above `last`, and the line end behind them; at most room of them
-unfoldable pub members_at : ℕ → ℕ → List ℕ → Parsed (List ℕ)
-members_at zero last bytes = Err faults.TooMany
-members_at (suc room) last bytes = do
-  p ← number_at 65535 bytes
-  if nat_le p.0.0 last then Err faults.Members
+-- members above the identifier `last`, and the line end behind them; at most room of them
+unfoldable pub members_at : Version → ℕ → ℕ → List ℕ → Parsed (List ℕ)
+members_at version zero last bytes = Err faults.TooMany
+members_at version (suc room) last bytes = do
+  p ← process_then version bytes
+  if nat_le (id_of p.0.0) last then Err faults.Members
       else if p.0.1 == 10 then Ok (p.0.0 ∷ [], p.1)
-      else if p.0.1 == 32 then (members_at room p.0.0 p.1 >>= λ others. Ok (p.0.0 ∷ others.0, others.1))
+      else if p.0.1 == 32 then (members_at version room (id_of p.0.0) p.1 >>= λ others. Ok (p.0.0 ∷ others.0, others.1))
       else Err faults.Word
 
 -- ---- the lines of a log, behind their first letters; full: no further entry is allowed
 
 -- a change
-unfoldable pub change_at : Bool → List ℕ → Parsed Line
-change_at full bytes = if full then Err faults.TooMany else do
+unfoldable pub change_at : Version → Bool → List ℕ → Parsed Line
+change_at version full bytes = if full then Err faults.TooMany else do
   w ← word_at faults.Word (codes "onf ") bytes
   x ← conf_at 32 w.1
-  members ← members_at 32 0 x.1
+  members ← members_at version 32 0 x.1
   Ok (lines.Entry (Conf x.0 members.0), members.1)
 
 -- a send
@@ -90,10 +95,10 @@ unfoldable pub failure_at : Bool → Bool → List ℕ → Parsed Line
 failure_at full failed bytes = if full && not failed then Err faults.TooMany else ail_at full failed bytes
 
 -- the next line of a log that has some entries, the last of which is a failure, and may have more or is full
-unfoldable pub line_at : Bool → Bool → Bool → List ℕ → Parsed Line
-line_at full some failed bytes = do
+unfoldable pub line_at : Version → Bool → Bool → Bool → List ℕ → Parsed Line
+line_at version full some failed bytes = do
   b ← byte_at bytes
-  if b.0 == 99 then change_at full b.1
+  if b.0 == 99 then change_at version full b.1
       else if b.0 == 115 then send_at full b.1
       else if b.0 == 100 then delivery_at full b.1
       else if b.0 == 102 then failure_at full failed b.1
@@ -106,29 +111,29 @@ by_line (lines.Close ending) close entry = close ending
 by_line (lines.Entry e) close entry = entry e
 
 -- the further lines of a log, one less than room of them entries
-unfoldable pub lines_at : ℕ → Bool → Bool → List ℕ → Parsed (List Entry × Ending)
-lines_at zero some failed bytes = Err faults.TooMany
-lines_at (suc room) some failed bytes = do
-  l ← line_at (room == 0) some failed bytes
-  by_line l.0 (λ ending. Ok (([], ending), l.1)) (λ e. lines_at room true (is_failure e) l.1 >>= λ others. Ok ((e ∷ others.0.0, others.0.1), others.1))
+unfoldable pub lines_at : Version → ℕ → Bool → Bool → List ℕ → Parsed (List Entry × Ending)
+lines_at version zero some failed bytes = Err faults.TooMany
+lines_at version (suc room) some failed bytes = do
+  l ← line_at version (room == 0) some failed bytes
+  by_line l.0 (λ ending. Ok (([], ending), l.1)) (λ e. lines_at version room true (is_failure e) l.1 >>= λ others. Ok ((e ∷ others.0.0, others.0.1), others.1))
 
 -- the log of p, behind its first line
-unfoldable pub log_at : ℕ → List ℕ → Parsed Log
-log_at p bytes = do
-  body ← lines_at 1000001 false false bytes
+unfoldable pub log_at : Version → ℕ → List ℕ → Parsed Log
+log_at version p bytes = do
+  body ← lines_at version 1000001 false false bytes
   Ok (record { proc = p; entries = body.0.0; ending = body.0.1 }, body.1)
 
 -- the process of a log, above `last`
-unfoldable pub log_proc_at : ℕ → List ℕ → Parsed ℕ
-log_proc_at last bytes = do
+unfoldable pub log_proc_at : Version → ℕ → List ℕ → Parsed ℕ
+log_proc_at version last bytes = do
   w ← word_at faults.Word (codes "og ") bytes
-  p ← number_at 65535 w.1
+  p ← process_then version w.1
   if nat_le p.0.0 last then Err faults.Order else if p.0.1 == 10 then Ok (p.0.0, p.1) else Err faults.Word
 
 -- the first line of a log; full: no further log is allowed
-unfoldable pub begin_at : Bool → ℕ → List ℕ → Parsed (Option ℕ)
-begin_at full last bytes = if full then Err faults.TooMany else do
-  p ← log_proc_at last bytes
+unfoldable pub begin_at : Version → Bool → ℕ → List ℕ → Parsed (Option ℕ)
+begin_at version full last bytes = if full then Err faults.TooMany else do
+  p ← log_proc_at version last bytes
   Ok (Some p.0, p.1)
 
 -- the last line
@@ -138,10 +143,10 @@ end_at bytes = do
   Ok (None, w.1)
 
 -- the first line of the next log, or the last line
-unfoldable pub head_at : Bool → ℕ → List ℕ → Parsed (Option ℕ)
-head_at full last bytes = do
+unfoldable pub head_at : Version → Bool → ℕ → List ℕ → Parsed (Option ℕ)
+head_at version full last bytes = do
   b ← byte_at bytes
-  if b.0 == 108 then begin_at full last b.1 else if b.0 == 101 then end_at b.1 else Err faults.Word
+  if b.0 == 108 then begin_at version full last b.1 else if b.0 == 101 then end_at b.1 else Err faults.Word
 
 -- one for the last line, another for a log
 abbrev pub by_head : {Y : Type 0} → Option ℕ → Y → (ℕ → Y) → Y
@@ -149,14 +154,28 @@ by_head None ends begins = ends
 by_head (Some p) ends begins = begins p
 
 -- the further logs, one less than room of them, and the last line
-unfoldable pub logs_at : ℕ → ℕ → List ℕ → Parsed (List Log)
-logs_at zero last bytes = Err faults.TooMany
-logs_at (suc room) last bytes = do
-  head ← head_at (room == 0) last bytes
-  by_head head.0 (Ok ([], head.1)) (λ p. log_at p head.1 >>= λ log. logs_at room p log.1 >>= λ others. Ok (log.0 ∷ others.0, others.1))
+unfoldable pub logs_at : Version → ℕ → ℕ → List ℕ → Parsed (List Log)
+logs_at version zero last bytes = Err faults.TooMany
+logs_at version (suc room) last bytes = do
+  head ← head_at version (room == 0) last bytes
+  by_head head.0 (Ok ([], head.1)) (λ p. log_at version p head.1 >>= λ log. logs_at version room p log.1 >>= λ others. Ok (log.0 ∷ others.0, others.1))
+
+-- the end of the first line of a run of this version
+unfoldable pub header_end : Version → List ℕ → Parsed Version
+header_end version bytes = do
+  w ← word_at faults.Header (line []) bytes
+  Ok (version, w.1)
+
+-- the first line
+unfoldable pub header_at : List ℕ → Parsed Version
+header_at bytes = do
+  w ← word_at faults.Header (codes "totem-run ") bytes
+  v ← byte_at w.1
+  if v.0 == 49 then header_end One v.1 else if v.0 == 50 then header_end Two v.1 else Err faults.Header
 
 -- the text of a run
-unfoldable pub run_at : List ℕ → Parsed (List Log)
+unfoldable pub run_at : List ℕ → Parsed RunRecord
 run_at bytes = do
-  w ← word_at faults.Header (line (codes "totem-run 1")) bytes
-  logs_at 33 0 w.1
+  v ← header_at bytes
+  logs ← logs_at v.0 33 0 v.1
+  Ok (record { version = v.0; logs = logs.0 }, logs.1)

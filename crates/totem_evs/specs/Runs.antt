@@ -1,19 +1,27 @@
 -- What a run is (docs/SPECIFICATIONS.md, "Runs").
+use Rattle.totem_evs.specs.RunRecord.{RunRecord}
 use Rattle.std.specs.Prelude.{◌≡◌, ℕ, ◌+◌, ◌<◌, ◌≤◌, ◌↔◌, List, length, All, AllPairs, slice_get, Some}
 use Rattle.totem_evs.specs.declared.entry.Entry.{Entry}
 use Rattle.totem_evs.specs.declared.entry.Entry.TheVariants.{Conf, Send, Deliver, Fail}
 use Rattle.totem_evs.specs.declared.ending.Ending.{Ending}
 use Rattle.totem_evs.specs.declared.ending.Ending.TheVariants.{Failed}
-use Rattle.totem_ids.specs.Texts.{IsProcess, IsConf, IsMessage}
-use Rattle.totem_evs.specs.Members.{IsMembers}
+use Rattle.totem_ids.specs.declared.version.Version.{Version}
+use Rattle.totem_ids.specs.declared.version.Version.TheVariants.{One, Two, Three}
+use Rattle.totem_ids.specs.Processes.{IsProcessIn}
+use Rattle.totem_ids.specs.Texts.{IsConf, IsMessage}
+use Rattle.totem_evs.specs.Members.{IsMembersIn}
 use Rattle.totem_evs.specs.LogRecord.{LogRecord}
 
--- names are in range, and a change has members
+-- names are in range, and a change has members that texts of this version can write
+abbrev pub IsEntryIn : Version → Entry → Type 0
+IsEntryIn version (Conf x members) = IsConf x × IsMembersIn version members
+IsEntryIn version (Send m x service) = IsMessage m × IsConf x
+IsEntryIn version (Deliver m x) = IsMessage m × IsConf x
+IsEntryIn version (Fail x) = IsConf x
+
+-- an entry whose processes have any lives
 abbrev pub IsEntry : Entry → Type 0
-IsEntry (Conf x members) = IsConf x × IsMembers members
-IsEntry (Send m x service) = IsMessage m × IsConf x
-IsEntry (Deliver m x) = IsMessage m × IsConf x
-IsEntry (Fail x) = IsConf x
+IsEntry e = IsEntryIn Two e
 
 abbrev pub IsFailure : Entry → Type 0
 IsFailure (Conf x members) = ⊥
@@ -22,10 +30,13 @@ IsFailure (Deliver m x) = ⊥
 IsFailure (Fail x) = Unit {0}
 
 -- 1 to 1,000,000 entries
-pub record IsEntries (entries : List Entry) : Type 0 where
+pub record IsEntriesIn (version : Version) (entries : List Entry) : Type 0 where
   pub some : 0 < length entries
   pub few : length entries ≤ 1000000
-  pub each : All IsEntry entries
+  pub each : All (IsEntryIn version) entries
+
+abbrev pub IsEntries : List Entry → Type 0
+IsEntries = IsEntriesIn Two
 
 -- the last entry is a failure
 abbrev pub EndsInFail : List Entry → Type 0
@@ -35,17 +46,36 @@ EndsInFail entries = (i : ℕ) × (last : Entry) × (length entries ≡ i + 1) �
 abbrev pub IsClosedBy : List Entry → Ending → Type 0
 IsClosedBy entries ending = (ending ≡ Failed) ↔ EndsInFail entries
 
-pub record IsLog (log : LogRecord) : Type 0 where
-  pub process : IsProcess log.proc
-  pub entries : IsEntries log.entries
+pub record IsLogIn (version : Version) (log : LogRecord) : Type 0 where
+  pub process : IsProcessIn version log.proc
+  pub entries : IsEntriesIn version log.entries
   pub ending : IsClosedBy log.entries log.ending
 
--- one process is below the other
+abbrev pub IsLog : LogRecord → Type 0
+IsLog = IsLogIn Two
+
+-- one process is below the other: by identifier, and then by life
 abbrev pub IsBelowLog : LogRecord → LogRecord → Type 0
 IsBelowLog a b = a.proc < b.proc
 
--- 0 to 32 logs, their processes strictly rising
-pub record IsRun (logs : List LogRecord) : Type 0 where
+-- the logs of a run that texts of this version can write: 0 to 32, their processes strictly rising. Where a version
+-- writes no lives, each process has life 1
+pub record IsRunIn (version : Version) (logs : List LogRecord) : Type 0 where
   pub few : length logs ≤ 32
   pub rising : AllPairs IsBelowLog logs
-  pub each : All IsLog logs
+  pub each : All (IsLogIn version) logs
+
+-- the logs of a run whose processes have any lives
+abbrev pub IsRun : List LogRecord → Type 0
+IsRun = IsRunIn Two
+
+-- the versions of which there are texts of runs
+abbrev pub IsOfText : Version → Type 0
+IsOfText One = Unit {0}
+IsOfText Two = Unit {0}
+IsOfText Three = ⊥
+
+-- a run: the logs are ones that texts of its version can write
+pub record IsRunOf (run : RunRecord) : Type 0 where
+  pub version : IsOfText run.version
+  pub logs : IsRunIn run.version run.logs

@@ -1,17 +1,22 @@
 -- Where each fault of a run's text stands (docs/SPECIFICATIONS.md, "Run text").
+use Rattle.totem_evs.specs.Runs.{IsOfText}
 use Rattle.std.specs.Prelude.{◌≡◌, ◌≢◌, ℕ, ◌<◌, ◌≤◌, ◌+◌, ◌-◌, ◌*◌, ◌==◌, ◌⊎◌, ◌&&◌, not, List, [], ◌∷◌, ◌++◌, length, codes, decimal, Option, Some, None, Bool, true, false, nat_lt, Ok, Err}
 use Rattle.totem_ids.specs.declared.conf.ConfId.{ConfId}
 use Rattle.totem_ids.specs.declared.fault.TextFault.{TextFault}
 use Rattle.totem_ids.specs.Sources.{Parsed, ◌>>=◌}
 use Rattle.totem_ids.specs.Numbers.{is_digit, number_at}
-use Rattle.totem_ids.specs.Texts.{conf_text, IsUpTo, IsConf, IsProcess}
+use Rattle.totem_ids.specs.declared.version.Version.{Version}
+use Rattle.totem_ids.specs.declared.version.Version.TheVariants.{One, Two}
+use Rattle.totem_ids.specs.Processes.{process_text, IsProcessIn}
+use Rattle.totem_ids.specs.Ranks.{id_of}
+use Rattle.totem_ids.specs.Texts.{conf_text, IsUpTo, IsConf}
 use Rattle.totem_evs.specs.declared.part.Part.{Part}
 use Rattle.totem_evs.specs.declared.stage.Stage.{Stage}
 use Rattle.totem_evs.specs.declared.stage.OpenLog.{OpenLog}
-use Rattle.totem_evs.specs.Members.{IsMembers}
-use Rattle.totem_evs.specs.RunText.{line, members_text}
-use Rattle.totem_evs.specs.RunGrammar.{run_at}
-use Rattle.totem_evs.specs.Parts.{header_at, part_at, first_stage, next_stage}
+use Rattle.totem_evs.specs.Members.{IsMembersIn}
+use Rattle.totem_evs.specs.RunText.{line, members_text, version_digit}
+use Rattle.totem_evs.specs.RunGrammar.{header_at, run_at}
+use Rattle.totem_evs.specs.Parts.{part_at, first_stage, next_stage}
 
 -- ---- the part that has the fault
 
@@ -22,12 +27,13 @@ ReadsTo stage bytes (part ∷ parts) end rest = (mid : List ℕ) × (part_at sta
 
 -- the first line is read, then some parts, and this holds of the stage and of the bytes that follow them
 pub record IsInPart (bytes : List ℕ) (Is : Stage → List ℕ → Type 0) : Type 0 where
+  pub version : Version
   pub mid : List ℕ
-  pub header : header_at bytes ≡ Ok (tt, mid)
+  pub header : header_at bytes ≡ Ok (version, mid)
   pub parts : List Part
   pub stage : Stage
   pub rest : List ℕ
-  pub reads : ReadsTo first_stage mid parts stage rest
+  pub reads : ReadsTo (first_stage version) mid parts stage rest
   pub is : Is stage rest
 
 -- that part has this fault
@@ -46,6 +52,13 @@ pub record Differs (word bytes : List ℕ) : Type 0 where
   pub is_word : word ≡ front ++ wanted ∷ behind
   pub is_bytes : bytes ≡ front ++ byte ∷ rest
   pub differs : byte ≢ wanted
+
+-- the words of the first line differ; or the digit of its version is of none; or no line end is behind it
+abbrev pub BreaksHeader : List ℕ → Type 0
+BreaksHeader bytes =
+    Differs (codes "totem-run ") bytes
+    ⊎ ((byte : ℕ) × (rest : List ℕ) × (bytes ≡ codes "totem-run " ++ byte ∷ rest) × (byte ≢ version_digit One) × (byte ≢ version_digit Two))
+    ⊎ ((version : Version) × (rest : List ℕ) × IsOfText version × (bytes ≡ codes "totem-run " ++ version_digit version ∷ rest) × Differs (line []) rest)
 
 -- ---- Number
 
@@ -77,28 +90,28 @@ pub record BreaksNumber {Y : Type 0} (parse : List ℕ → Parsed Y) (bytes : Li
 -- ---- Order
 
 -- a log begins whose process is complete at the byte behind it and not above the last one, where a log may begin
-pub record IsLogBelow (logs last : ℕ) (bytes : List ℕ) : Type 0 where
+pub record IsLogBelow (version : Version) (logs last : ℕ) (bytes : List ℕ) : Type 0 where
   pub proc : ℕ
   pub byte : ℕ
   pub rest : List ℕ
   pub room : (logs == 32) ≡ false
-  pub fits : IsProcess proc
+  pub fits : IsProcessIn version proc
   pub below : proc ≤ last
   pub complete : is_digit byte ≡ false
-  pub is : bytes ≡ codes "log " ++ (decimal proc ++ byte ∷ rest)
+  pub is : bytes ≡ codes "log " ++ (process_text version proc ++ byte ∷ rest)
 
 -- where no log is open
-abbrev pub OrderIn : ℕ → ℕ → Option OpenLog → List ℕ → Type 0
-OrderIn logs last None bytes = IsLogBelow logs last bytes
-OrderIn logs last (Some log) bytes = ⊥
+abbrev pub OrderIn : Version → ℕ → ℕ → Option OpenLog → List ℕ → Type 0
+OrderIn version logs last None bytes = IsLogBelow version logs last bytes
+OrderIn version logs last (Some log) bytes = ⊥
 
 abbrev pub HasOrder : Stage → List ℕ → Type 0
-HasOrder stage rest = OrderIn stage.logs stage.last stage.log rest
+HasOrder stage rest = OrderIn stage.version stage.logs stage.last stage.log rest
 
 -- ---- Members
 
--- a change with a member that is complete at the byte behind it and not above the one before
-pub record IsMemberBelow (full : Bool) (bytes : List ℕ) : Type 0 where
+-- a change with a member that is complete at the byte behind it and whose identifier is not above that of the one before
+pub record IsMemberBelow (version : Version) (full : Bool) (bytes : List ℕ) : Type 0 where
   pub conf : ConfId
   pub front : List ℕ
   pub above : ℕ
@@ -107,20 +120,20 @@ pub record IsMemberBelow (full : Bool) (bytes : List ℕ) : Type 0 where
   pub rest : List ℕ
   pub room : full ≡ false
   pub conf_fits : IsConf conf
-  pub members : IsMembers (front ++ above ∷ [])
+  pub members : IsMembersIn version (front ++ above ∷ [])
   pub few : length (front ++ above ∷ []) < 32
-  pub fits : IsProcess member
-  pub below : member ≤ above
+  pub fits : IsProcessIn version member
+  pub below : id_of member ≤ id_of above
   pub complete : is_digit byte ≡ false
-  pub is : bytes ≡ codes "conf " ++ (conf_text conf ++ (members_text (front ++ above ∷ []) ++ 32 ∷ (decimal member ++ byte ∷ rest)))
+  pub is : bytes ≡ codes "conf " ++ (conf_text conf ++ (members_text (process_text version) (front ++ above ∷ []) ++ 32 ∷ (process_text version member ++ byte ∷ rest)))
 
 -- where a log is open
-abbrev pub MembersIn : Option OpenLog → List ℕ → Type 0
-MembersIn None bytes = ⊥
-MembersIn (Some log) bytes = IsMemberBelow (log.entries == 1000000) bytes
+abbrev pub MembersIn : Version → Option OpenLog → List ℕ → Type 0
+MembersIn version None bytes = ⊥
+MembersIn version (Some log) bytes = IsMemberBelow version (log.entries == 1000000) bytes
 
 abbrev pub HasMembers : Stage → List ℕ → Type 0
-HasMembers stage rest = MembersIn stage.log rest
+HasMembers stage rest = MembersIn stage.version stage.log rest
 
 -- ---- End
 
@@ -150,28 +163,28 @@ BeginsEntry failed bytes =
     ⊎ ((rest : List ℕ) × (failed ≡ true) × (bytes ≡ codes "fail " ++ rest))
 
 -- a change with a space behind its 32nd member
-pub record HasManyMembers (bytes : List ℕ) : Type 0 where
+pub record HasManyMembers (version : Version) (bytes : List ℕ) : Type 0 where
   pub conf : ConfId
   pub members : List ℕ
   pub rest : List ℕ
   pub conf_fits : IsConf conf
-  pub are : IsMembers members
+  pub are : IsMembersIn version members
   pub many : length members ≡ 32
-  pub is : bytes ≡ codes "conf " ++ (conf_text conf ++ (members_text members ++ 32 ∷ rest))
+  pub is : bytes ≡ codes "conf " ++ (conf_text conf ++ (members_text (process_text version) members ++ 32 ∷ rest))
 
 -- between logs the `l` of one more; in a log an entry more, or a member more
-abbrev pub TooManyIn : ℕ → Option OpenLog → List ℕ → Type 0
-TooManyIn logs None bytes = (rest : List ℕ) × ((logs == 32) ≡ true) × (bytes ≡ codes "l" ++ rest)
-TooManyIn logs (Some log) bytes = (((log.entries == 1000000) ≡ true) × BeginsEntry log.failed bytes) ⊎ (((log.entries == 1000000) ≡ false) × HasManyMembers bytes)
+abbrev pub TooManyIn : Version → ℕ → Option OpenLog → List ℕ → Type 0
+TooManyIn version logs None bytes = (rest : List ℕ) × ((logs == 32) ≡ true) × (bytes ≡ codes "l" ++ rest)
+TooManyIn version logs (Some log) bytes = (((log.entries == 1000000) ≡ true) × BeginsEntry log.failed bytes) ⊎ (((log.entries == 1000000) ≡ false) × HasManyMembers version bytes)
 
 abbrev pub HasTooMany : Stage → List ℕ → Type 0
-HasTooMany stage rest = TooManyIn stage.logs stage.log rest
+HasTooMany stage rest = TooManyIn stage.version stage.logs stage.log rest
 
 -- ---- Word
 
 -- no other fault of the grammar has its place here
 pub record HasNoOther (bytes : List ℕ) : Type 0 where
-  pub header : Differs (line (codes "totem-run 1")) bytes → ⊥
+  pub header : BreaksHeader bytes → ⊥
   pub number : BreaksNumber run_at bytes → ⊥
   pub order : IsInPart bytes HasOrder → ⊥
   pub members : IsInPart bytes HasMembers → ⊥

@@ -1,61 +1,69 @@
 -- Bytes with which the text of a run begins (docs/SPECIFICATIONS.md, "Run text").
+use Rattle.totem_evs.specs.RunRecord.{RunRecord}
 use Rattle.std.specs.Prelude.{◌≡◌, ℕ, ◌<◌, ◌≤◌, List, [], ◌∷◌, ◌++◌, length, All, AllPairs}
-use Rattle.totem_ids.specs.Texts.{IsUpTo, IsConf, IsMessage}
+use Rattle.totem_ids.specs.declared.version.Version.{Version}
+use Rattle.totem_ids.specs.Processes.{IsProcessIn}
+use Rattle.totem_ids.specs.Texts.{IsConf, IsMessage}
 use Rattle.totem_evs.specs.declared.entry.Entry.{Entry}
 use Rattle.totem_evs.specs.declared.entry.Entry.TheVariants.{Conf, Send, Deliver, Fail}
 use Rattle.totem_evs.specs.declared.log.Log.{Log}
 use Rattle.totem_evs.specs.Members.{IsBelow}
-use Rattle.totem_evs.specs.Runs.{IsBelowLog, IsClosedBy, IsRun}
+use Rattle.totem_evs.specs.Runs.{IsBelowLog, IsClosedBy, IsEntryIn, IsLogIn, IsOfText, IsRunOf}
 use Rattle.totem_evs.specs.RunText.{run_text}
 
 -- the text of some run begins so
 abbrev pub IsFront : List ℕ → Type 0
-IsFront bytes = (run : List Log) × (more : List ℕ) × IsRun run × (run_text run ≡ bytes ++ more)
+IsFront bytes = (run : RunRecord) × (more : List ℕ) × IsRunOf run × (run_text run ≡ bytes ++ more)
 
--- ---- runs in the wide sense: a process may have up to ten digits, so that the digits of a number that were read can
--- go on to a process above any other; whether processes rise is judged only behind the number
+-- ---- runs whose last process need not rise: whether a process is above the one before is judged only at the byte behind
+-- it, so that until then any process may be meant. The last log need not be above the one before, nor the last member of
+-- the last entry; all else is as in a run
 
--- a process in the wide sense
-abbrev pub IsWideProcess : ℕ → Type 0
-IsWideProcess = IsUpTo 9999999999
+-- all but the last
+abbrev pub but_last : {X : Type 0} → List X → List X
+but_last [] = []
+but_last (x ∷ []) = []
+but_last (x ∷ y ∷ xs) = x ∷ but_last (y ∷ xs)
 
--- 1 to 32 processes in the wide sense, strictly rising
-pub record IsWideMembers (members : List ℕ) : Type 0 where
+-- 1 to 32 processes that rise but for the last
+pub record IsLooseMembers (version : Version) (members : List ℕ) : Type 0 where
   pub some : 0 < length members
   pub few : length members ≤ 32
-  pub rising : AllPairs IsBelow members
-  pub processes : All IsWideProcess members
+  pub rising : AllPairs IsBelow (but_last members)
+  pub processes : All (IsProcessIn version) members
 
--- names are in range, and the members of a change are so in the wide sense
-abbrev pub IsWideEntry : Entry → Type 0
-IsWideEntry (Conf x members) = IsConf x × IsWideMembers members
-IsWideEntry (Send m x service) = IsMessage m × IsConf x
-IsWideEntry (Deliver m x) = IsMessage m × IsConf x
-IsWideEntry (Fail x) = IsConf x
+-- an entry, the last of whose members need not rise
+abbrev pub IsLooseEntry : Version → Entry → Type 0
+IsLooseEntry version (Conf x members) = IsConf x × IsLooseMembers version members
+IsLooseEntry version (Send m x service) = IsMessage m × IsConf x
+IsLooseEntry version (Deliver m x) = IsMessage m × IsConf x
+IsLooseEntry version (Fail x) = IsConf x
 
--- 1 to 1,000,000 entries in the wide sense
-pub record IsWideEntries (entries : List Entry) : Type 0 where
+-- 1 to 1,000,000 entries, of which the last may be such a one
+pub record IsLooseEntries (version : Version) (entries : List Entry) : Type 0 where
   pub some : 0 < length entries
   pub few : length entries ≤ 1000000
-  pub each : All IsWideEntry entries
+  pub before : All (IsEntryIn version) (but_last entries)
+  pub each : All (IsLooseEntry version) entries
 
--- a log in the wide sense
-pub record IsWideLog (log : Log) : Type 0 where
-  pub process : IsWideProcess log.proc
-  pub entries : IsWideEntries log.entries
+-- a log of such entries
+pub record IsLooseLog (version : Version) (log : Log) : Type 0 where
+  pub process : IsProcessIn version log.proc
+  pub entries : IsLooseEntries version log.entries
   pub ending : IsClosedBy log.entries log.ending
 
--- a run in the wide sense: 0 to 32 logs, their processes strictly rising
-pub record IsWideRun (logs : List Log) : Type 0 where
+-- 0 to 32 logs, of which the last may be such a one, and need not rise
+pub record IsLooseRun (version : Version) (logs : List Log) : Type 0 where
   pub few : length logs ≤ 32
-  pub rising : AllPairs IsBelowLog logs
-  pub each : All IsWideLog logs
+  pub rising : AllPairs IsBelowLog (but_last logs)
+  pub before : All (IsLogIn version) (but_last logs)
+  pub each : All (IsLooseLog version) logs
 
--- the text of some run in the wide sense begins so
-abbrev pub IsWideFront : List ℕ → Type 0
-IsWideFront bytes = (run : List Log) × (more : List ℕ) × IsWideRun run × (run_text run ≡ bytes ++ more)
+-- the text of some run begins so whose last process need not rise
+abbrev pub IsLooseFront : List ℕ → Type 0
+IsLooseFront bytes = (run : RunRecord) × (more : List ℕ) × IsOfText run.version × IsLooseRun run.version run.logs × (run_text run ≡ bytes ++ more)
 
--- up to here some text goes on, if only in the wide sense, and with this byte no run's text begins
+-- up to here some text goes on, if only one whose last process need not rise, and with this byte no run's text begins
 pub record IsFirstWrong (front : List ℕ) (byte : ℕ) : Type 0 where
-  pub before : IsWideFront front
+  pub before : IsLooseFront front
   pub wrong : IsFront (front ++ byte ∷ []) → ⊥

@@ -1,7 +1,7 @@
 //! `Display` for entries and for the lines of a report (docs/SPECIFICATIONS.md, "Run text" and "Report text").
 ghost use Rattle.std.specs.Prelude.{Some};
 ghost use Rattle.totem_evs.specs.ReportText.{places_text, fault_text, pending_text, waiting_text};
-ghost use Rattle.totem_evs.specs.RunText.{members_text, entry_text};
+ghost use Rattle.totem_evs.specs.RunText.{members_text, entry_text, known_text};
 
 use crate::entry::Entry;
 use crate::fault::{Fault, Places};
@@ -16,10 +16,11 @@ struct LineMembers<'a> {
 }
 
 impl fmt::Display for LineMembers<'_> {
-    ghost output = { λ line. Some (members_text line.members.now) };
+    ghost output = { λ line. Some (members_text known_text line.members.now) };
 
     fn fmt<W: fmt::Write>(&self, f: &mut fmt::Formatter<W>) -> fmt::Result {
         for proc in self.members.as_slice() {
+            let proc = proc.written(proc.first_version());
             write!(f, " {proc}")?;
         }
         Ok(())
@@ -33,7 +34,7 @@ struct LinePlaces<'a> {
 }
 
 impl fmt::Display for LinePlaces<'_> {
-    ghost output = { λ line. Some (places_text line.places.now) };
+    ghost output = { λ line. Some (places_text known_text line.places.now) };
 
     fn fmt<W: fmt::Write>(&self, f: &mut fmt::Formatter<W>) -> fmt::Result {
         for place in self.places.as_slice() {
@@ -45,7 +46,7 @@ impl fmt::Display for LinePlaces<'_> {
 
 /// Writes the line of the entry without its end, as in `conf r4.1 1 2`, `send r4.1 a 4.1#1`, `dlv r4.1 4.1#1` or `fail r4.1`.
 impl fmt::Display for Entry {
-    ghost output = { λ entry. Some (entry_text entry) };
+    ghost output = { λ entry. Some (entry_text known_text entry) };
 
     fn fmt<W: fmt::Write>(&self, f: &mut fmt::Formatter<W>) -> fmt::Result {
         match self {
@@ -62,7 +63,7 @@ impl fmt::Display for Entry {
 
 /// Writes the specification and the places, as in `fault 6.1 1@3 2@2`.
 impl fmt::Display for Fault {
-    ghost output = { λ fault. Some (fault_text fault) };
+    ghost output = { λ fault. Some (fault_text known_text fault) };
 
     fn fmt<W: fmt::Write>(&self, f: &mut fmt::Formatter<W>) -> fmt::Result {
         let spec = self.spec;
@@ -75,10 +76,10 @@ impl fmt::Display for Fault {
 
 /// Writes the process and the message, as in `pending 3 4.1#1`.
 impl fmt::Display for Pending {
-    ghost output = { λ pending. Some (pending_text pending) };
+    ghost output = { λ pending. Some (pending_text known_text pending) };
 
     fn fmt<W: fmt::Write>(&self, f: &mut fmt::Formatter<W>) -> fmt::Result {
-        let proc = self.proc;
+        let proc = self.proc.written(self.proc.first_version());
         let msg = self.msg;
         write!(f, "pending {proc} {msg}")
     }
@@ -86,12 +87,12 @@ impl fmt::Display for Pending {
 
 /// Writes the process, the configuration and the member that it waits for, as in `waiting 3 r4.1 1`.
 impl fmt::Display for Waiting {
-    ghost output = { λ waiting. Some (waiting_text waiting) };
+    ghost output = { λ waiting. Some (waiting_text known_text waiting) };
 
     fn fmt<W: fmt::Write>(&self, f: &mut fmt::Formatter<W>) -> fmt::Result {
-        let proc = self.proc;
+        let proc = self.proc.written(self.proc.first_version());
         let conf = self.conf;
-        let other = self.other;
+        let other = self.other.written(self.other.first_version());
         write!(f, "waiting {proc} {conf} {other}")
     }
 }

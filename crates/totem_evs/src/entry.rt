@@ -4,7 +4,7 @@ ghost use Rattle.totem_evs.specs.Runs.{IsEntry, IsFailure};
 
 use crate::members::Members;
 use std::alloc::{AllocError, Global};
-use totem_ids::{ConfId, MsgId, ProcId, Service, conf_fits, message_fits};
+use totem_ids::{ConfId, MsgId, Proc, Service, conf_fits, message_fits};
 
 /// An entry of a log: one event of a process, as the process recorded it.
 #[derive(Debug, Drop)]
@@ -48,7 +48,7 @@ impl Entry {
     }
 
     /// Returns the members that a change names, and no processes for any other entry.
-    pub(crate) fn members(&self) -> &[ProcId]
+    pub(crate) fn members(&self) -> &[Proc]
         ensures { result.now ≡ members_of self.now }
     {
         match self {

@@ -1,7 +1,7 @@
 //! Gathers the logs of a run from its parts.
 ghost use Rattle.std.specs.Prelude.{◌≡◌, OnOk};
 ghost use Rattle.totem_evs.specs.Gathered.{none_gathered, gathered, MayGather};
-ghost use Rattle.totem_evs.specs.Runs.{IsRun};
+ghost use Rattle.totem_evs.specs.Runs.{IsRunOf};
 
 use crate::entries::Entries;
 use crate::entry::Entry;
@@ -12,13 +12,13 @@ use crate::run::Run;
 use std::alloc::{AllocError, Global};
 use std::marker::Model;
 use std::mem;
-use totem_ids::ProcId;
+use totem_ids::{Proc, Version};
 
 /// The logs that have ended, and of the log that has not ended its process and its entries.
 #[derive(Drop)]
 pub struct Gathered {
     logs: Vec<Log>,
-    proc: Option<ProcId>,
+    proc: Option<Proc>,
     entries: Vec<Entry>,
 }
 
@@ -71,10 +71,11 @@ impl Gathered {
         Ok(())
     }
 
-    /// Returns the run that has these logs.
-    pub fn into_run(self) -> Run
-        requires { IsRun self.logs }
-        ensures { result.logs ≡ self.logs }
+    /// Returns the run of this version that has these logs.
+    #[tactic(auto, using(crate::proofs::Weaker::any_lives))]
+    pub fn into_run(self, version: Version) -> Run
+        requires { IsRunOf (record { version = version; logs = self.logs }) }
+        ensures { result ≡ record { version = version; logs = self.logs } }
     {
         let Gathered {
             logs,
@@ -82,6 +83,7 @@ impl Gathered {
             entries: _,
         } = self;
         Run {
+            version,
             logs: Logs::of(logs),
         }
     }

@@ -12,6 +12,7 @@ mod heads;
 mod laws;
 mod line;
 mod lines;
+mod lives;
 mod log;
 mod logs;
 mod members;

@@ -10,37 +10,49 @@ use crate::line::Line;
 use crate::members::Members;
 use std::alloc::Global;
 use totem_ids::{
-    ProcId, ReadError, Source, TextFault, next, number, read_conf, read_message, read_service, word,
+    ReadError, Source, TextFault, Version, life_fits, next, read_conf, read_message, read_process,
+    read_service, word,
 };
 
 // Members up to the line end.
-fn read_members<S: Source>(alloc: Global, source: &mut S) -> Result<Members, ReadError>
+fn read_members<S: Source>(
+    alloc: Global,
+    source: &mut S,
+    version: Version,
+) -> Result<Members, ReadError>
     ensures { Reads (seen S.remaining S.failures source.old)
-        (seen S.remaining S.failures source.new) result (members_at 32 0) }
+        (seen S.remaining S.failures source.new) result (members_at version 32 0) }
 {
     let mut procs = Vec::new(alloc);
-    let mut last = 0;
+    let mut last = 0u32;
     for _ in 0..32u32 {
-        let (proc, byte) = number(source, 65535)?;
-        if proc <= last {
+        let (proc, byte) = read_process(source, version)?;
+        let id = u32::from(proc.id().number());
+        if id <= last {
             return Err(ReadError::Text(TextFault::Members));
         }
-        procs.push(ProcId::of(proc as u16))?;
+        life_fits(Version::Two, proc);
+        procs.push(proc)?;
         if byte == b'\n' {
             return Ok(Members::of(procs));
         }
         if byte != b' ' {
             return Err(ReadError::Text(TextFault::Word));
         }
-        last = proc;
+        last = id;
     }
     Err(ReadError::Text(TextFault::TooMany))
 }
 
 #[tactic(auto, using(crate::proofs::ReaderSteps::reader_steps), unfolding(crate::specs::RunGrammar::change_at))]
-fn read_change<S: Source>(alloc: Global, source: &mut S, full: bool) -> Result<Line, ReadError>
+fn read_change<S: Source>(
+    alloc: Global,
+    source: &mut S,
+    version: Version,
+    full: bool,
+) -> Result<Line, ReadError>
     ensures read { Reads (seen S.remaining S.failures source.old)
-        (seen S.remaining S.failures source.new) result (change_at full) }
+        (seen S.remaining S.failures source.new) result (change_at version full) }
     ensures follows { (some failed : Bool) → IfOk result (MayFollow full some failed) }
 {
     if full {
@@ -48,7 +60,7 @@ fn read_change<S: Source>(alloc: Global, source: &mut S, full: bool) -> Result<L
     }
     word(source, b"onf ", TextFault::Word)?;
     let conf = read_conf(source, b' ')?;
-    let members = read_members(alloc, source)?;
+    let members = read_members(alloc, source, version)?;
     Ok(Line::Entry(Entry::Conf(conf, members)))
 }
 
@@ -158,17 +170,18 @@ fn read_failure<S: Source>(source: &mut S, full: bool, failed: bool) -> Result<L
 pub fn read_line<S: Source>(
     alloc: Global,
     source: &mut S,
+    version: Version,
     full: bool,
     some: bool,
     failed: bool,
 ) -> Result<Line, ReadError>
     ensures read { Reads (seen S.remaining S.failures source.old)
-        (seen S.remaining S.failures source.new) result (line_at full some failed) }
+        (seen S.remaining S.failures source.new) result (line_at version full some failed) }
     ensures follows { IfOk result (MayFollow full some failed) }
 {
     let letter = next(source)?;
     match letter {
-        b'c' => read_change(alloc, source, full),
+        b'c' => read_change(alloc, source, version, full),
         b's' => read_send(source, full),
         b'd' => read_delivery(source, full),
         b'f' => read_failure(source, full, failed),

@@ -4,15 +4,15 @@ ghost use Rattle.totem_evs.specs.Runs.{EndsInFail, IsClosedBy, IsLog};
 use crate::ending::Ending;
 use crate::entries::Entries;
 use crate::entry::Entry;
-use crate::rising::OfProcess;
+use crate::rising::Keyed;
 use std::alloc::{AllocError, Global};
 use std::marker::Model;
-use totem_ids::{ProcId, process_fits};
+use totem_ids::{Proc, Version, life_fits};
 
 /// A log: what one process recorded. It ends as failed exactly where its last entry is a failure.
 #[derive(Debug, Drop)]
 pub struct Log {
-    pub proc: ProcId,
+    pub proc: Proc,
     pub entries: Entries,
     pub ending: Ending,
 }
@@ -39,7 +39,7 @@ fn ends_in_fail(entries: &[Entry]) -> bool
 
 impl Log {
     /// Makes the log of these entries. The last of them decides how the log ends.
-    pub fn new(proc: ProcId, entries: Entries) -> Log
+    pub fn new(proc: Proc, entries: Entries) -> Log
         ensures process { result.proc ≡ proc }
         ensures entries { result.entries ≡ entries }
         ensures ending { IsClosedBy result.entries result.ending }
@@ -60,7 +60,7 @@ impl Log {
     pub(crate) fn keeps_its_rules(&self)
         ensures { IsLog self.now }
     {
-        process_fits(self.proc);
+        life_fits(Version::Two, self.proc);
         let _ = self.entries.as_slice();
     }
 
@@ -82,10 +82,11 @@ impl Log {
     }
 }
 
-impl OfProcess for Log {
-    ghost process_of = { λ l. l.proc };
+/// Logs are ordered by process.
+impl Keyed for Log {
+    ghost key_of = { λ l. l.proc };
 
-    fn process(&self) -> ProcId {
-        self.proc
+    fn key(&self) -> u32 {
+        self.proc.rank()
     }
 }

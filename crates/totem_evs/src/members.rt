@@ -1,20 +1,22 @@
 ghost use Rattle.std.specs.Prelude.{◌≡◌, ◌<◌, ◌^◌, All, ◌↔◌, IsTrue, Contains, IfOk, MatchResult};
 ghost use Rattle.totem_evs.specs.Lists.{Refuses};
 ghost use Rattle.totem_evs.specs.Members.{IsMembers, IsBelow};
+ghost use Rattle.totem_ids.specs.declared.version.Version.TheVariants.{Two};
+ghost use Rattle.totem_ids.specs.Processes.{IsProcessIn};
 
 use crate::refused::{ListFault, Refused};
 use crate::rising::first_fall;
 use std::alloc::{AllocError, Global};
 use std::marker::Model;
-use totem_ids::ProcId;
+use totem_ids::{Proc, Version, life_fits};
 
 /// How many members a configuration may have at most.
 const MOST: usize = 32;
 
-/// The members of a configuration: 1 to 32 processes, strictly rising.
+/// The members of a configuration: 1 to 32 processes whose identifiers strictly rise, so that there is one life of each.
 #[derive(Debug, Drop)]
 pub struct Members {
-    procs: Vec<ProcId>,
+    procs: Vec<Proc>,
 }
 
 impl Model for Members {
@@ -28,9 +30,18 @@ impl Model for Members {
     ghost invariant = { λ m. IsMembers m.procs.items };
 }
 
+/// Each process keeps its own rules, so a list of processes does.
+fn keep_their_rules(list: &[Proc])
+    ensures { All (IsProcessIn Two) list.now }
+{
+    for proc in list {
+        life_fits(Version::Two, *proc);
+    }
+}
+
 impl Members {
     /// Makes the members from these processes. A refusal gives the list back with the first rule that it breaks.
-    pub fn new(procs: Vec<ProcId>) -> Result<Members, Refused<Vec<ProcId>>>
+    pub fn new(procs: Vec<Proc>) -> Result<Members, Refused<Vec<Proc>>>
         ensures { MatchResult result (λ m. (m ≡ procs.items) × IsMembers procs.items)
             (λ r. (r.value.items ≡ procs.items) × Refuses 1 32 IsBelow procs.items r.fault) }
     {
@@ -41,6 +52,7 @@ impl Members {
         } else if let Some(at) = first_fall(&procs) {
             ListFault::NotRising(at)
         } else {
+            keep_their_rules(&procs);
             return Ok(Members { procs });
         };
         Err(Refused {
@@ -50,28 +62,28 @@ impl Members {
     }
 
     /// Makes the members from processes that are known to keep the rules.
-    pub fn of(procs: Vec<ProcId>) -> Members
+    pub fn of(procs: Vec<Proc>) -> Members
         requires { IsMembers procs.items }
         ensures { result ≡ procs.items }
     {
         Members { procs }
     }
 
-    pub fn as_slice(&self) -> &[ProcId]
+    pub fn as_slice(&self) -> &[Proc]
         ensures value { result.now ≡ self.now }
         ensures members { IsMembers self.now }
     {
         &self.procs
     }
 
-    pub fn contains(&self, proc: ProcId) -> bool
+    pub fn contains(&self, proc: Proc) -> bool
         ensures { IsTrue result ↔ Contains self.now proc }
     {
         self.procs.contains(&proc)
     }
 
     /// Returns the processes as a vector, without taking memory.
-    pub fn into_vec(self) -> Vec<ProcId>
+    pub fn into_vec(self) -> Vec<Proc>
         ensures { result.items ≡ self }
     {
         let Members { procs } = self;
@@ -82,7 +94,17 @@ impl Members {
     pub fn is(&self, other: &Members) -> bool
         ensures { IsTrue result ↔ (self.now ≡ other.now) }
     {
-        self.as_slice() == other.as_slice()
+        let these = self.as_slice();
+        let those = other.as_slice();
+        if these.len() != those.len() {
+            return false;
+        }
+        for i in 0..these.len() {
+            if these[i] != those[i] {
+                return false;
+            }
+        }
+        true
     }
 
     pub fn try_clone(&self, alloc: Global) -> Result<Members, AllocError>

@@ -3,13 +3,13 @@ ghost use Rattle.std.specs.Prelude.{◌≡◌, ◌↔◌, IsTrue, IfOk};
 use crate::ending::Ending;
 use crate::entry::Entry;
 use std::alloc::{AllocError, Global};
-use totem_ids::ProcId;
+use totem_ids::{Proc, Version, life_fits};
 
 /// A part of a run. The text of a run gives its parts one after the other.
 #[derive(Debug, Drop)]
 pub enum Part {
     /// A log of this process begins.
-    Log(ProcId),
+    Log(Proc),
     /// The log goes on with this entry.
     Entry(Entry),
     /// The log ends in this way.
@@ -24,9 +24,7 @@ impl Part {
         ensures { IsPart self.now }
     {
         match self {
-            Part::Log(proc) => {
-                let _ = proc.number();
-            }
+            Part::Log(proc) => life_fits(Version::Two, *proc),
             Part::Entry(entry) => entry.keeps_its_rule(),
             Part::Close(_) => {}
         }

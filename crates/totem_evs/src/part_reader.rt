@@ -11,13 +11,13 @@ use crate::stage::Stage;
 use crate::unlogged::Unlogged;
 use std::alloc::{AllocError, Global};
 use std::marker::Model;
-use totem_ids::{ProcId, Source};
+use totem_ids::{Proc, Source, Version};
 
 /// How far reading has come in a run, the processes whose logs have begun, and the members that wait for a log.
 #[derive(Drop)]
 pub struct PartReader {
     pub stage: Stage,
-    pub begun: Vec<ProcId>,
+    pub begun: Vec<Proc>,
     pub waiting: Unlogged,
 }
 
@@ -29,14 +29,14 @@ impl Model for PartReader {
     ghost view = { λ r. record { stage = r.stage; begun = r.begun.items; waiting = r.waiting } };
 }
 
-fn has_begun(begun: &[ProcId], proc: ProcId) -> bool
+fn has_begun(begun: &[Proc], proc: Proc) -> bool
     ensures { IsTrue result ↔ Contains begun.now proc }
 {
     begun.contains(&proc)
 }
 
 // These wait, but for those whose logs have begun.
-fn wait_for(waiting: &mut Unlogged, begun: &[ProcId], members: &[ProcId]) -> Result<(), AllocError>
+fn wait_for(waiting: &mut Unlogged, begun: &[Proc], members: &[Proc]) -> Result<(), AllocError>
     ensures { OnOk result ((q : ℕ) → Contains waiting.new q
         ↔ (Contains waiting.old q ⊎ (Contains members.now q × (Contains begun.now q → ⊥)))) }
 {
@@ -53,20 +53,20 @@ impl PartReader {
     ghost use Rattle.totem_evs.specs.Reading.{ReadsPart};
     ghost use Rattle.totem_evs.specs.declared.part.Part.TheVariants as parts;
 
-    /// Returns the reader behind the first line.
-    pub fn new(alloc: Global) -> PartReader
-        ensures first { IsFirst result }
+    /// Returns the reader behind the first line of a run of this version.
+    pub fn new(alloc: Global, version: Version) -> PartReader
+        ensures first { IsFirst version result }
         ensures limits { IsReadState result }
     {
         PartReader {
-            stage: Stage::first(),
+            stage: Stage::first(version),
             begun: Vec::new(alloc),
             waiting: Unlogged::new(alloc),
         }
     }
 
     // A log has begun.
-    fn add_log(&mut self, proc: ProcId) -> Result<(), AllocError>
+    fn add_log(&mut self, proc: Proc) -> Result<(), AllocError>
         requires limits { IsReadState self.old }
         requires comes { MayCome self.old.stage (Some (parts.Log proc)) }
         ensures { OnOk result (IsReadState self.new × Goes self.old (parts.Log proc) self.new) }
@@ -127,7 +127,7 @@ impl PartReader {
         match read_part(alloc, source, self.stage)? {
             None => match self.waiting.least() {
                 None => Ok(None),
-                Some(proc) => Err(RunFault::MissingLog(proc)),
+                Some(proc) => Err(RunFault::MissingLog(proc.written(self.stage.version))),
             },
             Some(part) => {
                 part.keeps_its_rule();

@@ -10,7 +10,7 @@ use crate::lines::read_line;
 use crate::part::Part;
 use crate::stage::{OpenLog, Stage};
 use std::alloc::Global;
-use totem_ids::{ReadError, Source};
+use totem_ids::{ReadError, Source, Version};
 
 /// How many logs a run may have at most.
 const MOST_LOGS: u32 = 32;
@@ -20,12 +20,17 @@ const MOST_ENTRIES: u32 = 1_000_000;
 
 // Where no log is open: a log begins, or the run ends.
 #[tactic(auto, using(crate::proofs::ReaderSteps::reader_steps), unfolding(crate::specs::Parts::begun_at))]
-fn read_between<S: Source>(source: &mut S, logs: u32, last: u16) -> Result<Option<Part>, ReadError>
+fn read_between<S: Source>(
+    source: &mut S,
+    version: Version,
+    logs: u32,
+    last: u32,
+) -> Result<Option<Part>, ReadError>
     ensures read { Reads (seen S.remaining S.failures source.old)
-        (seen S.remaining S.failures source.new) result (begun_at logs last) }
+        (seen S.remaining S.failures source.new) result (begun_at version logs last) }
     ensures comes { IfOk result (ComesBetween logs last) }
 {
-    let head = read_head(source, logs == MOST_LOGS, last)?;
+    let head = read_head(source, version, logs == MOST_LOGS, last)?;
     match head {
         None => Ok(None),
         Some(proc) => Ok(Some(Part::Log(proc))),
@@ -37,14 +42,15 @@ fn read_between<S: Source>(source: &mut S, logs: u32, last: u16) -> Result<Optio
 fn read_within<S: Source>(
     alloc: Global,
     source: &mut S,
+    version: Version,
     log: OpenLog,
 ) -> Result<Option<Part>, ReadError>
     ensures read { Reads (seen S.remaining S.failures source.old)
-        (seen S.remaining S.failures source.new) result (within_at log.entries log.failed) }
+        (seen S.remaining S.failures source.new) result (within_at version log.entries log.failed) }
     ensures comes { IfOk result (ComesWithin log.entries log.failed) }
 {
     let full = log.entries == MOST_ENTRIES;
-    let line = read_line(alloc, source, full, log.entries > 0, log.failed)?;
+    let line = read_line(alloc, source, version, full, log.entries > 0, log.failed)?;
     match line {
         Line::Close(ending) => Ok(Some(Part::Close(ending))),
         Line::Entry(entry) => Ok(Some(Part::Entry(entry))),
@@ -62,7 +68,7 @@ pub fn read_part<S: Source>(
     ensures comes { IfOk result (MayCome stage) }
 {
     match stage.log {
-        None => read_between(source, stage.logs, stage.last),
-        Some(log) => read_within(alloc, source, log),
+        None => read_between(source, stage.version, stage.logs, stage.last),
+        Some(log) => read_within(alloc, source, stage.version, log),
     }
 }

@@ -16,12 +16,12 @@ pub fn read_run<S: Source>(alloc: Global, source: &mut S) -> Result<Run, RunFaul
     ensures { ReadsRun (seen S.remaining S.failures source.old)
         (seen S.remaining S.failures source.new) result }
 {
-    read_header(source)?;
-    let mut parts = PartReader::new(alloc);
+    let version = read_header(source)?;
+    let mut parts = PartReader::new(alloc, version);
     let mut logs = Gathered::new(alloc);
     'parts: loop {
         match parts.next(alloc, source)? {
-            None => return Ok(logs.into_run()),
+            None => return Ok(logs.into_run(version)),
             Some(part) => logs.add(alloc, part)?,
         }
     }

@@ -11,6 +11,9 @@ pub enum ListFault {
     TooMany(usize),
     #[error("the one at index {0} is not above the one before")]
     NotRising(usize),
+    /// A log of a run of version 1 which is of another life than 1, or names one.
+    #[error("the one at index {0} has lives other than 1")]
+    Life(usize),
 }
 
 /// A value that was refused, given back with the rule that it breaks.

@@ -5,12 +5,12 @@ ghost use Rattle.totem_evs.specs.RunFaults.{fault_number, fault_name, run_fault}
 
 use std::alloc::{AllocError, AllocFailed};
 use thiserror::Error;
-use totem_ids::{ProcId, ReadError, TextFault};
+use totem_ids::{ReadError, TextFault, WrittenProc};
 
 /// Why a run could not be read (docs/SPECIFICATIONS.md, "Run text").
 #[derive(Clone, Copy, Debug, PartialEq, Eq, Error)]
 pub enum RunFault {
-    #[error("the text does not begin with the line `totem-run 1`")]
+    #[error("the text does not begin with the line `totem-run 1` or `totem-run 2`")]
     Header,
     #[error("a byte that does not fit")]
     Word,
@@ -27,7 +27,7 @@ pub enum RunFault {
     #[error("more than 32 logs, 32 members, or 1000000 entries of a log")]
     TooMany,
     #[error("process {0} has no log")]
-    MissingLog(ProcId),
+    MissingLog(WrittenProc),
     #[error("the source failed")]
     Read,
     #[error("out of memory")]

@@ -38,8 +38,8 @@ impl RunReader {
         // It takes no memory.
         ensures memory { IfErr result (λ e. e ≢ RunFault.Memory) }
     {
-        read_header(source)?;
-        let parts = PartReader::new(alloc);
+        let version = read_header(source)?;
+        let parts = PartReader::new(alloc, version);
         Ok(RunReader { alloc, parts })
     }
 

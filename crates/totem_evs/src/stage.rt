@@ -2,15 +2,17 @@
 ghost use Rattle.std.specs.Prelude.{◌≡◌, ◌≤◌};
 
 use crate::entry::Entry;
-use totem_ids::ProcId;
+use totem_ids::{Proc, Version};
 
 /// How far the reading of a run has come: as much of it as the rules for the text that follows need.
 #[derive(Clone, Copy, Debug, PartialEq, Eq)]
 pub struct Stage {
+    /// The version of the text.
+    pub version: Version,
     /// How many logs have begun.
     pub logs: u32,
-    /// The process of the last of these logs, or 0 before the first.
-    pub last: u16,
+    /// The rank of the process of the last of these logs, or 0 before the first.
+    pub last: u32,
     /// The log that has begun and not ended.
     pub log: Option<OpenLog>,
 }
@@ -30,11 +32,12 @@ impl Stage {
     ghost use Rattle.totem_evs.specs.declared.part.Part.TheVariants as parts;
     ghost use Rattle.totem_evs.specs.Parts.{first_stage, next_stage};
 
-    /// Returns the stage after the first line of the run.
-    pub fn first() -> Stage
-        ensures { result ≡ first_stage }
+    /// Returns the stage after the first line of a run of this version.
+    pub fn first(version: Version) -> Stage
+        ensures { result ≡ first_stage version }
     {
         Stage {
+            version,
             logs: 0,
             last: 0,
             log: None,
@@ -42,13 +45,14 @@ impl Stage {
     }
 
     /// Returns the stage after the first line of a log of this process.
-    pub fn with_log(self, proc: ProcId) -> Stage
+    pub fn with_log(self, proc: Proc) -> Stage
         requires { self.logs ≤ 32 }
         ensures { result ≡ next_stage self (parts.Log proc) }
     {
         Stage {
+            version: self.version,
             logs: self.logs + 1,
-            last: proc.number(),
+            last: proc.rank(),
             log: Some(OpenLog {
                 entries: 0,
                 failed: false,
@@ -69,6 +73,7 @@ impl Stage {
             }),
         };
         Stage {
+            version: self.version,
             logs: self.logs,
             last: self.last,
             log,
@@ -80,6 +85,7 @@ impl Stage {
         ensures { (ending : Ending) → result ≡ next_stage self (parts.Close ending) }
     {
         Stage {
+            version: self.version,
             logs: self.logs,
             last: self.last,
             log: None,

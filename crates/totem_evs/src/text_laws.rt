@@ -1,33 +1,33 @@
 //! Laws of the text of runs, each the contract of a function that does nothing.
-ghost use Rattle.std.specs.Prelude.{◌≡◌, ◌≢◌, ◌↔◌, ℕ, List, ◌++◌, codes, Ok, Err, false};
+ghost use Rattle.std.specs.Prelude.{◌≡◌, ◌≢◌, ◌↔◌, ℕ, List, ◌++◌, Ok, Err, false};
 ghost use Rattle.totem_ids.specs.declared.fault.TextFault.{TextFault};
 ghost use Rattle.totem_ids.specs.declared.fault.TextFault.TheVariants.{Header, Word, Number, Order, Members, End, Truncated, TooMany};
 ghost use Rattle.totem_ids.specs.Sources.{FirstBreak, is_short};
-ghost use Rattle.totem_evs.specs.declared.log.Log.{Log};
+ghost use Rattle.totem_evs.specs.RunRecord.{RunRecord};
 ghost use Rattle.totem_evs.specs.RunGrammar.{run_at};
-ghost use Rattle.totem_evs.specs.RunText.{line, run_text};
-ghost use Rattle.totem_evs.specs.Runs.{IsRun};
-ghost use Rattle.totem_evs.specs.TextFaults.{Differs, BreaksNumber, IsInPart, HasFault, HasOrder, HasMembers, HasEnd, HasTooMany, HasNoOther};
-ghost use Rattle.totem_evs.specs.TextFronts.{IsWideFront, IsFirstWrong};
+ghost use Rattle.totem_evs.specs.RunText.{run_text};
+ghost use Rattle.totem_evs.specs.Runs.{IsRunOf};
+ghost use Rattle.totem_evs.specs.TextFaults.{BreaksHeader, BreaksNumber, IsInPart, HasFault, HasOrder, HasMembers, HasEnd, HasTooMany, HasNoOther};
+ghost use Rattle.totem_evs.specs.TextFronts.{IsLooseFront, IsFirstWrong};
 
 /// What the grammar reads as a run keeps the rules of a run, and the bytes that it read are that run's text.
 pub fn read_is_spelled()
-    ensures { (run : List Log) (bytes rest : List ℕ) → run_at bytes ≡ Ok (run, rest) → IsRun run × (bytes ≡ run_text run ++ rest) }
+    ensures { (run : RunRecord) (bytes rest : List ℕ) → run_at bytes ≡ Ok (run, rest) → IsRunOf run × (bytes ≡ run_text run ++ rest) }
 {}
 
 /// The text of a run is read as that run, whatever follows it.
 pub fn spelled_is_read()
-    ensures { (run : List Log) (rest : List ℕ) → IsRun run → run_at (run_text run ++ rest) ≡ Ok (run, rest) }
+    ensures { (run : RunRecord) (rest : List ℕ) → IsRunOf run → run_at (run_text run ++ rest) ≡ Ok (run, rest) }
 {}
 
 /// No text of a run is the beginning of another.
 pub fn no_text_begins_another()
-    ensures { (a b : List Log) (more rest : List ℕ) → IsRun a → IsRun b → run_text a ++ more ≡ run_text b ++ rest → (a ≡ b) × (more ≡ rest) }
+    ensures { (a b : RunRecord) (more rest : List ℕ) → IsRunOf a → IsRunOf b → run_text a ++ more ≡ run_text b ++ rest → (a ≡ b) × (more ≡ rest) }
 {}
 
 /// If the grammar gives a fault, the bytes begin with no text of a run.
 pub fn a_fault_is_no_text()
-    ensures { (bytes : List ℕ) (fault : TextFault) → run_at bytes ≡ Err fault → (run : List Log) (rest : List ℕ) → IsRun run → bytes ≡ run_text run ++ rest → ⊥ }
+    ensures { (bytes : List ℕ) (fault : TextFault) → run_at bytes ≡ Err fault → (run : RunRecord) (rest : List ℕ) → IsRunOf run → bytes ≡ run_text run ++ rest → ⊥ }
 {}
 
 /// A fault other than that of a text that ends too soon is the fault of the first byte that breaks a rule of the grammar.
@@ -35,10 +35,11 @@ pub fn fault_is_first()
     ensures { (bytes : List ℕ) (fault : TextFault) → is_short fault ≡ false → run_at bytes ≡ Err fault → FirstBreak run_at bytes fault }
 {}
 
-/// Where the grammar finds the input too short, some text of a run goes on from it. It may name processes above the
-/// greatest: whether a process rises is judged only at the byte behind its number.
+/// Where the grammar finds the input too short, some text of a run goes on from it, but for this: its last log need not be
+/// above the one before, nor the last member of its last entry. Whether a process rises is judged only at the byte
+/// behind it.
 pub fn cut_text_goes_on()
-    ensures { (bytes : List ℕ) → run_at bytes ≡ Err Truncated → IsWideFront bytes }
+    ensures { (bytes : List ℕ) → run_at bytes ≡ Err Truncated → IsLooseFront bytes }
 {}
 
 /// At each other fault, some text of a run goes on, in the same sense, from the bytes before the first one that breaks
@@ -47,10 +48,9 @@ pub fn fault_byte_is_first()
     ensures { (bytes : List ℕ) (fault : TextFault) → run_at bytes ≡ Err fault → is_short fault ≡ false → (break : FirstBreak run_at bytes fault) × IsFirstWrong break.front break.byte }
 {}
 
-/// Header is the fault exactly where a byte of the first line differs.
-#[tactic(auto, using(crate::proofs::FaultParts::header_exactly))]
+/// Header is the fault exactly where a byte of the first line differs, also where its digit is of no version that is read.
 pub fn header_is_in_the_first_line()
-    ensures { (bytes : List ℕ) → (run_at bytes ≡ Err Header) ↔ Differs (line (codes "totem-run 1")) bytes }
+    ensures { (bytes : List ℕ) → (run_at bytes ≡ Err Header) ↔ BreaksHeader bytes }
 {}
 
 /// Each fault but Header and Truncated is the fault of a part: the first line and some parts are read, and what the

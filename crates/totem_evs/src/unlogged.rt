@@ -4,12 +4,12 @@ ghost use Rattle.std.specs.Prelude.{◌≡◌, ◌≢◌, ℕ, ◌≤◌, ◌↔
 use std::alloc::{AllocError, Global};
 use std::collections::BTreeSet;
 use std::marker::Model;
-use totem_ids::ProcId;
+use totem_ids::Proc;
 
 /// The members that were named and have no log so far.
 #[derive(Debug, Drop)]
 pub struct Unlogged {
-    procs: BTreeSet<ProcId>,
+    procs: BTreeSet<Proc>,
 }
 
 impl Model for Unlogged {
@@ -31,7 +31,7 @@ impl Unlogged {
     }
 
     /// Adds a process, which may be there already.
-    pub fn add(&mut self, proc: ProcId) -> Result<(), AllocError>
+    pub fn add(&mut self, proc: Proc) -> Result<(), AllocError>
         ensures { OnOk result ((q : ℕ) →
             Contains self.new q ↔ (Contains self.old q ⊎ (q ≡ proc))) }
     {
@@ -40,14 +40,14 @@ impl Unlogged {
     }
 
     /// Removes a process.
-    pub fn remove(&mut self, proc: ProcId)
+    pub fn remove(&mut self, proc: Proc)
         ensures { (q : ℕ) → Contains self.new q ↔ (Contains self.old q × (q ≢ proc)) }
     {
         self.procs.remove(&proc);
     }
 
     /// Returns the least process, or `None` if there is none.
-    pub fn least(&self) -> Option<ProcId>
+    pub fn least(&self) -> Option<Proc>
         ensures some { IfSome result (λ p. Contains self.now p) }
         ensures least { IfSome result (λ p. (q : ℕ) → Contains self.now q → p ≤ q) }
         ensures none { IfNone result (self.now ≡ []) }

@@ -2,7 +2,8 @@
 ghost use Rattle.std.specs.Prelude.{◌≡◌, [], ◌∷◌, ◌++◌, codes};
 ghost use Rattle.std.specs.List.{flat_map};
 ghost use Rattle.totem_ids.specs.Writing.{Writes, held};
-ghost use Rattle.totem_evs.specs.RunText.{line, members_text, entry_text, ending_text, log_text, run_text};
+ghost use Rattle.totem_ids.specs.Processes.{process_text};
+ghost use Rattle.totem_evs.specs.RunText.{line, members_text, entry_text, ending_text, log_text, header_text, run_text};
 ghost use Rattle.totem_evs.specs.WriteRun.{WritesText};
 
 use crate::ending::Ending;
@@ -12,7 +13,7 @@ use crate::members::Members;
 use crate::run::Run;
 use std::alloc::Global;
 use thiserror::Error;
-use totem_ids::{Failed, Pieces, Sink};
+use totem_ids::{Failed, Pieces, Sink, Version};
 
 /// Why a text could not be written.
 #[derive(Clone, Copy, Debug, PartialEq, Eq, Error)]
@@ -49,28 +50,38 @@ impl WriteFault {
     }
 }
 
-fn put_members<S: Sink>(pieces: &mut Pieces, sink: &mut S, members: &Members) -> Result<(), Failed>
+fn put_members<S: Sink>(
+    pieces: &mut Pieces,
+    sink: &mut S,
+    version: Version,
+    members: &Members,
+) -> Result<(), Failed>
     ensures { Writes (held S.contents S.failures pieces.old sink.old)
-        (held S.contents S.failures pieces.new sink.new) result (members_text members.now) }
+        (held S.contents S.failures pieces.new sink.new) result (members_text (process_text version) members.now) }
 {
     for proc in members.as_slice() {
         pieces.put(sink, b" ")?;
-        pieces.put_number(sink, u32::from(proc.number()))?;
+        pieces.put_process(sink, version, *proc)?;
     }
     Ok(())
 }
 
 /// Writes an entry without the end of its line.
 #[tactic(auto, using(totem_ids::proofs::Writers::wrote_then, totem_ids::proofs::Writers::wrote_failed))]
-fn put_entry<S: Sink>(pieces: &mut Pieces, sink: &mut S, entry: &Entry) -> Result<(), Failed>
+fn put_entry<S: Sink>(
+    pieces: &mut Pieces,
+    sink: &mut S,
+    version: Version,
+    entry: &Entry,
+) -> Result<(), Failed>
     ensures { Writes (held S.contents S.failures pieces.old sink.old)
-        (held S.contents S.failures pieces.new sink.new) result (entry_text entry.now) }
+        (held S.contents S.failures pieces.new sink.new) result (entry_text (process_text version) entry.now) }
 {
     match entry {
         Entry::Conf(conf, members) => {
             pieces.put(sink, b"conf ")?;
             pieces.put_conf(sink, conf)?;
-            put_members(pieces, sink, members)
+            put_members(pieces, sink, version, members)
         }
         Entry::Send(message, conf, service) => {
             pieces.put(sink, b"send ")?;
@@ -93,12 +104,17 @@ fn put_entry<S: Sink>(pieces: &mut Pieces, sink: &mut S, entry: &Entry) -> Resul
     }
 }
 
-fn put_entries<S: Sink>(pieces: &mut Pieces, sink: &mut S, entries: &[Entry]) -> Result<(), Failed>
+fn put_entries<S: Sink>(
+    pieces: &mut Pieces,
+    sink: &mut S,
+    version: Version,
+    entries: &[Entry],
+) -> Result<(), Failed>
     ensures { Writes (held S.contents S.failures pieces.old sink.old)
-        (held S.contents S.failures pieces.new sink.new) result (flat_map (λ entry. line (entry_text entry)) entries.now) }
+        (held S.contents S.failures pieces.new sink.new) result (flat_map (λ entry. line (entry_text (process_text version) entry)) entries.now) }
 {
     for entry in entries {
-        put_entry(pieces, sink, entry)?;
+        put_entry(pieces, sink, version, entry)?;
         pieces.put(sink, b"\n")?;
     }
     Ok(())
@@ -115,41 +131,62 @@ fn put_ending<S: Sink>(pieces: &mut Pieces, sink: &mut S, ending: Ending) -> Res
 }
 
 #[tactic(auto, using(totem_ids::proofs::Writers::wrote_then, totem_ids::proofs::Writers::wrote_failed))]
-fn put_log<S: Sink>(pieces: &mut Pieces, sink: &mut S, log: &Log) -> Result<(), Failed>
+fn put_log<S: Sink>(
+    pieces: &mut Pieces,
+    sink: &mut S,
+    version: Version,
+    log: &Log,
+) -> Result<(), Failed>
     ensures { Writes (held S.contents S.failures pieces.old sink.old)
-        (held S.contents S.failures pieces.new sink.new) result (log_text log.now) }
+        (held S.contents S.failures pieces.new sink.new) result (log_text (process_text version) log.now) }
 {
     pieces.put(sink, b"log ")?;
-    pieces.put_number(sink, u32::from(log.proc.number()))?;
+    pieces.put_process(sink, version, log.proc)?;
     pieces.put(sink, b"\n")?;
-    put_entries(pieces, sink, log.entries.as_slice())?;
+    put_entries(pieces, sink, version, log.entries.as_slice())?;
     put_ending(pieces, sink, log.ending)
 }
 
-fn put_logs<S: Sink>(pieces: &mut Pieces, sink: &mut S, logs: &[Log]) -> Result<(), Failed>
+fn put_logs<S: Sink>(
+    pieces: &mut Pieces,
+    sink: &mut S,
+    version: Version,
+    logs: &[Log],
+) -> Result<(), Failed>
     ensures { Writes (held S.contents S.failures pieces.old sink.old)
-        (held S.contents S.failures pieces.new sink.new) result (flat_map log_text logs.now) }
+        (held S.contents S.failures pieces.new sink.new) result (flat_map (log_text (process_text version)) logs.now) }
 {
     for log in logs {
-        put_log(pieces, sink, log)?;
+        put_log(pieces, sink, version, log)?;
     }
     Ok(())
+}
+
+fn put_header<S: Sink>(pieces: &mut Pieces, sink: &mut S, version: Version) -> Result<(), Failed>
+    ensures { Writes (held S.contents S.failures pieces.old sink.old)
+        (held S.contents S.failures pieces.new sink.new) result (header_text version) }
+{
+    match version {
+        Version::One => pieces.put(sink, b"totem-run 1\n"),
+        Version::Two => pieces.put(sink, b"totem-run 2\n"),
+        Version::Three => pieces.put(sink, b"totem-run 3\n"),
+    }
 }
 
 #[tactic(auto, using(totem_ids::proofs::Writers::wrote_then, totem_ids::proofs::Writers::wrote_failed))]
 fn put_run<S: Sink>(pieces: &mut Pieces, sink: &mut S, run: &Run) -> Result<(), Failed>
     ensures { Writes (held S.contents S.failures pieces.old sink.old)
-        (held S.contents S.failures pieces.new sink.new) result (run_text run.now.logs) }
+        (held S.contents S.failures pieces.new sink.new) result (run_text run.now) }
 {
-    pieces.put(sink, b"totem-run 1\n")?;
-    put_logs(pieces, sink, run.logs.as_slice())?;
+    put_header(pieces, sink, run.version)?;
+    put_logs(pieces, sink, run.version, run.logs.as_slice())?;
     pieces.put(sink, b"end\n")
 }
 
 /// Writes the text of a run, in pieces of about 64 KiB.
 pub fn write_run<S: Sink>(alloc: Global, run: &Run, sink: &mut S) -> Result<(), WriteFault>
     ensures { WritesText (held S.contents S.failures [] sink.old)
-        (held S.contents S.failures [] sink.new) result (run_text run.now.logs) }
+        (held S.contents S.failures [] sink.new) result (run_text run.now) }
 {
     let Ok(mut pieces) = Pieces::new(alloc) else {
         return Err(WriteFault::Memory);

@@ -5,7 +5,7 @@ use crate::layout::lay_out;
 use crate::lookup::{entry_of, log_of};
 use std::alloc::{AllocError, Global};
 use totem_evs::{Ending, Log, Run};
-use totem_ids::Place;
+use totem_ids::{Place, Version};
 
 /// How many entries are shown in front of a place, and behind it.
 const AROUND: u32 = 2;
@@ -91,7 +91,13 @@ fn closing(ending: Ending) -> &'static str {
 }
 
 /// Returns what stands in the cell of a spot: the entry with its number, and whether it is marked, or how many are left out.
-fn cell_text(alloc: Global, log: &Log, spot: &Spot, shown: &[Shown]) -> Result<String, AllocError> {
+fn cell_text(
+    alloc: Global,
+    version: Version,
+    log: &Log,
+    spot: &Spot,
+    shown: &[Shown],
+) -> Result<String, AllocError> {
     match spot.what {
         What::LeftOut(1) => return String::from_str(alloc, "    .. 1 entry"),
         What::LeftOut(count) => return format!(in alloc; "    .. {count} entries"),
@@ -104,7 +110,7 @@ fn cell_text(alloc: Global, log: &Log, spot: &Spot, shown: &[Shown]) -> Result<S
     };
     match entry_of(log, at) {
         Some(entry) => {
-            let line = line_of(alloc, entry)?;
+            let line = line_of(alloc, version, entry)?;
             format!(in alloc; "  {mark} {at}  {line}")
         }
         None => Ok(String::new(alloc)),
@@ -121,6 +127,7 @@ impl Column {
     /// Returns the column of a log: its process, what is shown of it, and in the last row how it ends.
     fn of(
         alloc: Global,
+        version: Version,
         log: &Log,
         lane: &Lane,
         shown: &[Shown],
@@ -132,10 +139,10 @@ impl Column {
         };
         column.add(last, String::from_str(alloc, closing(log.ending))?)?;
         for spot in lane.spots.as_slice().iter().rev() {
-            let text = cell_text(alloc, log, spot, shown)?;
+            let text = cell_text(alloc, version, log, spot, shown)?;
             column.add(spot.slot.saturating_add(1), text)?;
         }
-        let proc = log.proc;
+        let proc = log.proc.written(version);
         column.add(0, format!(in alloc; "log {proc}")?)?;
         Ok(column)
     }
@@ -225,7 +232,7 @@ pub fn columns(alloc: Global, run: &Run, places: &[Place]) -> Result<String, All
     let mut columns = Vec::new(alloc);
     for (lane, of_log) in lanes.iter().zip(shown.iter()) {
         if let Some(log) = log_of(run, lane.proc) {
-            columns.push(Column::of(alloc, log, lane, of_log.as_slice(), last)?)?;
+            columns.push(Column::of(alloc, run.version, log, lane, of_log.as_slice(), last)?)?;
         }
     }
     let mut text = String::new(alloc);

@@ -1,4 +1,5 @@
 //! A closed list of events: why each of them comes before the next one, and the last before the first.
+use crate::event::place_name;
 use crate::lookup::entry_at;
 use std::alloc::{AllocError, Global};
 use totem_evs::{Entry, Run};
@@ -23,8 +24,16 @@ fn step(run: &Run, from: Place, to: Place) -> &'static str {
     }
 }
 
-fn push_step(text: &mut String, run: &Run, from: Place, to: Place) -> Result<(), AllocError> {
+fn push_step(
+    alloc: Global,
+    text: &mut String,
+    run: &Run,
+    from: Place,
+    to: Place,
+) -> Result<(), AllocError> {
     let why = step(run, from, to);
+    let from = place_name(alloc, run.version, from)?;
+    let to = place_name(alloc, run.version, to)?;
     write!(text, "  {from} and {to}: {why}.\n")
 }
 
@@ -36,10 +45,11 @@ pub fn cycle(alloc: Global, run: &Run, places: &[Place]) -> Result<String, Alloc
     };
     let mut from = *first;
     for to in places.iter().skip(1) {
-        push_step(&mut text, run, from, *to)?;
+        push_step(alloc, &mut text, run, from, *to)?;
         from = *to;
     }
-    push_step(&mut text, run, from, *first)?;
+    push_step(alloc, &mut text, run, from, *first)?;
+    let first = place_name(alloc, run.version, *first)?;
     write!(
         text,
         "  So {first} would come before itself: no order fits these logs.\n"

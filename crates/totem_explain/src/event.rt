@@ -1,58 +1,45 @@
 //! What an entry of a log says, as its line and as a sentence.
 ghost use Rattle.std.specs.Prelude.{◌≡◌, IfOk};
 ghost use Rattle.std.specs.String.{string_bytes};
+ghost use Rattle.totem_ids.specs.Processes.{process_text};
 ghost use Rattle.totem_evs.specs.RunText.{entry_text, members_text};
-ghost use Rattle.totem_evs.specs.declared.entry.Entry.TheVariants.{Send, Deliver};
 
 use std::alloc::{AllocError, Global};
 use totem_evs::Entry;
-use totem_ids::{ConfId, MsgId, ProcId, Service};
+use totem_ids::{Place, Proc, Service, Version};
 
-/// Returns the processes, with a space before each.
-pub(crate) fn spaced(alloc: Global, procs: &[ProcId]) -> Result<String, AllocError>
-    ensures { IfOk result (λ text. string_bytes text ≡ members_text procs.now) }
+/// Returns a place as texts of this version write it, as in `2@5`.
+pub fn place_name(alloc: Global, version: Version, place: Place) -> Result<String, AllocError> {
+    let proc = place.proc.written(version);
+    let at = place.at;
+    format!(in alloc; "{proc}@{at}")
+}
+
+/// Returns the processes as texts of this version write them, with a space before each.
+pub(crate) fn spaced(alloc: Global, version: Version, procs: &[Proc]) -> Result<String, AllocError>
+    ensures { IfOk result (λ text. string_bytes text ≡ members_text (process_text version) procs.now) }
 {
     let mut text = String::new(alloc);
     for proc in procs {
+        let proc = proc.written(version);
         text.push_str(" ")?;
         text.push_str(format!(in alloc; "{proc}")?.as_str())?;
     }
     Ok(text)
 }
 
-fn send_line(
-    alloc: Global,
-    message: MsgId,
-    conf: ConfId,
-    service: Service,
-) -> Result<String, AllocError>
-    ensures { IfOk result (λ text. string_bytes text ≡ entry_text (Send message conf service)) }
-{
-    let mut text = format!(in alloc; "send {conf} {service} ")?;
-    text.push_str(format!(in alloc; "{message}")?.as_str())?;
-    Ok(text)
-}
-
-fn delivery_line(alloc: Global, message: MsgId, conf: ConfId) -> Result<String, AllocError>
-    ensures { IfOk result (λ text. string_bytes text ≡ entry_text (Deliver message conf)) }
-{
-    let mut text = format!(in alloc; "dlv {conf} ")?;
-    text.push_str(format!(in alloc; "{message}")?.as_str())?;
-    Ok(text)
-}
-
-/// Returns the line of a run's text that stands for the entry, without its end, as in `send r4.1 a 4.1#1`.
-pub fn line_of(alloc: Global, entry: &Entry) -> Result<String, AllocError>
-    ensures { IfOk result (λ text. string_bytes text ≡ entry_text entry.now) }
+/// Returns the line of a run's text of this version that stands for the entry, without its end, as in `send r4.1 a 4.1#1`.
+pub fn line_of(alloc: Global, version: Version, entry: &Entry) -> Result<String, AllocError>
+    ensures { IfOk result (λ text. string_bytes text ≡ entry_text (process_text version) entry.now) }
 {
     match entry {
         Entry::Conf(conf, members) => {
-            let members = spaced(alloc, members.as_slice())?;
+            let members = spaced(alloc, version, members.as_slice())?;
             format!(in alloc; "conf {conf}{members}")
         }
-        Entry::Send(message, conf, service) => send_line(alloc, *message, *conf, *service),
-        Entry::Deliver(message, conf) => delivery_line(alloc, *message, *conf),
-        Entry::Fail(conf) => format!(in alloc; "fail {conf}"),
+        Entry::Send(_, _, _) | Entry::Deliver(_, _) | Entry::Fail(_) => {
+            format!(in alloc; "{entry}")
+        }
     }
 }
 
@@ -64,10 +51,16 @@ fn service_name(service: Service) -> &'static str {
 }
 
 /// Returns what a process did by the entry, as in `process 2 delivered 4.1#1 in r4.1`.
-pub fn event_of(alloc: Global, proc: ProcId, entry: &Entry) -> Result<String, AllocError> {
+pub fn event_of(
+    alloc: Global,
+    version: Version,
+    proc: Proc,
+    entry: &Entry,
+) -> Result<String, AllocError> {
+    let proc = proc.written(version);
     match entry {
         Entry::Conf(conf, members) => {
-            let members = spaced(alloc, members.as_slice())?;
+            let members = spaced(alloc, version, members.as_slice())?;
             format!(in alloc; "process {proc} changed to {conf}, whose members are{members}")
         }
         Entry::Send(message, conf, service) => {

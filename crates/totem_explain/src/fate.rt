@@ -1,8 +1,9 @@
 //! What became of a process that owes something.
+use crate::event::place_name;
 use crate::lookup::{change_behind, change_in, log_of};
 use std::alloc::{AllocError, Global};
 use totem_evs::{Ending, Log, Run};
-use totem_ids::{ConfId, Place, ProcId};
+use totem_ids::{ConfId, Place, Proc, Version};
 
 /// What became of a process in a configuration and what follows it.
 #[derive(Clone, Copy, PartialEq, Eq)]
@@ -21,11 +22,14 @@ impl Fate {
     }
 
     /// Returns what is told of it, behind the process.
-    pub fn told(&self, alloc: Global) -> Result<String, AllocError> {
+    pub fn told(&self, alloc: Global, version: Version) -> Result<String, AllocError> {
         match self {
             Fate::WithoutLog => format!(in alloc; "has no log"),
             Fate::NeverCame(conf) => format!(in alloc; "never came to {conf}"),
-            Fate::WentOn(conf, place) => format!(in alloc; "went on to {conf} ({place})"),
+            Fate::WentOn(conf, place) => {
+                let place = place_name(alloc, version, *place)?;
+                format!(in alloc; "went on to {conf} ({place})")
+            }
             Fate::Failed(conf) => format!(in alloc; "failed in {conf}"),
             Fate::StillThere(conf) => format!(in alloc; "is still in {conf}"),
         }
@@ -61,7 +65,7 @@ pub fn next_of(log: &Log, conf: ConfId, at: u32) -> Fate {
 }
 
 /// Returns what became of a process in a configuration and what follows it.
-pub fn fate_of(run: &Run, proc: ProcId, conf: ConfId) -> Fate {
+pub fn fate_of(run: &Run, proc: Proc, conf: ConfId) -> Fate {
     let Some(log) = log_of(run, proc) else {
         return Fate::WithoutLog;
     };

@@ -1,7 +1,7 @@
 //! What is shown of a log.
 use std::alloc::{AllocError, Global};
 use totem_evs::{Ending, Entry, Log};
-use totem_ids::{ConfId, MsgId, Place, ProcId};
+use totem_ids::{ConfId, MsgId, Place, Proc};
 
 /// What is shown at a spot of a lane.
 #[derive(Clone, Copy, Debug, PartialEq, Eq)]
@@ -58,7 +58,7 @@ impl Spot {
 /// The lane of a process: what is shown of its log, in order.
 #[derive(Debug, Drop)]
 pub struct Lane {
-    pub proc: ProcId,
+    pub proc: Proc,
     pub ending: Ending,
     pub spots: Vec<Spot>,
     /// How many of the spots have their slot.

@@ -15,7 +15,7 @@ mod refusal;
 mod rule;
 mod yes;
 
-pub use event::{event_of, line_of};
+pub use event::{event_of, line_of, place_name};
 pub use lane::{Lane, Spot, What};
 pub use layout::lay_out;
 pub use lookup::entry_at;

@@ -1,9 +1,9 @@
 //! Where things stand in a run. Each search reads a log from its first entry on.
 use totem_evs::{Entry, Log, Run};
-use totem_ids::{ConfId, MsgId, Place, ProcId};
+use totem_ids::{ConfId, MsgId, Place, Proc};
 
 /// Returns the log of a process, or `None` if it has none.
-pub fn log_of<'r>(run: &'r Run, proc: ProcId) -> Option<&'r Log> {
+pub fn log_of<'r>(run: &'r Run, proc: Proc) -> Option<&'r Log> {
     for log in run.logs.as_slice() {
         if log.proc == proc {
             return Some(log);
@@ -69,7 +69,7 @@ pub fn change_in(log: &Log, conf: &ConfId) -> Option<Place> {
 }
 
 /// Returns the last change of a log in front of entry `at`, with its members.
-pub fn change_before<'r>(log: &'r Log, at: u32) -> Option<(ConfId, &'r [ProcId])> {
+pub fn change_before<'r>(log: &'r Log, at: u32) -> Option<(ConfId, &'r [Proc])> {
     let before = at.saturating_sub(1) as usize;
     let mut last = None;
     for entry in log.entries.as_slice().iter().take(before) {

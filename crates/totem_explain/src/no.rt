@@ -3,7 +3,7 @@ ghost use Rattle.std.specs.Prelude.{◌≡◌, IfOk, map};
 
 use crate::columns::columns;
 use crate::counts::summary;
-use crate::event::event_of;
+use crate::event::{event_of, place_name};
 use crate::lookup::entry_at;
 use crate::reason::reason;
 use crate::rule::rule_of;
@@ -33,9 +33,10 @@ fn events(alloc: Global, run: &Run, places: &[Place]) -> Result<String, AllocErr
     let mut text = String::new(alloc);
     for place in places {
         let event = match entry_at(run, *place) {
-            Some(entry) => event_of(alloc, place.proc, entry)?,
+            Some(entry) => event_of(alloc, run.version, place.proc, entry)?,
             None => String::from_str(alloc, "no entry of this run")?,
         };
+        let place = place_name(alloc, run.version, *place)?;
         write!(text, "  {place}  {event}\n")?;
     }
     Ok(text)

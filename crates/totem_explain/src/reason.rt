@@ -1,10 +1,11 @@
 //! What breaks the specification at the places of a fault, and what is missing there.
 use crate::cycle::cycle;
+use crate::event::place_name;
 use crate::fate::{fate_of, next_of};
 use crate::lookup::{change_before, change_in, delivery_in, entry_at, entry_of, log_of, send_in};
 use std::alloc::{AllocError, Global};
 use totem_evs::{Entry, Fault, Run, SpecNo};
-use totem_ids::{ConfId, MsgId, Place, ProcId};
+use totem_ids::{ConfId, MsgId, Place, Proc};
 
 /// Returns the message that the entry at a place sends or delivers, or `None` if it does neither.
 fn message_at(run: &Run, place: Place) -> Option<MsgId> {
@@ -22,7 +23,8 @@ fn unsent(alloc: Global, run: &Run, delivery: Place) -> Result<String, AllocErro
     };
     for log in run.logs.as_slice() {
         if let Some((place, conf)) = send_in(log, message) {
-            let proc = log.proc;
+            let proc = log.proc.written(run.version);
+            let place = place_name(alloc, run.version, place)?;
             write!(
                 text,
                 "  Process {proc} sent {message} in {conf} ({place}).\n"
@@ -43,7 +45,7 @@ fn twice(alloc: Global, run: &Run, places: &[Place]) -> Result<String, AllocErro
     match (places.len(), entry_at(run, *first)) {
         (1, _) => format!(in alloc; "  A transitional configuration is no place to send in.\n"),
         (_, Some(Entry::Deliver(message, _))) => {
-            let proc = first.proc;
+            let proc = first.proc.written(run.version);
             format!(in alloc; "  Process {proc} delivered {message} twice.\n")
         }
         (_, Some(Entry::Send(message, _, _))) => {
@@ -64,21 +66,21 @@ fn misplaced(alloc: Global, run: &Run, place: Place) -> Result<String, AllocErro
     match change_before(log, place.at) {
         None => format!(in alloc; "  No change stands before it.\n"),
         Some((conf, _)) => {
-            let proc = place.proc;
+            let proc = place.proc.written(run.version);
             format!(in alloc; "  Process {proc} stood in {conf} then.\n")
         }
     }
 }
 
 /// 2.3: what does not fit.
-fn configuration(alloc: Global, places: &[Place]) -> Result<String, AllocError> {
+fn configuration(alloc: Global, run: &Run, places: &[Place]) -> Result<String, AllocError> {
     let Some(first) = places.first() else {
         return Ok(String::new(alloc));
     };
-    let proc = first.proc;
+    let proc = first.proc.written(run.version);
     match places.get(1) {
         None => format!(in alloc; "  Process {proc} is none of these members.\n"),
-        Some(second) if second.proc == proc => {
+        Some(second) if second.proc == first.proc => {
             format!(in alloc; "  Process {proc} changed to it twice.\n")
         }
         Some(_) => format!(in alloc; "  The two do not have the same members.\n"),
@@ -106,8 +108,8 @@ fn undelivered(alloc: Global, run: &Run, send: Place) -> Result<String, AllocErr
     ) else {
         return Ok(String::new(alloc));
     };
-    let proc = send.proc;
-    let next = next_of(log, *conf, send.at).told(alloc)?;
+    let proc = send.proc.written(run.version);
+    let next = next_of(log, *conf, send.at).told(alloc, run.version)?;
     format!(in alloc;
         "  Process {proc} did not deliver {message} in {conf} or what follows it: it {next}.\n"
     )
@@ -118,16 +120,17 @@ fn lacks(alloc: Global, run: &Run, delivery: Place, missing: Place) -> Result<St
     let (Some(message), Some(log)) = (message_at(run, delivery), log_of(run, missing.proc)) else {
         return Ok(String::new(alloc));
     };
-    let proc = missing.proc;
+    let proc = missing.proc.written(run.version);
     match delivery_in(log, message) {
         Some(place) => {
+            let place = place_name(alloc, run.version, place)?;
             format!(in alloc; "  Process {proc} delivered {message} only at {place}.\n")
         }
         None => format!(in alloc; "  Process {proc} never delivered {message}.\n"),
     }
 }
 
-fn has_delivered(run: &Run, proc: ProcId, message: MsgId) -> bool {
+fn has_delivered(run: &Run, proc: Proc, message: MsgId) -> bool {
     match log_of(run, proc) {
         Some(log) => delivery_in(log, message).is_some(),
         None => false,
@@ -139,7 +142,7 @@ fn push_lacking(
     alloc: Global,
     text: &mut String,
     run: &Run,
-    proc: ProcId,
+    proc: Proc,
     message: MsgId,
     conf: &ConfId,
 ) -> Result<(), AllocError> {
@@ -147,7 +150,8 @@ fn push_lacking(
     if has_delivered(run, proc, message) || !fate.owes() {
         return Ok(());
     }
-    let told = fate.told(alloc)?;
+    let told = fate.told(alloc, run.version)?;
+    let proc = proc.written(run.version);
     write!(
         text,
         "  Process {proc} did not deliver {message}: it {told}.\n"
@@ -184,6 +188,7 @@ fn absent(alloc: Global, run: &Run, delivery: Place) -> Result<String, AllocErro
             None => false,
         };
         if !has {
+            let member = member.written(run.version);
             write!(text, "  Process {member} never came to {conf}.\n")?;
         }
     }
@@ -198,7 +203,7 @@ pub fn reason(alloc: Global, run: &Run, fault: &Fault) -> Result<String, AllocEr
         (SpecNo::Unsent, [delivery, ..]) => unsent(alloc, run, *delivery),
         (SpecNo::Twice, _) => twice(alloc, run, places),
         (SpecNo::Misplaced, [entry, ..]) => misplaced(alloc, run, *entry),
-        (SpecNo::Configuration, _) => configuration(alloc, places),
+        (SpecNo::Configuration, _) => configuration(alloc, run, places),
         (SpecNo::Turns, _) => turns(alloc, places),
         (SpecNo::OwnDelivery, [send, ..]) => undelivered(alloc, run, *send),
         (SpecNo::Atomicity, [delivery, _, change, ..]) => lacks(alloc, run, *delivery, *change),

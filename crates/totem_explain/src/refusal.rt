@@ -8,10 +8,13 @@ const BEFORE: usize = 72;
 
 /// The beginnings of lines, and what follows them.
 const BEHIND: [(&[u8], &str); 5] = [
-    (b"log ", "`log` is followed by a process: `log 3`."),
+    (
+        b"log ",
+        "`log` is followed by a process: `log 3`, or `log 3:1` with its life in version 2.",
+    ),
     (
         b"conf ",
-        "`conf` is followed by a configuration and its members, with one space before each: `conf r4.1 1 2 3`, `conf t8.1/1 1 2`.",
+        "`conf` is followed by a configuration and its members, with one space before each: `conf r4.1 1 2 3`, `conf t8.1/1 1 2`, or `conf r4.1 1:1 2:1` in version 2.",
     ),
     (
         b"send ",
@@ -40,15 +43,16 @@ fn behind(line: &[u8]) -> &'static str {
 /// Returns what is wanted where a text is refused, in a line that begins so; nothing if the text is not what was refused.
 fn wanted(alloc: Global, fault: &RunFault, line: &[u8]) -> Result<String, AllocError> {
     let text = match fault {
-        RunFault::Header => "The text of a run begins with the line `totem-run 1`.",
+        RunFault::Header =>
+            "The text of a run begins with the line `totem-run 1` or `totem-run 2`.",
         RunFault::Word => behind(line),
         RunFault::Number => {
-            "A number has no zero in front. Processes are 1 to 65535, the numbers of rings and messages 1 to 4294967295."
+            "A number has no zero in front. Processes and lives are 1 to 65535, the numbers of rings and messages 1 to 4294967295."
         }
         RunFault::Order =>
             "The process that ends here is not greater than that of the log before it. Logs stand in rising order.",
         RunFault::Members =>
-            "The member that ends here is not greater than the one before it. Members stand in rising order.",
+            "The member that ends here is not greater than the one before it. Members stand in rising order, one life of each.",
         RunFault::End => {
             "A log whose last entry is `fail` ends with the line `failed`, any other with `open`, and nothing stands behind the line `end`."
         }

@@ -3,7 +3,7 @@ use crate::counts::summary;
 use crate::fate::fate_of;
 use std::alloc::{AllocError, Global};
 use totem_evs::{Pending, Run, Waiting};
-use totem_ids::MsgId;
+use totem_ids::{MsgId, Version};
 
 /// Deliveries that one process may still make of the messages of one ring.
 #[derive(Clone, Copy, PartialEq, Eq)]
@@ -31,8 +31,8 @@ impl Group {
         self.count = self.count.saturating_add(1);
     }
 
-    fn push(&self, alloc: Global, text: &mut String) -> Result<(), AllocError> {
-        let proc = self.first.proc;
+    fn push(&self, alloc: Global, version: Version, text: &mut String) -> Result<(), AllocError> {
+        let proc = self.first.proc.written(version);
         let first = self.first.msg;
         let last = self.last;
         let count = self.count;
@@ -47,7 +47,7 @@ impl Group {
 }
 
 /// Returns a line for each process and ring of which deliveries are pending.
-fn pending_lines(alloc: Global, list: &[Pending]) -> Result<String, AllocError> {
+fn pending_lines(alloc: Global, version: Version, list: &[Pending]) -> Result<String, AllocError> {
     let mut text = String::new(alloc);
     let Some(first) = list.first() else {
         return Ok(text);
@@ -57,11 +57,11 @@ fn pending_lines(alloc: Global, list: &[Pending]) -> Result<String, AllocError> 
         if group.has(pending) {
             group.add(pending);
         } else {
-            group.push(alloc, &mut text)?;
+            group.push(alloc, version, &mut text)?;
             group = Group::of(*pending);
         }
     }
-    group.push(alloc, &mut text)?;
+    group.push(alloc, version, &mut text)?;
     Ok(text)
 }
 
@@ -69,7 +69,9 @@ fn pending_lines(alloc: Global, list: &[Pending]) -> Result<String, AllocError> 
 fn waiting_lines(alloc: Global, run: &Run, list: &[Waiting]) -> Result<String, AllocError> {
     let mut text = String::new(alloc);
     for Waiting { proc, conf, other } in list {
-        let fate = fate_of(run, *other, *conf).told(alloc)?;
+        let fate = fate_of(run, *other, *conf).told(alloc, run.version)?;
+        let proc = proc.written(run.version);
+        let other = other.written(run.version);
         write!(
             text,
             "  process {proc} stands in {conf} and waits for {other}, which {fate}\n"
@@ -102,7 +104,7 @@ pub fn explain_yes(
     push_headed(
         &mut text,
         "Pending, which is no fault:",
-        pending_lines(alloc, pending)?.as_str(),
+        pending_lines(alloc, run.version, pending)?.as_str(),
     )?;
     push_headed(
         &mut text,

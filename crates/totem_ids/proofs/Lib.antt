@@ -7,3 +7,4 @@ pub mod Writers
 pub mod ServiceSpelling
 pub mod RankParts
 pub mod Lives
+pub mod AtHand

@@ -4,16 +4,17 @@ use Rattle.std.proofs.Common.{◌≡◌, ℕ, ◌<◌, inl, inr, List, [], ◌�
 use Rattle.std.proofs.lemmas.Bool.{cases_lt, eqb-true}
 use Rattle.totem_ids.specs.declared.version.Version.{Version}
 use Rattle.totem_ids.specs.declared.fault.TextFault.TheVariants.{Word, Truncated}
+use Rattle.totem_ids.specs.Names.{PlaceName}
 use Rattle.totem_ids.specs.Sources.{Steady, ◌>>=◌}
 use Rattle.totem_ids.specs.Numbers.{is_digit, number_at, number_to}
 use Rattle.totem_ids.specs.Orders.{IsStrictOrder}
-use Rattle.totem_ids.specs.Processes.{writes_lives, life_text, process_text, IsProcessIn, first_life_then, life_then, process_then, process_to}
+use Rattle.totem_ids.specs.Processes.{writes_lives, life_text, process_text, IsProcessIn, first_life_then, life_then, process_then, process_to, place_text_in, IsPlaceIn, place_at}
 use Rattle.totem_ids.specs.Ranks.{rank_of, id_of, life_of, LifeBelow}
 use Rattle.totem_ids.specs.Spelling.{Spells}
 use Rattle.totem_ids.specs.Texts.{IsUpTo, IsProcess}
 use Rattle.totem_ids.proofs.Orderings.{numbers}
 use Rattle.totem_ids.proofs.RankParts.{id_of_rank, life_of_rank, rank_of_parts}
-use Rattle.totem_ids.proofs.Spelled.{after, guard_then, parsed_is, number_is, number_to_is, number_again, number_to_again}
+use Rattle.totem_ids.proofs.Spelled.{after, guard_then, parsed_is, up_to, number_is, number_to_is, number_again, number_to_again}
 use Rattle.totem_ids.proofs.Steady.{gives_steady, fault_steady, bind_steady, cond_steady, number_steady, number_to_steady, first_break}
 
 -- ---- the order
@@ -167,7 +168,46 @@ process_to_empty : (version : Version) (end : ℕ) → process_to version end []
 unfolding process_to
 process_to_empty version end = rw (process_then_empty version) refl
 
--- ---- the law
+-- ---- places
+
+place_is : (version : Version) (end : ℕ) (e : PlaceName) (bytes rest : List ℕ) → place_at version end bytes ≡ Ok (e, rest) → IsPlaceIn version e × (bytes ≡ place_text_in version e ++ end ∷ rest)
+unfolding place_at
+place_is version end e bytes rest h =
+    after (process_to version 64 bytes) (λ proc. number_to 4294967295 end proc.1 >>= λ entry. Ok (record { proc = proc.0; at = entry.0 }, entry.1)) (e, rest) h (λ proc mid e1 more.
+    after (number_to 4294967295 end mid) (λ entry. Ok (record { proc = proc; at = entry.0 }, entry.1)) (e, rest) more (λ entry left e2 made.
+    let p = parsed_is (record { proc = proc; at = entry }) e left rest made in
+    let x = process_is version 64 proc bytes mid e1 in
+    let y = number_to_is 4294967295 end entry mid left (omega arith) (omega arith) e2 in
+    let text : bytes ≡ (process_text version proc ++ codes "@" ++ decimal entry) ++ end ∷ left = x.1 ∙ ap (λ (t : List ℕ). process_text version proc ++ 64 ∷ t) y.spelled ∙ sym (simp append_assoc) in
+    let place : PlaceName = record { proc = proc; at = entry } in
+    let is : IsPlaceIn version place = record { proc_fits = x.0; at_fits = up_to y } in
+    rw (← p.0, ← p.1) (is, text)))
+
+place_again : (version : Version) (end : ℕ) (e : PlaceName) (rest : List ℕ) → is_digit end ≡ false → IsPlaceIn version e → place_at version end (place_text_in version e ++ end ∷ rest) ≡ Ok (e, rest)
+unfolding place_at
+place_again version end e rest other is =
+    let regrouped : place_text_in version e ++ end ∷ rest ≡ process_text version e.proc ++ 64 ∷ (decimal e.at ++ end ∷ rest) = simp append_assoc in
+    ap (place_at version end) regrouped
+    ∙ rw (process_again version 64 e.proc (decimal e.at ++ end ∷ rest) refl is.proc_fits) (
+    rw (number_to_again 4294967295 end e.at rest is.at_fits.positive is.at_fits.small (omega arith) other) refl)
+
+place_steady : (version : Version) (end : ℕ) → Steady (place_at version end)
+unfolding place_at
+place_steady version end = bind_steady _ _ (process_to_steady version 64) (λ proc. bind_steady _ _ (number_to_steady 4294967295 end) (λ entry. gives_steady _))
+
+place_empty : (version : Version) (end : ℕ) → place_at version end [] ≡ Err Truncated
+unfolding place_at
+place_empty version end = rw (process_to_empty version 64) refl
+
+-- ---- the laws
+
+pub place_spells : (version : Version) → Spells (place_at version) (place_text_in version) (IsPlaceIn version)
+place_spells version = record {
+  spelled = place_is version;
+  read = place_again version;
+  breaks = λ end bytes fault long e. first_break (place_at version end) bytes fault (place_steady version end) (place_empty version end) long e;
+  steady = place_steady version;
+}
 
 pub process_spells : (version : Version) → Spells (process_to version) (process_text version) (IsProcessIn version)
 process_spells version = record {

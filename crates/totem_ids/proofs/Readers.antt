@@ -63,7 +63,7 @@ breaks_at old new parse fault empty long h = record { breaks = h; last = go h.re
 
 -- ---- one byte
 
-keeps_none : (a b : Option (List ℕ)) → Keeps a b → Consumes a b []
+pub keeps_none : (a b : Option (List ℕ)) → Keeps a b → Consumes a b []
 keeps_none None b h = tt
 keeps_none (Some xs) None h = h
 keeps_none (Some xs) (Some ys) h = sym h

@@ -9,11 +9,11 @@ use Rattle.totem_ids.specs.declared.fault.TextFault.{TextFault}
 use Rattle.totem_ids.specs.declared.fault.TextFault.TheVariants.{Word, Number}
 use Rattle.totem_ids.specs.declared.conf.ConfId.{ConfId}
 use Rattle.totem_ids.specs.declared.conf.ConfId.TheVariants.{Regular, Transitional}
-use Rattle.totem_ids.specs.Names.{RingName, MessageName, PlaceName}
+use Rattle.totem_ids.specs.Names.{RingName, MessageName}
 use Rattle.totem_ids.specs.Sources.{Parsed, ◌>>=◌}
 use Rattle.totem_ids.specs.Numbers.{is_digit, byte_at, word_at, digits_at, number_at, number_to}
-use Rattle.totem_ids.specs.Parsers.{ring_at, message_at, place_at, regular_at, transitional_at, conf_at}
-use Rattle.totem_ids.specs.Texts.{ring_text, conf_text, message_text, place_text, IsUpTo, IsProcess, IsRing, IsConf, IsMessage, IsPlace}
+use Rattle.totem_ids.specs.Parsers.{ring_at, message_at, regular_at, transitional_at, conf_at}
+use Rattle.totem_ids.specs.Texts.{ring_text, conf_text, message_text, IsUpTo, IsProcess, IsRing, IsConf, IsMessage}
 use Rattle.totem_ids.proofs.Readers.{first_digit, first_other, next_digit, next_over, next_other}
 
 -- ---- steps and tests that did not fail
@@ -181,7 +181,7 @@ number_to_is max end m bytes rest nine fits e =
     rw (← same, ← p.0, ← p.1) found)
 
 -- a number that was read is in range
-up_to : {max m b : ℕ} {bytes rest : List ℕ} → IsRead max m b bytes rest → IsUpTo max m
+pub up_to : {max m b : ℕ} {bytes rest : List ℕ} → IsRead max m b bytes rest → IsUpTo max m
 up_to read = record { positive = read.positive; small = read.small }
 
 pub number_to_again : (max end n : ℕ) (rest : List ℕ) → 0 < n → n ≤ max → max < 2 ^ 32 → is_digit end ≡ false → number_to max end (decimal n ++ end ∷ rest) ≡ Ok (n, rest)
@@ -231,27 +231,6 @@ message_again end m rest other is =
     ap (message_at end) regrouped
     ∙ rw (ring_again 35 m.ring (decimal m.number ++ end ∷ rest) refl is.ring_fits) (
     rw (number_to_again 4294967295 end m.number rest is.number_fits.positive is.number_fits.small (omega arith) other) refl)
-
-pub place_is : (end : ℕ) (e : PlaceName) (bytes rest : List ℕ) → place_at end bytes ≡ Ok (e, rest) → IsPlace e × (bytes ≡ place_text e ++ end ∷ rest)
-unfolding place_at
-place_is end e bytes rest h =
-    after (number_to 65535 64 bytes) (λ proc. number_to 4294967295 end proc.1 >>= λ entry. Ok (record { proc = proc.0; at = entry.0 }, entry.1)) (e, rest) h (λ proc mid e1 more.
-    after (number_to 4294967295 end mid) (λ entry. Ok (record { proc = proc; at = entry.0 }, entry.1)) (e, rest) more (λ entry left e2 made.
-    let p = parsed_is (record { proc = proc; at = entry }) e left rest made in
-    let x = number_to_is 65535 64 proc bytes mid (omega arith) (omega arith) e1 in
-    let y = number_to_is 4294967295 end entry mid left (omega arith) (omega arith) e2 in
-    let text : bytes ≡ (decimal proc ++ codes "@" ++ decimal entry) ++ end ∷ left = x.spelled ∙ ap (λ (t : List ℕ). decimal proc ++ 64 ∷ t) y.spelled ∙ sym (simp append_assoc) in
-    let place : PlaceName = record { proc = proc; at = entry } in
-    let is : IsPlace place = record { proc_fits = up_to x; at_fits = up_to y } in
-    rw (← p.0, ← p.1) (is, text)))
-
-pub place_again : (end : ℕ) (e : PlaceName) (rest : List ℕ) → is_digit end ≡ false → IsPlace e → place_at end (place_text e ++ end ∷ rest) ≡ Ok (e, rest)
-unfolding place_at
-place_again end e rest other is =
-    let regrouped : place_text e ++ end ∷ rest ≡ decimal e.proc ++ 64 ∷ (decimal e.at ++ end ∷ rest) = simp append_assoc in
-    ap (place_at end) regrouped
-    ∙ rw (number_to_again 65535 64 e.proc (decimal e.at ++ end ∷ rest) is.proc_fits.positive is.proc_fits.small (omega arith) refl) (
-    rw (number_to_again 4294967295 end e.at rest is.at_fits.positive is.at_fits.small (omega arith) other) refl)
 
 -- ---- configurations
 

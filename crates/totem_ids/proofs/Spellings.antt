@@ -3,11 +3,11 @@ use Rattle.std.specs.Prelude.{decimal}
 use Rattle.std.proofs.Common.{◌≡◌, ℕ, ◌^◌, ◌<◌, ◌≤◌, [], Err, refl, arith}
 use Rattle.totem_ids.specs.declared.fault.TextFault.TheVariants.{Truncated}
 use Rattle.totem_ids.specs.Numbers.{number_at, number_to, proc_at}
-use Rattle.totem_ids.specs.Parsers.{ring_at, message_at, place_at, conf_at}
-use Rattle.totem_ids.specs.Texts.{ring_text, conf_text, message_text, place_text, IsUpTo, IsProcess, IsRing, IsConf, IsMessage, IsPlace}
+use Rattle.totem_ids.specs.Parsers.{ring_at, message_at, conf_at}
+use Rattle.totem_ids.specs.Texts.{ring_text, conf_text, message_text, IsUpTo, IsProcess, IsRing, IsConf, IsMessage}
 use Rattle.totem_ids.specs.Spelling.{Spells}
-use Rattle.totem_ids.proofs.Steady.{first_break, number_to_steady, ring_steady, message_steady, place_steady, conf_steady}
-use Rattle.totem_ids.proofs.Spelled.{number_to_is, number_to_again, ring_is, ring_again, message_is, message_again, place_is, place_again, conf_is, conf_again}
+use Rattle.totem_ids.proofs.Steady.{first_break, number_to_steady, ring_steady, message_steady, conf_steady}
+use Rattle.totem_ids.proofs.Spelled.{number_to_is, number_to_again, ring_is, ring_again, message_is, message_again, conf_is, conf_again}
 
 -- ---- nothing is too short
 
@@ -22,10 +22,6 @@ ring_empty end = refl
 message_empty : (end : ℕ) → message_at end [] ≡ Err Truncated
 unfolding message_at ring_at number_to number_at
 message_empty end = refl
-
-place_empty : (end : ℕ) → place_at end [] ≡ Err Truncated
-unfolding place_at number_to number_at
-place_empty end = refl
 
 conf_empty : (end : ℕ) → conf_at end [] ≡ Err Truncated
 unfolding conf_at
@@ -58,14 +54,6 @@ message_spells = record {
   read = message_again;
   breaks = λ end bytes fault long e. first_break (message_at end) bytes fault (message_steady end) (message_empty end) long e;
   steady = message_steady;
-}
-
-pub place_spells : Spells place_at place_text IsPlace
-place_spells = record {
-  spelled = place_is;
-  read = place_again;
-  breaks = λ end bytes fault long e. first_break (place_at end) bytes fault (place_steady end) (place_empty end) long e;
-  steady = place_steady;
 }
 
 pub conf_spells : Spells conf_at conf_text IsConf

@@ -7,7 +7,7 @@ use Rattle.totem_ids.specs.declared.fault.TextFault.TheVariants.{Word, Number, T
 use Rattle.totem_ids.specs.declared.fault.TextFault.TheVariants as faults
 use Rattle.totem_ids.specs.Sources.{Parsed, Follows, Steady, FirstBreak, is_short, ◌>>=◌}
 use Rattle.totem_ids.specs.Numbers.{is_digit, byte_at, word_at, digits_at, number_at, number_to}
-use Rattle.totem_ids.specs.Parsers.{ring_at, message_at, place_at, regular_at, transitional_at, conf_at}
+use Rattle.totem_ids.specs.Parsers.{ring_at, message_at, regular_at, transitional_at, conf_at}
 
 -- ---- answers that stay
 
@@ -76,10 +76,6 @@ ring_steady end = bind_steady _ _ (number_to_steady 4294967295 46) (λ seq. bind
 pub message_steady : (end : ℕ) → Steady (message_at end)
 unfolding message_at
 message_steady end = bind_steady _ _ (ring_steady 35) (λ ring. bind_steady _ _ (number_to_steady 4294967295 end) (λ number. gives_steady _))
-
-pub place_steady : (end : ℕ) → Steady (place_at end)
-unfolding place_at
-place_steady end = bind_steady _ _ (number_to_steady 65535 64) (λ proc. bind_steady _ _ (number_to_steady 4294967295 end) (λ entry. gives_steady _))
 
 regular_steady : (end : ℕ) → Steady (regular_at end)
 unfolding regular_at

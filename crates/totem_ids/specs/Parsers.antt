@@ -1,9 +1,9 @@
--- Rings, configurations, messages and places as text.
+-- Rings, configurations and messages as text.
 use Rattle.std.specs.Prelude.{ℕ, List, Ok, Err, ◌==◌, if◌then◌else◌}
 use Rattle.totem_ids.specs.declared.conf.ConfId.{ConfId}
 use Rattle.totem_ids.specs.declared.conf.ConfId.TheVariants.{Regular, Transitional}
 use Rattle.totem_ids.specs.declared.fault.TextFault.TheVariants.{Word}
-use Rattle.totem_ids.specs.Names.{RingName, MessageName, PlaceName}
+use Rattle.totem_ids.specs.Names.{RingName, MessageName}
 use Rattle.totem_ids.specs.Sources.{Parsed, ◌>>=◌}
 use Rattle.totem_ids.specs.Numbers.{byte_at, number_to, proc_at}
 
@@ -20,13 +20,6 @@ message_at end bytes = do
   ring ← ring_at 35 bytes
   number ← number_to 4294967295 end ring.1
   Ok (record { ring = ring.0; number = number.0 }, number.1)
-
--- a place: a process, an at sign, its entry, and the byte end behind
-unfoldable pub place_at : ℕ → List ℕ → Parsed PlaceName
-place_at end bytes = do
-  proc ← proc_at 64 bytes
-  entry ← number_to 4294967295 end proc.1
-  Ok (record { proc = proc.0; at = entry.0 }, entry.1)
 
 -- a regular configuration: its ring
 unfoldable pub regular_at : ℕ → List ℕ → Parsed ConfId

@@ -59,6 +59,11 @@ pub record EndsAtBreak {Y : Type 0} (parse : List ℕ → Result Y TextFault) (b
 abbrev pub WantsLast : {Y : Type 0} → (List ℕ → Result Y TextFault) → List ℕ → Type 0
 WantsLast parse bytes = (front : List ℕ) (byte : ℕ) → bytes ≡ front ++ byte ∷ [] → parse front ≡ Err Truncated
 
+-- these bytes settle the value, and without the last of them the text is too short
+pub record Settles {Y : Type 0} (parse : List ℕ → Parsed Y) (bytes : List ℕ) (value : Y) : Type 0 where
+  pub left : (more : List ℕ) → parse (bytes ++ more) ≡ Ok (value, more)
+  pub before : WantsLast parse bytes
+
 -- ---- readers
 
 -- what is known of a source: the bytes that it has left, and how often it has failed

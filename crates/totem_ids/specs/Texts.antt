@@ -4,7 +4,7 @@ use Rattle.totem_ids.specs.declared.conf.ConfId.{ConfId}
 use Rattle.totem_ids.specs.declared.conf.ConfId.TheVariants.{Regular, Transitional}
 use Rattle.totem_ids.specs.declared.message.Service.{Service}
 use Rattle.totem_ids.specs.declared.message.Service.TheVariants.{Agreed, Safe}
-use Rattle.totem_ids.specs.Names.{RingName, MessageName, PlaceName}
+use Rattle.totem_ids.specs.Names.{RingName, MessageName}
 
 -- a ring: its number, a dot, its representative
 abbrev pub ring_text : RingName → List ℕ
@@ -18,10 +18,6 @@ conf_text (Transitional next least) = codes "t" ++ ring_text next ++ codes "/" +
 -- a message: its ring, a hash, its number
 abbrev pub message_text : MessageName → List ℕ
 message_text m = ring_text m.ring ++ codes "#" ++ decimal m.number
-
--- a place: its process, an at sign, its entry
-abbrev pub place_text : PlaceName → List ℕ
-place_text e = decimal e.proc ++ codes "@" ++ decimal e.at
 
 -- a service: its first letter
 abbrev pub service_text : Service → List ℕ
@@ -51,8 +47,3 @@ IsConf (Transitional next least) = IsRing next × IsProcess least
 pub record IsMessage (m : MessageName) : Type 0 where
   pub ring_fits : IsRing m.ring
   pub number_fits : IsUpTo 4294967295 m.number
-
--- a place's parts are in range
-pub record IsPlace (e : PlaceName) : Type 0 where
-  pub proc_fits : IsProcess e.proc
-  pub at_fits : IsUpTo 4294967295 e.at

@@ -99,6 +99,20 @@ impl<R: Read> Source for Buffered<R> {
         self.first_of_more()
     }
 
+    #[inline]
+    fn at_hand(&self) -> &[u8] {
+        &self.buffer[self.at..self.filled]
+    }
+
+    #[inline]
+    fn skip(&mut self, count: usize) -> bool {
+        if count > self.filled - self.at {
+            return false;
+        }
+        self.at += count;
+        true
+    }
+
     fn text_place(&self) -> Option<TextPlace<'_>> {
         let given = &self.buffer[..self.at];
         let rest = &self.buffer[self.at..self.filled];

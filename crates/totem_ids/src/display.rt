@@ -1,6 +1,7 @@
 //! `Display` for names: each writes its one spelling (docs/SPECIFICATIONS.md, "Names").
 ghost use Rattle.std.specs.Prelude.{Some, decimal};
-ghost use Rattle.totem_ids.specs.Texts.{ring_text, conf_text, message_text, place_text, service_text};
+ghost use Rattle.totem_ids.specs.Texts.{ring_text, conf_text, message_text, service_text};
+ghost use Rattle.totem_ids.specs.Processes.{place_text};
 
 use crate::conf::ConfId;
 use crate::message::{MsgId, Service};
@@ -53,12 +54,12 @@ impl fmt::Display for MsgId {
     }
 }
 
-/// Writes the process and the entry, as in `2@5`.
+/// Writes the process and the entry, as in `2@5`, or in `2:3@5` where the life is not 1.
 impl fmt::Display for Place {
     ghost output = { λ e. Some (place_text e) };
 
     fn fmt<W: fmt::Write>(&self, f: &mut fmt::Formatter<W>) -> fmt::Result {
-        let proc = self.proc;
+        let proc = self.proc.written(self.proc.first_version());
         let at = self.at;
         write!(f, "{proc}@{at}")
     }

@@ -4,13 +4,12 @@
 ghost use Rattle.std.specs.Prelude.{◌^◌, ◌<◌, ◌≤◌, ℕ, decimal};
 ghost use Rattle.totem_ids.specs.Numbers.{number_to, proc_at};
 ghost use Rattle.totem_ids.specs.Orders.{RingBelow, ConfBelow, MessageBelow, PlaceBelow, IsStrictOrder};
-ghost use Rattle.totem_ids.specs.Parsers.{ring_at, conf_at, message_at, place_at};
+ghost use Rattle.totem_ids.specs.Parsers.{ring_at, conf_at, message_at};
 ghost use Rattle.totem_ids.specs.Spelling.{Spells};
-ghost use Rattle.totem_ids.specs.Texts.{ring_text, conf_text, message_text, place_text, IsUpTo, IsProcess, IsRing, IsConf, IsMessage, IsPlace};
+ghost use Rattle.totem_ids.specs.Texts.{ring_text, conf_text, message_text, IsUpTo, IsProcess, IsRing, IsConf, IsMessage};
 
 use crate::conf::ConfId;
 use crate::message::MsgId;
-use crate::place::Place;
 use crate::process::ProcId;
 use crate::ring::RingId;
 
@@ -42,12 +41,6 @@ pub fn conf_spelling()
 #[tactic(auto, using(crate::proofs::Spellings::message_spells))]
 pub fn message_spelling()
     ensures { Spells message_at message_text IsMessage }
-{}
-
-/// Places have one spelling.
-#[tactic(auto, using(crate::proofs::Spellings::place_spells))]
-pub fn place_spelling()
-    ensures { Spells place_at place_text IsPlace }
 {}
 
 /// Each process has a spelling.
@@ -84,14 +77,6 @@ pub fn message_fits(message: &MsgId)
 {
     let _number = message.number;
     ring_fits(&message.ring);
-}
-
-/// Each place has a spelling.
-pub fn place_fits(place: &Place)
-    ensures { IsPlace place.now }
-{
-    let _entry = place.at;
-    process_fits(place.proc);
 }
 
 /// Rings are ordered strictly and totally.

@@ -31,17 +31,19 @@ pub use fault::{ReadError, TextFault};
 pub use fused::Fused;
 pub use laws::{
     conf_fits, conf_order, conf_spelling, message_fits, message_order, message_spelling,
-    number_spelling, place_fits, place_order, place_spelling, process_fits, process_spelling,
-    ring_fits, ring_order, ring_spelling,
+    number_spelling, place_order, process_fits, process_spelling, ring_fits, ring_order,
+    ring_spelling,
 };
-pub use life::Proc;
+pub use life::{Proc, WrittenProc};
 pub use message::{MsgId, Service};
-pub use names::{read_conf, read_message, read_place, read_ring};
+pub use names::{read_conf, read_message, read_ring};
 pub use pieces::Pieces;
 pub use place::Place;
 pub use process::ProcId;
-pub use process_laws::{life_fits, life_order, life_spelling, service_spelling};
-pub use processes::{read_process, read_process_to};
+pub use process_laws::{
+    life_fits, life_order, life_spelling, place_fits, place_spelling, service_spelling,
+};
+pub use processes::{read_place, read_process, read_process_to};
 pub use reading::{next, number, number_to, read_proc, word};
 pub use ring::RingId;
 pub use services::read_service;

@@ -1,9 +1,10 @@
 //! Processes of a run: each life of an identifier is a process of its own.
 ghost use Rattle.std.specs.Prelude.{◌≡◌, ◌↔◌, ◌+◌, ◌<◌, Some, IsTrue, MatchOption};
 ghost use Rattle.totem_ids.specs.Ranks.{rank_of, id_of, life_of, LifeBelow};
-ghost use Rattle.totem_ids.specs.Processes.{life_text};
+ghost use Rattle.totem_ids.specs.Processes.{life_text, process_text, first_version};
 
 use crate::process::ProcId;
+use crate::version::Version;
 use std::fmt;
 use std::marker::Model;
 
@@ -75,7 +76,8 @@ impl Proc {
 
     /// Returns a number by which processes are ordered: 65536 times the identifier, plus the life.
     pub fn rank(self) -> u32
-        ensures { result ≡ self }
+        ensures value { result ≡ self }
+        ensures positive { 0 < result }
     {
         u32::from(self.id.number()) * 65536 + u32::from(self.life)
     }
@@ -86,6 +88,27 @@ impl Proc {
     {
         let life = self.life.checked_add(1)?;
         Some(Proc { id: self.id, life })
+    }
+
+    /// Returns the first version whose texts can write this process.
+    pub fn first_version(self) -> Version
+        ensures { result ≡ first_version self }
+    {
+        if self.life() == 1 {
+            Version::One
+        } else {
+            Version::Two
+        }
+    }
+
+    /// Returns the process as texts of this version write it, for `Display`.
+    pub fn written(self, version: Version) -> WrittenProc
+        ensures { (result.version ≡ version) × (result.process ≡ self) }
+    {
+        WrittenProc {
+            version,
+            process: self,
+        }
     }
 
     /// Returns whether this process comes before the other: `<` in a form that contracts can use.
@@ -104,5 +127,26 @@ impl fmt::Display for Proc {
         let id = self.id;
         let life = self.life;
         write!(f, "{id}:{life}")
+    }
+}
+
+/// A process as texts of some version write it.
+#[derive(Clone, Copy, Debug, PartialEq, Eq)]
+pub struct WrittenProc {
+    pub version: Version,
+    pub process: Proc,
+}
+
+/// Writes the identifier, with the life where the version writes lives: as in `2:1`, or in `2`.
+impl fmt::Display for WrittenProc {
+    ghost output = { λ w. Some (process_text w.version w.process) };
+
+    fn fmt<W: fmt::Write>(&self, f: &mut fmt::Formatter<W>) -> fmt::Result {
+        let process = self.process;
+        if self.version.lives() {
+            return write!(f, "{process}");
+        }
+        let id = process.id();
+        write!(f, "{id}")
     }
 }

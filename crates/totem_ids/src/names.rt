@@ -1,12 +1,11 @@
 //! Readers of names. Each also takes the byte `end` behind the name, and leaves unread what follows that byte.
 ghost use Rattle.std.specs.Prelude.{◌≢◌, IfErr};
 ghost use Rattle.totem_ids.specs.Sources.{Reads, seen};
-ghost use Rattle.totem_ids.specs.Parsers.{ring_at, message_at, place_at, regular_at, transitional_at, conf_at};
+ghost use Rattle.totem_ids.specs.Parsers.{ring_at, message_at, regular_at, transitional_at, conf_at};
 
 use crate::conf::ConfId;
 use crate::fault::{ReadError, TextFault};
 use crate::message::MsgId;
-use crate::place::Place;
 use crate::process::ProcId;
 use crate::reading::{next, number_to, read_proc};
 use crate::ring::RingId;
@@ -34,18 +33,6 @@ pub fn read_message<S: Source>(source: &mut S, end: u8) -> Result<MsgId, ReadErr
     let ring = read_ring(source, b'#')?;
     let number = number_to(source, u32::MAX, end)?;
     Ok(MsgId { ring, number })
-}
-
-/// Reads a place and the byte `end` behind it.
-#[tactic(auto, using(crate::proofs::Readers::called, crate::proofs::Readers::failed, crate::proofs::Readers::begins), unfolding(crate::specs::Parsers::place_at))]
-pub fn read_place<S: Source>(source: &mut S, end: u8) -> Result<Place, ReadError>
-    ensures read { Reads (seen S.remaining S.failures source.old)
-        (seen S.remaining S.failures source.new) result (place_at end) }
-    ensures memory { IfErr result (λ e. e ≢ ReadError.Memory) }
-{
-    let proc = read_proc(source, b'@')?;
-    let at = number_to(source, u32::MAX, end)?;
-    Ok(Place { proc, at })
 }
 
 #[tactic(auto, using(crate::proofs::Readers::called, crate::proofs::Readers::failed, crate::proofs::Readers::begins), unfolding(crate::specs::Parsers::regular_at))]

@@ -1,13 +1,13 @@
 ghost use Rattle.std.specs.Prelude.{◌≡◌, ◌↔◌, ◌<◌, IsTrue, MatchOption};
 ghost use Rattle.totem_ids.specs.Orders.{PlaceBelow};
 
-use crate::process::ProcId;
+use crate::life::Proc;
 use std::marker::Model;
 
 /// An entry of a process's log, counted from 1. Places are ordered by process, then by entry.
 #[derive(Clone, Copy, Debug, PartialEq, Eq, PartialOrd, Ord, Hash)]
 pub struct Place {
-    pub proc: ProcId,
+    pub proc: Proc,
     pub at: u32,
 }
 
@@ -26,7 +26,7 @@ impl Model for Place {
 
 impl Place {
     /// Returns the place with this process and entry, or `None` if the entry's number is 0.
-    pub fn new(proc: ProcId, at: u32) -> Option<Place>
+    pub fn new(proc: Proc, at: u32) -> Option<Place>
         ensures { MatchOption result (at ≡ 0) (λ e. (e.proc ≡ proc) × (e.at ≡ at)) }
     {
         if at == 0 {
@@ -36,6 +36,7 @@ impl Place {
     }
 
     /// Returns whether this place comes before the other: `<` in a form that contracts can use.
+    #[tactic(auto, using(crate::proofs::Lives::below_is_less))]
     pub fn is_below(&self, other: &Place) -> bool
         ensures { IsTrue result ↔ PlaceBelow self.now other.now }
     {

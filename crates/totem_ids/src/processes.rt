@@ -1,12 +1,13 @@
-//! Reads and writes processes of a run as a text of some version has them.
+//! Reads and writes processes of a run, and places of their logs, as a text of some version has them.
 ghost use Rattle.std.specs.Prelude.{◌≢◌, IfErr, decimal};
 ghost use Rattle.totem_ids.specs.Sources.{Reads, seen};
 ghost use Rattle.totem_ids.specs.Writing.{Writes, held};
-ghost use Rattle.totem_ids.specs.Processes.{first_life_then, life_then, process_then, process_to, process_text, place_text_in};
+ghost use Rattle.totem_ids.specs.Processes.{first_life_then, life_then, process_then, process_to, process_text, place_at, place_text_in};
 
 use crate::fault::{ReadError, TextFault};
 use crate::life::Proc;
 use crate::pieces::Pieces;
+use crate::place::Place;
 use crate::process::ProcId;
 use crate::reading::{number, number_to};
 use crate::sink::Sink;
@@ -67,6 +68,18 @@ pub fn read_process_to<S: Source>(
     Ok(process)
 }
 
+/// Reads a place, with its process's life where this version writes lives, and the byte `end` behind it.
+#[tactic(auto, using(crate::proofs::Readers::called, crate::proofs::Readers::failed, crate::proofs::Readers::begins), unfolding(crate::specs::Processes::place_at))]
+pub fn read_place<S: Source>(source: &mut S, version: Version, end: u8) -> Result<Place, ReadError>
+    ensures read { Reads (seen S.remaining S.failures source.old)
+        (seen S.remaining S.failures source.new) result (place_at version end) }
+    ensures memory { IfErr result (λ e. e ≢ ReadError.Memory) }
+{
+    let proc = read_process_to(source, version, b'@')?;
+    let at = number_to(source, u32::MAX, end)?;
+    Ok(Place { proc, at })
+}
+
 impl Pieces {
     /// Writes a process, with its life where this version writes lives: as `2:1`, or as `2`.
     #[tactic(auto, using(crate::proofs::Writers::wrote_then, crate::proofs::Writers::wrote_failed))]
@@ -87,21 +100,19 @@ impl Pieces {
         self.put_number(sink, u32::from(process.life()))
     }
 
-    /// Writes an entry of a process's log, which is counted from 1: as `2:1@5`, or as `2@5` where this version writes no
-    /// lives.
+    /// Writes a place, with its process's life where this version writes lives: as `2:1@5`, or as `2@5`.
     #[tactic(auto, using(crate::proofs::Writers::wrote_then, crate::proofs::Writers::wrote_failed))]
-    pub fn put_place_of<S: Sink>(
+    pub fn put_place<S: Sink>(
         &mut self,
         sink: &mut S,
         version: Version,
-        process: Proc,
-        entry: u32,
+        place: Place,
     ) -> Result<(), Failed>
         ensures { Writes (held S.contents S.failures self.old sink.old)
-            (held S.contents S.failures self.new sink.new) result (place_text_in version process entry) }
+            (held S.contents S.failures self.new sink.new) result (place_text_in version place) }
     {
-        self.put_process(sink, version, process)?;
+        self.put_process(sink, version, place.proc)?;
         self.put(sink, b"@")?;
-        self.put_number(sink, entry)
+        self.put_number(sink, place.at)
     }
 }

@@ -1,6 +1,7 @@
 //! Readers of what all texts share: bytes, words and numbers. Each leaves unread what follows the bytes that it took.
-ghost use Rattle.std.specs.Prelude.{◌≡◌, ◌≢◌, ◌≤◌, ◌&&◌, ◌==◌, false, not, IfOk, IfErr};
-ghost use Rattle.totem_ids.specs.Sources.{Reads, seen, is_short};
+ghost use Rattle.std.specs.Prelude.{◌≡◌, ◌≢◌, ◌≤◌, ◌&&◌, ◌==◌, true, false, not, length, take, IfOk, IfErr, IfSome, MatchOption};
+ghost use Rattle.std.specs.Io.KnownBytes.{Consumes, Keeps};
+ghost use Rattle.totem_ids.specs.Sources.{Comes, Reads, Settles, seen, is_short};
 ghost use Rattle.totem_ids.specs.Numbers.{is_digit, byte_at, word_at, number_at, number_to, proc_at};
 ghost use Rattle.totem_ids.specs.Texts.{IsUpTo};
 
@@ -22,8 +23,21 @@ pub fn next<S: Source>(source: &mut S) -> Result<u8, ReadError>
     }
 }
 
-/// Reads exactly this word. The first byte that differs from it is answered with `fault`.
-pub fn word<S: Source>(source: &mut S, word: &[u8], fault: TextFault) -> Result<(), ReadError>
+// Takes the word, where all of it is at hand. Otherwise it takes nothing and returns `false`.
+fn word_at_hand<S: Source>(source: &mut S, word: &[u8]) -> bool
+    ensures taken { result ≡ true → Consumes (S.remaining source.old) (S.remaining source.new) word.now }
+    ensures kept { result ≡ false → Keeps (S.remaining source.old) (S.remaining source.new) }
+    ensures failures { S.failures source.new ≡ S.failures source.old }
+{
+    let begins = source.at_hand().starts_with(word);
+    if !begins {
+        return false;
+    }
+    source.skip(word.len())
+}
+
+// As `word`, one byte at a time.
+fn word_by_bytes<S: Source>(source: &mut S, word: &[u8], fault: TextFault) -> Result<(), ReadError>
     requires { is_short fault ≡ false }
     ensures read { Reads (seen S.remaining S.failures source.old)
         (seen S.remaining S.failures source.new) result (word_at fault word.now) }
@@ -36,6 +50,20 @@ pub fn word<S: Source>(source: &mut S, word: &[u8], fault: TextFault) -> Result<
         }
     }
     Ok(())
+}
+
+/// Reads exactly this word. The first byte that differs from it is answered with `fault`.
+pub fn word<S: Source>(source: &mut S, word: &[u8], fault: TextFault) -> Result<(), ReadError>
+    requires { is_short fault ≡ false }
+    ensures read { Reads (seen S.remaining S.failures source.old)
+        (seen S.remaining S.failures source.new) result (word_at fault word.now) }
+    ensures memory { IfErr result (λ e. e ≢ ReadError.Memory) }
+{
+    let taken = word_at_hand(source, word);
+    if taken {
+        return Ok(());
+    }
+    word_by_bytes(source, word, fault)
 }
 
 fn is_digit(byte: u8) -> bool
@@ -51,9 +79,61 @@ fn begins_number(byte: u8) -> bool
     is_digit(byte) && byte != b'0'
 }
 
-/// Reads a number from 1 to `max`, without leading zeros, and returns it with the byte behind it. The fault is `Number`
-/// at the first byte with which no such number can go on.
-pub fn number<S: Source>(source: &mut S, max: u32) -> Result<(u32, u8), ReadError>
+// The number from 1 to `max` that these bytes begin with, the byte behind it, and how many bytes that are. `None` where they
+// begin with no such number, or end before it does.
+fn number_within(bytes: &[u8], max: u32) -> Option<(u32, u8, usize)>
+    requires { 9 ≤ max }
+    ensures number { IfSome result (λ n. Settles (number_at max) (take n.2 bytes.now) (n.0, n.1)) }
+    ensures count { IfSome result (λ n. n.2 ≤ length bytes.now) }
+    ensures range { IfSome result (λ n. IsUpTo max n.0) }
+{
+    if bytes.is_empty() {
+        return None;
+    }
+    let first = bytes[0];
+    let fits = begins_number(first);
+    if !fits {
+        return None;
+    }
+    let mut number = u64::from(first - b'0');
+    for at in 1..bytes.len() {
+        let byte = bytes[at];
+        let more = is_digit(byte);
+        if !more {
+            return Some((number as u32, byte, at + 1));
+        }
+        let larger = 10 * number + u64::from(byte - b'0');
+        if larger > u64::from(max) {
+            return None;
+        }
+        number = larger;
+    }
+    None
+}
+
+// Takes the number and the byte behind it, where both are at hand. Otherwise it takes nothing.
+fn number_at_hand<S: Source>(source: &mut S, max: u32) -> Option<(u32, u8)>
+    requires { 9 ≤ max }
+    ensures taken { let old = seen S.remaining S.failures source.old in
+        let new = seen S.remaining S.failures source.new in
+        MatchOption result (Comes old new (number_at max) (number_at max))
+        (λ n. Comes old new (number_at max) (λ more. Ok (n, more))) }
+    ensures range { IfSome result (λ n. IsUpTo max n.0) }
+{
+    match number_within(source.at_hand(), max) {
+        None => None,
+        Some((number, byte, count)) => {
+            let skipped = source.skip(count);
+            if !skipped {
+                return None;
+            }
+            Some((number, byte))
+        }
+    }
+}
+
+// As `number`, one byte at a time.
+fn number_by_bytes<S: Source>(source: &mut S, max: u32) -> Result<(u32, u8), ReadError>
     requires { 9 ≤ max }
     ensures read { Reads (seen S.remaining S.failures source.old)
         (seen S.remaining S.failures source.new) result (number_at max) }
@@ -77,6 +157,21 @@ pub fn number<S: Source>(source: &mut S, max: u32) -> Result<(u32, u8), ReadErro
             return Err(ReadError::Text(TextFault::Number));
         }
         number = larger;
+    }
+}
+
+/// Reads a number from 1 to `max`, without leading zeros, and returns it with the byte behind it. The fault is `Number`
+/// at the first byte with which no such number can go on.
+pub fn number<S: Source>(source: &mut S, max: u32) -> Result<(u32, u8), ReadError>
+    requires { 9 ≤ max }
+    ensures read { Reads (seen S.remaining S.failures source.old)
+        (seen S.remaining S.failures source.new) result (number_at max) }
+    ensures memory { IfErr result (λ e. e ≢ ReadError.Memory) }
+    ensures range { IfOk result (λ n. IsUpTo max n.0) }
+{
+    match number_at_hand(source, max) {
+        Some(found) => Ok(found),
+        None => number_by_bytes(source, max),
     }
 }
 

@@ -1,8 +1,9 @@
 //! Streams of bytes to read from. Contracts know what they have left and how often they failed.
-ghost use Rattle.std.specs.Prelude.{◌≡◌, ℕ, List, IfOk, OnErr};
+ghost use Rattle.std.specs.Prelude.{◌≡◌, ℕ, List, true, false, IfOk, IfSome, OnErr};
+ghost use Rattle.std.specs.Io.{StartsWith};
 ghost use Rattle.std.specs.declared.option.Option.{Option};
 ghost use Rattle.std.specs.Io.KnownBytes.{Keeps};
-ghost use Rattle.totem_ids.specs.Streams.{Gives, failed_once};
+ghost use Rattle.totem_ids.specs.Streams.{Gives, Skips, failed_once};
 
 use crate::retry::read_retrying;
 use crate::text_place::TextPlace;
@@ -27,6 +28,23 @@ pub trait Source {
         ensures byte { IfOk result (λ b. Gives (remaining self.old) (remaining self.new) b) }
         ensures err { OnErr result (Keeps (remaining self.old) (remaining self.new)) }
         ensures failures { failures self.new ≡ failed_once result (failures self.old) };
+
+    /// Returns bytes that come next and can be taken by `skip`: none, or those that a buffer holds.
+    fn at_hand(&self) -> &[u8]
+        ensures { IfSome (remaining self.now) (λ bytes. StartsWith bytes result.now) }
+    {
+        &[]
+    }
+
+    /// Takes the next `count` bytes if a buffer holds that many. Otherwise it takes none and returns `false`.
+    fn skip(&mut self, count: usize) -> bool
+        ensures skipped { result ≡ true → Skips (remaining self.old) (remaining self.new) count }
+        ensures kept { result ≡ false → Keeps (remaining self.old) (remaining self.new) }
+        ensures failures { failures self.new ≡ failures self.old }
+    {
+        let _ = count;
+        false
+    }
 
     /// Returns where the byte stands that was asked for last, or `None` if the source does not know.
     fn text_place(&self) -> Option<TextPlace<'_>> {

@@ -1,12 +1,11 @@
 //! Writers of numbers and names. Each puts the one spelling of what it is given into the gathered text.
 ghost use Rattle.std.specs.Prelude.{decimal};
 ghost use Rattle.totem_ids.specs.Writing.{Writes, held};
-ghost use Rattle.totem_ids.specs.Texts.{ring_text, conf_text, message_text, place_text};
+ghost use Rattle.totem_ids.specs.Texts.{ring_text, conf_text, message_text};
 
 use crate::conf::ConfId;
 use crate::message::MsgId;
 use crate::pieces::Pieces;
-use crate::place::Place;
 use crate::ring::RingId;
 use crate::sink::Sink;
 use crate::source::Failed;
@@ -61,16 +60,5 @@ impl Pieces {
         self.put_ring(sink, message.ring)?;
         self.put(sink, b"#")?;
         self.put_number(sink, message.number)
-    }
-
-    /// Writes a place, as in `2@5`.
-    #[tactic(auto, using(crate::proofs::Writers::wrote_then, crate::proofs::Writers::wrote_failed))]
-    pub fn put_place<S: Sink>(&mut self, sink: &mut S, place: Place) -> Result<(), Failed>
-        ensures { Writes (held S.contents S.failures self.old sink.old)
-            (held S.contents S.failures self.new sink.new) result (place_text place) }
-    {
-        self.put_number(sink, u32::from(place.proc.number()))?;
-        self.put(sink, b"@")?;
-        self.put_number(sink, place.at)
     }
 }

@@ -4,6 +4,8 @@
 #[cfg(test)]
 mod lists;
 #[cfg(test)]
+mod lives;
+#[cfg(test)]
 mod logs;
 #[cfg(test)]
 mod made_lists;

@@ -3,10 +3,11 @@ use crate::values::{push_lines, push_processes};
 use std::alloc::{AllocError, Global};
 use totem_cert::{Certificate, Line, Lines, Numbers};
 use totem_evs::{Members, Refused};
-use totem_ids::ProcId;
+use totem_ids::{Proc, ProcId};
 
-pub fn proc(number: u16) -> ProcId {
-    ProcId::of(number.max(1))
+/// Returns the first life of this identifier.
+pub fn proc(number: u16) -> Proc {
+    Proc::first(ProcId::of(number.max(1)))
 }
 
 /// Tells the rule that a list breaks, and how many elements come back.
@@ -47,8 +48,9 @@ pub fn numbers_refusal(alloc: Global, list: Vec<u32>) -> Result<String, AllocErr
     }
 }
 
-fn push_line(alloc: Global, list: &mut Vec<Line>, proc: ProcId) -> Result<(), AllocError> {
-    let numbers = [u32::from(proc.number()), 4294967295].to_vec(alloc)?;
+/// Adds the line of a process, with its identifier and the greatest number.
+pub fn push_line(alloc: Global, list: &mut Vec<Line>, proc: Proc) -> Result<(), AllocError> {
+    let numbers = [u32::from(proc.id().number()), 4294967295].to_vec(alloc)?;
     if let Ok(numbers) = Numbers::new(numbers) {
         list.push(Line { proc, numbers })?;
     }
@@ -89,13 +91,13 @@ fn taken_certificate(alloc: Global, certificate: Certificate) -> Result<String, 
 }
 
 pub fn certificate_told(alloc: Global, procs: &[u16]) -> Result<String, AllocError> {
-    match Certificate::new(lines(alloc, procs)?) {
+    match Certificate::of(lines(alloc, procs)?) {
         Ok(certificate) => taken_certificate(alloc, certificate),
         Err(refused) => refusal(alloc, &refused),
     }
 }
 
-pub fn procs(alloc: Global, numbers: &[u16]) -> Result<Vec<ProcId>, AllocError> {
+pub fn procs(alloc: Global, numbers: &[u16]) -> Result<Vec<Proc>, AllocError> {
     let mut list = Vec::new(alloc);
     for number in numbers {
         list.push(proc(*number))?;

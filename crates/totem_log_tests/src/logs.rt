@@ -3,12 +3,12 @@ use crate::lists::{proc, procs, refusal};
 use crate::values::push_log;
 use std::alloc::{AllocError, Global};
 use totem_evs::{Ending, Entries, Entry, Fault, Log, Logs, Members, Part, Places, Run, SpecNo};
-use totem_ids::{ConfId, MsgId, Place, ProcId, RingId, Service};
+use totem_ids::{ConfId, MsgId, Place, Proc, ProcId, RingId, Service};
 
 fn ring() -> RingId {
     RingId {
         seq: 4,
-        rep: proc(1),
+        rep: ProcId::of(1),
     }
 }
 
@@ -48,10 +48,10 @@ fn entries(alloc: Global, words: &str) -> Result<Vec<Entry>, AllocError> {
 }
 
 /// Adds a log of these entries, if there are any.
-fn push_log_of(
+pub fn push_log_of(
     alloc: Global,
     logs: &mut Vec<Log>,
-    proc: ProcId,
+    proc: Proc,
     words: &str,
 ) -> Result<(), AllocError> {
     if let Ok(entries) = Entries::new(entries(alloc, words)?) {
@@ -95,7 +95,7 @@ fn taken_run(alloc: Global, run: Run) -> Result<String, AllocError> {
 }
 
 pub fn run_told(alloc: Global, list: Vec<Log>) -> Result<String, AllocError> {
-    match Run::new(list) {
+    match Run::of(list) {
         Ok(run) => taken_run(alloc, run),
         Err(refused) => refusal(alloc, &refused),
     }

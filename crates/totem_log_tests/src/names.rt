@@ -3,7 +3,7 @@ use crate::values::is_told;
 use std::alloc::{AllocError, Global};
 use totem_cert::CertFault;
 use totem_evs::{ListFault, Pending, Refused, RunFault, SpecNo, Waiting, WriteFault};
-use totem_ids::{ConfId, MsgId, ProcId, RingId};
+use totem_ids::{ConfId, MsgId, Proc, ProcId, RingId, Version};
 
 const CERT_FAULTS: [CertFault; 9] = [
     CertFault::Header,
@@ -25,8 +25,13 @@ fn cert_faults_told(alloc: Global) -> Result<String, AllocError> {
     Ok(text)
 }
 
+/// Returns this life of this identifier.
+fn life(id: u16, life: u16) -> Proc {
+    Proc::of(ProcId::of(id.max(1)), life.max(1))
+}
+
 fn run_faults_told(alloc: Global) -> Result<String, AllocError> {
-    let missing = RunFault::MissingLog(ProcId::of(3));
+    let missing = RunFault::MissingLog(life(3, 1).written(Version::One));
     let faults = [
         RunFault::Header,
         RunFault::Word,
@@ -62,13 +67,15 @@ fn refused(fault: ListFault) -> Refused<u8> {
 
 fn texts_told(alloc: Global) -> Result<String, AllocError> {
     format!(in alloc;
-        "{}; {}; {}; {}; {}; {}",
+        "{}; {}; {}; {}; {}; {}; {}; {}",
         CertFault::Order,
-        RunFault::MissingLog(ProcId::of(3)),
+        RunFault::MissingLog(life(3, 1).written(Version::One)),
+        RunFault::MissingLog(life(3, 1).written(Version::Two)),
         RunFault::Word,
         refused(ListFault::Empty),
         refused(ListFault::TooMany(32)),
-        refused(ListFault::NotRising(2))
+        refused(ListFault::NotRising(2)),
+        refused(ListFault::Life(2))
     )
 }
 
@@ -110,7 +117,7 @@ fn ring() -> RingId {
 /// Returns a message of ring 4.1 that this process has not delivered, as pending.
 fn pending(proc: u16, number: u32) -> Pending {
     Pending {
-        proc: ProcId::of(proc.max(1)),
+        proc: life(proc, 1),
         msg: MsgId {
             ring: ring(),
             number: number.max(1),
@@ -121,15 +128,19 @@ fn pending(proc: u16, number: u32) -> Pending {
 /// Returns that process 1 waits for this one.
 fn waiting(other: u16) -> Waiting {
     Waiting {
-        proc: ProcId::of(1),
+        proc: life(1, 1),
         conf: ConfId::Regular(ring()),
-        other: ProcId::of(other.max(1)),
+        other: life(other, 1),
     }
 }
 
 /// Tells the lines of a report for what is pending and for who waits.
 fn unsettled_told(alloc: Global) -> Result<String, AllocError> {
-    format!(in alloc; "{}; {}", pending(3, 1), waiting(2))
+    let later = Pending {
+        proc: life(3, 2),
+        ..pending(3, 1)
+    };
+    format!(in alloc; "{}; {}; {later}", pending(3, 1), waiting(2))
 }
 
 /// Tells whether what is pending and who waits is ordered first by the process, and then by what stands behind it.
@@ -187,8 +198,9 @@ const ROWS: [Row; 7] = [
     Row {
         about: "the texts of faults",
         topic: Topic::Texts,
-        told: "a line whose process is not above the one before; process 3 has no log; a byte that does not fit; \
-            there is none; there are more than 32; the one at index 2 is not above the one before",
+        told: "a line whose process is not above the one before; process 3 has no log; process 3:1 has no log; \
+            a byte that does not fit; there is none; there are more than 32; the one at index 2 is not above the one before; \
+            the one at index 2 has lives other than 1",
     },
     Row {
         about: "specifications have their numbers, and rise",
@@ -198,7 +210,7 @@ const ROWS: [Row; 7] = [
     Row {
         about: "what is unsettled as a report has it",
         topic: Topic::Unsettled,
-        told: "pending 3 4.1#1; waiting 1 r4.1 2",
+        told: "pending 3 4.1#1; waiting 1 r4.1 2; pending 3:2 4.1#1",
     },
     Row {
         about: "what is unsettled is ordered by process first",

@@ -94,7 +94,7 @@ struct Example {
     told: &'static str,
 }
 
-const TEXTS: [Example; 36] = [
+const TEXTS: [Example; 49] = [
     Example {
         text: "totem-run 1\nend\n",
         told: "end end ",
@@ -105,7 +105,7 @@ const TEXTS: [Example; 36] = [
         told: "log 1: fail r4.1; conf t8.1/1 1; fail t8.1/1; failed. end end ",
     },
     Example {
-        text: "totem-run 2\nend\n",
+        text: "totem-run 3\nend\n",
         told: "Header",
     },
     Example {
@@ -173,8 +173,60 @@ const TEXTS: [Example; 36] = [
         told: "TooMany",
     },
     Example {
+        text: "totem-run 2\nlog 1:1\nconf r4.1 1:1\nfail r4.1\nfailed\nlog 1:2\nconf r8.1 1:2\nopen\nend\n",
+        told: "log 1: conf r4.1 1; fail r4.1; failed. log 1:2: conf r8.1 1:2; open. end end ",
+    },
+    Example {
+        text: "totem-run 2\nlog 1\nconf r4.1 1:1\nopen\nend\n",
+        told: "Word",
+    },
+    Example {
+        text: "totem-run 1\nlog 1:1\nconf r4.1 1\nopen\nend\n",
+        told: "Word",
+    },
+    Example {
+        text: "totem-run 2\nlog 1:0\nconf r4.1 1:1\nopen\nend\n",
+        told: "Number",
+    },
+    Example {
+        text: "totem-run 2\nlog 1:65536\nconf r4.1 1:1\nopen\nend\n",
+        told: "Number",
+    },
+    Example {
+        text: "totem-run 2\nlog 2:2\nfail r4.1\nfailed\nlog 2:2\nfail r4.1\nfailed\nend\n",
+        told: "Order",
+    },
+    Example {
+        text: "totem-run 2\nlog 2:1\nfail r4.1\nfailed\nlog 1:2\nfail r4.1\nfailed\nend\n",
+        told: "Order",
+    },
+    Example {
+        text: "totem-run 2\nlog 1:1\nconf r4.1 1:1 1:2\nopen\nend\n",
+        told: "Members",
+    },
+    Example {
+        text: "totem-run 2\nlog 1:1\nconf r4.1 1:1 2:1\nopen\nlog 2:2\nfail r4.1\nfailed\nend\n",
+        told: "MissingLog 2:1",
+    },
+    Example {
         text: CERTIFICATE,
         told: "pos 1 1 2 3;pos 2 1 3; end",
+    },
+    Example {
+        text: "totem-cert 2\npos 1:1 1\npos 1:2 2 3\nend\n",
+        told: "pos 1 1;pos 1:2 2 3; end",
+    },
+    Example {
+        text: "totem-cert 2\npos 1 1\nend\n",
+        told: "Word",
+    },
+    Example {
+        text: "totem-cert 2\npos 1:0 1\nend\n",
+        told: "Number",
+    },
+    Example {
+        text: "totem-cert 2\npos 1:2 1\npos 1:2 2\nend\n",
+        told: "Order",
     },
     Example {
         text: "totem-cert 1\nend\n",
@@ -185,7 +237,7 @@ const TEXTS: [Example; 36] = [
         told: "pos 1 1 2 3;pos 2 1 3; byte 120",
     },
     Example {
-        text: "totem-cert 2\nend\n",
+        text: "totem-cert 3\nend\n",
         told: "Header",
     },
     Example {

@@ -3,11 +3,16 @@ use std::alloc::AllocError;
 use std::process::Abort;
 use totem_cert::Line;
 use totem_evs::{Ending, Log};
-use totem_ids::ProcId;
+use totem_ids::{Proc, WrittenProc};
 
 /// Stops the test if something else was told than was wanted.
 pub fn is_told(rt: &impl Abort, told: &str, wanted: &str, about: &str) {
     assert_eq!(rt; told, wanted, "{about}");
+}
+
+/// A process as the first version writes it that can.
+fn named(proc: Proc) -> WrittenProc {
+    proc.written(proc.first_version())
 }
 
 fn push_numbers(text: &mut String, numbers: &[u32]) -> Result<(), AllocError> {
@@ -20,7 +25,7 @@ fn push_numbers(text: &mut String, numbers: &[u32]) -> Result<(), AllocError> {
 /// Adds each line of a certificate with `;` behind it, or only how many numbers it has if they are more than twenty.
 pub fn push_lines(text: &mut String, lines: &[Line]) -> Result<(), AllocError> {
     for line in lines {
-        write!(text, "pos {}", line.proc)?;
+        write!(text, "pos {}", named(line.proc))?;
         let numbers = line.numbers.as_slice();
         match numbers.len() {
             0..=20 => push_numbers(text, numbers)?,
@@ -31,16 +36,16 @@ pub fn push_lines(text: &mut String, lines: &[Line]) -> Result<(), AllocError> {
 }
 
 /// Adds each process with a space in front.
-pub fn push_processes(text: &mut String, procs: &[ProcId]) -> Result<(), AllocError> {
+pub fn push_processes(text: &mut String, procs: &[Proc]) -> Result<(), AllocError> {
     for proc in procs {
-        write!(text, " {proc}")?;
+        write!(text, " {}", named(*proc))?;
     }
     Ok(())
 }
 
 /// Adds a log's process, its entries and how it ends.
 pub fn push_log(text: &mut String, log: &Log) -> Result<(), AllocError> {
-    write!(text, "log {}: ", log.proc)?;
+    write!(text, "log {}: ", named(log.proc))?;
     for entry in log.entries.as_slice() {
         write!(text, "{entry}; ")?;
     }

@@ -4,10 +4,10 @@ ghost use Rattle.std.specs.Prelude.{◌≡◌, IfOk};
 use crate::state::State;
 use std::alloc::{AllocError, Global};
 use std::marker::Model;
-use totem_evs::{Entry, Members};
+use totem_evs::Entry;
 use totem_ids::{ConfId, ProcId, RingId};
 use totem_packets::{Body, Number, Processes};
-use totem_recover::copies_of;
+use totem_recover::{copies_of, first_members};
 use totem_ring::RingState;
 
 /// A node: a machine over inputs, without clock, network or threads (docs/PROTOCOL.md, "The node"). A step that is
@@ -52,21 +52,21 @@ impl Model for NodeCore {
 impl NodeCore {
     ghost use Rattle.totem_node.specs.Nodes.{new_node};
     ghost use Rattle.totem_node.specs.Replay.{first_change};
-    ghost use Rattle.totem_evs.specs.Members.{IsMembers};
+    ghost use Rattle.totem_recover.specs.FirstLives.{IsRingMembers};
 
     /// Makes a node that starts on this ring, and returns with it the change with which its log begins. The members are
-    /// 1 to 32 processes, strictly rising, and are expected to have `me` among them.
+    /// 1 to 32 processes, strictly rising, and are expected to have `me` among them. In the log each is in its first life.
     pub fn new(
         alloc: Global,
         me: ProcId,
         ring: RingId,
         members: &[ProcId],
     ) -> Result<(NodeCore, Entry), AllocError>
-        requires { IsMembers members.now }
+        requires { IsRingMembers members.now }
         ensures node { IfOk result (λ made. made.0 ≡ new_node me ring members.now) }
         ensures entry { IfOk result (λ made. made.1 ≡ first_change ring members.now) }
     {
-        let change = Entry::Conf(ConfId::Regular(ring), Members::of(members.to_vec(alloc)?));
+        let change = Entry::Conf(ConfId::Regular(ring), first_members(alloc, members)?);
         let node = NodeCore {
             me,
             state: State::Operational,

@@ -4,13 +4,14 @@ use std::alloc::{AllocError, Global};
 use std::fmt;
 use std::fmt::Write;
 use std::test::Fail;
-use totem_evs::{Entry, Members};
+use totem_evs::Entry;
 use totem_ids::{ProcId, RingId, Service};
 use totem_node::{Input, NodeCore, NodeFault, StepOut};
 use totem_packets::{
     Body, CommitMember, CommitMembers, CommitToken, Join, Message, Number, Packet, Payload,
     Processes, Round, TokenSeq,
 };
+use totem_recover::RingMembers;
 use totem_ring::{Act, To, first_token};
 
 fn proc(number: u16) -> ProcId {
@@ -114,12 +115,12 @@ fn input(alloc: Global, word: &str) -> Result<Input, Fail> {
 }
 
 /// The processes from 1 to this one.
-fn first(alloc: Global, last: u16) -> Result<Members, Fail> {
+fn first(alloc: Global, last: u16) -> Result<RingMembers, Fail> {
     let mut list = Vec::new(alloc);
     for value in 0..last {
         list.push(proc(value.saturating_add(1)))?;
     }
-    Ok(Members::new(list)?)
+    Ok(RingMembers::new(list)?)
 }
 
 /// Processes, each with a space in front.
@@ -320,7 +321,7 @@ fn told(alloc: Global, node: &mut NodeCore, change: &Entry, words: &str) -> Resu
 }
 
 /// Tells the life of process 1 on ring 4.1, which has these processes.
-fn life_among(alloc: Global, members: &Members, words: &str) -> Result<String, Fail> {
+fn life_among(alloc: Global, members: &RingMembers, words: &str) -> Result<String, Fail> {
     let (mut node, change) = NodeCore::new(alloc, proc(1), ring(4), members.as_slice())?;
     told(alloc, &mut node, &change, words)
 }

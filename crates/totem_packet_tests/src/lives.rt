@@ -4,8 +4,8 @@ use crate::packet_values::{Case, proc};
 use crate::streams::push_bytes;
 use std::alloc::{AllocError, Global};
 use totem_ids::{
-    Failed, Pieces, Proc, ReadError, Service, Sink, ToWrite, Version, life_fits, life_order,
-    life_spelling, read_process, read_process_to, read_service, service_spelling,
+    Failed, Pieces, Place, Proc, ReadError, Service, Sink, ToWrite, Version, life_fits, life_order,
+    life_spelling, read_place, read_process, read_process_to, read_service, service_spelling,
 };
 
 fn version(number: &str) -> Version {
@@ -75,7 +75,14 @@ fn put_all<S: Sink>(
     pieces.put_service(sink, Service::Agreed)?;
     pieces.put_service(sink, Service::Safe)?;
     pieces.put(sink, b" ")?;
-    pieces.put_place_of(sink, version, process, 5)?;
+    pieces.put_place(
+        sink,
+        version,
+        Place {
+            proc: process,
+            at: 5,
+        },
+    )?;
     pieces.flush(sink)
 }
 
@@ -99,6 +106,7 @@ fn versioned(alloc: Global, kind: &str, words: &str) -> Result<String, AllocErro
     let (number, text) = words.split_once(' ').unwrap_or((words, ""));
     let version = version(number);
     match kind {
+        "place" => told(alloc, read_place(&mut memory(text), version, b' ')),
         "to" => told(alloc, read_process_to(&mut memory(text), version, b' ')),
         "then" => told(alloc, process_then(alloc, version, &mut memory(text))),
         _ => told(alloc, rewritten(alloc, version, &mut memory(text))),
@@ -118,7 +126,7 @@ pub(crate) fn answer(alloc: Global, words: &str) -> Result<String, AllocError> {
     }
 }
 
-pub(crate) const LIVES: [Case; 30] = [
+pub(crate) const LIVES: [Case; 35] = [
     ("new 2 0", "none"),
     ("new 1 1", "1:1 1 1 65537 1:2"),
     ("new 2 65535", "2:65535 2 65535 196607 none"),
@@ -137,6 +145,12 @@ pub(crate) const LIVES: [Case; 30] = [
     ("then 2 2:2;", "2:2 59"),
     ("put 2 1:1 ", "true log 1:1 as 1:1@5"),
     ("put 3 2:2 ", "true log 2:2 as 2:2@5"),
+    // where no version is known, a place is written as in the first version that can write it
+    ("place 2 2:3@5 ", "2:3@5"),
+    ("place 3 2:1@5 ", "2@5"),
+    ("place 1 2@5 ", "2@5"),
+    ("place 1 2:1@5 ", "Text(Word)"),
+    ("place 2 2@5 ", "Text(Word)"),
     // processes that are spelled otherwise
     ("to 2 1 ", "Text(Word)"),
     ("to 2 65536:1 ", "Text(Number)"),

@@ -3,11 +3,11 @@ use crate::packet_values::{Case, proc};
 use std::alloc::{AllocError, Global};
 use std::fmt::Display;
 use totem_ids::{
-    ConfId, Failed, FromRead, MsgId, Place, ProcId, ReadError, RingId, Service, TextFault,
-    conf_fits, conf_order, conf_spelling, message_fits, message_order, message_spelling, next,
-    number, number_spelling, number_to, place_fits, place_order, place_spelling, process_fits,
-    process_spelling, read_conf, read_message, read_place, read_proc, read_ring, ring_fits,
-    ring_order, ring_spelling, word,
+    ConfId, Failed, FromRead, MsgId, Place, Proc, ProcId, ReadError, RingId, Service, TextFault,
+    Version, conf_fits, conf_order, conf_spelling, message_fits, message_order, message_spelling,
+    next, number, number_spelling, number_to, place_fits, place_order, place_spelling,
+    process_fits, process_spelling, read_conf, read_message, read_place, read_proc, read_ring,
+    ring_fits, ring_order, ring_spelling, word,
 };
 
 pub(crate) fn ring(seq: u32, rep: u16) -> RingId {
@@ -33,7 +33,7 @@ pub(crate) fn message(seq: u32, rep: u16, number: u32) -> MsgId {
 
 pub(crate) fn place(number: u16, at: u32) -> Place {
     Place {
-        proc: proc(number),
+        proc: Proc::first(proc(number)),
         at: at.max(1),
     }
 }
@@ -58,7 +58,7 @@ fn made(alloc: Global, text: &str) -> Result<String, AllocError> {
         "process" => written(alloc, ProcId::new(u16::try_from(number).unwrap_or(0))),
         "ring" => written(alloc, RingId::new(number, proc(65535))),
         "message" => written(alloc, MsgId::new(ring(4, 1), number)),
-        _ => written(alloc, Place::new(proc(1), number)),
+        _ => written(alloc, Place::new(Proc::first(proc(1)), number)),
     }
 }
 
@@ -127,8 +127,8 @@ fn message_relation(text: &mut Text) -> Result<bool, ReadError> {
 
 /// Whether the first place is below the second.
 fn place_relation(text: &mut Text) -> Result<bool, ReadError> {
-    let left = read_place(text, b' ')?;
-    Ok(left.is_below(&read_place(text, b' ')?))
+    let left = read_place(text, Version::Two, b' ')?;
+    Ok(left.is_below(&read_place(text, Version::Two, b' ')?))
 }
 
 /// Tells how two names of this kind are related.
@@ -148,7 +148,7 @@ fn read(alloc: Global, kind: &str, text: &mut Text) -> Result<String, AllocError
         "ring" => told(alloc, read_ring(text, b' ')),
         "conf" => told(alloc, read_conf(text, b' ')),
         "message" => told(alloc, read_message(text, b' ')),
-        "place" => told(alloc, read_place(text, b' ')),
+        "place" => told(alloc, read_place(text, Version::One, b' ')),
         "to_nine" => told(alloc, number_to(text, 9, b',')),
         "words" => told(alloc, read_words(alloc, text)),
         _ => related(alloc, kind, text),
@@ -239,8 +239,8 @@ pub(crate) const NAMES: [Case; 62] = [
     ("messages 4.9#3 4.9#4 ", "true"),
     ("messages 4.9#3 5.1#1 ", "true"),
     ("messages 4.9#3 4.9#3 ", "false"),
-    ("places 1@9 2@1 ", "true"),
-    ("places 1@9 1@9 ", "false"),
+    ("places 1:1@9 2:1@1 ", "true"),
+    ("places 1:2@9 1:2@9 ", "false"),
 ];
 
 #[test]
@@ -255,7 +255,7 @@ fn laws_are_called() {
     ring_fits(&ring(4, 1));
     conf_fits(&transitional(8, 1, 12));
     message_fits(&message(4, 1, 7));
-    place_fits(&place(2, 50));
+    place_fits(Version::One, &place(2, 50));
     ring_order();
     conf_order();
     message_order();

@@ -6,7 +6,7 @@ use std::alloc::{AllocError, Global};
 use std::io;
 use std::io::{ErrorKind, Read, Write};
 use totem_ids::{
-    Buffered, ConfId, Failed, FromRead, Fused, Pieces, Sink, Source, ToWrite, read_ring,
+    Buffered, ConfId, Failed, FromRead, Fused, Pieces, Sink, Source, ToWrite, Version, read_ring,
 };
 
 /// Calls a source so many times, and tells each byte, `.` at the end, and `!` where it fails.
@@ -159,7 +159,7 @@ fn put_name<S: Sink>(sink: &mut S, pieces: &mut Pieces, at: u8) -> Result<(), Fa
         1 => pieces.put_conf(sink, &ConfId::Regular(ring(4, 1))),
         2 => pieces.put_conf(sink, &transitional(8, 1, 12)),
         3 => pieces.put_message(sink, message(4294967295, 1, 7)),
-        4 => pieces.put_place(sink, place(65535, 50)),
+        4 => pieces.put_place(sink, Version::One, place(65535, 50)),
         _ => pieces.put_number(sink, 10),
     }
 }

@@ -10,6 +10,8 @@ use Rattle.totem_ids.specs.declared.conf.ConfId.TheVariants.{Regular, Transition
 use Rattle.totem_ids.specs.declared.message.MsgId.{MsgId}
 use Rattle.totem_passes.specs.declared.sending.Sending.{Sending}
 use Rattle.totem_passes.specs.declared.visit.Visit.{Visit}
+use Rattle.totem_evs.proofs.ProcOrder.{exact_proc}
+use Rattle.totem_ids.specs.contracts.life.ProcOrd.TheImpl as life
 use Rattle.totem_ids.specs.contracts.ring.RingIdOrd.TheImpl as ring
 use Rattle.totem_ids.specs.contracts.conf.ConfIdOrd.TheImpl as conf
 use Rattle.totem_ids.specs.contracts.message.MsgIdOrd.TheImpl as message
@@ -55,5 +57,5 @@ abbrev visit_of : ℕ → ConfId → Visit
 visit_of p x = record { proc = p; conf = x }
 
 pub exact_visit : CmpEqualImpliesEq visit.cmp-value.it
-exact_visit v w e = let h = both_equal (nat_cmp v.proc w.proc) (conf.cmp-value.it v.conf w.conf) e in
-    ap (λ (x : ℕ). visit_of x v.conf) (exact_unsigned v.proc w.proc h.0) ∙ ap (visit_of w.proc) (exact_conf v.conf w.conf h.1)
+exact_visit v w e = let h = both_equal (life.cmp-value.it v.proc w.proc) (conf.cmp-value.it v.conf w.conf) e in
+    ap (λ (x : ℕ). visit_of x v.conf) (exact_proc v.proc w.proc h.0) ∙ ap (visit_of w.proc) (exact_conf v.conf w.conf h.1)

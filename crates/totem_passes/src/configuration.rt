@@ -5,7 +5,7 @@ ghost use Rattle.totem_passes.specs.Bad.{IsForeignChange, AreTwoForms};
 ghost use Rattle.totem_passes.specs.Registers.{KnowsRun};
 ghost use Rattle.totem_passes.specs.Forms.{KnowsChange};
 
-use crate::forms::{Forms, same_members};
+use crate::forms::Forms;
 use crate::pairs::{Standing, Test, least_bad};
 use crate::register::enter_run;
 use crate::visit::Visit;
@@ -44,7 +44,7 @@ impl Test for TwoForms<'_> {
         match (first.entry, second.entry) {
             (Entry::Conf(conf, members), Entry::Conf(other, others)) => {
                 let again = first.proc == second.proc && first.at != second.at;
-                conf.is(other) && (again || !same_members(members, others))
+                conf.is(other) && (again || !members.is(others))
             }
             _ => false,
         }

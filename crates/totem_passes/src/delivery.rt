@@ -1,8 +1,8 @@
-use totem_ids::{MsgId, ProcId};
+use totem_ids::{MsgId, Proc};
 
 /// A message, and a process that delivers it.
 #[derive(Clone, Copy, PartialEq, Eq, PartialOrd, Ord)]
 pub struct Delivery {
-    pub proc: ProcId,
+    pub proc: Proc,
     pub message: MsgId,
 }

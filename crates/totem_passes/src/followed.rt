@@ -9,7 +9,7 @@ use crate::visit::Visit;
 use std::alloc::{AllocError, Global};
 use std::collections::{BTreeMap, BTreeSet};
 use totem_evs::Entry;
-use totem_ids::{ConfId, ProcId, RingId};
+use totem_ids::{ConfId, Proc, RingId};
 
 /// Which process changed to which regular configuration, and, for each process and transitional configuration, the ring
 /// of the regular one that it follows there.
@@ -42,7 +42,7 @@ impl Register for Followed {
     fn enter(
         &mut self,
         _alloc: Global,
-        proc: ProcId,
+        proc: Proc,
         log: &[Entry],
         at: usize,
     ) -> Result<(), AllocError> {

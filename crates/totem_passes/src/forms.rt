@@ -1,5 +1,5 @@
 //! Where each process changed to each configuration, and with which members.
-ghost use Rattle.std.specs.Prelude.{◌≡◌, ◌↔◌, ℕ, ◌<◌, List, IsTrue};
+ghost use Rattle.std.specs.Prelude.{◌≡◌, ℕ, ◌<◌, List};
 ghost use Rattle.totem_passes.specs.Forms.{KnowsChange};
 
 use crate::met::{Met, Same};
@@ -7,17 +7,11 @@ use crate::register::Register;
 use crate::visit::Visit;
 use std::alloc::{AllocError, Global};
 use totem_evs::{Entry, Members};
-use totem_ids::{ConfId, Place, ProcId};
-
-pub fn same_members(members: &Members, others: &Members) -> bool
-    ensures { IsTrue result ↔ (members.now ≡ others.now) }
-{
-    members.as_slice() == others.as_slice()
-}
+use totem_ids::{ConfId, Place, Proc};
 
 impl Same for Members {
     fn is_same(&self, other: &Members) -> bool {
-        same_members(self, other)
+        self.is(other)
     }
 }
 
@@ -51,7 +45,7 @@ impl Register for Forms {
     fn enter(
         &mut self,
         alloc: Global,
-        proc: ProcId,
+        proc: Proc,
         log: &[Entry],
         at: usize,
     ) -> Result<(), AllocError> {

@@ -13,7 +13,7 @@ use crate::register::enter_run;
 use crate::visit::Visit;
 use std::alloc::{AllocError, Global};
 use totem_evs::{Entry, Log, Run};
-use totem_ids::{ConfId, MsgId, ProcId, RingId};
+use totem_ids::{ConfId, MsgId, Proc, RingId};
 use totem_table::{Row, Table};
 
 /// A send in the regular configuration of a ring.
@@ -46,13 +46,7 @@ fn note(sends: &mut [Option<KnownSend>], number: usize, send: KnownSend)
 }
 
 /// Notes what this process sends, each under the number of its entry.
-fn note_log(
-    run: &Run,
-    sends: &mut [Option<KnownSend>],
-    proc: ProcId,
-    entries: &[Entry],
-    row: &[u32],
-)
+fn note_log(run: &Run, sends: &mut [Option<KnownSend>], proc: Proc, entries: &[Entry], row: &[u32])
     requires known { AreKnownSends run.now.logs sends.old }
     requires log { entries.now ≡ log_of run.now.logs proc }
     ensures { AreKnownSends run.now.logs sends.new }
@@ -123,7 +117,7 @@ fn is_known(
     run: &Run,
     sends: &[Option<KnownSend>],
     followed: &Followed,
-    proc: ProcId,
+    proc: Proc,
     number: u32,
     message: &MsgId,
     conf: &ConfId,
@@ -149,7 +143,7 @@ fn entry_is_known(
     run: &Run,
     sends: &[Option<KnownSend>],
     followed: &Followed,
-    proc: ProcId,
+    proc: Proc,
     number: u32,
     entry: &Entry,
 ) -> bool
@@ -170,7 +164,7 @@ fn log_is_known(
     run: &Run,
     sends: &[Option<KnownSend>],
     followed: &Followed,
-    proc: ProcId,
+    proc: Proc,
     log: &[Entry],
     row: &[u32],
 ) -> bool

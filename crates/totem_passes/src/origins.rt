@@ -6,7 +6,7 @@ use crate::register::Register;
 use crate::turn::turn_at;
 use std::alloc::{AllocError, Global};
 use totem_evs::Entry;
-use totem_ids::{ConfId, ProcId, RingId};
+use totem_ids::{ConfId, Proc, RingId};
 
 impl Same for RingId {
     fn is_same(&self, other: &RingId) -> bool {
@@ -41,7 +41,7 @@ impl Register for Origins {
     fn enter(
         &mut self,
         _alloc: Global,
-        _proc: ProcId,
+        _proc: Proc,
         log: &[Entry],
         at: usize,
     ) -> Result<(), AllocError> {

@@ -11,12 +11,12 @@ ghost use Rattle.totem_passes.specs.Pairs.{IsOne, IsOneOrTwo};
 use crate::search::{Relation, least};
 use std::alloc::{AllocError, Global};
 use totem_evs::{Entry, Places, Run};
-use totem_ids::{Place, ProcId};
+use totem_ids::{Place, Proc};
 
 /// An entry, with the process and the index at which it stands.
 #[derive(Clone, Copy)]
 pub struct Standing<'a> {
-    pub proc: ProcId,
+    pub proc: Proc,
     pub at: usize,
     pub entry: &'a Entry,
 }
@@ -60,7 +60,7 @@ impl<T: Test> Relation for Partners<'_, '_, T> {
     fn rest(
         &self,
         alloc: Global,
-        proc: ProcId,
+        proc: Proc,
         log: &[Entry],
         at: usize,
     ) -> Result<Option<Vec<Place>>, AllocError> {
@@ -87,7 +87,7 @@ impl<T: Test> Relation for OneOrTwo<'_, T> {
     fn rest(
         &self,
         alloc: Global,
-        proc: ProcId,
+        proc: Proc,
         log: &[Entry],
         at: usize,
     ) -> Result<Option<Vec<Place>>, AllocError> {

@@ -6,7 +6,7 @@ ghost use Rattle.totem_passes.specs.Registers.{Keeps, StaysSound, KnowsLog, Know
 
 use std::alloc::{AllocError, Global};
 use totem_evs::{Entry, Run};
-use totem_ids::ProcId;
+use totem_ids::Proc;
 
 /// Keeps something of the entries of a run.
 pub trait Register {
@@ -21,7 +21,7 @@ pub trait Register {
     fn enter(
         &mut self,
         alloc: Global,
-        proc: ProcId,
+        proc: Proc,
         log: &[Entry],
         at: usize,
     ) -> Result<(), AllocError>
@@ -36,7 +36,7 @@ pub trait Register {
 fn enter_log<R: Register>(
     register: &mut R,
     alloc: Global,
-    proc: ProcId,
+    proc: Proc,
     log: &[Entry],
 ) -> Result<(), AllocError>
     requires few { length log.now ≤ 1000000 }

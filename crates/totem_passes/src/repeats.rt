@@ -7,7 +7,7 @@ use crate::met::{Met, Same};
 use crate::register::Register;
 use std::alloc::{AllocError, Global};
 use totem_evs::Entry;
-use totem_ids::{MsgId, Place, ProcId};
+use totem_ids::{MsgId, Place, Proc};
 
 impl Same for Place {
     fn is_same(&self, other: &Place) -> bool {
@@ -45,7 +45,7 @@ impl Register for Repeats {
     fn enter(
         &mut self,
         _alloc: Global,
-        proc: ProcId,
+        proc: Proc,
         log: &[Entry],
         at: usize,
     ) -> Result<(), AllocError> {

@@ -7,7 +7,7 @@ ghost use Rattle.totem_passes.specs.Search.{NoneFrom, IsLeastFrom, NoneInLog, Is
 
 use std::alloc::{AllocError, Global};
 use totem_evs::{Entry, Run};
-use totem_ids::{Place, ProcId};
+use totem_ids::{Place, Proc};
 
 /// A relation on lists of events of one run.
 pub trait Relation {
@@ -21,7 +21,7 @@ pub trait Relation {
     fn rest(
         &self,
         alloc: Global,
-        proc: ProcId,
+        proc: Proc,
         log: &[Entry],
         at: usize,
     ) -> Result<Option<Vec<Place>>, AllocError>
@@ -43,7 +43,7 @@ pub fn begin_with(first: Place, mut rest: Vec<Place>) -> Result<Vec<Place>, Allo
 fn least_in<R: Relation>(
     relation: &R,
     alloc: Global,
-    proc: ProcId,
+    proc: Proc,
     log: &[Entry],
 ) -> Result<Option<Vec<Place>>, AllocError>
     requires log { log.now ≡ log_of (R.of relation.now) proc }

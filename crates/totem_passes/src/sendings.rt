@@ -8,7 +8,7 @@ use crate::sending::Sending;
 use std::alloc::{AllocError, Global};
 use std::collections::BTreeSet;
 use totem_evs::Entry;
-use totem_ids::{ConfId, ProcId};
+use totem_ids::{ConfId, Proc};
 
 /// The sends in regular configurations: each message, with the ring.
 #[derive(Drop)]
@@ -36,7 +36,7 @@ impl Register for Sendings {
     fn enter(
         &mut self,
         _alloc: Global,
-        _proc: ProcId,
+        _proc: Proc,
         log: &[Entry],
         at: usize,
     ) -> Result<(), AllocError> {

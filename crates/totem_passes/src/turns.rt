@@ -14,7 +14,7 @@ use crate::search::{Relation, begin_with, least};
 use crate::turn::{is_wrong, turn_at};
 use std::alloc::{AllocError, Global};
 use totem_evs::{Entry, Places, Run, SpecNo};
-use totem_ids::{ConfId, Place, ProcId, RingId};
+use totem_ids::{ConfId, Place, Proc, RingId};
 
 /// Returns whether a change stands before this index. It looks at the nearest entries first, so asking it for all
 /// changes of a log that has one takes no more than one walk along the log.
@@ -55,7 +55,7 @@ fn is_of_other_ring(conf: &ConfId, ring: &RingId) -> bool
 #[derive(Clone, Copy)]
 struct OtherOrigins<'r, 'c> {
     run: &'r Run,
-    proc: ProcId,
+    proc: Proc,
     ring: RingId,
     conf: &'c ConfId,
 }
@@ -68,11 +68,11 @@ impl Relation for OtherOrigins<'_, '_> {
     fn rest(
         &self,
         alloc: Global,
-        proc: ProcId,
+        proc: Proc,
         log: &[Entry],
         at: usize,
     ) -> Result<Option<Vec<Place>>, AllocError> {
-        if proc.number() <= self.proc.number() {
+        if proc.rank() <= self.proc.rank() {
             return Ok(None);
         }
         let Some(turn) = turn_at(log, at) else {
@@ -108,7 +108,7 @@ impl Relation for Turns<'_> {
     fn rest(
         &self,
         alloc: Global,
-        proc: ProcId,
+        proc: Proc,
         log: &[Entry],
         at: usize,
     ) -> Result<Option<Vec<Place>>, AllocError> {

@@ -19,7 +19,7 @@ use crate::sendings::Sendings;
 use crate::visit::Visit;
 use std::alloc::{AllocError, Global};
 use totem_evs::{Entry, Places, Run, SpecNo};
-use totem_ids::{ConfId, MsgId, Place, ProcId, RingId};
+use totem_ids::{ConfId, MsgId, Place, Proc, RingId};
 use totem_table::Table;
 
 /// Looks for the sends for which one delivery may stand.
@@ -52,7 +52,7 @@ impl Relation for Sends<'_, '_, '_, '_> {
     fn rest(
         &self,
         alloc: Global,
-        _proc: ProcId,
+        _proc: Proc,
         log: &[Entry],
         at: usize,
     ) -> Result<Option<Vec<Place>>, AllocError> {
@@ -105,7 +105,7 @@ impl Unsent<'_> {
     }
 
     /// Returns `true` only if what this process delivers in `conf` was sent for it: a quick test, which spares a search.
-    fn is_sent(&self, proc: ProcId, message: MsgId, conf: &ConfId) -> bool
+    fn is_sent(&self, proc: Proc, message: MsgId, conf: &ConfId) -> bool
         ensures { OnTrue result (WasSentTo self.now.run.now.logs (log_of self.now.run.now.logs proc) message conf.now) }
     {
         match conf {
@@ -129,7 +129,7 @@ impl Relation for Unsent<'_> {
     fn rest(
         &self,
         alloc: Global,
-        proc: ProcId,
+        proc: Proc,
         log: &[Entry],
         at: usize,
     ) -> Result<Option<Vec<Place>>, AllocError> {

@@ -1,8 +1,8 @@
-use totem_ids::{ConfId, ProcId};
+use totem_ids::{ConfId, Proc};
 
 /// A configuration, and a process that changes to it.
 #[derive(Clone, Copy, Debug, PartialEq, Eq, PartialOrd, Ord)]
 pub struct Visit {
-    pub proc: ProcId,
+    pub proc: Proc,
     pub conf: ConfId,
 }

@@ -1,3 +1,4 @@
+pub mod FirstLives
 pub mod Leaving
 pub mod Together
 pub mod OwedOnes

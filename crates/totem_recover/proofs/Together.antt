@@ -5,6 +5,7 @@ use Rattle.std.proofs.lemmas.Bool.Decides.{nat_tests}
 use Rattle.std.proofs.lemmas.List.Elements.{filter_map-append}
 use Rattle.std.specs.Prelude.{slice_index}
 use Rattle.totem_ids.specs.Names.{RingName}
+use Rattle.totem_ids.specs.Ranks.{id_of}
 use Rattle.totem_ids.specs.declared.conf.ConfId.TheVariants.{Regular, Transitional}
 use Rattle.totem_evs.specs.declared.entry.Entry.{Entry}
 use Rattle.totem_evs.specs.declared.entry.Entry.TheVariants.{Conf}
@@ -120,7 +121,7 @@ catches_up at low high safe_to (e ∷ es) rises begins le whole safe =
 -- the finish by what it is made of: the old and the new ring, the new members, T, O, the regular part and its last number
 written : RingName → RingName → List ℕ → List ℕ → List ℕ → List message.Message → ℕ → Held → List Entry
 written old ring members transitional obliged regular last held =
-    let between = Transitional ring (slice_index transitional 0) in
+    let between = Transitional ring (id_of (slice_index transitional 0)) in
     deliveries (Regular old) regular
     ++ Conf between transitional ∷ []
     ++ deliveries between (rest_from obliged last (held_above last held))

@@ -2,6 +2,7 @@
 use Rattle.std.specs.Prelude.{ℕ, ◌==◌, ◌&&◌, ◌≤◌, List, [], ◌∷◌, ◌++◌, length, map, filter, fold, take, drop, min, max, Bool, true, false, if◌then◌else◌, nat_lt, nat_le, IsTrue, Option, None, Some}
 use Rattle.std.specs.List.{filter_map}
 use Rattle.totem_ids.specs.Names.{RingName}
+use Rattle.totem_ids.specs.Ranks.{id_of}
 use Rattle.totem_packets.specs.declared.commit.CommitToken.{CommitToken}
 use Rattle.totem_packets.specs.declared.commit_member.CommitMember.{CommitMember}
 use Rattle.totem_packets.specs.declared.commit_member.Report.{Report}
@@ -15,6 +16,7 @@ use Rattle.totem_packets.specs.Sets.{has}
 use Rattle.totem_ring.specs.declared.outcome.To.{To}
 use Rattle.totem_ring.specs.declared.outcome.To.TheVariants.{All, One}
 use Rattle.totem_ring.specs.Rings.{Ring, Held, aru_of}
+use Rattle.totem_recover.specs.FirstLives.{first_ranks}
 
 -- a member on its way from its old ring to a new one
 pub record Leaving : Type 0 where
@@ -62,8 +64,8 @@ abbrev pub new_recovery : ℕ → Ring → CommitToken → Leaving
 new_recovery me prev token = record {
   me = me;
   ring = token.ring;
-  members = processes_of token.members;
-  transitional = transitional_set prev.ring token.members;
+  members = first_ranks (processes_of token.members);
+  transitional = first_ranks (transitional_set prev.ring token.members);
   high = greatest_delivered prev.ring token.members;
   obliged = obligation_union prev.ring token.members;
   list = list_to_send (least_aru prev.ring token.members) prev.held;
@@ -118,7 +120,7 @@ greatest_of_all (Some n ∷ ns) = at_least n (greatest_of_all ns)
 
 -- the number of the last mark, if every member's is held
 abbrev pub last_mark : Leaving → Ring → Option ℕ
-last_mark r ring = greatest_of_all (map (mark_of ring.held) r.members)
+last_mark r ring = greatest_of_all (map (λ p. mark_of ring.held (id_of p)) r.members)
 
 -- this number is there, and is at most top
 abbrev pub is_reached : Option ℕ → ℕ → Bool

@@ -3,6 +3,7 @@ use Rattle.std.specs.Prelude.{ℕ, ◌+◌, ◌==◌, List, [], ◌∷◌, ◌++
 use Rattle.std.specs.List.{filter_map}
 use Rattle.totem_ids.specs.declared.conf.ConfId.{ConfId}
 use Rattle.totem_ids.specs.declared.conf.ConfId.TheVariants.{Regular, Transitional}
+use Rattle.totem_ids.specs.Ranks.{id_of}
 use Rattle.totem_packets.specs.declared.message.Body.{Body}
 use Rattle.totem_packets.specs.declared.message.Body.TheVariants.{App, Old, Mark}
 use Rattle.totem_packets.specs.declared.message.Message as message
@@ -37,9 +38,9 @@ abbrev pub rest_from : List ℕ → ℕ → Held → List message.Message
 rest_from obliged last [] = []
 rest_from obliged last (e ∷ es) = if e.0 == last + 1 then e.1 ∷ rest_from obliged (last + 1) es else owed_of obliged (e ∷ es)
 
--- the transitional configuration: of the new ring, by the least of T
+-- the transitional configuration: of the new ring, by the least identifier of T
 abbrev pub between_rings : Leaving → ConfId
-between_rings r = Transitional r.ring (slice_index r.transitional 0)
+between_rings r = Transitional r.ring (id_of (slice_index r.transitional 0))
 
 abbrev pub finish : Leaving → Ring → List Entry
 finish r old =

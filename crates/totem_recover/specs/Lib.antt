@@ -1,3 +1,4 @@
+pub mod FirstLives
 pub mod Exchange
 pub mod Finish
 pub mod Together

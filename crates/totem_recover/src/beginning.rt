@@ -3,7 +3,9 @@ ghost use Rattle.std.specs.Prelude.{◌≡◌, ◌↔◌, ◌≤◌, IsTrue, IfO
 ghost use Rattle.totem_packets.specs.OldRings.{processes_of, transitional_set, obligation_union};
 ghost use Rattle.totem_packets.specs.Sets.{has};
 ghost use Rattle.totem_recover.specs.Exchange.{IsReady, reported_obligation};
+ghost use Rattle.totem_recover.specs.FirstLives.{first_ranks};
 
+use crate::ring_members::first_members;
 use std::alloc::{AllocError, Global};
 use totem_evs::Members;
 use totem_ids::{ProcId, RingId};
@@ -22,17 +24,16 @@ pub fn is_ready(me: ProcId, prev: &RingState, token: &CommitToken) -> bool
     token.members.is_from(&old, me) && token.members.obligation_len(&old) <= MOST
 }
 
-/// Returns the members of the new ring.
+/// Returns the members of the new ring, each in its first life.
 pub(crate) fn members_of(alloc: Global, members: &CommitMembers) -> Result<Members, AllocError>
-    ensures { IfOk result (λ m. m ≡ processes_of members.now) }
+    ensures { IfOk result (λ m. m ≡ first_ranks (processes_of members.now)) }
 {
     let procs = members.processes(alloc)?;
     let _rule = members.as_slice();
-    let _procs = procs.as_slice();
-    Ok(Members::of(procs.into_vec()))
+    first_members(alloc, procs.as_slice())
 }
 
-/// Returns the transitional set: the members that come from the ring `old`, as `me` does.
+/// Returns the transitional set: the members that come from the ring `old`, as `me` does, each in its first life.
 pub(crate) fn transitional_of(
     alloc: Global,
     old: &RingId,
@@ -40,11 +41,10 @@ pub(crate) fn transitional_of(
     me: ProcId,
 ) -> Result<Members, AllocError>
     requires { IsTrue (has (transitional_set old.now members.now) me) }
-    ensures { IfOk result (λ m. m ≡ transitional_set old.now members.now) }
+    ensures { IfOk result (λ m. m ≡ first_ranks (transitional_set old.now members.now)) }
 {
     let procs = members.transitional_set(alloc, old)?;
-    let _procs = procs.as_slice();
-    Ok(Members::of(procs.into_vec()))
+    first_members(alloc, procs.as_slice())
 }
 
 /// Returns the obligation union: the processes to which the members from the ring `old` owe the delivery of their messages.

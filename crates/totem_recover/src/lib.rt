@@ -6,10 +6,12 @@ mod finishing;
 mod laws;
 mod marks;
 mod recovery;
+mod ring_members;
 mod sending;
 
 pub use beginning::is_ready;
 pub use finishing::deliver;
 pub use laws::{a_member_owes_itself, members_leave_alike, owed_are_delivered};
 pub use recovery::Recovery;
+pub use ring_members::{RingMembers, first_members};
 pub use sending::copies_of;

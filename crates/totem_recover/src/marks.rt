@@ -1,9 +1,10 @@
 //! Marks: each says that its sender has sent all its old messages (docs/PROTOCOL.md, "Recovery").
 ghost use Rattle.std.specs.Prelude.{◌≡◌, map};
+ghost use Rattle.totem_ids.specs.Ranks.{id_of};
 ghost use Rattle.totem_recover.specs.Exchange.{is_mark, mark_of, greatest_of_all, is_reached};
 
 use std::collections::BTreeMap;
-use totem_ids::ProcId;
+use totem_ids::{Proc, ProcId};
 use totem_packets::{Body, Message};
 
 fn is_mark(body: &Body) -> bool
@@ -29,12 +30,12 @@ fn mark_of(held: &BTreeMap<u32, Message>, proc: ProcId) -> Option<u32>
 }
 
 /// Returns the number of the last of the members' marks, or `None` unless a mark of each member is held.
-pub(crate) fn last_mark(members: &[ProcId], held: &BTreeMap<u32, Message>) -> Option<u32>
-    ensures { result ≡ greatest_of_all (map (mark_of held.now.entries) members.now) }
+pub(crate) fn last_mark(members: &[Proc], held: &BTreeMap<u32, Message>) -> Option<u32>
+    ensures { result ≡ greatest_of_all (map (λ p. mark_of held.now.entries (id_of p)) members.now) }
 {
     let mut last = 0;
     for proc in members {
-        last = mark_of(held, *proc)?.max(last);
+        last = mark_of(held, proc.id())?.max(last);
     }
     Some(last)
 }

@@ -161,7 +161,7 @@ impl Recovery {
     {
         let between = ConfId::Transitional {
             next: self.ring,
-            least: self.transitional.as_slice()[0],
+            least: self.transitional.as_slice()[0].id(),
         };
         let mut entries = Vec::new(alloc);
         let old = ConfId::Regular(prev.ring());

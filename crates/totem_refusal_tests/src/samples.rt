@@ -6,10 +6,11 @@ use std::alloc::{AllocError, Global};
 use std::collections::VecDeque;
 use std::fmt;
 use std::test::Fail;
-use totem_evs::{Entry, Members};
+use totem_evs::Entry;
 use totem_ids::{ProcId, RingId, Service};
 use totem_node::Input;
 use totem_packets::Packet;
+use totem_recover::RingMembers;
 
 /// Packets on their way, each with its receiver.
 pub type Queue = VecDeque<(ProcId, Packet)>;
@@ -61,8 +62,8 @@ pub fn procs(alloc: Global, last: u16) -> Result<Vec<ProcId>, AllocError> {
 }
 
 /// Returns them as members.
-pub fn first(alloc: Global, last: u16) -> Result<Members, Fail> {
-    Ok(Members::new(procs(alloc, last)?)?)
+pub fn first(alloc: Global, last: u16) -> Result<RingMembers, Fail> {
+    Ok(RingMembers::new(procs(alloc, last)?)?)
 }
 
 /// A client's message `x`.

@@ -1,5 +1,5 @@
 //! Rings, messages and commit tokens for the tests, and entries as lines of text.
-use crate::values::{part, proc, procs, push, push_procs, say, set, state};
+use crate::values::{part, proc, procs, push, push_lives, say, set, state};
 use std::alloc::{AllocError, Global};
 use std::test::Fail;
 use totem_evs::Entry;
@@ -136,7 +136,7 @@ fn push_line(alloc: Global, text: &mut String, entry: &Entry) -> Result<(), Allo
     match entry {
         Entry::Conf(conf, members) => {
             push(text, format!(in alloc; "conf {conf}"))?;
-            push_procs(alloc, text, members.as_slice())
+            push_lives(alloc, text, members.as_slice())
         }
         Entry::Deliver(message, conf) => push(text, format!(in alloc; "dlv {conf} {message}")),
         Entry::Send(message, conf, service) => {

@@ -2,7 +2,7 @@
 use bytes::Bytes;
 use std::alloc::{AllocError, Global};
 use std::fmt::Debug;
-use totem_ids::{ProcId, RingId, Service};
+use totem_ids::{Proc, ProcId, RingId, Service};
 use totem_packets::{Body, Payload, Processes};
 use totem_ring::RingState;
 
@@ -83,6 +83,14 @@ pub fn push_number(alloc: Global, text: &mut String, number: u64) -> Result<(), 
 pub fn push_procs(alloc: Global, text: &mut String, procs: &[ProcId]) -> Result<(), AllocError> {
     for proc in procs {
         push_number(alloc, text, u64::from(proc.number()))?;
+    }
+    Ok(())
+}
+
+/// Adds these processes, each by its identifier alone.
+pub fn push_lives(alloc: Global, text: &mut String, procs: &[Proc]) -> Result<(), AllocError> {
+    for proc in procs {
+        push_number(alloc, text, u64::from(proc.id().number()))?;
     }
     Ok(())
 }

@@ -1,7 +1,8 @@
 -- A script, line by line.
 use Rattle.std.proofs.Common.{◌≡◌, ℕ, zero, suc, ◌≤◌, ◌+◌, ◌==◌, List, [], ◌∷◌, length, drop, map, Bool, true, false, cond, Ok, Err, refl, ap, ◌∙◌, arith}
 use Rattle.std.proofs.lemmas.List.{length-drop}
-use Rattle.totem_evs.specs.declared.run.Run.{Run}
+use Rattle.totem_evs.specs.RunRecord.{RunRecord}
+use Rattle.totem_evs.specs.Lives.{IsFirstVersion}
 use Rattle.totem_script.specs.declared.command.Command.{Command}
 use Rattle.totem_script.specs.declared.fault.LineFault.{LineFault}
 use Rattle.totem_script.specs.declared.script_fault.ScriptFault.{ScriptFault}
@@ -15,6 +16,7 @@ use Rattle.totem_script.specs.ScriptFaults.{of_line}
 use Rattle.totem_script.specs.Actors.{log_of}
 use Rattle.totem_script.specs.Scenes.{Scene, empty_scene, done}
 use Rattle.totem_script.specs.Simulation.{Texts, Told, ends, followed, judged, closing, play, all_played, simulate, FailsAt, first_judged, first_headed}
+use Rattle.totem_script.proofs.Versions.{version_is}
 
 -- ---- A line
 
@@ -127,8 +129,8 @@ module _ (script : List ℕ) (lines : Texts) (is : lines ≡ lines_of 65536 scri
     pub play_fails : (fault : ScriptFault) → FailsAt fault (play 2 empty_scene rest) → FailsAt fault (simulate script)
     play_fails fault fails = fails_whole fault (record { is = λ other. a_head lines rest head behind ∙ fails.is other })
 
-    pub play_ends : (s : Scene) (run : Run) → play 2 empty_scene rest ≡ Ok s → run.logs ≡ map log_of s.actors → simulate script ≡ Ok run
+    pub play_ends : (s : Scene) (run : RunRecord) → play 2 empty_scene rest ≡ Ok s → run.logs ≡ map log_of s.actors → IsFirstVersion run.version run.logs → simulate script ≡ Ok run
     unfolding simulate
-    play_ends s run played logs =
+    play_ends s run played logs version =
         let whole = rw is at (a_head lines rest head behind ∙ played) in
-        rw (whole, ← logs)
+        rw (whole, ← logs, ← version_is run.version run.logs version) refl

@@ -7,4 +7,5 @@ pub mod Casting
 pub mod Rings
 pub mod Sent
 pub mod Happening
+pub mod Versions
 pub mod Judging

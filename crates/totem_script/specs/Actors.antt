@@ -6,6 +6,7 @@ use Rattle.totem_evs.specs.declared.entry.Entry.TheVariants.{Conf, Send, Deliver
 use Rattle.totem_evs.specs.declared.ending.Ending.TheVariants.{Standing, Failed}
 use Rattle.totem_evs.specs.LogRecord.{LogRecord}
 use Rattle.totem_ring.specs.Visits.{Sending}
+use Rattle.totem_recover.specs.FirstLives.{first_rank}
 use Rattle.totem_node.specs.declared.input.Input.{Input}
 use Rattle.totem_node.specs.Nodes.{Node, Stepped, new_node}
 use Rattle.totem_node.specs.Outcomes.{Outcome}
@@ -51,9 +52,9 @@ ends_in_failure [] = false
 ends_in_failure (e ∷ []) = is_failure e
 ends_in_failure (e ∷ f ∷ entries) = ends_in_failure (f ∷ entries)
 
--- the log of a process that failed ends as failed, any other is open
+-- the log of a process that failed ends as failed, any other is open; each process is in its first life
 abbrev pub log_of : Actor → LogRecord
-log_of a = record { proc = a.proc; entries = a.entries; ending = if ends_in_failure a.entries then Failed else Standing }
+log_of a = record { proc = first_rank a.proc; entries = a.entries; ending = if ends_in_failure a.entries then Failed else Standing }
 
 -- the answer of a call in which a process takes an input
 abbrev pub IsTaken : {Z : Type 0} → Judged (Vec Sending Z) → Actor → Judged Acted → Type 0

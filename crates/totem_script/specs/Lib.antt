@@ -9,4 +9,5 @@ pub mod Lines
 pub mod Actors
 pub mod Casts
 pub mod Scenes
+pub mod Versions
 pub mod Simulation

@@ -1,7 +1,7 @@
 -- The run that a script makes, or what is wrong with it and where (docs/PROTOCOL.md, "Scripts").
 use Rattle.std.specs.Prelude.{◌≡◌, ◌≢◌, ℕ, ◌+◌, List, [], ◌∷◌, map, Bool, true, false, if◌then◌else◌, Result, Ok, Err, codes}
 use Rattle.std.specs.Str.{bytes_eq}
-use Rattle.totem_evs.specs.declared.run.Run.{Run}
+use Rattle.totem_evs.specs.RunRecord.{RunRecord}
 use Rattle.totem_script.specs.declared.command.Command.{Command}
 use Rattle.totem_script.specs.declared.command.Command.TheVariants as command
 use Rattle.totem_script.specs.declared.script_fault.ScriptFault.{ScriptFault}
@@ -11,6 +11,7 @@ use Rattle.totem_script.specs.Lines.{lines_of}
 use Rattle.totem_script.specs.Judged.{Judged, Fails, by_line, ◌>>=◌}
 use Rattle.totem_script.specs.Actors.{log_of}
 use Rattle.totem_script.specs.Scenes.{Scene, empty_scene, done}
+use Rattle.totem_script.specs.Versions.{run_of}
 
 -- a script's lines: of each its text, or what is wrong with that
 abbrev pub Texts : Type 0
@@ -80,9 +81,10 @@ unfoldable pub all_played : Texts → Told Scene
 all_played [] = Err (record { kind = Truncated; line = 1 })
 all_played (line ∷ lines) = and_then (at_line 1 (headed line)) (λ scene. play 2 scene lines)
 
--- the run that a script makes: a log of each of its processes, or the fault of the first line that has one
-unfoldable pub simulate : List ℕ → Told Run
-simulate script = and_then (all_played (lines_of 65536 script)) (λ scene. Ok (record { logs = map log_of scene.actors }))
+-- the run that a script makes: a log of each of its processes, in the first version whose texts can write them; or the
+-- fault of the first line that has one
+unfoldable pub simulate : List ℕ → Told RunRecord
+simulate script = and_then (all_played (lines_of 65536 script)) (λ scene. Ok (run_of (map log_of scene.actors)))
 
 -- ---- Answers
 

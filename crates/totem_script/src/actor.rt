@@ -1,13 +1,13 @@
 //! A process of a script.
 ghost use Rattle.std.specs.Prelude.{◌≡◌, IfOk};
-ghost use Rattle.totem_evs.specs.Members.{IsMembers};
+ghost use Rattle.totem_recover.specs.FirstLives.{IsRingMembers};
 ghost use Rattle.totem_script.specs.Actors.{new_actor, takes, log_of, IsTaken};
 
 use crate::script_fault::ScriptFaultKind;
 use std::alloc::{AllocError, Global};
 use std::marker::Model;
 use totem_evs::{Entries, Entry, Log};
-use totem_ids::{ProcId, RingId};
+use totem_ids::{Proc, ProcId, RingId};
 use totem_node::{Input, NodeCore, NodeFault};
 use totem_packets::Packet;
 use totem_ring::To;
@@ -42,7 +42,7 @@ impl ActorState {
         ring: RingId,
         members: &[ProcId],
     ) -> Result<ActorState, AllocError>
-        requires { IsMembers members.now }
+        requires { IsRingMembers members.now }
         ensures { IfOk result (λ a. a ≡ new_actor proc ring members.now) }
     {
         let (node, change) = NodeCore::new(alloc, proc, ring, members)?;
@@ -87,7 +87,7 @@ impl ActorState {
         Ok(out.packets)
     }
 
-    /// Returns the log of what the node has written.
+    /// Returns the log of what the node has written, in the first life of its process.
     pub fn into_log(self) -> Log
         ensures { result ≡ log_of self }
     {
@@ -97,7 +97,7 @@ impl ActorState {
             entries,
         } = self;
         match Entries::new(entries) {
-            Ok(entries) => Log::new(proc, entries),
+            Ok(entries) => Log::new(Proc::first(proc), entries),
             Err(_) => unreachable!(),
         }
     }

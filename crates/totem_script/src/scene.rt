@@ -56,6 +56,7 @@ fn makes_ring(command: &Command) -> bool
 
 impl SceneState {
     ghost use Rattle.std.specs.Prelude.{map, IfOk};
+    ghost use Rattle.totem_evs.specs.Lives.{IsFirstVersion};
     ghost use Rattle.totem_script.specs.Actors.{log_of};
 
     /// Returns the scene of a script that has not begun.
@@ -138,9 +139,10 @@ impl SceneState {
         self.act(alloc, command)
     }
 
-    /// Returns the run that the processes have recorded.
+    /// Returns the run that the processes have recorded, in the first version whose texts can write it.
     pub fn into_run(self, alloc: Global) -> Result<Run, AllocError>
-        ensures { IfOk result (λ run. run.logs ≡ map log_of self.actors) }
+        ensures logs { IfOk result (λ run. run.logs ≡ map log_of self.actors) }
+        ensures version { IfOk result (λ run. IsFirstVersion run.version run.logs) }
     {
         let SceneState {
             actors,

@@ -1,4 +1,5 @@
 -- Names that compare as equal are the same.
+use Rattle.totem_evs.proofs.ProcOrder.{exact_proc}
 use Rattle.std.proofs.Common.{◌≡◌, ℕ, refl, ap, ◌∙◌}
 use Rattle.std.specs.declared.cmp.Ordering.{Ordering}
 use Rattle.std.specs.declared.cmp.Ordering.TheVariants.{Less, Equal, Greater}
@@ -20,7 +21,7 @@ same_ring : (c d : RingId) → c.seq ≡ d.seq → c.rep ≡ d.rep → c ≡ d
 same_ring c d e k = ap (λ (x : ℕ). ring_of x c.rep) e ∙ ap (ring_of d.seq) k
 
 pub exact_process : CmpEqualImpliesEq process_order
-exact_process p q e = exact_unsigned p q e
+exact_process p q e = exact_proc p q e
 
 pub exact_ring : CmpEqualImpliesEq ring_order
 exact_ring c d e = let h = both_equal (nat_cmp c.seq d.seq) (nat_cmp c.rep d.rep) e in same_ring c d (exact_unsigned c.seq d.seq h.0) (exact_unsigned c.rep d.rep h.1)

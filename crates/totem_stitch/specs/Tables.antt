@@ -8,7 +8,7 @@ use Rattle.totem_stitch.specs.declared.table.Table.{Table}
 
 -- the order of processes
 abbrev pub process_order : ℕ → ℕ → Ordering
-process_order = (Rattle.totem_ids.specs.contracts.process.ProcIdOrd.TheImpl.cmp-value).it
+process_order = (Rattle.totem_ids.specs.contracts.life.ProcOrd.TheImpl.cmp-value).it
 
 -- the order of rings
 abbrev pub ring_order : RingId → RingId → Ordering

@@ -6,12 +6,12 @@ use crate::table::Table;
 use std::alloc::{AllocError, Global};
 use std::collections::BTreeMap;
 use totem_evs::Run;
-use totem_ids::{ConfId, ProcId, RingId};
+use totem_ids::{ConfId, Proc, RingId};
 
 /// What follows the regular configurations in each log of a run (docs/SPECIFICATIONS.md, "Following").
 #[derive(Drop)]
 pub struct Stitch {
-    tables: BTreeMap<ProcId, Table>,
+    tables: BTreeMap<Proc, Table>,
 }
 
 impl Stitch {
@@ -29,7 +29,7 @@ impl Stitch {
 
     /// Returns what follows the regular configuration of this ring in the log of this process: the configuration of the next change
     /// behind the first change to it, if that is transitional. It takes no memory and reads no log.
-    pub fn follow(&self, proc: ProcId, ring: RingId) -> Option<ConfId>
+    pub fn follow(&self, proc: Proc, ring: RingId) -> Option<ConfId>
         ensures { result ≡ follower_of self.now proc ring }
     {
         self.tables.get(&proc)?.follow(ring)
@@ -37,7 +37,7 @@ impl Stitch {
 
     /// Returns the ring of the first regular configuration in the log of this process that this configuration follows, or `None` if it
     /// follows none. It takes no memory and reads no log.
-    pub fn before(&self, proc: ProcId, conf: ConfId) -> Option<RingId>
+    pub fn before(&self, proc: Proc, conf: ConfId) -> Option<RingId>
         ensures { result ≡ origin_of self.now proc conf }
     {
         self.tables.get(&proc)?.before(conf)

@@ -7,10 +7,11 @@ use std::fmt;
 use std::fmt::Write;
 use std::test::Fail;
 use totem_books::{Book, BookFault, Call, CloseFault, Reply, Stub};
-use totem_evs::{Entry, Members};
+use totem_evs::Entry;
 use totem_ids::{ProcId, RingId, Service};
 use totem_node::Input;
 use totem_packets::Packet;
+use totem_recover::RingMembers;
 use totem_ring::first_token;
 
 pub(crate) fn ring() -> RingId
@@ -23,11 +24,11 @@ pub(crate) fn ring() -> RingId
 }
 
 /// Processes 1 and 2.
-pub(crate) fn two(alloc: Global) -> Result<Members, Fail> {
+pub(crate) fn two(alloc: Global) -> Result<RingMembers, Fail> {
     let mut list = Vec::new(alloc);
     list.push(ProcId::of(1))?;
     list.push(ProcId::of(2))?;
-    Ok(Members::new(list)?)
+    Ok(RingMembers::new(list)?)
 }
 
 /// A client's message `x`.
@@ -232,12 +233,17 @@ fn all_steps(
     Ok(())
 }
 
-fn live(alloc: Global, life: &mut Life, members: &Members, words: &str) -> Result<(), AllocError> {
+fn live(
+    alloc: Global,
+    life: &mut Life,
+    members: &RingMembers,
+    words: &str,
+) -> Result<(), AllocError> {
     let mut book = Book::new(alloc, ProcId::of(1), ring(), members.as_slice())?;
     all_steps(alloc, life, &mut book, words)
 }
 
-fn life_among(alloc: Global, members: &Members, words: &str) -> Result<Life, AllocError> {
+fn life_among(alloc: Global, members: &RingMembers, words: &str) -> Result<Life, AllocError> {
     let mut life = Life::new(alloc);
     live(alloc, &mut life, members, words)?;
     Ok(life)

@@ -11,9 +11,9 @@ use std::test::*;
 use std::thread;
 use std::thread::Threads;
 use totem_books::{BookName, CloseFault, CloseRefused, ClosedBook, Reply, Seat, SharedBook, Stub};
-use totem_evs::Members;
 use totem_ids::ProcId;
 use totem_node::Input;
+use totem_recover::RingMembers;
 
 /// Returns what the thread of this number gives its node: the first two threads are clients, the third receives, the
 /// fourth is a timer.
@@ -210,7 +210,7 @@ fn live<L: BookName + Send + Sync, R: Threads + Wait + Sync>(
     rt: &R,
     alloc: Global,
     blank: Blank,
-    members: &Members,
+    members: &RingMembers,
     count: u64,
     words: &String,
     life: &mut Life,

@@ -4,14 +4,14 @@ use Rattle.std.specs.Prelude.{AllPairs}
 use Rattle.std.proofs.lemmas.List.{length-map, get_or-map, length-take-le, get_or-take, map-append, take_more, take_all}
 use Rattle.std.proofs.lemmas.List.FromFn.{length-range_with_len, get_or-range_with_len}
 use Rattle.totem_evs.specs.declared.refused.ListFault.{ListFault}
-use Rattle.totem_evs.specs.declared.refused.ListFault.TheVariants.{Empty, TooMany, NotRising}
+use Rattle.totem_evs.specs.declared.refused.ListFault.TheVariants.{Empty, TooMany, NotRising, Life}
 use Rattle.totem_evs.specs.Lists.{Refuses}
 use Rattle.totem_evs.specs.LogRecord.{LogRecord}
-use Rattle.totem_evs.specs.Members.{IsMembers}
 use Rattle.totem_evs.specs.Runs.{IsBelowLog}
 use Rattle.totem_net.specs.declared.ends.NodeEnds.{NodeEnds}
 use Rattle.totem_net.specs.Nodes.{node_numbers}
 use Rattle.totem_net.proofs.Numbers.{one_more}
+use Rattle.totem_recover.specs.FirstLives.{first_rank, first_ranks, IsRingMembers}
 use Rattle.totem_books.specs.Replay.{Start}
 use Rattle.totem_books.specs.Seats.{Closed}
 use Rattle.totem_threads.specs.Starts.{start_of, starts}
@@ -25,14 +25,16 @@ pub numbers_more : (xs : List ℕ) (n j : ℕ) → xs ≡ node_numbers n → j �
 numbers_more xs n j is next = ap (λ (ys : List ℕ). ys ++ j ∷ []) is ∙ sym (one_more n j next)
 
 -- 1 to n are members, where they are 1 to 32
-pub are_members : (n : ℕ) → 0 < n → n ≤ 32 → IsMembers (node_numbers n)
+pub are_members : (n : ℕ) → 0 < n → n ≤ 32 → IsRingMembers (node_numbers n)
 are_members n some few =
     let count = length-range_with_len 1 n in
     record {
       some = omega (arith, count, some);
-      few = omega (arith, count, few);
-      rising = λ i j d less inside. rw (number_at n i d (omega (arith, count)), number_at n j d (omega (arith, count))) (omega arith);
-      processes = λ i d inside. rw (number_at n i d (omega (arith, count))) (record { positive = omega arith; small = omega (arith, count) });
+      processes = record {
+        few = omega (arith, count, few);
+        rising = λ i j d less inside. rw (number_at n i d (omega (arith, count)), number_at n j d (omega (arith, count))) (omega arith);
+        each = λ i d inside. rw (number_at n i d (omega (arith, count))) (record { positive = omega arith; small = omega (arith, count) });
+      };
     }
 
 -- ---- With what the nodes begin
@@ -48,30 +50,31 @@ starts_of n ends are = apart n ends ∙ ap (map (start_of n)) are
 
 -- ---- The processes of the books
 
-mes : (books : List Closed) → map (λ (s : Start). s.me) (map (λ (b : Closed). b.start) books) ≡ map (λ (b : Closed). b.start.me) books
+mes : (books : List Closed) → map (λ (s : Start). first_rank s.me) (map (λ (b : Closed). b.start) books) ≡ map (λ (b : Closed). first_rank b.start.me) books
 mes [] = refl
-mes (b ∷ bs) = ap (λ (xs : List ℕ). b.start.me ∷ xs) (mes bs)
+mes (b ∷ bs) = ap (λ (xs : List ℕ). first_rank b.start.me ∷ xs) (mes bs)
 
-numbers : (nodes : ℕ) (ns : List ℕ) → map (λ (s : Start). s.me) (map (start_of nodes) ns) ≡ ns
+numbers : (nodes : ℕ) (ns : List ℕ) → map (λ (s : Start). first_rank s.me) (map (start_of nodes) ns) ≡ first_ranks ns
 numbers nodes [] = refl
-numbers nodes (n ∷ ns) = ap (λ (xs : List ℕ). n ∷ xs) (numbers nodes ns)
+numbers nodes (n ∷ ns) = ap (λ (xs : List ℕ). first_rank n ∷ xs) (numbers nodes ns)
 
 processes : (nodes : ℕ) (books : List Closed) (logs : List LogRecord) → map (λ (b : Closed). b.start) books ≡ starts nodes → AreLogsOf books logs
-    → map (λ (l : LogRecord). l.proc) logs ≡ node_numbers nodes
+    → map (λ (l : LogRecord). l.proc) logs ≡ first_ranks (node_numbers nodes)
 processes nodes books logs begun are =
-    are.processes ∙ sym (mes books) ∙ ap (map (λ (s : Start). s.me)) begun ∙ numbers nodes (node_numbers nodes)
+    are.processes ∙ sym (mes books) ∙ ap (map (λ (s : Start). first_rank s.me)) begun ∙ numbers nodes (node_numbers nodes)
 
 -- ---- Their logs are those of a run
 
-module _ (nodes : ℕ) (logs : List LogRecord) (procs : map (λ (l : LogRecord). l.proc) logs ≡ node_numbers nodes) where
+module _ (nodes : ℕ) (logs : List LogRecord) (procs : map (λ (l : LogRecord). l.proc) logs ≡ first_ranks (node_numbers nodes)) where
   as_many : length logs ≡ nodes
-  as_many = sym (length-map logs (λ (l : LogRecord). l.proc)) ∙ ap length procs ∙ length-range_with_len 1 nodes
+  as_many = sym (length-map logs (λ (l : LogRecord). l.proc)) ∙ ap length procs ∙ length-map (node_numbers nodes) first_rank ∙ length-range_with_len 1 nodes
 
-  process_at : (i : ℕ) (d : LogRecord) → i < length logs → (get_or logs i d).proc ≡ 1 + i
+  process_at : (i : ℕ) (d : LogRecord) → i < length logs → (get_or logs i d).proc ≡ first_rank (1 + i)
   process_at i d inside =
       sym (get_or-map (λ (l : LogRecord). l.proc) logs i d 0 inside)
       ∙ ap (λ (xs : List ℕ). get_or xs i 0) procs
-      ∙ number_at nodes i 0 (omega (arith, as_many))
+      ∙ get_or-map first_rank (node_numbers nodes) i 0 0 (omega (arith, as_many, length-range_with_len 1 nodes))
+      ∙ ap first_rank (number_at nodes i 0 (omega (arith, as_many)))
 
   rise : AllPairs IsBelowLog logs
   rise i j d less inside = rw (process_at i d (omega arith), process_at j d inside) (omega arith)
@@ -93,6 +96,7 @@ logs_taken nodes books logs (TooMany limit) few begun are refused =
 logs_taken nodes books logs (NotRising at) few begun are refused =
     let within = refused.1.within in
     refused.1.falls (front_pairs IsBelowLog logs (at + 1) (omega (arith, within)) (rise nodes logs (processes nodes books logs begun are)))
+logs_taken nodes books logs (Life at) few begun are refused = absurd refused
 
 -- ---- Books and their logs, one after another
 
@@ -106,11 +110,11 @@ mapped {C = C} f g xs ys x y before here =
 
 -- one log more
 pub logs_more : (books : List Closed) (logs : List LogRecord) (i : ℕ) (b : Closed) (l : LogRecord) → b ≡ get_or books i b → i < length books
-    → AreLogsOf (take i books) logs → l.proc ≡ b.start.me → l.entries ≡ b.log → AreLogsOf (take (i + 1) books) (logs ++ l ∷ [])
+    → AreLogsOf (take i books) logs → l.proc ≡ first_rank b.start.me → l.entries ≡ b.log → AreLogsOf (take (i + 1) books) (logs ++ l ∷ [])
 logs_more books logs i b l is within before proc entries =
     let more : take (i + 1) books ≡ take i books ++ b ∷ [] = take_more books i b within ∙ ap (λ (x : Closed). take i books ++ x ∷ []) (sym is) in
     rw more (record {
-      processes = mapped (λ (l : LogRecord). l.proc) (λ (b : Closed). b.start.me) logs (take i books) l b before.processes proc;
+      processes = mapped (λ (l : LogRecord). l.proc) (λ (b : Closed). first_rank b.start.me) logs (take i books) l b before.processes proc;
       entries = mapped (λ (l : LogRecord). l.entries) (λ (b : Closed). b.log) logs (take i books) l b before.entries entries;
     })
 

@@ -5,9 +5,9 @@ ghost use Rattle.totem_threads.specs.Starts.{first_ring, first_packet};
 
 use bytes::Bytes;
 use std::alloc::{AllocError, Global};
-use totem_evs::Members;
 use totem_ids::{ProcId, RingId};
 use totem_packets::Packet;
+use totem_recover::RingMembers;
 use totem_ring::first_token;
 
 /// Returns the ring on which all nodes begin, 4.1.
@@ -22,7 +22,7 @@ pub fn first_ring() -> RingId
 
 /// Returns the members of that ring: the processes 1 to `nodes`.
 #[tactic(auto, using(crate::proofs::Starting::numbers_more))]
-pub fn first_members(alloc: Global, nodes: u16) -> Result<Members, AllocError>
+pub fn first_members(alloc: Global, nodes: u16) -> Result<RingMembers, AllocError>
     requires { (0 < nodes) × (nodes ≤ 32) }
     ensures { IfOk result (λ members. members ≡ node_numbers nodes) }
 {
@@ -30,7 +30,7 @@ pub fn first_members(alloc: Global, nodes: u16) -> Result<Members, AllocError>
     'nodes: for number in 0..nodes {
         list.push(ProcId::of(number + 1))?;
     }
-    Ok(Members::of(list))
+    Ok(RingMembers::of(list))
 }
 
 /// Returns the bytes of that ring's first token.

@@ -12,8 +12,8 @@ use std::sync::ledger::Blank;
 use std::thread;
 use std::thread::Threads;
 use totem_books::{BookFault, BookName, ClosedBook, Seat, SharedBook};
-use totem_evs::Members;
 use totem_net::{NodeEnds, Outlet, Start};
+use totem_recover::RingMembers;
 
 /// Returns the three seats.
 fn three<L: BookName>(seats: Vec<Seat<L>>) -> (Seat<L>, Seat<L>, Seat<L>)
@@ -80,7 +80,7 @@ fn keep_book<L: BookName + Send + Sync, S: Start, R: Threads + Wait + Sync>(
     rt: &R,
     alloc: Global,
     blank: Blank,
-    members: &Members,
+    members: &RingMembers,
     ends: NodeEnds,
     outlet: &Outlet,
     start: &S,

@@ -2,6 +2,7 @@
 ghost use Rattle.std.specs.Prelude.{◌≡◌, ◌<◌, ◌≤◌, IfOk, map};
 ghost use Rattle.totem_net.specs.Nodes.{node_numbers};
 ghost use Rattle.totem_threads.specs.Starts.{IsInRange, start_of, starts};
+ghost use Rattle.totem_evs.specs.Lives.{IsFirstVersion};
 ghost use Rattle.totem_threads.specs.Books.{IsRunOf};
 
 use crate::fault::ThreadsFault;
@@ -114,7 +115,8 @@ pub fn run_nodes<S: Start, R: Threads + Wait + Sync, P: Progress>(
     progress: &mut P,
 ) -> Result<(Run, Vec<ClosedBook>), ThreadsFault>
     requires { IsInRange plan }
-    ensures { IfOk result (λ made. IsRunOf plan.nodes made.1.items made.0.logs) }
+    ensures run { IfOk result (λ made. IsRunOf plan.nodes made.1.items made.0.logs) }
+    ensures version { IfOk result (λ made. IsFirstVersion made.0.version made.0.logs) }
 {
     let fates = Fates::new(plan.seed, plan.plan);
     ask_for_room(alloc, plan.nodes, plan.ticks)?;

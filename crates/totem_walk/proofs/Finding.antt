@@ -1,8 +1,10 @@
 -- Finding the log of a process among the logs of a run.
-use Rattle.std.proofs.Common.{◌≡◌, ℕ, ◌+◌, ◌<◌, ◌≤◌, ◌⊎◌, inl, inr, List, [], length, slice_get, Some, true, false, sym, ◌∙◌, arith}
+use Rattle.std.proofs.Common.{◌≡◌, ℕ, ◌+◌, ◌<◌, ◌≤◌, ◌⊎◌, inl, inr, List, [], length, slice_get, Some, Bool, true, false, ◌&&◌, refl, sym, ap, ◌∙◌, arith}
 use Rattle.std.proofs.lemmas.Option.{slice_get_within}
 use Rattle.std.proofs.Math.Dec.{eqb}
-use Rattle.std.proofs.lemmas.Bool.{eq-eqb}
+use Rattle.std.proofs.lemmas.Bool.{eq-eqb, eqb-true}
+use Rattle.totem_ids.specs.Ranks.{rank_of, id_of, life_of}
+use Rattle.totem_ids.proofs.RankParts.{rank_of_parts}
 use Rattle.totem_evs.specs.declared.log.Log.{Log}
 use Rattle.totem_evs.specs.Events.{log_of}
 use Rattle.totem_evs.proofs.LogOf.{log_of_cases, less_or_not}
@@ -33,8 +35,23 @@ none_of run p k end before = go (log_of_cases run p)
     go (inr (j, log, at, same, is)) = absurd (before.never j log (let lt = slice_get_within run j log at in omega arith) at same)
 
 -- what the comparison of two processes tells
-pub is_other : (a b p : ℕ) → a ≡ b → false ≡ eqb a p → b ≡ p → ⊥
-is_other a b p is e same = let t = eq-eqb a p (is ∙ same) in cc
+both_true : (s t : Bool) → true ≡ (s && t) → (s ≡ true) × (t ≡ true)
+both_true true t e = (refl, sym e)
+both_true false t e = absurd cc
 
-pub is_same : (a b p : ℕ) → a ≡ b → true ≡ eqb a p → b ≡ p
-is_same a b p is e = let h : a ≡ p = grind arith in sym is ∙ h
+same_parts : (a b : ℕ) → true ≡ (eqb (id_of a) (id_of b) && eqb (life_of a) (life_of b)) → a ≡ b
+same_parts a b e =
+    let h = both_true (eqb (id_of a) (id_of b)) (eqb (life_of a) (life_of b)) e in
+    sym (rank_of_parts a)
+    ∙ ap (λ (x : ℕ). rank_of x (life_of a)) (eqb-true (id_of a) (id_of b) h.0)
+    ∙ ap (λ (x : ℕ). rank_of (id_of b) x) (eqb-true (life_of a) (life_of b) h.1)
+    ∙ rank_of_parts b
+
+pub is_other : (a b p : ℕ) → a ≡ b → false ≡ (eqb (id_of a) (id_of p) && eqb (life_of a) (life_of p)) → b ≡ p → ⊥
+is_other a b p is e same =
+    let ids = eq-eqb (id_of a) (id_of p) (ap (λ (x : ℕ). id_of x) (is ∙ same)) in
+    let lives = eq-eqb (life_of a) (life_of p) (ap (λ (x : ℕ). life_of x) (is ∙ same)) in
+    absurd (let h : false ≡ true = rw (ids, lives) at e in cc)
+
+pub is_same : (a b p : ℕ) → a ≡ b → true ≡ (eqb (id_of a) (id_of p) && eqb (life_of a) (life_of p)) → b ≡ p
+is_same a b p is e = sym is ∙ same_parts a p e

@@ -12,7 +12,7 @@ use crate::order::keeps_order;
 use crate::reading::entries_of;
 use std::alloc::{AllocError, Global};
 use totem_evs::Run;
-use totem_ids::{ConfId, ProcId, RingId};
+use totem_ids::{ConfId, Proc, RingId};
 use totem_stitch::Stitch;
 
 /// A law: specification 5 in a regular configuration says just what is asked of each two of its processes.
@@ -26,8 +26,8 @@ fn is_causal(
     run: &Run,
     ring: RingId,
     follower: &Option<ConfId>,
-    sender: ProcId,
-    receiver: ProcId,
+    sender: Proc,
+    receiver: Proc,
     looks: &mut u64,
 ) -> Result<bool, AllocError>
     requires meets { MeetsPasses run.now.logs }
@@ -53,8 +53,8 @@ pub fn walk(
     run: &Run,
     stitch: &Stitch,
     ring: RingId,
-    sender: ProcId,
-    receiver: ProcId,
+    sender: Proc,
+    receiver: Proc,
     looks: &mut u64,
 ) -> Result<bool, AllocError>
     requires meets { MeetsPasses run.now.logs }

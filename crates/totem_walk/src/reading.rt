@@ -3,10 +3,10 @@ ghost use Rattle.std.specs.Prelude.{◌≡◌, ◌+◌, ◌<◌, ◌≤◌, ◌^
 ghost use Rattle.totem_evs.specs.Events.{log_of};
 
 use totem_evs::{Entry, Run};
-use totem_ids::ProcId;
+use totem_ids::Proc;
 
 /// Returns the entries of this process, from the first on. A process without a log has none.
-pub fn entries_of(run: &Run, proc: ProcId) -> &[Entry]
+pub fn entries_of(run: &Run, proc: Proc) -> &[Entry]
     ensures entries { result.now ≡ log_of run.now.logs proc }
     ensures few { length result.now ≤ 1000000 }
 {

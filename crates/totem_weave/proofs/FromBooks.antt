@@ -5,6 +5,7 @@ use Rattle.std.proofs.lemmas.List.{length-map}
 use Rattle.std.proofs.lemmas.List.Elements.{All-head, All-tail}
 use Rattle.std.proofs.lemmas.Option.{slice_get_cases, get_or_from_slice_get, slice_get-map}
 use Rattle.totem_ids.specs.Names.{RingName, PlaceName}
+use Rattle.totem_ids.specs.Ranks.{id_of}
 use Rattle.totem_packets.specs.declared.message.Message.{Message}
 use Rattle.totem_ring.specs.Worlds.{start, run}
 use Rattle.totem_ring.specs.Order.{IsPrefixOf}
@@ -123,21 +124,22 @@ orphan_is ring members books tracks w k step t place can are h same stuck first 
     weave_is ring (recorded ring books) members tracks w.moves.items ready.said.procs ready.steps (rw (← same) h.weave) in
     let is_stuck : IsStuck (start ring members) (recorded ring books) w.moves.items =
     stuck_is ring (recorded ring books) members tracks w.moves.items ready.said.procs ready.steps (rw (← same) stuck) in
-    let here : IsCallOf ring books place.proc (length (acts_of place.proc w.moves.items)) place = of_step (sym call.proc) in
+    let same_process : t.proc ≡ id_of place.proc = omega (arith, call.proc) in
+    let here : IsCallOf ring books (id_of place.proc) (length (acts_of (id_of place.proc) w.moves.items)) place = of_step same_process in
     record {
       can_weave = can;
       so_far = w.moves.items;
       weave = weave;
       stuck = is_stuck;
-      least = λ p below. done_before tracks w k t (rw ready.said.procs can.rising) h first at p (rw (← call.proc) below) ∙ ready.steps p;
+      least = λ p below. done_before tracks w k t (rw ready.said.procs can.rising) h first at p (rw same_process below) ∙ ready.steps p;
       call = here;
       never = λ other is.
-          let most = stuck_is_greatest_holds ring members (recorded ring books) w.moves.items other weave is_stuck is place.proc in
+          let most = stuck_is_greatest_holds ring members (recorded ring books) w.moves.items other weave is_stuck is (id_of place.proc) in
           let less = here.stands.not_behind in
           omega (arith, most, less);
     }
   where
-    of_step : t.proc ≡ place.proc → IsCallOf ring books place.proc (length (acts_of place.proc w.moves.items)) place
+    of_step : t.proc ≡ id_of place.proc → IsCallOf ring books (id_of place.proc) (length (acts_of (id_of place.proc) w.moves.items)) place
     of_step same =
         let P : ℕ → Type 0 = λ q. IsCallOf ring books q (length (acts_of q w.moves.items)) place in
         let Q : ℕ → Type 0 = λ n. IsCallOf ring books t.proc n place in

@@ -4,6 +4,7 @@ use Rattle.std.specs.List.{flat_map}
 use Rattle.totem_ids.specs.Names.{RingName, PlaceName}
 use Rattle.totem_ring.specs.declared.moves.Act.{Act}
 use Rattle.totem_ring.specs.Rings.{same_ring}
+use Rattle.totem_recover.specs.FirstLives.{first_rank}
 use Rattle.totem_node.specs.declared.ring_step.RingStep.{RingStep}
 use Rattle.totem_node.specs.Outcomes.{Outcome}
 use Rattle.totem_node.specs.Replay.{Answer}
@@ -53,9 +54,9 @@ pub record IsBookOf (ring : RingName) (books : List Closed) (p : ℕ) (book : Cl
   pub mine : book.start.me ≡ p
   pub recorded_is : recorded ring books p ≡ calls_acts ring book.calls
 
--- the step of this number of a process, counted from 0, stands in the call of this place
+-- the step of this number of a process, counted from 0, stands in the call of this place, which is of the process's first life
 pub record IsCallOf (ring : RingName) (books : List Closed) (p step : ℕ) (place : PlaceName) : Type 0 where
-  pub proc : place.proc ≡ p
+  pub proc : place.proc ≡ first_rank p
   pub book : Closed
   pub is_book : IsBookOf ring books p book
   pub call : ℕ

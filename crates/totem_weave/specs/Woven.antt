@@ -2,6 +2,7 @@
 use Rattle.std.specs.Prelude.{◌≡◌, ℕ, ◌+◌, ◌<◌, ◌≤◌, ◌⊎◌, List, [], length, map, take, All, Contains}
 use Rattle.std.specs.List.Sorted.{IsStrictlyIncreasing}
 use Rattle.totem_ids.specs.Names.{RingName, PlaceName}
+use Rattle.totem_ids.specs.Ranks.{id_of}
 use Rattle.totem_packets.specs.declared.message.Message.{Message}
 use Rattle.totem_ring.specs.declared.moves.RingMove.{RingMove}
 use Rattle.totem_ring.specs.Worlds.{start, run, IsSchedule}
@@ -53,11 +54,11 @@ pub record IsOrphan (ring : RingName) (members : List ℕ) (books : List Closed)
   pub so_far : List RingMove
   pub weave : IsWeave (start ring members) (recorded ring books) so_far
   pub stuck : IsStuck (start ring members) (recorded ring books) so_far
-  pub least : (p : ℕ) → p < place.proc → acts_of p so_far ≡ recorded ring books p
-  pub call : IsCallOf ring books place.proc (length (acts_of place.proc so_far)) place
+  pub least : (p : ℕ) → p < id_of place.proc → acts_of p so_far ≡ recorded ring books p
+  pub call : IsCallOf ring books (id_of place.proc) (length (acts_of (id_of place.proc) so_far)) place
   -- no schedule of first steps of the books, with none refused, has every step of this call
   pub never : (other : List RingMove) → IsWeave (start ring members) (recorded ring books) other
-      → length (acts_of place.proc other) < length (calls_acts ring (take (call.call + 1) call.book.calls))
+      → length (acts_of (id_of place.proc) other) < length (calls_acts ring (take (call.call + 1) call.book.calls))
 
 -- why nothing is woven: each of these comes where it is true, and the first of them that is
 abbrev pub Refuses : RingName → List ℕ → List Closed → WeaveFault → Type 0

@@ -8,10 +8,10 @@ use std::sync::Wait;
 use std::sync::ledger::Blank;
 use std::test::Fail;
 use totem_books::{BookName, ClosedBook, Reply, Seat, SharedBook};
-use totem_evs::Members;
 use totem_ids::{ProcId, RingId, Service};
 use totem_node::Input;
 use totem_packets::Packet;
+use totem_recover::RingMembers;
 use totem_ring::first_token;
 
 pub(crate) fn ring() -> RingId
@@ -113,7 +113,7 @@ fn live<L: BookName, R: Wait>(
     alloc: Global,
     blank: Blank,
     me: ProcId,
-    members: &Members,
+    members: &RingMembers,
     inputs: Vec<Input>,
 ) -> Result<ClosedBook, Fail>
     requires ledger { (blank.name ≡ L.name) × (blank.parts ≡ L.parts) × (L.parts ≡ 1) }
@@ -128,7 +128,7 @@ fn book_of<R: Wait>(
     rt: &R,
     alloc: Global,
     me: ProcId,
-    members: &Members,
+    members: &RingMembers,
     inputs: Vec<Input>,
 ) -> Result<ClosedBook, Fail> {
     live::<Brand, _>(rt, alloc, Blank::new(1), me, members, inputs)
@@ -139,7 +139,7 @@ fn write<R: Wait>(
     rt: &R,
     alloc: Global,
     books: &mut Vec<ClosedBook>,
-    members: &Members,
+    members: &RingMembers,
     number: u16,
     words: &str,
 ) -> Result<(), Fail> {
@@ -162,7 +162,7 @@ pub(crate) fn books<R: Wait>(
     alloc: Global,
     lines: &[(u16, &str)],
 ) -> Result<Vec<ClosedBook>, Fail> {
-    let members = Members::new(procs(alloc, &[1, 2, 3])?)?;
+    let members = RingMembers::new(procs(alloc, &[1, 2, 3])?)?;
     let mut books = Vec::new(alloc);
     for line in lines {
         write(rt, alloc, &mut books, &members, line.0, line.1)?;

@@ -11,7 +11,8 @@ from harness.trials import Case, faults, left_open, side_by_side
 # Rows of longer texts are not changed byte by byte.
 LONGEST = 1000
 OTHER_BYTES = (0x20, 0x0a, 0x30, 0x39, 0xff)
-CERTIFICATE = b'totem-cert 1\n'
+# With what the text of a certificate of either version begins.
+CERTIFICATE = b'totem-cert '
 TRUNCATED = {
     'run': b'totem: run refused: 7 Truncated\n',
     'certificate': b'totem: certificate unreadable: 5 Truncated\n',

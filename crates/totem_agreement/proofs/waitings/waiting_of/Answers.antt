@@ -2,7 +2,7 @@ use Rattle.std.proofs.Common.{◌<◌, refl, sym, ap, ◌∙◌}
 use Rattle.std.specs.Prelude.{AllPairs}
 use Rattle.totem_evs.specs.declared.entry.Entry.TheVariants.{Conf}
 use Rattle.std.proofs.lemmas.Option.{slice_get_read}
-use Rattle.totem_agreement.proofs.Waits.{waits_not, waits_more, waits_all_in, waits_nowhere_in, change_at_end, end_within}
+use Rattle.totem_agreement.proofs.Waits.{members_rise, waits_not, waits_more, waits_all_in, waits_nowhere_in, change_at_end, end_within}
 use Rattle.totem_agreement.proofs.Ending.{end_stands, end_nowhere_but}
 use Rattle.totem_agreement.proofs.waitings.waiting_of.Goals.{then-not-is_there+in_ok-push, else-not-is_there}
 use Rattle.totem_agreement.proofs.waitings.waiting_of.Goals as goal
@@ -21,7 +21,7 @@ returns-in_default-entries c =
 pub loop-other-preserved : goal.loop-other-preserved
 loop-other-preserved c =
     let at = slice_get_read c.as_slice-other-items.result.now _ _ c.other-item.result refl c.loop-other-test.true c.other-item.is in
-    let rising : AllPairs (λ a b. a < b) c.as_slice-other-items.result.now = rw c.as_slice-other-items.ensures.value c.as_slice-other-items.ensures.members.rising in
+    let rising : AllPairs (λ a b. a < b) c.as_slice-other-items.result.now = rw c.as_slice-other-items.ensures.value (members_rise _ c.as_slice-other-items.ensures.members.rising) in
     elim c.if-not-is_there.branch [
       | then-not-is_there+in_ok-push w ↦ rw (w.list-is, w.in_ok-push.ensures.items)
           (waits_more _ _ _ _ _ _ _ rising at (λ h. (let t = c.is_there.ensures.1 h in let f = w.if-not-is_there.true in cc)) c.loop-other.invariant)

@@ -29,8 +29,8 @@ steps-smaller c =
     let walk = walk_more _ _ _ _ c.steps.invariant.walking fresh in
     let short = walk_short _ _ _ c.requires.run walk in
     let is : length c.push.new.self.items ≡ length c.steps.visits.items + 1 = rw c.in_ok-push.ensures.items (simp length-append (omega arith)) in
-    let short' : length c.steps.visits.items < 68719476736 = omega (arith, simp length-append at short) in
-    let less : 68719476736 - length c.push.new.self.items < 68719476736 - length c.steps.visits.items = omega arith in
+    let short' : length c.steps.visits.items < 4503599627370496 = omega (arith, simp length-append at short) in
+    let less : 4503599627370496 - length c.push.new.self.items < 4503599627370496 - length c.steps.visits.items = omega arith in
     less
 
 pub steps-preserved : goal.steps-preserved

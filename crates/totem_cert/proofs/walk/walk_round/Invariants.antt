@@ -10,4 +10,4 @@ invariant-steps l = record {
 }
 
 abbrev pub decreases-steps : goal.decreases-steps
-decreases-steps l = 68719476736 - length l.visits.items
+decreases-steps l = 4503599627370496 - length l.visits.items

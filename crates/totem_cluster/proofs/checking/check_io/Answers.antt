@@ -1,5 +1,8 @@
-use Rattle.std.proofs.Common.{refl, rules}
+use Rattle.std.proofs.Common.{refl, rules, ap, subst, []}
 use Rattle.std.proofs.lemmas.Result.{err_from_is_err_and}
+use Rattle.totem_ids.specs.Writing.{Wrote, held}
+use Rattle.totem_evs.specs.RunRecord.{RunRecord}
+use Rattle.totem_cluster.specs.Report.{accepted_text}
 use Rattle.totem_cluster.proofs.Reported.{whole_pair, certificate_failed, report_failed}
 use Rattle.totem_cluster.proofs.checking.check_io.Goals as goal
 
@@ -15,12 +18,16 @@ returns-in_err-write_accepted-in-Ok g c =
     rw (p.1, p.2) (report_failed _ _ _ _ _ _ _ _ whole c.in_err-write_accepted-in-Ok.ensures)
 
 pub returns-in-Ok : goal.returns-in-Ok
-returns-in-Ok g c = record {
-  logs = c.in_ok-run.run'.logs;
-  lines = c.in_ok-certificate.certificate;
-  whole = whole_pair _ _ _ c.in_ok-run.run' _ c.in_ok-run.ensures c.in_ok-certificate.ensures;
-  report = (c.in-Ok.ensures.answer.0, (c.in-Ok.accepted, c.in-Ok.ensures.answer.1, c.in_ok-write_accepted-in-Ok.ensures));
-}
+returns-in-Ok g c =
+    let known = held g.W.Sink.contents g.W.Sink.failures [] in
+    let accepted = c.in-Ok.accepted in
+    let wrote = subst (λ (run : RunRecord). Wrote (known c.args.output.now) (known c.write_accepted.new.sink) (accepted_text run.version accepted.pending.items accepted.waiting.items)) c.run.view_is c.in_ok-write_accepted-in-Ok.ensures in
+    record {
+      run = c.in_ok-run.run';
+      cert = c.in_ok-certificate.certificate;
+      whole = whole_pair _ _ _ c.in_ok-run.run' _ c.in_ok-run.ensures c.in_ok-certificate.ensures;
+      report = (c.in-Ok.ensures.answer.0, (accepted, c.in-Ok.ensures.answer.1, wrote));
+    }
 
 pub returns-in_err-write_no-in-Err-Broken : goal.returns-in_err-write_no-in-Err-Broken
 returns-in_err-write_no-in-Err-Broken g c =
@@ -32,18 +39,18 @@ pub returns-in-Err-Broken : goal.returns-in-Err-Broken
 returns-in-Err-Broken g c =
     let broken = rw c.in-Err-Broken.field-0-is at c.in-Err-Broken.ensures.answer in
     record {
-      logs = c.in_ok-run.run'.logs;
-      lines = c.in_ok-certificate.certificate;
+      run = c.in_ok-run.run';
+      cert = c.in_ok-certificate.certificate;
       whole = whole_pair _ _ _ c.in_ok-run.run' _ c.in_ok-run.ensures c.in_ok-certificate.ensures;
-      report = (broken.0, (c.in-Err-Broken.fault, broken.1, c.in_ok-write_no-in-Err-Broken.ensures));
+      report = (broken.0, (c.in-Err-Broken.fault, broken.1, rw (ap (λ (r : RunRecord). r.version) c.run.view_is) at c.in_ok-write_no-in-Err-Broken.ensures));
     }
 
 pub returns : goal.returns
 returns g c = (
   refl,
   record {
-    logs = c.in_ok-run.run'.logs;
-    lines = c.in_ok-certificate.certificate;
+    run = c.in_ok-run.run';
+    cert = c.in_ok-certificate.certificate;
     whole = whole_pair _ _ _ c.in_ok-run.run' _ c.in_ok-run.ensures c.in_ok-certificate.ensures;
     reason = c.in-Err.ensures.answer;
     of_certificate = search rules;

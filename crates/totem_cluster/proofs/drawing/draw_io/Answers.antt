@@ -7,11 +7,11 @@ use Rattle.totem_cluster.proofs.drawing.draw_io.Goals as goal
 pub returns-in_err-write_drawn : goal.returns-in_err-write_drawn
 returns-in_err-write_drawn g c =
     let p = err_from_is_err_and c.from_residual-in_err-write_drawn.result c.from_residual-in_err-write_drawn.ensures.1 in
-    rw (p.1, p.2) (audit_failed _ _ _ _ c.in_ok-run.run'.logs _ _ (search rules) c.in_err-write_drawn.ensures)
+    rw (p.1, p.2) (audit_failed _ _ _ _ c.in_ok-run.run' _ _ (search rules) c.in_err-write_drawn.ensures)
 
 pub returns : goal.returns
 returns g c = record {
-  logs = c.in_ok-run.run'.logs;
+  run = c.in_ok-run.run';
   whole = search rules;
   answer = answer_of c.in-Ok.verdict;
   written = c.in-Ok.ensures.answer;

@@ -7,4 +7,4 @@ use Rattle.totem_cluster.proofs.explaining.put_each_explained.Given as goal
 abbrev pub invariant-loop-one : goal.invariant-loop-one
 invariant-loop-one g l =
     let known = held g.S.Sink.contents g.S.Sink.failures in
-    Wrote (known l.fn.pieces l.fn.sink) (known l.pieces l.sink) (flat_map explained_text (take l.one-index l.list))
+    Wrote (known l.fn.pieces l.fn.sink) (known l.pieces l.sink) (flat_map (explained_text l.version) (take l.one-index l.list))

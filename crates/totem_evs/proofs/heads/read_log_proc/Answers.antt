@@ -10,14 +10,17 @@ returns-in_err-proc-clause-read g c =
     let p = err_from_is_err_and c.from_residual-in_err-proc.result c.from_residual-in_err-proc.ensures.1 in
     rw (p.1, p.2) (failed _ _ _ _ _ _ _ (called _ _ _ _ _ _ _ (begins _ _) c.in_ok-word.ensures.read) c.in_err-proc.ensures.read)
 
-pub returns-then-proc-last-clause-read : goal.returns-then-proc-last-clause-read
+pub returns-then-rank-last-clause-read : goal.returns-then-rank-last-clause-read
 unfolding log_proc_at
-returns-then-proc-last-clause-read g c = stops _ _ _ _ (is_within _ _ _ _ _ _ _ (called _ _ _ _ _ _ _ (called _ _ _ _ _ _ _ (begins _ _) c.in_ok-word.ensures.read) c.in_ok-proc.ensures.read) c.if-proc-last.true) refl
+returns-then-rank-last-clause-read g c =
+    stops _ _ _ _ (is_within _ _ _ _ _ _ _ (called _ _ _ _ _ _ _ (called _ _ _ _ _ _ _ (begins _ _) c.in_ok-word.ensures.read) c.in_ok-proc.ensures.read) (rw c.rank.ensures.value at c.if-rank-last.true)) refl
 
 pub returns-then-byte-ne10-clause-read : goal.returns-then-byte-ne10-clause-read
 unfolding log_proc_at
-returns-then-byte-ne10-clause-read g c = stops _ _ _ _ (skips _ _ _ _ _ _ _ (is_above _ _ _ _ _ _ _ (called _ _ _ _ _ _ _ (called _ _ _ _ _ _ _ (begins _ _) c.in_ok-word.ensures.read) c.in_ok-proc.ensures.read) c.if-proc-last.false) c.if-byte-ne10.true) refl
+returns-then-byte-ne10-clause-read g c =
+    stops _ _ _ _ (skips _ _ _ _ _ _ _ (is_above _ _ _ _ _ _ _ (called _ _ _ _ _ _ _ (called _ _ _ _ _ _ _ (begins _ _) c.in_ok-word.ensures.read) c.in_ok-proc.ensures.read) (rw c.rank.ensures.value at c.if-rank-last.false)) c.if-byte-ne10.true) refl
 
 pub returns-clause-read : goal.returns-clause-read
 unfolding log_proc_at
-returns-clause-read g c = rw c.of.ensures (picks _ _ _ _ _ _ _ (is_above _ _ _ _ _ _ _ (called _ _ _ _ _ _ _ (called _ _ _ _ _ _ _ (begins _ _) c.in_ok-word.ensures.read) c.in_ok-proc.ensures.read) c.if-proc-last.false) c.if-byte-ne10.false)
+returns-clause-read g c =
+    picks _ _ _ _ _ _ _ (is_above _ _ _ _ _ _ _ (called _ _ _ _ _ _ _ (called _ _ _ _ _ _ _ (begins _ _) c.in_ok-word.ensures.read) c.in_ok-proc.ensures.read) (rw c.rank.ensures.value at c.if-rank-last.false)) c.if-byte-ne10.false

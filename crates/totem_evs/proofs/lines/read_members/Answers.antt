@@ -9,38 +9,46 @@ use Rattle.totem_evs.proofs.lines.read_members.Goals as goal
 pub returns-in_err-proc : goal.returns-in_err-proc
 returns-in_err-proc g c =
     let p = err_from_is_err_and c.from_residual.result c.from_residual.ensures.1 in
-    rw (p.1, p.2) (failed _ _ _ _ _ _ _ (same_left _ _ _ _ _ c.loop.invariant.so_far (members_step c.loop.procs.items (32 - c.loop.counter) (32 - (c.loop.counter + 1)) c.loop.last (omega arith))) c.in_err-proc.ensures.read)
+    rw (p.1, p.2) (failed _ _ _ _ _ _ _ (same_left _ _ _ _ _ c.loop.invariant.so_far (members_step c.args.version c.loop.procs.items (32 - c.loop.counter) (32 - (c.loop.counter + 1)) c.loop.last (omega arith))) c.in_err-proc.ensures.read)
 
-pub returns-then-proc-last : goal.returns-then-proc-last
-returns-then-proc-last g c =
-    stops _ _ _ _ (is_within _ _ _ _ _ _ _ (called _ _ _ _ _ _ _ (same_left _ _ _ _ _ c.loop.invariant.so_far (members_step c.loop.procs.items (32 - c.loop.counter) (32 - (c.loop.counter + 1)) c.loop.last (omega arith))) c.in_ok-proc.ensures.read) c.if-proc-last.true) refl
+pub returns-then-id-last : goal.returns-then-id-last
+returns-then-id-last g c =
+    let within = rw (c.from-id.ensures, c.number.ensures.value, c.id.ensures) at c.if-id-last.true in
+    stops _ _ _ _ (is_within _ _ _ _ _ _ _ (called _ _ _ _ _ _ _ (same_left _ _ _ _ _ c.loop.invariant.so_far (members_step c.args.version c.loop.procs.items (32 - c.loop.counter) (32 - (c.loop.counter + 1)) c.loop.last (omega arith))) c.in_ok-proc.ensures.read) within) refl
 
 pub loop-init : goal.loop-init
 loop-init g c = rw c.new-procs.ensures.items (record {
-  so_far = same_left _ _ _ _ _ (begins _ _) (members_first 32 0);
+  so_far = same_left _ _ _ _ _ (begins _ _) (members_first c.args.version 32 0);
   count = refl;
   rising = rising_none 0;
 })
 
-pub of-requires-then-byte-eq10 : goal.of-requires-then-byte-eq10
-of-requires-then-byte-eq10 g c = rw (c.in_ok-push.ensures.items, c.of.ensures)
-    (rising_members _ _ (rising_more _ _ _ c.loop.invariant.rising c.if-proc-last.false c.in_ok-proc.ensures.range.small)
+pub of-requires : goal.of-requires
+of-requires g c =
+    let above = rw (c.from-id.ensures, c.number.ensures.value, c.id.ensures) at c.if-id-last.false in
+    rw c.in_ok-push.ensures.items
+    (rising_members _ _ (rising_more _ _ _ c.loop.invariant.rising above (c.life_fits.ensures (λ h. absurd cc)))
     (omega (arith, length_push c.loop.procs.items c.in_ok-proc.proc)) (omega (arith, length_push c.loop.procs.items c.in_ok-proc.proc)))
 
 pub returns-then-byte-eq10 : goal.returns-then-byte-eq10
-returns-then-byte-eq10 g c = rw (c.of-then-byte-eq10.ensures, c.in_ok-push.ensures.items, c.of.ensures)
-    (picks _ _ _ _ _ _ _ (is_above _ _ _ _ _ _ _ (called _ _ _ _ _ _ _ (same_left _ _ _ _ _ c.loop.invariant.so_far (members_step c.loop.procs.items (32 - c.loop.counter) (32 - (c.loop.counter + 1)) c.loop.last (omega arith))) c.in_ok-proc.ensures.read) c.if-proc-last.false) c.if-byte-eq10.true)
+returns-then-byte-eq10 g c =
+    let above = rw (c.from-id.ensures, c.number.ensures.value, c.id.ensures) at c.if-id-last.false in
+    rw (c.of.ensures, c.in_ok-push.ensures.items)
+    (picks _ _ _ _ _ _ _ (is_above _ _ _ _ _ _ _ (called _ _ _ _ _ _ _ (same_left _ _ _ _ _ c.loop.invariant.so_far (members_step c.args.version c.loop.procs.items (32 - c.loop.counter) (32 - (c.loop.counter + 1)) c.loop.last (omega arith))) c.in_ok-proc.ensures.read) above) c.if-byte-eq10.true)
 
 pub returns-then-byte-ne32 : goal.returns-then-byte-ne32
 returns-then-byte-ne32 g c =
-    stops _ _ _ _ (skips _ _ _ _ _ _ _ (skips _ _ _ _ _ _ _ (is_above _ _ _ _ _ _ _ (called _ _ _ _ _ _ _ (same_left _ _ _ _ _ c.loop.invariant.so_far (members_step c.loop.procs.items (32 - c.loop.counter) (32 - (c.loop.counter + 1)) c.loop.last (omega arith))) c.in_ok-proc.ensures.read) c.if-proc-last.false) c.if-byte-eq10.false) c.if-byte-ne32.true) refl
+    let above = rw (c.from-id.ensures, c.number.ensures.value, c.id.ensures) at c.if-id-last.false in
+    stops _ _ _ _ (skips _ _ _ _ _ _ _ (skips _ _ _ _ _ _ _ (is_above _ _ _ _ _ _ _ (called _ _ _ _ _ _ _ (same_left _ _ _ _ _ c.loop.invariant.so_far (members_step c.args.version c.loop.procs.items (32 - c.loop.counter) (32 - (c.loop.counter + 1)) c.loop.last (omega arith))) c.in_ok-proc.ensures.read) above) c.if-byte-eq10.false) c.if-byte-ne32.true) refl
 
 pub loop-preserved : goal.loop-preserved
-loop-preserved g c = rw (c.in_ok-push.ensures.items, c.of.ensures) (record {
-  so_far = picks _ _ _ _ _ _ _ (skips _ _ _ _ _ _ _ (is_above _ _ _ _ _ _ _ (called _ _ _ _ _ _ _ (same_left _ _ _ _ _ c.loop.invariant.so_far (members_step c.loop.procs.items (32 - c.loop.counter) (32 - (c.loop.counter + 1)) c.loop.last (omega arith))) c.in_ok-proc.ensures.read) c.if-proc-last.false) c.if-byte-eq10.false) c.if-byte-ne32.false;
-  count = omega (arith, length_push c.loop.procs.items c.in_ok-proc.proc);
-  rising = rising_more _ _ _ c.loop.invariant.rising c.if-proc-last.false c.in_ok-proc.ensures.range.small;
-})
+loop-preserved g c =
+    let above = rw (c.from-id.ensures, c.number.ensures.value, c.id.ensures) at c.if-id-last.false in
+    rw (c.from-id.ensures, c.number.ensures.value, c.id.ensures, c.in_ok-push.ensures.items) (record {
+      so_far = picks _ _ _ _ _ _ _ (skips _ _ _ _ _ _ _ (is_above _ _ _ _ _ _ _ (called _ _ _ _ _ _ _ (same_left _ _ _ _ _ c.loop.invariant.so_far (members_step c.args.version c.loop.procs.items (32 - c.loop.counter) (32 - (c.loop.counter + 1)) c.loop.last (omega arith))) c.in_ok-proc.ensures.read) above) c.if-byte-eq10.false) c.if-byte-ne32.false;
+      count = omega (arith, length_push c.loop.procs.items c.in_ok-proc.proc);
+      rising = rising_more _ _ _ c.loop.invariant.rising above (c.life_fits.ensures (λ h. absurd cc));
+    })
 
 pub returns : goal.returns
-returns g c = stops _ _ _ _ (same_left _ _ _ _ _ c.loop.invariant.so_far (members_none c.loop.procs.items (32 - c.loop.counter) c.loop.last (omega arith))) refl
+returns g c = stops _ _ _ _ (same_left _ _ _ _ _ c.loop.invariant.so_far (members_none c.args.version c.loop.procs.items (32 - c.loop.counter) c.loop.last (omega arith))) refl

@@ -1,3 +1,4 @@
+use Rattle.std.proofs.Common.{◌≡◌}
 use Rattle.totem_ids.specs.Sources.{seen}
 use Rattle.totem_evs.specs.ReadState.{IsReadState}
 use Rattle.totem_evs.proofs.FoldedRun.{Folded}
@@ -7,7 +8,7 @@ use Rattle.totem_evs.proofs.reading.read_run.Given as goal
 abbrev pub invariant-parts : goal.invariant-parts
 invariant-parts g l =
     let known = seen g.S.Source.remaining g.S.Source.failures in
-    Folded (known l.fn.source) (known l.source) l.parts l.logs × IsReadState l.parts
+    Folded (known l.fn.source) (known l.source) l.parts l.logs × IsReadState l.parts × (l.parts.stage.version ≡ l.version)
 
 abbrev pub decreases-parts : goal.decreases-parts
 decreases-parts g l = parts_left l.parts.stage

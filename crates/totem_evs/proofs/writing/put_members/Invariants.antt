@@ -1,9 +1,10 @@
 use Rattle.std.proofs.Common.{take}
 use Rattle.totem_ids.specs.Writing.{Wrote, held}
+use Rattle.totem_ids.specs.Processes.{process_text}
 use Rattle.totem_evs.specs.RunText.{members_text}
 use Rattle.totem_evs.proofs.writing.put_members.Given as goal
 
 abbrev pub invariant-loop-proc : goal.invariant-loop-proc
 invariant-loop-proc g l =
     let known = held g.S.Sink.contents g.S.Sink.failures in
-    Wrote (known l.fn.pieces l.fn.sink) (known l.pieces l.sink) (members_text (take l.proc-index l.proc-items))
+    Wrote (known l.fn.pieces l.fn.sink) (known l.pieces l.sink) (members_text (process_text l.version) (take l.proc-index l.proc-items))

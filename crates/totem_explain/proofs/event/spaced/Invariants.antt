@@ -1,7 +1,8 @@
 use Rattle.std.proofs.Common.{◌≡◌, take}
 use Rattle.std.specs.String.{string_bytes}
+use Rattle.totem_ids.specs.Processes.{process_text}
 use Rattle.totem_evs.specs.RunText.{members_text}
 use Rattle.totem_explain.proofs.event.spaced.Given as goal
 
 abbrev pub invariant-loop-proc : goal.invariant-loop-proc
-invariant-loop-proc l = string_bytes l.text ≡ members_text (take l.proc-index l.procs)
+invariant-loop-proc l = string_bytes l.text ≡ members_text (process_text l.version) (take l.proc-index l.procs)

@@ -17,4 +17,4 @@ returns-in_err-line c =
 pub returns-in-Ok : goal.returns-in-Ok
 returns-in-Ok c =
     let played = rw c.new-scene.ensures at c.in_ok-line.ensures in
-    play_ends c.args.script.now c.new-lines.result c.new-lines.ensures c.begin.new.lines c.in_default.ensures.head c.in_default.ensures.rest c.play.new.scene c.in-Ok.run' played c.in-Ok.ensures
+    play_ends c.args.script.now c.new-lines.result c.new-lines.ensures c.begin.new.lines c.in_default.ensures.head c.in_default.ensures.rest c.play.new.scene c.in-Ok.run' played c.in-Ok.ensures.logs c.in-Ok.ensures.version

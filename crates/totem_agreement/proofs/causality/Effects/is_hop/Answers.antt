@@ -1,5 +1,6 @@
-use Rattle.std.proofs.Common.{arith, eq-eqb}
+use Rattle.std.proofs.Common.{arith}
 use Rattle.totem_agreement.proofs.Facts.{facts}
+use Rattle.totem_agreement.proofs.Waits.{other_parts}
 use Rattle.totem_agreement.proofs.Causing.{no_hop, hop_by_delivery, lt_decided}
 use Rattle.totem_agreement.proofs.causality.Effects.is_hop.Goals as goal
 use Rattle.totem_agreement.proofs.causality.Effects.is_hop.Goals.{else-eq-via-then-eq+else-self-at, else-eq-via-else-eq}
@@ -10,7 +11,7 @@ returns-in-None c =
     no_hop _ _ c.args.stay.now _ c.args.self.now.proc c.args.self.now.at c.args.at
     (λ (same, lt). elim c.else-eq.branch [
       | else-eq-via-then-eq+else-self-at w ↦ (let le = w.if-self-at.false in omega arith)
-      | else-eq-via-else-eq w ↦ (let t = eq-eqb c.args.stay.now.proc c.args.self.now.proc same in let f = w.if-eq.false in let e = c.eq.ensures in cc)
+      | else-eq-via-else-eq w ↦ absurd (other_parts c.args.stay.now.proc c.args.self.now.proc same (rw w.if-eq.false at c.eq.ensures))
     ])
     (of.each c.args.stay.now c.requires.among) c.in-None.ensures.none
 
@@ -20,6 +21,6 @@ returns-in-Some c =
     hop_by_delivery _ _ _ c.args.stay.now _ c.args.self.now.proc c.args.self.now.at c.args.at c.in-Some.before _
     (λ (same, lt). elim c.else-eq.branch [
       | else-eq-via-then-eq+else-self-at w ↦ (let le = w.if-self-at.false in omega arith)
-      | else-eq-via-else-eq w ↦ (let t = eq-eqb c.args.stay.now.proc c.args.self.now.proc same in let f = w.if-eq.false in let e = c.eq.ensures in cc)
+      | else-eq-via-else-eq w ↦ absurd (other_parts c.args.stay.now.proc c.args.self.now.proc same (rw w.if-eq.false at c.eq.ensures))
     ])
     of c.requires.among c.in-Some.ensures.found c.requires.before (lt_decided c.in-Some.before c.args.at)

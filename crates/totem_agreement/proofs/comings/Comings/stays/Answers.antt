@@ -1,23 +1,26 @@
-use Rattle.std.proofs.Common.{refl, get_or}
+use Rattle.std.proofs.Common.{refl, ap, ◌∙◌, get_or}
 use Rattle.std.proofs.lemmas.Option.{slice_get_read, slice_get-get_or, slice_get_within}
+use Rattle.totem_evs.specs.RunRecord.{RunRecord}
 use Rattle.totem_agreement.specs.Arrivals.{AreArrivals}
 use Rattle.totem_agreement.proofs.Building.{stay_at, one_more_stay, all_stays}
 use Rattle.totem_agreement.proofs.comings.Comings.stays.Goals as goal
 
 pub loop-arrival-preserved : goal.loop-arrival-preserved
 loop-arrival-preserved c =
+    let runs = ap (λ (r : RunRecord). r.logs) c.run.view_is in
     let run = c.args.run.now.logs in
     let arrivals = c.deref-arrival-items.result.now in
     let are : AreArrivals run c.args.ring arrivals = rw (← c.deref-arrival-items.ensures.value) at c.in_ok-arrivals.ensures in
     let arrival = get_or arrivals c.loop-arrival.arrival-index (record { log = 0; at = 0 }) in
     let listed = slice_get-get_or arrivals c.loop-arrival.arrival-index (record { log = 0; at = 0 }) c.loop-arrival-test.true in
-    let stands = slice_get_read run _ arrival.log c.index-logs-arrival.result refl (slice_get_within run arrival.log _ (are.each c.loop-arrival.arrival-index (record { log = 0; at = 0 }) c.loop-arrival-test.true).stands) (rw c.as_slice-logs.ensures.value at c.index-logs-arrival.is) in
+    let stands = slice_get_read run _ arrival.log c.index-logs-arrival.result refl (slice_get_within run arrival.log _ (are.each c.loop-arrival.arrival-index (record { log = 0; at = 0 }) c.loop-arrival-test.true).stands) (rw (c.as_slice-logs.ensures.value ∙ runs) at c.index-logs-arrival.is) in
     let h = c.stay_from-stay.ensures in
     rw c.in_ok-extend_from_slice.ensures.items
     (one_more_stay run c.args.ring arrivals _ _ arrival c.stay_from-stay.result listed
-    (stay_at run c.args.ring arrivals _ arrival _ c.stay_from-stay.result c.requires.meets c.as_slice-logs.ensures.run are listed stands h.proc h.log h.from h.next)
+    (stay_at run c.args.ring arrivals _ arrival _ c.stay_from-stay.result c.requires.meets (rw runs at c.as_slice-logs.ensures.run) are listed stands h.proc h.log h.from h.next)
     c.loop-arrival.invariant)
 
 pub returns : goal.returns
 returns c =
-    all_stays c.args.run.now.logs c.args.ring c.deref-arrival-items.result.now c.loop-arrival.list.items _ c.as_slice-logs.ensures.run (rw (← c.deref-arrival-items.ensures.value) at c.in_ok-arrivals.ensures) c.loop-arrival-test.false c.loop-arrival.invariant
+    let runs = ap (λ (r : RunRecord). r.logs) c.run.view_is in
+    all_stays c.args.run.now.logs c.args.ring c.deref-arrival-items.result.now c.loop-arrival.list.items _ (rw runs at c.as_slice-logs.ensures.run) (rw (← c.deref-arrival-items.ensures.value) at c.in_ok-arrivals.ensures) c.loop-arrival-test.false c.loop-arrival.invariant

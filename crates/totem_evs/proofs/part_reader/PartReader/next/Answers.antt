@@ -10,7 +10,7 @@ returns-after-least-clause-read g c =
     let comes = rw c.in-None.is at c.in_ok-read_part.ensures.comes in
     rw (← c.self.view_is) (elim c.match-least.branch [
       | in-None-least w ↦ rw w.result-is (record { taken = taken; comes = comes }, λ q has. (let h = rw w.in-None-least.ensures.none at has in absurd (omega (arith, h.1))))
-      | in-Some-least w ↦ rw w.result-is (record { taken = taken; comes = comes }, w.in-Some-least.ensures.some, w.in-Some-least.ensures.least)
+      | in-Some-least w ↦ rw w.result-is (record { taken = taken; comes = comes }, w.written.ensures.0, rw (w.written.ensures.1) w.in-Some-least.ensures.some, λ q has. rw (w.written.ensures.1) (w.in-Some-least.ensures.least q has))
     ])
 
 pub returns-in_err-read_part-clause-read : goal.returns-in_err-read_part-clause-read

@@ -1,6 +1,7 @@
 use Rattle.std.proofs.Common.{refl, ◌∙◌, ap}
 use Rattle.std.proofs.lemmas.Option.{slice_get_read}
 use Rattle.totem_evs.specs.LogRecord.{LogRecord}
+use Rattle.totem_evs.specs.RunRecord.{RunRecord}
 use Rattle.totem_stitch.proofs.Tabled.{no_logs_yet, one_more_log, is_stitch}
 use Rattle.totem_stitch.proofs.stitch.Stitch.build.Goals as goal
 
@@ -17,5 +18,5 @@ loop-log-preserved c =
 
 pub returns : goal.returns
 returns c =
-    let same = c.as_slice-log-items.ensures.value in
-    is_stitch _ c.args.run.now.logs c.loop-log.log-index c.as_slice-log-items.ensures.run.rising (rw same at c.loop-log-test.false) (rw same at c.loop-log.invariant)
+    let same = c.as_slice-log-items.ensures.value ∙ ap (λ (r : RunRecord). r.logs) c.run.view_is in
+    is_stitch _ c.args.run.now.logs c.loop-log.log-index (rw (ap (λ (r : RunRecord). r.logs) c.run.view_is) at c.as_slice-log-items.ensures.run.rising) (rw same at c.loop-log-test.false) (rw same at c.loop-log.invariant)

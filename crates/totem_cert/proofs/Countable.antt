@@ -1,0 +1,244 @@
+-- Which classes are ready, by the counts of what keeps them back.
+use Rattle.std.proofs.Common.{◌≡◌, ℕ, suc, ◌+◌, ◌<◌, ◌≤◌, ◌⊎◌, inl, inr, List, [], length, get_or, slice_get, Option, Some, None, Bool, true, false, IsTrue, ◌↔◌, refl, sym, ◌∙◌, ap, arith, rules}
+use Rattle.std.specs.Prelude.{◌==◌}
+use Rattle.std.proofs.lemmas.Option.{slice_get_within, slice_get_cases}
+use Rattle.totem_ids.specs.declared.conf.ConfId.{ConfId}
+use Rattle.totem_ids.specs.declared.message.MsgId.{MsgId}
+use Rattle.totem_ids.specs.declared.message.Service.{Service}
+use Rattle.totem_evs.specs.declared.entry.Entry.{Entry}
+use Rattle.totem_evs.specs.declared.entry.Entry.TheVariants.{Conf, Send, Deliver, Fail}
+use Rattle.totem_evs.specs.declared.log.Log.{Log}
+use Rattle.totem_evs.specs.Events.{log_of}
+use Rattle.totem_evs.specs.Certificates.{Numbering, numbers_of}
+use Rattle.totem_evs.proofs.LogOf.{Rising, less_or_not}
+use Rattle.totem_table.specs.declared.table.Table.{Table}
+use Rattle.totem_table.specs.Tables.{IsTable, IsEntryAt, NamedBy, number_at}
+use Rattle.totem_cert.specs.Search.{place, NoneOf}
+use Rattle.totem_cert.specs.Keepers.{given_at}
+use Rattle.totem_cert.specs.Progress.{Fits, IsReady, AreAlike, Feeds, IsMate, KeepsBack}
+use Rattle.totem_cert.specs.Counts.{class_in, class_fed, one, from, keeping_at, kept_in, kept_at, kept_by, Counts, Tells}
+use Rattle.totem_cert.proofs.LineFacts.{Stands, where_is, stands_at}
+use Rattle.totem_cert.proofs.LogHeads.{nothing_keeps, something_keeps}
+use Rattle.totem_cert.specs.Keys.{class_key}
+use Rattle.totem_cert.proofs.Kept.{given_is, alone_alike, alone_fed}
+use Rattle.totem_cert.proofs.Sums.{sum_zero, sum_some, zero_or}
+use Rattle.totem_cert.proofs.CountSteps.{from_yes, from_no}
+
+one_self : (c : ℕ) → one (Some c) c ≡ 1
+one_self c = let test : (c == c) ≡ true = search rules in rw test refl
+
+one_some : (o : Option ℕ) (c : ℕ) → 0 < one o c → o ≡ Some c
+one_some None c some = absurd (omega arith)
+one_some (Some n) c some = go (n == c) refl
+  where
+    go : (b : Bool) → (n == c) ≡ b → Some n ≡ Some c
+    go true e = let same : n ≡ c = search rules in ap Some same
+    go false e = absurd (let h : 0 < 0 = rw e at some in omega arith)
+
+from_some : (b i n : ℕ) → 0 < from b i n → (b ≤ i) × (0 < n)
+from_some b i n some = elim (less_or_not i b) [
+  | inl under ↦ absurd (let h = from_no b i n under in omega arith)
+  | inr more ↦ (let le : b ≤ i = grind arith in let h = from_yes b i n le in (le, omega arith))
+]
+
+either : (a b : ℕ) → 0 < a + b → (0 < a) ⊎ (0 < b)
+either a b some = grind arith
+
+module _ (run : List Log) (table : Table) (is : IsTable run table) (tells : Tells run table) where
+  below_messages : (k i : ℕ) (m : MsgId) (x : ConfId) → IsEntryAt run k i (Deliver m x) → number_at table k i < length table.messages.items
+  below_messages k i m x a =
+      let named : NamedBy table.messages.items table.confs.items (Deliver m x) (number_at table k i) = (is.rows.each k a.log a.is_log).each i (Deliver m x) a.is_entry in
+      slice_get_within table.messages.items (number_at table k i) m named
+
+  sent_messages : (k i : ℕ) (m : MsgId) (x : ConfId) (s : Service) → IsEntryAt run k i (Send m x s) → number_at table k i < length table.messages.items
+  sent_messages k i m x s a =
+      let named : NamedBy table.messages.items table.confs.items (Send m x s) (number_at table k i) = (is.rows.each k a.log a.is_log).each i (Send m x s) a.is_entry in
+      slice_get_within table.messages.items (number_at table k i) m named
+
+  below_confs : (k i : ℕ) (x : ConfId) (ms : List ℕ) → IsEntryAt run k i (Conf x ms) → number_at table k i < length table.confs.items
+  below_confs k i x ms a =
+      let named : NamedBy table.messages.items table.confs.items (Conf x ms) (number_at table k i) = (is.rows.each k a.log a.is_log).each i (Conf x ms) a.is_entry in
+      slice_get_within table.confs.items (number_at table k i) x named
+
+  alike_same : (k i l j : ℕ) (x y : Entry) → IsEntryAt run k i x → IsEntryAt run l j y → AreAlike x y → class_in (length table.messages.items) x (number_at table k i) ≡ class_in (length table.messages.items) y (number_at table l j)
+  alike_same k i l j (Conf x ms) (Conf y ns) a b same = ap (λ (n : ℕ). Some (length table.messages.items + n)) ((tells.confs k i l j (Conf x ms) (Conf y ns) x y a b refl refl).1 same)
+  alike_same k i l j (Conf x ms) (Send m y t) a b same = absurd same
+  alike_same k i l j (Conf x ms) (Deliver m y) a b same = absurd same
+  alike_same k i l j (Conf x ms) (Fail y) a b same = absurd same
+  alike_same k i l j (Deliver m x) (Deliver n y) a b same = ap Some ((tells.messages k i l j (Deliver m x) (Deliver n y) m n a b refl refl).1 same)
+  alike_same k i l j (Deliver m x) (Conf y ns) a b same = absurd same
+  alike_same k i l j (Deliver m x) (Send n y t) a b same = absurd same
+  alike_same k i l j (Deliver m x) (Fail y) a b same = absurd same
+  alike_same k i l j (Send m x t) y a b same = absurd same
+  alike_same k i l j (Fail x) y a b same = absurd same
+
+  class_alike : (k i l j c : ℕ) (x y : Entry) → IsEntryAt run k i x → IsEntryAt run l j y → class_in (length table.messages.items) x (number_at table k i) ≡ Some c → class_in (length table.messages.items) y (number_at table l j) ≡ Some c → AreAlike x y
+  class_alike k i l j c (Conf x ms) (Conf y ns) a b h g =
+      let p : length table.messages.items + number_at table k i ≡ c = cc in
+      let q : length table.messages.items + number_at table l j ≡ c = cc in
+      (tells.confs k i l j (Conf x ms) (Conf y ns) x y a b refl refl).0 (omega arith)
+  class_alike k i l j c (Deliver m x) (Deliver n y) a b h g =
+      let p : number_at table k i ≡ c = cc in
+      let q : number_at table l j ≡ c = cc in
+      (tells.messages k i l j (Deliver m x) (Deliver n y) m n a b refl refl).0 (omega arith)
+  class_alike k i l j c (Conf x ms) (Deliver n y) a b h g =
+      let p : length table.messages.items + number_at table k i ≡ c = cc in
+      let q : number_at table l j ≡ c = cc in
+      absurd (let lt = below_messages l j n y b in omega arith)
+  class_alike k i l j c (Deliver m x) (Conf y ns) a b h g =
+      let p : number_at table k i ≡ c = cc in
+      let q : length table.messages.items + number_at table l j ≡ c = cc in
+      absurd (let lt = below_messages k i m x a in omega arith)
+  class_alike k i l j c (Conf x ms) (Send n y t) a b h g = absurd cc
+  class_alike k i l j c (Conf x ms) (Fail y) a b h g = absurd cc
+  class_alike k i l j c (Deliver m x) (Send n y t) a b h g = absurd cc
+  class_alike k i l j c (Deliver m x) (Fail y) a b h g = absurd cc
+  class_alike k i l j c (Send m x t) y a b h g = absurd cc
+  class_alike k i l j c (Fail x) y a b h g = absurd cc
+
+  fed_same : (k i l j c : ℕ) (x y : Entry) → IsEntryAt run k i x → IsEntryAt run l j y → class_in (length table.messages.items) x (number_at table k i) ≡ Some c → Feeds y x → class_fed y (number_at table l j) ≡ Some c
+  fed_same k i l j c (Deliver n d) (Send m e s) a b h same = ap Some ((tells.messages l j k i (Send m e s) (Deliver n d) m n b a refl refl).1 same) ∙ h
+  fed_same k i l j c (Conf d ms) (Send m e s) a b h same = absurd same
+  fed_same k i l j c (Send n d t) (Send m e s) a b h same = absurd same
+  fed_same k i l j c (Fail d) (Send m e s) a b h same = absurd same
+  fed_same k i l j c x (Conf e ms) a b h same = absurd same
+  fed_same k i l j c x (Deliver m e) a b h same = absurd same
+  fed_same k i l j c x (Fail e) a b h same = absurd same
+
+  fed_feeds : (k i l j c : ℕ) (x y : Entry) → IsEntryAt run k i x → IsEntryAt run l j y → class_in (length table.messages.items) x (number_at table k i) ≡ Some c → class_fed y (number_at table l j) ≡ Some c → Feeds y x
+  fed_feeds k i l j c (Deliver n d) (Send m e s) a b h g =
+      let p : number_at table k i ≡ c = cc in
+      let q : number_at table l j ≡ c = cc in
+      (tells.messages l j k i (Send m e s) (Deliver n d) m n b a refl refl).0 (omega arith)
+  fed_feeds k i l j c (Conf d ms) (Send m e s) a b h g =
+      let p : length table.messages.items + number_at table k i ≡ c = cc in
+      let q : number_at table l j ≡ c = cc in
+      absurd (let lt = sent_messages l j m e s b in omega arith)
+  fed_feeds k i l j c (Send n d t) (Send m e s) a b h g = absurd cc
+  fed_feeds k i l j c (Fail d) (Send m e s) a b h g = absurd cc
+  fed_feeds k i l j c x (Conf e ms) a b h g = absurd cc
+  fed_feeds k i l j c x (Deliver m e) a b h g = absurd cc
+  fed_feeds k i l j c x (Fail e) a b h g = absurd cc
+
+  pub class_within : (k i c : ℕ) (x : Entry) → IsEntryAt run k i x → class_in (length table.messages.items) x (number_at table k i) ≡ Some c → c < length table.messages.items + length table.confs.items
+  class_within k i c (Conf x ms) a h =
+      let p : length table.messages.items + number_at table k i ≡ c = cc in
+      let lt = below_confs k i x ms a in omega arith
+  class_within k i c (Deliver m x) a h =
+      let p : number_at table k i ≡ c = cc in
+      let lt = below_messages k i m x a in omega arith
+  class_within k i c (Send m x s) a h = absurd cc
+  class_within k i c (Fail x) a h = absurd cc
+
+  module _ (lines : List Numbering) (rising : Rising run) (fits : Fits run lines) (p j kp : ℕ) (x : Entry) (here : IsEntryAt run kp j x)
+      (at : slice_get (log_of run p) j ≡ Some x) (head : length (numbers_of lines p) ≡ j) (c : ℕ) (has : class_in (length table.messages.items) x (number_at table kp j) ≡ Some c) where
+    term : (k i : ℕ) (log : Log) (y : Entry) → slice_get run k ≡ Some log → slice_get log.entries i ≡ Some y → kept_by run table lines c ≡ 0
+        → from (given_at lines k) i (one (class_fed y (number_at table k i)) c) + from (suc (given_at lines k)) i (one (class_in (length table.messages.items) y (number_at table k i)) c) ≡ 0
+    term k i log y log_at y_at none =
+        let a : kept_at run table (given_at lines k) c k ≡ 0 = sum_zero (length run) k (λ k. kept_at run table (given_at lines k) c k) none (slice_get_within run k log log_at) in
+        let b : kept_in (length table.messages.items) log.entries (get_or table.rows.items k []) (given_at lines k) (suc (given_at lines k)) c ≡ 0 = rw log_at at a in
+        let t : keeping_at (length table.messages.items) log.entries (get_or table.rows.items k []) (given_at lines k) (suc (given_at lines k)) c i ≡ 0 =
+        sum_zero (length log.entries) i (keeping_at (length table.messages.items) log.entries (get_or table.rows.items k []) (given_at lines k) (suc (given_at lines k)) c) b (slice_get_within log.entries i y y_at) in
+        rw y_at at t
+
+    not_itself : (q i : ℕ) → p ≡ q → j ≡ i → length (numbers_of lines q) < i → ⊥
+    not_itself q i same also lt = let h : length (numbers_of lines p) ≡ length (numbers_of lines q) = ap (λ (r : ℕ). length (numbers_of lines r)) same in omega arith
+
+    stands_in : (k : ℕ) (log : Log) → slice_get run k ≡ Some log → (line : Numbering) × Stands run lines log.proc k log line
+    stands_in k log log_at = go (slice_get_cases lines k).1
+      where
+        go : ((line : Numbering) × (k < length lines) × (slice_get lines k ≡ Some line) × (get_or lines k line ≡ line)) ⊎ ((length lines ≤ k) × (slice_get lines k ≡ None)) → (line : Numbering) × Stands run lines log.proc k log line
+        go (inl (line, within, line_at, _)) = (line, stands_at run lines k log line rising fits log_at line_at)
+        go (inr (le, _)) = absurd (let lt = slice_get_within run k log log_at in let n = fits.count in omega arith)
+
+    none_back : kept_by run table lines c ≡ 0 → NoneOf run (KeepsBack run lines p j x)
+    none_back none = record { none = λ q i within (y, at_y, k). go q i y at_y k (where_is run lines q fits) }
+      where
+        mate : (q i k : ℕ) (log : Log) (line : Numbering) (y : Entry) → Stands run lines q k log line → slice_get (log_of run q) i ≡ Some y → AreAlike x y → length (numbers_of lines q) < i → ⊥
+        mate q i k log line y s at_y alike lt =
+            let y_at : slice_get log.entries i ≡ Some y = rw s.log_is at at_y in
+            let is_c : class_in (length table.messages.items) y (number_at table k i) ≡ Some c = sym (alike_same kp j k i x y here (record { log = log; is_log = s.log_at; is_entry = y_at }) alike) ∙ has in
+            let t = term k i log y s.log_at y_at none in
+            let g = given_is run lines k q log line s in
+            let counted : one (class_in (length table.messages.items) y (number_at table k i)) c ≡ 1 = rw is_c (one_self c) in
+            let f = from_yes (suc (given_at lines k)) i (one (class_in (length table.messages.items) y (number_at table k i)) c) (omega arith) in
+            omega arith
+
+        send : (q i k : ℕ) (log : Log) (line : Numbering) (y : Entry) → Stands run lines q k log line → slice_get (log_of run q) i ≡ Some y → Feeds y x → length (numbers_of lines q) ≤ i → ⊥
+        send q i k log line y s at_y feeds le =
+            let y_at : slice_get log.entries i ≡ Some y = rw s.log_is at at_y in
+            let is_c : class_fed y (number_at table k i) ≡ Some c = fed_same kp j k i c x y here (record { log = log; is_log = s.log_at; is_entry = y_at }) has feeds in
+            let t = term k i log y s.log_at y_at none in
+            let g = given_is run lines k q log line s in
+            let counted : one (class_fed y (number_at table k i)) c ≡ 1 = rw is_c (one_self c) in
+            let f = from_yes (given_at lines k) i (one (class_fed y (number_at table k i)) c) (omega arith) in
+            omega arith
+
+        go : (q i : ℕ) (y : Entry) → slice_get (log_of run q) i ≡ Some y → (IsMate p j x q i y × (length (numbers_of lines q) < i)) ⊎ (Feeds y x × (length (numbers_of lines q) ≤ i))
+            → ((log_of run q ≡ []) × (numbers_of lines q ≡ [])) ⊎ ((k : ℕ) × (log : Log) × (line : Numbering) × Stands run lines q k log line) → ⊥
+        go q i y at_y k (inl (nothing, _)) = (let h : slice_get {X = Entry} [] i ≡ Some y = rw nothing at at_y in cc)
+        go q i y at_y (inl (inl (same, also), lt)) (inr (k, log, line, s)) = not_itself q i same also lt
+        go q i y at_y (inl (inr alike, lt)) (inr (k, log, line, s)) = mate q i k log line y s at_y alike lt
+        go q i y at_y (inr (feeds, le)) (inr (k, log, line, s)) = send q i k log line y s at_y feeds le
+
+    some_back : 0 < kept_by run table lines c → (q : ℕ) × (i : ℕ) × KeepsBack run lines p j x q i
+    some_back some = in_run (sum_some (length run) (λ k. kept_at run table (given_at lines k) c k) some)
+      where
+        entry : (k i : ℕ) (log : Log) (y : Entry) → slice_get run k ≡ Some log → slice_get log.entries i ≡ Some y
+            → (0 < from (given_at lines k) i (one (class_fed y (number_at table k i)) c)) ⊎ (0 < from (suc (given_at lines k)) i (one (class_in (length table.messages.items) y (number_at table k i)) c))
+            → (q : ℕ) × (i : ℕ) × KeepsBack run lines p j x q i
+        entry k i log y log_at y_at (inl feeds) =
+            let f = from_some (given_at lines k) i (one (class_fed y (number_at table k i)) c) feeds in
+            let s = stands_in k log log_at in
+            let is_c = one_some (class_fed y (number_at table k i)) c f.1 in
+            let g = given_is run lines k log.proc log s.0 s.1 in
+            (log.proc, i, (y, rw s.1.log_is y_at, inr (fed_feeds kp j k i c x y here (record { log = log; is_log = log_at; is_entry = y_at }) has is_c, (let le = f.0 in omega arith))))
+        entry k i log y log_at y_at (inr shares) =
+            let f = from_some (suc (given_at lines k)) i (one (class_in (length table.messages.items) y (number_at table k i)) c) shares in
+            let s = stands_in k log log_at in
+            let is_c = one_some (class_in (length table.messages.items) y (number_at table k i)) c f.1 in
+            let g = given_is run lines k log.proc log s.0 s.1 in
+            (log.proc, i, (y, rw s.1.log_is y_at, inl (inr (class_alike kp j k i c x y here (record { log = log; is_log = log_at; is_entry = y_at }) has is_c), (let le = f.0 in omega arith))))
+
+        in_log : (k : ℕ) (log : Log) → slice_get run k ≡ Some log → (i : ℕ) × (i < length log.entries) × (0 < keeping_at (length table.messages.items) log.entries (get_or table.rows.items k []) (given_at lines k) (suc (given_at lines k)) c i)
+            → (q : ℕ) × (i : ℕ) × KeepsBack run lines p j x q i
+        in_log k log log_at (i, within, keeps) = go (slice_get_cases log.entries i).1
+          where
+            go : ((y : Entry) × (i < length log.entries) × (slice_get log.entries i ≡ Some y) × (get_or log.entries i y ≡ y)) ⊎ ((length log.entries ≤ i) × (slice_get log.entries i ≡ None)) → (q : ℕ) × (i : ℕ) × KeepsBack run lines p j x q i
+            go (inl (y, _, y_at, _)) = entry k i log y log_at y_at (either _ _ (rw y_at at keeps))
+            go (inr (le, _)) = absurd (omega arith)
+
+        in_run : (k : ℕ) × (k < length run) × (0 < kept_at run table (given_at lines k) c k) → (q : ℕ) × (i : ℕ) × KeepsBack run lines p j x q i
+        in_run (k, within, keeps) = go (slice_get_cases run k).1
+          where
+            go : ((log : Log) × (k < length run) × (slice_get run k ≡ Some log) × (get_or run k log ≡ log)) ⊎ ((length run ≤ k) × (slice_get run k ≡ None)) → (q : ℕ) × (i : ℕ) × KeepsBack run lines p j x q i
+            go (inl (log, _, log_at, _)) = in_log k log log_at (sum_some (length log.entries) (keeping_at (length table.messages.items) log.entries (get_or table.rows.items k []) (given_at lines k) (suc (given_at lines k)) c) (rw log_at at keeps))
+            go (inr (le, _)) = absurd (omega arith)
+
+    pub ready_counted : (counts : List ℕ) (r : Bool) → Counts run table lines counts → c < length counts → (IsTrue r ↔ (get_or counts c 0 ≡ 0)) → IsTrue r ↔ IsReady run lines (place p j)
+    ready_counted counts r counted within decides = (
+      λ t. nothing_keeps run lines p j x at (omega arith) (none_back (sym (counted.each c within) ∙ decides.0 t)),
+      λ ready. decides.1 (elim (zero_or (get_or counts c 0)) [
+        | inl none ↦ none
+        | inr some ↦ absurd (let back = some_back (rw (counted.each c within) at some) in something_keeps run lines p j x at back.0 back.1 back.2 ready)
+      ]),
+    )
+
+no_key : (m n : ℕ) (x : Entry) → class_in m x n ≡ None → class_key x ≡ None
+no_key m n (Conf x ms) h = absurd cc
+no_key m n (Send o x s) h = refl
+no_key m n (Deliver o x) h = absurd cc
+no_key m n (Fail x) h = refl
+
+-- the head of a log that is alone in its class is ready
+pub alone_counted : (run : List Log) (lines : List Numbering) (p j m n : ℕ) (x : Entry) → slice_get (log_of run p) j ≡ Some x → length (numbers_of lines p) ≡ j → class_in m x n ≡ None
+    → IsTrue true ↔ IsReady run lines (place p j)
+alone_counted run lines p j m n x at head alone = (λ _. nothing_keeps run lines p j x at (omega arith) (record { none = λ q i within (y, at_y, k). go q i y k }), λ _. refl)
+  where
+    itself : (q i : ℕ) → p ≡ q → j ≡ i → length (numbers_of lines q) < i → ⊥
+    itself q i same also lt = let h : length (numbers_of lines p) ≡ length (numbers_of lines q) = ap (λ (r : ℕ). length (numbers_of lines r)) same in omega arith
+
+    go : (q i : ℕ) (y : Entry) → (IsMate p j x q i y × (length (numbers_of lines q) < i)) ⊎ (Feeds y x × (length (numbers_of lines q) ≤ i)) → ⊥
+    go q i y (inl (inl (same, also), lt)) = itself q i same also lt
+    go q i y (inl (inr alike, lt)) = alone_alike x y (no_key m n x alone) alike
+    go q i y (inr (feeds, le)) = alone_fed y x (no_key m n x alone) feeds

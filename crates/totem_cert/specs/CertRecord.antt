@@ -1,0 +1,8 @@
+-- What contracts see of a certificate: the version of its text, and its lines.
+use Rattle.std.specs.Prelude.{List}
+use Rattle.totem_ids.specs.declared.version.Version.{Version}
+use Rattle.totem_evs.specs.Certificates.{Numbering}
+
+pub record CertRecord : Type 0 where
+  pub version : Version
+  pub lines : List Numbering

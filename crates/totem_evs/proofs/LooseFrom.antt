@@ -1,0 +1,163 @@
+-- Lists that rise but for their last, from left to right.
+use Rattle.std.specs.Prelude.{AllPairs}
+use Rattle.std.specs.List.{AllByRecursion}
+use Rattle.std.proofs.Common.{ℕ, ◌<◌, ◌≤◌, List, [], ◌∷◌, length, arith}
+use Rattle.std.proofs.lemmas.List.Kept.{AllPairs-cons}
+use Rattle.std.proofs.lemmas.List.Elements.{All-from_recursion, recursion_from_All}
+use Rattle.totem_ids.specs.declared.version.Version.{Version}
+use Rattle.totem_ids.specs.Processes.{IsProcessIn}
+use Rattle.totem_ids.specs.Ranks.{id_of}
+use Rattle.totem_evs.specs.declared.entry.Entry.{Entry}
+use Rattle.totem_evs.specs.declared.entry.Entry.TheVariants.{Conf, Send, Deliver, Fail}
+use Rattle.totem_evs.specs.declared.log.Log.{Log}
+use Rattle.totem_evs.specs.Members.{IsMembersIn, IsBelow}
+use Rattle.totem_evs.specs.Runs.{IsEntryIn, IsLogIn, IsBelowLog}
+use Rattle.totem_evs.specs.TextFronts.{but_last, IsLooseMembers, IsLooseEntry, IsLooseEntries, IsLooseLog, IsLooseRun}
+use Rattle.totem_evs.proofs.FromLeft.{Rises, members_from}
+
+-- ---- all but the last
+
+but_last_of : {X : Type 0} (P : X → Type 0) (xs : List X) → AllByRecursion P xs → AllByRecursion P (but_last xs)
+but_last_of P [] h = tt
+but_last_of P (x ∷ []) h = tt
+but_last_of P (x ∷ y ∷ xs) h = (h.0, but_last_of P (y ∷ xs) h.1)
+
+-- ---- members
+
+-- processes that texts of this version can write, whose identifiers are above `last` and rise, but for the last
+abbrev pub RisesLoosely : Version → ℕ → List ℕ → Type 0
+RisesLoosely version last [] = Unit {0}
+RisesLoosely version last (p ∷ []) = IsProcessIn version p
+RisesLoosely version last (p ∷ q ∷ ps) = (last < id_of p) × IsProcessIn version p × RisesLoosely version (id_of p) (q ∷ ps)
+
+pub record LooseMembersFrom (version : Version) (room last : ℕ) (ms : List ℕ) : Type 0 where
+  pub some : 0 < length ms
+  pub few : length ms ≤ room
+  pub rises : RisesLoosely version last ms
+
+pub loose_member : (version : Version) (last p : ℕ) (ps : List ℕ) → last < id_of p → IsProcessIn version p → RisesLoosely version (id_of p) ps → RisesLoosely version last (p ∷ ps)
+loose_member version last p [] above is h = is
+loose_member version last p (q ∷ ps) above is h = (above, is, h)
+
+loosely : (version : Version) (last : ℕ) (ms : List ℕ) → Rises version last ms → RisesLoosely version last ms
+loosely version last [] h = tt
+loosely version last (p ∷ ps) h = loose_member version last p ps h.0 h.1 (loosely version (id_of p) ps h.2)
+
+members_above : (version : Version) (last low : ℕ) (ms : List ℕ) → low ≤ last → RisesLoosely version last ms → AllByRecursion (λ p. low < id_of p) (but_last ms)
+members_above version last low [] le h = tt
+members_above version last low (p ∷ []) le h = tt
+members_above version last low (p ∷ q ∷ ps) le h = (omega (arith, h.0), members_above version (id_of p) low (q ∷ ps) (omega (arith, h.0)) h.2)
+
+members_within : (version : Version) (last : ℕ) (ms : List ℕ) → RisesLoosely version last ms → AllByRecursion (IsProcessIn version) ms
+members_within version last [] h = tt
+members_within version last (p ∷ []) h = (h, tt)
+members_within version last (p ∷ q ∷ ps) h = (h.1, members_within version (id_of p) (q ∷ ps) h.2)
+
+members_pairs : (version : Version) (last : ℕ) (ms : List ℕ) → RisesLoosely version last ms → AllPairs IsBelow (but_last ms)
+members_pairs version last [] h = λ i j d lt within. absurd (omega arith)
+members_pairs version last (p ∷ []) h = λ i j d lt within. absurd (omega arith)
+members_pairs version last (p ∷ q ∷ ps) h =
+    AllPairs-cons IsBelow p (but_last (q ∷ ps)) (All-from_recursion (λ r. id_of p < id_of r) (but_last (q ∷ ps)) (members_above version (id_of p) (id_of p) (q ∷ ps) (omega arith) h.2)) (members_pairs version (id_of p) (q ∷ ps) h.2)
+
+pub are_loose_members : (version : Version) (ms : List ℕ) → LooseMembersFrom version 32 0 ms → IsLooseMembers version ms
+are_loose_members version ms h = record {
+  some = h.some;
+  few = h.few;
+  rising = members_pairs version 0 ms h.rises;
+  processes = All-from_recursion (IsProcessIn version) ms (members_within version 0 ms h.rises);
+}
+
+members_loosely : (version : Version) (ms : List ℕ) → IsMembersIn version ms → IsLooseMembers version ms
+members_loosely version ms is = are_loose_members version ms (record { some = is.some; few = is.few; rises = loosely version 0 ms (members_from version ms is).rises })
+
+-- ---- entries
+
+pub loose_entry : (version : Version) (e : Entry) → IsEntryIn version e → IsLooseEntry version e
+loose_entry version (Conf x members) is = (is.0, members_loosely version members is.1)
+loose_entry version (Send m x service) is = is
+loose_entry version (Deliver m x) is = is
+loose_entry version (Fail x) is = is
+
+-- entries of which the last is such a one
+abbrev pub EachLoosely : Version → List Entry → Type 0
+EachLoosely version [] = Unit {0}
+EachLoosely version (e ∷ []) = IsLooseEntry version e
+EachLoosely version (e ∷ f ∷ es) = IsEntryIn version e × EachLoosely version (f ∷ es)
+
+pub entry_loosely : (version : Version) (e : Entry) (es : List Entry) → IsEntryIn version e → EachLoosely version es → EachLoosely version (e ∷ es)
+entry_loosely version e [] is h = loose_entry version e is
+entry_loosely version e (f ∷ es) is h = (is, h)
+
+entries_before : (version : Version) (es : List Entry) → EachLoosely version es → AllByRecursion (IsEntryIn version) (but_last es)
+entries_before version [] h = tt
+entries_before version (e ∷ []) h = tt
+entries_before version (e ∷ f ∷ es) h = (h.0, entries_before version (f ∷ es) h.1)
+
+entries_each : (version : Version) (es : List Entry) → EachLoosely version es → AllByRecursion (IsLooseEntry version) es
+entries_each version [] h = tt
+entries_each version (e ∷ []) h = (h, tt)
+entries_each version (e ∷ f ∷ es) h = (loose_entry version e h.0, entries_each version (f ∷ es) h.1)
+
+pub loose_entries : (version : Version) (es : List Entry) → 0 < length es → length es ≤ 1000000 → EachLoosely version es → IsLooseEntries version es
+loose_entries version es some few h = record {
+  some = some;
+  few = few;
+  before = All-from_recursion (IsEntryIn version) (but_last es) (entries_before version es h);
+  each = All-from_recursion (IsLooseEntry version) es (entries_each version es h);
+}
+
+all_loosely : (version : Version) (es : List Entry) → AllByRecursion (IsEntryIn version) es → EachLoosely version es
+all_loosely version [] h = tt
+all_loosely version (e ∷ es) h = entry_loosely version e es h.0 (all_loosely version es h.1)
+
+-- ---- logs
+
+loose_log : (version : Version) (log : Log) → IsLogIn version log → IsLooseLog version log
+loose_log version log is = record {
+  process = is.process;
+  entries = loose_entries version log.entries is.entries.some is.entries.few (all_loosely version log.entries (recursion_from_All (IsEntryIn version) log.entries is.entries.each));
+  ending = is.ending;
+}
+
+-- logs of which the last is such a one and need not rise
+abbrev pub LogsLoosely : Version → ℕ → List Log → Type 0
+LogsLoosely version last [] = Unit {0}
+LogsLoosely version last (log ∷ []) = IsLooseLog version log
+LogsLoosely version last (log ∷ other ∷ logs) = (last < log.proc) × IsLogIn version log × LogsLoosely version log.proc (other ∷ logs)
+
+pub record LooseLogsFrom (version : Version) (room last : ℕ) (logs : List Log) : Type 0 where
+  pub few : length logs < room
+  pub rises : LogsLoosely version last logs
+
+pub log_loosely : (version : Version) (last : ℕ) (log : Log) (logs : List Log) → last < log.proc → IsLogIn version log → LogsLoosely version log.proc logs → LogsLoosely version last (log ∷ logs)
+log_loosely version last log [] above is h = loose_log version log is
+log_loosely version last log (other ∷ logs) above is h = (above, is, h)
+
+logs_above : (version : Version) (last low : ℕ) (logs : List Log) → low ≤ last → LogsLoosely version last logs → AllByRecursion (λ l. low < l.proc) (but_last logs)
+logs_above version last low [] le h = tt
+logs_above version last low (l ∷ []) le h = tt
+logs_above version last low (l ∷ k ∷ ls) le h = (omega (arith, h.0), logs_above version l.proc low (k ∷ ls) (omega (arith, h.0)) h.2)
+
+logs_pairs : (version : Version) (last : ℕ) (logs : List Log) → LogsLoosely version last logs → AllPairs IsBelowLog (but_last logs)
+logs_pairs version last [] h = λ i j d lt within. absurd (omega arith)
+logs_pairs version last (l ∷ []) h = λ i j d lt within. absurd (omega arith)
+logs_pairs version last (l ∷ k ∷ ls) h =
+    AllPairs-cons IsBelowLog l (but_last (k ∷ ls)) (All-from_recursion (λ b. l.proc < b.proc) (but_last (k ∷ ls)) (logs_above version l.proc l.proc (k ∷ ls) (omega arith) h.2)) (logs_pairs version l.proc (k ∷ ls) h.2)
+
+logs_before : (version : Version) (last : ℕ) (logs : List Log) → LogsLoosely version last logs → AllByRecursion (IsLogIn version) (but_last logs)
+logs_before version last [] h = tt
+logs_before version last (l ∷ []) h = tt
+logs_before version last (l ∷ k ∷ ls) h = (h.1, logs_before version l.proc (k ∷ ls) h.2)
+
+logs_each : (version : Version) (last : ℕ) (logs : List Log) → LogsLoosely version last logs → AllByRecursion (IsLooseLog version) logs
+logs_each version last [] h = tt
+logs_each version last (l ∷ []) h = (h, tt)
+logs_each version last (l ∷ k ∷ ls) h = (loose_log version l h.1, logs_each version l.proc (k ∷ ls) h.2)
+
+pub is_loose_run : (version : Version) (logs : List Log) → LooseLogsFrom version 33 0 logs → IsLooseRun version logs
+is_loose_run version logs h = record {
+  few = omega (arith, h.few);
+  rising = logs_pairs version 0 logs h.rises;
+  before = All-from_recursion (IsLogIn version) (but_last logs) (logs_before version 0 logs h.rises);
+  each = All-from_recursion (IsLooseLog version) logs (logs_each version 0 logs h.rises);
+}

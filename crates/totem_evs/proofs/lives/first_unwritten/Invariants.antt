@@ -1,0 +1,6 @@
+use Rattle.std.proofs.Common.{All, take}
+use Rattle.totem_evs.specs.Lives.{HasFirstLives}
+use Rattle.totem_evs.proofs.lives.first_unwritten.Given as goal
+
+abbrev pub invariant-loop-at : goal.invariant-loop-at
+invariant-loop-at l = All HasFirstLives (take l.at l.logs)

@@ -1,0 +1,8 @@
+-- What contracts see of a run: the version of its text, and its logs.
+use Rattle.std.specs.Prelude.{List}
+use Rattle.totem_ids.specs.declared.version.Version.{Version}
+use Rattle.totem_evs.specs.LogRecord.{LogRecord}
+
+pub record RunRecord : Type 0 where
+  pub version : Version
+  pub logs : List LogRecord

@@ -1,0 +1,142 @@
+//! Which version writes a process that came back, and texts of version 2 that are written as they were read.
+use crate::lists::{push_line, refusal};
+use crate::logs::push_log_of;
+use crate::values::is_told;
+use std::alloc::{AllocError, Global};
+use totem_cert::{Certificate, read_cert, write_cert};
+use totem_evs::{Run, read_run, write_run};
+use totem_ids::{FromRead, Proc, ProcId, ToWrite, Version};
+
+/// Returns this life of process 1.
+fn life(number: u16) -> Proc {
+    Proc::of(ProcId::of(1), number.max(1))
+}
+
+/// Which version is asked for.
+enum Asked {
+    One,
+    Two,
+    /// The first that can write it.
+    First,
+}
+
+/// Tells the version of a run of one log, of this life of process 1, or why there is none.
+fn run_told(alloc: Global, asked: &Asked, number: u16) -> Result<String, AllocError> {
+    let mut logs = Vec::new(alloc);
+    push_log_of(alloc, &mut logs, life(number), "fail")?;
+    let made = match asked {
+        Asked::One => Run::new(Version::One, logs),
+        Asked::Two => Run::new(Version::Two, logs),
+        Asked::First => Run::of(logs),
+    };
+    match made {
+        Ok(run) => format!(in alloc; "{:?}", run.version),
+        Err(refused) => refusal(alloc, &refused),
+    }
+}
+
+/// Tells the version of a certificate of one line in the same way.
+fn certificate_told(alloc: Global, asked: &Asked, number: u16) -> Result<String, AllocError> {
+    let mut lines = Vec::new(alloc);
+    push_line(alloc, &mut lines, life(number))?;
+    let made = match asked {
+        Asked::One => Certificate::new(Version::One, lines),
+        Asked::Two => Certificate::new(Version::Two, lines),
+        Asked::First => Certificate::of(lines),
+    };
+    match made {
+        Ok(certificate) => format!(in alloc; "{:?}", certificate.version),
+        Err(refused) => refusal(alloc, &refused),
+    }
+}
+
+/// A life, and what is told of a run and of a certificate that has it.
+struct Row {
+    asked: Asked,
+    life: u16,
+    told: &'static str,
+}
+
+const ROWS: [Row; 6] = [
+    Row {
+        asked: Asked::One,
+        life: 1,
+        told: "One",
+    },
+    Row {
+        asked: Asked::One,
+        life: 2,
+        told: "Life(0) of 1",
+    },
+    Row {
+        asked: Asked::Two,
+        life: 1,
+        told: "Two",
+    },
+    Row {
+        asked: Asked::Two,
+        life: 65535,
+        told: "Two",
+    },
+    Row {
+        asked: Asked::First,
+        life: 1,
+        told: "One",
+    },
+    Row {
+        asked: Asked::First,
+        life: 2,
+        told: "Two",
+    },
+];
+
+#[test]
+fn version_one_writes_first_lives_alone(rt: HostRuntime) -> Result<(), AllocError> {
+    for row in &ROWS {
+        let run = run_told(rt.alloc(), &row.asked, row.life)?;
+        is_told(&rt, &run, row.told, "a run");
+        let certificate = certificate_told(rt.alloc(), &row.asked, row.life)?;
+        is_told(&rt, &certificate, row.told, "a certificate");
+    }
+    Ok(())
+}
+
+const RUN: &str = "totem-run 2\n\
+    log 1:1\nconf r4.1 1:1\nfail r4.1\nfailed\n\
+    log 1:2\nconf r8.1 1:2\nsend r8.1 a 8.1#1\ndlv r8.1 8.1#1\nopen\n\
+    end\n";
+
+const CERTIFICATE: &str = "totem-cert 2\npos 1:1 1 2\npos 1:2 3 4 5\nend\n";
+
+/// Returns what is written of the run that is read from a text, or why there is none.
+fn run_again(alloc: Global, text: &str) -> Result<Vec<u8>, AllocError> {
+    let mut sink = ToWrite::new(Vec::new(alloc));
+    match read_run(alloc, &mut FromRead::new(text.as_bytes())) {
+        Ok(run) => match write_run(alloc, &run, &mut sink) {
+            Ok(()) => Ok(sink.into_inner()),
+            Err(fault) => fault.name().as_bytes().to_vec(alloc),
+        },
+        Err(fault) => fault.name().as_bytes().to_vec(alloc),
+    }
+}
+
+/// Returns what is written of the certificate that is read from a text, or why there is none.
+fn certificate_again(alloc: Global, text: &str) -> Result<Vec<u8>, AllocError> {
+    let mut sink = ToWrite::new(Vec::new(alloc));
+    match read_cert(alloc, &mut FromRead::new(text.as_bytes())) {
+        Ok(certificate) => match write_cert(alloc, &certificate, &mut sink) {
+            Ok(()) => Ok(sink.into_inner()),
+            Err(fault) => fault.name().as_bytes().to_vec(alloc),
+        },
+        Err(fault) => fault.name().as_bytes().to_vec(alloc),
+    }
+}
+
+#[test]
+fn lives_are_written_as_they_were_read(rt: HostRuntime) -> Result<(), AllocError> {
+    let run = run_again(rt.alloc(), RUN)?;
+    assert!(rt; run.as_slice() == RUN.as_bytes());
+    let certificate = certificate_again(rt.alloc(), CERTIFICATE)?;
+    assert!(rt; certificate.as_slice() == CERTIFICATE.as_bytes());
+    Ok(())
+}
