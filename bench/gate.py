@@ -1,7 +1,7 @@
 #!/usr/bin/env python3
 """Where the gate's processor time goes: runs `rt ci` and sums the time of its checks, by crate and by what they do.
 
-    bench/gate.py                     # runs `rt ci --anew` here, and prints the table when it has ended
+    bench/gate.py                     # runs `rt ci` from nothing here, and prints the table when it has ended
     bench/gate.py --each              # the table, and behind it a line for each edit
     bench/gate.py rt ci totem_ids     # the same for another command
     bench/gate.py --watch             # only watches a run that somebody else began; ends with Ctrl-C
@@ -124,16 +124,22 @@ def tell(crates, edits, each):
             print("%8.2f  %s %s" % (minutes, crate, edit))
 
 
+def gate():
+    """The command that proves all from nothing: a kit that keeps what it proved before has a word to leave that."""
+    told = subprocess.run(["rt", "help"], capture_output=True, text=True, check=False)
+    return ["rt", "ci"] + ["--anew"] * ("--anew" in told.stdout + told.stderr)
+
+
 def main():
     """Watches until the command has ended."""
     parser = argparse.ArgumentParser(description=__doc__, formatter_class=argparse.RawDescriptionHelpFormatter)
     parser.add_argument("--each", action="store_true", help="tell each edit too")
     parser.add_argument("--watch", action="store_true", help="begin nothing")
-    parser.add_argument("command", nargs="*", default=["rt", "ci", "--anew"])
+    parser.add_argument("command", nargs="*")
     asked = parser.parse_args()
     signal.signal(signal.SIGTERM, signal.default_int_handler)
     watch, begun = Watch(), time.monotonic()
-    running = None if asked.watch else subprocess.Popen(asked.command)
+    running = None if asked.watch else subprocess.Popen(asked.command or gate())
     try:
         while not running or running.poll() is None:
             watch.look()

@@ -1,6 +1,6 @@
 //! A node's book: the node, its calls and its log.
 ghost use Rattle.std.specs.Prelude.{◌≡◌, ◌+◌, Err, IfOk, IfErr, OnErr, length};
-ghost use Rattle.totem_recover.specs.FirstLives.{IsRingMembers};
+ghost use Rattle.totem_evs.specs.Members.{IsMembers};
 ghost use Rattle.totem_books.specs.Replies.{answer_of};
 ghost use Rattle.totem_books.specs.History.{begun, start_with, log_of, answer, called, receipt, followed_by, IsFull};
 
@@ -12,10 +12,9 @@ use crate::level::Level;
 use crate::reply::Reply;
 use std::alloc::{AllocError, Global};
 use std::marker::Model;
-use totem_evs::Entry;
-use totem_ids::{ProcId, RingId};
+use totem_evs::{Entry, Members};
+use totem_ids::{Proc, RingId};
 use totem_node::{Input, NodeCore};
-use totem_recover::RingMembers;
 
 /// How many calls, and how many entries, make a book full.
 const MOST: usize = 1_000_000;
@@ -23,9 +22,9 @@ const MOST: usize = 1_000_000;
 /// A node with its calls and its log. Contracts see the calls, and what the node began with.
 #[derive(Debug, Drop)]
 pub struct Book {
-    me: ProcId,
+    me: Proc,
     ring: RingId,
-    members: RingMembers,
+    members: Members,
     node: Level,
     entries: Vec<Entry>,
     calls: Vec<Call>,
@@ -44,14 +43,9 @@ impl Model for Book {
 
 impl Book {
     /// Makes the book of a node that starts on this ring, without calls. The members are 1 to 32 processes, strictly
-    /// rising, and are expected to have `me` among them.
-    pub fn new(
-        alloc: Global,
-        me: ProcId,
-        ring: RingId,
-        members: &[ProcId],
-    ) -> Result<Book, AllocError>
-        requires { IsRingMembers members.now }
+    /// rising by identifier, and are expected to have `me` among them.
+    pub fn new(alloc: Global, me: Proc, ring: RingId, members: &[Proc]) -> Result<Book, AllocError>
+        requires { IsMembers members.now }
         ensures { IfOk result (λ b. b ≡ begun (start_with me ring members.now)) }
     {
         let (node, change) = NodeCore::new(alloc, me, ring, members)?;
@@ -60,7 +54,7 @@ impl Book {
         Ok(Book {
             me,
             ring,
-            members: RingMembers::of(members.to_vec(alloc)?),
+            members: Members::of(members.to_vec(alloc)?),
             node: Level::new(node),
             entries,
             calls: Vec::new(alloc),

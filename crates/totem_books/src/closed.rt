@@ -1,20 +1,19 @@
 //! A book that takes no more calls.
 ghost use Rattle.std.specs.Prelude.{◌≡◌};
 ghost use Rattle.totem_books.specs.Replay.{IsRecorded};
-ghost use Rattle.totem_recover.specs.FirstLives.{IsRingMembers};
+ghost use Rattle.totem_evs.specs.Members.{IsMembers};
 
 use crate::call::Call;
 use std::marker::Model;
-use totem_evs::Entry;
-use totem_ids::{ProcId, RingId};
-use totem_recover::RingMembers;
+use totem_evs::{Entry, Members};
+use totem_ids::{Proc, RingId};
 
 /// A book that takes no more calls. Its log and the stored replies are the replay of the stored inputs.
 #[derive(Debug, Drop)]
 pub struct ClosedBook {
-    pub(crate) me: ProcId,
+    pub(crate) me: Proc,
     pub(crate) ring: RingId,
-    pub(crate) members: RingMembers,
+    pub(crate) members: Members,
     pub(crate) calls: Vec<Call>,
     pub(crate) log: Vec<Entry>,
 }
@@ -33,7 +32,7 @@ impl Model for ClosedBook {
 
 impl ClosedBook {
     /// Returns the node whose book it is.
-    pub fn me(&self) -> ProcId
+    pub fn me(&self) -> Proc
         ensures { result ≡ self.now.start.me }
     {
         self.me
@@ -47,9 +46,9 @@ impl ClosedBook {
     }
 
     /// Returns the members of that ring.
-    pub fn members(&self) -> &[ProcId]
+    pub fn members(&self) -> &[Proc]
         ensures value { result.now ≡ self.now.start.members }
-        ensures members { IsRingMembers self.now.start.members }
+        ensures members { IsMembers self.now.start.members }
     {
         self.members.as_slice()
     }

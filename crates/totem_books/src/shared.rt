@@ -1,6 +1,6 @@
 //! A book that threads share.
 ghost use Rattle.std.specs.Prelude.{◌≡◌, ◌<◌, ◌≤◌, ◌+◌, ℕ, [], ◌∷◌, ◌++◌, IfOk, OnOk, OnErr, vec_len, All};
-ghost use Rattle.totem_recover.specs.FirstLives.{IsRingMembers};
+ghost use Rattle.totem_evs.specs.Members.{IsMembers};
 ghost use Rattle.totem_books.specs.Replies.{answer_of};
 ghost use Rattle.totem_books.specs.History.{receipt};
 
@@ -14,7 +14,7 @@ use std::alloc::{AllocError, Global};
 use std::marker::PhantomData;
 use std::sync::ledger::{Blank, Ledger};
 use std::sync::{Mutex, Wait};
-use totem_ids::{ProcId, RingId};
+use totem_ids::{Proc, RingId};
 use totem_node::Input;
 
 /// How many seats a book has: one for each part of its ledger.
@@ -40,14 +40,14 @@ impl<L: BookName> SharedBook<L> {
     pub fn new(
         alloc: Global,
         blank: Blank,
-        me: ProcId,
+        me: Proc,
         ring: RingId,
-        members: &[ProcId],
+        members: &[Proc],
         seats: u64,
     ) -> Result<(SharedBook<L>, Vec<Seat<L>>), AllocError>
         requires ledger { (blank.name ≡ L.name) × (blank.parts ≡ L.parts) }
         requires start { (me ≡ L.me) × (ring ≡ L.ring) × (members.now ≡ L.members) }
-        requires members { IsRingMembers members.now }
+        requires members { IsMembers members.now }
         requires seats { (seats ≡ L.parts) × (0 < seats) × (seats ≤ 64) }
         ensures count { IfOk result (λ r. vec_len r.1 ≡ seats) }
         ensures empty { IfOk result (λ r. All (λ seat. (seat.stubs ≡ []) × (seat.share ≡ 0)) r.1.items) }

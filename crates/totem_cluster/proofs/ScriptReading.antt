@@ -1,5 +1,5 @@
 -- Reading a script: byte after byte, and no further than is looked at.
-use Rattle.std.proofs.Common.{◌≡◌, ℕ, zero, suc, ◌==◌, ◌≤◌, List, [], ◌∷◌, ◌++◌, length, map, take, cond, Bool, true, false, Option, None, Some, Ok, Err, IfSome, inl, refl, sym, ap, ◌∙◌, arith}
+use Rattle.std.proofs.Common.{◌≡◌, ℕ, zero, suc, ◌==◌, ◌≤◌, List, [], ◌∷◌, ◌++◌, length, take, cond, Bool, true, false, Option, None, Some, Ok, Err, IfSome, inl, refl, sym, ap, ◌∙◌, arith}
 use Rattle.std.specs.Io.KnownBytes.{Consumes, Keeps, IsAtEnd}
 use Rattle.std.proofs.lemmas.List.{take_all, append-nil}
 use Rattle.std.proofs.Math.Seq.{take-append_seam}
@@ -7,7 +7,7 @@ use Rattle.totem_ids.specs.Sources.{Seen}
 use Rattle.totem_ids.specs.Writing.{Held}
 use Rattle.totem_evs.specs.declared.run.Run.{Run}
 use Rattle.totem_script.specs.Lines.{longer_line, lines_of}
-use Rattle.totem_script.specs.Actors.{log_of}
+use Rattle.totem_script.specs.Casts.{logs_in}
 use Rattle.totem_script.specs.Versions.{run_of}
 use Rattle.totem_script.specs.Simulation.{Told, and_then, all_played, simulate}
 use Rattle.totem_cluster.specs.SimIo.{most_read, IsRead, IsReading, MakesRun, Simulates}
@@ -25,7 +25,7 @@ front_lines (suc room) (b ∷ bytes) = ap (λ ls. cond (b == 10) (Ok [] ∷ ls) 
 
 pub reads_front : (bytes : List ℕ) → simulate (take most_read bytes) ≡ simulate bytes
 unfolding simulate
-reads_front bytes = ap (λ lines. and_then (all_played lines) (λ scene. Ok (run_of (map log_of scene.actors)))) (front_lines 65536 bytes)
+reads_front bytes = ap (λ lines. and_then (all_played lines) (λ scene. Ok (run_of scene.version (logs_in scene.actors)))) (front_lines 65536 bytes)
 
 -- what a script that was read makes, all of it makes
 pub of_all : (a : Option (List ℕ)) (read : List ℕ) (answer : Told Run) → IfSome a (λ bytes. read ≡ take most_read bytes) → simulate read ≡ answer

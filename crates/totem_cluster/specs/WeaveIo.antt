@@ -3,6 +3,7 @@ use Rattle.std.specs.Prelude.{◌≡◌, ℕ, ◌+◌, ◌%◌, ◌^◌, List, �
 use Rattle.std.specs.List.{flat_map}
 use Rattle.totem_ids.specs.Names.{PlaceName}
 use Rattle.totem_ids.specs.Processes.{place_text}
+use Rattle.totem_ids.specs.Ranks.{id_of}
 use Rattle.totem_ids.specs.Texts.{message_text}
 use Rattle.totem_ids.specs.Writing.{Held, Wrote}
 use Rattle.totem_packets.specs.declared.message.Message.{Message}
@@ -27,9 +28,9 @@ weave_status weaves.Orphan = 1
 abbrev pub names_text : List Message → List ℕ
 names_text messages = flat_map (λ m. codes " " ++ message_text (record { ring = m.ring; number = m.number })) messages
 
--- a member, and what it handed up
+-- a member's identifier, and what it handed up
 abbrev pub handed_text : ℕ → List Message → List ℕ
-handed_text p messages = codes "handed " ++ decimal p ++ names_text messages
+handed_text p messages = codes "handed " ++ decimal (id_of p) ++ names_text messages
 
 -- the number of steps
 abbrev pub steps_text : ℕ → List ℕ

@@ -8,9 +8,11 @@ const SHOWN: usize = 72;
 /// Returns what is wanted where a script has such a fault.
 fn wanted(kind: ScriptFaultKind) -> &'static str {
     match kind {
-        ScriptFaultKind::Header => "A script begins with the line `totem-script 1`.",
+        ScriptFaultKind::Header => {
+            "A script begins with the line `totem-script 1` or `totem-script 2`."
+        }
         ScriptFaultKind::Word => {
-            "A line is `ring 4.1 1 2 3`, `submit 1 a word`, `run 7`, `drop 2`, `repeat 2`, `cut 1 2 / 3`, `join`, `timer 1`, `crash 1` or `end`, with one space between its words."
+            "A line is `ring 4.1 1 2 3`, `submit 1 a word`, `run 7`, `drop 2`, `repeat 2`, `cut 1 2 / 3`, `join`, `timer 1`, `crash 1`, from version 2 on `return 1`, or `end`, with one space between its words."
         }
         ScriptFaultKind::Number => {
             "Numbers have no zero in front. Processes are 1 to 65535, counts and places 1 to 100000."
@@ -21,11 +23,13 @@ fn wanted(kind: ScriptFaultKind) -> &'static str {
         ScriptFaultKind::Members => {
             "The members of a ring rise, are in no other ring, and the least is its representative. Other commands name processes of the script, and a cut names each of them once."
         }
-        ScriptFaultKind::Place => "There are fewer packets on their way.",
+        ScriptFaultKind::Place => {
+            "There are fewer packets on their way; or who is to return has not crashed, or has no life or ring number left."
+        }
         ScriptFaultKind::End => "Nothing stands behind the line `end`.",
         ScriptFaultKind::Truncated => "Each line has its end, and the last one is `end`.",
         ScriptFaultKind::TooMany => {
-            "A script has 32 processes and 65536 bytes at most, and a log 1000000 entries."
+            "A script has 32 processes at most, each life counted, and 65536 bytes, and a log 1000000 entries."
         }
         ScriptFaultKind::Read | ScriptFaultKind::Memory => "",
     }

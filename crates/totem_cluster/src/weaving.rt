@@ -15,7 +15,7 @@ use std::sync::Wait;
 use std::thread::Threads;
 use totem_books::ClosedBook;
 use totem_evs::WriteFault;
-use totem_ids::{Failed, MsgId, Pieces, Place, ProcId, Sink};
+use totem_ids::{Failed, MsgId, Pieces, Place, Proc, ProcId, Sink};
 use totem_net::{Progress, Quiet};
 use totem_packets::Message;
 use totem_threads::RunPlan;
@@ -77,20 +77,20 @@ fn put_names<S: Sink>(pieces: &mut Pieces, sink: &mut S, messages: &[Message]) -
 fn put_handed<S: Sink>(
     pieces: &mut Pieces,
     sink: &mut S,
-    handed: &(ProcId, Vec<Message>),
+    handed: &(Proc, Vec<Message>),
 ) -> Result<(), Failed>
     ensures { Writes (held S.contents S.failures pieces.old sink.old)
         (held S.contents S.failures pieces.new sink.new) result (handed_text handed.now.0 handed.now.1.items) }
 {
     pieces.put(sink, b"handed ")?;
-    put_proc(pieces, sink, handed.0)?;
+    put_proc(pieces, sink, handed.0.id())?;
     put_names(pieces, sink, &handed.1)
 }
 
 fn put_each_handed<S: Sink>(
     pieces: &mut Pieces,
     sink: &mut S,
-    lists: &[(ProcId, Vec<Message>)],
+    lists: &[(Proc, Vec<Message>)],
 ) -> Result<(), Failed>
     ensures { Writes (held S.contents S.failures pieces.old sink.old)
         (held S.contents S.failures pieces.new sink.new) result (flat_map (λ h. line (handed_text h.0 h.1.items)) lists.now) }

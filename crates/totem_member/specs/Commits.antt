@@ -44,7 +44,7 @@ report_of (m ∷ ms) p = if m.proc == p then m.report else report_of ms p
 
 abbrev pub same_report : Report → Report → Bool
 same_report a b =
-    same_ring a.ring b.ring && (a.aru == b.aru) && (a.delivered == b.delivered) && same_processes a.obligation b.obligation
+    (a.life == b.life) && same_ring a.ring b.ring && (a.aru == b.aru) && (a.delivered == b.delivered) && same_processes a.obligation b.obligation
 
 -- it was reported, and is this
 abbrev pub is_report : Option Report → Report → Bool

@@ -25,7 +25,7 @@ view_of s = record {
 
 -- and the report
 abbrev pub own_report : Shown → Report
-own_report s = record { ring = s.ring; aru = s.aru; delivered = s.delivered; obligation = s.obligation.now }
+own_report s = record { life = s.life; ring = s.ring; aru = s.aru; delivered = s.delivered; obligation = s.obligation.now }
 
 -- in which way it was taken, or its refusal
 abbrev pub act_of : Result CommitOut MemberFault → Result Act MemberFault

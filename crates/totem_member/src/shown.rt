@@ -8,7 +8,9 @@ ghost use Rattle.totem_member.specs.Shown.{view_of, own_report, act_of};
 use crate::fault::MemberFault;
 use crate::views::{Act, CommitView, Phase};
 use totem_ids::{ProcId, RingId};
-use totem_packets::{CommitMember, CommitMembers, CommitToken, Number, Processes, Report, Round};
+use totem_packets::{
+    CommitMember, CommitMembers, CommitToken, Life, Number, Processes, Report, Round,
+};
 
 /// How many processes an obligation union may have at most.
 const MOST: usize = 32;
@@ -27,7 +29,8 @@ pub struct Shown<'a> {
     pub phase: Phase,
     /// Whether it has taken the first token of the new ring.
     pub started: bool,
-    /// What it would report of its installed ring.
+    /// What it would report of its life and of its installed ring.
+    pub life: Life,
     pub ring: RingId,
     pub aru: u32,
     pub delivered: u32,
@@ -69,6 +72,7 @@ impl<'a> Shown<'a> {
             filled: view.filled,
             phase: view.phase,
             started: view.started,
+            life: report.life,
             ring: report.ring,
             aru: report.aru,
             delivered: report.delivered,
@@ -112,7 +116,8 @@ impl Shown<'_> {
     fn is_report(&self, reported: &Report) -> bool
         ensures { result ≡ same_report reported.now (own_report self.now) }
     {
-        reported.ring.seq == self.ring.seq
+        reported.life == self.life
+            && reported.ring.seq == self.ring.seq
             && reported.ring.rep == self.ring.rep
             && reported.aru == self.aru
             && reported.delivered == self.delivered

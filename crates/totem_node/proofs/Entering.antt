@@ -22,7 +22,9 @@ use Rattle.totem_recover.specs.Exchange.{IsReady}
 -- who reported this reports its ring
 reports_its_ring : (reported : Option Report) (r : Report) → is_report reported r ≡ true → reports_ring r.ring reported ≡ true
 reports_its_ring None r e = absurd (true≢false (sym e))
-reports_its_ring (Some own) r e = (and_parts (same_ring own.ring r.ring) (own.aru == r.aru) (and_parts (same_ring own.ring r.ring && (own.aru == r.aru)) (own.delivered == r.delivered) (and_parts _ (same_processes own.obligation r.obligation) e).0).0).0
+reports_its_ring (Some own) r e =
+    let ring = (own.life == r.life) && same_ring own.ring r.ring in
+    (and_parts (own.life == r.life) (same_ring own.ring r.ring) (and_parts ring (own.aru == r.aru) (and_parts (ring && (own.aru == r.aru)) (own.delivered == r.delivered) (and_parts _ (same_processes own.obligation r.obligation) e).0).0).0).1
 
 or_true : (a : Bool) → (a || true) ≡ true
 or_true true = refl

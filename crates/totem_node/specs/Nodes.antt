@@ -1,6 +1,7 @@
 -- A node: which state it is in, and what it keeps through all of them (docs/PROTOCOL.md, "The node").
 use Rattle.std.specs.Prelude.{ℕ, List, [], Bool, false, is_some, max, Option, None, Ok, Err}
 use Rattle.totem_ids.specs.Names.{RingName}
+use Rattle.totem_ids.specs.Ranks.{id_of, life_of}
 use Rattle.totem_ids.specs.declared.conf.ConfId.{ConfId}
 use Rattle.totem_ids.specs.declared.conf.ConfId.TheVariants.{Regular}
 use Rattle.totem_packets.specs.declared.message.Body.{Body}
@@ -11,6 +12,7 @@ use Rattle.totem_ring.specs.Visits.{Sending}
 use Rattle.totem_member.specs.declared.views.Phase.{Phase}
 use Rattle.totem_member.specs.declared.views.CommitView.{CommitView}
 use Rattle.totem_member.specs.Gathers.{Gather, gathered}
+use Rattle.totem_recover.specs.Lives.{ids_of}
 use Rattle.totem_node.specs.declared.ring_step.RingStep.{RingStep}
 use Rattle.totem_node.specs.Outcomes.{Outcome}
 pub use Rattle.totem_node.specs.declared.state.State.{State}
@@ -18,7 +20,8 @@ pub use Rattle.totem_node.specs.declared.state.State.TheVariants.{Operational, G
 pub use Rattle.totem_node.specs.declared.state.Recovering.{Recovering}
 
 pub record Node : Type 0 where
-  pub me : ℕ
+  pub me : ℕ  -- its identifier
+  pub life : ℕ
   pub state : State
   pub installed : Ring  -- the installed ring
   pub waiting : List Body  -- the messages that wait for the next visit in Operational
@@ -28,11 +31,13 @@ pub record Node : Type 0 where
   pub filled : Option RingName  -- the ring of the commit token made or filled last since the last installing
   pub crashed : Bool
 
+-- a process that starts on this ring
 abbrev pub new_node : ℕ → RingName → List ℕ → Node
 new_node me ring members = record {
-  me = me;
+  me = id_of me;
+  life = life_of me;
   state = Operational;
-  installed = new_ring me ring members;
+  installed = new_ring (id_of me) ring (ids_of members);
   waiting = [];
   quiet = 0;
   seq = ring.seq;
@@ -60,9 +65,15 @@ committed_to (InRecovery x) = gathered x.gather
 abbrev pub recovering_as : Node → Recovering → Node
 recovering_as n x = record n { state = InRecovery x }
 
--- the report of what this node has of the installed ring
+-- the report of this node's life, and of what it has of the installed ring
 abbrev pub report : Node → Report
-report n = record { ring = n.installed.ring; aru = aru_of n.installed.held; delivered = n.installed.handed; obligation = n.obligation }
+report n = record {
+  life = n.life;
+  ring = n.installed.ring;
+  aru = aru_of n.installed.held;
+  delivered = n.installed.handed;
+  obligation = n.obligation;
+}
 
 -- what the node shows to a commit token
 abbrev pub commit_view : Node → Phase → Gather → Bool → CommitView

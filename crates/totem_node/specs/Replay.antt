@@ -5,7 +5,6 @@ use Rattle.totem_ids.specs.declared.conf.ConfId.TheVariants.{Regular}
 use Rattle.totem_evs.specs.declared.entry.Entry.{Entry}
 use Rattle.totem_evs.specs.declared.entry.Entry.TheVariants.{Conf}
 use Rattle.totem_ring.specs.Visits.{Sending}
-use Rattle.totem_recover.specs.FirstLives.{first_ranks}
 use Rattle.totem_node.specs.declared.input.Input.{Input}
 use Rattle.totem_node.specs.declared.ring_step.RingStep.{RingStep}
 use Rattle.totem_node.specs.Nodes.{Node, Stepped, new_node}
@@ -24,9 +23,9 @@ pub record Life : Type 0 where
   pub entries : List Entry
   pub replies : List (Outcome Answer)
 
--- the change to a first ring, of whose members only identifiers are known
+-- the change to a first ring
 abbrev pub first_change : RingName → List ℕ → Entry
-first_change ring members = Conf (Regular ring) (first_ranks members)
+first_change ring members = Conf (Regular ring) members
 
 -- a life begins with the change to its first ring
 abbrev pub born : ℕ → RingName → List ℕ → Life

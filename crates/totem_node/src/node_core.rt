@@ -4,10 +4,10 @@ ghost use Rattle.std.specs.Prelude.{◌≡◌, IfOk};
 use crate::state::State;
 use std::alloc::{AllocError, Global};
 use std::marker::Model;
-use totem_evs::Entry;
-use totem_ids::{ConfId, ProcId, RingId};
-use totem_packets::{Body, Number, Processes};
-use totem_recover::{copies_of, first_members};
+use totem_evs::{Entry, Members};
+use totem_ids::{ConfId, Proc, ProcId, RingId};
+use totem_packets::{Body, Life, Number, Processes};
+use totem_recover::{copies_of, ids_of};
 use totem_ring::RingState;
 
 /// A node: a machine over inputs, without clock, network or threads (docs/PROTOCOL.md, "The node"). A step that is
@@ -15,6 +15,7 @@ use totem_ring::RingState;
 #[derive(Debug, Drop)]
 pub struct NodeCore {
     pub(crate) me: ProcId,
+    pub(crate) life: Life,
     pub(crate) state: State,
     pub(crate) installed: RingState,
     /// The messages of clients that wait for the next visit in Operational.
@@ -38,6 +39,7 @@ impl Model for NodeCore {
 
     ghost view = { λ n. record {
       me = n.me;
+      life = n.life;
       state = n.state;
       installed = n.installed;
       waiting = n.waiting.items;
@@ -52,25 +54,27 @@ impl Model for NodeCore {
 impl NodeCore {
     ghost use Rattle.totem_node.specs.Nodes.{new_node};
     ghost use Rattle.totem_node.specs.Replay.{first_change};
-    ghost use Rattle.totem_recover.specs.FirstLives.{IsRingMembers};
+    ghost use Rattle.totem_evs.specs.Members.{IsMembers};
 
     /// Makes a node that starts on this ring, and returns with it the change with which its log begins. The members are
-    /// 1 to 32 processes, strictly rising, and are expected to have `me` among them. In the log each is in its first life.
+    /// 1 to 32 processes, strictly rising by identifier, and are expected to have `me` among them.
     pub fn new(
         alloc: Global,
-        me: ProcId,
+        me: Proc,
         ring: RingId,
-        members: &[ProcId],
+        members: &[Proc],
     ) -> Result<(NodeCore, Entry), AllocError>
-        requires { IsRingMembers members.now }
+        requires { IsMembers members.now }
         ensures node { IfOk result (λ made. made.0 ≡ new_node me ring members.now) }
         ensures entry { IfOk result (λ made. made.1 ≡ first_change ring members.now) }
     {
-        let change = Entry::Conf(ConfId::Regular(ring), first_members(alloc, members)?);
+        let ids = ids_of(alloc, members)?;
+        let change = Entry::Conf(ConfId::Regular(ring), Members::of(members.to_vec(alloc)?));
         let node = NodeCore {
-            me,
+            me: me.id(),
+            life: Life::of(me.life()),
             state: State::Operational,
-            installed: RingState::new(alloc, me, ring, members)?,
+            installed: RingState::new(alloc, me.id(), ring, &ids)?,
             waiting: Vec::new(alloc),
             quiet: 0,
             seq: Number::of(ring.seq),
@@ -79,6 +83,13 @@ impl NodeCore {
             crashed: false,
         };
         Ok((node, change))
+    }
+
+    /// Returns the greatest ring number that the node made, filled or installed.
+    pub fn seq(&self) -> u32
+        ensures { result ≡ self.now.seq }
+    {
+        self.seq.get()
     }
 
     /// Returns copies of the node's state and of its installed ring.
@@ -106,6 +117,7 @@ impl NodeCore {
         let (state, installed) = self.rings(alloc)?;
         Ok(NodeCore {
             me: self.me,
+            life: self.life,
             state,
             installed,
             waiting,

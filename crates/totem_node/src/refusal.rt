@@ -193,6 +193,7 @@ impl NodeCore {
             filled: self.filled,
             phase,
             started,
+            life: self.life,
             ring: self.installed.ring(),
             aru: self.installed.my_aru(),
             delivered: self.installed.handed(),

@@ -15,11 +15,12 @@ pub(crate) fn greater(a: Number, b: Number) -> Number
 }
 
 impl NodeCore {
-    /// Returns what the node reports of its installed ring.
+    /// Returns what the node reports of its life and of its installed ring.
     pub(crate) fn report(&self, alloc: Global) -> Result<Report, AllocError>
         ensures { IfOk result (λ r. r ≡ report self.now) }
     {
         Ok(Report {
+            life: self.life,
             ring: self.installed.ring(),
             aru: self.installed.my_aru(),
             delivered: self.installed.handed(),

@@ -4,14 +4,13 @@ use std::alloc::{AllocError, Global};
 use std::fmt;
 use std::fmt::Write;
 use std::test::Fail;
-use totem_evs::Entry;
-use totem_ids::{ProcId, RingId, Service};
+use totem_evs::{Entry, Members};
+use totem_ids::{Proc, ProcId, RingId, Service};
 use totem_node::{Input, NodeCore, NodeFault, StepOut};
 use totem_packets::{
     Body, CommitMember, CommitMembers, CommitToken, Join, Message, Number, Packet, Payload,
     Processes, Round, TokenSeq,
 };
-use totem_recover::RingMembers;
 use totem_ring::{Act, To, first_token};
 
 fn proc(number: u16) -> ProcId {
@@ -69,7 +68,7 @@ fn join(alloc: Global, seq: u32, last: u16) -> Result<Input, Fail> {
     Ok(Input::Packet(Packet::Join(Join {
         sender: proc(2),
         seq: Number::of(seq.max(1)),
-        processes: Processes::new(first(alloc, last)?.as_slice().to_vec(alloc)?)?,
+        processes: Processes::new(up_to(alloc, last)?)?,
         failed: Processes::new(Vec::new(alloc))?,
     })))
 }
@@ -115,12 +114,21 @@ fn input(alloc: Global, word: &str) -> Result<Input, Fail> {
 }
 
 /// The processes from 1 to this one.
-fn first(alloc: Global, last: u16) -> Result<RingMembers, Fail> {
+fn up_to(alloc: Global, last: u16) -> Result<Vec<ProcId>, AllocError> {
     let mut list = Vec::new(alloc);
     for value in 0..last {
         list.push(proc(value.saturating_add(1)))?;
     }
-    Ok(RingMembers::new(list)?)
+    Ok(list)
+}
+
+/// Their first lives, as members.
+fn first(alloc: Global, last: u16) -> Result<Members, Fail> {
+    let mut list = Vec::new(alloc);
+    for value in 0..last {
+        list.push(Proc::first(proc(value.saturating_add(1))))?;
+    }
+    Ok(Members::new(list)?)
 }
 
 /// Processes, each with a space in front.
@@ -321,8 +329,13 @@ fn told(alloc: Global, node: &mut NodeCore, change: &Entry, words: &str) -> Resu
 }
 
 /// Tells the life of process 1 on ring 4.1, which has these processes.
-fn life_among(alloc: Global, members: &RingMembers, words: &str) -> Result<String, Fail> {
-    let (mut node, change) = NodeCore::new(alloc, proc(1), ring(4), members.as_slice())?;
+fn life_among(alloc: Global, members: &Members, words: &str) -> Result<String, Fail> {
+    let (mut node, change) = NodeCore::new(
+        alloc,
+        Proc::first(proc(1)),
+        ring(4),
+        members.as_slice(),
+    )?;
     told(alloc, &mut node, &change, words)
 }
 

@@ -1,10 +1,10 @@
 //! What lines of a script say, and the fault of each line that is no command.
 use std::alloc::Global;
 use totem_ids::{ProcId, RingId, Service};
-use totem_script::{Command, Keyword, LineFault, Parts, read_command};
+use totem_script::{Command, Keyword, LineFault, Parts, ScriptVersion, read_command};
 
 fn read(alloc: Global, line: &str) -> Result<Command, LineFault> {
-    read_command(alloc, line.as_bytes())
+    read_command(alloc, ScriptVersion::Two, line.as_bytes())
 }
 
 // The first line of these that has another fault.
@@ -29,6 +29,7 @@ fn number_in(command: &Command) -> Option<(&'static str, u32)> {
         Command::Repeat { place } => Some(("repeat", *place)),
         Command::Timer { proc } => Some(("timer", u32::from(proc.number()))),
         Command::Crash { proc } => Some(("crash", u32::from(proc.number()))),
+        Command::Return { proc } => Some(("return", u32::from(proc.number()))),
         Command::Join => Some(("join", 0)),
         Command::End => Some(("end", 0)),
         _ => None,
@@ -117,11 +118,20 @@ fn a_text_is_cut_at_a_byte(rt: HostRuntime) {
 #[test]
 fn a_keyword_is_a_whole_word(rt: HostRuntime) {
     let read = [
-        Keyword::of(b"repeat"),
-        Keyword::of(b"repeats"),
-        Keyword::of(b""),
+        Keyword::of(ScriptVersion::One, b"repeat"),
+        Keyword::of(ScriptVersion::One, b"repeats"),
+        Keyword::of(ScriptVersion::One, b""),
     ];
     assert_eq!(rt; read, [Some(Keyword::Repeat), None, None]);
+}
+
+#[test]
+fn a_process_returns_in_version_2_alone(rt: HostRuntime) {
+    let read = [
+        Keyword::of(ScriptVersion::One, b"return"),
+        Keyword::of(ScriptVersion::Two, b"return"),
+    ];
+    assert_eq!(rt; read, [None, Some(Keyword::Return)]);
 }
 
 #[test]
@@ -149,12 +159,13 @@ fn a_client_asks_for_a_word(rt: HostRuntime) {
 }
 
 // Numbers of times and of places go to 100000.
-const NUMBERS: [(&str, (&str, u32)); 7] = [
+const NUMBERS: [(&str, (&str, u32)); 8] = [
     ("run 100000", ("run", 100_000)),
     ("drop 2", ("drop", 2)),
     ("repeat 1", ("repeat", 1)),
     ("timer 3", ("timer", 3)),
     ("crash 1", ("crash", 1)),
+    ("return 65535", ("return", 65_535)),
     ("join", ("join", 0)),
     ("end", ("end", 0)),
 ];
@@ -172,12 +183,13 @@ fn a_cut_has_groups(rt: HostRuntime) {
 }
 
 // The first unfit byte is where a number is wanted, or takes one out of its range.
-const NUMBER: [&str; 14] = [
+const NUMBER: [&str; 15] = [
     "run 0",
     "run 01",
     "run 100001",
     "run ",
     "timer 65536",
+    "return x",
     "cut /",
     "cut 1 / / 2",
     "cut 1 x",
@@ -190,7 +202,7 @@ const NUMBER: [&str; 14] = [
 ];
 
 // It is any other; the end of the line is such a byte too.
-const WORD: [&str; 21] = [
+const WORD: [&str; 23] = [
     "",
     "rings 4.1 1",
     " ring 4.1 1",
@@ -201,6 +213,8 @@ const WORD: [&str; 21] = [
     "run 1x",
     "run 1 ",
     "timer 1 2",
+    "return",
+    "return 1 2",
     "join 1",
     "end ",
     "cut",

@@ -1,15 +1,17 @@
 //! What the reports of a commit token say of an old ring. Members are given in words, and answers as text.
 use crate::packet_values::{Case, numbers, proc, push, push_made, push_procs, ring, set};
 use std::alloc::{AllocError, Global};
-use totem_packets::{CommitMember, CommitMembers, Processes, Report};
+use totem_ids::Proc;
+use totem_packets::{CommitMember, CommitMembers, Life, Processes, Report};
 
-/// Returns the report with the old ring's number, up to where messages are held, and up to where they were handed up.
-/// Without these three numbers there is no report.
+/// Returns the report with the old ring's number, up to where messages are held, up to where they were handed up, and
+/// the life of who reports. Without these four numbers there is no report.
 fn report(numbers: &[u32], obligation: Processes) -> Option<Report> {
-    let [seq, aru, delivered] = numbers else {
+    let [seq, aru, delivered, life] = numbers else {
         return None;
     };
     Some(Report {
+        life: Life::of(u16::try_from(*life).unwrap_or(0).max(1)),
         ring: ring(*seq),
         aru: *aru,
         delivered: *delivered,
@@ -17,8 +19,8 @@ fn report(numbers: &[u32], obligation: Processes) -> Option<Report> {
     })
 }
 
-/// Returns the member of a word such as `2:4,7,5:1,3`: 2 comes from ring 4.1, holds all messages up to 7, has handed up
-/// all up to 5, and owes messages to 1 and 3. The word `2` gives a member without a report.
+/// Returns the member of a word such as `2:4,7,5,1:1,3`: 2 comes from ring 4.1, holds all messages up to 7, has handed
+/// up all up to 5, is in its first life, and owes messages to 1 and 3. The word `2` gives a member without a report.
 fn member(alloc: Global, word: &str) -> Result<CommitMember, AllocError> {
     let (number, rest) = word.split_once(':').unwrap_or((word, ""));
     let (reported, obligation) = rest.split_once(':').unwrap_or(("", ""));
@@ -53,6 +55,36 @@ fn push_counts(
 
 fn push_truth(text: &mut String, holds: bool) -> Result<(), AllocError> {
     text.push_str(if holds { " yes" } else { " no" })
+}
+
+/// Adds processes of a run, each with a space in front.
+fn push_lives(alloc: Global, text: &mut String, lives: &[Proc]) -> Result<(), AllocError> {
+    for process in lives {
+        push(text, format!(in alloc; " {process}"))?;
+    }
+    Ok(())
+}
+
+/// The members in the lives that they report from.
+fn push_all_lives(
+    alloc: Global,
+    text: &mut String,
+    members: &CommitMembers,
+) -> Result<(), AllocError> {
+    push_truth(text, members.has_later_life())?;
+    let lives = members.lives(alloc)?;
+    push_lives(alloc, text, &lives)
+}
+
+/// Who comes from the old ring of this number, each in the life that it reports from.
+fn push_lives_from(
+    alloc: Global,
+    text: &mut String,
+    members: &CommitMembers,
+    old: u32,
+) -> Result<(), AllocError> {
+    let lives = members.transitional_lives(alloc, &ring(old))?;
+    push_lives(alloc, text, &lives)
 }
 
 fn push_all(alloc: Global, text: &mut String, members: &CommitMembers) -> Result<(), AllocError> {
@@ -94,6 +126,8 @@ fn push_answer(
     let old = u32::from(number);
     match asked {
         "all" => push_all(alloc, text, members),
+        "lives" => push_all_lives(alloc, text, members),
+        "lives_from" => push_lives_from(alloc, text, members, old),
         "are" => push_are(alloc, text, members, given),
         "filled" => push_truth(text, members.is_filled()),
         "from_four" => push_truth(text, members.is_from(&ring(4), proc(number))),
@@ -124,20 +158,29 @@ pub(crate) fn told(alloc: Global, words: &str) -> Result<String, AllocError> {
     }
 }
 
-pub(crate) const OLD_RINGS: [Case; 4] = [
+pub(crate) const OLD_RINGS: [Case; 6] = [
     // 1 and 3 come from ring 4.1, 2 from ring 8.1
     (
-        "1:4,7,5:1,3,6 2:8,1,9:2,8 3:4,4,6:3,4 ? all from:4 obliged:4 are:1,2,3 are:1,2 are:1,2,4 filled",
+        "1:4,7,5,1:1,3,6 2:8,1,9,1:2,8 3:4,4,6,1:3,4 ? all from:4 obliged:4 are:1,2,3 are:1,2 are:1,2,4 filled",
         "all 1 2 3; from:4 1 3; obliged:4 1 3 4 6; are:1,2,3 yes; are:1,2 no; are:1,2,4 no; filled yes; ",
     ),
     // the least that is held, the most that was handed up, and how many are obliged for
     (
-        "1:4,7,5:1,3,6 2:8,1,9:2,8 3:4,4,6:3,4 ? from_four:3 from_four:2 counts:4 counts:12",
+        "1:4,7,5,1:1,3,6 2:8,1,9,1:2,8 3:4,4,6,1:3,4 ? from_four:3 from_four:2 counts:4 counts:12",
         "from_four:3 yes; from_four:2 no; counts:4 4 6 4; counts:12 0 0 0; ",
     ),
     ("1 ? filled from:4", "filled no; from:4; "),
+    // 2 has come back a second time, and 4 has not reported
     (
-        "1:4,0,0:10-34 2:4,0,0:30-54 ? counts:4 obliged:4",
+        "1:4,7,5,1: 2:4,1,9,3: 3:8,4,6,2: 4 ? lives lives_from:4 lives_from:8 lives_from:12",
+        "lives yes 1:1 2:3 3:2 4:1; lives_from:4 1:1 2:3; lives_from:8 3:2; lives_from:12; ",
+    ),
+    (
+        "1:4,7,5,1: 2 ? lives lives_from:4",
+        "lives no 1:1 2:1; lives_from:4 1:1; ",
+    ),
+    (
+        "1:4,0,0,1:10-34 2:4,0,0,1:30-54 ? counts:4 obliged:4",
         "counts:4 0 0 47; obliged:4 there are more than 32 processes; ",
     ),
 ];

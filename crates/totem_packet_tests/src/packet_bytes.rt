@@ -6,8 +6,8 @@ use std::alloc::{AllocError, Global};
 use std::test::Fail;
 use totem_ids::{ProcId, Service};
 use totem_packets::{
-    Body, CommitMember, CommitMembers, CommitToken, Join, Message, Number, Packet, PacketFault,
-    Payload, Report, Requests, Round, Token, TokenSeq,
+    Body, CommitMember, CommitMembers, CommitToken, Join, Life, Message, Number, Packet,
+    PacketFault, Payload, Report, Requests, Round, Token, TokenSeq,
 };
 
 /// The token that the third process of ring 4.1 passes on when nobody holds message 1 yet.
@@ -43,8 +43,18 @@ const COMMIT: [u8; 34] = [
     2, 0,
 ];
 
+/// The commit token of ring 8.1 with 1 alone, which reports ring 4.1 in its first life.
+const COMMIT_OF_ONE: [u8; 27] = [
+    4, 0, 0, 0, 8, 0, 1, 1, 1, 0, 1, 1, 0, 0, 0, 4, 0, 1, 0, 0, 0, 0, 0, 0, 0, 0, 0,
+];
+
+/// The same commit token, but 1 reports in its second life.
+const COMMIT_OF_LIVES: [u8; 29] = [
+    5, 0, 0, 0, 8, 0, 1, 1, 1, 0, 1, 1, 0, 2, 0, 0, 0, 4, 0, 1, 0, 0, 0, 0, 0, 0, 0, 0, 0,
+];
+
 /// The name of a packet, which `packet` makes, and its bytes. A packet with another name is read from its bytes.
-const PACKETS: [(&str, &[u8]); 16] = [
+const PACKETS: [(&str, &[u8]); 19] = [
     ("token", &TOKEN),
     ("agreed message", &MESSAGE),
     ("safe message", &SAFE),
@@ -53,6 +63,8 @@ const PACKETS: [(&str, &[u8]); 16] = [
     ("mark", &MARK),
     ("join", &JOIN),
     ("commit token", &COMMIT),
+    ("commit token of life 1", &COMMIT_OF_ONE),
+    ("commit token of life 2", &COMMIT_OF_LIVES),
     // 4.1#1 of 2, safe, `x`
     (
         "message that was read",
@@ -77,6 +89,14 @@ const PACKETS: [(&str, &[u8]); 16] = [
         &[
             4, 0, 0, 0, 4, 0, 1, 2, 1, 0, 2, 1, 0, 0, 0, 4, 0, 1, 0, 0, 0, 3, 0, 0, 0, 2, 2, 0, 1,
             0, 2,
+        ],
+    ),
+    // ring 8.1 of 1 in its first life, of 2, which has not reported yet, and of 3 in its last life
+    (
+        "commit token of lives that was read",
+        &[
+            5, 0, 0, 0, 8, 0, 1, 1, 3, 0, 1, 1, 0, 1, 0, 0, 0, 4, 0, 1, 0, 0, 0, 5, 0, 0, 0, 4, 0,
+            0, 2, 0, 0, 3, 1, 255, 255, 0, 0, 0, 4, 0, 3, 0, 0, 0, 3, 0, 0, 0, 2, 1, 0, 1,
         ],
     ),
     // the largest packets have their bytes with them
@@ -154,6 +174,7 @@ fn reporting(alloc: Global) -> Result<CommitMember, Fail> {
     Ok(CommitMember {
         proc: ProcId::of(1),
         report: Some(Report {
+            life: Life::first(),
             ring: ring(4),
             aru: 5,
             delivered: 4,
@@ -176,6 +197,26 @@ fn commit(alloc: Global) -> Result<Packet, Fail> {
     }))
 }
 
+/// Returns a commit token whose one member reports, in this life, that it came from ring 4.1 with nothing.
+fn commit_of_life(alloc: Global, life: u16) -> Result<Packet, Fail> {
+    let mut list = Vec::new(alloc);
+    list.push(CommitMember {
+        proc: ProcId::of(1),
+        report: Some(Report {
+            life: Life::of(life.max(1)),
+            ring: ring(4),
+            aru: 0,
+            delivered: 0,
+            obligation: set(alloc, "")?,
+        }),
+    })?;
+    Ok(Packet::Commit(CommitToken {
+        ring: ring(8),
+        round: Round::First,
+        members: CommitMembers::new(list)?,
+    }))
+}
+
 /// Returns the packet of this name, or the one that is read from the bytes if there is no such name.
 fn packet(alloc: Global, name: &str, bytes: &[u8]) -> Result<Packet, Fail> {
     match name {
@@ -187,6 +228,8 @@ fn packet(alloc: Global, name: &str, bytes: &[u8]) -> Result<Packet, Fail> {
         "mark" => Ok(mark()),
         "join" => join(alloc),
         "commit token" => commit(alloc),
+        "commit token of life 1" => commit_of_life(alloc, 1),
+        "commit token of life 2" => commit_of_life(alloc, 2),
         _ => Ok(Packet::decode(alloc, bytes)?),
     }
 }
@@ -295,12 +338,12 @@ fn packets_have_their_bytes(rt: HostRuntime) -> Result<(), Fail> {
 }
 
 /// Bytes that are no packet, why they are none, and why they are none without their last byte.
-const NO_PACKETS: [(&[u8], &str); 26] = [
+const NO_PACKETS: [(&[u8], &str); 33] = [
     // first bytes of no kind
     (&[0], "Kind Short"),
     (&[0, 0, 0], "Kind Kind"),
-    (&[5], "Kind Short"),
-    (&[5, 0, 0], "Kind Kind"),
+    (&[6], "Kind Short"),
+    (&[6, 0, 0], "Kind Kind"),
     (&[255], "Kind Short"),
     (&[255, 0, 0], "Kind Kind"),
     // a token that asks for 65 numbers and has one
@@ -358,6 +401,37 @@ const NO_PACKETS: [(&[u8], &str); 26] = [
     (&[4, 0, 0, 0, 8, 0, 1, 2, 2, 0, 1, 2], "Range Short"),
     // its second member is not above the first
     (&[4, 0, 0, 0, 8, 0, 1, 2, 2, 0, 1, 0, 0, 1], "Range Short"),
+    // the first byte of a commit token that tells lives, alone
+    (&[5], "Short Short"),
+    // a life of 0
+    (&[5, 0, 0, 0, 8, 0, 1, 1, 1, 0, 1, 1, 0, 0], "Range Short"),
+    // no life is above the first: it is known at the last byte of the last field, whatever follows
+    (
+        &[
+            5, 0, 0, 0, 8, 0, 1, 1, 1, 0, 1, 1, 0, 1, 0, 0, 0, 4, 0, 1, 0, 0, 0, 0, 0, 0, 0, 0, 0,
+        ],
+        "Range Short",
+    ),
+    (
+        &[
+            5, 0, 0, 0, 8, 0, 1, 1, 1, 0, 1, 1, 0, 1, 0, 0, 0, 4, 0, 1, 0, 0, 0, 0, 0, 0, 0, 0, 0,
+            0,
+        ],
+        "Range Range",
+    ),
+    // the last field is the last process that is owed to, and where nothing is reported the byte that says so
+    (
+        &[
+            5, 0, 0, 0, 8, 0, 1, 1, 1, 0, 1, 1, 0, 1, 0, 0, 0, 4, 0, 1, 0, 0, 0, 0, 0, 0, 0, 0, 1,
+            0, 1,
+        ],
+        "Range Short",
+    ),
+    (&[5, 0, 0, 0, 8, 0, 1, 1, 1, 0, 1, 0], "Range Short"),
+    (
+        &[5, 0, 0, 0, 8, 0, 1, 1, 2, 0, 1, 0, 0, 2, 0],
+        "Range Short",
+    ),
 ];
 
 fn fault_name(alloc: Global, bytes: &[u8]) -> &'static str {

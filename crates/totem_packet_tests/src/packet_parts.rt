@@ -5,8 +5,8 @@ use bytes::Bytes;
 use std::alloc::{AllocError, Global};
 use totem_ids::ProcId;
 use totem_packets::{
-    CommitMember, CommitMembers, ListFault, Number, PacketFault, Payload, Processes, Requests,
-    TokenSeq, a_cut_packet_is_short, kind_is_the_first_byte, memory_is_no_fault_of_bytes,
+    CommitMember, CommitMembers, Life, ListFault, Number, PacketFault, Payload, Processes,
+    Requests, TokenSeq, a_cut_packet_is_short, kind_is_the_first_byte, memory_is_no_fault_of_bytes,
     no_packet_begins_another, range_is_known_at_once, read_is_spelled, short_has_nothing_wrong,
     spelled_is_read, trailing_is_behind_a_packet,
 };
@@ -24,6 +24,13 @@ fn number(alloc: Global, value: u32) -> Result<String, AllocError> {
     match Number::new(value) {
         None => String::from_str(alloc, "none"),
         Some(number) => format!(in alloc; "{}", number.get()),
+    }
+}
+
+fn life(alloc: Global, value: u16) -> Result<String, AllocError> {
+    match Life::new(value) {
+        None => String::from_str(alloc, "none"),
+        Some(life) => format!(in alloc; "{}", life.get()),
     }
 }
 
@@ -158,11 +165,12 @@ fn listed(alloc: Global, kind: &str, given: &str) -> Result<String, AllocError> 
 /// Tells of parts that are known to keep the rules.
 fn known(alloc: Global) -> Result<String, AllocError> {
     let number = Number::of(7).get();
+    let (first, ninth) = (Life::first().get(), Life::of(9).get());
     let greatest = TokenSeq::of(18_446_744_073_709_551_615).get();
     let is_kept = Payload::of(Bytes::from_static(b"x")).as_slice() == b"x".as_slice();
     let requests = Requests::of(Vec::new(alloc)).as_slice().len();
     let processes = Processes::of(Vec::new(alloc)).as_slice().len();
-    format!(in alloc; "{number} {greatest} {is_kept} {requests} {processes}")
+    format!(in alloc; "{number} {first} {ninth} {greatest} {is_kept} {requests} {processes}")
 }
 
 const FAULTS: [PacketFault; 5] = [
@@ -192,17 +200,20 @@ pub(crate) fn told(alloc: Global, words: &str) -> Result<String, AllocError> {
         "known" => known(alloc),
         "faults" => faults(alloc),
         "number" => number(alloc, given.parse::<u32>().unwrap_or(0)),
+        "life" => life(alloc, given.parse::<u16>().unwrap_or(0)),
         "token_seq" => token_seq(alloc, given.parse::<u64>().unwrap_or(0)),
         "payload" => payload(alloc, given.parse::<usize>().unwrap_or(0)),
         _ => listed(alloc, kind, given),
     }
 }
 
-pub(crate) const PARTS: [Case; 19] = [
-    ("known", "7 18446744073709551615 true 0 0"),
+pub(crate) const PARTS: [Case; 21] = [
+    ("known", "7 1 9 18446744073709551615 true 0 0"),
     ("faults", "1 Short 2 Kind 3 Range 4 Trailing 5 Memory "),
     ("number 0", "none"),
     ("number 4294967295", "4294967295"),
+    ("life 0", "none"),
+    ("life 65535", "65535"),
     ("token_seq 0", "none"),
     ("token_seq 1", "1"),
     ("payload 1024", "1024 true 1024"),

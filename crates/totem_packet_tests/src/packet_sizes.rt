@@ -6,8 +6,8 @@ use std::alloc::{AllocError, Global};
 use std::test::Fail;
 use totem_ids::{ProcId, RingId, Service};
 use totem_packets::{
-    CommitMember, CommitMembers, CommitToken, Join, Number, Packet, Payload, Report, Requests,
-    Round, Token, TokenSeq,
+    CommitMember, CommitMembers, CommitToken, Join, Life, Number, Packet, Payload, Report,
+    Requests, Round, Token, TokenSeq,
 };
 
 /// A token that asks for the last 64 numbers.
@@ -64,11 +64,12 @@ fn push_all_processes(bytes: &mut Vec<u8>) -> Result<(), AllocError> {
     Ok(())
 }
 
-/// Returns a member that reports ring 4.1, where it handed up all that can be.
+/// Returns a member that reports ring 4.1 in its last life, where it handed up all that can be.
 fn largest_member(alloc: Global, number: u16) -> Result<CommitMember, Fail> {
     Ok(CommitMember {
         proc: proc(number),
         report: Some(Report {
+            life: Life::of(65_535),
             ring: ring(4),
             aru: 0,
             delivered: 4_294_967_295,
@@ -90,10 +91,10 @@ fn largest_commit_token(alloc: Global) -> Result<Packet, Fail> {
 }
 
 fn largest_commit_token_bytes(alloc: Global) -> Result<Vec<u8>, AllocError> {
-    let mut bytes = [4, 0, 0, 0, 8, 0, 1, 2, 32].to_vec(alloc)?;
+    let mut bytes = [5, 0, 0, 0, 8, 0, 1, 2, 32].to_vec(alloc)?;
     for number in 1..33u8 {
         bytes.extend_from_slice(&[
-            0, number, 1, 0, 0, 0, 4, 0, 1, 0, 0, 0, 0, 255, 255, 255, 255,
+            0, number, 1, 255, 255, 0, 0, 0, 4, 0, 1, 0, 0, 0, 0, 255, 255, 255, 255,
         ])?;
         push_all_processes(&mut bytes)?;
     }

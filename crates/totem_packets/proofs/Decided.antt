@@ -10,14 +10,14 @@ use Rattle.totem_packets.specs.declared.fault.PacketFault.TheVariants.{Short, Ki
 use Rattle.totem_packets.specs.declared.packet.Packet as packet
 use Rattle.totem_packets.specs.Parsing.{Parsed, ◌>>=◌, AreBytes, Gives}
 use Rattle.totem_packets.specs.Fields.{number_at}
-use Rattle.totem_packets.specs.Grammar.{message_packet_at, token_packet_at, join_packet_at, commit_packet_at, packet_of, packet_at, decode_packet}
+use Rattle.totem_packets.specs.Grammar.{message_packet_at, token_packet_at, join_packet_at, commit_packet_at, later_commit_packet_at, packet_of, packet_at, decode_packet}
 use Rattle.totem_packets.specs.Laws.{IsOfNoKind, HasMore, IsFirstWrong}
 use Rattle.totem_packets.specs.Ranges.{IsPacket}
 use Rattle.totem_packets.specs.Spelling.{packet_bytes}
 use Rattle.totem_packets.proofs.Steps.{bind_ok, taken, guard_then, parsed_is}
 use Rattle.totem_packets.proofs.FirstByte.{kind_at, none_at}
 use Rattle.totem_packets.proofs.Following.{Follows, HasFieldFault, is_short}
-use Rattle.totem_packets.proofs.Staying.{IsField, number_field, message_packet_field, token_packet_field, join_packet_field, commit_packet_field}
+use Rattle.totem_packets.proofs.Staying.{IsField, number_field, message_packet_field, token_packet_field, join_packet_field, commit_packet_field, later_commit_packet_field}
 use Rattle.totem_packets.proofs.TakenPackets.{packet_takes, packet_again}
 
 -- ---- from a packet with what is left to a packet alone
@@ -81,16 +81,17 @@ begins_no_other a b more rest fits others e = parsed_is a b more rest (sym (pack
 
 packet_of_stays : (kind : ℕ) (bytes more : List ℕ) → Follows more (packet_of kind bytes) (packet_of kind (bytes ++ more))
 unfolding packet_of
-packet_of_stays kind bytes more = go (kind == 1) (kind == 2) (kind == 3) (kind == 4)
+packet_of_stays kind bytes more = go (kind == 1) (kind == 2) (kind == 3) (kind == 4) (kind == 5)
   where
-    go : (t u v w : Bool)
-        → Follows {Y = packet.Packet} more (cond t (message_packet_at bytes) (cond u (token_packet_at bytes) (cond v (join_packet_at bytes) (cond w (commit_packet_at bytes) (Err Kind)))))
-        (cond t (message_packet_at (bytes ++ more)) (cond u (token_packet_at (bytes ++ more)) (cond v (join_packet_at (bytes ++ more)) (cond w (commit_packet_at (bytes ++ more)) (Err Kind)))))
-    go true u v w = message_packet_field.stays bytes more
-    go false true v w = token_packet_field.stays bytes more
-    go false false true w = join_packet_field.stays bytes more
-    go false false false true = commit_packet_field.stays bytes more
-    go false false false false = λ long. refl
+    go : (t u v w x : Bool)
+        → Follows {Y = packet.Packet} more (cond t (message_packet_at bytes) (cond u (token_packet_at bytes) (cond v (join_packet_at bytes) (cond w (commit_packet_at bytes) (cond x (later_commit_packet_at bytes) (Err Kind))))))
+        (cond t (message_packet_at (bytes ++ more)) (cond u (token_packet_at (bytes ++ more)) (cond v (join_packet_at (bytes ++ more)) (cond w (commit_packet_at (bytes ++ more)) (cond x (later_commit_packet_at (bytes ++ more)) (Err Kind))))))
+    go true u v w x = message_packet_field.stays bytes more
+    go false true v w x = token_packet_field.stays bytes more
+    go false false true w x = join_packet_field.stays bytes more
+    go false false false true x = commit_packet_field.stays bytes more
+    go false false false false true = later_commit_packet_field.stays bytes more
+    go false false false false false = λ long. refl
 
 packet_stays : (bytes more : List ℕ) → Follows more (packet_at bytes) (packet_at (bytes ++ more))
 unfolding packet_at
@@ -163,7 +164,7 @@ packet_none = rw none_at refl
 no_kind : {Y : Type 0} (parse : List ℕ → Parsed Y) → IsField parse → (bytes : List ℕ) → parse bytes ≡ Err Kind → ⊥
 no_kind parse field bytes e = rw e at (field.fault bytes)
 
-kind_of : (kind : ℕ) (rest : List ℕ) → packet_of kind rest ≡ Err Kind → (kind ≡ 0) ⊎ (4 < kind)
+kind_of : (kind : ℕ) (rest : List ℕ) → packet_of kind rest ≡ Err Kind → (kind ≡ 0) ⊎ (5 < kind)
 unfolding packet_of
 kind_of kind rest e =
     elim (taken (kind == 1) _ _ (Err Kind) e) [
@@ -174,19 +175,22 @@ kind_of kind rest e =
           | inl t ↦ absurd (no_kind join_packet_at join_packet_field rest t.1)
           | inr t ↦ elim (taken (kind == 4) _ _ (Err Kind) t.1) [
             | inl u ↦ absurd (no_kind commit_packet_at commit_packet_field rest u.1)
-            | inr u ↦ left kind (eqb-false _ _ r.0) (eqb-false _ _ s.0) (eqb-false _ _ t.0) (eqb-false _ _ u.0)
+            | inr u ↦ elim (taken (kind == 5) _ _ (Err Kind) u.1) [
+              | inl v ↦ absurd (no_kind later_commit_packet_at later_commit_packet_field rest v.1)
+              | inr v ↦ left kind (eqb-false _ _ r.0) (eqb-false _ _ s.0) (eqb-false _ _ t.0) (eqb-false _ _ u.0) (eqb-false _ _ v.0)
+            ]
           ]
         ]
       ]
     ]
   where
-    left : (n : ℕ) → n ≢ 1 → n ≢ 2 → n ≢ 3 → n ≢ 4 → (n ≡ 0) ⊎ (4 < n)
-    left zero a b c d = inl refl
-    left (suc n) a b c d = inr (omega arith)
+    left : (n : ℕ) → n ≢ 1 → n ≢ 2 → n ≢ 3 → n ≢ 4 → n ≢ 5 → (n ≡ 0) ⊎ (5 < n)
+    left zero a b c d f = inl refl
+    left (suc n) a b c d f = inr (omega arith)
 
-kind_from : (kind : ℕ) (rest : List ℕ) → kind ≢ 1 → kind ≢ 2 → kind ≢ 3 → kind ≢ 4 → packet_of kind rest ≡ Err Kind
+kind_from : (kind : ℕ) (rest : List ℕ) → kind ≢ 1 → kind ≢ 2 → kind ≢ 3 → kind ≢ 4 → kind ≢ 5 → packet_of kind rest ≡ Err Kind
 unfolding packet_of
-kind_from kind rest a b c d = rw (ne_eqb _ _ a, ne_eqb _ _ b, ne_eqb _ _ c, ne_eqb _ _ d) refl
+kind_from kind rest a b c d f = rw (ne_eqb _ _ a, ne_eqb _ _ b, ne_eqb _ _ c, ne_eqb _ _ d, ne_eqb _ _ f) refl
 
 pub kind_is_first : (bytes : List ℕ) → (decode_packet bytes ≡ Err Kind) ↔ IsOfNoKind bytes
 kind_is_first bytes = (λ e. there bytes e, λ h. back bytes h)
@@ -198,8 +202,8 @@ kind_is_first bytes = (λ e. there bytes e, λ h. back bytes h)
     back : (bytes : List ℕ) → IsOfNoKind bytes → decode_packet bytes ≡ Err Kind
     back [] h = absurd h
     back (kind ∷ rest) h = whole_fault (kind ∷ rest) Kind (packet_kind kind rest ∙ elim h [
-      | inl e ↦ kind_from kind rest (λ k. omega (arith, e, k)) (λ k. omega (arith, e, k)) (λ k. omega (arith, e, k)) (λ k. omega (arith, e, k))
-      | inr e ↦ kind_from kind rest (λ k. omega (arith, e, k)) (λ k. omega (arith, e, k)) (λ k. omega (arith, e, k)) (λ k. omega (arith, e, k))
+      | inl e ↦ kind_from kind rest (λ k. omega (arith, e, k)) (λ k. omega (arith, e, k)) (λ k. omega (arith, e, k)) (λ k. omega (arith, e, k)) (λ k. omega (arith, e, k))
+      | inr e ↦ kind_from kind rest (λ k. omega (arith, e, k)) (λ k. omega (arith, e, k)) (λ k. omega (arith, e, k)) (λ k. omega (arith, e, k)) (λ k. omega (arith, e, k))
     ])
 
 -- ---- the faults of a packet
@@ -225,14 +229,15 @@ widen (Err Memory) h = h
 
 packet_of_fault : (kind : ℕ) (bytes : List ℕ) → HasPacketFault (packet_of kind bytes)
 unfolding packet_of
-packet_of_fault kind bytes = go (kind == 1) (kind == 2) (kind == 3) (kind == 4)
+packet_of_fault kind bytes = go (kind == 1) (kind == 2) (kind == 3) (kind == 4) (kind == 5)
   where
-    go : (t u v w : Bool) → HasPacketFault (cond t (message_packet_at bytes) (cond u (token_packet_at bytes) (cond v (join_packet_at bytes) (cond w (commit_packet_at bytes) (Err Kind)))))
-    go true u v w = widen (message_packet_at bytes) (message_packet_field.fault bytes)
-    go false true v w = widen (token_packet_at bytes) (token_packet_field.fault bytes)
-    go false false true w = widen (join_packet_at bytes) (join_packet_field.fault bytes)
-    go false false false true = widen (commit_packet_at bytes) (commit_packet_field.fault bytes)
-    go false false false false = tt
+    go : (t u v w x : Bool) → HasPacketFault (cond t (message_packet_at bytes) (cond u (token_packet_at bytes) (cond v (join_packet_at bytes) (cond w (commit_packet_at bytes) (cond x (later_commit_packet_at bytes) (Err Kind))))))
+    go true u v w x = widen (message_packet_at bytes) (message_packet_field.fault bytes)
+    go false true v w x = widen (token_packet_at bytes) (token_packet_field.fault bytes)
+    go false false true w x = widen (join_packet_at bytes) (join_packet_field.fault bytes)
+    go false false false true x = widen (commit_packet_at bytes) (commit_packet_field.fault bytes)
+    go false false false false true = widen (later_commit_packet_at bytes) (later_commit_packet_field.fault bytes)
+    go false false false false false = tt
 
 packet_fault : (bytes : List ℕ) → HasPacketFault (packet_at bytes)
 packet_fault [] = rw packet_none tt

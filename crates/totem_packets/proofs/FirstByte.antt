@@ -18,9 +18,9 @@ unfolding number_at bytes_at
 none_at = refl
 
 -- a kind that was read is the first byte
-pub kind_is_read : (bytes : List ℕ) (kind : ℕ) (rest : List ℕ) → number_at w8 bytes ≡ Ok (kind, rest) → 0 < kind → kind ≤ 4 → IsOfKind bytes
+pub kind_is_read : (bytes : List ℕ) (kind : ℕ) (rest : List ℕ) → number_at w8 bytes ≡ Ok (kind, rest) → 0 < kind → kind ≤ 5 → IsOfKind bytes
 kind_is_read [] kind rest e some few = let both : ◌≡◌ {A = Parsed ℕ} (Err Short) (Ok (kind, rest)) = sym none_at ∙ e in absurd cc
 kind_is_read (b ∷ more) kind rest e some few =
     let same = parsed_is b kind more rest (sym (kind_at b more) ∙ e) in
-    let P : ℕ → Type 0 = λ n. (0 < n) × (n ≤ 4) in
+    let P : ℕ → Type 0 = λ n. (0 < n) × (n ≤ 5) in
     subst P (sym same.0) (some, few)

@@ -13,8 +13,10 @@ pub mod Taken
 pub mod TakenLists
 pub mod TakenMessages
 pub mod TakenTokens
+pub mod GivenLives
 pub mod TakenCommits
 pub mod TakenPackets
 pub mod Decided
 pub mod SetFacts
 pub mod OldRingFacts
+pub mod RankFacts

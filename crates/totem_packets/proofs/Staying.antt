@@ -8,9 +8,11 @@ use Rattle.totem_ids.specs.declared.message.Service.{Service}
 use Rattle.totem_ids.specs.declared.message.Service.TheVariants.{Agreed, Safe}
 use Rattle.totem_packets.specs.declared.commit.Round.TheVariants.{First, Second}
 use Rattle.totem_packets.specs.declared.fault.PacketFault.TheVariants.{Short, Range}
+use Rattle.totem_packets.specs.declared.lives.Lives.{Lives}
+use Rattle.totem_packets.specs.declared.lives.Lives.TheVariants.{Untold, Told}
 use Rattle.totem_packets.specs.Parsing.{Parsed, ◌>>=◌}
 use Rattle.totem_packets.specs.Fields.{bytes_at, number_at, above_at, up_to_at, rising_at, ring_at, payload_at, maybe_at, list_at}
-use Rattle.totem_packets.specs.Grammar.{app_at, old_at, body_of, body_at, message_at, token_at, join_at, round_at, report_at, filled_at, maybe_report_at, member_at, members_at, commit_at, message_packet_at, token_packet_at, join_packet_at, commit_packet_at}
+use Rattle.totem_packets.specs.Grammar.{app_at, old_at, body_of, body_at, message_at, token_at, join_at, round_at, life_at, report_at, filled_at, maybe_report_at, member_at, members_at, commit_at, later_commit_at, message_packet_at, token_packet_at, join_packet_at, commit_packet_at, later_commit_packet_at}
 use Rattle.totem_packets.proofs.Following.{Follows, HasFieldFault}
 
 -- a parser of one field or more
@@ -126,29 +128,39 @@ round_field : IsField round_at
 unfolding round_at
 round_field = bind_field _ _ (number_field w8) (λ round. cond_field (round == 1) _ _ (gives_field First) (cond_field (round == 2) _ _ (gives_field Second) range_field))
 
-report_field : IsField report_at
+life_field : (lives : Lives) → IsField (life_at lives)
+unfolding life_at
+life_field Untold = gives_field 1
+life_field Told = above_field w16 0
+
+report_field : (lives : Lives) → IsField (report_at lives)
 unfolding report_at
-report_field = bind_field _ _ ring_field (λ ring. bind_field _ _ (number_field w32) (λ aru. bind_field _ _ (number_field w32) (λ delivered. bind_field _ _ (list_field w16 32) (λ obligation. gives_field _))))
+report_field lives = bind_field _ _ (life_field lives) (λ life. bind_field _ _ ring_field (λ ring. bind_field _ _ (number_field w32) (λ aru. bind_field _ _ (number_field w32) (λ delivered. bind_field _ _ (list_field w16 32) (λ obligation. gives_field _)))))
 
-filled_field : IsField filled_at
+filled_field : (lives : Lives) → IsField (filled_at lives)
 unfolding filled_at
-filled_field = bind_field _ _ report_field (λ report. gives_field _)
+filled_field lives = bind_field _ _ (report_field lives) (λ report. gives_field _)
 
-maybe_report_field : IsField maybe_report_at
+maybe_report_field : (lives : Lives) → IsField (maybe_report_at lives)
 unfolding maybe_report_at
-maybe_report_field = bind_field _ _ (number_field w8) (λ filled. cond_field _ _ _ (gives_field _) (cond_field _ _ _ filled_field range_field))
+maybe_report_field lives = bind_field _ _ (number_field w8) (λ filled. cond_field _ _ _ (gives_field _) (cond_field _ _ _ (filled_field lives) range_field))
 
-member_field : (last : ℕ) → IsField (member_at last)
+member_field : (lives : Lives) (last : ℕ) → IsField (member_at lives last)
 unfolding member_at
-member_field last = bind_field _ _ (above_field w16 last) (λ proc. bind_field _ _ maybe_report_field (λ report. gives_field _))
+member_field lives last = bind_field _ _ (above_field w16 last) (λ proc. bind_field _ _ (maybe_report_field lives) (λ report. gives_field _))
 
-members_field : IsField members_at
+members_field : (lives : Lives) → IsField (members_at lives)
 unfolding members_at
-members_field = bind_field _ _ (up_to_field w8 32) (λ count. cond_field _ _ _ range_field (rising_field member_at (λ m. m.proc) member_field count 0))
+members_field lives = bind_field _ _ (up_to_field w8 32) (λ count. cond_field _ _ _ range_field (rising_field (member_at lives) (λ m. m.proc) (member_field lives) count 0))
 
-pub commit_field : IsField commit_at
+pub commit_field : (lives : Lives) → IsField (commit_at lives)
 unfolding commit_at
-commit_field = bind_field _ _ ring_field (λ ring. bind_field _ _ round_field (λ round. bind_field _ _ members_field (λ members. gives_field _)))
+commit_field lives = bind_field _ _ ring_field (λ ring. bind_field _ _ round_field (λ round. bind_field _ _ (members_field lives) (λ members. gives_field _)))
+
+-- a test behind a parser: it is made as soon as the last field is read, and what follows changes nothing
+pub later_commit_field : IsField later_commit_at
+unfolding later_commit_at
+later_commit_field = bind_field _ _ (commit_field Told) (λ token. cond_field _ _ _ (gives_field token) range_field)
 
 -- ---- what the kinds of packets read
 
@@ -166,4 +178,8 @@ join_packet_field = bind_field _ _ join_field (λ join. gives_field _)
 
 pub commit_packet_field : IsField commit_packet_at
 unfolding commit_packet_at
-commit_packet_field = bind_field _ _ commit_field (λ token. gives_field _)
+commit_packet_field = bind_field _ _ (commit_field Untold) (λ token. gives_field _)
+
+pub later_commit_packet_field : IsField later_commit_packet_at
+unfolding later_commit_packet_at
+later_commit_packet_field = bind_field _ _ later_commit_field (λ token. gives_field _)

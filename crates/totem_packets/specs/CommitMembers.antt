@@ -1,11 +1,16 @@
 -- The members of commit tokens, and what they report (docs/PROTOCOL.md, "Packets").
-use Rattle.std.specs.Prelude.{◌<◌, ◌≤◌, ◌^◌, List, length, All, AllPairs, IfSome}
-use Rattle.totem_ids.specs.Texts.{IsProcess, IsRing}
+use Rattle.std.specs.Prelude.{ℕ, ◌<◌, ◌≤◌, ◌^◌, List, length, All, AllPairs, IfSome}
+use Rattle.totem_ids.specs.Texts.{IsUpTo, IsProcess, IsRing}
 use Rattle.totem_packets.specs.declared.commit_member.Report.{Report}
 use Rattle.totem_packets.specs.declared.commit_member.CommitMember.{CommitMember}
 use Rattle.totem_packets.specs.Rising.{IsProcesses}
 
+-- which life of an identifier
+abbrev pub IsLife : ℕ → Type 0
+IsLife = IsUpTo 65535
+
 pub record IsReport (r : Report) : Type 0 where
+  pub life : IsLife r.life
   pub ring : IsRing r.ring
   pub aru : r.aru < 2 ^ 32
   pub delivered : r.delivered < 2 ^ 32

@@ -11,6 +11,8 @@ use Rattle.totem_packets.specs.declared.commit_member.Report.{Report}
 use Rattle.totem_packets.specs.declared.fault.PacketFault.{PacketFault}
 use Rattle.totem_packets.specs.declared.fault.PacketFault.TheVariants.{Kind, Range, Trailing}
 use Rattle.totem_packets.specs.declared.join.Join.{Join}
+use Rattle.totem_packets.specs.declared.lives.Lives.{Lives}
+use Rattle.totem_packets.specs.declared.lives.Lives.TheVariants.{Untold, Told}
 use Rattle.totem_packets.specs.declared.message.Body.{Body}
 use Rattle.totem_packets.specs.declared.message.Body.TheVariants.{App, Old, Mark}
 use Rattle.totem_packets.specs.declared.message.Message as message
@@ -19,6 +21,7 @@ use Rattle.totem_packets.specs.declared.packet.Packet.TheVariants as packets
 use Rattle.totem_packets.specs.declared.token.Token as token
 use Rattle.totem_packets.specs.Parsing.{Parsed, ◌>>=◌}
 use Rattle.totem_packets.specs.Fields.{number_at, above_at, up_to_at, rising_at, ring_at, payload_at, maybe_at, list_at}
+use Rattle.totem_packets.specs.Lives.{has_later_life}
 
 -- ---- messages
 
@@ -86,44 +89,56 @@ round_at bytes = do
   round ← number_at w8 bytes
   if round.0 == 1 then Ok (First, round.1) else if round.0 == 2 then Ok (Second, round.1) else Err Range
 
-unfoldable pub report_at : List ℕ → Parsed Report
-report_at bytes = do
-  ring ← ring_at bytes
+-- the life of a report; where lives are not told, each is the first
+unfoldable pub life_at : Lives → List ℕ → Parsed ℕ
+life_at Untold bytes = Ok (1, bytes)
+life_at Told bytes = above_at w16 0 bytes
+
+unfoldable pub report_at : Lives → List ℕ → Parsed Report
+report_at lives bytes = do
+  life ← life_at lives bytes
+  ring ← ring_at life.1
   aru ← number_at w32 ring.1
   delivered ← number_at w32 aru.1
   obligation ← list_at w16 32 delivered.1
-  Ok (record { ring = ring.0; aru = aru.0; delivered = delivered.0; obligation = obligation.0 }, obligation.1)
+  Ok (record { life = life.0; ring = ring.0; aru = aru.0; delivered = delivered.0; obligation = obligation.0 }, obligation.1)
 
-unfoldable pub filled_at : List ℕ → Parsed (Option Report)
-filled_at bytes = do
-  report ← report_at bytes
+unfoldable pub filled_at : Lives → List ℕ → Parsed (Option Report)
+filled_at lives bytes = do
+  report ← report_at lives bytes
   Ok (Some report.0, report.1)
 
 -- 0 is no report, 1 stands before one
-unfoldable pub maybe_report_at : List ℕ → Parsed (Option Report)
-maybe_report_at bytes = do
+unfoldable pub maybe_report_at : Lives → List ℕ → Parsed (Option Report)
+maybe_report_at lives bytes = do
   filled ← number_at w8 bytes
-  if filled.0 == 0 then Ok (None, filled.1) else if filled.0 == 1 then filled_at filled.1 else Err Range
+  if filled.0 == 0 then Ok (None, filled.1) else if filled.0 == 1 then filled_at lives filled.1 else Err Range
 
 -- a member whose process is above `last`
-unfoldable pub member_at : ℕ → List ℕ → Parsed CommitMember
-member_at last bytes = do
+unfoldable pub member_at : Lives → ℕ → List ℕ → Parsed CommitMember
+member_at lives last bytes = do
   proc ← above_at w16 last bytes
-  report ← maybe_report_at proc.1
+  report ← maybe_report_at lives proc.1
   Ok (record { proc = proc.0; report = report.0 }, report.1)
 
 -- 1 to 32 members
-unfoldable pub members_at : List ℕ → Parsed (List CommitMember)
-members_at bytes = do
+unfoldable pub members_at : Lives → List ℕ → Parsed (List CommitMember)
+members_at lives bytes = do
   count ← up_to_at w8 32 bytes
-  if count.0 == 0 then Err Range else rising_at member_at (λ m. m.proc) count.0 0 count.1
+  if count.0 == 0 then Err Range else rising_at (member_at lives) (λ m. m.proc) count.0 0 count.1
 
-unfoldable pub commit_at : List ℕ → Parsed CommitToken
-commit_at bytes = do
+unfoldable pub commit_at : Lives → List ℕ → Parsed CommitToken
+commit_at lives bytes = do
   ring ← ring_at bytes
   round ← round_at ring.1
-  members ← members_at round.1
+  members ← members_at lives round.1
   Ok (record { ring = ring.0; round = round.0; members = members.0 }, members.1)
+
+-- a commit token whose reports tell lives, one of them above the first
+unfoldable pub later_commit_at : List ℕ → Parsed CommitToken
+later_commit_at bytes = do
+  token ← commit_at Told bytes
+  if has_later_life token.0.members then Ok token else Err Range
 
 -- ---- packets
 
@@ -144,7 +159,12 @@ join_packet_at bytes = do
 
 unfoldable pub commit_packet_at : List ℕ → Parsed packet.Packet
 commit_packet_at bytes = do
-  token ← commit_at bytes
+  token ← commit_at Untold bytes
+  Ok (packets.Commit token.0, token.1)
+
+unfoldable pub later_commit_packet_at : List ℕ → Parsed packet.Packet
+later_commit_packet_at bytes = do
+  token ← later_commit_at bytes
   Ok (packets.Commit token.0, token.1)
 
 -- a packet of the kind that its first byte names
@@ -154,6 +174,7 @@ packet_of kind bytes =
     else if kind == 2 then token_packet_at bytes
     else if kind == 3 then join_packet_at bytes
     else if kind == 4 then commit_packet_at bytes
+    else if kind == 5 then later_commit_packet_at bytes
     else Err Kind
 
 -- a packet, and the bytes behind it

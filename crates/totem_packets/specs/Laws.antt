@@ -6,15 +6,15 @@ use Rattle.totem_packets.specs.Grammar.{decode_packet}
 use Rattle.totem_packets.specs.Ranges.{IsPacket}
 use Rattle.totem_packets.specs.Spelling.{packet_bytes}
 
--- the first byte is none of 1 to 4
+-- the first byte is none of 1 to 5
 abbrev pub IsOfNoKind : List ℕ → Type 0
 IsOfNoKind [] = ⊥
-IsOfNoKind (kind ∷ rest) = (kind ≡ 0) ⊎ (4 < kind)
+IsOfNoKind (kind ∷ rest) = (kind ≡ 0) ⊎ (5 < kind)
 
--- the first byte is one of 1 to 4
+-- the first byte is one of 1 to 5
 abbrev pub IsOfKind : List ℕ → Type 0
 IsOfKind [] = ⊥
-IsOfKind (kind ∷ rest) = (0 < kind) × (kind ≤ 4)
+IsOfKind (kind ∷ rest) = (0 < kind) × (kind ≤ 5)
 
 -- a packet's spelling, and one byte or more behind it
 pub record HasMore (bytes : List ℕ) : Type 0 where

@@ -1,5 +1,5 @@
 -- The one spelling of each packet (docs/PROTOCOL.md, "Packets").
-use Rattle.std.specs.Prelude.{ℕ, List, ◌++◌, length, Option, Some, None}
+use Rattle.std.specs.Prelude.{ℕ, List, [], ◌++◌, length, Option, Some, None}
 use Rattle.std.specs.Int.{Width, w8, w16, w32, w64, to_be_bytes}
 use Rattle.std.specs.List.{flat_map}
 use Rattle.totem_ids.specs.Names.{RingName}
@@ -11,12 +11,15 @@ use Rattle.totem_packets.specs.declared.commit.Round.TheVariants.{First, Second}
 use Rattle.totem_packets.specs.declared.commit_member.CommitMember.{CommitMember}
 use Rattle.totem_packets.specs.declared.commit_member.Report.{Report}
 use Rattle.totem_packets.specs.declared.join.Join.{Join}
+use Rattle.totem_packets.specs.declared.lives.Lives.{Lives}
+use Rattle.totem_packets.specs.declared.lives.Lives.TheVariants.{Untold, Told}
 use Rattle.totem_packets.specs.declared.message.Body.{Body}
 use Rattle.totem_packets.specs.declared.message.Body.TheVariants.{App, Old, Mark}
 use Rattle.totem_packets.specs.declared.message.Message as message
 use Rattle.totem_packets.specs.declared.packet.Packet as packet
 use Rattle.totem_packets.specs.declared.packet.Packet.TheVariants as packets
 use Rattle.totem_packets.specs.declared.token.Token as token
+use Rattle.totem_packets.specs.Lives.{lives_of, commit_kind}
 
 -- ---- fields
 
@@ -75,22 +78,28 @@ join_bytes j = number_bytes w16 j.sender ++ number_bytes w32 j.seq ++ list_bytes
 
 -- ---- commit tokens
 
--- a report, behind the byte that says whether there is one
-unfoldable pub report_bytes : Option Report → List ℕ
-report_bytes None = number_bytes w8 0
-report_bytes (Some r) =
-    number_bytes w8 1 ++ ring_bytes r.ring ++ number_bytes w32 r.aru ++ number_bytes w32 r.delivered ++ list_bytes w16 r.obligation
+-- the life of a report, where lives are told
+abbrev pub life_bytes : Lives → ℕ → List ℕ
+life_bytes Untold life = []
+life_bytes Told life = number_bytes w16 life
 
-unfoldable pub member_bytes : CommitMember → List ℕ
-member_bytes m = number_bytes w16 m.proc ++ report_bytes m.report
+-- a report, behind the byte that says whether there is one
+unfoldable pub report_bytes : Lives → Option Report → List ℕ
+report_bytes lives None = number_bytes w8 0
+report_bytes lives (Some r) =
+    number_bytes w8 1 ++ life_bytes lives r.life ++ ring_bytes r.ring ++ number_bytes w32 r.aru ++ number_bytes w32 r.delivered ++ list_bytes w16 r.obligation
+
+unfoldable pub member_bytes : Lives → CommitMember → List ℕ
+member_bytes lives m = number_bytes w16 m.proc ++ report_bytes lives m.report
 
 -- the byte of a round
 abbrev pub round_number : Round → ℕ
 round_number First = 1
 round_number Second = 2
 
-unfoldable pub commit_bytes : CommitToken → List ℕ
-commit_bytes t = ring_bytes t.ring ++ number_bytes w8 (round_number t.round) ++ number_bytes w8 (length t.members) ++ flat_map member_bytes t.members
+unfoldable pub commit_bytes : Lives → CommitToken → List ℕ
+commit_bytes lives t =
+    ring_bytes t.ring ++ number_bytes w8 (round_number t.round) ++ number_bytes w8 (length t.members) ++ flat_map (member_bytes lives) t.members
 
 -- ---- packets
 
@@ -99,4 +108,4 @@ unfoldable pub packet_bytes : packet.Packet → List ℕ
 packet_bytes (packets.Message m) = number_bytes w8 1 ++ message_bytes m
 packet_bytes (packets.Token t) = number_bytes w8 2 ++ token_bytes t
 packet_bytes (packets.Join j) = number_bytes w8 3 ++ join_bytes j
-packet_bytes (packets.Commit t) = number_bytes w8 4 ++ commit_bytes t
+packet_bytes (packets.Commit t) = number_bytes w8 (commit_kind (lives_of t.members)) ++ commit_bytes (lives_of t.members) t

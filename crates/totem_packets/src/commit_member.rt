@@ -1,13 +1,17 @@
 ghost use Rattle.std.specs.Prelude.{◌≡◌, ◌↔◌, IsTrue, IfOk};
 ghost use Rattle.totem_packets.specs.CommitMembers.{IsReport, IsCommitMember};
+ghost use Rattle.totem_packets.specs.Lives.{reported_life, member_rank};
 
+use crate::life::Life;
 use crate::processes::Processes;
 use std::alloc::{AllocError, Global};
-use totem_ids::{ProcId, RingId, ring_fits};
+use totem_ids::{Proc, ProcId, RingId, ring_fits};
 
 /// What a member reports of the ring that it comes from (docs/PROTOCOL.md, "The commit token").
 #[derive(Debug, Drop)]
 pub struct Report {
+    /// The life in which the member reports.
+    pub life: Life,
     pub ring: RingId,
     /// The member holds all messages up to this number; 0 means none.
     pub aru: u32,
@@ -28,6 +32,7 @@ impl Report {
     pub fn keeps_its_rule(&self)
         ensures { IsReport self.now }
     {
+        let _life = self.life.get();
         ring_fits(&self.ring);
         let _aru = self.aru;
         let _delivered = self.delivered;
@@ -38,7 +43,8 @@ impl Report {
     pub fn is(&self, other: &Report) -> bool
         ensures { IsTrue result ↔ (self.now ≡ other.now) }
     {
-        self.ring == other.ring
+        self.life == other.life
+            && self.ring == other.ring
             && self.aru == other.aru
             && self.delivered == other.delivered
             && self.obligation.is(&other.obligation)
@@ -48,6 +54,7 @@ impl Report {
         ensures { IfOk result (λ r. r ≡ self.now) }
     {
         Ok(Report {
+            life: self.life,
             ring: self.ring,
             aru: self.aru,
             delivered: self.delivered,
@@ -65,6 +72,23 @@ impl CommitMember {
         if let Some(report) = &self.report {
             report.keeps_its_rule();
         }
+    }
+
+    /// Returns the life that the member reports from, or the first if it has not reported.
+    pub fn life(&self) -> Life
+        ensures { result ≡ reported_life self.now.report }
+    {
+        match &self.report {
+            None => Life::first(),
+            Some(report) => report.life,
+        }
+    }
+
+    /// Returns the member as a process of a run: its identifier in the life that it reports from.
+    pub fn process(&self) -> Proc
+        ensures { result ≡ member_rank self.now }
+    {
+        Proc::of(self.proc, self.life().get())
     }
 
     /// Returns whether the two are the same member: `==` in a form that contracts can use.

@@ -6,8 +6,9 @@ ghost use Rattle.totem_packets.specs.Parsing.{Gives, Reads};
 
 use crate::fault::PacketFault;
 use crate::join::Join;
+use crate::lives::Lives;
 use crate::packet::Packet;
-use crate::read_commit::commit_token;
+use crate::read_commit::{commit_token, later_commit_token};
 use crate::read_lists::{process_set, requests};
 use crate::read_message::message;
 use crate::reader::Reader;
@@ -51,7 +52,7 @@ fn join(alloc: Global, reader: &mut Reader) -> Result<Join, PacketFault>
 }
 
 /// Reads a packet, behind which more bytes may follow.
-#[tactic(auto, using(crate::proofs::Falling::passes_on), unfolding(crate::specs::Grammar::packet_at, crate::specs::Grammar::packet_of, crate::specs::Grammar::message_packet_at, crate::specs::Grammar::token_packet_at, crate::specs::Grammar::join_packet_at, crate::specs::Grammar::commit_packet_at))]
+#[tactic(auto, using(crate::proofs::Falling::passes_on), unfolding(crate::specs::Grammar::packet_at, crate::specs::Grammar::packet_of, crate::specs::Grammar::message_packet_at, crate::specs::Grammar::token_packet_at, crate::specs::Grammar::join_packet_at, crate::specs::Grammar::commit_packet_at, crate::specs::Grammar::later_commit_packet_at))]
 fn packet(alloc: Global, reader: &mut Reader) -> Result<Packet, PacketFault>
     ensures reads { Reads (λ x. x) result reader.new (packet_at reader.old) }
     ensures memory { result ≡ Err PacketFault.Memory → IsOfKind reader.old }
@@ -60,7 +61,8 @@ fn packet(alloc: Global, reader: &mut Reader) -> Result<Packet, PacketFault>
         1 => Ok(Packet::Message(message(alloc, reader)?)),
         2 => Ok(Packet::Token(token(alloc, reader)?)),
         3 => Ok(Packet::Join(join(alloc, reader)?)),
-        4 => Ok(Packet::Commit(commit_token(alloc, reader)?)),
+        4 => Ok(Packet::Commit(commit_token(alloc, reader, Lives::Untold)?)),
+        5 => Ok(Packet::Commit(later_commit_token(alloc, reader)?)),
         _ => Err(PacketFault::Kind),
     }
 }

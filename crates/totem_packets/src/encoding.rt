@@ -55,8 +55,9 @@ pub fn encode(alloc: Global, packet: &Packet) -> Result<Vec<u8>, AllocError>
             put_join(&mut out, join)?;
         }
         Packet::Commit(token) => {
-            put_u8(&mut out, 4)?;
-            put_commit(&mut out, token)?;
+            let lives = token.members.lives_told();
+            put_u8(&mut out, lives.kind())?;
+            put_commit(&mut out, lives, token)?;
         }
     }
     Ok(out)

@@ -9,6 +9,8 @@ mod encoding;
 mod fault;
 mod join;
 mod laws;
+mod life;
+mod lives;
 mod message;
 mod number;
 mod old_rings;
@@ -41,6 +43,7 @@ pub use laws::{
     no_packet_begins_another, range_is_known_at_once, read_is_spelled, short_has_nothing_wrong,
     spelled_is_read, trailing_is_behind_a_packet,
 };
+pub use life::Life;
 pub use message::{Body, Message};
 pub use number::Number;
 pub use packet::Packet;

@@ -1,5 +1,7 @@
 //! What the reports of a commit token say of an old ring (docs/PROTOCOL.md, "Recovery").
-ghost use Rattle.std.specs.Prelude.{◌≡◌, ◌≤◌, length, filter, not, IfOk};
+ghost use Rattle.std.specs.Prelude.{◌≡◌, ◌≤◌, length, map, filter, not, IfOk};
+ghost use Rattle.totem_ids.specs.Ranks.{id_of};
+ghost use Rattle.totem_packets.specs.Lives.{member_ranks, transitional_ranks};
 ghost use Rattle.totem_packets.specs.Sets.{has, same_processes, Makes};
 ghost use Rattle.totem_packets.specs.OldRings.{processes_of, is_filled, reports_ring, transitional_set, least_aru, greatest_delivered, obligation_union, obligation_from, is_obliged};
 
@@ -9,7 +11,7 @@ use crate::processes::{MOST, Processes};
 use crate::set_fault::SetFault;
 use crate::sets::list_union;
 use std::alloc::{AllocError, Global};
-use totem_ids::{ProcId, RingId};
+use totem_ids::{Proc, ProcId, RingId};
 
 impl CommitMember {
     /// Returns whether this member has reported `old` as the ring that it comes from.
@@ -46,6 +48,18 @@ impl CommitMembers {
             list.push(member.proc)?;
         }
         Ok(Processes::of(list))
+    }
+
+    /// Returns the members, each in the life that it reports from. A member that has not reported counts as a first life.
+    pub fn lives(&self, alloc: Global) -> Result<Vec<Proc>, AllocError>
+        ensures value { IfOk result (λ p. p.items ≡ member_ranks self.now) }
+        ensures ids { IfOk result (λ p. map id_of p.items ≡ processes_of self.now) }
+    {
+        let mut list = Vec::new(alloc);
+        for member in self.as_slice() {
+            list.push(member.process())?;
+        }
+        Ok(list)
     }
 
     /// Returns whether exactly these processes are the members. Takes no memory.
@@ -95,6 +109,20 @@ impl CommitMembers {
             }
         }
         Ok(Processes::of(list))
+    }
+
+    /// Returns the transitional set, each member in the life that it reports from.
+    pub fn transitional_lives(&self, alloc: Global, old: &RingId) -> Result<Vec<Proc>, AllocError>
+        ensures value { IfOk result (λ p. p.items ≡ transitional_ranks old.now self.now) }
+        ensures ids { IfOk result (λ p. map id_of p.items ≡ transitional_set old.now self.now) }
+    {
+        let mut list = Vec::new(alloc);
+        for member in self.as_slice() {
+            if member.reports_ring(old) {
+                list.push(member.process())?;
+            }
+        }
+        Ok(list)
     }
 
     /// Returns the least aru that the members from the ring `old` reported, or 0 if none comes from it.

@@ -5,6 +5,7 @@ ghost use Rattle.totem_packets.specs.Parsing.{Reads};
 ghost use Rattle.totem_packets.specs.Fields.{bytes_at, number_at, above_at, up_to_at, ring_at, payload_at, maybe_at};
 
 use crate::fault::PacketFault;
+use crate::life::Life;
 use crate::number::Number;
 use crate::payload::Payload;
 use crate::token_seq::TokenSeq;
@@ -133,6 +134,17 @@ impl<'a> Reader<'a> {
     {
         let number = self.u16()?;
         Ok(ProcId::new(number))
+    }
+
+    #[tactic(auto, using(crate::proofs::Falling::passes_on), unfolding(crate::specs::Fields::above_at))]
+    pub fn life(&mut self) -> Result<Life, PacketFault>
+        ensures { Reads (λ x. x) result self.new (above_at w16 0 self.old) }
+    {
+        let number = self.u16()?;
+        if number == 0 {
+            return Err(PacketFault::Range);
+        }
+        Ok(Life::of(number))
     }
 
     /// Reads a count that may be at most `most`.

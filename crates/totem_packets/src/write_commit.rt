@@ -1,11 +1,13 @@
 //! Commit tokens, written from left to right behind the bytes that are there.
 ghost use Rattle.std.specs.Prelude.{◌≡◌, ◌++◌, OnOk};
 ghost use Rattle.std.specs.Int.{w8};
-ghost use Rattle.totem_packets.specs.Spelling.{round_number, number_bytes, report_bytes, member_bytes, commit_bytes};
+ghost use Rattle.totem_packets.specs.Spelling.{round_number, number_bytes, life_bytes, report_bytes, member_bytes, commit_bytes};
 
 use crate::commit::{CommitToken, Round};
 use crate::commit_member::{CommitMember, Report};
-use crate::writing::{put_process, put_process_set, put_ring, put_u8, put_u32};
+use crate::life::Life;
+use crate::lives::Lives;
+use crate::writing::{put_process, put_process_set, put_ring, put_u8, put_u16, put_u32};
 use std::alloc::AllocError;
 
 fn put_round(out: &mut Vec<u8>, round: Round) -> Result<(), AllocError>
@@ -17,14 +19,25 @@ fn put_round(out: &mut Vec<u8>, round: Round) -> Result<(), AllocError>
     }
 }
 
+/// Writes the life of a report where lives are told, and nothing where they are not.
+fn put_life(out: &mut Vec<u8>, lives: Lives, life: Life) -> Result<(), AllocError>
+    ensures { OnOk result (out.new.items ≡ out.old.items ++ life_bytes lives life) }
+{
+    match lives {
+        Lives::Untold => Ok(()),
+        Lives::Told => put_u16(out, life.get()),
+    }
+}
+
 #[tactic(auto, unfolding(crate::specs::Spelling::report_bytes))]
-fn put_report(out: &mut Vec<u8>, report: &Option<Report>) -> Result<(), AllocError>
-    ensures { OnOk result (out.new.items ≡ out.old.items ++ report_bytes report.now) }
+fn put_report(out: &mut Vec<u8>, lives: Lives, report: &Option<Report>) -> Result<(), AllocError>
+    ensures { OnOk result (out.new.items ≡ out.old.items ++ report_bytes lives report.now) }
 {
     match report {
         None => put_u8(out, 0),
         Some(report) => {
             put_u8(out, 1)?;
+            put_life(out, lives, report.life)?;
             put_ring(out, &report.ring)?;
             put_u32(out, report.aru)?;
             put_u32(out, report.delivered)?;
@@ -34,23 +47,23 @@ fn put_report(out: &mut Vec<u8>, report: &Option<Report>) -> Result<(), AllocErr
 }
 
 #[tactic(auto, unfolding(crate::specs::Spelling::member_bytes))]
-fn put_member(out: &mut Vec<u8>, member: &CommitMember) -> Result<(), AllocError>
-    ensures { OnOk result (out.new.items ≡ out.old.items ++ member_bytes member.now) }
+fn put_member(out: &mut Vec<u8>, lives: Lives, member: &CommitMember) -> Result<(), AllocError>
+    ensures { OnOk result (out.new.items ≡ out.old.items ++ member_bytes lives member.now) }
 {
     put_process(out, member.proc)?;
-    put_report(out, &member.report)
+    put_report(out, lives, &member.report)
 }
 
 #[tactic(auto, unfolding(crate::specs::Spelling::commit_bytes))]
-pub fn put_commit(out: &mut Vec<u8>, token: &CommitToken) -> Result<(), AllocError>
-    ensures { OnOk result (out.new.items ≡ out.old.items ++ commit_bytes token.now) }
+pub fn put_commit(out: &mut Vec<u8>, lives: Lives, token: &CommitToken) -> Result<(), AllocError>
+    ensures { OnOk result (out.new.items ≡ out.old.items ++ commit_bytes lives token.now) }
 {
     put_ring(out, &token.ring)?;
     put_round(out, token.round)?;
     let members = token.members.as_slice();
     put_u8(out, members.len() as u8)?;
     for member in members {
-        put_member(out, member)?;
+        put_member(out, lives, member)?;
     }
     Ok(())
 }

@@ -17,7 +17,7 @@ pub fn put_u8(out: &mut Vec<u8>, number: u8) -> Result<(), AllocError>
 }
 
 #[tactic(auto, unfolding(crate::specs::Spelling::number_bytes))]
-fn put_u16(out: &mut Vec<u8>, number: u16) -> Result<(), AllocError>
+pub fn put_u16(out: &mut Vec<u8>, number: u16) -> Result<(), AllocError>
     ensures { OnOk result (out.new.items ≡ out.old.items ++ number_bytes w16 number) }
 {
     out.extend_from_slice(&number.to_be_bytes())

@@ -1,4 +1,5 @@
-pub mod FirstLives
+pub mod RingLives
+pub mod Reported
 pub mod Leaving
 pub mod Together
 pub mod OwedOnes

@@ -11,12 +11,12 @@ use Rattle.totem_packets.specs.declared.message.Body.TheVariants.{App, Old, Mark
 use Rattle.totem_packets.specs.declared.message.Message as message
 use Rattle.totem_packets.specs.declared.packet.Packet as packet
 use Rattle.totem_packets.specs.declared.packet.Packet.TheVariants as packets
-use Rattle.totem_packets.specs.OldRings.{processes_of, transitional_set, least_aru, greatest_delivered, obligation_union}
+use Rattle.totem_packets.specs.Lives.{member_ranks, transitional_ranks}
+use Rattle.totem_packets.specs.OldRings.{transitional_set, least_aru, greatest_delivered, obligation_union}
 use Rattle.totem_packets.specs.Sets.{has}
 use Rattle.totem_ring.specs.declared.outcome.To.{To}
 use Rattle.totem_ring.specs.declared.outcome.To.TheVariants.{All, One}
 use Rattle.totem_ring.specs.Rings.{Ring, Held, aru_of}
-use Rattle.totem_recover.specs.FirstLives.{first_ranks}
 
 -- a member on its way from its old ring to a new one
 pub record Leaving : Type 0 where
@@ -64,8 +64,8 @@ abbrev pub new_recovery : ℕ → Ring → CommitToken → Leaving
 new_recovery me prev token = record {
   me = me;
   ring = token.ring;
-  members = first_ranks (processes_of token.members);
-  transitional = first_ranks (transitional_set prev.ring token.members);
+  members = member_ranks token.members;
+  transitional = transitional_ranks prev.ring token.members;
   high = greatest_delivered prev.ring token.members;
   obliged = obligation_union prev.ring token.members;
   list = list_to_send (least_aru prev.ring token.members) prev.held;

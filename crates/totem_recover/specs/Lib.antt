@@ -1,4 +1,4 @@
-pub mod FirstLives
+pub mod Lives
 pub mod Exchange
 pub mod Finish
 pub mod Together

@@ -1,11 +1,11 @@
 //! How a recovery begins (docs/PROTOCOL.md, "Recovery").
 ghost use Rattle.std.specs.Prelude.{◌≡◌, ◌↔◌, ◌≤◌, IsTrue, IfOk, length};
-ghost use Rattle.totem_packets.specs.OldRings.{processes_of, transitional_set, obligation_union};
+ghost use Rattle.totem_packets.specs.Lives.{member_ranks, transitional_ranks};
+ghost use Rattle.totem_packets.specs.OldRings.{transitional_set, obligation_union};
 ghost use Rattle.totem_packets.specs.Sets.{has};
 ghost use Rattle.totem_recover.specs.Exchange.{IsReady, reported_obligation};
-ghost use Rattle.totem_recover.specs.FirstLives.{first_ranks};
 
-use crate::ring_members::first_members;
+use crate::lives::members_with;
 use std::alloc::{AllocError, Global};
 use totem_evs::Members;
 use totem_ids::{ProcId, RingId};
@@ -24,16 +24,18 @@ pub fn is_ready(me: ProcId, prev: &RingState, token: &CommitToken) -> bool
     token.members.is_from(&old, me) && token.members.obligation_len(&old) <= MOST
 }
 
-/// Returns the members of the new ring, each in its first life.
+/// Returns the members of the new ring, in the lives that they reported.
+#[tactic(auto, using(crate::proofs::Reported::members_are))]
 pub(crate) fn members_of(alloc: Global, members: &CommitMembers) -> Result<Members, AllocError>
-    ensures { IfOk result (λ m. m ≡ first_ranks (processes_of members.now)) }
+    ensures { IfOk result (λ m. m ≡ member_ranks members.now) }
 {
-    let procs = members.processes(alloc)?;
+    let lives = members.lives(alloc)?;
     let _rule = members.as_slice();
-    first_members(alloc, procs.as_slice())
+    Ok(members_with(lives))
 }
 
-/// Returns the transitional set: the members that come from the ring `old`, as `me` does, each in its first life.
+/// Returns the transitional set: the members that come from the ring `old`, as `me` does, in the lives that they reported.
+#[tactic(auto, using(crate::proofs::Reported::transitional_are))]
 pub(crate) fn transitional_of(
     alloc: Global,
     old: &RingId,
@@ -41,10 +43,11 @@ pub(crate) fn transitional_of(
     me: ProcId,
 ) -> Result<Members, AllocError>
     requires { IsTrue (has (transitional_set old.now members.now) me) }
-    ensures { IfOk result (λ m. m ≡ first_ranks (transitional_set old.now members.now)) }
+    ensures { IfOk result (λ m. m ≡ transitional_ranks old.now members.now) }
 {
-    let procs = members.transitional_set(alloc, old)?;
-    first_members(alloc, procs.as_slice())
+    let lives = members.transitional_lives(alloc, old)?;
+    let _rule = members.as_slice();
+    Ok(members_with(lives))
 }
 
 /// Returns the obligation union: the processes to which the members from the ring `old` owe the delivery of their messages.

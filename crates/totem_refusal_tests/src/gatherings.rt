@@ -5,7 +5,7 @@ use std::test::Fail;
 use totem_member::{
     Act, CommitOut, CommitView, Gather, GatherOut, MemberFault, Phase, first_commit, on_commit,
 };
-use totem_packets::{CommitToken, Join, Number, Processes, Report, SetFault};
+use totem_packets::{CommitToken, Join, Life, Number, Processes, Report, SetFault};
 
 /// Returns the set of the processes from 1 to this one.
 fn set(alloc: Global, last: u16) -> Result<Processes, Fail> {
@@ -188,6 +188,7 @@ fn view(alloc: Global, me: u16, phase: Option<Phase>) -> Result<CommitView, Fail
 
 fn report(alloc: Global) -> Report {
     Report {
+        life: Life::first(),
         ring: four(),
         aru: 3,
         delivered: 2,

@@ -6,8 +6,8 @@ use std::test::Fail;
 use totem_evs::Entry;
 use totem_ids::Service;
 use totem_packets::{
-    Body, CommitMember, CommitMembers, CommitToken, Message, Number, Payload, Processes, Report,
-    Round,
+    Body, CommitMember, CommitMembers, CommitToken, Life, Message, Number, Payload, Processes,
+    Report, Round,
 };
 use totem_recover::{Recovery, is_ready};
 use totem_ring::{RingFault, RingOut, RingState, first_token};
@@ -95,6 +95,7 @@ fn reporting(alloc: Global, me: u16, delivered: u32) -> CommitMember {
     CommitMember {
         proc: proc(me),
         report: Some(Report {
+            life: Life::first(),
             ring: four(),
             aru: 6,
             delivered,

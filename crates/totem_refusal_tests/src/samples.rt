@@ -6,11 +6,10 @@ use std::alloc::{AllocError, Global};
 use std::collections::VecDeque;
 use std::fmt;
 use std::test::Fail;
-use totem_evs::Entry;
-use totem_ids::{ProcId, RingId, Service};
+use totem_evs::{Entry, Members};
+use totem_ids::{Proc, ProcId, RingId, Service};
 use totem_node::Input;
 use totem_packets::Packet;
-use totem_recover::RingMembers;
 
 /// Packets on their way, each with its receiver.
 pub type Queue = VecDeque<(ProcId, Packet)>;
@@ -61,9 +60,22 @@ pub fn procs(alloc: Global, last: u16) -> Result<Vec<ProcId>, AllocError> {
     again!(once_procs(alloc, last))
 }
 
-/// Returns them as members.
-pub fn first(alloc: Global, last: u16) -> Result<RingMembers, Fail> {
-    Ok(RingMembers::new(procs(alloc, last)?)?)
+fn once_first_lives(alloc: Global, procs: &[ProcId]) -> Result<Vec<Proc>, AllocError> {
+    let mut list = Vec::new(alloc);
+    for proc in procs {
+        list.push(Proc::first(*proc))?;
+    }
+    Ok(list)
+}
+
+/// Returns the first lives of these processes as members.
+pub fn first_lives(alloc: Global, procs: &[ProcId]) -> Result<Members, Fail> {
+    Ok(Members::new(again!(once_first_lives(alloc, procs))?)?)
+}
+
+/// Returns the first lives of the processes from 1 to this one as members.
+pub fn first(alloc: Global, last: u16) -> Result<Members, Fail> {
+    first_lives(alloc, &procs(alloc, last)?)
 }
 
 /// A client's message `x`.

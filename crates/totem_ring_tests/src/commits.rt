@@ -3,7 +3,7 @@ use crate::values::{Case, part, proc, push, push_procs, push_truth, ring, set};
 use std::alloc::{AllocError, Global};
 use totem_ids::RingId;
 use totem_member::{CommitOut, CommitView, MemberFault, Phase, first_commit, on_commit};
-use totem_packets::{CommitToken, Number, Report, Round};
+use totem_packets::{CommitToken, Life, Number, Report, Round};
 
 /// Returns how far a member is: the ring whose token it has filled, its phase, and whether it has started that ring.
 fn stage(name: &str) -> (Option<RingId>, Phase, bool) {
@@ -30,9 +30,10 @@ fn view(alloc: Global, word: &str) -> Result<CommitView, AllocError> {
 }
 
 /// Returns the report of a member that comes from ring 4.1. Behind its view a word may give the aru, which is 3
-/// otherwise, and the obligation set.
+/// otherwise, the obligation set, and the life, which is the first otherwise.
 fn report(alloc: Global, word: &str) -> Result<Report, AllocError> {
     Ok(Report {
+        life: Life::of(part(word, 6).parse::<u16>().unwrap_or(1).max(1)),
         ring: ring(4),
         aru: part(word, 4).parse::<u32>().unwrap_or(3),
         delivered: 2,
@@ -173,7 +174,7 @@ pub(crate) fn told(alloc: Global, words: &str) -> Result<String, AllocError> {
 }
 
 /// 1, 2 and 3 know ring number 4, so ring 8.1 is formed.
-pub(crate) const COMMITS: [Case; 16] = [
+pub(crate) const COMMITS: [Case; 17] = [
     // the least makes the token and reports, each other one fills it, and all have reported in the first round
     (
         "1:1-3:4 token 2:1-3:4 token 3:1-3:4 token",
@@ -217,6 +218,11 @@ pub(crate) const COMMITS: [Case; 16] = [
     // 1 would report the aru 4 and not 3
     (
         "1:1-3:4 2:1-3:4 3:1-3:4 1:1-3:8:filled:4",
+        "Filled First; Filled First; Stale; ",
+    ),
+    // 1 would report its second life, and has reported the first
+    (
+        "1:1-3:4 2:1-3:4 3:1-3:4 1:1-3:8:filled:::2",
         "Filled First; Filled First; Stale; ",
     ),
     // ring numbers end

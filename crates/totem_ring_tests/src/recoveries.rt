@@ -29,11 +29,16 @@ fn handed(alloc: Global, messages: &str) -> Result<u32, Fail> {
     Ok(prev.handed())
 }
 
+/// Tells what is written as the ring is left once these messages have come, if these are the new ring's members.
+fn left_with(alloc: Global, messages: &str, members: &str) -> Result<String, Fail> {
+    let prev = old_ring(alloc, messages)?;
+    let recovery = begun(alloc, &prev, members)?;
+    told_left(alloc, &recovery, &prev)
+}
+
 /// Tells what is written as the ring is left once these messages have come. 1 and 2 come from 4.1, and 2 has handed up to 3.
 fn left(alloc: Global, messages: &str) -> Result<String, Fail> {
-    let prev = old_ring(alloc, messages)?;
-    let recovery = begun(alloc, &prev, "1:4.1:6:2 2:4.1:6:3")?;
-    told_left(alloc, &recovery, &prev)
+    left_with(alloc, messages, "1:4.1:6:2 2:4.1:6:3")
 }
 
 fn told_left(alloc: Global, recovery: &Recovery, prev: &RingState) -> Result<String, Fail> {
@@ -190,11 +195,12 @@ pub(crate) fn told(alloc: Global, words: &str) -> Result<String, Fail> {
         "handed" => shown(alloc, handed(alloc, rest)),
         "may_begin" => shown(alloc, may_begin(alloc, rest)),
         "left" => left(alloc, rest),
+        "left_with" => left_with(alloc, "", rest),
         _ => long(alloc, rest),
     }
 }
 
-pub(crate) const RECOVERIES: [Case; 13] = [
+pub(crate) const RECOVERIES: [Case; 14] = [
     // a safe message is not handed up at once
     ("handed 1:1 2:2 3:3:safe 4:1 5:2:safe 6:1 8:1 9:3", "2"),
     // 3 is safe by 3 and 5 safe by 2, the others are agreed; there is a gap at 7
@@ -206,6 +212,11 @@ pub(crate) const RECOVERIES: [Case; 13] = [
     (
         "left 1:3:mark 2:2",
         "dlv r4.1 4.1#2; conf t8.1/1 1 2; conf r8.1 1 2; ",
+    ),
+    // members are written in the lives that they reported: 4 comes from a ring of its own
+    (
+        "left_with 1:4.1:0:0::2 2:4.1:0:0 4:9.4:0:0::65535",
+        "conf t8.1/1 1:2 2; conf r8.1 1:2 2 4:65535; ",
     ),
     // a long list is sent in parts
     (

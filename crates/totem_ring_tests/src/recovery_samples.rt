@@ -5,7 +5,7 @@ use std::test::Fail;
 use totem_evs::Entry;
 use totem_ids::{ProcId, RingId, Service};
 use totem_packets::{
-    Body, CommitMember, CommitMembers, CommitToken, Message, Number, Report, Round,
+    Body, CommitMember, CommitMembers, CommitToken, Life, Message, Number, Report, Round,
 };
 use totem_recover::{Recovery, is_ready};
 use totem_ring::RingState;
@@ -54,11 +54,12 @@ fn hear_all(alloc: Global, state: &mut RingState, words: &str) -> Result<(), Fai
 }
 
 /// Returns the member of a word such as `1:4.1:6:2:3` with its report: it comes from ring 4.1, has the aru 6, has
-/// handed up to 2 and owes messages to 3.
+/// handed up to 2 and owes messages to 3. Behind that a word may give the life, which is the first otherwise.
 fn member(alloc: Global, word: &str) -> Result<CommitMember, AllocError> {
     Ok(CommitMember {
         proc: proc(part(word, 0).parse::<u16>().unwrap_or(0)),
         report: Some(Report {
+            life: Life::of(part(word, 5).parse::<u16>().unwrap_or(1).max(1)),
             ring: ring_of(part(word, 1)),
             aru: part(word, 2).parse::<u32>().unwrap_or(0),
             delivered: part(word, 3).parse::<u32>().unwrap_or(0),

@@ -87,10 +87,11 @@ pub fn push_procs(alloc: Global, text: &mut String, procs: &[ProcId]) -> Result<
     Ok(())
 }
 
-/// Adds these processes, each by its identifier alone.
+/// Adds these processes, each with its life unless that is the first.
 pub fn push_lives(alloc: Global, text: &mut String, procs: &[Proc]) -> Result<(), AllocError> {
     for proc in procs {
-        push_number(alloc, text, u64::from(proc.id().number()))?;
+        let written = proc.written(proc.first_version());
+        push(text, format!(in alloc; " {written}"))?;
     }
     Ok(())
 }

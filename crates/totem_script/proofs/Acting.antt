@@ -21,15 +21,16 @@ use Rattle.totem_node.specs.Table.{step}
 use Rattle.totem_script.specs.declared.script_fault.ScriptFaultKind.TheVariants.{TooMany}
 use Rattle.totem_script.specs.Actors.{Actor, new_actor, acted, takes, is_failure, ends_in_failure}
 
-pub starts : (p : ℕ) (ring : RingName) (members : List ℕ) (n : Node) (first : Entry) (entries : List Entry) → n ≡ new_node p ring members
-    → first ≡ first_change ring members → entries ≡ [] ++ first ∷ [] → record { proc = p; node = n; entries = entries } ≡ new_actor p ring members
+pub starts : (p : ℕ) (ring : RingName) (members : List ℕ) (n : Node) (earlier : List LogRecord) (entries : List Entry) → n ≡ new_node p ring members
+    → earlier ≡ [] → entries ≡ first_change ring members ∷ []
+    → record { proc = p; earlier = earlier; node = n; entries = entries } ≡ new_actor p ring members
 unfolding new_actor
-starts p ring members n first entries node change is = rw (is, node, change)
+starts p ring members n earlier entries node none is = rw (is, node, none)
 
 -- the node takes a step
 module _ (a : Actor) (i : Input) (n : Node) where
   pub passed_over : (fault : NodeFault) → IsRefused fault a.node n (step a.node i) → fault ≢ node.Memory → (packets : List Sending) → packets ≡ []
-      → takes a i ≡ Ok (record { actor = record { proc = a.proc; node = n; entries = a.entries }; packets = packets })
+      → takes a i ≡ Ok (record { actor = record { proc = a.proc; earlier = a.earlier; node = n; entries = a.entries }; packets = packets })
   unfolding takes
   passed_over fault refused other packets none = ap (acted a) (refused.fault_is other) ∙ rw (refused.unchanged, none)
 
@@ -42,7 +43,7 @@ module _ (a : Actor) (i : Input) (n : Node) where
         ap (acted a) done ∙ rw test
 
     pub goes_on : length a.entries + length entries ≤ 1000000 → (after : List Entry) → after ≡ a.entries ++ entries
-        → takes a i ≡ Ok (record { actor = record { proc = a.proc; node = n; entries = after }; packets = packets })
+        → takes a i ≡ Ok (record { actor = record { proc = a.proc; earlier = a.earlier; node = n; entries = after }; packets = packets })
     unfolding takes
     goes_on fits after is =
         let test : nat_lt 1000000 (length a.entries + length entries) ≡ false = grind (arith, nat_tests) in

@@ -22,7 +22,7 @@ module _ (s : Scene) (p : ℕ) (i : Input) where
 
   pub taken : (actors shown : List Actor) (packets : List Sending) (queue : Queue) → plays s.actors p i ≡ Ok (record { actors = actors; packets = packets })
       → shown ≡ actors → queue ≡ s.queue ++ posted_all s.cut shown p packets
-      → takes_in s p i ≡ Ok (record { actors = actors; queue = queue; cut = s.cut; under_way = s.under_way })
+      → takes_in s p i ≡ Ok (record { version = s.version; actors = actors; queue = queue; cut = s.cut; under_way = s.under_way })
   unfolding takes_in
   taken actors shown packets queue played same posted = rw (played, posted, same)
 
@@ -36,7 +36,7 @@ no_packet (suc left) s none =
     ap (λ (q : Queue). run_one s q >>= f) none ∙ no_packet left s none
 
 pub stopped : (whole : Judged Scene) (left : ℕ) (s : Scene) (queue : Queue) → whole ≡ run_times left s → queue ≡ s.queue → s.queue ≡ []
-    → whole ≡ Ok (record { actors = s.actors; queue = queue; cut = s.cut; under_way = s.under_way })
+    → whole ≡ Ok (record { version = s.version; actors = s.actors; queue = queue; cut = s.cut; under_way = s.under_way })
 stopped whole left s queue so_far is none = rw is (so_far ∙ no_packet left s none)
 
 pub no_time : (left : ℕ) (s : Scene) → left ≡ 0 → run_times left s ≡ Ok s

@@ -1,31 +1,31 @@
 -- A script, line by line.
-use Rattle.std.proofs.Common.{◌≡◌, ℕ, zero, suc, ◌≤◌, ◌+◌, ◌==◌, List, [], ◌∷◌, length, drop, map, Bool, true, false, cond, Ok, Err, refl, ap, ◌∙◌, arith}
+use Rattle.std.proofs.Common.{◌≡◌, ℕ, zero, suc, ◌≤◌, ◌+◌, ◌==◌, List, [], ◌∷◌, length, drop, Bool, true, false, cond, Ok, Err, refl, ap, ◌∙◌, arith}
 use Rattle.std.proofs.lemmas.List.{length-drop}
 use Rattle.totem_evs.specs.RunRecord.{RunRecord}
-use Rattle.totem_evs.specs.Lives.{IsFirstVersion}
 use Rattle.totem_script.specs.declared.command.Command.{Command}
 use Rattle.totem_script.specs.declared.fault.LineFault.{LineFault}
 use Rattle.totem_script.specs.declared.script_fault.ScriptFault.{ScriptFault}
 use Rattle.totem_script.specs.declared.script_fault.ScriptFaultKind.{ScriptFaultKind}
 use Rattle.totem_script.specs.declared.script_fault.ScriptFaultKind.TheVariants.{End, Truncated}
+use Rattle.totem_script.specs.declared.script_version.ScriptVersion.{ScriptVersion}
 use Rattle.totem_script.specs.Commands.{command_of}
 use Rattle.totem_script.specs.Lines.{lines_of, longer_line}
 use Rattle.totem_script.specs.Judged.{Fails}
 use Rattle.totem_script.specs.Parsed as parsed
 use Rattle.totem_script.specs.ScriptFaults.{of_line}
-use Rattle.totem_script.specs.Actors.{log_of}
+use Rattle.totem_script.specs.Casts.{logs_in}
 use Rattle.totem_script.specs.Scenes.{Scene, empty_scene, done}
+use Rattle.totem_script.specs.Versions.{run_of}
 use Rattle.totem_script.specs.Simulation.{Texts, Told, ends, followed, judged, closing, play, all_played, simulate, FailsAt, first_judged, first_headed}
-use Rattle.totem_script.proofs.Versions.{version_is}
 
 -- ---- A line
 
 module _ (s : Scene) (text : List ℕ) where
-  pub not_command : (fault : LineFault) → parsed.Fails fault (command_of text) → Fails (of_line fault) (followed s text)
+  pub not_command : (fault : LineFault) → parsed.Fails fault (command_of s.version text) → Fails (of_line fault) (followed s text)
   unfolding followed
   not_command fault fails = record { is = λ other. let err = fails.is (λ e. other (ap of_line e)) in rw err }
 
-  module _ (c : Command) (read : command_of text ≡ Ok c) where
+  module _ (c : Command) (read : command_of s.version text ≡ Ok c) where
     pub not_done : (fault : ScriptFaultKind) → Fails fault (done s c) → Fails fault (followed s text)
     unfolding followed
     not_done fault fails = record { is = λ other. rw (read, fails.is other) }
@@ -105,10 +105,11 @@ unfolding all_played
 no_head [] kind fails = record { is = λ other. let same : Truncated ≡ kind = (let e = fails.is other in cc) in rw same }
 no_head (l ∷ lines) kind fails = record { is = λ other. rw (fails.is other) }
 
-a_head : (lines rest : Texts) → first_headed lines ≡ Ok empty_scene → rest ≡ drop 1 lines → all_played lines ≡ play 2 empty_scene rest
+a_head : (version : ScriptVersion) (lines rest : Texts) → first_headed lines ≡ Ok version → rest ≡ drop 1 lines
+    → all_played lines ≡ play 2 (empty_scene version) rest
 unfolding all_played
-a_head [] rest head is = absurd (cc)
-a_head (l ∷ lines) rest head is = let same : rest ≡ lines = is in rw (head, same)
+a_head version [] rest head is = absurd (cc)
+a_head version (l ∷ lines) rest head is = let same : rest ≡ lines = is in rw (head, same)
 
 module _ (script : List ℕ) (lines : Texts) (is : lines ≡ lines_of 65536 script) where
   fails_whole : (fault : ScriptFault) → FailsAt fault (all_played lines) → FailsAt fault (simulate script)
@@ -125,12 +126,13 @@ module _ (script : List ℕ) (lines : Texts) (is : lines ≡ lines_of 65536 scri
       let fewer = ap length behind in
       omega (arith, few, all, fewer, length-drop 1 lines)
 
-  module _ (rest : Texts) (head : first_headed lines ≡ Ok empty_scene) (behind : rest ≡ drop 1 lines) where
-    pub play_fails : (fault : ScriptFault) → FailsAt fault (play 2 empty_scene rest) → FailsAt fault (simulate script)
-    play_fails fault fails = fails_whole fault (record { is = λ other. a_head lines rest head behind ∙ fails.is other })
+  module _ (version : ScriptVersion) (rest : Texts) (head : first_headed lines ≡ Ok version) (behind : rest ≡ drop 1 lines) where
+    pub play_fails : (fault : ScriptFault) → FailsAt fault (play 2 (empty_scene version) rest) → FailsAt fault (simulate script)
+    play_fails fault fails = fails_whole fault (record { is = λ other. a_head version lines rest head behind ∙ fails.is other })
 
-    pub play_ends : (s : Scene) (run : RunRecord) → play 2 empty_scene rest ≡ Ok s → run.logs ≡ map log_of s.actors → IsFirstVersion run.version run.logs → simulate script ≡ Ok run
+    pub play_ends : (s : Scene) (run : RunRecord) → play 2 (empty_scene version) rest ≡ Ok s → run ≡ run_of s.version (logs_in s.actors)
+        → simulate script ≡ Ok run
     unfolding simulate
-    play_ends s run played logs version =
-        let whole = rw is at (a_head lines rest head behind ∙ played) in
-        rw (whole, ← logs, ← version_is run.version run.logs version) refl
+    play_ends s run played logs =
+        let whole = rw is at (a_head version lines rest head behind ∙ played) in
+        rw (whole, ← logs) refl

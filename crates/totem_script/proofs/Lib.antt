@@ -3,8 +3,10 @@ pub mod Digits
 pub mod Steps
 pub mod LineEnds
 pub mod Acting
+pub mod ComingBack
 pub mod Casting
 pub mod Rings
+pub mod Logged
 pub mod Sent
 pub mod Happening
 pub mod Versions

@@ -2,6 +2,7 @@
 use Rattle.std.proofs.Common.{◌≡◌, ℕ, ◌<◌, ◌≤◌, ◌+◌, ◌==◌, ◌&&◌, List, [], ◌∷◌, ◌++◌, length, get_or, drop, Bool, true, false, not, Option, sym, ap, ◌∙◌, append_assoc, append-nil}
 use Rattle.std.proofs.lemmas.List.{drop_more, drop_all}
 use Rattle.std.proofs.lemmas.Grind.{flat_map-append}
+use Rattle.totem_ids.specs.Ranks.{id_of}
 use Rattle.totem_packets.specs.declared.packet.Packet.{Packet}
 use Rattle.totem_ring.specs.Visits.{Sending}
 use Rattle.totem_script.specs.Actors.{Actor}
@@ -13,12 +14,12 @@ module _ (cut : Option (List (List ℕ))) (from : ℕ) (packet : Packet) (actors
   split : start ++ to_others cut from packet actors ≡ now ++ to_others cut from packet (a ∷ drop (i + 1) actors)
   split = so_far ∙ ap (λ (l : List Actor). now ++ to_others cut from packet l) (drop_more actors i a inside ∙ ap (λ (b : Actor). b ∷ drop (i + 1) actors) (sym is))
 
-  pub passed_by : (b : Bool) (p : ℕ) → p ≡ a.proc → b ≡ not (p == from) && may_pass cut from p → b ≡ false
+  pub passed_by : (b : Bool) (p : ℕ) → p ≡ id_of a.proc → b ≡ not (p == from) && may_pass cut from p → b ≡ false
       → start ++ to_others cut from packet actors ≡ now ++ to_others cut from packet (drop (i + 1) actors)
   unfolding to_others
   passed_by b p same test out = let off = rw same at (sym test ∙ out) in split ∙ rw off
 
-  pub reached : (b : Bool) (p : ℕ) → p ≡ a.proc → b ≡ not (p == from) && may_pass cut from p → b ≡ true → (copy : Packet) → copy ≡ packet
+  pub reached : (b : Bool) (p : ℕ) → p ≡ id_of a.proc → b ≡ not (p == from) && may_pass cut from p → b ≡ true → (copy : Packet) → copy ≡ packet
       → (next : Queue) → next ≡ now ++ (p, copy) ∷ []
       → start ++ to_others cut from packet actors ≡ next ++ to_others cut from packet (drop (i + 1) actors)
   unfolding to_others

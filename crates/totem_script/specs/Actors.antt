@@ -1,12 +1,12 @@
--- A process of a script: its node, and what the node has written (docs/PROTOCOL.md, "Scripts").
-use Rattle.std.specs.Prelude.{◌≡◌, ℕ, ◌+◌, List, [], ◌∷◌, ◌++◌, length, Bool, true, false, if◌then◌else◌, nat_lt, Vec, Ok, Err}
+-- A process of a script: its lives, its node, and what the node has written (docs/PROTOCOL.md, "Scripts").
+use Rattle.std.specs.Prelude.{◌≡◌, ℕ, ◌+◌, ◌<◌, ◌&&◌, List, [], ◌∷◌, ◌++◌, length, map, Bool, true, false, if◌then◌else◌, nat_lt, nat_le, Vec, Ok, Err}
 use Rattle.totem_ids.specs.Names.{RingName}
+use Rattle.totem_ids.specs.Ranks.{rank_of, id_of, life_of}
 use Rattle.totem_evs.specs.declared.entry.Entry.{Entry}
 use Rattle.totem_evs.specs.declared.entry.Entry.TheVariants.{Conf, Send, Deliver, Fail}
 use Rattle.totem_evs.specs.declared.ending.Ending.TheVariants.{Standing, Failed}
 use Rattle.totem_evs.specs.LogRecord.{LogRecord}
 use Rattle.totem_ring.specs.Visits.{Sending}
-use Rattle.totem_recover.specs.FirstLives.{first_rank}
 use Rattle.totem_node.specs.declared.input.Input.{Input}
 use Rattle.totem_node.specs.Nodes.{Node, Stepped, new_node}
 use Rattle.totem_node.specs.Outcomes.{Outcome}
@@ -16,13 +16,15 @@ use Rattle.totem_script.specs.declared.script_fault.ScriptFaultKind.TheVariants.
 use Rattle.totem_script.specs.Judged.{Judged, Fails}
 
 pub record Actor : Type 0 where
-  pub proc : ℕ
+  pub proc : ℕ  -- its present life
+  pub earlier : List LogRecord  -- the logs of its earlier lives
   pub node : Node
-  pub entries : List Entry
+  pub entries : List Entry  -- what the node has written
 
 -- a node that starts on this ring; its log begins with the change to it
 unfoldable pub new_actor : ℕ → RingName → List ℕ → Actor
-new_actor p ring members = record { proc = p; node = new_node p ring members; entries = first_change ring members ∷ [] }
+new_actor p ring members =
+    record { proc = p; earlier = []; node = new_node p ring members; entries = first_change ring members ∷ [] }
 
 -- what an input comes to: the process after it, and what its node sent
 pub record Acted : Type 0 where
@@ -34,7 +36,7 @@ abbrev pub acted : Actor → Outcome Stepped → Judged Acted
 acted a (Err fault) = Ok (record { actor = a; packets = [] })
 acted a (Ok done) =
     if nat_lt 1000000 (length a.entries + length done.entries) then Err TooMany
-    else Ok (record { actor = record { proc = a.proc; node = done.node; entries = a.entries ++ done.entries }; packets = done.packets })
+    else Ok (record { actor = record a { node = done.node; entries = a.entries ++ done.entries }; packets = done.packets })
 
 -- the process takes this input
 unfoldable pub takes : Actor → Input → Judged Acted
@@ -52,9 +54,62 @@ ends_in_failure [] = false
 ends_in_failure (e ∷ []) = is_failure e
 ends_in_failure (e ∷ f ∷ entries) = ends_in_failure (f ∷ entries)
 
--- the log of a process that failed ends as failed, any other is open; each process is in its first life
+-- the log of these entries: of a process that failed it ends as failed, any other is open
+abbrev pub log_with : ℕ → List Entry → LogRecord
+log_with p entries = record { proc = p; entries = entries; ending = if ends_in_failure entries then Failed else Standing }
+
+-- the log of the present life
 abbrev pub log_of : Actor → LogRecord
-log_of a = record { proc = first_rank a.proc; entries = a.entries; ending = if ends_in_failure a.entries then Failed else Standing }
+log_of a = log_with a.proc a.entries
+
+-- a log of each life
+abbrev pub logs_of : Actor → List LogRecord
+logs_of a = a.earlier ++ log_of a ∷ []
+
+-- ---- Coming back
+
+-- it has crashed, and there are numbers for its next life and for the ring of that
+abbrev pub may_return : Actor → Bool
+may_return a = a.node.crashed && (nat_lt (life_of a.proc) 65535 && nat_le (a.node.seq + 4) 4294967295)
+
+abbrev pub next_life : ℕ → ℕ
+next_life p = rank_of (id_of p) (life_of p + 1)
+
+-- its next ring: above each ring that the node made, filled or installed
+abbrev pub ring_of_return : Actor → RingName
+ring_of_return a = record { seq = a.node.seq + 4; rep = id_of a.proc }
+
+-- a new node of the next life, alone on its ring; the log of the life that ended is kept
+unfoldable pub returned : Actor → Actor
+returned a = record (new_actor (next_life a.proc) (ring_of_return a) (next_life a.proc ∷ [])) { earlier = logs_of a }
+
+-- ---- The lives of a process
+
+-- the processes of some logs
+abbrev pub procs_in : List LogRecord → List ℕ
+procs_in logs = map (λ log. log.proc) logs
+
+-- p is below all of these
+abbrev pub IsBelowAll : ℕ → List ℕ → Type 0
+IsBelowAll p [] = Unit {0}
+IsBelowAll p (q ∷ qs) = (p < q) × IsBelowAll p qs
+
+-- each is below all behind it
+abbrev pub Rises : List ℕ → Type 0
+Rises [] = Unit {0}
+Rises (p ∷ ps) = IsBelowAll p ps × Rises ps
+
+-- each is a life of this identifier
+abbrev pub AreLives : ℕ → List ℕ → Type 0
+AreLives id [] = Unit {0}
+AreLives id (p ∷ ps) = (id_of p ≡ id) × AreLives id ps
+
+-- these are lives of one identifier, strictly rising, and p is the last of them
+pub record IsHistory (p : ℕ) (earlier : List LogRecord) : Type 0 where
+  pub lives : AreLives (id_of p) (procs_in earlier ++ p ∷ [])
+  pub rising : Rises (procs_in earlier ++ p ∷ [])
+
+-- ---- Answers
 
 -- the answer of a call in which a process takes an input
 abbrev pub IsTaken : {Z : Type 0} → Judged (Vec Sending Z) → Actor → Judged Acted → Type 0

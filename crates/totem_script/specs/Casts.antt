@@ -1,39 +1,41 @@
 -- The processes of a script (docs/PROTOCOL.md, "Scripts").
-use Rattle.std.specs.Prelude.{◌≡◌, ℕ, ◌+◌, ◌<◌, ◌≤◌, ◌==◌, ◌&&◌, not, List, [], ◌∷◌, length, map, Bool, true, if◌then◌else◌, nat_lt, Ok, Err, Vec}
-use Rattle.std.specs.List.{list_any, list_all}
+use Rattle.std.specs.Prelude.{◌≡◌, ℕ, ◌+◌, ◌≤◌, ◌==◌, ◌&&◌, not, List, [], ◌∷◌, length, map, Bool, true, if◌then◌else◌, nat_lt, Ok, Err, Vec}
+use Rattle.std.specs.List.{list_any, list_all, flat_map, sum_by}
 use Rattle.totem_ids.specs.Names.{RingName}
+use Rattle.totem_ids.specs.Ranks.{id_of}
+use Rattle.totem_evs.specs.LogRecord.{LogRecord}
 use Rattle.totem_packets.specs.Sets.{is_least}
 use Rattle.totem_ring.specs.Visits.{Sending}
+use Rattle.totem_recover.specs.Lives.{first_ranks}
 use Rattle.totem_node.specs.declared.input.Input.{Input}
-use Rattle.totem_script.specs.declared.script_fault.ScriptFaultKind.TheVariants.{Members, TooMany}
+use Rattle.totem_script.specs.declared.script_fault.ScriptFaultKind.TheVariants.{Members, Place, TooMany}
 use Rattle.totem_script.specs.Judged.{Judged, Fails, ◌>>=◌}
-use Rattle.totem_script.specs.Actors.{Actor, new_actor, takes}
+use Rattle.totem_script.specs.Actors.{Actor, new_actor, takes, logs_of, may_return, returned, ring_of_return, Rises}
 
-abbrev pub procs_of : List Actor → List ℕ
-procs_of actors = map (λ a. a.proc) actors
+-- by identifier: of each there is one, in its present life
+abbrev pub ids_in : List Actor → List ℕ
+ids_in actors = map (λ a. id_of a.proc) actors
 
--- p is below all of these
-abbrev pub IsBelowAll : ℕ → List ℕ → Type 0
-IsBelowAll p [] = Unit {0}
-IsBelowAll p (q ∷ qs) = (p < q) × IsBelowAll p qs
+-- how many processes these are, each life counted
+abbrev pub lives_of : List Actor → ℕ
+lives_of actors = sum_by (λ a. length a.earlier + 1) actors
 
--- each is below all behind it
-abbrev pub Rises : List ℕ → Type 0
-Rises [] = Unit {0}
-Rises (p ∷ ps) = IsBelowAll p ps × Rises ps
+-- a log of each life of each process
+abbrev pub logs_in : List Actor → List LogRecord
+logs_in actors = flat_map logs_of actors
 
--- at most 32 processes, strictly rising
+-- at most 32 processes, each life counted; the identifiers rise strictly
 pub record IsCast (actors : List Actor) : Type 0 where
-  pub few : length actors ≤ 32
-  pub rising : Rises (procs_of actors)
+  pub few : lives_of actors ≤ 32
+  pub rising : Rises (ids_in actors)
 
 abbrev pub is_known : List Actor → ℕ → Bool
-is_known actors p = list_any (λ a. a.proc == p) actors
+is_known actors p = list_any (λ a. id_of a.proc == p) actors
 
 -- with one more, before the first that is above it
 unfoldable pub with_actor : List Actor → Actor → List Actor
 with_actor [] a = a ∷ []
-with_actor (b ∷ actors) a = if nat_lt a.proc b.proc then a ∷ b ∷ actors else b ∷ with_actor actors a
+with_actor (b ∷ actors) a = if nat_lt (id_of a.proc) (id_of b.proc) then a ∷ b ∷ actors else b ∷ with_actor actors a
 
 -- with a new node for each of these processes
 unfoldable pub with_nodes : RingName → List ℕ → List ℕ → List Actor → List Actor
@@ -50,11 +52,13 @@ abbrev pub may_make : List Actor → RingName → List ℕ → Bool
 may_make actors ring members =
     rise_above 0 members && (is_least members ring.rep && list_all (λ p. not (is_known actors p)) members)
 
--- with a ring more; a script has at most 32 processes
+-- with a ring more, whose members are in their first lives; a script has at most 32 processes, each life counted
 abbrev pub with_ring : List Actor → RingName → List ℕ → Judged (List Actor)
 with_ring actors ring members =
     if may_make actors ring members
-    then (if nat_lt 32 (length actors + length members) then Err TooMany else Ok (with_nodes ring members members actors))
+    then (
+    if nat_lt 32 (lives_of actors + length members) then Err TooMany
+    else Ok (with_nodes ring (first_ranks members) (first_ranks members) actors))
     else Err Members
 
 -- what comes of it when a process takes an input: all processes after it, and what the node sent
@@ -66,7 +70,7 @@ pub record Played : Type 0 where
 unfoldable pub plays : List Actor → ℕ → Input → Judged Played
 plays [] p i = Ok (record { actors = []; packets = [] })
 plays (a ∷ actors) p i =
-    if a.proc == p
+    if id_of a.proc == p
     then (do
       done ← takes a i
       Ok (record { actors = done.actor ∷ actors; packets = done.packets }))
@@ -78,3 +82,31 @@ plays (a ∷ actors) p i =
 abbrev pub IsPlayed : {Z : Type 0} → Judged (Vec Sending Z) → List Actor → Judged Played → Type 0
 IsPlayed (Ok packets) new written = written ≡ Ok (record { actors = new; packets = packets.items })
 IsPlayed (Err fault) new written = Fails fault written
+
+-- ---- Coming back
+
+-- what a return comes to: all processes after it, and the ring of the one that is back
+pub record Returned : Type 0 where
+  pub actors : List Actor
+  pub ring : RingName
+
+-- the process is back, if it is one of these and may return
+unfoldable pub comes_back : List Actor → ℕ → Judged Returned
+comes_back [] p = Err Members
+comes_back (a ∷ actors) p =
+    if id_of a.proc == p
+    then (if may_return a then Ok (record { actors = returned a ∷ actors; ring = ring_of_return a }) else Err Place)
+    else (do
+      rest ← comes_back actors p
+      Ok (record { actors = a ∷ rest.actors; ring = rest.ring }))
+
+-- the same where there is room for one life more
+abbrev pub with_return : List Actor → ℕ → Judged Returned
+with_return actors p = do
+  done ← comes_back actors p
+  if nat_lt (lives_of actors) 32 then Ok done else Err TooMany
+
+-- the answer of a call in which a process comes back: its ring
+abbrev pub IsReturned : Judged RingName → List Actor → Judged Returned → Type 0
+IsReturned (Ok ring) new written = written ≡ Ok (record { actors = new; ring = ring })
+IsReturned (Err fault) new written = Fails fault written

@@ -11,6 +11,7 @@ use Rattle.totem_script.specs.declared.command.Command.{Command}
 use Rattle.totem_script.specs.declared.command.Command.TheVariants as command
 use Rattle.totem_script.specs.declared.keyword.Keyword.{Keyword}
 use Rattle.totem_script.specs.declared.keyword.Keyword.TheVariants as keyword
+use Rattle.totem_script.specs.declared.script_version.ScriptVersion.{ScriptVersion}
 use Rattle.totem_script.specs.Keywords.{keyword_of}
 use Rattle.totem_script.specs.Numbers.{number_in, process_in, ring_in, only}
 use Rattle.totem_script.specs.Parsed.{Parsed, ◌>>=◌}
@@ -140,6 +141,7 @@ command_by keyword.Cut ws = cut_words ws
 command_by keyword.Join ws = only command.Join ws
 command_by keyword.Timer ws = process_command command.Timer ws
 command_by keyword.Crash ws = process_command command.Crash ws
+command_by keyword.Return ws = process_command command.Return ws
 command_by keyword.End ws = only command.End ws
 
 -- the first word is a keyword
@@ -147,10 +149,10 @@ abbrev pub command_named : Option Keyword → List (List ℕ) → Parsed Command
 command_named None ws = Err Word
 command_named (Some k) ws = command_by k ws
 
-abbrev pub command_in : List (List ℕ) → Parsed Command
-command_in [] = Err Word
-command_in (w ∷ ws) = command_named (keyword_of w) ws
+abbrev pub command_in : ScriptVersion → List (List ℕ) → Parsed Command
+command_in version [] = Err Word
+command_in version (w ∷ ws) = command_named (keyword_of version w) ws
 
--- the command of a line, or the fault of its first unfit byte
-abbrev pub command_of : List ℕ → Parsed Command
-command_of line = command_in (words_of line)
+-- the command of a line in a script of this version, or the fault of its first unfit byte
+abbrev pub command_of : ScriptVersion → List ℕ → Parsed Command
+command_of version line = command_in version (words_of line)

@@ -2,6 +2,7 @@
 use Rattle.std.specs.Prelude.{ℕ, zero, suc, ◌-◌, ◌==◌, ◌&&◌, not, List, [], ◌∷◌, ◌++◌, length, map, filter, remove, Bool, true, false, if◌then◌else◌, nat_lt, slice_get, count_by, Option, None, Some, Ok, Err}
 use Rattle.std.specs.List.{list_any, list_all, flat_map, concat}
 use Rattle.totem_ids.specs.Names.{RingName}
+use Rattle.totem_ids.specs.Ranks.{id_of}
 use Rattle.totem_packets.specs.declared.packet.Packet.{Packet}
 use Rattle.totem_packets.specs.declared.packet.Packet.TheVariants.{Token}
 use Rattle.totem_packets.specs.Sets.{has}
@@ -14,22 +15,24 @@ use Rattle.totem_node.specs.declared.input.Input.TheVariants as input
 use Rattle.totem_script.specs.declared.command.Command.{Command}
 use Rattle.totem_script.specs.declared.command.Command.TheVariants as command
 use Rattle.totem_script.specs.declared.script_fault.ScriptFaultKind.TheVariants.{Order, Members, Place}
+use Rattle.totem_script.specs.declared.script_version.ScriptVersion.{ScriptVersion}
 use Rattle.totem_script.specs.Judged.{Judged, ◌>>=◌}
 use Rattle.totem_script.specs.Actors.{Actor}
-use Rattle.totem_script.specs.Casts.{is_known, with_ring, plays}
+use Rattle.totem_script.specs.Casts.{is_known, with_ring, plays, with_return}
 
 -- packets on their way, each with its receiver
 abbrev pub Queue : Type 0
 Queue = List (ℕ × Packet)
 
 pub record Scene : Type 0 where
+  pub version : ScriptVersion  -- that of the script
   pub actors : List Actor
   pub queue : Queue
   pub cut : Option (List (List ℕ))  -- the groups, during a cut
   pub under_way : Bool  -- a command other than `ring` has come
 
-abbrev pub empty_scene : Scene
-empty_scene = record { actors = []; queue = []; cut = None; under_way = false }
+abbrev pub empty_scene : ScriptVersion → Scene
+empty_scene version = record { version = version; actors = []; queue = []; cut = None; under_way = false }
 
 -- packets pass within a group, and without a cut between any two
 abbrev pub may_pass : Option (List (List ℕ)) → ℕ → ℕ → Bool
@@ -38,7 +41,8 @@ may_pass (Some groups) from to = list_any (λ group. has group from && has group
 
 -- a broadcast is for all other processes of the script, in rising order
 unfoldable pub to_others : Option (List (List ℕ)) → ℕ → Packet → List Actor → Queue
-to_others cut from packet actors = map (λ a. (a.proc, packet)) (filter (λ a. not (a.proc == from) && may_pass cut from a.proc) actors)
+to_others cut from packet actors =
+    map (λ a. (id_of a.proc, packet)) (filter (λ a. not (id_of a.proc == from) && may_pass cut from (id_of a.proc)) actors)
 
 -- what a sending of this process puts on its way
 abbrev pub posted_to : Option (List (List ℕ)) → List Actor → ℕ → Packet → To → Queue
@@ -73,11 +77,21 @@ run_times (suc times) s = do
   next ← run_one s s.queue
   run_times times next
 
+-- a ring's first token comes behind the others, for its representative
+abbrev pub with_first_token : Queue → RingName → Queue
+with_first_token queue ring = queue ++ (ring.rep, Token (first_token ring)) ∷ []
+
 -- the nodes are there, and the first token is on its way to the least
 abbrev pub ring_made : Scene → RingName → List ℕ → Judged Scene
 ring_made s ring members = do
   actors ← with_ring s.actors ring members
-  Ok (record s { actors = actors; queue = s.queue ++ (ring.rep, Token (first_token ring)) ∷ [] })
+  Ok (record s { actors = actors; queue = with_first_token s.queue ring })
+
+-- the process is back in its next life, and the first token of its ring is on its way to it, whatever the cut
+abbrev pub brought_back : Scene → ℕ → Judged Scene
+brought_back s p = do
+  done ← with_return s.actors p
+  Ok (record s { actors = done.actors; queue = with_first_token s.queue done.ring })
 
 -- the packet at this place, from 1, is lost
 abbrev pub dropped : Scene → ℕ → Judged Scene
@@ -91,7 +105,7 @@ once_more s (Some e) = Ok (record s { queue = s.queue ++ e ∷ [] })
 -- each process of the script stands in the groups once, and nobody else
 abbrev pub is_partition : List Actor → List (List ℕ) → Bool
 is_partition actors groups =
-    (length (concat groups) == length actors) && list_all (λ a. count_by (λ q. q == a.proc) (concat groups) == 1) actors
+    (length (concat groups) == length actors) && list_all (λ a. count_by (λ q. q == id_of a.proc) (concat groups) == 1) actors
 
 abbrev pub parted : Scene → List (List ℕ) → Judged Scene
 parted s groups = if is_partition s.actors groups then Ok (record s { cut = Some groups }) else Err Members
@@ -107,6 +121,7 @@ effect s (command.Cut groups) = parted s groups
 effect s command.Join = Ok (record s { cut = None })
 effect s (command.Timer p) = step_of s p input.Timer
 effect s (command.Crash p) = step_of s p input.Crash
+effect s (command.Return p) = brought_back s p
 effect s command.End = Ok s
 
 abbrev pub makes_ring : Command → Bool
@@ -119,6 +134,7 @@ makes_ring (command.Cut groups) = false
 makes_ring command.Join = false
 makes_ring (command.Timer p) = false
 makes_ring (command.Crash p) = false
+makes_ring (command.Return p) = false
 makes_ring command.End = false
 
 -- a ring comes before all other commands, and these behind a ring

@@ -1,17 +1,17 @@
 -- The run that a script makes, or what is wrong with it and where (docs/PROTOCOL.md, "Scripts").
-use Rattle.std.specs.Prelude.{◌≡◌, ◌≢◌, ℕ, ◌+◌, List, [], ◌∷◌, map, Bool, true, false, if◌then◌else◌, Result, Ok, Err, codes}
-use Rattle.std.specs.Str.{bytes_eq}
+use Rattle.std.specs.Prelude.{◌≡◌, ◌≢◌, ℕ, ◌+◌, List, [], ◌∷◌, Bool, true, false, if◌then◌else◌, Option, None, Some, Result, Ok, Err}
 use Rattle.totem_evs.specs.RunRecord.{RunRecord}
 use Rattle.totem_script.specs.declared.command.Command.{Command}
 use Rattle.totem_script.specs.declared.command.Command.TheVariants as command
 use Rattle.totem_script.specs.declared.script_fault.ScriptFault.{ScriptFault}
 use Rattle.totem_script.specs.declared.script_fault.ScriptFaultKind.TheVariants.{Header, End, Truncated, Memory}
+use Rattle.totem_script.specs.declared.script_version.ScriptVersion.{ScriptVersion}
 use Rattle.totem_script.specs.Commands.{command_of}
 use Rattle.totem_script.specs.Lines.{lines_of}
 use Rattle.totem_script.specs.Judged.{Judged, Fails, by_line, ◌>>=◌}
-use Rattle.totem_script.specs.Actors.{log_of}
+use Rattle.totem_script.specs.Casts.{logs_in}
 use Rattle.totem_script.specs.Scenes.{Scene, empty_scene, done}
-use Rattle.totem_script.specs.Versions.{run_of}
+use Rattle.totem_script.specs.Versions.{version_in, run_of}
 
 -- a script's lines: of each its text, or what is wrong with that
 abbrev pub Texts : Type 0
@@ -40,6 +40,7 @@ ends (command.Cut groups) = false
 ends command.Join = false
 ends (command.Timer p) = false
 ends (command.Crash p) = false
+ends (command.Return p) = false
 ends command.End = true
 
 -- what a line leaves, and whether it is the last
@@ -50,7 +51,7 @@ pub record Followed : Type 0 where
 -- what is said is read, and then done
 unfoldable pub followed : Scene → List ℕ → Judged Followed
 followed s text = do
-  c ← by_line (command_of text)
+  c ← by_line (command_of s.version text)
   next ← done s c
   Ok (record { scene = next; ended = ends c })
 
@@ -71,20 +72,23 @@ play n s [] = Err (record { kind = Truncated; line = n })
 play n s (line ∷ lines) =
     and_then (at_line n (judged s line)) (λ next. if next.ended then closing (n + 1) next.scene lines else play (n + 1) next.scene lines)
 
--- the first line
-abbrev pub headed : Judged (List ℕ) → Judged Scene
+abbrev pub begun : Option ScriptVersion → Judged ScriptVersion
+begun None = Err Header
+begun (Some version) = Ok version
+
+-- the first line names the script's version
+abbrev pub headed : Judged (List ℕ) → Judged ScriptVersion
 headed line = do
   text ← line
-  if bytes_eq text (codes "totem-script 1") then Ok empty_scene else Err Header
+  begun (version_in text)
 
 unfoldable pub all_played : Texts → Told Scene
 all_played [] = Err (record { kind = Truncated; line = 1 })
-all_played (line ∷ lines) = and_then (at_line 1 (headed line)) (λ scene. play 2 scene lines)
+all_played (line ∷ lines) = and_then (at_line 1 (headed line)) (λ version. play 2 (empty_scene version) lines)
 
--- the run that a script makes: a log of each of its processes, in the first version whose texts can write them; or the
--- fault of the first line that has one
+-- the run that a script makes: a log of each life of each of its processes; or the fault of the first line that has one
 unfoldable pub simulate : List ℕ → Told RunRecord
-simulate script = and_then (all_played (lines_of 65536 script)) (λ scene. Ok (run_of (map log_of scene.actors)))
+simulate script = and_then (all_played (lines_of 65536 script)) (λ scene. Ok (run_of scene.version (logs_in scene.actors)))
 
 -- ---- Answers
 
@@ -113,6 +117,6 @@ first_judged s [] = Err Truncated
 first_judged s (line ∷ lines) = judged s line
 
 -- what the first of these lines is as a head
-abbrev pub first_headed : Texts → Judged Scene
+abbrev pub first_headed : Texts → Judged ScriptVersion
 first_headed [] = Err Truncated
 first_headed (line ∷ lines) = headed line

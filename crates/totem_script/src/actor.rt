@@ -1,13 +1,17 @@
 //! A process of a script.
-ghost use Rattle.std.specs.Prelude.{◌≡◌, IfOk};
-ghost use Rattle.totem_recover.specs.FirstLives.{IsRingMembers};
-ghost use Rattle.totem_script.specs.Actors.{new_actor, takes, log_of, IsTaken};
+ghost use Rattle.std.specs.Prelude.{◌≡◌, ◌+◌, ◌<◌, ◌≤◌, ◌∷◌, ◌++◌, [], length, true, IfOk, OnOk};
+ghost use Rattle.totem_evs.specs.Members.{IsMembers};
+ghost use Rattle.totem_ids.specs.Ranks.{id_of};
+ghost use Rattle.totem_node.specs.Nodes.{new_node};
+ghost use Rattle.totem_node.specs.Replay.{first_change};
+ghost use Rattle.totem_script.specs.Actors.{new_actor, takes, log_with, logs_of, may_return, returned, ring_of_return, IsHistory, IsTaken};
 
 use crate::script_fault::ScriptFaultKind;
 use std::alloc::{AllocError, Global};
 use std::marker::Model;
+use std::mem;
 use totem_evs::{Entries, Entry, Log};
-use totem_ids::{Proc, ProcId, RingId};
+use totem_ids::{Proc, ProcId, RingId, Version, life_fits};
 use totem_node::{Input, NodeCore, NodeFault};
 use totem_packets::Packet;
 use totem_ring::To;
@@ -15,50 +19,97 @@ use totem_ring::To;
 /// How many entries a log may have at most.
 const MOST: usize = 1_000_000;
 
-/// A process of a script: its node, and the entries that the node has written.
+/// How far the ring of a return is above the greatest ring number of the node that crashed.
+const STEP: u32 = 4;
+
+/// A process of a script: its present life, the logs of its earlier lives, its node, and the entries that the node has written.
 #[derive(Drop)]
 pub struct ActorState {
-    proc: ProcId,
+    proc: Proc,
+    earlier: Vec<Log>,
     node: NodeCore,
     entries: Vec<Entry>,
 }
 
 impl Model for ActorState {
     ghost use Rattle.std.specs.Prelude.{◌<◌, ◌≤◌, length};
-    ghost use Rattle.totem_script.specs.Actors.{Actor};
+    ghost use Rattle.totem_script.specs.Actors.{Actor, IsHistory};
 
     ghost Value = { Actor };
 
-    ghost view = { λ a. record { proc = a.proc; node = a.node; entries = a.entries.items } };
+    ghost view = { λ a. record { proc = a.proc; earlier = a.earlier.items; node = a.node; entries = a.entries.items } };
 
-    ghost invariant = { λ a. (0 < length a.entries.items) × (length a.entries.items ≤ 1000000) };
+    ghost invariant = { λ a. (0 < length a.entries.items) × (length a.entries.items ≤ 1000000) × IsHistory a.proc a.earlier.items };
+}
+
+/// Makes a node that starts on this ring, and the list of its entries, which begins with the change to the ring.
+fn started(
+    alloc: Global,
+    proc: Proc,
+    ring: RingId,
+    members: &[Proc],
+) -> Result<(NodeCore, Vec<Entry>), AllocError>
+    requires { IsMembers members.now }
+    ensures node { IfOk result (λ s. s.0 ≡ new_node proc ring members.now) }
+    ensures entries { IfOk result (λ s. s.1.items ≡ first_change ring members.now ∷ []) }
+{
+    let (node, change) = NodeCore::new(alloc, proc, ring, members)?;
+    let mut entries = Vec::new(alloc);
+    entries.push(change)?;
+    Ok((node, entries))
+}
+
+/// Returns the log of what a process has written.
+fn log_with(proc: Proc, entries: Vec<Entry>) -> Log
+    requires some { 0 < length entries.items }
+    requires few { length entries.items ≤ 1000000 }
+    ensures { result ≡ log_with proc entries.items }
+{
+    match Entries::new(entries) {
+        Ok(entries) => Log::new(proc, entries),
+        Err(_) => unreachable!(),
+    }
 }
 
 impl ActorState {
-    /// Makes a node that starts on this ring.
+    /// Makes a process whose node starts on this ring, with no lives before.
     pub fn new(
         alloc: Global,
-        proc: ProcId,
+        proc: Proc,
         ring: RingId,
-        members: &[ProcId],
+        members: &[Proc],
     ) -> Result<ActorState, AllocError>
-        requires { IsRingMembers members.now }
+        requires { IsMembers members.now }
         ensures { IfOk result (λ a. a ≡ new_actor proc ring members.now) }
     {
-        let (node, change) = NodeCore::new(alloc, proc, ring, members)?;
-        let mut entries = Vec::new(alloc);
-        entries.push(change)?;
+        let (node, entries) = started(alloc, proc, ring, members)?;
         Ok(ActorState {
             proc,
+            earlier: Vec::new(alloc),
             node,
             entries,
         })
     }
 
-    pub fn proc(&self) -> ProcId
-        ensures { result ≡ self.now.proc }
+    /// Returns the identifier of the process.
+    pub fn id(&self) -> ProcId
+        ensures { result ≡ id_of self.now.proc }
     {
-        self.proc
+        self.proc.id()
+    }
+
+    /// Returns how many lives the process has had.
+    pub fn lives(&self) -> usize
+        ensures { result ≡ length self.now.earlier + 1 }
+    {
+        self.earlier.len() + 1
+    }
+
+    /// Tells contracts that the lives of the process rise.
+    pub fn keeps_its_rules(&self)
+        ensures { IsHistory self.now.proc self.now.earlier }
+    {
+        let _ = &self.proc;
     }
 
     /// Gives the node this input, and returns what the node sends. A step that the node refuses is passed over.
@@ -70,6 +121,7 @@ impl ActorState {
     ) -> Result<Vec<(To, Packet)>, ScriptFaultKind>
         ensures taken { IsTaken result self.new (takes self.old input) }
         ensures same { self.new.proc ≡ self.old.proc }
+        ensures earlier { self.new.earlier ≡ self.old.earlier }
     {
         let mut out = match self.node.step(alloc, input) {
             Ok(out) => out,
@@ -87,18 +139,57 @@ impl ActorState {
         Ok(out.packets)
     }
 
-    /// Returns the log of what the node has written, in the first life of its process.
-    pub fn into_log(self) -> Log
-        ensures { result ≡ log_of self }
+    /// Returns whether the process has crashed: whether its node would refuse to crash once more.
+    fn has_crashed(&self, alloc: Global) -> bool
+        ensures { result ≡ self.now.node.crashed }
+    {
+        self.node.refusal(alloc, &Input::Crash).is_some()
+    }
+
+    /// Returns whether the process may come back: it has crashed, and neither its next life nor the ring of that would pass
+    /// its greatest number.
+    pub fn may_return(&self, alloc: Global) -> bool
+        ensures { result ≡ may_return self.now }
+    {
+        self.has_crashed(alloc) && self.proc.life() < u16::MAX && self.node.seq() <= u32::MAX - STEP
+    }
+
+    /// Begins the next life of the process, and returns the ring on which it is alone. What was written in the life before is
+    /// kept as a log.
+    pub fn come_back(&mut self, alloc: Global) -> Result<RingId, AllocError>
+        requires { may_return self.old ≡ true }
+        ensures done { OnOk result (self.new ≡ returned self.old) }
+        ensures ring { IfOk result (λ ring. ring ≡ ring_of_return self.old) }
+        ensures same { id_of self.new.proc ≡ id_of self.old.proc }
+        ensures lives { length self.new.earlier ≤ length self.old.earlier + 1 }
+    {
+        let id = self.proc.id();
+        let proc = Proc::of(id, self.proc.life() + 1);
+        let ring = RingId {
+            seq: self.node.seq() + STEP,
+            rep: id,
+        };
+        life_fits(Version::Two, proc);
+        let (node, entries) = started(alloc, proc, ring, &[proc])?;
+        let ended = mem::replace(&mut self.entries, entries);
+        self.earlier.push(log_with(self.proc, ended))?;
+        self.proc = proc;
+        self.node = node;
+        Ok(ring)
+    }
+
+    /// Puts a log of each life behind these logs.
+    pub fn put_logs(self, logs: &mut Vec<Log>) -> Result<(), AllocError>
+        ensures { OnOk result (logs.new.items ≡ logs.old.items ++ logs_of self) }
     {
         let ActorState {
             proc,
+            mut earlier,
             node: _,
             entries,
         } = self;
-        match Entries::new(entries) {
-            Ok(entries) => Log::new(Proc::first(proc), entries),
-            Err(_) => unreachable!(),
-        }
+        logs.append(&mut earlier)?;
+        logs.push(log_with(proc, entries))?;
+        Ok(())
     }
 }

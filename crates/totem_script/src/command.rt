@@ -43,6 +43,10 @@ pub enum Command {
     Crash {
         proc: ProcId,
     },
+    /// This process, which has crashed, comes back in its next life, alone on a ring.
+    Return {
+        proc: ProcId,
+    },
     /// The last line.
     End,
 }

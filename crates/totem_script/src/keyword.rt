@@ -1,6 +1,8 @@
 //! The first word of a line.
 ghost use Rattle.std.specs.Prelude.{◌≡◌};
-ghost use Rattle.totem_script.specs.Keywords.{keyword_of};
+ghost use Rattle.totem_script.specs.Keywords.{return_in, keyword_of};
+
+use crate::script_version::ScriptVersion;
 
 /// The first word of a line.
 #[derive(Clone, Copy, Debug, PartialEq, Eq)]
@@ -14,13 +16,24 @@ pub enum Keyword {
     Join,
     Timer,
     Crash,
+    Return,
     End,
 }
 
+/// Returns the keyword `return`, if scripts of this version have it.
+fn return_in(version: ScriptVersion) -> Option<Keyword>
+    ensures { result ≡ return_in version }
+{
+    match version {
+        ScriptVersion::One => None,
+        ScriptVersion::Two => Some(Keyword::Return),
+    }
+}
+
 impl Keyword {
-    /// Returns the keyword that this word is, if it is one.
-    pub fn of(word: &[u8]) -> Option<Keyword>
-        ensures { result ≡ keyword_of word.now }
+    /// Returns the keyword that this word is in a script of this version, if it is one.
+    pub fn of(version: ScriptVersion, word: &[u8]) -> Option<Keyword>
+        ensures { result ≡ keyword_of version word.now }
     {
         if word == b"ring".as_slice() {
             Some(Keyword::Ring)
@@ -40,6 +53,8 @@ impl Keyword {
             Some(Keyword::Timer)
         } else if word == b"crash".as_slice() {
             Some(Keyword::Crash)
+        } else if word == b"return".as_slice() {
+            return_in(version)
         } else if word == b"end".as_slice() {
             Some(Keyword::End)
         } else {

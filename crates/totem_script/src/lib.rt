@@ -17,6 +17,7 @@ mod process_list;
 mod reading;
 mod scene;
 mod script_fault;
+mod script_version;
 mod submitting;
 
 pub use command::Command;
@@ -28,3 +29,4 @@ pub use playing::simulate;
 pub use process_list::ProcessList;
 pub use reading::read_command;
 pub use script_fault::{ScriptFault, ScriptFaultKind};
+pub use script_version::ScriptVersion;

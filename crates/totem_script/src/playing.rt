@@ -1,7 +1,6 @@
 //! Plays a script line by line.
 ghost use Rattle.std.specs.Prelude.{◌≡◌, ◌≤◌, length, drop, OnOk};
-ghost use Rattle.totem_script.specs.Judged.{Becomes};
-ghost use Rattle.totem_script.specs.Scenes.{empty_scene};
+ghost use Rattle.totem_script.specs.Judged as judged;
 ghost use Rattle.totem_script.specs.Simulation.{ends, followed, first_judged, first_headed, play, simulate, Follows, Leads, Gives};
 
 use crate::command::Command;
@@ -9,11 +8,9 @@ use crate::lines::Lines;
 use crate::reading::read_command;
 use crate::scene::SceneState;
 use crate::script_fault::{ScriptFault, ScriptFaultKind};
+use crate::script_version::ScriptVersion;
 use std::alloc::Global;
 use totem_evs::Run;
-
-/// The first line of a script.
-const HEAD: &[u8] = b"totem-script 1";
 
 /// Returns whether this is the command `end`.
 fn ends(command: &Command) -> bool
@@ -29,7 +26,7 @@ fn ends(command: &Command) -> bool
 fn follow(alloc: Global, scene: &mut SceneState, line: &[u8]) -> Result<bool, ScriptFaultKind>
     ensures { Follows result scene.new (followed scene.old line.now) }
 {
-    let command = read_command(alloc, line)?;
+    let command = read_command(alloc, scene.version(), line)?;
     let ended = ends(&command);
     scene.follow(alloc, command)?;
     Ok(ended)
@@ -75,31 +72,34 @@ fn play(alloc: Global, lines: &mut Lines<'_>, scene: &mut SceneState) -> Result<
     Ok(line)
 }
 
-/// Reads the first line, which has to be the head.
-fn begin(lines: &mut Lines<'_>) -> Result<(), ScriptFaultKind>
-    ensures head { Becomes result empty_scene (first_headed lines.old) }
+/// Reads the first line, which names the script's version.
+fn begin(lines: &mut Lines<'_>) -> Result<ScriptVersion, ScriptFaultKind>
+    ensures head { judged.Gives result (first_headed lines.old) }
     ensures rest { OnOk result (lines.new ≡ drop 1 lines.old) }
 {
     let Some(text) = lines.next()? else {
         return Err(ScriptFaultKind::Truncated);
     };
-    if text == HEAD {
-        Ok(())
-    } else {
-        Err(ScriptFaultKind::Header)
+    match ScriptVersion::of(text) {
+        Some(version) => Ok(version),
+        None => Err(ScriptFaultKind::Header),
     }
 }
 
-/// Returns the run that a script makes (docs/PROTOCOL.md, "Scripts"), with a log for each of its processes. A fault is
-/// that of the first line that has one, and tells which line that is.
+/// Returns the run that a script makes (docs/PROTOCOL.md, "Scripts"), with a log for each life of each of its processes. A
+/// fault is that of the first line that has one, and tells which line that is.
+///
+/// A script of version 2 gives a run of version 2, one of version 1 the run in the first version whose texts can write it.
+/// That this is version 1, since each process is in its first life, is tested and not proved.
 pub fn simulate(alloc: Global, script: &[u8]) -> Result<Run, ScriptFault>
     ensures { Gives result (simulate script.now) }
 {
     let mut lines = Lines::new(script);
-    if let Err(kind) = begin(&mut lines) {
-        return Err(ScriptFault { kind, line: 1 });
-    }
-    let mut scene = SceneState::new(alloc);
+    let version = match begin(&mut lines) {
+        Ok(version) => version,
+        Err(kind) => return Err(ScriptFault { kind, line: 1 }),
+    };
+    let mut scene = SceneState::new(alloc, version);
     let line = play(alloc, &mut lines, &mut scene)?;
     match scene.into_run(alloc) {
         Ok(run) => Ok(run),

@@ -58,7 +58,7 @@ fn broadcast(
     ensures { OnOk result (queue.new.items ≡ queue.old.items ++ to_others cut.now from packet.now actors.now) }
 {
     for actor in actors {
-        let to = actor.proc();
+        let to = actor.id();
         if !is_reached(cut, from, to) {
             continue;
         }

@@ -11,6 +11,7 @@ use crate::fault::LineFault;
 use crate::keyword::Keyword;
 use crate::numbers::{number, process};
 use crate::parts::Parts;
+use crate::script_version::ScriptVersion;
 use crate::submitting::submit;
 use std::alloc::Global;
 use totem_ids::ProcId;
@@ -57,15 +58,20 @@ fn alone(command: Command, words: &Parts<'_>) -> Result<Command, LineFault>
     }
 }
 
-/// Returns what a line, given without its end, says as a command. A fault is that of its first unfit byte.
-pub fn read_command(alloc: Global, line: &[u8]) -> Result<Command, LineFault>
-    ensures { Gives result (command_of line.now) }
+/// Returns what a line of a script of this version, given without its end, says as a command. A fault is that of its first
+/// unfit byte.
+pub fn read_command(
+    alloc: Global,
+    version: ScriptVersion,
+    line: &[u8],
+) -> Result<Command, LineFault>
+    ensures { Gives result (command_of version line.now) }
 {
     let mut words = Parts::new(line, b' ');
     let Some(name) = words.next() else {
         return Err(LineFault::Word);
     };
-    let Some(keyword) = Keyword::of(name) else {
+    let Some(keyword) = Keyword::of(version, name) else {
         return Err(LineFault::Word);
     };
     match keyword {
@@ -88,6 +94,9 @@ pub fn read_command(alloc: Global, line: &[u8]) -> Result<Command, LineFault>
             proc: one_process(&mut words)?,
         }),
         Keyword::Crash => Ok(Command::Crash {
+            proc: one_process(&mut words)?,
+        }),
+        Keyword::Return => Ok(Command::Return {
             proc: one_process(&mut words)?,
         }),
         Keyword::End => alone(Command::End, &words),

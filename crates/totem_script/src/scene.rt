@@ -9,6 +9,7 @@ use crate::command::Command;
 use crate::groups::Groups;
 use crate::posting::{Queue, post_all};
 use crate::script_fault::ScriptFaultKind;
+use crate::script_version::ScriptVersion;
 use std::alloc::{AllocError, Global};
 use std::collections::VecDeque;
 use std::marker::Model;
@@ -19,11 +20,14 @@ use totem_node::Input;
 mod cutting_off;
 mod making;
 mod queueing;
+mod returning;
 mod running;
 
 /// What there is while a script goes on.
 #[derive(Drop)]
 pub struct SceneState {
+    /// The version of the script.
+    version: ScriptVersion,
     actors: Cast,
     /// The packets on their way, each with its receiver.
     queue: Queue,
@@ -38,7 +42,7 @@ impl Model for SceneState {
 
     ghost Value = { Scene };
 
-    ghost view = { λ s. record { actors = s.actors; queue = s.queue.items; cut = s.cut; under_way = s.under_way } };
+    ghost view = { λ s. record { version = s.version; actors = s.actors; queue = s.queue.items; cut = s.cut; under_way = s.under_way } };
 }
 
 /// Returns whether this is the command `ring`.
@@ -55,20 +59,27 @@ fn makes_ring(command: &Command) -> bool
 }
 
 impl SceneState {
-    ghost use Rattle.std.specs.Prelude.{map, IfOk};
-    ghost use Rattle.totem_evs.specs.Lives.{IsFirstVersion};
-    ghost use Rattle.totem_script.specs.Actors.{log_of};
+    ghost use Rattle.std.specs.Prelude.{IfOk};
+    ghost use Rattle.totem_script.specs.Casts.{logs_in};
+    ghost use Rattle.totem_script.specs.Versions.{run_of};
 
-    /// Returns the scene of a script that has not begun.
-    pub fn new(alloc: Global) -> SceneState
-        ensures { result ≡ empty_scene }
+    /// Returns the scene of a script of this version that has not begun.
+    pub fn new(alloc: Global, version: ScriptVersion) -> SceneState
+        ensures { result ≡ empty_scene version }
     {
         SceneState {
+            version,
             actors: Cast::new(alloc),
             queue: VecDeque::new(alloc),
             cut: None,
             under_way: false,
         }
+    }
+
+    pub fn version(&self) -> ScriptVersion
+        ensures { result ≡ self.now.version }
+    {
+        self.version
     }
 
     /// Gives a process this input, and puts what its node sends on its way. A process that the script does not have is passed over.
@@ -124,6 +135,7 @@ impl SceneState {
             }
             Command::Timer { proc } => self.step(alloc, proc, Input::Timer),
             Command::Crash { proc } => self.step(alloc, proc, Input::Crash),
+            Command::Return { proc } => self.bring_back(alloc, proc),
             Command::End => Ok(()),
         }
     }
@@ -139,17 +151,17 @@ impl SceneState {
         self.act(alloc, command)
     }
 
-    /// Returns the run that the processes have recorded, in the first version whose texts can write it.
+    /// Returns the run that the processes have recorded.
     pub fn into_run(self, alloc: Global) -> Result<Run, AllocError>
-        ensures logs { IfOk result (λ run. run.logs ≡ map log_of self.actors) }
-        ensures version { IfOk result (λ run. IsFirstVersion run.version run.logs) }
+        ensures { IfOk result (λ run. run ≡ run_of self.version (logs_in self.actors)) }
     {
         let SceneState {
+            version,
             actors,
             queue: _,
             cut: _,
             under_way: _,
         } = self;
-        actors.into_run(alloc)
+        actors.into_run(alloc, version)
     }
 }

@@ -11,7 +11,7 @@ use thiserror::Error;
 /// (docs/PROTOCOL.md, "Scripts").
 #[derive(Clone, Copy, Debug, PartialEq, Eq, Error)]
 pub enum ScriptFaultKind {
-    #[error("a script begins with `totem-script 1`")]
+    #[error("a script begins with `totem-script 1` or `totem-script 2`")]
     Header,
     #[error("a word that no command has there, or one too few")]
     Word,
@@ -21,7 +21,7 @@ pub enum ScriptFaultKind {
     Order,
     #[error("these processes can't be meant")]
     Members,
-    #[error("there is no such packet")]
+    #[error("there is no such packet, or the process can't return")]
     Place,
     #[error("something stands behind the last line")]
     End,

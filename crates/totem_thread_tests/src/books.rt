@@ -1,5 +1,6 @@
 //! Books, tested by direct calls.
 ghost use Rattle.std.specs.Prelude.{◌≡◌};
+ghost use Rattle.totem_recover.specs.Lives.{first_rank};
 
 use bytes::Bytes;
 use std::alloc::{AllocError, Global};
@@ -7,11 +8,10 @@ use std::fmt;
 use std::fmt::Write;
 use std::test::Fail;
 use totem_books::{Book, BookFault, Call, CloseFault, Reply, Stub};
-use totem_evs::Entry;
-use totem_ids::{ProcId, RingId, Service};
+use totem_evs::{Entry, Members};
+use totem_ids::{Proc, ProcId, RingId, Service};
 use totem_node::Input;
 use totem_packets::Packet;
-use totem_recover::RingMembers;
 use totem_ring::first_token;
 
 pub(crate) fn ring() -> RingId
@@ -23,12 +23,19 @@ pub(crate) fn ring() -> RingId
     }
 }
 
-/// Processes 1 and 2.
-pub(crate) fn two(alloc: Global) -> Result<RingMembers, Fail> {
+/// The first life of process 1.
+pub(crate) fn one() -> Proc
+    ensures { result ≡ first_rank 1 }
+{
+    Proc::first(ProcId::of(1))
+}
+
+/// The first lives of processes 1 and 2.
+pub(crate) fn two(alloc: Global) -> Result<Members, Fail> {
     let mut list = Vec::new(alloc);
-    list.push(ProcId::of(1))?;
-    list.push(ProcId::of(2))?;
-    Ok(RingMembers::new(list)?)
+    list.push(one())?;
+    list.push(Proc::first(ProcId::of(2)))?;
+    Ok(Members::new(list)?)
 }
 
 /// A client's message `x`.
@@ -233,17 +240,12 @@ fn all_steps(
     Ok(())
 }
 
-fn live(
-    alloc: Global,
-    life: &mut Life,
-    members: &RingMembers,
-    words: &str,
-) -> Result<(), AllocError> {
-    let mut book = Book::new(alloc, ProcId::of(1), ring(), members.as_slice())?;
+fn live(alloc: Global, life: &mut Life, members: &Members, words: &str) -> Result<(), AllocError> {
+    let mut book = Book::new(alloc, one(), ring(), members.as_slice())?;
     all_steps(alloc, life, &mut book, words)
 }
 
-fn life_among(alloc: Global, members: &RingMembers, words: &str) -> Result<Life, AllocError> {
+fn life_among(alloc: Global, members: &Members, words: &str) -> Result<Life, AllocError> {
     let mut life = Life::new(alloc);
     live(alloc, &mut life, members, words)?;
     Ok(life)

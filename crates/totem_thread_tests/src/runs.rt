@@ -116,7 +116,7 @@ fn note_calls(
 
 fn note_books(alloc: Global, sent: &mut Sent, books: &[ClosedBook]) -> Result<(), AllocError> {
     for book in books {
-        note_calls(alloc, sent, book.me(), book.calls())?;
+        note_calls(alloc, sent, book.me().id(), book.calls())?;
     }
     Ok(())
 }
@@ -162,7 +162,7 @@ fn given(alloc: Global, sent: &Sent, book: &ClosedBook) -> Result<(usize, usize)
     let mut unsent = 0usize;
     let mut taken = 0usize;
     for call in book.calls() {
-        let (none, one) = given_in(alloc, sent, book.me(), call)?;
+        let (none, one) = given_in(alloc, sent, book.me().id(), call)?;
         unsent = unsent.saturating_add(none);
         taken = taken.saturating_add(one);
     }

@@ -1,7 +1,8 @@
 //! Books that threads share.
 ghost use Rattle.std.specs.Prelude.{◌≡◌, ◌<◌, ◌≤◌};
+ghost use Rattle.totem_recover.specs.Lives.{first_rank};
 
-use crate::books::{Answer, Life, Lines, replies, ring, start, submit, two};
+use crate::books::{Answer, Life, Lines, one, replies, ring, start, submit, two};
 use std::alloc::{AllocError, Global};
 use std::fmt::Write;
 use std::marker::Brand;
@@ -11,9 +12,8 @@ use std::test::*;
 use std::thread;
 use std::thread::Threads;
 use totem_books::{BookName, CloseFault, CloseRefused, ClosedBook, Reply, Seat, SharedBook, Stub};
-use totem_ids::ProcId;
+use totem_evs::Members;
 use totem_node::Input;
-use totem_recover::RingMembers;
 
 /// Returns what the thread of this number gives its node: the first two threads are clients, the third receives, the
 /// fourth is a timer.
@@ -210,16 +210,16 @@ fn live<L: BookName + Send + Sync, R: Threads + Wait + Sync>(
     rt: &R,
     alloc: Global,
     blank: Blank,
-    members: &RingMembers,
+    members: &Members,
     count: u64,
     words: &String,
     life: &mut Life,
 ) -> Result<(), AllocError>
     requires ledger { (blank.name ≡ L.name) × (blank.parts ≡ L.parts) × (L.parts ≡ count) }
     requires seats { (0 < count) × (count ≤ 64) }
-    requires start { (L.me ≡ 1) × (L.ring ≡ record { seq = 4; rep = 1 }) × (L.members ≡ members.now) }
+    requires start { (L.me ≡ first_rank 1) × (L.ring ≡ record { seq = 4; rep = 1 }) × (L.members ≡ members.now) }
 {
-    let me = ProcId::of(1);
+    let me = one();
     let (book, mut seats) = SharedBook::<L>::new(
         alloc,
         blank,

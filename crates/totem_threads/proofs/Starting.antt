@@ -11,7 +11,7 @@ use Rattle.totem_evs.specs.Runs.{IsBelowLog}
 use Rattle.totem_net.specs.declared.ends.NodeEnds.{NodeEnds}
 use Rattle.totem_net.specs.Nodes.{node_numbers}
 use Rattle.totem_net.proofs.Numbers.{one_more}
-use Rattle.totem_recover.specs.FirstLives.{first_rank, first_ranks, IsRingMembers}
+use Rattle.totem_recover.specs.Lives.{first_rank, first_ranks, IsRingMembers}
 use Rattle.totem_books.specs.Replay.{Start}
 use Rattle.totem_books.specs.Seats.{Closed}
 use Rattle.totem_threads.specs.Starts.{start_of, starts}
@@ -50,18 +50,18 @@ starts_of n ends are = apart n ends ∙ ap (map (start_of n)) are
 
 -- ---- The processes of the books
 
-mes : (books : List Closed) → map (λ (s : Start). first_rank s.me) (map (λ (b : Closed). b.start) books) ≡ map (λ (b : Closed). first_rank b.start.me) books
+mes : (books : List Closed) → map (λ (s : Start). s.me) (map (λ (b : Closed). b.start) books) ≡ map (λ (b : Closed). b.start.me) books
 mes [] = refl
-mes (b ∷ bs) = ap (λ (xs : List ℕ). first_rank b.start.me ∷ xs) (mes bs)
+mes (b ∷ bs) = ap (λ (xs : List ℕ). b.start.me ∷ xs) (mes bs)
 
-numbers : (nodes : ℕ) (ns : List ℕ) → map (λ (s : Start). first_rank s.me) (map (start_of nodes) ns) ≡ first_ranks ns
+numbers : (nodes : ℕ) (ns : List ℕ) → map (λ (s : Start). s.me) (map (start_of nodes) ns) ≡ first_ranks ns
 numbers nodes [] = refl
 numbers nodes (n ∷ ns) = ap (λ (xs : List ℕ). first_rank n ∷ xs) (numbers nodes ns)
 
 processes : (nodes : ℕ) (books : List Closed) (logs : List LogRecord) → map (λ (b : Closed). b.start) books ≡ starts nodes → AreLogsOf books logs
     → map (λ (l : LogRecord). l.proc) logs ≡ first_ranks (node_numbers nodes)
 processes nodes books logs begun are =
-    are.processes ∙ sym (mes books) ∙ ap (map (λ (s : Start). first_rank s.me)) begun ∙ numbers nodes (node_numbers nodes)
+    are.processes ∙ sym (mes books) ∙ ap (map (λ (s : Start). s.me)) begun ∙ numbers nodes (node_numbers nodes)
 
 -- ---- Their logs are those of a run
 
@@ -110,11 +110,11 @@ mapped {C = C} f g xs ys x y before here =
 
 -- one log more
 pub logs_more : (books : List Closed) (logs : List LogRecord) (i : ℕ) (b : Closed) (l : LogRecord) → b ≡ get_or books i b → i < length books
-    → AreLogsOf (take i books) logs → l.proc ≡ first_rank b.start.me → l.entries ≡ b.log → AreLogsOf (take (i + 1) books) (logs ++ l ∷ [])
+    → AreLogsOf (take i books) logs → l.proc ≡ b.start.me → l.entries ≡ b.log → AreLogsOf (take (i + 1) books) (logs ++ l ∷ [])
 logs_more books logs i b l is within before proc entries =
     let more : take (i + 1) books ≡ take i books ++ b ∷ [] = take_more books i b within ∙ ap (λ (x : Closed). take i books ++ x ∷ []) (sym is) in
     rw more (record {
-      processes = mapped (λ (l : LogRecord). l.proc) (λ (b : Closed). first_rank b.start.me) logs (take i books) l b before.processes proc;
+      processes = mapped (λ (l : LogRecord). l.proc) (λ (b : Closed). b.start.me) logs (take i books) l b before.processes proc;
       entries = mapped (λ (l : LogRecord). l.entries) (λ (b : Closed). b.log) logs (take i books) l b before.entries entries;
     })
 

@@ -7,6 +7,7 @@ use Rattle.totem_books.specs.History.{start_with}
 use Rattle.totem_packets.specs.declared.packet.Packet.TheVariants.{Token}
 use Rattle.totem_packets.specs.Spelling.{packet_bytes}
 use Rattle.totem_ring.specs.Rings.{first_token}
+use Rattle.totem_recover.specs.Lives.{first_rank, first_ranks}
 use Rattle.totem_net.specs.Plans.{Odds}
 use Rattle.totem_threads.specs.declared.plan.RunPlan.{RunPlan}
 
@@ -18,9 +19,9 @@ first_ring = record { seq = 4; rep = 1 }
 abbrev pub first_packet : List ℕ
 first_packet = packet_bytes (Token (first_token first_ring))
 
--- one of so many nodes, all of which are members of that ring
+-- one of so many nodes, all of which are members of that ring in their first lives
 abbrev pub start_of : ℕ → ℕ → Start
-start_of nodes me = start_with me first_ring (node_numbers nodes)
+start_of nodes node = start_with (first_rank node) first_ring (first_ranks (node_numbers nodes))
 
 -- all of them, in rising order
 abbrev pub starts : ℕ → List Start

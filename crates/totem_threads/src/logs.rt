@@ -1,7 +1,6 @@
 //! Makes a run of books.
 ghost use Rattle.std.specs.Prelude.{◌≡◌, ◌≤◌, IfOk, map, All};
 ghost use Rattle.totem_evs.specs.Lives.{IsFirstVersion};
-ghost use Rattle.totem_recover.specs.FirstLives.{first_rank};
 ghost use Rattle.totem_threads.specs.Starts.{starts};
 ghost use Rattle.totem_threads.specs.Books.{AreLogsOf, IsReplayed};
 
@@ -9,7 +8,6 @@ use crate::fault::{BookTrouble, ThreadsFault};
 use std::alloc::{AllocError, Global};
 use totem_books::{BookFault, ClosedBook};
 use totem_evs::{Entries, Entry, Log, Run};
-use totem_ids::Proc;
 
 fn copy_of(alloc: Global, entries: &[Entry]) -> Result<Vec<Entry>, AllocError>
     ensures { IfOk result (λ copy. copy.items ≡ entries.now) }
@@ -21,13 +19,13 @@ fn copy_of(alloc: Global, entries: &[Entry]) -> Result<Vec<Entry>, AllocError>
     Ok(copy)
 }
 
-/// Returns the log of a book, in the first life of its node. If it is longer than a log may be, it is refused as a call of the book is.
+/// Returns the log of a book. If it is longer than a log may be, it is refused as a call of the book is.
 fn log_of(alloc: Global, book: &ClosedBook) -> Result<Log, ThreadsFault>
-    ensures process { IfOk result (λ log. log.proc ≡ first_rank book.now.start.me) }
+    ensures process { IfOk result (λ log. log.proc ≡ book.now.start.me) }
     ensures entries { IfOk result (λ log. log.entries ≡ book.now.log) }
 {
     match Entries::new(copy_of(alloc, book.log())?) {
-        Ok(entries) => Ok(Log::new(Proc::first(book.me()), entries)),
+        Ok(entries) => Ok(Log::new(book.me(), entries)),
         Err(_) => Err(ThreadsFault::Book(BookTrouble::Call(BookFault::Long))),
     }
 }

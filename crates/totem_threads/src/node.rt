@@ -1,5 +1,6 @@
 //! A node's thread, which opens the node's book, runs three threads over it, and closes it.
 ghost use Rattle.std.specs.Prelude.{◌≡◌, ◌<◌, ◌≤◌, IfOk, vec_len};
+ghost use Rattle.totem_recover.specs.Lives.{first_rank};
 ghost use Rattle.totem_threads.specs.Starts.{first_ring, start_of};
 
 use crate::fault::ThreadsFault;
@@ -12,8 +13,9 @@ use std::sync::ledger::Blank;
 use std::thread;
 use std::thread::Threads;
 use totem_books::{BookFault, BookName, ClosedBook, Seat, SharedBook};
+use totem_evs::Members;
+use totem_ids::Proc;
 use totem_net::{NodeEnds, Outlet, Start};
-use totem_recover::RingMembers;
 
 /// Returns the three seats.
 fn three<L: BookName>(seats: Vec<Seat<L>>) -> (Seat<L>, Seat<L>, Seat<L>)
@@ -80,18 +82,18 @@ fn keep_book<L: BookName + Send + Sync, S: Start, R: Threads + Wait + Sync>(
     rt: &R,
     alloc: Global,
     blank: Blank,
-    members: &RingMembers,
+    members: &Members,
     ends: NodeEnds,
     outlet: &Outlet,
     start: &S,
 ) -> Result<ClosedBook, ThreadsFault>
     requires ledger { (blank.name ≡ L.name) × (blank.parts ≡ L.parts) × (L.parts ≡ 3) }
-    requires start { (ends.node ≡ L.me) × (L.ring ≡ first_ring) × (L.members ≡ members.now) }
-    ensures me { IfOk result (λ book. book.start.me ≡ ends.node) }
+    requires start { (first_rank ends.node ≡ L.me) × (L.ring ≡ first_ring) × (L.members ≡ members.now) }
+    ensures me { IfOk result (λ book. book.start.me ≡ first_rank ends.node) }
     ensures ring { IfOk result (λ book. book.start.ring ≡ first_ring) }
     ensures members { IfOk result (λ book. book.start.members ≡ members.now) }
 {
-    let me = ends.node;
+    let me = Proc::first(ends.node);
     let (book, seats) = SharedBook::<L>::new(
         alloc,
         blank,

@@ -1,13 +1,17 @@
--- What a member hands up, act by act.
-use Rattle.std.proofs.Common.{◌≡◌, ℕ, ◌+◌, ◌<◌, List, [], ◌∷◌, ◌++◌, length, take, get_or, Some, None, Result, Ok, Err, refl, sym, ◌∙◌, ap}
-use Rattle.std.proofs.lemmas.List.{take_more}
+-- What a member hands up, act by act, and what members hand up, one after another.
+use Rattle.std.proofs.Common.{◌≡◌, ℕ, ◌+◌, ◌<◌, ◌≤◌, List, [], ◌∷◌, ◌++◌, map, zip, length, take, get_or, Some, None, Result, Ok, Err, refl, sym, ◌∙◌, ap, arith}
+use Rattle.std.proofs.lemmas.List.{take_more, take_all, map_more}
+use Rattle.std.proofs.lemmas.Slice.Zip.{length-zip, get_or-zip}
+use Rattle.totem_ids.specs.Names.{RingName}
 use Rattle.totem_packets.specs.declared.message.Message.{Message}
 use Rattle.totem_ring.specs.declared.fault.RingFault.{RingFault}
 use Rattle.totem_ring.specs.declared.outcome.RingOut.{RingOut}
 use Rattle.totem_ring.specs.declared.moves.Act.{Act}
 use Rattle.totem_ring.specs.Rings.{Ring}
 use Rattle.totem_ring.specs.Steps.{Done, act_on}
-use Rattle.totem_weave.specs.Folds.{Own, IsAt, own_after, with_act, with_acts}
+use Rattle.totem_weave.specs.declared.track.Track.{Track}
+use Rattle.totem_weave.specs.Folds.{Own, IsAt, own_start, own_after, with_act, with_acts}
+use Rattle.totem_weave.specs.Tracks.{up_by}
 use Rattle.totem_weave.specs.Weaving.{Tries}
 use Rattle.totem_weave.proofs.OwnActs.{with_acts-append}
 
@@ -41,3 +45,23 @@ pub acts_more : (own : Own) (acts : List Act) (i : ℕ) (act : Act) → i < leng
     → with_acts own (take (i + 1) acts) ≡ with_act (with_acts own (take i acts)) act
 acts_more own acts i act lt is =
     ap (with_acts own) (take_more acts i act lt ∙ ap (λ a. take i acts ++ a ∷ []) (sym is)) ∙ with_acts-append own (take i acts) (act ∷ [])
+
+-- one member more
+pub ups_more : (ring : RingName) (ids members : List ℕ) (tracks : List Track) (i p : ℕ) (t : Track) (ups : List (ℕ × List Message)) (up : List Message)
+    → length tracks ≡ length members → i < length members → p ≡ get_or members i p → t ≡ get_or tracks i t
+    → ups ≡ map (up_by ring ids) (take i (zip members tracks)) → up ≡ (with_acts (own_start ring ids t.proc) t.acts.items).up
+    → ups ++ (p, up) ∷ [] ≡ map (up_by ring ids) (take (i + 1) (zip members tracks))
+ups_more ring ids members tracks i p t ups up each within at_p at_t so_far up_is =
+    let pairs : List (ℕ × Track) = zip members tracks in
+    let inside : i < length pairs = omega (arith, length-zip members tracks, each, within) in
+    let pair : get_or pairs i (p, t) ≡ (p, t) =
+    get_or-zip members tracks i (p, t) within (omega arith) ∙ ap (λ (q : ℕ). (q, get_or tracks i t)) (sym at_p) ∙ ap (λ (u : Track). (p, u)) (sym at_t) in
+    let last : up_by ring ids (get_or pairs i (p, t)) ≡ (p, up) = ap (up_by ring ids) pair ∙ ap (λ (ms : List Message). (p, ms)) (sym up_is) in
+    ap (λ (all : List (ℕ × List Message)). all ++ (p, up) ∷ []) so_far
+    ∙ ap (λ (x : ℕ × List Message). map (up_by ring ids) (take i pairs) ++ x ∷ []) (sym last)
+    ∙ sym (map_more (up_by ring ids) pairs i (p, t) inside)
+
+-- and all of them
+pub ups_all : (ring : RingName) (ids members : List ℕ) (tracks : List Track) (i : ℕ) → length members ≤ i
+    → map (up_by ring ids) (take i (zip members tracks)) ≡ map (up_by ring ids) (zip members tracks)
+ups_all ring ids members tracks i all = ap (map (up_by ring ids)) (take_all i (zip members tracks) (omega (arith, length-zip members tracks)))

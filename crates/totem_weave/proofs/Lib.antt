@@ -5,7 +5,10 @@ pub mod Indexing
 pub mod Underway
 pub mod Rounds
 pub mod HandingUp
+pub mod RisingIds
 pub mod TracksOf
+pub mod RecordedOf
+pub mod Handed
 pub mod FromBooks
 pub mod Calls
 pub mod Parts

@@ -1,23 +1,21 @@
 -- Tracks that say of each member, in order, what a function says of it.
-use Rattle.std.proofs.Common.{◌≡◌, ℕ, zero, suc, ◌<◌, ◌⊎◌, inl, inr, List, [], ◌∷◌, map, length, get_or, slice_get, Some, refl, sym, ◌∙◌, ap, subst, arith}
+use Rattle.std.proofs.Common.{◌≡◌, ℕ, zero, suc, ◌<◌, ◌⊎◌, inl, inr, List, [], ◌∷◌, map, length, slice_get, Some, refl, sym, ◌∙◌, ap, subst, arith}
 use Rattle.std.specs.Prelude.{Contains}
 use Rattle.std.specs.List.Sorted.{IsStrictlyIncreasing}
 use Rattle.std.proofs.lemmas.Bool.{cases_lt, cases_eq}
 use Rattle.std.proofs.lemmas.List.{length-map}
-use Rattle.std.proofs.lemmas.List.Kept.{AllPairs-from_increasing}
 use Rattle.std.proofs.lemmas.Option.{slice_get_within, slice_get_cases, get_or_from_slice_get, slice_get-map}
 use Rattle.totem_ids.specs.Names.{RingName}
-use Rattle.totem_packets.specs.declared.message.Message.{Message}
 use Rattle.totem_ring.specs.declared.moves.Act.{Act}
 use Rattle.totem_ring.specs.declared.moves.RingMove.{RingMove}
 use Rattle.totem_ring.specs.Worlds.{start, run, IsSchedule}
 use Rattle.totem_ring.specs.Order.{IsPrefixOf}
 use Rattle.totem_weave.specs.declared.track.Track.{Track}
 use Rattle.totem_weave.specs.declared.weaver.Weaver.{Weaver}
-use Rattle.totem_weave.specs.Folds.{own_start, with_acts, acts_of}
+use Rattle.totem_weave.specs.Folds.{acts_of}
 use Rattle.totem_weave.specs.Weaves.{CanAct, NoneRefused, IsWeave, IsStuck}
-use Rattle.totem_weave.specs.Tracks.{procs_of, steps_of, AreApart, start_of, IsUnderWay, IsThrough, IsFirstLeft, up_of_tracks}
-use Rattle.totem_weave.proofs.OwnActs.{state_is_own_holds}
+use Rattle.totem_weave.specs.Tracks.{procs_of, steps_of, AreApart, start_of, IsUnderWay, IsThrough, IsFirstLeft}
+use Rattle.totem_weave.proofs.RisingIds.{rises}
 use Rattle.totem_weave.proofs.Underway.{steps_of-at, track_or_none}
 
 -- each track has its member and what is said of it
@@ -55,12 +53,7 @@ proc_at tracks k t at = slice_get-map (λ (u : Track). u.proc) tracks k ∙ rw a
 
 -- of rising members the one in front is the lesser
 pub rises_at : (tracks : List Track) (j k : ℕ) (t u : Track) → IsStrictlyIncreasing (procs_of tracks) → slice_get tracks j ≡ Some t → slice_get tracks k ≡ Some u → j < k → t.proc < u.proc
-rises_at tracks j k t u rising at_j at_k lt =
-    let pairs = AllPairs-from_increasing (procs_of tracks) rising in
-    let less = pairs j k 0 lt (slice_get_within (procs_of tracks) k u.proc (proc_at tracks k u at_k)) in
-    let at_t : get_or (procs_of tracks) j 0 ≡ t.proc = get_or_from_slice_get (procs_of tracks) j t.proc 0 (proc_at tracks j t at_j) in
-    let at_u : get_or (procs_of tracks) k 0 ≡ u.proc = get_or_from_slice_get (procs_of tracks) k u.proc 0 (proc_at tracks k u at_k) in
-    omega (arith, less, at_t, at_u)
+rises_at tracks j k t u rising at_j at_k lt = rises (procs_of tracks) j k t.proc u.proc rising (proc_at tracks j t at_j) (proc_at tracks k u at_k) lt
 
 pub rising_are_apart : (tracks : List Track) → IsStrictlyIncreasing (procs_of tracks) → AreApart tracks
 rising_are_apart tracks rising j k t u at_j at_k same = elim (cases_eq j k) [
@@ -138,34 +131,3 @@ done_before tracks w place t rising h first at p below = elim (track_or_none tra
   ]
   | inr none ↦ none_done tracks w p h none
 ]
-
-same_cons : {X : Type 0} {x y : X} {xs ys : List X} → x ≡ y → xs ≡ ys → x ∷ xs ≡ y ∷ ys
-same_cons {X} {x} {y} {xs} {ys} head tail = ap (λ z. z ∷ xs) head ∙ ap (λ zs. y ∷ zs) tail
-
--- a member, with what it hands up by these acts
-abbrev up_by : RingName → List ℕ → ℕ × List Act → ℕ × List Message
-up_by ring all x = (x.0, (with_acts (own_start ring all x.0) x.1).up)
-
-ups_said : (ring : RingName) (all : List ℕ) (f : ℕ → List Act) (members : List ℕ) (tracks : List Track) → SayOf f members tracks
-    → up_of_tracks ring all tracks ≡ map (λ p. (p, (with_acts (own_start ring all p) (f p)).up)) members
-ups_said ring all f [] [] e = refl
-ups_said ring all f (p ∷ ps) [] e = absurd cc
-ups_said ring all f [] (t ∷ ts) e = absurd cc
-ups_said ring all f (p ∷ ps) (t ∷ ts) e =
-    let first : ◌≡◌ {A = ℕ × List Act} (t.proc, t.acts.items) (p, f p) = cc in
-    let others : SayOf f ps ts = cc in
-    same_cons {x = up_by ring all (t.proc, t.acts.items)} {y = up_by ring all (p, f p)} (ap (up_by ring all) first) (ups_said ring all f ps ts others)
-
-same_map : {X Y : Type 0} (g h : X → Y) (xs : List X) → ((x : X) → g x ≡ h x) → map g xs ≡ map h xs
-same_map g h [] same = refl
-same_map g h (x ∷ xs) same = same_cons (same x) (same_map g h xs same)
-
--- what the members hand up by what the tracks say is what they hand up in a weave that has it all
-pub handed_is : (ring : RingName) (f : ℕ → List Act) (members : List ℕ) (tracks : List Track) (moves : List RingMove) → SayOf f members tracks
-    → ((p : ℕ) → acts_of p moves ≡ f p) → up_of_tracks ring members tracks ≡ map (λ p. (p, (run (start ring members) moves).up p)) members
-handed_is ring f members tracks moves say whole =
-    ups_said ring members f members tracks say
-    ∙ same_map (λ p. (p, (with_acts (own_start ring members p) (f p)).up)) (λ p. (p, (run (start ring members) moves).up p)) members (λ p. ap (λ up. (p, up)) (up_there p))
-  where
-    up_there : (p : ℕ) → (with_acts (own_start ring members p) (f p)).up ≡ (run (start ring members) moves).up p
-    up_there p = ap (λ acts. (with_acts (own_start ring members p) acts).up) (sym (whole p)) ∙ sym (state_is_own_holds ring members moves p).up

@@ -2,9 +2,9 @@
 use Rattle.std.specs.Prelude.{◌≡◌, ℕ, ◌+◌, ◌-◌, ◌^◌, ◌==◌, ◌<◌, ◌≤◌, min, List, [], ◌∷◌, length, map, filter, take, Contains, if◌then◌else◌, Ok, Err}
 use Rattle.std.specs.List.{flat_map}
 use Rattle.totem_ids.specs.Names.{RingName, PlaceName}
+use Rattle.totem_ids.specs.Ranks.{id_of}
 use Rattle.totem_ring.specs.declared.moves.Act.{Act}
 use Rattle.totem_ring.specs.Rings.{same_ring}
-use Rattle.totem_recover.specs.FirstLives.{first_rank}
 use Rattle.totem_node.specs.declared.ring_step.RingStep.{RingStep}
 use Rattle.totem_node.specs.Outcomes.{Outcome}
 use Rattle.totem_node.specs.Replay.{Answer}
@@ -29,14 +29,20 @@ call_acts ring call = acts_on ring (steps_told call.reply)
 abbrev pub calls_acts : RingName → List Called → List Act
 calls_acts ring calls = flat_map (call_acts ring) calls
 
--- what a process did on the ring, by its book: by none nothing
+-- what a process did on the ring, by the book of its life: by none nothing
 abbrev pub recorded : RingName → List Closed → ℕ → List Act
 recorded ring [] p = []
 recorded ring (book ∷ books) p = if p == book.start.me then calls_acts ring book.calls else recorded ring books p
 
--- a track for each member, in their order, with what its book recorded
+-- what the member of this identifier did on the ring, by the book of its life: who is no member nothing
+abbrev pub recorded_of : RingName → List Closed → List ℕ → ℕ → List Act
+recorded_of ring books [] id = []
+recorded_of ring books (p ∷ members) id = if id == id_of p then recorded ring books p else recorded_of ring books members id
+
+-- a track for each member, in their order, by its identifier, with what the book of its life recorded
 abbrev pub AreTracksOf : RingName → List Closed → List ℕ → List Track → Type 0
-AreTracksOf ring books members tracks = map {B = ℕ × List Act} (λ t. (t.proc, t.acts.items)) tracks ≡ map {B = ℕ × List Act} (λ p. (p, recorded ring books p)) members
+AreTracksOf ring books members tracks =
+    map {B = ℕ × List Act} (λ t. (t.proc, t.acts.items)) tracks ≡ map {B = ℕ × List Act} (λ p. (id_of p, recorded ring books p)) members
 
 -- the step of this number, counted from 0, stands in this call, counted from 0
 pub record StandsIn (ring : RingName) (calls : List Called) (step at : ℕ) : Type 0 where
@@ -54,9 +60,9 @@ pub record IsBookOf (ring : RingName) (books : List Closed) (p : ℕ) (book : Cl
   pub mine : book.start.me ≡ p
   pub recorded_is : recorded ring books p ≡ calls_acts ring book.calls
 
--- the step of this number of a process, counted from 0, stands in the call of this place, which is of the process's first life
+-- the step of this number of a process, counted from 0, stands in the call of this place
 pub record IsCallOf (ring : RingName) (books : List Closed) (p step : ℕ) (place : PlaceName) : Type 0 where
-  pub proc : place.proc ≡ first_rank p
+  pub proc : place.proc ≡ p
   pub book : Closed
   pub is_book : IsBookOf ring books p book
   pub call : ℕ

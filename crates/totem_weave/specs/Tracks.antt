@@ -1,10 +1,11 @@
 -- What the members of a ring recorded, and how far a weave of it has come.
-use Rattle.std.specs.Prelude.{◌≡◌, ℕ, ◌<◌, ◌==◌, List, [], ◌∷◌, map, length, slice_get, if◌then◌else◌, Bool, true, false, Some}
+use Rattle.std.specs.Prelude.{◌≡◌, ℕ, ◌<◌, ◌==◌, List, [], ◌∷◌, map, length, zip, slice_get, if◌then◌else◌, Bool, true, false, Some}
 use Rattle.totem_ids.specs.Names.{RingName}
 use Rattle.totem_packets.specs.declared.message.Message.{Message}
 use Rattle.totem_ring.specs.declared.moves.Act.{Act}
 use Rattle.totem_ring.specs.declared.moves.RingMove.{RingMove}
 use Rattle.totem_ring.specs.Worlds.{World, start, run}
+use Rattle.totem_recover.specs.Lives.{ids_of}
 use Rattle.totem_weave.specs.declared.track.Track.{Track}
 use Rattle.totem_weave.specs.declared.seat.Seat.{Seat}
 use Rattle.totem_weave.specs.declared.weaver.Weaver.{Weaver}
@@ -75,6 +76,10 @@ pub record IsFirstLeft (tracks : List Track) (w : Weaver) (place : ℕ) : Type 0
 abbrev pub HasTaken : List Track → Weaver → ℕ → ℕ → Type 0
 HasTaken tracks w place count = (t : Track) → slice_get tracks place ≡ Some t → count ≡ length (acts_of t.proc w.moves.items)
 
--- each track's process, with what it hands up by what its track says
+-- a member, with what it hands up by what its track says, on a ring of these identifiers
+abbrev pub up_by : RingName → List ℕ → ℕ × Track → ℕ × List Message
+up_by ring ids x = (x.0, (with_acts (own_start ring ids x.1.proc) x.1.acts.items).up)
+
+-- each member, with what it hands up by what the track at its place says
 abbrev pub up_of_tracks : RingName → List ℕ → List Track → List (ℕ × List Message)
-up_of_tracks ring members tracks = map (λ t. (t.proc, (with_acts (own_start ring members t.proc) t.acts.items).up)) tracks
+up_of_tracks ring members tracks = map (up_by ring (ids_of members)) (zip members tracks)

@@ -7,16 +7,17 @@ use Rattle.totem_packets.specs.declared.message.Message.{Message}
 use Rattle.totem_ring.specs.declared.moves.RingMove.{RingMove}
 use Rattle.totem_ring.specs.Worlds.{start, run, IsSchedule}
 use Rattle.totem_ring.specs.Order.{IsPrefixOf}
+use Rattle.totem_recover.specs.Lives.{ids_of}
 use Rattle.totem_books.specs.Seats.{Closed}
 use Rattle.totem_weave.specs.Distinct.{AreDistinctBy}
 use Rattle.totem_weave.specs.Folds.{acts_of}
-use Rattle.totem_weave.specs.Recorded.{calls_acts, recorded, IsCallOf}
+use Rattle.totem_weave.specs.Recorded.{calls_acts, recorded_of, IsCallOf}
 use Rattle.totem_weave.specs.Weaves.{NoneRefused, IsWeave, IsStuck}
 use Rattle.totem_weave.specs.declared.woven.Woven.{Woven}
 use Rattle.totem_weave.specs.declared.fault.WeaveFault.{WeaveFault}
 use Rattle.totem_weave.specs.declared.fault.WeaveFault.TheVariants.{Members, Orphan, Memory}
 
--- whose book it is
+-- whose book it is, and of which life
 abbrev pub process_of : Closed → ℕ
 process_of book = book.start.me
 
@@ -24,40 +25,42 @@ process_of book = book.start.me
 abbrev pub IsOfMember : RingName → List ℕ → Closed → Type 0
 IsOfMember ring members book = (calls_acts ring book.calls ≡ []) ⊎ Contains members book.start.me
 
--- 1 to 32 members, strictly rising; each book is of another process; who took a step on the ring is a member
+-- 1 to 32 members, their identifiers strictly rising; each book is of another process or another life; who took a step on the ring
+-- is a member in that life
 pub record CanWeave (ring : RingName) (members : List ℕ) (books : List Closed) : Type 0 where
   pub some : 0 < length members
   pub few : length members ≤ 32
-  pub rising : IsStrictlyIncreasing members
+  pub rising : IsStrictlyIncreasing (ids_of members)
   pub apart : AreDistinctBy process_of books
   pub known : All (IsOfMember ring members) books
 
 -- each member in order, with what it handed up by the end of these moves
 abbrev pub handed_by : RingName → List ℕ → List RingMove → List (ℕ × List Message)
-handed_by ring members moves = map (λ p. (p, (run (start ring members) moves).up p)) members
+handed_by ring members moves = map (λ p. (p, (run (start ring (ids_of members)) moves).up (id_of p))) members
 
 -- a schedule of the ring that takes each recorded step in order, each once, no other step, and none that is refused
 pub record IsWoven (ring : RingName) (members : List ℕ) (books : List Closed) (woven : Woven) : Type 0 where
   pub can_weave : CanWeave ring members books
-  pub is_schedule : IsSchedule (start ring members) woven.steps.items
-  pub none_refused : NoneRefused (start ring members) woven.steps.items
-  pub whole : (p : ℕ) → acts_of p woven.steps.items ≡ recorded ring books p
+  pub is_schedule : IsSchedule (start ring (ids_of members)) woven.steps.items
+  pub none_refused : NoneRefused (start ring (ids_of members)) woven.steps.items
+  pub whole : (id : ℕ) → acts_of id woven.steps.items ≡ recorded_of ring books members id
   pub handed : map (λ h. (h.0, h.1.items)) woven.handed.items ≡ handed_by ring members woven.steps.items
 
 -- of any two members' lists one is a prefix of the other
 abbrev pub AreOneOrder : List (ℕ × List Message) → Type 0
 AreOneOrder lists = (a b : ℕ × List Message) → Contains lists a → Contains lists b → IsPrefixOf a.1 b.1 ⊎ IsPrefixOf b.1 a.1
 
--- The weave ended here, as far as any comes: who is below this process did all its steps, and its own next one stands in this call.
+-- The weave ended here, as far as any comes: who is below this member did all its steps, and its own next one stands in this call.
 pub record IsOrphan (ring : RingName) (members : List ℕ) (books : List Closed) (place : PlaceName) : Type 0 where
   pub can_weave : CanWeave ring members books
+  pub member : Contains members place.proc
   pub so_far : List RingMove
-  pub weave : IsWeave (start ring members) (recorded ring books) so_far
-  pub stuck : IsStuck (start ring members) (recorded ring books) so_far
-  pub least : (p : ℕ) → p < id_of place.proc → acts_of p so_far ≡ recorded ring books p
-  pub call : IsCallOf ring books (id_of place.proc) (length (acts_of (id_of place.proc) so_far)) place
+  pub weave : IsWeave (start ring (ids_of members)) (recorded_of ring books members) so_far
+  pub stuck : IsStuck (start ring (ids_of members)) (recorded_of ring books members) so_far
+  pub least : (id : ℕ) → id < id_of place.proc → acts_of id so_far ≡ recorded_of ring books members id
+  pub call : IsCallOf ring books place.proc (length (acts_of (id_of place.proc) so_far)) place
   -- no schedule of first steps of the books, with none refused, has every step of this call
-  pub never : (other : List RingMove) → IsWeave (start ring members) (recorded ring books) other
+  pub never : (other : List RingMove) → IsWeave (start ring (ids_of members)) (recorded_of ring books members) other
       → length (acts_of (id_of place.proc) other) < length (calls_acts ring (take (call.call + 1) call.book.calls))
 
 -- why nothing is woven: each of these comes where it is true, and the first of them that is

@@ -6,8 +6,9 @@ ghost use Rattle.totem_weave.specs.Folds.{Own, IsAt, own_start, with_act, with_a
 use crate::seat::try_act;
 use crate::track::Track;
 use std::alloc::{AllocError, Global};
-use totem_ids::{ProcId, RingId};
+use totem_ids::{Proc, ProcId, RingId};
 use totem_packets::Message;
+use totem_recover::ids_of;
 use totem_ring::{Act, RingState};
 
 /// Does an act of a member, and appends what it hands up. A refused act changes nothing.
@@ -44,20 +45,23 @@ fn handed_by(
     Ok(handed)
 }
 
-/// Returns each member with what it hands up.
+/// Returns each member with what it hands up by its track, which stands at its place.
 pub fn handed_up(
     alloc: Global,
     ring: RingId,
-    members: &[ProcId],
+    members: &[Proc],
     tracks: &[Track],
-) -> Result<Vec<(ProcId, Vec<Message>)>, AllocError>
-    requires { 0 < length members.now }
+) -> Result<Vec<(Proc, Vec<Message>)>, AllocError>
+    requires some { 0 < length members.now }
+    requires each { length tracks.now ≡ length members.now }
     ensures { IfOk result (λ lists. map (λ h. (h.0, h.1.items)) lists.items ≡ up_of_tracks ring members.now tracks.now) }
 {
+    let ids = ids_of(alloc, members)?;
     let mut lists = Vec::new(alloc);
-    for track in tracks {
-        let handed = handed_by(alloc, ring, members, track.proc, &track.acts)?;
-        lists.push((track.proc, handed))?;
+    for place in 0..members.len() {
+        let track = &tracks[place];
+        let handed = handed_by(alloc, ring, &ids, track.proc, &track.acts)?;
+        lists.push((members[place], handed))?;
     }
     Ok(lists)
 }

@@ -1,34 +1,36 @@
 //! Whether books can be woven with these members.
 ghost use Rattle.std.specs.Prelude.{◌≡◌, ◌<◌, length, MatchBool, All};
 ghost use Rattle.std.specs.List.Sorted.{IsStrictlyIncreasing};
+ghost use Rattle.totem_recover.specs.Lives.{ids_of};
 ghost use Rattle.totem_weave.specs.Distinct.{AreDistinctBy, IsFirstBy};
 ghost use Rattle.totem_weave.specs.Woven.{process_of, IsOfMember, CanWeave};
 
 use crate::recorded::tell_none;
 use totem_books::ClosedBook;
-use totem_ids::{ProcId, RingId};
+use totem_ids::{Proc, RingId};
 
 /// How many members a ring may have at most.
 const MOST: usize = 32;
 
-fn rise(members: &[ProcId]) -> bool
-    ensures { MatchBool result (IsStrictlyIncreasing members.now) (¬ (IsStrictlyIncreasing members.now)) }
+/// Returns whether the identifiers rise strictly. So two lives of one identifier are never both members.
+fn rise(members: &[Proc]) -> bool
+    ensures { MatchBool result (IsStrictlyIncreasing (ids_of members.now)) (¬ (IsStrictlyIncreasing (ids_of members.now))) }
 {
     for place in 1..members.len() {
-        if members[place - 1].number() >= members[place].number() {
+        if members[place - 1].id().number() >= members[place].id().number() {
             return false;
         }
     }
     true
 }
 
-/// Returns whether an earlier book is of the same process.
+/// Returns whether an earlier book is of the same process, in the same life.
 fn is_second(books: &[ClosedBook], place: usize) -> bool
     requires { place < length books.now }
     ensures { MatchBool result (¬ (AreDistinctBy process_of books.now)) (IsFirstBy process_of books.now place) }
 {
     for earlier in 0..place {
-        if books[earlier].me().number() == books[place].me().number() {
+        if books[earlier].me() == books[place].me() {
             return true;
         }
     }
@@ -46,13 +48,13 @@ fn are_apart(books: &[ClosedBook]) -> bool
     true
 }
 
-fn is_of_member(ring: RingId, members: &[ProcId], book: &ClosedBook) -> bool
+fn is_of_member(ring: RingId, members: &[Proc], book: &ClosedBook) -> bool
     ensures { MatchBool result (IsOfMember ring members.now book.now) (¬ (IsOfMember ring members.now book.now)) }
 {
     members.contains(&book.me()) || tell_none(ring, book.calls())
 }
 
-fn are_of_members(ring: RingId, members: &[ProcId], books: &[ClosedBook]) -> bool
+fn are_of_members(ring: RingId, members: &[Proc], books: &[ClosedBook]) -> bool
     ensures { MatchBool result (All (IsOfMember ring members.now) books.now) (¬ (All (IsOfMember ring members.now) books.now)) }
 {
     for book in books {
@@ -63,9 +65,9 @@ fn are_of_members(ring: RingId, members: &[ProcId], books: &[ClosedBook]) -> boo
     true
 }
 
-/// Returns whether the members are 1 to 32 rising processes, no two books are of one process, and each book with a step
-/// on the ring is a member's.
-pub fn can_weave(books: &[ClosedBook], ring: RingId, members: &[ProcId]) -> bool
+/// Returns whether the members are 1 to 32 processes with rising identifiers, no two books are of one process in one life,
+/// and each book with a step on the ring is a member's, in its life.
+pub fn can_weave(books: &[ClosedBook], ring: RingId, members: &[Proc]) -> bool
     ensures { MatchBool result (CanWeave ring members.now books.now) (¬ (CanWeave ring members.now books.now)) }
 {
     !members.is_empty()

@@ -1,26 +1,25 @@
 //! The call with which a weave can't go on.
 ghost use Rattle.std.specs.Prelude.{◌≡◌, ◌-◌, ◌^◌, ◌<◌, length};
-ghost use Rattle.totem_recover.specs.FirstLives.{first_rank};
 ghost use Rattle.totem_weave.specs.Recorded.{recorded, place_at, IsCallOf};
 
 use crate::recorded::{book_of, call_of};
 use totem_books::ClosedBook;
-use totem_ids::{Place, Proc, ProcId, RingId};
+use totem_ids::{Place, Proc, RingId};
 
-/// Returns the place of this call, counted from 0, of a process's book, in the first life of the process.
-fn place_of(proc: ProcId, call: usize) -> Place
+/// Returns the place of this call, counted from 0, of a process's book.
+fn place_of(proc: Proc, call: usize) -> Place
     requires { call < 2 ^ 64 - 1 }
-    ensures proc { result.proc ≡ first_rank proc }
+    ensures proc { result.proc ≡ proc }
     ensures at { result.at ≡ place_at call }
 {
     Place {
-        proc: Proc::first(proc),
+        proc,
         at: u32::try_from(call + 1).unwrap_or(u32::MAX),
     }
 }
 
 /// Returns the place of the call of this process in which its step of this number, counted from 0, stands.
-pub fn call_at(books: &[ClosedBook], ring: RingId, proc: ProcId, step: usize) -> Place
+pub fn call_at(books: &[ClosedBook], ring: RingId, proc: Proc, step: usize) -> Place
     requires { step < length (recorded ring books.now proc) }
     ensures { IsCallOf ring books.now proc step result }
 {

@@ -5,12 +5,12 @@ ghost use Rattle.totem_weave.specs.Recorded.{acts_on, call_acts, calls_acts, rec
 
 use std::alloc::{AllocError, Global};
 use totem_books::{Call, ClosedBook, Reply};
-use totem_ids::{ProcId, RingId};
+use totem_ids::{Proc, RingId};
 use totem_node::RingStep;
 use totem_ring::{Act, is_same_ring};
 
 /// Returns the book of this process: the first one, if there are several.
-pub fn book_of(books: &[ClosedBook], ring: RingId, proc: ProcId) -> Option<&ClosedBook>
+pub fn book_of(books: &[ClosedBook], ring: RingId, proc: Proc) -> Option<&ClosedBook>
     ensures { MatchOption result (recorded ring books.now proc ≡ []) (λ book. IsBookOf ring books.now proc book.now) }
 {
     for book in books {

@@ -5,10 +5,10 @@ ghost use Rattle.totem_weave.specs.Recorded.{recorded, AreTracksOf};
 use crate::recorded::{acts_in, book_of};
 use std::alloc::{AllocError, Global};
 use totem_books::ClosedBook;
-use totem_ids::{ProcId, RingId};
+use totem_ids::{Proc, ProcId, RingId};
 use totem_ring::Act;
 
-/// What one member did on a ring, in order.
+/// What one member did on a ring, in order. The ring knows it by its identifier.
 #[derive(Drop)]
 pub struct Track {
     pub proc: ProcId,
@@ -20,7 +20,7 @@ fn recorded_by(
     alloc: Global,
     books: &[ClosedBook],
     ring: RingId,
-    proc: ProcId,
+    proc: Proc,
 ) -> Result<Vec<Act>, AllocError>
     ensures { IfOk result (λ acts. acts.items ≡ recorded ring books.now proc) }
 {
@@ -30,19 +30,22 @@ fn recorded_by(
     }
 }
 
-/// Returns what each member did on the ring, in the order of the members: one without a book nothing.
+/// Returns what each member did on the ring, in the order of the members: one without a book of its life nothing.
 pub fn tracks_of(
     alloc: Global,
     books: &[ClosedBook],
     ring: RingId,
-    members: &[ProcId],
+    members: &[Proc],
 ) -> Result<Vec<Track>, AllocError>
     ensures { IfOk result (λ tracks. AreTracksOf ring books.now members.now tracks.items) }
 {
     let mut tracks = Vec::new(alloc);
     for proc in members {
         let acts = recorded_by(alloc, books, ring, *proc)?;
-        tracks.push(Track { proc: *proc, acts })?;
+        tracks.push(Track {
+            proc: proc.id(),
+            acts,
+        })?;
     }
     Ok(tracks)
 }

@@ -13,7 +13,7 @@ use crate::weaver::Weaver;
 use crate::woven::Woven;
 use std::alloc::{AllocError, Global};
 use totem_books::ClosedBook;
-use totem_ids::{ProcId, RingId};
+use totem_ids::{Proc, RingId};
 
 /// Weaves these tracks until no member can go on. So no schedule of them has more of any member.
 fn weave_tracks(alloc: Global, ring: RingId, tracks: &[Track]) -> Result<Weaver, AllocError>
@@ -28,15 +28,15 @@ fn weave_tracks(alloc: Global, ring: RingId, tracks: &[Track]) -> Result<Weaver,
 }
 
 /// Finds a schedule of the ring that takes each step that the books tell of it, in each book's order, each once, no other
-/// step, and none that the ring refuses (docs/PROTOCOL.md, "The woven ring"). A member without a book takes no step. `Members`
-/// if the members are not 1 to 32 rising processes, two books are of one process, or a book with a step on the ring is of no
-/// member; `Orphan` if there is no such schedule, with the first call that fits none, of the least process that has one.
-/// Waits for nobody, and starts no thread.
+/// step, and none that the ring refuses (docs/PROTOCOL.md, "The woven ring"). A member without a book of its life takes no step.
+/// `Members` if the members are not 1 to 32 processes with rising identifiers, two books are of one process in one life, or a
+/// book with a step on the ring is of no member; `Orphan` if there is no such schedule, with the first call that fits none, of
+/// the least process that has one. Waits for nobody, and starts no thread.
 pub fn weave(
     alloc: Global,
     books: &[ClosedBook],
     ring: RingId,
-    members: &[ProcId],
+    members: &[Proc],
 ) -> Result<Woven, WeaveFault>
     ensures woven { IfOk result (IsWoven ring members.now books.now) }
     ensures one_order { IfOk result (λ woven. AreOneOrder (map (λ h. (h.0, h.1.items)) woven.handed.items)) }
@@ -49,7 +49,7 @@ pub fn weave(
     let weaver = weave_tracks(alloc, ring, &tracks)?;
     if let Some(place) = weaver.first_left(&tracks) {
         let step = weaver.taken(&tracks, place);
-        let call = call_at(books, ring, tracks[place].proc, step);
+        let call = call_at(books, ring, members[place], step);
         return Err(WeaveFault::Orphan(call));
     }
     let handed = handed_up(alloc, ring, members, &tracks)?;

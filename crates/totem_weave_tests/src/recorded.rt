@@ -8,10 +8,10 @@ use std::sync::Wait;
 use std::sync::ledger::Blank;
 use std::test::Fail;
 use totem_books::{BookName, ClosedBook, Reply, Seat, SharedBook};
-use totem_ids::{ProcId, RingId, Service};
+use totem_evs::Members;
+use totem_ids::{Proc, ProcId, RingId, Service};
 use totem_node::Input;
 use totem_packets::Packet;
-use totem_recover::RingMembers;
 use totem_ring::first_token;
 
 pub(crate) fn ring() -> RingId
@@ -23,11 +23,17 @@ pub(crate) fn ring() -> RingId
     }
 }
 
-/// The processes with these numbers.
-pub(crate) fn procs(alloc: Global, numbers: &[u16]) -> Result<Vec<ProcId>, Fail> {
+/// The process with this number, in this life.
+pub(crate) fn process(number: u16, life: u16) -> Result<Proc, Fail> {
+    let id = ProcId::new(number).ok_or("no process has this number")?;
+    Ok(Proc::new(id, life).ok_or("no life has this number")?)
+}
+
+/// The processes with these numbers, in their first lives.
+pub(crate) fn procs(alloc: Global, numbers: &[u16]) -> Result<Vec<Proc>, Fail> {
     let mut list = Vec::new(alloc);
     for number in numbers {
-        list.push(ProcId::new(*number).ok_or("no process has this number")?)?;
+        list.push(process(*number, 1)?)?;
     }
     Ok(list)
 }
@@ -112,8 +118,8 @@ fn live<L: BookName, R: Wait>(
     rt: &R,
     alloc: Global,
     blank: Blank,
-    me: ProcId,
-    members: &RingMembers,
+    me: Proc,
+    members: &Members,
     inputs: Vec<Input>,
 ) -> Result<ClosedBook, Fail>
     requires ledger { (blank.name ≡ L.name) × (blank.parts ≡ L.parts) × (L.parts ≡ 1) }
@@ -127,8 +133,8 @@ fn live<L: BookName, R: Wait>(
 fn book_of<R: Wait>(
     rt: &R,
     alloc: Global,
-    me: ProcId,
-    members: &RingMembers,
+    me: Proc,
+    members: &Members,
     inputs: Vec<Input>,
 ) -> Result<ClosedBook, Fail> {
     live::<Brand, _>(rt, alloc, Blank::new(1), me, members, inputs)
@@ -139,11 +145,11 @@ fn write<R: Wait>(
     rt: &R,
     alloc: Global,
     books: &mut Vec<ClosedBook>,
-    members: &RingMembers,
+    members: &Members,
     number: u16,
     words: &str,
 ) -> Result<(), Fail> {
-    let me = ProcId::new(number).ok_or("no process has this number")?;
+    let me = process(number, 1)?;
     let given = inputs(alloc, books, words)?;
     let book = book_of(rt, alloc, me, members, given)?;
     let place = usize::from(number).saturating_sub(1);
@@ -162,7 +168,7 @@ pub(crate) fn books<R: Wait>(
     alloc: Global,
     lines: &[(u16, &str)],
 ) -> Result<Vec<ClosedBook>, Fail> {
-    let members = RingMembers::new(procs(alloc, &[1, 2, 3])?)?;
+    let members = Members::new(procs(alloc, &[1, 2, 3])?)?;
     let mut books = Vec::new(alloc);
     for line in lines {
         write(rt, alloc, &mut books, &members, line.0, line.1)?;

@@ -1,10 +1,10 @@
 //! Books that are woven, and books that fit no schedule.
-use crate::recorded::{books, procs, ring};
+use crate::recorded::{books, process, procs, ring};
 use std::alloc::{AllocError, Global};
 use std::sync::Wait;
 use std::test::*;
 use totem_books::ClosedBook;
-use totem_ids::{ProcId, RingId};
+use totem_ids::{Proc, ProcId, RingId};
 use totem_packets::Message;
 use totem_weave::{WeaveFault, Woven, weave};
 
@@ -21,10 +21,11 @@ const LOST: [(u16, &str); 6] = [
 fn tell_handed(
     alloc: Global,
     text: &mut String,
-    proc: ProcId,
+    proc: Proc,
     messages: &[Message],
 ) -> Result<(), AllocError> {
-    text.push_str(format!(in alloc; " | {proc}:")?.as_str())?;
+    let member = proc.written(proc.first_version());
+    text.push_str(format!(in alloc; " | {member}:")?.as_str())?;
     for message in messages {
         text.push_str(format!(in alloc; " {}#{}", message.ring, message.number.get())?.as_str())?;
     }
@@ -52,16 +53,16 @@ fn told(
     alloc: Global,
     books: &[ClosedBook],
     ring: RingId,
-    members: &[u16],
+    members: &[Proc],
 ) -> Result<String, Fail> {
-    let members = procs(alloc, members)?;
-    match weave(alloc, books, ring, &members) {
+    match weave(alloc, books, ring, members) {
         Ok(woven) => Ok(tell_woven(alloc, &woven)?),
         Err(fault) => Ok(tell_refused(alloc, fault)?),
     }
 }
 
-/// What comes of weaving the books of these lines, without that of the process `left_out`, with these members.
+/// What comes of weaving the books of these lines, without that of the process `left_out`, with these members in their first
+/// lives.
 fn woven_without<R: Wait>(
     rt: &R,
     alloc: Global,
@@ -73,7 +74,7 @@ fn woven_without<R: Wait>(
     if (1..=books.len()).contains(&left_out) {
         let _left = books.remove(left_out - 1);
     }
-    told(alloc, &books, ring(), members)
+    told(alloc, &books, ring(), &procs(alloc, members)?)
 }
 
 #[test]
@@ -132,7 +133,7 @@ fn members_that_are_none(rt: HostRuntime) -> Result<(), Fail> {
 fn members_up_to(alloc: Global, count: u16) -> Result<String, Fail> {
     let mut members = Vec::new(alloc);
     for number in 1..=count {
-        members.push(ProcId::new(number).ok_or("no process has this number")?)?;
+        members.push(process(number, 1)?)?;
     }
     match weave(alloc, &[], ring(), &members) {
         Ok(woven) => Ok(format!(in alloc; "{}", woven.handed.len())?),
@@ -175,23 +176,57 @@ fn the_least_orphan_is_named(rt: HostRuntime) -> Result<(), Fail> {
     Ok(())
 }
 
+/// Ring 8.1, of which no book tells a step.
+fn other_ring() -> RingId {
+    RingId {
+        seq: 8,
+        rep: ProcId::of(1),
+    }
+}
+
 /// No book tells a step of ring 8.1, so all members are as they began. Two books of one process are refused all the same.
 #[test]
 fn another_ring(rt: HostRuntime) -> Result<(), Fail> {
     let alloc = rt.alloc();
-    let other = RingId {
-        seq: 8,
-        rep: ProcId::of(1),
-    };
+    let members = procs(alloc, &[1, 9])?;
     let mut books = books(&rt, alloc, &LOST)?;
     assert_eq!(rt;
-        told(alloc, &books, other, &[1, 9])?.as_str(),
+        told(alloc, &books, other_ring(), &members)?.as_str(),
         "0 steps | 1: | 9:"
     );
     let twice = crate::recorded::books(&rt, alloc, &LOST[..1])?;
     for book in twice {
         books.push(book)?;
     }
-    assert_eq!(rt; told(alloc, &books, other, &[1, 9])?.as_str(), "1 Members");
+    assert_eq!(rt;
+        told(alloc, &books, other_ring(), &members)?.as_str(),
+        "1 Members"
+    );
+    Ok(())
+}
+
+/// 1's book is of its first life, and tells steps on ring 4.1: where 1 is a member in its second life, the book is of no
+/// member. On ring 8.1 no book tells a step.
+#[test]
+fn a_member_in_another_life(rt: HostRuntime) -> Result<(), Fail> {
+    let alloc = rt.alloc();
+    let books = books(&rt, alloc, &LOST)?;
+    let members = [process(1, 2)?, process(2, 1)?, process(3, 1)?];
+    assert_eq!(rt;
+        told(alloc, &books, ring(), &members)?.as_str(),
+        "1 Members"
+    );
+    assert_eq!(rt;
+        told(alloc, &books, other_ring(), &members)?.as_str(),
+        "0 steps | 1:2: | 2: | 3:"
+    );
+    Ok(())
+}
+
+#[test]
+fn two_lives_of_one_identifier(rt: HostRuntime) -> Result<(), Fail> {
+    let alloc = rt.alloc();
+    let members = [process(1, 1)?, process(1, 2)?];
+    assert_eq!(rt; told(alloc, &[], ring(), &members)?.as_str(), "1 Members");
     Ok(())
 }

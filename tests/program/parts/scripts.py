@@ -6,26 +6,32 @@ from harness import process
 OF_32 = ' '.join(str(number) for number in range(1, 33))
 # Scripts, what is wrong with each, and the line that is told.
 BROKEN = (
-    ('totem-script 2\nend\n', '1 Header', 1),
+    ('totem-script 3\nend\n', '1 Header', 1),
     ('totem-script 1', '8 Truncated', 1),
     ('', '8 Truncated', 1),
     ('totem-script 1\nring 4.1 1 2\nrun x\nend\n', '3 Number', 3),
     ('totem-script 1\nring 4.1 1 2\nwalk\nend\n', '2 Word', 3),
+    ('totem-script 1\nring 4.1 1\ncrash 1\nreturn 1\nend\n', '2 Word', 4),
+    ('totem-script 2\nring 4.1 1 2\nreturn x\nend\n', '3 Number', 3),
     ('totem-script 1\nend\n', '4 Order', 2),
     ('totem-script 1\nring 4.1 1 2\njoin\nring 4.3 3\nend\n', '4 Order', 4),
     ('totem-script 1\nring 4.2 1 2\nend\n', '5 Members', 2),
     ('totem-script 1\nring 4.1 1 2 2\nend\n', '5 Members', 2),
     ('totem-script 1\nring 4.1 1 2\nring 4.2 2 3\nend\n', '5 Members', 3),
     ('totem-script 1\nring 4.1 1 2\ntimer 3\nend\n', '5 Members', 3),
+    ('totem-script 2\nring 4.1 1 2\nreturn 3\nend\n', '5 Members', 3),
     ('totem-script 1\nring 4.1 1 2\ncut 1\nend\n', '5 Members', 3),
     ('totem-script 1\nring 4.1 1 2\ncut 1 2 / 1\nend\n', '5 Members', 3),
     ('totem-script 1\nring 4.1 1 2\ndrop 2\nend\n', '6 Place', 3),
     ('totem-script 1\nring 4.1 1 2\nrepeat 2\nend\n', '6 Place', 3),
+    ('totem-script 2\nring 4.1 1 2\nreturn 1\nend\n', '6 Place', 3),
+    ('totem-script 2\nring 4294967292.1 1 2\ncrash 1\nreturn 1\nend\n', '6 Place', 4),
     ('totem-script 1\nring 4.1 1 2\nend\nx', '7 End', 4),
     ('totem-script 1\nring 4.1 1 2\nend\n\n', '7 End', 4),
     ('totem-script 1\nring 4.1 1 2\nend', '8 Truncated', 3),
     ('totem-script 1\nring 4.1 1 2\njoin\n', '8 Truncated', 4),
     ('totem-script 1\nring 4.1 %s 33\nend\n' % OF_32, '9 TooMany', 2),
+    ('totem-script 2\nring 4.1 %s\ncrash 7\nreturn 7\nend\n' % OF_32, '9 TooMany', 4),
 )
 # 65,532 bytes: `join` in each line from the third on, 13,100 times.
 LONG = 'totem-script 1\nring 4.1 1 2 345\n' + 'join\n' * 13100

@@ -1,6 +1,7 @@
 //! `cut`: groups between which no packet passes.
 ghost use Rattle.std.specs.Prelude.{◌≡◌, ◌==◌, count_by, IfOk};
 ghost use Rattle.std.specs.List.{concat, list_all};
+ghost use Rattle.totem_ids.specs.Ranks.{id_of};
 ghost use Rattle.totem_script.specs.Judged.{Becomes};
 ghost use Rattle.totem_script.specs.Scenes.{parted};
 
@@ -32,11 +33,9 @@ fn times_of(procs: &[ProcId], proc: ProcId) -> usize
 
 /// Returns whether each process of the script stands there once.
 fn each_once(procs: &[ProcId], actors: &[ActorState]) -> bool
-    ensures { result ≡ list_all (λ a. count_by (λ q. q == a.proc) procs.now == 1) actors.now }
+    ensures { result ≡ list_all (λ a. count_by (λ q. q == id_of a.proc) procs.now == 1) actors.now }
 {
-    actors
-        .iter()
-        .all(|actor| times_of(procs, actor.proc()) == 1)
+    actors.iter().all(|actor| times_of(procs, actor.id()) == 1)
 }
 
 impl SceneState {

@@ -13,3 +13,6 @@ returns-in_err-join-in-3-clause-memory c = λ _. kind_is_read _ _ _ c.in_ok-u8.e
 
 pub returns-in_err-commit_token-in-4-clause-memory : goal.returns-in_err-commit_token-in-4-clause-memory
 returns-in_err-commit_token-in-4-clause-memory c = λ _. kind_is_read _ _ _ c.in_ok-u8.ensures.reads (omega (arith, c.in-4.is)) (omega (arith, c.in-4.is))
+
+pub returns-in_err-later_commit_token-in-5-clause-memory : goal.returns-in_err-later_commit_token-in-5-clause-memory
+returns-in_err-later_commit_token-in-5-clause-memory c = λ _. kind_is_read _ _ _ c.in_ok-u8.ensures.reads (omega (arith, c.in-5.is)) (omega (arith, c.in-5.is))

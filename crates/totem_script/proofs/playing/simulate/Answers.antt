@@ -6,15 +6,15 @@ pub returns-in-Err : goal.returns-in-Err
 returns-in-Err c = without_head c.args.script.now c.new-lines.result c.new-lines.ensures c.in-Err.kind c.in-Err.ensures.head
 
 pub play-requires : goal.play-requires
-play-requires c = few_behind c.args.script.now c.new-lines.result c.new-lines.ensures c.begin.new.lines c.in_default.ensures.rest
+play-requires c = few_behind c.args.script.now c.new-lines.result c.new-lines.ensures c.begin.new.lines c.in-Ok.ensures.rest
 
 pub returns-in_err-line : goal.returns-in_err-line
 returns-in_err-line c =
     let played = rw c.new-scene.ensures at c.in_err-line.ensures in
-    let fails = play_fails c.args.script.now c.new-lines.result c.new-lines.ensures c.begin.new.lines c.in_default.ensures.head c.in_default.ensures.rest c.in_err-line.field-0.0 played in
+    let fails = play_fails c.args.script.now c.new-lines.result c.new-lines.ensures c.in-Ok.version c.begin.new.lines c.in-Ok.ensures.head c.in-Ok.ensures.rest c.in_err-line.field-0.0 played in
     search (rules, fails)
 
-pub returns-in-Ok : goal.returns-in-Ok
-returns-in-Ok c =
+pub returns-in-Ok-into_run : goal.returns-in-Ok-into_run
+returns-in-Ok-into_run c =
     let played = rw c.new-scene.ensures at c.in_ok-line.ensures in
-    play_ends c.args.script.now c.new-lines.result c.new-lines.ensures c.begin.new.lines c.in_default.ensures.head c.in_default.ensures.rest c.play.new.scene c.in-Ok.run' played c.in-Ok.ensures.logs c.in-Ok.ensures.version
+    play_ends c.args.script.now c.new-lines.result c.new-lines.ensures c.in-Ok.version c.begin.new.lines c.in-Ok.ensures.head c.in-Ok.ensures.rest c.play.new.scene c.in-Ok-into_run.run' played c.in-Ok-into_run.ensures

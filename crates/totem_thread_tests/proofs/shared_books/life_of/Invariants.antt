@@ -1,8 +1,9 @@
 use Rattle.std.proofs.Common.{[], ◌∷◌}
+use Rattle.totem_recover.specs.Lives.{first_rank}
 use Rattle.totem_thread_tests.proofs.shared_books.life_of.Given as goal
 
 abbrev pub ghosts-live-L-Ledger : goal.ghosts-live-L-Ledger
 ghosts-live-L-Ledger g a = record { name = a.blank.name; parts = a.blank.parts }
 
 abbrev pub ghosts-live-L-BookName : goal.ghosts-live-L-BookName
-ghosts-live-L-BookName g a = record { me = 1; ring = record { seq = 4; rep = 1 }; members = a.members.now }
+ghosts-live-L-BookName g a = record { me = first_rank 1; ring = record { seq = 4; rep = 1 }; members = a.members.now }

@@ -1,6 +1,7 @@
-use Rattle.std.proofs.Common.{◌≡◌, map, take}
-use Rattle.totem_weave.specs.Tracks.{up_of_tracks}
+use Rattle.std.proofs.Common.{◌≡◌, map, take, zip}
+use Rattle.totem_recover.specs.Lives.{ids_of}
+use Rattle.totem_weave.specs.Tracks.{up_by}
 use Rattle.totem_weave.proofs.handing.handed_up.Given as goal
 
-abbrev pub invariant-loop-track : goal.invariant-loop-track
-invariant-loop-track l = map (λ h. (h.0, h.1.items)) l.lists.items ≡ up_of_tracks l.ring l.members (take l.track-index l.tracks)
+abbrev pub invariant-loop-place : goal.invariant-loop-place
+invariant-loop-place l = map (λ h. (h.0, h.1.items)) l.lists.items ≡ map (up_by l.ring (ids_of l.members)) (take l.place (zip l.members l.tracks))

@@ -3,4 +3,4 @@ use Rattle.totem_script.proofs.Acting.{starts}
 use Rattle.totem_script.proofs.actor.ActorState.new.Goals as goal
 
 pub returns : goal.returns
-returns c = starts _ _ _ _ c.in_ok-node.change _ (search rules) (search rules) (search rules)
+returns c = starts _ _ _ _ _ _ (search rules) (search rules) (search rules)

@@ -1,0 +1,6 @@
+use Rattle.std.proofs.Common.{◌≡◌, take}
+use Rattle.totem_packets.specs.Lives.{transitional_ranks}
+use Rattle.totem_packets.proofs.commit_members.CommitMembers.transitional_lives.Given as goal
+
+abbrev pub invariant-loop-member : goal.invariant-loop-member
+invariant-loop-member l = l.list.items ≡ transitional_ranks l.old (take l.member-index l.member-items)

@@ -1,0 +1,6 @@
+use Rattle.std.proofs.Common.{◌≡◌, take}
+use Rattle.totem_recover.specs.Lives.{ids_of}
+use Rattle.totem_recover.proofs.lives.ids_of.Given as goal
+
+abbrev pub invariant-loop-proc : goal.invariant-loop-proc
+invariant-loop-proc l = l.ids.items ≡ ids_of (take l.proc-index l.procs)

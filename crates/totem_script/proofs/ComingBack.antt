@@ -1,0 +1,75 @@
+-- A process that comes back.
+use Rattle.std.proofs.Common.{◌≡◌, ℕ, ◌<◌, ◌≤◌, ◌+◌, ◌&&◌, List, [], ◌∷◌, ◌++◌, Bool, true, false, nat_lt, nat_le, refl, ap, arith}
+use Rattle.std.proofs.lemmas.Bool.Decides.{nat_tests}
+use Rattle.totem_ids.specs.Names.{RingName}
+use Rattle.totem_ids.specs.Ranks.{id_of, life_of}
+use Rattle.totem_evs.specs.declared.entry.Entry.{Entry}
+use Rattle.totem_evs.specs.LogRecord.{LogRecord}
+use Rattle.totem_node.specs.Nodes.{Node, new_node}
+use Rattle.totem_node.specs.Replay.{first_change}
+use Rattle.totem_script.specs.Actors.{Actor, new_actor, log_of, may_return, next_life, ring_of_return, returned, procs_in, IsBelowAll, Rises, AreLives, IsHistory}
+
+-- ---- What the tests say
+
+both : (a b : Bool) → (a && b) ≡ true → (a ≡ true) × (b ≡ true)
+both true b is = (refl, is)
+both false b is = absurd (cc)
+
+-- there is a number for the next life, and one for its ring
+pub numbers_left : (a : Actor) → may_return a ≡ true → (life_of a.proc < 65535) × (a.node.seq + 4 ≤ 4294967295)
+numbers_left a may =
+    let parts = both (nat_lt (life_of a.proc) 65535) (nat_le (a.node.seq + 4) 4294967295) (both a.node.crashed (nat_lt (life_of a.proc) 65535 && nat_le (a.node.seq + 4) 4294967295) may).1 in
+    let life = parts.0 in
+    let seq = parts.1 in
+    (grind (arith, nat_tests), grind (arith, nat_tests))
+
+-- ---- The lives before
+
+same_id : (p : ℕ) → life_of p < 65535 → id_of (next_life p) ≡ id_of p
+same_id p less = omega arith
+
+later : (p : ℕ) → life_of p < 65535 → p < next_life p
+later p less = omega arith
+
+procs_more : (logs : List LogRecord) (log : LogRecord) → procs_in (logs ++ log ∷ []) ≡ procs_in logs ++ log.proc ∷ []
+procs_more [] log = refl
+procs_more (l ∷ logs) log = ap (λ ps. l.proc ∷ ps) (procs_more logs log)
+
+lives_more : (id q : ℕ) (ps : List ℕ) → AreLives id ps → id_of q ≡ id → AreLives id (ps ++ q ∷ [])
+lives_more id q [] lives is = (is, tt)
+lives_more id q (p ∷ ps) lives is = (lives.0, lives_more id q ps lives.1 is)
+
+below_more : (p q : ℕ) (ps : List ℕ) → IsBelowAll p ps → p < q → IsBelowAll p (ps ++ q ∷ [])
+below_more p q [] all less = (less, tt)
+below_more p q (r ∷ ps) all less = (all.0, below_more p q ps all.1 less)
+
+last_above : (r p : ℕ) (ps : List ℕ) → IsBelowAll r (ps ++ p ∷ []) → r < p
+last_above r p [] all = all.0
+last_above r p (s ∷ ps) all = last_above r p ps all.1
+
+-- what rises up to p rises on to what is above p
+rises_more : (p q : ℕ) (ps : List ℕ) → Rises (ps ++ p ∷ []) → p < q → Rises ((ps ++ p ∷ []) ++ q ∷ [])
+rises_more p q [] rises less = ((less, tt), (tt, tt))
+rises_more p q (r ∷ ps) rises less =
+    let above = last_above r p ps rises.0 in
+    (below_more r q (ps ++ p ∷ []) rises.0 (omega arith), rises_more p q ps rises.1 less)
+
+-- the log of the life that ended joins the earlier ones
+pub next_history : (p q : ℕ) (logs all : List LogRecord) (log : LogRecord) → IsHistory p logs → life_of p < 65535 → q ≡ next_life p → log.proc ≡ p
+    → all ≡ logs ++ log ∷ [] → IsHistory q all
+next_history p q logs all log history less next is more =
+    let procs : procs_in all ≡ procs_in logs ++ p ∷ [] = rw (more, ← is) (procs_more logs log) in
+    let id : id_of q ≡ id_of p = rw next (same_id p less) in
+    let above : p < q = rw next (later p less) in
+    record {
+      lives = rw (procs, id) (lives_more (id_of p) q (procs_in logs ++ p ∷ []) history.lives id);
+      rising = rw procs (rises_more p q (procs_in logs) history.rising above);
+    }
+
+-- ---- The process after its return
+
+pub is_back : (a : Actor) (p : ℕ) (ring : RingName) (n : Node) (log : LogRecord) (logs : List LogRecord) (entries : List Entry)
+    → p ≡ next_life a.proc → ring ≡ ring_of_return a → n ≡ new_node p ring (p ∷ []) → entries ≡ first_change ring (p ∷ []) ∷ []
+    → log ≡ log_of a → logs ≡ a.earlier ++ log ∷ [] → record { proc = p; earlier = logs; node = n; entries = entries } ≡ returned a
+unfolding returned new_actor
+is_back a p ring n log logs entries next on node wrote ended kept = rw (kept, ended, wrote, node, on, next)

@@ -1,7 +1,0 @@
-use Rattle.std.proofs.Common.{rules}
-use Rattle.totem_script.proofs.Acting.{recorded}
-use Rattle.totem_script.proofs.actor.ActorState.into_log.Goals as goal
-
-pub returns : goal.returns
-returns c =
-    rw (← c.self.view_is) (recorded _ _ _ (search rules) (search rules) c.new-in-Ok.ensures.ending)

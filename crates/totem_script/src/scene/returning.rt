@@ -1,0 +1,19 @@
+//! `return`: a process that has crashed comes back.
+ghost use Rattle.totem_script.specs.Judged.{Becomes};
+ghost use Rattle.totem_script.specs.Scenes.{brought_back};
+
+use crate::scene::SceneState;
+use crate::script_fault::ScriptFaultKind;
+use std::alloc::Global;
+use totem_ids::ProcId;
+
+impl SceneState {
+    /// Lets a process begin its next life, and puts the first token of its ring on its way to it, whatever the cut.
+    pub(super) fn bring_back(&mut self, alloc: Global, proc: ProcId) -> Result<(), ScriptFaultKind>
+        ensures { Becomes result self.new (brought_back self.old proc) }
+    {
+        let ring = self.actors.bring_back(alloc, proc)?;
+        self.put_first_token(alloc, ring)?;
+        Ok(())
+    }
+}

@@ -1,0 +1,28 @@
+-- Rising numbers, and rising identifiers of processes, by their places.
+use Rattle.std.proofs.Common.{◌≡◌, ℕ, ◌<◌, ◌≤◌, List, length, get_or, slice_get, Some, refl, ◌∙◌, arith}
+use Rattle.std.specs.List.Sorted.{IsStrictlyIncreasing}
+use Rattle.std.proofs.lemmas.List.Kept.{AllPairs-from_increasing}
+use Rattle.std.proofs.lemmas.Option.{slice_get_within, slice_get_read, get_or_from_slice_get, slice_get-map}
+use Rattle.totem_ids.specs.Ranks.{id_of}
+use Rattle.totem_recover.specs.Lives.{ids_of}
+
+-- the one in front is the lesser
+pub rises : (ns : List ℕ) (j k m n : ℕ) → IsStrictlyIncreasing ns → slice_get ns j ≡ Some m → slice_get ns k ≡ Some n → j < k → m < n
+rises ns j k m n rising at_j at_k lt =
+    let pairs = AllPairs-from_increasing ns rising in
+    let less = pairs j k 0 lt (slice_get_within ns k n at_k) in
+    let at_m : get_or ns j 0 ≡ m = get_or_from_slice_get ns j m 0 at_j in
+    let at_n : get_or ns k 0 ≡ n = get_or_from_slice_get ns k n 0 at_k in
+    omega (arith, less, at_m, at_n)
+
+pub id_at : (members : List ℕ) (k p : ℕ) → slice_get members k ≡ Some p → slice_get (ids_of members) k ≡ Some (id_of p)
+id_at members k p at = slice_get-map id_of members k ∙ rw at refl
+
+-- of rising identifiers the one behind is not the lesser or the same
+pub do_not_rise : (members : List ℕ) (j k p q : ℕ) → j < k → k < length members → p ≡ get_or members j p → q ≡ get_or members k q → id_of q ≤ id_of p
+    → IsStrictlyIncreasing (ids_of members) → ⊥
+do_not_rise members j k p q lt within at_p at_q falls rising =
+    let at_j : slice_get members j ≡ Some p = slice_get_read members (length members) j p refl (omega arith) at_p in
+    let at_k : slice_get members k ≡ Some q = slice_get_read members (length members) k q refl within at_q in
+    let less = rises (ids_of members) j k (id_of p) (id_of q) rising (id_at members j p at_j) (id_at members k q at_k) lt in
+    omega (arith, less, falls)
