@@ -29,10 +29,10 @@ fn push_certified(
 fn push_accepted(text: &mut String, accepted: &Accepted) -> Result<(), AllocError> {
     text.push_str("yes")?;
     for pending in &accepted.pending {
-        write!(text, ", pending at {}", pending.proc)?;
+        write!(text, ", pending at {}", pending.proc.id())?;
     }
     for waiting in &accepted.waiting {
-        write!(text, ", waiting for {}", waiting.other)?;
+        write!(text, ", waiting for {}", waiting.other.id())?;
     }
     Ok(())
 }
