@@ -1,11 +1,13 @@
 -- Building the stays, arrival by arrival.
-use Rattle.std.proofs.Common.{◌≡◌, ℕ, zero, suc, ◌+◌, ◌<◌, ◌≤◌, ◌⊎◌, inl, inr, List, [], ◌∷◌, ◌++◌, length, get_or, slice_get, Some, refl, sym, ◌∙◌, ap, arith, length-append}
+use Rattle.std.proofs.Common.{◌≡◌, ℕ, zero, suc, ◌+◌, ◌<◌, ◌≤◌, ◌⊎◌, inl, inr, List, [], ◌∷◌, ◌++◌, length, get_or, slice_get, Some, IsTrue, ◌↔◌, refl, sym, ◌∙◌, ap, arith, length-append}
 use Rattle.std.proofs.lemmas.Option.{slice_get-get_or, slice_get_within, get_or_from_slice_get, slice_get_cases}
 use Rattle.totem_ids.specs.declared.ring.RingId.{RingId}
 use Rattle.totem_ids.specs.declared.conf.ConfId.TheVariants.{Regular}
 use Rattle.totem_evs.specs.declared.log.Log.{Log}
-use Rattle.totem_evs.specs.Runs.{IsRun}
-use Rattle.totem_evs.specs.Events.{ChangesTo, log_of}
+use Rattle.totem_evs.specs.declared.ending.Ending.TheVariants.{Quiet}
+use Rattle.totem_evs.specs.Runs.{IsRun, IsLog}
+use Rattle.totem_evs.specs.Events.{ChangesTo, IsQuiet, log_of, ending_of}
+use Rattle.totem_evs.specs.Following.{NeverFails}
 use Rattle.totem_evs.specs.Answers.{MeetsPasses}
 use Rattle.totem_evs.proofs.LogOf.{log_of_at, log_of_cases, in_order}
 use Rattle.totem_agreement.specs.declared.arrival.Arrival.{Arrival}
@@ -13,6 +15,7 @@ use Rattle.totem_agreement.specs.declared.stay.Stay.{Stay}
 use Rattle.totem_agreement.specs.Arrivals.{IsArrival, AreArrivals}
 use Rattle.totem_agreement.specs.Stays.{AreNextTwo, IsStay, IsStayOf, HasStay, AreStays}
 use Rattle.totem_agreement.proofs.Staying.{is_stay}
+use Rattle.totem_agreement.proofs.Excusing.{ending_of_at, quiet_never_fails}
 use Rattle.totem_agreement.proofs.Known.{keeps_rules}
 
 -- the stay is the one that begins at this change
@@ -60,8 +63,8 @@ one_more_stay run c arrivals stays n a s listed here before = record {
 
 -- the stay that begins at a change to c
 pub stay_at : (run : List Log) (c : RingId) (arrivals : List Arrival) (n : ℕ) (a : Arrival) (log : Log) (s : Stay) → MeetsPasses run → IsRun run → AreArrivals run c arrivals → slice_get arrivals n ≡ Some a
-    → slice_get run a.log ≡ Some log → s.proc ≡ log.proc → s.log.now ≡ log.entries → s.from ≡ a.at → AreNextTwo log.entries a.at s.turn s.end → IsStayAt run c a s
-stay_at run c arrivals n a log s meets is_run are listed stands proc entries from two = record { log = log; stands = stands; proc = proc; is = record { log = logs; few = few; is = is } }
+    → slice_get run a.log ≡ Some log → s.proc ≡ log.proc → s.log.now ≡ log.entries → IsTrue s.quiet ↔ (log.ending ≡ Quiet) → s.from ≡ a.at → AreNextTwo log.entries a.at s.turn s.end → IsStayAt run c a s
+stay_at run c arrivals n a log s meets is_run are listed stands proc entries tells from two = record { log = log; stands = stands; proc = proc; is = record { log = logs; few = few; quiet = quiet; unfailed = unfailed; is = is } }
   where
     arrival : IsArrival run c a
     arrival = rw (get_or_from_slice_get arrivals n a a listed) at (are.each n a (slice_get_within arrivals n a listed))
@@ -72,11 +75,23 @@ stay_at run c arrivals n a log s meets is_run are listed stands proc entries fro
     own : log.entries ≡ log_of run log.proc
     own = sym (log_of_at run a.log log is_run.rising stands)
 
+    kept : IsLog log
+    kept = rw (get_or_from_slice_get run a.log log log stands) at (is_run.each a.log log (slice_get_within run a.log log stands))
+
     logs : s.log.now ≡ log_of run s.proc
     logs = entries ∙ own ∙ ap (λ p. log_of run p) (sym proc)
 
     few : length s.log.now ≤ 1000000
-    few = rw entries (rw (get_or_from_slice_get run a.log log log stands) at (is_run.each a.log log (slice_get_within run a.log log stands)).entries.few)
+    few = rw entries kept.entries.few
+
+    ending : ending_of run s.proc ≡ log.ending
+    ending = rw proc (ending_of_at run a.log log is_run.rising stands)
+
+    quiet : IsTrue s.quiet ↔ IsQuiet run s.proc
+    quiet = (λ t. ending ∙ tells.0 t, λ q. tells.1 (sym ending ∙ q))
+
+    unfailed : IsTrue s.quiet → NeverFails s.log.now
+    unfailed t = rw entries (quiet_never_fails log.entries log.ending (rw (← entries, logs) (meets.placed s.proc)) kept.ending (tells.0 t))
 
     is : IsStay s.log.now c s.from s.turn s.end
     is = is_stay s.log.now c s.from s.turn s.end (rw logs (keeps_rules run s.proc meets)) (record { change = rw (entries, from, ← same) arrival.change; two = rw (entries, from) two })

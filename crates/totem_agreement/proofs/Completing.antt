@@ -90,7 +90,7 @@ none_pending run c stays x facts complete pending = pending.missing (rw has.proc
     sent = sent_there run c stays x.msg facts complete pending.sent
 
     has : HasStay stays x.proc
-    has = let came = came_to (log_of run x.proc) c pending.still_open in facts.whole x.proc came.0 came.1
+    has = let came = came_to (log_of run x.proc) c pending.still_open.1 in facts.whole x.proc came.0 came.1
 
     known : StayFacts run c has.stay
     known = facts.each has.stay (record { at = has.at; stands = has.stands })

@@ -1,5 +1,6 @@
 -- What stands in a log, or does not.
-use Rattle.std.proofs.Common.{◌≡◌, ℕ, ◌<◌, ◌⊎◌, inl, inr, List, [], ◌∷◌, slice_get, Some, refl, ap, arith}
+use Rattle.std.proofs.Common.{◌≡◌, ℕ, zero, suc, ◌<◌, ◌⊎◌, inl, inr, List, [], ◌∷◌, length, get_or, slice_get, Some, refl, ap, arith}
+use Rattle.std.proofs.lemmas.Bool.{cases_eq}
 use Rattle.totem_ids.specs.declared.ring.RingId.{RingId}
 use Rattle.totem_ids.specs.declared.conf.ConfId.{ConfId}
 use Rattle.totem_ids.specs.declared.message.MsgId.{MsgId}
@@ -8,8 +9,13 @@ use Rattle.totem_ids.specs.declared.message.Service.TheVariants.{Agreed, Safe}
 use Rattle.totem_evs.specs.declared.entry.Entry.{Entry}
 use Rattle.totem_evs.specs.declared.entry.Entry.TheVariants.{Conf, Send, Deliver, Fail}
 use Rattle.totem_evs.specs.Runs.{IsFailure}
-use Rattle.totem_evs.specs.Events.{ChangesTo, Delivers}
-use Rattle.totem_evs.specs.Following.{Com, DeliversIn, HasDelivered, NeverFails, FailedIn, OpenIn, DeliversOrEnds}
+use Rattle.totem_evs.specs.declared.log.Log.{Log}
+use Rattle.totem_evs.specs.declared.ending.Ending.{Ending}
+use Rattle.totem_evs.specs.declared.ending.Ending.TheVariants.{Standing, Failed, Quiet}
+use Rattle.totem_evs.specs.Events.{ChangesTo, Delivers, IsQuiet, log_of, ending_of}
+use Rattle.totem_evs.specs.Following.{Com, DeliversIn, HasDelivered, NeverFails, LastChange, FailedIn, StaysIn, OpenIn, DeliversOrEnds}
+use Rattle.totem_evs.specs.Changes.{SharesEnd}
+use Rattle.totem_evs.specs.Missing.{HasLog}
 use Rattle.totem_evs.proofs.LogOf.{less_or_not}
 use Rattle.totem_passes.proofs.Decisions.{same_list_or_not}
 use Rattle.totem_passes.proofs.SentOrNot.{first_or_none, same_conf_or_not, same_message_or_not, change_to_or_not, change_of, IsAnyChange, any_change_or_not, in_or_not}
@@ -19,6 +25,16 @@ pub both_or_not : {A B : Type 0} → A ⊎ (A → ⊥) → B ⊎ (B → ⊥) →
 both_or_not (inl a) (inl b) = inl (a, b)
 both_or_not (inl a) (inr never) = inr (λ h. never h.1)
 both_or_not (inr never) b = inr (λ h. never h.0)
+
+-- one of them holds, or neither
+one_or_not : {A B : Type 0} → A ⊎ (A → ⊥) → B ⊎ (B → ⊥) → (A ⊎ B) ⊎ (A ⊎ B → ⊥)
+one_or_not (inl a) b = inl (inl a)
+one_or_not (inr never) (inl b) = inl (inr b)
+one_or_not (inr never) (inr none) = inr (λ h. elim h [ inl a ↦ never a | inr b ↦ none b ])
+
+denied_or_not : {A : Type 0} → A ⊎ (A → ⊥) → (A → ⊥) ⊎ ((A → ⊥) → ⊥)
+denied_or_not (inl a) = inr (λ never. never a)
+denied_or_not (inr never) = inl never
 
 pub below_or_not : (a b : ℕ) → (a < b) ⊎ (a < b → ⊥)
 below_or_not a b = elim (less_or_not a b) [
@@ -195,27 +211,27 @@ none_after_or_not log i = elim (first_or_none log (λ k e. (i < k) × IsAnyChang
   | inr none ↦ inl (record { none = λ k e lt at h. none k e at (lt, h) })
 ]
 
--- the last change, to c or to what follows it
-IsLastIn : List Entry → RingId → ℕ → Entry → Type 0
-IsLastIn log c i (Conf y ms) = Com log c y × NoneAfter log i
-IsLastIn log c i (Send n y s) = ⊥
-IsLastIn log c i (Deliver n y) = ⊥
-IsLastIn log c i (Fail y) = ⊥
+-- the last change, to one of which P holds
+IsLastWhere : (ConfId → Type 0) → List Entry → ℕ → Entry → Type 0
+IsLastWhere P log i (Conf y ms) = P y × NoneAfter log i
+IsLastWhere P log i (Send n y s) = ⊥
+IsLastWhere P log i (Deliver n y) = ⊥
+IsLastWhere P log i (Fail y) = ⊥
 
-last_in_or_not : (log : List Entry) (c : RingId) (i : ℕ) (e : Entry) → IsLastIn log c i e ⊎ (IsLastIn log c i e → ⊥)
-unfolding IsLastIn
-last_in_or_not log c i (Conf y ms) = both_or_not (in_or_not log c y) (none_after_or_not log i)
-last_in_or_not log c i (Send n y s) = inr (λ h. h)
-last_in_or_not log c i (Deliver n y) = inr (λ h. h)
-last_in_or_not log c i (Fail y) = inr (λ h. h)
+is_last_or_not : (P : ConfId → Type 0) (log : List Entry) → ((y : ConfId) → P y ⊎ (P y → ⊥)) → (i : ℕ) (e : Entry) → IsLastWhere P log i e ⊎ (IsLastWhere P log i e → ⊥)
+unfolding IsLastWhere
+is_last_or_not P log decide i (Conf y ms) = both_or_not (decide y) (none_after_or_not log i)
+is_last_or_not P log decide i (Send n y s) = inr (λ h. h)
+is_last_or_not P log decide i (Deliver n y) = inr (λ h. h)
+is_last_or_not P log decide i (Fail y) = inr (λ h. h)
 
-open_here : (log : List Entry) (c : RingId) (i : ℕ) (e : Entry) → slice_get log i ≡ Some e → IsLastIn log c i e → NeverFails log → OpenIn log c
-unfolding IsLastIn
-open_here log c i (Conf y ms) at (inside, after) never =
-    (y, never, record { index = i; change = (ms, at); none_after = λ k lt (x, (ns, h)). after.none k (Conf x ns) lt h tt }, inside)
-open_here log c i (Send n y s) at h never = absurd h
-open_here log c i (Deliver n y) at h never = absurd h
-open_here log c i (Fail y) at h never = absurd h
+last_here : (P : ConfId → Type 0) (log : List Entry) (i : ℕ) (e : Entry) → slice_get log i ≡ Some e → IsLastWhere P log i e → (d : ConfId) × LastChange log d × P d
+unfolding IsLastWhere
+last_here P log i (Conf y ms) at (holds, after) =
+    (y, record { index = i; change = (ms, at); none_after = λ k lt (x, (ns, h)). after.none k (Conf x ns) lt h tt }, holds)
+last_here P log i (Send n y s) at h = absurd h
+last_here P log i (Deliver n y) at h = absurd h
+last_here P log i (Fail y) at h = absurd h
 
 none_after : (log : List Entry) (i : ℕ) → ((k : ℕ) → i < k → (x : ConfId) (ms : List ℕ) → slice_get log k ≡ Some (Conf x ms) → ⊥) → NoneAfter log i
 none_after log i never = record { none = λ k e lt at h. go k e lt at h }
@@ -226,31 +242,71 @@ none_after log i never = record { none = λ k e lt at h. go k e lt at h }
     go k (Deliver n y) lt at h = h
     go k (Fail y) lt at h = h
 
-pub open_in_or_not : (log : List Entry) (c : RingId) → OpenIn log c ⊎ (OpenIn log c → ⊥)
-unfolding IsLastIn
-open_in_or_not log c = elim (never_fails_or_not log) [
+last_or_not : (P : ConfId → Type 0) (log : List Entry) → ((y : ConfId) → P y ⊎ (P y → ⊥)) → ((d : ConfId) × LastChange log d × P d) ⊎ ((d : ConfId) → LastChange log d → P d → ⊥)
+unfolding IsLastWhere
+last_or_not P log decide = elim (first_or_none log (λ i e. IsLastWhere P log i e) (λ i e. is_last_or_not P log decide i e)) [
+  | inl found ↦ inl (last_here P log found.index found.entry found.at found.has)
+  | inr none ↦ inr (λ d last holds.
+      none last.index (Conf d last.change.0) last.change.1 (holds, none_after log last.index (λ k lt x ms at. last.none_after k lt (x, (ms, at)))))
+]
+
+stays_in_or_not : (log : List Entry) (c : RingId) → StaysIn log c ⊎ (StaysIn log c → ⊥)
+stays_in_or_not log c = elim (never_fails_or_not log) [
   | inr fails ↦ inr (λ (d, never, last, inside). fails never)
-  | inl never ↦ elim (first_or_none log (λ i e. IsLastIn log c i e) (λ i e. last_in_or_not log c i e)) [
-    | inl found ↦ inl (open_here log c found.index found.entry found.at found.has never)
-    | inr none ↦ inr (λ (d, never', last, inside).
-        none last.index (Conf d last.change.0) last.change.1 (inside, none_after log last.index (λ k lt x ms at. last.none_after k lt (x, (ms, at)))))
+  | inl never ↦ elim (last_or_not (λ d. Com log c d) log (λ d. in_or_not log c d)) [
+    | inl (d, last, inside) ↦ inl (d, never, last, inside)
+    | inr none ↦ inr (λ (d, never', last, inside). none d last inside)
   ]
 ]
 
-pub ends_or_not : (log : List Entry) (c : RingId) → (FailedIn log c ⊎ OpenIn log c) ⊎ (FailedIn log c ⊎ OpenIn log c → ⊥)
-ends_or_not log c = elim (failed_in_or_not log c) [
-  | inl failed ↦ inl (inl failed)
-  | inr not_failed ↦ elim (open_in_or_not log c) [
-    | inl opened ↦ inl (inr opened)
-    | inr not_open ↦ inr (λ h. elim h [ inl failed ↦ not_failed failed | inr opened ↦ not_open opened ])
+-- ---- quiet logs
+
+quiet_or_not : (ending : Ending) → (ending ≡ Quiet) ⊎ (ending ≡ Quiet → ⊥)
+quiet_or_not Standing = inr (λ e. cc)
+quiet_or_not Failed = inr (λ e. cc)
+quiet_or_not Quiet = inl refl
+
+pub is_quiet_or_not : (run : List Log) (p : ℕ) → IsQuiet run p ⊎ (IsQuiet run p → ⊥)
+is_quiet_or_not run p = quiet_or_not (ending_of run p)
+
+open_in_or_not : (run : List Log) (p : ℕ) (c : RingId) → OpenIn run p c ⊎ (OpenIn run p c → ⊥)
+open_in_or_not run p c = both_or_not (denied_or_not (is_quiet_or_not run p)) (stays_in_or_not (log_of run p) c)
+
+ends_or_not : (run : List Log) (p : ℕ) (c : RingId) → (FailedIn (log_of run p) c ⊎ OpenIn run p c) ⊎ (FailedIn (log_of run p) c ⊎ OpenIn run p c → ⊥)
+ends_or_not run p c = one_or_not (failed_in_or_not (log_of run p) c) (open_in_or_not run p c)
+
+pub delivers_or_ends_or_not : (run : List Log) (p : ℕ) (c : RingId) (m : MsgId) → DeliversOrEnds run p c m ⊎ (DeliversOrEnds run p c m → ⊥)
+delivers_or_ends_or_not run p c m = one_or_not (has_delivered_or_not (log_of run p) c m) (ends_or_not run p c)
+
+has_log_or_not : (run : List Log) (p : ℕ) → HasLog run p ⊎ (HasLog run p → ⊥)
+has_log_or_not [] p = inr (λ h. omega (arith, h.2))
+has_log_or_not (log ∷ logs) p = elim (cases_eq log.proc p) [
+  | inl same ↦ inl (0, log, omega arith, refl, same)
+  | inr other ↦ elim (has_log_or_not logs p) [
+    | inl h ↦ inl (suc h.0, h.1, omega (arith, h.2), h.3, h.4)
+    | inr none ↦ inr (λ (k, l, lt, is, same). beyond other none k l lt is same)
   ]
+]
+  where
+    beyond : (log.proc ≡ p → ⊥) → (HasLog logs p → ⊥) → (k : ℕ) (l : Log) → k < length (log ∷ logs) → get_or (log ∷ logs) k l ≡ l → l.proc ≡ p → ⊥
+    beyond other none zero l lt is same = other (rw is same)
+    beyond other none (suc k) l lt is same = none (k, l, omega arith, is, same)
+
+last_change_or_not : (log : List Entry) (x : ConfId) → LastChange log x ⊎ (LastChange log x → ⊥)
+last_change_or_not log x = elim (last_or_not (λ d. d ≡ x) log (λ d. same_conf_or_not d x)) [
+  | inl (d, last, same) ↦ inl (rw same at last)
+  | inr none ↦ inr (λ last. none x last refl)
 ]
 
-pub delivers_or_ends_or_not : (log : List Entry) (c : RingId) (m : MsgId) → DeliversOrEnds log c m ⊎ (DeliversOrEnds log c m → ⊥)
-delivers_or_ends_or_not log c m = elim (has_delivered_or_not log c m) [
-  | inl delivered ↦ inl (inl delivered)
-  | inr not_delivered ↦ elim (ends_or_not log c) [
-    | inl ends ↦ inl (inr ends)
-    | inr goes_on ↦ inr (λ h. elim h [ inl delivered ↦ not_delivered delivered | inr ends ↦ goes_on ends ])
-  ]
+never_changes_or_not : (log : List Entry) (x : ConfId) → ((k : ℕ) → ChangesTo log k x → ⊥) ⊎ (((k : ℕ) → ChangesTo log k x → ⊥) → ⊥)
+never_changes_or_not log x = elim (changes_or_not log x) [ inl found ↦ inr (λ never. never found.0 found.1) | inr none ↦ inl none ]
+
+pub shares_end_or_not : (run : List Log) (x : ConfId) (q : ℕ) → SharesEnd run x q ⊎ (SharesEnd run x q → ⊥)
+shares_end_or_not run x q = elim (both_or_not (has_log_or_not run q) (both_or_not (never_fails_or_not (log_of run q)) ends)) [
+  | inl h ↦ inl (record { has_log = h.0; goes_on = h.1.0; ends = h.1.1 })
+  | inr never ↦ inr (λ s. never (s.has_log, (s.goes_on, s.ends)))
 ]
+  where
+    ends : (LastChange (log_of run q) x ⊎ ((IsQuiet run q → ⊥) × ((k : ℕ) → ChangesTo (log_of run q) k x → ⊥)))
+        ⊎ (LastChange (log_of run q) x ⊎ ((IsQuiet run q → ⊥) × ((k : ℕ) → ChangesTo (log_of run q) k x → ⊥)) → ⊥)
+    ends = one_or_not (last_change_or_not (log_of run q) x) (both_or_not (denied_or_not (is_quiet_or_not run q)) (never_changes_or_not (log_of run q) x))

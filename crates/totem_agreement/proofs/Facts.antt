@@ -15,7 +15,7 @@ use Rattle.totem_evs.proofs.LogOf.{less_or_not}
 use Rattle.totem_passes.proofs.Sent.{same_first}
 use Rattle.totem_passes.proofs.SentOrNot.{one_next}
 use Rattle.totem_agreement.specs.declared.stay.Stay.{Stay}
-use Rattle.totem_agreement.specs.Stays.{IsStay, HasStay, AreStays}
+use Rattle.totem_agreement.specs.Stays.{IsStay, IsStayOf, HasStay, AreStays}
 use Rattle.totem_agreement.specs.Acts.{IsAmong, DeliversHere}
 use Rattle.totem_agreement.specs.Search.{IsInside}
 use Rattle.totem_agreement.proofs.Staying.{names_no_change, same_change}
@@ -31,6 +31,7 @@ pub record StandsInside (stays : List Stay) (p i : ℕ) : Type 0 where
 
 -- what is known of a stay
 pub record StayFacts (run : List Log) (c : RingId) (stay : Stay) : Type 0 where
+  pub of : IsStayOf run c stay
   pub log : stay.log.now ≡ log_of run stay.proc
   pub before : stay.from < stay.turn
   pub until : stay.turn ≤ stay.end
@@ -112,6 +113,7 @@ stay_facts run c stays stay meets are among =
     let of = stay_of run c stays stay are among in
     let is : IsStay (log_of run stay.proc) c stay.from stay.turn stay.end = rw of.log at of.is in
     record {
+      of = of;
       log = of.log;
       before = is.before;
       until = is.until;

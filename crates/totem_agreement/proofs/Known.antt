@@ -1,5 +1,5 @@
 -- What the type of the stays keeps holds of them.
-use Rattle.std.proofs.Common.{◌≡◌, ℕ, zero, suc, ◌<◌, ◌≤◌, ◌⊎◌, inl, inr, List, [], ◌∷◌, length, get_or, slice_get, Some, refl, arith}
+use Rattle.std.proofs.Common.{◌≡◌, ℕ, zero, suc, ◌<◌, ◌≤◌, ◌⊎◌, inl, inr, List, [], ◌∷◌, length, get_or, slice_get, Some, Bool, true, false, IsTrue, refl, arith}
 use Rattle.std.proofs.lemmas.Bool.{cases_eq}
 use Rattle.std.proofs.lemmas.Grind.{not_there}
 use Rattle.std.proofs.lemmas.Option.{slice_get_within, get_or_from_slice_get}
@@ -19,7 +19,7 @@ use Rattle.totem_passes.proofs.SentOrNot.{first_or_none, transitional_or_not, ch
 use Rattle.totem_agreement.specs.declared.stay.Stay.{Stay}
 use Rattle.totem_agreement.specs.Stays.{IsNextOrEnd, IsStay, IsStayOf, HasStay, AreStays}
 use Rattle.totem_agreement.specs.Acts.{IsAmong}
-use Rattle.totem_agreement.proofs.Deciding.{both_or_not, below_or_not, same_log_or_not}
+use Rattle.totem_agreement.proofs.Deciding.{both_or_not, below_or_not, same_log_or_not, is_quiet_or_not, shares_end_or_not}
 use Rattle.totem_agreement.proofs.Staying.{KeepsRules, Bounds, is_stay}
 
 -- what is decided, and follows from what is known, holds
@@ -105,6 +105,7 @@ pub meets : (run : List Log) → ∥ MeetsPasses run ∥₁ → MeetsPasses run
 meets run known = record {
   sent = λ p i m d at. recovered known (sent_or_not run (log_of run p) m d) (λ h. h.sent p i m d at);
   once = once run known;
+  together = λ p i x ms q quiet last here. recovered known (shares_end_or_not run x q) (λ h. h.together p i x ms q quiet last here);
   placed = placed run known;
   one = one run known;
   turns = record {
@@ -179,10 +180,19 @@ known_bounds log c from turn end known of = record {
   };
 }
 
+true_or_not : (b : Bool) → IsTrue b ⊎ (IsTrue b → ⊥)
+true_or_not true = inl refl
+true_or_not false = inr (λ t. cc)
+
 known_stay : {K : Type 0} (run : List Log) (c : RingId) (stay : Stay) → MeetsPasses run → ∥ K ∥₁ → (K → IsStayOf run c stay) → IsStayOf run c stay
 known_stay run c stay m known of = record {
   log = log;
   few = recovered known (le_or_not (length stay.log.now) 1000000) (λ k. (of k).few);
+  quiet = (
+    λ t. recovered known (is_quiet_or_not run stay.proc) (λ k. (of k).quiet.0 t),
+    λ q. recovered known (true_or_not stay.quiet) (λ k. (of k).quiet.1 q),
+  );
+  unfailed = λ t i x fails. not_there known (λ k. (of k).unfailed t i x fails);
   is = is_stay stay.log.now c stay.from stay.turn stay.end (rw log (keeps_rules run stay.proc m))
       (known_bounds stay.log.now c stay.from stay.turn stay.end known (λ k. bounds_of stay.log.now c stay.from stay.turn stay.end (of k).is));
 }

@@ -1,5 +1,6 @@
 pub mod Deciding
 pub mod Staying
+pub mod Excusing
 pub mod Known
 pub mod Building
 pub mod Looking

@@ -17,33 +17,31 @@ use Rattle.totem_evs.specs.declared.log.Log.{Log}
 use Rattle.totem_evs.specs.declared.pending.Pending.{Pending}
 use Rattle.totem_evs.specs.Events.{log_of, ChangesTo, WasSentIn}
 use Rattle.totem_evs.specs.Changes.{Names}
-use Rattle.totem_evs.specs.Following.{OpenIn, FailedIn, Com}
+use Rattle.totem_evs.specs.Following.{StaysIn, OpenIn, FailedIn, Com}
 use Rattle.totem_evs.specs.Unsettled.{IsPending}
 use Rattle.totem_evs.specs.Answers.{MeetsPasses, AreRings}
 use Rattle.totem_evs.proofs.LogOf.{less_or_not}
 use Rattle.totem_evs.proofs.Originating.{sent_in}
 use Rattle.totem_agreement.specs.declared.stay.Stay.{Stay}
-use Rattle.totem_agreement.specs.Stays.{TurnsAt, IsStayOf, HasStay, AreStays}
+use Rattle.totem_agreement.specs.Stays.{TurnsAt, IsExcused, IsStayOf, HasStay, AreStays}
 use Rattle.totem_agreement.specs.Acts.{IsAmong, DeliversHere, DeliversNot}
 use Rattle.totem_agreement.specs.Endings.{HasFailed, GoesOn}
 use Rattle.totem_agreement.specs.Pendings.{Adds, MissesAt, MissesNothingAt, MissesFrom, Misses, IsPendingIn}
+use Rattle.totem_agreement.proofs.Excusing.{excused, not_excused}
 use Rattle.totem_agreement.proofs.Adding.{Between, adds_nothing, adds_alike}
 
 -- ---- whether a process is open
 
-pub open_last : (run : List Log) (c : RingId) (stay : Stay) (b : Bool) → IsStayOf run c stay → stay.end ≡ length stay.log.now → OnTrue b (HasFailed stay.log.now) → OnFalse b (GoesOn stay.log.now) → IsTrue (not b) ↔ OpenIn stay.log.now c
-open_last run c stay true is end failed on = (λ t. absurd cc, λ h. absurd (h.1 failed.index failed.conf failed.fails))
-open_last run c stay false is end failed on = (λ t. open_one (is.is.ends end), λ h. refl)
+pub excused_open : (run : List Log) (c : RingId) (stay : Stay) (b : Bool) → IsStayOf run c stay → IsExcused stay → OnTrue b (HasFailed stay.log.now) → OnFalse b (GoesOn stay.log.now) → IsTrue (not b) ↔ OpenIn run stay.proc c
+excused_open run c stay true is e failed on = (λ t. absurd cc, λ (loud, (d, never, last, inside)). absurd (never failed.index failed.conf (rw is.log at failed.fails)))
+excused_open run c stay false is e failed on = (λ t. open_one (excused run c stay is e), λ h. refl)
   where
-    open_one : FailedIn stay.log.now c ⊎ OpenIn stay.log.now c → OpenIn stay.log.now c
+    open_one : FailedIn (log_of run stay.proc) c ⊎ OpenIn run stay.proc c → OpenIn run stay.proc c
     open_one (inr h) = h
-    open_one (inl (i, d, fails, inside)) = absurd (on.never i d fails)
+    open_one (inl (i, d, fails, inside)) = absurd (on.never i d (rw is.log fails))
 
-pub not_last : (run : List Log) (c : RingId) (stay : Stay) (b : Bool) → IsStayOf run c stay → b ≡ false → IsTrue b ↔ (stay.end ≡ length stay.log.now) → IsTrue b ↔ OpenIn stay.log.now c
-not_last run c stay b is e decides = (λ t. absurd cc, λ h. absurd (is.is.goes_on (let never : (stay.end ≡ length stay.log.now) → ⊥ = (λ same. let t = decides.1 same in cc) in let le = is.is.within in under stay.end (length stay.log.now) le never) (inr h)))
-  where
-    under : (a n : ℕ) → a ≤ n → (a ≡ n → ⊥) → a < n
-    under a n le never = elim (less_or_not a n) [ inl lt ↦ lt | inr rest ↦ elim rest [ inl over ↦ absurd (omega arith) | inr same ↦ absurd (never same) ] ]
+pub not_excused_open : (run : List Log) (c : RingId) (stay : Stay) (b : Bool) → IsStayOf run c stay → b ≡ false → IsTrue b ↔ IsExcused stay → IsTrue b ↔ OpenIn run stay.proc c
+not_excused_open run c stay b is is_false decides = (λ t. absurd cc, λ h. absurd (not_excused run c stay is (λ e. let t = decides.1 e in cc) (inr h)))
 
 -- ---- one entry
 
@@ -170,24 +168,24 @@ all_senders cmp run c stays stay n s t meets are is end h = adds_alike cmp (Betw
 pub record MissesIn (run : List Log) (c : RingId) (stays : List Stay) (k : ℕ) (x : Pending) : Type 0 where
   pub stay : Stay
   pub stands : slice_get stays k ≡ Some stay
-  pub still_open : OpenIn stay.log.now c
+  pub still_open : OpenIn run stay.proc c
   pub misses : Misses run c stay x
 
-pub of_one_stay : (cmp : Pending → Pending → Ordering) (run : List Log) (c : RingId) (stays : List Stay) (stay : Stay) (k : ℕ) (s t : BTreeSet Pending) → slice_get stays k ≡ Some stay → OpenIn stay.log.now c → Adds cmp (Misses run c stay) s t → Adds cmp (MissesIn run c stays k) s t
+pub of_one_stay : (cmp : Pending → Pending → Ordering) (run : List Log) (c : RingId) (stays : List Stay) (stay : Stay) (k : ℕ) (s t : BTreeSet Pending) → slice_get stays k ≡ Some stay → OpenIn run stay.proc c → Adds cmp (Misses run c stay) s t → Adds cmp (MissesIn run c stays k) s t
 of_one_stay cmp run c stays stay k s t at is_open h = adds_alike cmp (Misses run c stay) (MissesIn run c stays k) s t
     (λ x m. record { stay = stay; stands = at; still_open = is_open; misses = m }) (λ x m. other x m) h
   where
     other : (x : Pending) → MissesIn run c stays k x → Misses run c stay x
     other x m = (let same : m.stay ≡ stay = (let e : Some m.stay ≡ Some stay = sym m.stands ∙ at in cc) in rw same at m.misses)
 
-pub not_open : (cmp : Pending → Pending → Ordering) (run : List Log) (c : RingId) (stays : List Stay) (stay : Stay) (k : ℕ) (s : BTreeSet Pending) → slice_get stays k ≡ Some stay → (OpenIn stay.log.now c → ⊥) → Adds cmp (MissesIn run c stays k) s s
+pub not_open : (cmp : Pending → Pending → Ordering) (run : List Log) (c : RingId) (stays : List Stay) (stay : Stay) (k : ℕ) (s : BTreeSet Pending) → slice_get stays k ≡ Some stay → (OpenIn run stay.proc c → ⊥) → Adds cmp (MissesIn run c stays k) s s
 not_open cmp run c stays stay k s at closed = adds_nothing cmp (MissesIn run c stays k) s (λ x m. closed (other x m))
   where
-    other : (x : Pending) → MissesIn run c stays k x → OpenIn stay.log.now c
+    other : (x : Pending) → MissesIn run c stays k x → OpenIn run stay.proc c
     other x m = (let same : m.stay ≡ stay = (let e : Some m.stay ≡ Some stay = sym m.stands ∙ at in cc) in rw same at m.still_open)
 
--- who is open in c has changed to it
-pub came_to : (log : List Entry) (c : RingId) → OpenIn log c → (i : ℕ) × ChangesTo log i (Regular c)
+-- a log that stays in c has changed to it
+pub came_to : (log : List Entry) (c : RingId) → StaysIn log c → (i : ℕ) × ChangesTo log i (Regular c)
 came_to log c (d, never, last, inl is) = (last.index, rw is at last.change)
 came_to log c (d, never, last, inr follows) = (follows.from, follows.first.change)
 
@@ -199,7 +197,7 @@ all_stays cmp run c stays n s t are is end h = adds_alike cmp (Between (MissesIn
     to x k m =
         let of = is m.stay (record { at = k; stands = m.stands }) in
         let logs : m.stay.log.now ≡ log_of run x.proc = of.log ∙ ap (λ (p : ℕ). log_of run p) (sym m.misses.proc) in
-        record { sent = m.misses.sent; still_open = rw logs at m.still_open; missing = rw logs at m.misses.missing }
+        record { sent = m.misses.sent; still_open = rw m.misses.proc m.still_open; missing = rw logs at m.misses.missing }
 
     from_stay : (x : Pending) → IsPendingIn run c x → HasStay stays x.proc → Between (MissesIn run c stays) 0 n x
     from_stay x m has =
@@ -209,11 +207,11 @@ all_stays cmp run c stays n s t are is end h = adds_alike cmp (Between (MissesIn
           index = has.at;
           from = omega arith;
           below = (let lt = slice_get_within stays has.at has.stay has.stands in omega arith);
-          holds = record { stay = has.stay; stands = has.stands; still_open = rw logs at m.still_open; misses = record { sent = m.sent; missing = rw logs at m.missing; proc = sym has.proc } };
+          holds = record { stay = has.stay; stands = has.stands; still_open = rw has.proc m.still_open; misses = record { sent = m.sent; missing = rw logs at m.missing; proc = sym has.proc } };
         }
 
     from : (x : Pending) → IsPendingIn run c x → Between (MissesIn run c stays) 0 n x
-    from x m = (let came = came_to (log_of run x.proc) c m.still_open in from_stay x m (are.whole x.proc came.0 came.1))
+    from x m = (let came = came_to (log_of run x.proc) c m.still_open.1 in from_stay x m (are.whole x.proc came.0 came.1))
 
 -- ---- all rings
 
@@ -251,7 +249,7 @@ all_rings cmp run rings n s t are end empty h = record { each = λ x. (λ has. e
     }
 
     from : (x : Pending) → IsPending run x.proc x.msg → Between (PendingAt run rings) 0 n x
-    from x p = (let came = came_to (log_of run x.proc) p.ring p.still_open in at_index x p ((are.exact p.ring).1 (record { proc = x.proc; index = came.0; change = came.1 })))
+    from x p = (let came = came_to (log_of run x.proc) p.ring p.still_open.1 in at_index x p ((are.exact p.ring).1 (record { proc = x.proc; index = came.0; change = came.1 })))
 
 pub none_of_ring : (cmp : Pending → Pending → Ordering) (run : List Log) (rings : List RingId) (c ring : RingId) (k : ℕ) (s : BTreeSet Pending) → slice_get rings k ≡ Some ring → c ≡ ring → ((x : Pending) → IsPendingIn run c x → ⊥) → Adds cmp (PendingAt run rings k) s s
 none_of_ring cmp run rings c ring k s at is never = of_one_ring cmp run run rings c ring k s s at refl is (adds_nothing cmp (IsPendingIn run c) s never)

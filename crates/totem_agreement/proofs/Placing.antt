@@ -17,11 +17,13 @@ use Rattle.totem_agreement.specs.declared.stay.Stay.{Stay}
 use Rattle.totem_agreement.specs.declared.replay.Sent.{Sent}
 use Rattle.totem_agreement.specs.declared.replay.Replay.{Replay}
 use Rattle.totem_agreement.specs.Acts.{IsAmong, DeliversHere}
+use Rattle.totem_agreement.specs.Stays.{IsExcused}
 use Rattle.totem_agreement.specs.Search.{IsInside}
 use Rattle.totem_agreement.specs.declared.origins.Origin.{Origin}
 use Rattle.totem_agreement.specs.Uniform.{rank, HasPlace, IsPlaceOf, IsReplay, IsOrigin, IsTurnMember}
 use Rattle.totem_agreement.specs.Owed.{IsSettledBy, IsUniform}
 use Rattle.totem_agreement.proofs.Ranks.{nth, rank_below, rank_rises}
+use Rattle.totem_agreement.proofs.Excusing.{excused}
 use Rattle.totem_agreement.proofs.Facts.{Facts, StayFacts, here_delivers}
 
 -- ---- places
@@ -144,14 +146,8 @@ uniform_stay_of run c stays uniform p i d facts names belongs =
 pub stay_where : (run : List Log) (c : RingId) (stays : List Stay) (uniform : IsUniform stays) (p i : ℕ) (m : MsgId) → Facts run c stays → DeliversIn (log_of run p) c m i → HasUniformStay run c stays uniform p
 stay_where run c stays uniform p i m facts (d, at, belongs) = uniform_stay_of run c stays uniform p i d facts (Deliver m d, at, refl) belongs
 
-pub end_or_not : (a b : ℕ) → (a ≡ b) ⊎ (a ≡ b → ⊥)
-end_or_not a b = elim (less_or_not a b) [
-  | inl lt ↦ inr (λ e. omega (arith, lt, e))
-  | inr rest ↦ elim rest [ inl gt ↦ inr (λ e. omega (arith, gt, e)) | inr same ↦ inl same ]
-]
-
-pub ends_here : (run : List Log) (c : RingId) (stay : Stay) (m : MsgId) → StayFacts run c stay → stay.end ≡ length stay.log.now → DeliversOrEnds (log_of run stay.proc) c m
-ends_here run c stay m known end = elim (known.is.ends (rw known.log at end)) [ inl failed ↦ inr (inl failed) | inr still ↦ inr (inr still) ]
+pub ends_here : (run : List Log) (c : RingId) (stay : Stay) (m : MsgId) → StayFacts run c stay → IsExcused stay → DeliversOrEnds run stay.proc c m
+ends_here run c stay m known e = inr (excused run c stay known.of e)
 
 -- ---- origins
 

@@ -20,12 +20,13 @@ use Rattle.totem_evs.specs.Answers.{MeetsPasses}
 use Rattle.totem_evs.proofs.LogOf.{less_or_not}
 use Rattle.totem_passes.specs.Search.{NoneFrom, IsLeastFrom, HoldsOfNone}
 use Rattle.totem_agreement.specs.declared.stay.Stay.{Stay}
-use Rattle.totem_agreement.specs.Stays.{TurnsAt, IsStay, IsStayOf, AreStays}
+use Rattle.totem_agreement.specs.Stays.{TurnsAt, IsStay, IsExcused, IsStayOf, AreStays}
 use Rattle.totem_agreement.specs.Acts.{NeverComes, DeliversHere, DeliversNot}
 use Rattle.totem_agreement.specs.Search.{EachBeginsInside}
 use Rattle.totem_agreement.specs.Reached.{IsSafeIn, AreMembersAt, IsMissed, HoldsOfNo}
 use Rattle.totem_agreement.proofs.Deciding.{delivers_or_ends_or_not, changes_or_not}
 use Rattle.totem_agreement.proofs.Staying.{names_no_change}
+use Rattle.totem_agreement.proofs.Excusing.{excused, not_excused}
 use Rattle.totem_agreement.proofs.OnePlace.{IsOfOne, none_here, is_here, nowhere, begins_inside, lies_in}
 use Rattle.totem_agreement.proofs.Reaching.{safe_in}
 use Rattle.totem_agreement.proofs.Known as known
@@ -48,20 +49,13 @@ pub here_delivered : (log : List Entry) (c : RingId) (stay : Stay) (m : MsgId) (
 here_delivered log c stay m k same is here =
     rw (← same) (k, (here.conf, here.delivers, inside_names stay.log.now c stay.from stay.turn stay.end k here.conf is here.after here.until (Deliver m here.conf, here.delivers, refl)))
 
--- a process that has come, that has not ended there and has not delivered m, has missed it
-pub missed : (log : List Entry) (c : RingId) (stay : Stay) (m : MsgId) → stay.log.now ≡ log → IsStay stay.log.now c stay.from stay.turn stay.end → (stay.end ≡ length stay.log.now → ⊥) → DeliversNot stay.log.now c m
-    → DeliversOrEnds log c m → ⊥
-missed log c stay m same is other not h = go (rw same h)
-  where
-    go : DeliversOrEnds stay.log.now c m → ⊥
-    go (inl delivered) = not.never delivered
-    go (inr ends) = is.goes_on (elim (less_or_not stay.end (length stay.log.now)) [
-      | inl lt ↦ lt
-      | inr rest ↦ elim rest [ inl gt ↦ absurd (omega (arith, is.within)) | inr e ↦ absurd (other e) ]
-    ]) ends
+-- a process that has come, that is not excused there and has not delivered m, has missed it
+pub missed : (run : List Log) (c : RingId) (stay : Stay) (m : MsgId) → IsStayOf run c stay → (IsExcused stay → ⊥) → DeliversNot stay.log.now c m → DeliversOrEnds run stay.proc c m → ⊥
+missed run c stay m is other not (inl delivered) = not.never (rw is.log delivered)
+missed run c stay m is other not (inr ends) = not_excused run c stay is other ends
 
 -- so has one that has never come
-pub absent : (run : List Log) (c : RingId) (q : ℕ) (m : MsgId) → MeetsPasses run → NeverComes run c q → DeliversOrEnds (log_of run q) c m → ⊥
+pub absent : (run : List Log) (c : RingId) (q : ℕ) (m : MsgId) → MeetsPasses run → NeverComes run c q → DeliversOrEnds run q c m → ⊥
 absent run c q m meets never h = go h
   where
     inside : (i : ℕ) (d : ConfId) → Names (log_of run q) i d → Com (log_of run q) c d → ⊥
@@ -71,11 +65,11 @@ absent run c q m meets never h = go h
         to_c k d (ms, h) same = (ms, rw same at h)
     inside i d names (inr f) = never.never f.from f.first.change
 
-    go : DeliversOrEnds (log_of run q) c m → ⊥
+    go : DeliversOrEnds run q c m → ⊥
     go (inl (i, (d, at, com_d))) = inside i d (Deliver m d, at, refl) com_d
     go (inr (inl (i, d, at, com_d))) = inside i d (Fail d, at, refl) com_d
-    go (inr (inr (d, fails, last, inl same))) = never.never last.index (last.change.0, rw same at last.change.1)
-    go (inr (inr (d, fails, last, inr f))) = never.never f.from f.first.change
+    go (inr (inr (loud, (d, fails, last, inl same)))) = never.never last.index (last.change.0, rw same at last.change.1)
+    go (inr (inr (loud, (d, fails, last, inr f)))) = never.never f.from f.first.change
 
 -- members of the configuration that an entry names are those of the change before it
 pub is_among_members : (run : List Log) (p i : ℕ) (log : List Entry) (members : List ℕ) (d : ConfId) (q : ℕ) → MeetsPasses run → log ≡ log_of run p → AreMembersAt log i members → Names log i d → IsMember run d q → Contains members q
@@ -110,29 +104,29 @@ none_of_all members P n end before = record {
 }
 
 -- 3
-pub owned_of_one : (run : List Log) (c : RingId) → IsOfOne (BreaksOwnDeliveryIn run c) (λ p i. IsNotOwned (log_of run p) c i)
+pub owned_of_one : (run : List Log) (c : RingId) → IsOfOne (BreaksOwnDeliveryIn run c) (IsNotOwned run c)
 owned_of_one run c = record { empty = λ h. h; one = λ e h. h; is = λ e h. h; many = λ e f more h. h }
 
 pub owned_begins : (run : List Log) (c : RingId) (stays : List Stay) → ∥ MeetsPasses run ∥₁ → ∥ AreStays run c stays ∥₁ → EachBeginsInside stays (BreaksOwnDeliveryIn run c)
-owned_begins run c stays met are = begins_inside (BreaksOwnDeliveryIn run c) (λ p i. IsNotOwned (log_of run p) c i) stays (owned_of_one run c)
+owned_begins run c stays met are = begins_inside (BreaksOwnDeliveryIn run c) (IsNotOwned run c) stays (owned_of_one run c)
     (λ p i (m, (v, at), never). lies_in run c stays p i (Regular c) met are (Send m (Regular c) v, at, refl) (inl refl))
 
 pub owned : (run : List Log) (c : RingId) → HoldsOfNone (BreaksOwnDeliveryIn run c) → OwnDeliveryIn run c
 owned run c none = record {
-  each = λ p i m sends. elim (delivers_or_ends_or_not (log_of run p) c m) [
+  each = λ p i m sends. elim (delivers_or_ends_or_not run p c m) [
     | inl ends ↦ ends
-    | inr never ↦ absurd (nowhere (BreaksOwnDeliveryIn run c) (λ p i. IsNotOwned (log_of run p) c i) p i (owned_of_one run c) none (m, sends, never))
+    | inr never ↦ absurd (nowhere (BreaksOwnDeliveryIn run c) (IsNotOwned run c) p i (owned_of_one run c) none (m, sends, never))
   ];
 }
 
-owned_none : (run : List Log) (c : RingId) (p i : ℕ) → (IsNotOwned (log_of run p) c i → ⊥) → NoneFrom (BreaksOwnDeliveryIn run c) p i
-owned_none run c p i never = none_here (BreaksOwnDeliveryIn run c) (λ q j. IsNotOwned (log_of run q) c j) p i (owned_of_one run c) never
+owned_none : (run : List Log) (c : RingId) (p i : ℕ) → (IsNotOwned run c p i → ⊥) → NoneFrom (BreaksOwnDeliveryIn run c) p i
+owned_none run c p i never = none_here (BreaksOwnDeliveryIn run c) (IsNotOwned run c) p i (owned_of_one run c) never
 
 pub owned_no_send : (run : List Log) (c : RingId) (stay : Stay) (i : ℕ) (e : Entry) → IsStayOf run c stay → slice_get stay.log.now i ≡ Some e → ((m : MsgId) (x : ConfId) (v : Service) → e ≡ Send m x v → ⊥) → NoneFrom (BreaksOwnDeliveryIn run c) stay.proc i
 owned_no_send run c stay i e is at other = owned_none run c stay.proc i (λ (m, (v, sends), never). other m (Regular c) v (let here = rw is.log at at in cc))
 
-pub owned_at_end : (run : List Log) (c : RingId) (stay : Stay) (i : ℕ) → IsStayOf run c stay → stay.end ≡ length stay.log.now → NoneFrom (BreaksOwnDeliveryIn run c) stay.proc i
-owned_at_end run c stay i is last = owned_none run c stay.proc i (λ (m, sends, never). never (inr (rw is.log at (is.is.ends last))))
+pub owned_excused : (run : List Log) (c : RingId) (stay : Stay) (i : ℕ) → IsStayOf run c stay → IsExcused stay → NoneFrom (BreaksOwnDeliveryIn run c) stay.proc i
+owned_excused run c stay i is e = owned_none run c stay.proc i (λ (m, sends, never). never (inr (excused run c stay is e)))
 
 pub owned_delivered : (run : List Log) (c : RingId) (stay : Stay) (i k : ℕ) (m : MsgId) (x : ConfId) (v : Service) → IsStayOf run c stay → slice_get stay.log.now i ≡ Some (Send m x v) → DeliversHere stay m k → NoneFrom (BreaksOwnDeliveryIn run c) stay.proc i
 owned_delivered run c stay i k m x v is at here = owned_none run c stay.proc i (λ (n, (w, sends), never).
@@ -140,9 +134,9 @@ owned_delivered run c stay i k m x v is at here = owned_none run c stay.proc i (
     never (inl (rw same (here_delivered (log_of run stay.proc) c stay m k is.log is.is here))))
 
 pub owned_never : (run : List Log) (c : RingId) (stay : Stay) (i : ℕ) (m : MsgId) (x : ConfId) (v : Service) → ∥ MeetsPasses run ∥₁ → IsStayOf run c stay → stay.from < i → i < stay.end → slice_get stay.log.now i ≡ Some (Send m x v)
-    → (stay.end ≡ length stay.log.now → ⊥) → DeliversNot stay.log.now c m → IsLeastFrom (BreaksOwnDeliveryIn run c) stay.proc i []
-owned_never run c stay i m x v met is lt below at other not = is_here (BreaksOwnDeliveryIn run c) (λ q j. IsNotOwned (log_of run q) c j) stay.proc i (owned_of_one run c)
-    (m, (v, rw (is.log, regular) at at), missed (log_of run stay.proc) c stay m is.log is.is other not)
+    → (IsExcused stay → ⊥) → DeliversNot stay.log.now c m → IsLeastFrom (BreaksOwnDeliveryIn run c) stay.proc i []
+owned_never run c stay i m x v met is lt below at other not = is_here (BreaksOwnDeliveryIn run c) (IsNotOwned run c) stay.proc i (owned_of_one run c)
+    (m, (v, rw (is.log, regular) at at), missed run c stay m is other not)
   where
     only : (x : ConfId) → IsRegular x → Com stay.log.now c x → x ≡ Regular c
     only x regular (inl same) = same
@@ -221,7 +215,7 @@ safety_begins run c stays met are = begins_inside (BreaksSafetyIn run c) (IsNotR
 
 pub safety : (run : List Log) (c : RingId) → HoldsOfNone (BreaksSafetyIn run c) → SafetyIn run c
 safety run c none = record {
-  each = λ m p i d q safe at inside member. elim (delivers_or_ends_or_not (log_of run q) c m) [
+  each = λ m p i d q safe at inside member. elim (delivers_or_ends_or_not run q c m) [
     | inl ends ↦ ends
     | inr never ↦ absurd (nowhere (BreaksSafetyIn run c) (IsNotReached run c) p i (safety_of_one run c) none (m, d, q, safe, at, inside, member, never))
   ];
@@ -259,15 +253,15 @@ safety_not run c stay i q m x members is lt below at safe are here miss =
       miss.never,
     )
 
--- a process that delivers m, or whose stay goes up to the end of its log, has not missed it
-pub not_missed_at_end : (run : List Log) (c : RingId) (stay : Stay) (m : MsgId) (q : ℕ) → IsStayOf run c stay → stay.proc ≡ q → stay.end ≡ length stay.log.now → IsMissed run c m q → ⊥
-not_missed_at_end run c stay m q is same last miss = miss.never (inr (rw (is.log ∙ ap (λ p. log_of run p) same) at (is.is.ends last)))
+-- a process that delivers m, or that is excused, has not missed it
+pub not_missed_excused : (run : List Log) (c : RingId) (stay : Stay) (m : MsgId) (q : ℕ) → IsStayOf run c stay → stay.proc ≡ q → IsExcused stay → IsMissed run c m q → ⊥
+not_missed_excused run c stay m q is same e miss = miss.never (inr (rw same at (excused run c stay is e)))
 
 pub not_missed : (run : List Log) (c : RingId) (stay : Stay) (m : MsgId) (q k : ℕ) → IsStayOf run c stay → stay.proc ≡ q → DeliversHere stay m k → IsMissed run c m q → ⊥
 not_missed run c stay m q k is same here miss = miss.never (inl (here_delivered (log_of run q) c stay m k (is.log ∙ ap (λ p. log_of run p) same) is.is here))
 
-pub is_missed : (run : List Log) (c : RingId) (stay : Stay) (m : MsgId) (q : ℕ) → IsStayOf run c stay → stay.proc ≡ q → (stay.end ≡ length stay.log.now → ⊥) → DeliversNot stay.log.now c m → IsMissed run c m q
-is_missed run c stay m q is same other not = record { never = missed (log_of run q) c stay m (is.log ∙ ap (λ p. log_of run p) same) is.is other not }
+pub is_missed : (run : List Log) (c : RingId) (stay : Stay) (m : MsgId) (q : ℕ) → IsStayOf run c stay → stay.proc ≡ q → (IsExcused stay → ⊥) → DeliversNot stay.log.now c m → IsMissed run c m q
+is_missed run c stay m q is same other not = record { never = λ h. missed run c stay m is other not (rw same h) }
 
 pub missed_by_absent : (run : List Log) (c : RingId) (q : ℕ) (m : MsgId) → ∥ MeetsPasses run ∥₁ → NeverComes run c q → IsMissed run c m q
 missed_by_absent run c q m met never = record { never = absent run c q m (known.meets run met) never }

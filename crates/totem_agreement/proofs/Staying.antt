@@ -7,7 +7,7 @@ use Rattle.totem_ids.specs.declared.conf.ConfId.TheVariants.{Regular}
 use Rattle.totem_evs.specs.declared.entry.Entry.{Entry}
 use Rattle.totem_evs.specs.declared.entry.Entry.TheVariants.{Conf, Send, Deliver, Fail}
 use Rattle.totem_evs.specs.Events.{ChangesTo, IsChange}
-use Rattle.totem_evs.specs.Following.{IsNextChange, IsFirstChange, LastChange, Follows, Com, NeverFails, FailedIn, OpenIn}
+use Rattle.totem_evs.specs.Following.{IsNextChange, IsFirstChange, LastChange, Follows, Com, NeverFails, FailedIn, StaysIn}
 use Rattle.totem_evs.specs.Changes.{Names, NamesOnly, StandsIn, StaysInPlace, TakesTurns}
 use Rattle.totem_evs.proofs.LogOf.{less_or_not}
 use Rattle.totem_passes.proofs.SentOrNot.{one_next}
@@ -186,7 +186,7 @@ last_change log c from turn end rules bounds is_end = elim (turn_or_end log c fr
   ))
 ]
 
-ends_here : (log : List Entry) (c : RingId) (from turn end : ℕ) → KeepsRules log → Bounds log c from turn end → end ≡ length log → FailedIn log c ⊎ OpenIn log c
+ends_here : (log : List Entry) (c : RingId) (from turn end : ℕ) → KeepsRules log → Bounds log c from turn end → end ≡ length log → FailedIn log c ⊎ StaysIn log c
 ends_here log c from turn end rules bounds is_end = go (get_or log (end - 1) (Fail (Regular c))) (slice_get-get_or log (end - 1) (Fail (Regular c)) (omega (arith, is_end, later)))
   where
     later : from < end
@@ -195,7 +195,7 @@ ends_here log c from turn end rules bounds is_end = go (get_or log (end - 1) (Fa
     last : (d : ConfId) × LastChange log d × Com log c d
     last = last_change log c from turn end rules bounds is_end
 
-    opens : (e : Entry) → slice_get log (end - 1) ≡ Some e → ((x : ConfId) → e ≡ Fail x → ⊥) → FailedIn log c ⊎ OpenIn log c
+    opens : (e : Entry) → slice_get log (end - 1) ≡ Some e → ((x : ConfId) → e ≡ Fail x → ⊥) → FailedIn log c ⊎ StaysIn log c
     opens e at other = inr (last.0, never, last.1, last.2)
       where
         never : NeverFails log
@@ -207,7 +207,7 @@ ends_here log c from turn end rules bounds is_end = go (get_or log (end - 1) (Fa
           ]
         ]
 
-    go : (e : Entry) → slice_get log (end - 1) ≡ Some e → FailedIn log c ⊎ OpenIn log c
+    go : (e : Entry) → slice_get log (end - 1) ≡ Some e → FailedIn log c ⊎ StaysIn log c
     go (Fail x) at = inl (end - 1, x, at, names_in log c from turn end rules bounds (end - 1) x (after at) (omega (arith, later)) (Fail x, at, refl))
       where
         after : slice_get log (end - 1) ≡ Some (Fail x) → from < end - 1
@@ -223,7 +223,7 @@ ends_here log c from turn end rules bounds is_end = go (get_or log (end - 1) (Fa
     go (Deliver m x) at = opens (Deliver m x) at (λ y e. cc)
 
 -- before the end of its log a stay ends at a change, which neither a failure nor the end of the log comes before
-goes_on : (log : List Entry) (c : RingId) (from turn end : ℕ) → KeepsRules log → Bounds log c from turn end → end < length log → FailedIn log c ⊎ OpenIn log c → ⊥
+goes_on : (log : List Entry) (c : RingId) (from turn end : ℕ) → KeepsRules log → Bounds log c from turn end → end < length log → FailedIn log c ⊎ StaysIn log c → ⊥
 goes_on log c from turn end rules bounds below = go
   where
     there : turn < length log
@@ -232,7 +232,7 @@ goes_on log c from turn end rules bounds below = go
     change : IsChange log end
     change = (bounds.two.second there).change below
 
-    go : FailedIn log c ⊎ OpenIn log c → ⊥
+    go : FailedIn log c ⊎ StaysIn log c → ⊥
     go (inl (i, x, fails, inside)) = rules.placed.final i end x fails (is_here log c from turn end rules bounds i x (Fail x, fails, refl) inside).1 below
     go (inr (d, never, last, inl same)) =
         let at : last.index ≡ from = rules.once last.index from (Regular c) (rw same at last.change) bounds.change in

@@ -1,5 +1,5 @@
 -- In a uniform configuration 3 to 7 are met.
-use Rattle.std.proofs.Common.{◌≡◌, ℕ, ◌+◌, ◌<◌, ◌≤◌, ◌⊎◌, inl, inr, List, length, slice_get, Some, true, refl, sym, ap, ◌∙◌, arith}
+use Rattle.std.proofs.Common.{◌≡◌, ℕ, ◌+◌, ◌<◌, ◌≤◌, ◌⊎◌, inl, inr, List, slice_get, Some, true, refl, sym, ap, ◌∙◌, arith}
 use Rattle.std.proofs.lemmas.Option.{slice_get_within, get_or_from_slice_get}
 use Rattle.totem_ids.specs.declared.ring.RingId.{RingId}
 use Rattle.totem_ids.specs.declared.conf.ConfId.{ConfId}
@@ -24,10 +24,11 @@ use Rattle.totem_agreement.specs.Uniform.{rank, HasPlace, HasAll, IsTurnMember, 
 use Rattle.totem_agreement.specs.Owed.{JoinsBy, IsUniform}
 use Rattle.totem_agreement.proofs.Ranks.{rank_below, rank_rises}
 use Rattle.totem_passes.specs.Search.{place}
+use Rattle.totem_agreement.proofs.Excusing.{excused_or_not}
 use Rattle.totem_agreement.proofs.Facts.{Facts, StayFacts}
 use Rattle.totem_agreement.proofs.Rests.{index_of}
 use Rattle.totem_agreement.proofs.Parting.{turn_of}
-use Rattle.totem_agreement.proofs.Placing.{IsUniformStay, uniform_stay, told, IsPlaced, placed, HasUniformStay, stay_where, has_delivered, delivers_before, end_or_not, ends_here, HasOrigin, origin_of, delivers_as, IsCause, sent_before, heard_before, turn_member, front_has}
+use Rattle.totem_agreement.proofs.Placing.{IsUniformStay, uniform_stay, told, IsPlaced, placed, HasUniformStay, stay_where, has_delivered, delivers_before, ends_here, HasOrigin, origin_of, delivers_as, IsCause, sent_before, heard_before, turn_member, front_has}
 use Rattle.totem_agreement.proofs.Jointly.{joint}
 
 -- ---- 3
@@ -35,19 +36,19 @@ use Rattle.totem_agreement.proofs.Jointly.{joint}
 own : (run : List Log) (c : RingId) (stays : List Stay) → Facts run c stays → IsUniform stays → OwnDeliveryIn run c
 own run c stays facts uniform = record { each = each }
   where
-    each : (p i : ℕ) (m : MsgId) → Sends (log_of run p) i m (Regular c) → DeliversOrEnds (log_of run p) c m
+    each : (p i : ℕ) (m : MsgId) → Sends (log_of run p) i m (Regular c) → DeliversOrEnds run p c m
     each p i m (service, at) =
         let around = facts.inside p i (Regular c) (Send m (Regular c) service, at, refl) (inl refl) in
         rw (← around.proc) (go around.stay around.among around.inside (rw ((facts.each around.stay around.among).log, around.proc) at))
       where
-        go : (stay : Stay) → IsAmong stays stay → IsInside stay i → slice_get stay.log.now i ≡ Some (Send m (Regular c) service) → DeliversOrEnds (log_of run stay.proc) c m
+        go : (stay : Stay) → IsAmong stays stay → IsInside stay i → slice_get stay.log.now i ≡ Some (Send m (Regular c) service) → DeliversOrEnds run stay.proc c m
         go stay among inside here =
             let of = uniform_stay stays uniform stay among in
             let known = facts.each stay among in
-            elim (end_or_not stay.end (length stay.log.now)) [
-              | inl end ↦ ends_here run c stay m known end
-              | inr goes_on ↦ (
-                  let pays = of.by.pays goes_on in
+            elim (excused_or_not stay) [
+              | inl e ↦ ends_here run c stay m known e
+              | inr never ↦ (
+                  let pays = of.by.pays never in
                   let listed = of.is.sends.whole i m inside.after inside.until (Regular c, service, here) in
                   let within = slice_get_within of.replay.sends.items listed.at listed.sent listed.stands in
                   let all = pays.sent of.replay of.replayed in
@@ -273,7 +274,7 @@ installed run c stays facts uniform = record { each = λ m p i q safe at member.
 reached : (run : List Log) (c : RingId) (stays : List Stay) → Facts run c stays → IsUniform stays → SafetyIn run c
 reached run c stays facts uniform = record { each = λ m p i d q safe at belongs member. go m p i d q safe at belongs member }
   where
-    go : (m : MsgId) (p i : ℕ) (d : ConfId) (q : ℕ) → IsSafe run m → Delivers (log_of run p) i m d → Com (log_of run p) c d → IsMember run d q → DeliversOrEnds (log_of run q) c m
+    go : (m : MsgId) (p i : ℕ) (d : ConfId) (q : ℕ) → IsSafe run m → Delivers (log_of run p) i m d → Com (log_of run p) c d → IsMember run d q → DeliversOrEnds run q c m
     go m p i d q (r, j, x, sends) at belongs member = rw has_q.proc at answer
       where
         the : HasUniformStay run c stays uniform p
@@ -340,11 +341,11 @@ reached run c stays facts uniform = record { each = λ m p i d q safe at belongs
           | inr rest ↦ behind (elim rest [ inl over ↦ omega arith | inr same ↦ omega arith ]) joins
         ]
 
-        answer : DeliversOrEnds (log_of run other.proc) c m
-        answer = elim (end_or_not other.end (length other.log.now)) [
-          | inl end ↦ ends_here run c other m known end
-          | inr goes_on ↦ (
-              let pays = of.by.pays goes_on in
+        answer : DeliversOrEnds run other.proc c m
+        answer = elim (excused_or_not other) [
+          | inl e ↦ ends_here run c other m known e
+          | inr never ↦ (
+              let pays = of.by.pays never in
               let owed : (slice_get of.by.has one.place ≡ Some true) ⊎ (JoinsBy stays uniform.replays other of.by.has × IsBeyond uniform.replays one.place) = elim (pays.safe.each one.place from.origin from.listed safe) [ inl has ↦ inl has | inr (is, beyond) ↦ inr (pays.joined other of.stands is, beyond) ] in
               inl (has_delivered run c uniform.messages other of.replay one.place m known of.is (placed_there owed) one.is)
               )

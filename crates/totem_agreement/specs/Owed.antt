@@ -8,6 +8,7 @@ use Rattle.totem_agreement.specs.declared.stay.Stay.{Stay}
 use Rattle.totem_agreement.specs.declared.replay.Replay.{Replay}
 use Rattle.totem_agreement.specs.declared.origins.Origin.{Origin}
 use Rattle.totem_agreement.specs.declared.uniform.Alignment.{Alignment}
+use Rattle.totem_agreement.specs.Stays.{IsExcused}
 use Rattle.totem_agreement.specs.Uniform.{HasPlace, HasMembers, IsTurnMember, IsBeyond, AreReplays, AreOrigins}
 
 -- the list tells of each number below n whether it is one of the places
@@ -95,7 +96,7 @@ pub record IsSettledBy (stays : List Stay) (replays : List Replay) (origins : Li
   pub full : FullBy stays origins stay has last
   pub alike : AllGoAlikeTo stays replays stay replay has
   pub members : HasMembers stays stay
-  pub pays : (stay.end ≡ length stay.log.now → ⊥) → PaysBy stays replays origins taken k has
+  pub pays : (IsExcused stay → ⊥) → PaysBy stays replays origins taken k has
 
 pub record SettledAt (stays : List Stay) (replays : List Replay) (origins : List Origin) (taken : List ℕ) (k : ℕ) : Type 0 where
   pub is : (stay : Stay) (replay : Replay) → slice_get stays k ≡ Some stay → slice_get replays k ≡ Some replay → IsSettledBy stays replays origins (slice_index_or taken k 0) k stay replay

@@ -1,5 +1,5 @@
 -- What is pending, gathered configuration by configuration (docs/SPECIFICATIONS.md, "Pending and waiting").
-use Rattle.std.specs.Prelude.{◌≡◌, ◌↔◌, ◌⊎◌, ℕ, ◌<◌, IsTrue, List, length, slice_get, Some}
+use Rattle.std.specs.Prelude.{◌≡◌, ◌↔◌, ◌⊎◌, ℕ, ◌<◌, IsTrue, List, slice_get, Some}
 use Rattle.std.specs.declared.cmp.Ordering.{Ordering}
 use Rattle.std.specs.BTreeSet.{BTreeSet}
 use Rattle.std.specs.BTreeSet as sorted
@@ -16,6 +16,7 @@ use Rattle.totem_evs.specs.Events.{WasSentIn, log_of}
 use Rattle.totem_evs.specs.Following.{HasDelivered, OpenIn}
 use Rattle.totem_evs.specs.Changes.{StaysInPlace}
 use Rattle.totem_agreement.specs.declared.stay.Stay.{Stay}
+use Rattle.totem_agreement.specs.Stays.{IsExcused}
 use Rattle.totem_agreement.specs.Endings.{HasFailed}
 
 -- the new set has what the old one had and all of which this holds
@@ -58,7 +59,7 @@ pub record MissesNone (P : Pending → Type 0) : Type 0 where
 -- x is pending in c
 pub record IsPendingIn (run : List Log) (c : RingId) (x : Pending) : Type 0 where
   pub sent : WasSentIn run x.msg (Regular c)
-  pub still_open : OpenIn (log_of run x.proc) c
+  pub still_open : OpenIn run x.proc c
   pub missing : HasDelivered (log_of run x.proc) c x.msg → ⊥
 
 -- nothing is pending in c
@@ -69,6 +70,6 @@ pub record HasNonePending (run : List Log) (c : RingId) : Type 0 where
 abbrev pub IsPlacedStay : Stay → Type 0
 IsPlacedStay stay = StaysInPlace stay.log.now
 
--- where a stay goes up to the end of its log, its process has failed
+-- where the end of a stay excuses its process, that has failed
 abbrev pub EndsClosed : Stay → Type 0
-EndsClosed stay = stay.end ≡ length stay.log.now → HasFailed stay.log.now
+EndsClosed stay = IsExcused stay → HasFailed stay.log.now

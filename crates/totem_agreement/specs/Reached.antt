@@ -27,7 +27,7 @@ pub record AreMembersAt (log : List Entry) (i : ℕ) (members : List ℕ) : Type
 
 -- q ought to deliver m in c, or in what follows it, and does not
 pub record IsMissed (run : List Log) (c : RingId) (m : MsgId) (q : ℕ) : Type 0 where
-  pub never : DeliversOrEnds (log_of run q) c m → ⊥
+  pub never : DeliversOrEnds run q c m → ⊥
 
 -- none of the members is one of which it holds
 pub record HoldsOfNo (members : List ℕ) (P : ℕ → Type 0) : Type 0 where

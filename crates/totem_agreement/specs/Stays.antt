@@ -1,14 +1,14 @@
 -- The parts of the logs that stand in one regular configuration and in what follows it
 -- (docs/SPECIFICATIONS.md, "Following", "Passes").
-use Rattle.std.specs.Prelude.{◌≡◌, ◌⊎◌, ℕ, ◌<◌, ◌≤◌, List, length, slice_get, Some, All, AllPairs}
+use Rattle.std.specs.Prelude.{◌≡◌, ◌↔◌, ◌⊎◌, ℕ, ◌<◌, ◌≤◌, false, IsTrue, List, length, slice_get, Some, All, AllPairs}
 use Rattle.totem_ids.specs.declared.ring.RingId.{RingId}
 use Rattle.totem_ids.specs.declared.conf.ConfId.{ConfId}
 use Rattle.totem_ids.specs.declared.conf.ConfId.TheVariants.{Regular}
 use Rattle.totem_evs.specs.declared.entry.Entry.{Entry}
 use Rattle.totem_evs.specs.declared.log.Log.{Log}
-use Rattle.totem_evs.specs.Events.{IsChange, ChangesTo, log_of}
+use Rattle.totem_evs.specs.Events.{IsChange, ChangesTo, IsQuiet, log_of}
 use Rattle.totem_evs.specs.Changes.{Names}
-use Rattle.totem_evs.specs.Following.{IsNextChange, Follows, Com, FailedIn, OpenIn}
+use Rattle.totem_evs.specs.Following.{IsNextChange, Follows, Com, NeverFails, FailedIn, StaysIn}
 use Rattle.totem_agreement.specs.declared.stay.Stay.{Stay}
 
 -- j is the next change after i, or the end of the log where no change follows
@@ -46,9 +46,9 @@ pub record IsStay (log : List Entry) (c : RingId) (from turn end : ℕ) : Type 0
   -- the next change after that to c, and the one after what follows it
   pub next : turn < length log → (turn < end) × IsNextChange log from turn
   pub last : turn < end → end < length log → IsNextChange log turn end
-  -- it goes up to the end of the log where the process failed in these two or is open there
-  pub ends : end ≡ length log → FailedIn log c ⊎ OpenIn log c
-  pub goes_on : end < length log → FailedIn log c ⊎ OpenIn log c → ⊥
+  -- it goes up to the end of the log where the process failed in these two or the log stays there
+  pub ends : end ≡ length log → FailedIn log c ⊎ StaysIn log c
+  pub goes_on : end < length log → FailedIn log c ⊎ StaysIn log c → ⊥
 
 -- it lies within its log, which is not too long
 pub record IsShortStay (stay : Stay) : Type 0 where
@@ -56,10 +56,16 @@ pub record IsShortStay (stay : Stay) : Type 0 where
   pub within : stay.end ≤ length stay.log.now
   pub few : length stay.log.now ≤ 1000000
 
--- this is p's stay in c
+-- it goes up to the end of its log, which is not quiet: there the process failed, or it is open
+abbrev pub IsExcused : Stay → Type 0
+IsExcused stay = (stay.end ≡ length stay.log.now) × (stay.quiet ≡ false)
+
+-- this is p's stay in c. A quiet log has no failure
 pub record IsStayOf (run : List Log) (c : RingId) (stay : Stay) : Type 0 where
   pub log : stay.log.now ≡ log_of run stay.proc
   pub few : length stay.log.now ≤ 1000000
+  pub quiet : IsTrue stay.quiet ↔ IsQuiet run stay.proc
+  pub unfailed : IsTrue stay.quiet → NeverFails stay.log.now
   pub is : IsStay stay.log.now c stay.from stay.turn stay.end
 
 -- one process is below the other

@@ -11,7 +11,7 @@ use std::alloc::{AllocError, Global};
 use totem_evs::{Entry, Places, SpecNo};
 use totem_ids::Place;
 
-/// The sends of what their process does not deliver, though its stay ends before its log.
+/// The sends of what their process does not deliver, though the end of its stay does not excuse it.
 #[derive(Clone, Copy)]
 struct Undelivered<'s, 'r> {
     stays: &'s Stays<'r>,
@@ -31,7 +31,7 @@ impl Relation for Undelivered<'_, '_> {
         let Entry::Send(message, _, _) = &stay.log[at] else {
             return Ok(None);
         };
-        if stay.is_last() {
+        if stay.is_excused() {
             return Ok(None);
         }
         match self.stays.delivery_of(stay, message) {

@@ -25,9 +25,9 @@ use totem_ids::{MsgId, RingId};
 /// Whether the process of this stay is open in it.
 fn is_open(stays: &RingStays, stay: &Stay) -> bool
     requires { IsAmong stays.now.list.items stay.now }
-    ensures { IsTrue result ↔ OpenIn stay.now.log.now stays.now.ring }
+    ensures { IsTrue result ↔ OpenIn stays.now.run.now.logs stay.now.proc stays.now.ring }
 {
-    stay.is_last() && !has_failed(stay.log)
+    stay.is_excused() && !has_failed(stay.log)
 }
 
 /// The message that this entry sends, if the process of the stay has not delivered it.
@@ -167,14 +167,14 @@ fn add_pending(
     Ok(())
 }
 
-/// Whether none of these processes is open in its stay: each goes on, or has failed.
+/// Whether none of these processes is open in its stay: each goes on, is quiet, or has failed.
 fn none_is_open(stays: &[Stay]) -> bool
     requires { All IsPlacedStay stays.now }
     ensures { OnTrue result (All EndsClosed stays.now) }
 {
     for stay in stays {
         let failed = has_failed(stay.log);
-        if stay.is_last() && !failed {
+        if stay.is_excused() && !failed {
             return false;
         }
     }

@@ -26,7 +26,7 @@ impl Unreached<'_, '_> {
         let Some(stay) = self.stays.stay_of(proc) else {
             return true;
         };
-        if stay.is_last() {
+        if stay.is_excused() {
             return false;
         }
         match self.stays.delivery_of(stay, message) {

@@ -1,29 +1,31 @@
 //! The part of a log that stands in a regular configuration and in what follows it.
 ghost use Rattle.std.specs.Prelude.{◌≡◌, ◌↔◌, ◌<◌, IsTrue, length};
 ghost use Rattle.std.specs.Bool.{OnTrue};
-ghost use Rattle.totem_agreement.specs.Stays.{IsNextOrEnd, AreNextTwo};
+ghost use Rattle.totem_agreement.specs.Stays.{IsNextOrEnd, AreNextTwo, IsExcused};
 ghost use Rattle.totem_agreement.specs.Acts.{DeliversHere};
 
-use totem_evs::{Entry, Log};
+use totem_evs::{Ending, Entry, Log};
 use totem_ids::{MsgId, Proc};
 
 /// The stay of a process: its log changes to the regular configuration at `from` and to what follows that at `turn`, and
-/// the entries before `end` are those that stand in these two. Where nothing follows, `turn` is `end`.
+/// the entries before `end` are those that stand in these two. Where nothing follows, `turn` is `end`. A log may be quiet: nothing
+/// more was to come behind it.
 #[derive(Clone, Copy)]
 pub struct Stay<'r> {
     pub proc: Proc,
     pub log: &'r [Entry],
+    pub quiet: bool,
     pub from: usize,
     pub turn: usize,
     pub end: usize,
 }
 
 impl Stay<'_> {
-    /// Whether the stay goes up to the end of the log: there the process failed, or it is open.
-    pub fn is_last(&self) -> bool
-        ensures { IsTrue result ↔ (self.now.end ≡ length self.now.log.now) }
+    /// Whether the stay goes up to the end of a log that is not quiet: there the process failed, or it is open.
+    pub fn is_excused(&self) -> bool
+        ensures { IsTrue result ↔ IsExcused self.now }
     {
-        self.end == self.log.len()
+        self.end == self.log.len() && !self.quiet
     }
 
     /// Whether the entry at this index stands in the stay and delivers the message.
@@ -58,6 +60,7 @@ pub fn stay_from(log: &Log, from: usize) -> Stay<'_>
     requires { from < length log.now.entries }
     ensures proc { result.proc ≡ log.now.proc }
     ensures log { result.log.now ≡ log.now.entries }
+    ensures quiet { IsTrue result.quiet ↔ (log.now.ending ≡ Ending.Quiet) }
     ensures from { result.from ≡ from }
     ensures next { AreNextTwo log.now.entries from result.turn result.end }
 {
@@ -71,6 +74,7 @@ pub fn stay_from(log: &Log, from: usize) -> Stay<'_>
     Stay {
         proc: log.proc,
         log: entries,
+        quiet: log.ending == Ending::Quiet,
         from,
         turn,
         end,

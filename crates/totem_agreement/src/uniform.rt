@@ -78,7 +78,7 @@ fn aligned(
     }))
 }
 
-/// Whether a stay whose process goes on lacks nothing that it owes: what it sent itself, and safe messages.
+/// Whether a stay that is not excused lacks nothing that its process owes: what it sent itself, and safe messages.
 fn pays(stays: &[Stay], replays: &[Replay], origins: &Origins, index: usize, has: &[bool]) -> bool
     requires replays { length stays.now ≡ length replays.now }
     requires taken { length stays.now ≡ length origins.now.taken.items }
@@ -124,7 +124,7 @@ fn is_settled(
     if !all_go_alike(stays, replays, stay, replay, &has) || !has_members(stays, stay) {
         return Ok(false);
     }
-    Ok(stay.is_last() || pays(stays, replays, origins, index, &has))
+    Ok(stay.is_excused() || pays(stays, replays, origins, index, &has))
 }
 
 /// Whether no stay lacks anything that its process owes.

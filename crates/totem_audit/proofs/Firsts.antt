@@ -3,12 +3,16 @@ use Rattle.std.specs.Prelude.{◌≢◌}
 use Rattle.std.proofs.Common.{◌≡◌, inl, inr, List, [], ◌∷◌, refl}
 use Rattle.totem_evs.specs.declared.log.Log.{Log}
 use Rattle.totem_evs.specs.declared.fault.Fault.{Fault}
-use Rattle.totem_evs.specs.Answers.{No, IsAnswered, Lists, pass_a, pass_b}
+use Rattle.totem_evs.specs.Answers.{No, IsAnswered, Lists, MeetsPasses, pass_a, pass_b}
+use Rattle.totem_evs.specs.RunRecord.{RunRecord}
+use Rattle.totem_cert.specs.CertRecord.{CertRecord}
 use Rattle.totem_evs.specs.ClosedLists.{IsCycle}
 use Rattle.totem_evs.specs.Certificates.{Numbering}
 use Rattle.totem_evs.proofs.Synchronous.{meets_passes}
 use Rattle.totem_passes.specs.Listed.{ListsFirst}
-use Rattle.totem_audit.specs.Early.{IsOrdered, BreaksEarly, ListsEarly}
+use Rattle.totem_audit.specs.declared.first_passes.FirstPasses.{FirstPasses}
+use Rattle.totem_audit.specs.declared.first_passes.FirstPasses.TheVariants.{Ordered}
+use Rattle.totem_audit.specs.Early.{IsEarly, IsOrdered, BreaksEarly, ListsEarly}
 
 -- where passes A and B list faults, these are those of the first of the two that has one; where they list none, neither has one
 pub first_breaks : (run : List Log) (faults : List Fault) → ListsFirst run faults → faults ≢ [] → BreaksEarly run faults
@@ -37,6 +41,12 @@ broken_early run (fault ∷ faults) breaks = breaks
 
 pub ordered_early : (run : List Log) (lines : List Numbering) (faults : List Fault) → IsOrdered run lines → faults ≡ [] → ListsEarly run faults
 ordered_early run lines faults ordered none = rw none (record { meets = meets_passes run ordered.a ordered.b; ordered = (lines, ordered.c.certified) })
+
+-- a run whose events they have put in order meets the specifications of the first two
+pub ordered_meets : (run : RunRecord) (passes : FirstPasses) (certificate : CertRecord) → passes ≡ Ordered certificate → IsEarly run passes → MeetsPasses run.logs
+ordered_meets run passes certificate is early =
+    let here : IsEarly run (Ordered certificate) = rw is at early in
+    meets_passes run.logs here.0.a here.0.b
 
 -- and it is the answer
 pub broken_answer : (run : List Log) (faults : List Fault) → BreaksEarly run faults → IsAnswered run (No faults)

@@ -6,6 +6,7 @@ use Rattle.totem_evs.specs.Answers.{Lists, ListsCycle, MeetsPasses, HasCertifica
 use Rattle.totem_evs.specs.RunRecord.{RunRecord}
 use Rattle.totem_evs.specs.Certificates.{Numbering}
 use Rattle.totem_evs.specs.Positions.{IsPositions}
+use Rattle.totem_cert.specs.Keeping.{certificate_version}
 use Rattle.totem_audit.specs.declared.first_passes.FirstPasses.{FirstPasses}
 use Rattle.totem_audit.specs.declared.first_passes.FirstPasses.TheVariants.{Broken, Ordered}
 
@@ -20,10 +21,10 @@ pub record BreaksEarly (run : List Log) (faults : List Fault) : Type 0 where
   pub some : faults ≢ []
   pub first : Lists run pass_a faults ⊎ (Lists run pass_a [] × Lists run pass_b faults) ⊎ (Lists run pass_a [] × Lists run pass_b [] × ListsCycle run faults)
 
--- what they come to: the faults of the first that has one, or the order of the events, in the version of the run
+-- what they come to: the faults of the first that has one, or the order of the events, in the version that goes with the run's
 abbrev pub IsEarly : RunRecord → FirstPasses → Type 0
 IsEarly run (Broken faults) = BreaksEarly run.logs faults.items
-IsEarly run (Ordered certificate) = IsOrdered run.logs certificate.lines × (certificate.version ≡ run.version)
+IsEarly run (Ordered certificate) = IsOrdered run.logs certificate.lines × (certificate.version ≡ certificate_version run.version)
 
 -- none of the three has a fault: the run meets the specifications of the first two, and its events can be numbered as the
 -- order asks

@@ -3,6 +3,7 @@ ghost use Rattle.std.specs.Prelude.{IfOk};
 ghost use Rattle.totem_evs.specs.Answers.{ListsConfigurations, IsAnswered};
 ghost use Rattle.totem_evs.specs.Meanings.{IsSound};
 ghost use Rattle.totem_agreement.specs.Jobs.{AreJobs};
+ghost use Rattle.totem_cert.specs.Keeping.{certificate_version};
 ghost use Rattle.totem_audit.specs.Verdicts.{answer_of, HasVersion};
 ghost use Rattle.totem_audit.specs.Early.{IsOrdered};
 
@@ -46,7 +47,7 @@ fn settle(
 #[tactic(auto, using(crate::proofs::Firsts::broken_answer))]
 fn pass_all(alloc: Global, run: &Run) -> Result<Verdict, AllocError>
     ensures answer { IfOk result (λ verdict. IsAnswered run.now.logs (answer_of verdict)) }
-    ensures version { IfOk result (λ verdict. HasVersion run.now.version verdict) }
+    ensures version { IfOk result (λ verdict. HasVersion (certificate_version run.now.version) verdict) }
 {
     match first_passes(alloc, run)? {
         FirstPasses::Broken(faults) => Ok(Verdict::No { faults }),
@@ -68,7 +69,7 @@ fn pass_all_with<T: Threads + Wait + Sync, G: Gate>(
     gate: &G,
 ) -> Result<Verdict, AllocError>
     ensures answer { IfOk result (λ verdict. IsAnswered run.now.logs (answer_of verdict)) }
-    ensures version { IfOk result (λ verdict. HasVersion run.now.version verdict) }
+    ensures version { IfOk result (λ verdict. HasVersion (certificate_version run.now.version) verdict) }
 {
     match first_passes(alloc, run)? {
         FirstPasses::Broken(faults) => Ok(Verdict::No { faults }),
@@ -84,7 +85,7 @@ fn pass_all_with<T: Threads + Wait + Sync, G: Gate>(
 pub fn audit(alloc: Global, run: &Run) -> Result<Verdict, AllocError>
     ensures answer { IfOk result (λ verdict. IsAnswered run.now.logs (answer_of verdict)) }
     ensures sound { IfOk result (λ verdict. IsSound run.now.logs (answer_of verdict)) }
-    ensures version { IfOk result (λ verdict. HasVersion run.now.version verdict) }
+    ensures version { IfOk result (λ verdict. HasVersion (certificate_version run.now.version) verdict) }
 {
     pass_all(alloc, run)
 }
@@ -101,7 +102,7 @@ pub fn audit_with<T: Threads + Wait + Sync, G: Gate>(
 ) -> Result<Verdict, AllocError>
     ensures answer { IfOk result (λ verdict. IsAnswered run.now.logs (answer_of verdict)) }
     ensures sound { IfOk result (λ verdict. IsSound run.now.logs (answer_of verdict)) }
-    ensures version { IfOk result (λ verdict. HasVersion run.now.version verdict) }
+    ensures version { IfOk result (λ verdict. HasVersion (certificate_version run.now.version) verdict) }
 {
     pass_all_with(rt, alloc, run, workers, gate)
 }

@@ -86,9 +86,9 @@ fn push_judged(
     }
 }
 
-/// What is said of the run of these logs, or why there is no such run.
-fn told(alloc: Global, logs: &str, judge: &Judge) -> Result<String, AllocError> {
-    let bytes = format!(in alloc; "totem-run 1\n{logs}end\n")?;
+/// What is said of the run of these logs in this version, or why there is no such run.
+fn told(alloc: Global, version: u8, logs: &str, judge: &Judge) -> Result<String, AllocError> {
+    let bytes = format!(in alloc; "totem-run {version}\n{logs}end\n")?;
     let mut text = String::new(alloc);
     match read_run(alloc, &mut FromRead::new(bytes.as_bytes())) {
         Ok(run) => push_judged(alloc, &mut text, run, judge)?,
@@ -265,7 +265,81 @@ const RUNS: [Row; 24] = [
 #[test]
 fn small_runs_are_judged(rt: HostRuntime) -> Result<(), AllocError> {
     for row in &RUNS {
-        let told = told(rt.alloc(), row.logs, &row.judge)?;
+        let told = told(rt.alloc(), 1, row.logs, &row.judge)?;
+        is_told(&rt, &told, row.told, row.rule);
+    }
+    Ok(())
+}
+
+const QUIET_RUNS: [Row; 9] = [
+    Row {
+        rule: "all are quiet where all are",
+        logs: "log 1:1\nconf r4.1 1:1 2:1\nsend r4.1 s 4.1#1\ndlv r4.1 4.1#1\nquiet\n\
+        log 2:1\nconf r4.1 1:1 2:1\ndlv r4.1 4.1#1\nquiet\n",
+        judge: Judge::Audit,
+        told: "yes",
+    },
+    Row {
+        rule: "a quiet log beside a failure",
+        logs: "log 1:1\nconf r4.1 1:1 2:1\nquiet\n\
+        log 2:1\nconf r4.1 1:1 2:1\nfail r4.1\nfailed\n",
+        judge: Judge::Audit,
+        told: "no; 2.1 1@1",
+    },
+    Row {
+        rule: "a quiet log beside a member that has no log",
+        logs: "log 1:1\nconf r4.1 1:1 2:1\nquiet\n\
+        log 2:1\nconf r4.1 1:1 2:1\nquiet\n",
+        judge: Judge::AuditOfFirst,
+        told: "no; 2.1 1@1",
+    },
+    Row {
+        rule: "a quiet log beside an open one that went on",
+        logs: "log 1:1\nconf r4.1 1:1 2:1\nconf t8.1/1 1:1\nconf r8.1 1:1\nopen\n\
+        log 2:1\nconf r4.1 1:1 2:1\nquiet\n",
+        judge: Judge::Audit,
+        told: "no; 2.1 2@1",
+    },
+    Row {
+        rule: "a quiet log beside an open one that may still come",
+        logs: "log 1:1\nconf r4.1 1:1 2:1\nquiet\n\
+        log 2:1\nconf r1.2 2:1\nopen\n",
+        judge: Judge::Audit,
+        told: "yes",
+    },
+    Row {
+        rule: "a quiet log beside a quiet one that never came",
+        logs: "log 1:1\nconf r4.1 1:1 2:1\nquiet\n\
+        log 2:1\nconf r1.2 2:1\nquiet\n",
+        judge: Judge::Audit,
+        told: "no; 2.1 1@1",
+    },
+    Row {
+        rule: "a quiet sender is not excused",
+        logs: "log 1:1\nconf r4.1 1:1 2:1\nsend r4.1 a 4.1#1\nquiet\n\
+        log 2:1\nconf r4.1 1:1 2:1\nopen\n",
+        judge: Judge::Audit,
+        told: "no; 3 1@2",
+    },
+    Row {
+        rule: "2.1 is asked whatever 2.2 says, and listed before it",
+        logs: "log 1:1\nconf r4.1 1:1\nfail r4.1\nconf t8.1/1 1:1\nquiet\n",
+        judge: Judge::Passes,
+        told: "a; 2.1 1@3; 2.2 1@3 b",
+    },
+    Row {
+        rule: "the members are those that the quiet log's own change names",
+        logs: "log 1:1\nconf r4.1 1:1\nquiet\n\
+        log 2:1\nconf r4.1 1:1 2:1\nfail r4.1\nfailed\n",
+        judge: Judge::Passes,
+        told: "a; 2.3 1@1 2@1 b",
+    },
+];
+
+#[test]
+fn runs_with_quiet_logs_are_judged(rt: HostRuntime) -> Result<(), AllocError> {
+    for row in &QUIET_RUNS {
+        let told = told(rt.alloc(), 3, row.logs, &row.judge)?;
         is_told(&rt, &told, row.told, row.rule);
     }
     Ok(())

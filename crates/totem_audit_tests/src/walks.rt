@@ -5,10 +5,9 @@ ghost use Rattle.totem_evs.specs.Answers.{MeetsPasses};
 
 use crate::values::is_told;
 use std::alloc::{AllocError, Global};
-use totem_audit::{Stitch, walk};
+use totem_audit::{Stitch, early, walk};
 use totem_evs::{Run, read_run};
 use totem_ids::{FromRead, Proc, ProcId, RingId};
-use totem_passes::{pass_a, pass_b};
 use totem_walk::{causality_is_of_pairs, entries_of};
 
 /// What the logs of a run are: these lines, or those of a run in which 1 sends this many messages and 1 and 2 deliver them.
@@ -51,16 +50,11 @@ fn text_of(alloc: Global, logs: &Logs) -> Result<String, AllocError> {
     Ok(text)
 }
 
-/// Whether the run has no fault of the first two passes.
+/// Whether the run has no fault of the first three passes.
 fn has_passed(alloc: Global, run: &Run) -> Result<bool, AllocError>
     ensures { IfOk result (λ passed. OnTrue passed (MeetsPasses run.now.logs)) }
 {
-    let faults = pass_a(alloc, run)?;
-    if !faults.is_empty() {
-        return Ok(false);
-    }
-    let unsent = pass_b(alloc, run)?;
-    Ok(unsent.is_empty())
+    Ok(early(alloc, run)?.is_empty())
 }
 
 /// Whether the walk is true, and if it took more looks than it may, how many.

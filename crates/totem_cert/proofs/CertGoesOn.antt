@@ -15,13 +15,12 @@ use Rattle.totem_ids.specs.Ranks.{rank_of}
 use Rattle.totem_ids.proofs.Lives.{process_then_is}
 use Rattle.totem_ids.proofs.Spelled.{byte_is, word_is, number_is}
 use Rattle.totem_evs.specs.Certificates.{Numbering}
-use Rattle.totem_evs.specs.Runs.{IsOfText}
 use Rattle.totem_evs.specs.RunText.{line, version_digit}
 use Rattle.totem_evs.specs.RunGrammar.{by_head}
 use Rattle.totem_evs.proofs.GoesOn.{Cut, Splits, ok_cut, fault_cut, test_cut, bind_cut, last_cut, byte_cut, word_cut, number_cut}
 use Rattle.totem_evs.proofs.LineGoesOn.{ProcessTo, process_cut, first_process_is}
 use Rattle.totem_cert.specs.CertRecord.{CertRecord}
-use Rattle.totem_cert.specs.Keeping.{IsNumber}
+use Rattle.totem_cert.specs.Keeping.{IsNumber, IsOfText}
 use Rattle.totem_cert.specs.CertText.{numbers_text, header_text, cert_text}
 use Rattle.totem_cert.specs.CertGrammar.{numbers_at, line_proc_at, begin_at, end_at, head_at, lines_at, header_end, header_at, cert_at}
 use Rattle.totem_cert.specs.CertFronts.{IsFront, IsLooseCertificate, IsLooseFront, IsFirstWrong}

@@ -3,14 +3,27 @@ use Rattle.std.proofs.Common.{◌≡◌, ℕ, ◌<◌, ◌≤◌, ◌⊎◌, inl
 use Rattle.std.specs.Prelude.{All}
 use Rattle.std.proofs.lemmas.Option.{slice_get_within, slice_get-get_or, slice_get_cases, get_or_from_slice_get}
 use Rattle.totem_ids.specs.declared.version.Version.{Version}
+use Rattle.totem_ids.specs.declared.version.Version.TheVariants.{One, Two, Three}
+use Rattle.totem_ids.specs.Processes.{IsProcessIn}
 use Rattle.totem_evs.specs.declared.log.Log.{Log}
 use Rattle.totem_evs.specs.Runs.{IsRunIn, IsLogIn}
 use Rattle.totem_evs.specs.Certificates.{Numbering, number_at}
 use Rattle.totem_cert.specs.Search.{place}
-use Rattle.totem_cert.specs.Keeping.{IsLineIn, IsCertificateIn}
+use Rattle.totem_cert.specs.Keeping.{IsLineIn, IsCertificateIn, IsOfText, certificate_version}
 use Rattle.totem_cert.specs.Progress.{IsSound, IsFull}
 use Rattle.totem_evs.proofs.LogOf.{in_order}
 use Rattle.totem_cert.proofs.LineFacts.{stands_at}
+
+-- a certificate of that version has a text, and writes the processes of the run
+pub of_text : (version : Version) → IsOfText (certificate_version version)
+of_text One = tt
+of_text Two = tt
+of_text Three = tt
+
+process_there : (version : Version) (p : ℕ) → IsProcessIn version p → IsProcessIn (certificate_version version) p
+process_there One p is = is
+process_there Two p is = is
+process_there Three p is = record { id_fits = is.id_fits; life_fits = is.life_fits; first = is.first }
 
 module _ (version : Version) (run : List Log) (lines : List Numbering) (is_run : IsRunIn version run) (sound : IsSound run lines) (full : IsFull run lines) where
   log_at : (k : ℕ) → k < length lines → (log : Log) × (slice_get run k ≡ Some log)
@@ -20,7 +33,7 @@ module _ (version : Version) (run : List Log) (lines : List Numbering) (is_run :
       go (inl (log, within, at, same)) = (log, at)
       go (inr (le, none)) = absurd (let c = sound.fits.count in omega arith)
 
-  line_is : (k : ℕ) (log : Log) (line : Numbering) → slice_get run k ≡ Some log → slice_get lines k ≡ Some line → IsLineIn version line
+  line_is : (k : ℕ) (log : Log) (line : Numbering) → slice_get run k ≡ Some log → slice_get lines k ≡ Some line → IsLineIn (certificate_version version) line
   line_is k log line at_l at_n =
       let h = is_run.each k log (slice_get_within run k log at_l) in
       let l : IsLogIn version log = rw (get_or_from_slice_get run k log log at_l) at h in
@@ -31,7 +44,7 @@ module _ (version : Version) (run : List Log) (lines : List Numbering) (is_run :
       let few = l.entries.few in
       let s = stands_at run lines k log line is_run.rising sound.fits at_l at_n in
       record {
-        process = rw proc l.process;
+        process = rw proc (process_there version log.proc l.process);
         numbers = record {
           some = omega arith;
           few = omega arith;
@@ -44,10 +57,10 @@ module _ (version : Version) (run : List Log) (lines : List Numbering) (is_run :
         };
       }
 
-  pub each_line : All (IsLineIn version) lines
+  pub each_line : All (IsLineIn (certificate_version version)) lines
   each_line = λ k d lt. (let l = log_at k lt in line_is k l.0 (get_or lines k d) l.1 (slice_get-get_or lines k d lt))
 
-  pub closable : IsCertificateIn version lines
+  pub closable : IsCertificateIn (certificate_version version) lines
   closable = record {
     few = (let c = sound.fits.count in let f = is_run.few in omega arith);
     rising = λ i j d lt below. (

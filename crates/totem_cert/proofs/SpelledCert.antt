@@ -14,12 +14,11 @@ use Rattle.totem_ids.specs.Processes.{process_text, process_then, IsProcessIn}
 use Rattle.totem_ids.proofs.Lives.{process_then_is, process_then_again}
 use Rattle.totem_ids.proofs.Spelled.{after, taken, guard_then, guard_else, parsed_is, byte_is, word_is, word_again}
 use Rattle.totem_evs.specs.Certificates.{Numbering}
-use Rattle.totem_evs.specs.Runs.{IsOfText}
 use Rattle.totem_evs.specs.RunText.{line}
 use Rattle.totem_evs.specs.RunGrammar.{by_head}
 use Rattle.totem_evs.proofs.SpelledLine.{not_within}
 use Rattle.totem_cert.specs.CertRecord.{CertRecord}
-use Rattle.totem_cert.specs.Keeping.{IsLineIn, IsCertificateOf}
+use Rattle.totem_cert.specs.Keeping.{IsLineIn, IsCertificateOf, IsOfText}
 use Rattle.totem_cert.specs.CertText.{numbers_text, line_text, header_text, cert_text}
 use Rattle.totem_cert.specs.CertGrammar.{numbers_at, line_proc_at, begin_at, end_at, head_at, lines_at, header_end, header_at, cert_at}
 use Rattle.totem_cert.proofs.LinesFromLeft.{NumbersFrom, are_numbers, numbers_from, LinesFrom, is_certificate, certificate_from}

@@ -3,10 +3,11 @@ use Rattle.std.specs.Prelude.{◌≡◌}
 use Rattle.totem_evs.specs.RunRecord.{RunRecord}
 use Rattle.totem_cert.specs.declared.order.Order.{Order}
 use Rattle.totem_cert.specs.declared.order.Order.TheVariants.{Positions, Cycle}
+use Rattle.totem_cert.specs.Keeping.{certificate_version}
 use Rattle.totem_evs.specs.Positions.{IsPositions}
 use Rattle.totem_evs.specs.ClosedLists.{IsCycle}
 
--- the one certificate of the run, of which texts have the version of the run's, or where it has none its closed list
+-- the one certificate of the run, in the version that goes with the run's, or where it has none its closed list
 abbrev pub IsOrder : RunRecord → Order → Type 0
-IsOrder run (Positions certificate) = (certificate.version ≡ run.version) × IsPositions run.logs certificate.lines
+IsOrder run (Positions certificate) = (certificate.version ≡ certificate_version run.version) × IsPositions run.logs certificate.lines
 IsOrder run (Cycle fault) = IsCycle run.logs fault

@@ -2,10 +2,9 @@
 use Rattle.std.specs.Prelude.{◌≡◌, ℕ, ◌≤◌, List, [], ◌∷◌, ◌++◌, length, All, AllPairs}
 use Rattle.totem_ids.specs.declared.version.Version.{Version}
 use Rattle.totem_evs.specs.Certificates.{Numbering}
-use Rattle.totem_evs.specs.Runs.{IsOfText}
 use Rattle.totem_evs.specs.TextFronts.{but_last}
 use Rattle.totem_cert.specs.CertRecord.{CertRecord}
-use Rattle.totem_cert.specs.Keeping.{IsBelowLine, IsLineIn, IsCertificateOf}
+use Rattle.totem_cert.specs.Keeping.{IsBelowLine, IsLineIn, IsCertificateOf, IsOfText}
 use Rattle.totem_cert.specs.CertText.{cert_text}
 
 -- the text of some certificate begins so

@@ -5,7 +5,7 @@ use Rattle.totem_ids.specs.declared.version.Version.TheVariants.{One, Two, Three
 use Rattle.totem_ids.specs.Ranks.{life_of}
 use Rattle.totem_ids.specs.Processes.{writes_lives}
 use Rattle.totem_evs.specs.declared.refused.ListFault.{ListFault}
-use Rattle.totem_evs.specs.declared.refused.ListFault.TheVariants.{Empty, TooMany, NotRising, Life}
+use Rattle.totem_evs.specs.declared.refused.ListFault.TheVariants.{Empty, TooMany, NotRising, Life, Silence}
 use Rattle.totem_evs.specs.Certificates.{Numbering}
 use Rattle.totem_evs.specs.Lists.{Refuses}
 use Rattle.totem_cert.specs.Keeping.{IsBelowLine, IsCertificate}
@@ -33,3 +33,4 @@ RefusesCertificate version lines Empty = Refuses 0 32 IsBelowLine lines Empty
 RefusesCertificate version lines (TooMany limit) = Refuses 0 32 IsBelowLine lines (TooMany limit)
 RefusesCertificate version lines (NotRising at) = Refuses 0 32 IsBelowLine lines (NotRising at)
 RefusesCertificate version lines (Life at) = IsCertificate lines × IsUnwritten version lines at
+RefusesCertificate version lines (Silence at) = ⊥

@@ -7,11 +7,10 @@ use Rattle.totem_ids.specs.declared.version.Version.{Version}
 use Rattle.totem_ids.specs.declared.version.Version.TheVariants.{One, Two}
 use Rattle.totem_ids.specs.Processes.{process_text, IsProcessIn}
 use Rattle.totem_evs.specs.Certificates.{Numbering}
-use Rattle.totem_evs.specs.Runs.{IsOfText}
 use Rattle.totem_evs.specs.RunText.{line, version_digit}
 use Rattle.totem_evs.specs.TextFaults.{Differs, BreaksNumber}
 use Rattle.totem_cert.specs.CertRecord.{CertRecord}
-use Rattle.totem_cert.specs.Keeping.{IsNumber, IsCertificateOf}
+use Rattle.totem_cert.specs.Keeping.{IsNumber, IsCertificateOf, IsOfText}
 use Rattle.totem_cert.specs.CertText.{numbers_text, line_text, header_text}
 use Rattle.totem_cert.specs.CertGrammar.{numbers_at, head_at, cert_at}
 

@@ -2,11 +2,10 @@
 -- "Certificates").
 use Rattle.std.specs.Prelude.{◌≡◌, ℕ, ◌<◌, ◌≤◌, List, [], length, take, slice_get, Some, All, AllPairs}
 use Rattle.totem_ids.specs.declared.version.Version.{Version}
-use Rattle.totem_ids.specs.declared.version.Version.TheVariants.{Two}
+use Rattle.totem_ids.specs.declared.version.Version.TheVariants.{One, Two, Three}
 use Rattle.totem_ids.specs.Processes.{IsProcessIn}
 use Rattle.totem_ids.specs.Texts.{IsUpTo}
 use Rattle.totem_evs.specs.Certificates.{Numbering}
-use Rattle.totem_evs.specs.Runs.{IsOfText}
 use Rattle.totem_cert.specs.CertRecord.{CertRecord}
 use Rattle.totem_cert.specs.declared.numbers.NumbersFault.{NumbersFault}
 use Rattle.totem_cert.specs.declared.numbers.NumbersFault.TheVariants.{Empty, TooMany, Zero}
@@ -44,7 +43,19 @@ pub record IsCertificateIn (version : Version) (lines : List Numbering) : Type 0
 abbrev pub IsCertificate : List Numbering → Type 0
 IsCertificate = IsCertificateIn Two
 
--- a certificate: the lines are ones that texts of its version can write. Its versions are those of runs
+-- the versions of which there are texts of certificates
+abbrev pub IsOfText : Version → Type 0
+IsOfText One = Unit {0}
+IsOfText Two = Unit {0}
+IsOfText Three = ⊥
+
+-- the version of the certificate of a run of this version: how logs end is not said in it, so no certificate is of version 3
+abbrev pub certificate_version : Version → Version
+certificate_version One = One
+certificate_version Two = Two
+certificate_version Three = Two
+
+-- a certificate: the lines are ones that texts of its version can write
 pub record IsCertificateOf (certificate : CertRecord) : Type 0 where
   pub version : IsOfText certificate.version
   pub lines : IsCertificateIn certificate.version certificate.lines

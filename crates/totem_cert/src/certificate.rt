@@ -1,8 +1,7 @@
 ghost use Rattle.std.specs.Prelude.{◌≡◌, ◌↔◌, IsTrue, IfOk, MatchResult};
 ghost use Rattle.totem_evs.specs.Lists.{Refuses};
-ghost use Rattle.totem_evs.specs.Runs.{IsOfText};
 ghost use Rattle.totem_cert.specs.CertLives.{RefusesCertificate, IsFirstVersion};
-ghost use Rattle.totem_cert.specs.Keeping.{IsBelowLine, IsCertificate, IsCertificateIn};
+ghost use Rattle.totem_cert.specs.Keeping.{IsBelowLine, IsCertificate, IsCertificateIn, IsOfText};
 
 use crate::line::Line;
 use crate::lines::Lines;

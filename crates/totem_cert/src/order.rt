@@ -1,5 +1,6 @@
 ghost use Rattle.std.specs.Prelude.{◌≡◌, IfOk, IfSome};
 ghost use Rattle.totem_cert.specs.Answer.{IsOrder};
+ghost use Rattle.totem_cert.specs.Keeping.{certificate_version};
 ghost use Rattle.totem_cert.specs.Progress.{IsSound, IsFull};
 ghost use Rattle.totem_table.specs.Tables.{IsTable};
 
@@ -13,6 +14,7 @@ use crate::numbering::{first_left, number_all};
 use crate::open_line::OpenLine;
 use std::alloc::{AllocError, Global};
 use totem_evs::{Fault, Run};
+use totem_ids::Version;
 use totem_table::Table;
 
 /// The positions of a run's events, or the closed list because of which they have none.
@@ -33,11 +35,21 @@ impl Order {
     }
 }
 
+/// Returns the version of the certificate of a run of this version. A certificate does not say how logs end.
+fn certificate_version(version: Version) -> Version
+    ensures { result ≡ certificate_version version }
+{
+    match version {
+        Version::One => Version::One,
+        Version::Two | Version::Three => Version::Two,
+    }
+}
+
 /// Makes the certificate of lines in which every entry has its number.
 fn certificate(alloc: Global, run: &Run, lines: Vec<OpenLine>) -> Result<Certificate, AllocError>
     requires sound { IsSound run.now.logs lines.items }
     requires full { IsFull run.now.logs lines.items }
-    ensures version { IfOk result (λ c. c.version ≡ run.now.version) }
+    ensures version { IfOk result (λ c. c.version ≡ certificate_version run.now.version) }
     ensures lines { IfOk result (λ c. c.lines ≡ lines.items) }
 {
     let _ = run.logs.as_slice();
@@ -46,7 +58,7 @@ fn certificate(alloc: Global, run: &Run, lines: Vec<OpenLine>) -> Result<Certifi
         list.push(line.close())?;
     }
     Ok(Certificate {
-        version: run.version,
+        version: certificate_version(run.version),
         lines: Lines::of(list),
     })
 }

@@ -2,7 +2,7 @@
 use Rattle.std.proofs.Common.{◌≡◌, ◌≢◌, inl, inr, List, [], ◌∷◌, Option, Some, None, Result, Ok, Err, subst, arith}
 use Rattle.totem_evs.specs.declared.log.Log.{Log}
 use Rattle.totem_evs.specs.declared.fault.Fault.{Fault}
-use Rattle.totem_evs.specs.Answers.{No, IsAnswered, HasCertificate, Lists, ListsConfigurations, pass_a, pass_b}
+use Rattle.totem_evs.specs.Answers.{No, IsAnswered, HasCertificate, Lists, ListsConfigurations, MeetsPasses, pass_a, pass_b}
 use Rattle.totem_evs.specs.Certificates.{Numbering}
 use Rattle.totem_evs.proofs.Synchronous.{meets_passes, meets_configurations, synchronous, sound}
 use Rattle.totem_check.specs.declared.certificate_fault.CertificateFault.{CertificateFault}
@@ -36,14 +36,17 @@ first_of_b run first listed fault others a none h e =
     let here : Lists run pass_b (fault ∷ others) = subst (λ (fs : List Fault). Lists run pass_b fs) e h in
     first_listed run fault others (not_nothing fault others, inr (inl (clean, here)))
 
+-- where the first two passes list nothing, the run meets their specifications
+pub passed : (run : List Log) (first second : List Fault) → Lists run pass_a first → first ≡ [] → Lists run pass_b second → second ≡ [] → MeetsPasses run
+passed run first second a no_a b no_b =
+    meets_passes run (subst (λ (fs : List Fault). Lists run pass_a fs) no_a a) (subst (λ (fs : List Fault). Lists run pass_b fs) no_b b)
+
 -- the last pass begins with a fault, or the run meets the specifications
 pub first_of_d : (run : List Log) (first second listed : List Fault) (found : Option Fault) → HasCertificate run → Lists run pass_a first → first ≡ [] → Lists run pass_b second → second ≡ []
     → ListsConfigurations run listed → BeginsWith listed found → IsFirst run found
 first_of_d run first second listed None (lines, certified) a no_a b no_b d none =
-    let clean_a : Lists run pass_a [] = subst (λ (fs : List Fault). Lists run pass_a fs) no_a a in
-    let clean_b : Lists run pass_b [] = subst (λ (fs : List Fault). Lists run pass_b fs) no_b b in
     let clean_d : ListsConfigurations run [] = subst (λ (fs : List Fault). ListsConfigurations run fs) none d in
-    let meets = meets_passes run clean_a clean_b in
+    let meets = passed run first second a no_a b no_b in
     (meets, synchronous run lines meets certified (meets_configurations run clean_d))
 first_of_d run first second listed (Some fault) certified a no_a b no_b d (others, is) =
     let clean_a : Lists run pass_a [] = subst (λ (fs : List Fault). Lists run pass_a fs) no_a a in

@@ -9,6 +9,7 @@ use Rattle.totem_evs.specs.declared.pending.Waiting.{Waiting}
 use Rattle.totem_evs.specs.ReportText.{fault_text, pending_text, waiting_text}
 use Rattle.totem_evs.specs.RunText.{line}
 use Rattle.totem_evs.specs.Answers.{Answer, Yes, No}
+use Rattle.totem_cert.specs.Keeping.{certificate_version}
 use Rattle.totem_cert.specs.CertText.{cert_text}
 
 -- a no: a line for each fault
@@ -29,7 +30,7 @@ yes_text version pending waiting = line (codes "verdict yes") ++ flat_map (pendi
 
 -- the report of an audit: a yes is followed by the certificate
 abbrev pub report_text : Version → Answer → List ℕ
-report_text version (Yes lines pending waiting) = yes_text version pending waiting ++ cert_text (record { version = version; lines = lines })
+report_text version (Yes lines pending waiting) = yes_text version pending waiting ++ cert_text (record { version = certificate_version version; lines = lines })
 report_text version (No faults) = no_text version faults
 
 -- the checker's yes

@@ -4,6 +4,7 @@ ghost use Rattle.totem_ids.specs.Sources.{seen};
 ghost use Rattle.totem_ids.specs.Writing.{held};
 ghost use Rattle.totem_evs.specs.Answers.{IsAnswered};
 ghost use Rattle.totem_evs.specs.Meanings.{IsSound};
+ghost use Rattle.totem_cert.specs.Keeping.{certificate_version};
 ghost use Rattle.totem_audit.specs.Verdicts.{answer_of, HasVersion};
 ghost use Rattle.totem_cluster.specs.AuditIo.{Audits, ReadsWhole, Says};
 
@@ -45,7 +46,7 @@ pub(crate) fn judge<T: Threads + Wait + Sync>(
 ) -> Result<Verdict, AllocError>
     ensures answer { IfOk result (λ verdict. IsAnswered run.now.logs (answer_of verdict)) }
     ensures sound { IfOk result (λ verdict. IsSound run.now.logs (answer_of verdict)) }
-    ensures version { IfOk result (λ verdict. HasVersion run.now.version verdict) }
+    ensures version { IfOk result (λ verdict. HasVersion (certificate_version run.now.version) verdict) }
 {
     if workers.count() == 1 {
         return audit(alloc, run);

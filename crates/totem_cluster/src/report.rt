@@ -7,6 +7,7 @@ ghost use Rattle.totem_evs.specs.SpecNo.{spec_text};
 ghost use Rattle.totem_evs.specs.ReportText.{places_text, fault_text};
 ghost use Rattle.totem_evs.specs.RunText.{line};
 ghost use Rattle.totem_evs.specs.WriteRun.{WritesText};
+ghost use Rattle.totem_cert.specs.Keeping.{certificate_version};
 ghost use Rattle.totem_audit.specs.Verdicts.{answer_of, HasVersion};
 ghost use Rattle.totem_cluster.specs.Report.{no_text, report_text, accepted_text};
 
@@ -96,7 +97,7 @@ fn put_report<S: Sink>(
     version: Version,
     verdict: &Verdict,
 ) -> Result<(), Failed>
-    requires { HasVersion version verdict.now }
+    requires { HasVersion (certificate_version version) verdict.now }
     ensures { Writes (held S.contents S.failures pieces.old sink.old)
         (held S.contents S.failures pieces.new sink.new) result (report_text version (answer_of verdict.now)) }
 {
@@ -135,7 +136,7 @@ pub fn write_report<S: Sink>(
     verdict: &Verdict,
     sink: &mut S,
 ) -> Result<(), WriteFault>
-    requires { HasVersion version verdict.now }
+    requires { HasVersion (certificate_version version) verdict.now }
     ensures { WritesText (held S.contents S.failures [] sink.old)
         (held S.contents S.failures [] sink.new) result (report_text version (answer_of verdict.now)) }
 {

@@ -28,7 +28,9 @@ pub enum Words {
 const ENDINGS: &str = "\
 Status: 0 yes, or a run was made, 1 no, or an orphan, 2 the input was refused, 3 out of memory, 4 a stream failed, 64 wrong words.";
 
-const AUDIT_EXAMPLE: &str = "Example: totem audit < examples/first-yes.run";
+const AUDIT_EXAMPLE: &str = "\
+A log ends with the line open, with failed behind a failure, or from version 3 on with quiet, which says that nothing more was to come.
+Example: totem audit < examples/first-yes.run";
 
 const EXPLAIN_EXAMPLE: &str = "Example: totem explain < examples/first-no.run";
 

@@ -70,7 +70,7 @@ fn bands_of(alloc: Global, lane: &Lane, slots: u32) -> Result<Vec<Band>, AllocEr
         })?;
     }
     let end = match lane.ending {
-        Ending::Standing => slots,
+        Ending::Standing | Ending::Quiet => slots,
         Ending::Failed => lane
             .spots
             .last()
@@ -84,6 +84,7 @@ fn ending(lane: &Lane) -> &'static str {
     match lane.ending {
         Ending::Standing => "open",
         Ending::Failed => "failed",
+        Ending::Quiet => "quiet",
     }
 }
 

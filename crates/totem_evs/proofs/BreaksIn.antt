@@ -63,6 +63,7 @@ pub breaks_in : (run : List Log) (c : RingId) (k : SpecNo) (places : List Place)
 breaks_in run c spec.Cycle places h = absurd h
 breaks_in run c spec.Unsent places h = absurd h
 breaks_in run c spec.Twice places h = absurd h
+breaks_in run c spec.End places h = absurd h
 breaks_in run c spec.Misplaced places h = absurd h
 breaks_in run c spec.Configuration places h = absurd h
 breaks_in run c spec.Turns places h = absurd h

@@ -11,7 +11,7 @@ use Rattle.totem_evs.specs.Changes.{StaysInPlace}
 use Rattle.totem_evs.specs.Agreement.{Goes}
 use Rattle.totem_evs.specs.Synchrony.{IsVirtuallySynchronous}
 use Rattle.totem_evs.specs.DeliveryFaults.{BreaksUnsent, BreaksTwice}
-use Rattle.totem_evs.specs.ChangeFaults.{IsMisplaced, BreaksPlace, BreaksConfiguration, AreWrongNeighbours, BreaksTurns}
+use Rattle.totem_evs.specs.ChangeFaults.{IsMisplaced, BreaksEnd, BreaksPlace, BreaksConfiguration, AreWrongNeighbours, BreaksTurns}
 use Rattle.totem_evs.specs.AgreementFaults.{GoesAt, BreaksOwnDelivery, BreaksAtomicity, BreaksCausality, BreaksGap, BreaksSafety, BreaksInstalled}
 use Rattle.totem_evs.specs.Laws.{BreaksAreBreaks}
 use Rattle.totem_evs.proofs.Closed.{closed_cycles, closed_rises}
@@ -32,6 +32,11 @@ twice run (e ∷ f ∷ []) (i, at, (j, at', inl (m, x, y, s, t, other))) ev =
 twice run (e ∷ f ∷ []) (i, at, (j, at', inr (m, x, y, s, t, same, never))) ev = never (ev.basic.once.one_delivery e.proc i j m x y s (rw same t))
 twice run [] h ev = h
 twice run (e ∷ f ∷ g ∷ more) h ev = h
+
+end : (run : List Log) (places : List Place) → BreaksEnd run places → IsVirtuallySynchronous run → ⊥
+end run (e ∷ []) (i, at, (x, ms, q, quiet, last, member, never)) ev = never (ev.changes.together e.proc i x ms q quiet last member)
+end run [] h ev = h
+end run (e ∷ f ∷ more) h ev = h
 
 -- what stays in place has nothing out of place
 pub placed_contradicts : (log : List Entry) (i : ℕ) → StaysInPlace log → IsMisplaced log i → ⊥
@@ -117,6 +122,7 @@ pub breaks : BreaksAreBreaks
 breaks run spec.Cycle places h ev = closed_cycles run places ev.basic.no_cycle h
 breaks run spec.Unsent places h ev = unsent run places h ev
 breaks run spec.Twice places h ev = twice run places h ev
+breaks run spec.End places h ev = end run places h ev
 breaks run spec.Misplaced places h ev = misplaced run places h ev
 breaks run spec.Configuration places h ev = configuration run places h ev
 breaks run spec.Turns places h ev = turns run places h ev

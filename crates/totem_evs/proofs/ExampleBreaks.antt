@@ -129,7 +129,7 @@ sender_moved_on = (
     (
       first,
       (Agreed, refl),
-      moved_on (log_of runs.sender_moved_on (first_life 1)) 3 (ring 8) (ring 4) alone first refl (omega arith, (tt, (omega arith, (omega arith, tt)))) (other_ring (ring 4) (ring 8) (λ e. omega arith)),
+      moved_on runs.sender_moved_on (first_life 1) 3 (ring 8) (ring 4) alone first refl (omega arith, (tt, (omega arith, (omega arith, tt)))) (other_ring (ring 4) (ring 8) (λ e. omega arith)),
     ),
   ),
 )
@@ -292,7 +292,7 @@ safe_with_a_member_that_moved_on = (
       refl,
       inl refl,
       (first_life 1, 0, all_three, refl, search rules),
-      moved_on (log_of runs.safe_with_a_member_that_moved_on (first_life 3)) 2 (ring_of_3 8) (ring 4) lone_3 first refl (omega arith, (omega arith, (omega arith, tt)))
+      moved_on runs.safe_with_a_member_that_moved_on (first_life 3) 2 (ring_of_3 8) (ring 4) lone_3 first refl (omega arith, (omega arith, (omega arith, tt)))
           (other_ring (ring 4) (ring_of_3 8) (λ e. omega arith)),
     ),
   ),
@@ -312,7 +312,7 @@ safe_with_a_member_that_never_came = (
       refl,
       inl refl,
       (first_life 1, 0, all_three, refl, search rules),
-      moved_on (log_of runs.safe_with_a_member_that_never_came (first_life 3)) 0 (ring_of_3 1) (ring 4) lone_3 first refl (omega arith, tt)
+      moved_on runs.safe_with_a_member_that_never_came (first_life 3) 0 (ring_of_3 1) (ring 4) lone_3 first refl (omega arith, tt)
           (other_ring (ring 4) (ring_of_3 1) (λ e. omega arith)),
     ),
   ),

@@ -19,6 +19,7 @@ use Rattle.totem_evs.specs.Examples.{ring, regular, first, pair, first_life}
 use Rattle.totem_evs.specs.ExampleClaims.{numbers}
 use Rattle.totem_evs.specs.ExampleClaims as claim
 use Rattle.totem_evs.proofs.ExamplePlaces.{each_log}
+use Rattle.totem_evs.proofs.ExampleSteps.{never_quiet, open_ended}
 use Rattle.totem_evs.proofs.ExampleCertified.{both, is_change, is_send, is_delivery, no_failure, certified}
 use Rattle.totem_evs.proofs.Precedence.{each_log_ordered, each_twins_agree}
 use Rattle.totem_evs.proofs.Consistent.{breaks}
@@ -26,7 +27,7 @@ use Rattle.totem_evs.proofs.Causal.{chains}
 use Rattle.totem_evs.proofs.Ordered.{ordered}
 
 -- a member is 1 or 2
-one_or_two : (q : ℕ) → Contains pair q → (q ≡ first_life 1) ⊎ (q ≡ first_life 2)
+pub one_or_two : (q : ℕ) → Contains pair q → (q ≡ first_life 1) ⊎ (q ≡ first_life 2)
 one_or_two q (zero, lt, e) = inl (sym e)
 one_or_two q (suc zero, lt, e) = inr (sym e)
 one_or_two q (suc (suc k), lt, e) = absurd (omega arith)
@@ -103,6 +104,7 @@ one_configuration = record {
 
 changes : ConfigurationChanges both
 changes = record {
+  together = λ p i x ms q quiet last member. absurd (never_quiet both (open_ended, (open_ended, tt)) p quiet);
   in_place = in_place;
   one = one_configuration;
   turns = turns;
@@ -151,8 +153,8 @@ nothing_breaks k places broken = breaks both k places broken one_message_deliver
 pub certified_by_its_numbers : claim.CertifiedByItsNumbers
 certified_by_its_numbers = certified
 
-not_pending : (q : ℕ) (m : MsgId) (c : RingId) (p i : ℕ) → Sends (log_of both p) i m (Regular c) → OpenIn (log_of both q) c → HasDelivered (log_of both q) c m
-not_pending q m c p i (s, at) (d, goes_on, last, stays) =
+not_pending : (q : ℕ) (m : MsgId) (c : RingId) (p i : ℕ) → Sends (log_of both p) i m (Regular c) → OpenIn both q c → HasDelivered (log_of both q) c m
+not_pending q m c p i (s, at) (loud, (d, goes_on, last, stays)) =
     let a = is_send p i m (Regular c) s at in
     let b = is_change q last.index d last.change.0 last.change.1 in
     delivers_it q c m (one_or_two q b.member) a.conf a.msg

@@ -1,5 +1,5 @@
 -- The small runs keep the rules of a run.
-use Rattle.totem_ids.specs.declared.version.Version.TheVariants.{Two}
+use Rattle.totem_ids.specs.declared.version.Version.TheVariants.{Three}
 use Rattle.totem_ids.specs.Processes.{IsProcessIn}
 use Rattle.totem_ids.proofs.RankParts.{id_of_rank, life_of_rank}
 use Rattle.std.specs.Prelude.{nat_lt, nat_le, ◌&&◌}
@@ -9,6 +9,9 @@ use Rattle.std.proofs.lemmas.Option.{slice_get-get_or}
 use Rattle.totem_evs.specs.declared.entry.Entry.{Entry}
 use Rattle.totem_evs.specs.declared.entry.Entry.TheVariants.{Conf, Send, Deliver, Fail}
 use Rattle.totem_evs.specs.declared.log.Log.{Log}
+use Rattle.totem_evs.specs.declared.ending.Ending.{Ending}
+use Rattle.totem_evs.specs.declared.ending.Ending.TheVariants.{Standing, Failed, Quiet}
+use Rattle.totem_evs.specs.Endings.{IsEndingIn}
 use Rattle.totem_ids.specs.declared.conf.ConfId.{ConfId}
 use Rattle.totem_ids.specs.declared.conf.ConfId.TheVariants.{Regular, Transitional}
 use Rattle.totem_ids.specs.Names.{RingName, MessageName}
@@ -16,27 +19,27 @@ use Rattle.totem_ids.specs.Texts.{IsUpTo, IsRing, IsConf, IsMessage}
 use Rattle.totem_evs.specs.Members.{IsMembers, IsBelow}
 use Rattle.totem_evs.specs.Runs.{IsEntry, IsFailure, IsLog, IsBelowLog, IsRun}
 use Rattle.totem_ids.specs.declared.message.Service.TheVariants.{Agreed}
-use Rattle.totem_evs.specs.Examples.{regular, first, alone, pair, all_three, lone_3, standing, failed, first_life}
+use Rattle.totem_evs.specs.Examples.{regular, first, alone, pair, all_three, lone_3, standing, failed, quiet, first_life}
 use Rattle.totem_evs.specs.Examples as runs
 use Rattle.totem_evs.specs.ExampleClaims.{examples}
 use Rattle.totem_evs.specs.ExampleClaims as claim
 use Rattle.totem_evs.proofs.ExampleSteps.{InLog, in_log}
 use Rattle.totem_evs.proofs.ExamplePlaces.{Each, all_of, Pairwise, pairs_of}
 
-process : (id : ℕ) → 0 < id → id ≤ 65535 → IsProcessIn Two (first_life id)
+process : (id : ℕ) → 0 < id → id ≤ 65535 → IsProcessIn Three (first_life id)
 process id some few = record {
   id_fits = rw (id_of_rank id 1 (lit< tt)) (record { positive = some; small = few });
   life_fits = rw (life_of_rank id 1 (lit< tt)) (record { positive = lit< tt; small = omega arith });
   first = λ h. absurd cc;
 }
 
-first_process : IsProcessIn Two (first_life 1)
+first_process : IsProcessIn Three (first_life 1)
 first_process = process 1 (lit< tt) (omega arith)
 
-second_process : IsProcessIn Two (first_life 2)
+second_process : IsProcessIn Three (first_life 2)
 second_process = process 2 (lit< tt) (omega arith)
 
-third_process : IsProcessIn Two (first_life 3)
+third_process : IsProcessIn Three (first_life 3)
 third_process = process 3 (lit< tt) (omega arith)
 
 -- the lists of members
@@ -45,7 +48,7 @@ of_1 = record {
   some = lit< tt;
   few = omega arith;
   rising = pairs_of IsBelow alone (tt, tt);
-  processes = all_of (IsProcessIn Two) alone (first_process, tt);
+  processes = all_of (IsProcessIn Three) alone (first_process, tt);
 }
 
 of_2 : IsMembers pair
@@ -53,7 +56,7 @@ of_2 = record {
   some = lit< tt;
   few = omega arith;
   rising = pairs_of IsBelow pair ((lit< tt, tt), (tt, tt));
-  processes = all_of (IsProcessIn Two) pair (first_process, (second_process, tt));
+  processes = all_of (IsProcessIn Three) pair (first_process, (second_process, tt));
 }
 
 of_3 : IsMembers all_three
@@ -61,7 +64,7 @@ of_3 = record {
   some = lit< tt;
   few = omega arith;
   rising = pairs_of IsBelow all_three ((lit< tt, (lit< tt, tt)), ((lit< tt, tt), (tt, tt)));
-  processes = all_of (IsProcessIn Two) all_three (first_process, (second_process, (third_process, tt)));
+  processes = all_of (IsProcessIn Three) all_three (first_process, (second_process, (third_process, tt)));
 }
 
 of_lone_3 : IsMembers lone_3
@@ -69,7 +72,7 @@ of_lone_3 = record {
   some = lit< tt;
   few = omega arith;
   rising = pairs_of IsBelow lone_3 (tt, tt);
-  processes = all_of (IsProcessIn Two) lone_3 (third_process, tt);
+  processes = all_of (IsProcessIn Three) lone_3 (third_process, tt);
 }
 
 -- a change has members that rise
@@ -138,9 +141,9 @@ GoesOn n i x = HasMembers x × (n ≡ i + 1 → IsFailure x → ⊥)
 on : {A B : Type 0} → A → A × (B → ⊥ → ⊥)
 on a = (a, λ e fails. fails)
 
-goes_on : (p : ℕ) (entries : List Entry) → IsProcessIn Two (first_life p) → 0 < length entries → length entries ≤ 1000000 → each_in_range entries ≡ true → InLog (GoesOn (length entries)) 0 entries
-    → IsLog (standing p entries)
-goes_on p entries process some few in_range all = record {
+ends_as : (ending : Ending) → (ending ≡ Failed → ⊥) → IsEndingIn Three ending → (p : ℕ) (entries : List Entry) → IsProcessIn Three (first_life p) → 0 < length entries → length entries ≤ 1000000
+    → each_in_range entries ≡ true → InLog (GoesOn (length entries)) 0 entries → IsLog (record { proc = first_life p; entries = entries; ending = ending })
+ends_as ending other word p entries process some few in_range all = record {
   process = process;
   entries = record {
     some = some;
@@ -148,8 +151,17 @@ goes_on p entries process some few in_range all = record {
     each = λ k d lt. let at = slice_get-get_or entries k d lt in
         entry_is (get_or entries k d) (in_log (GoesOn (length entries)) entries all k (get_or entries k d) at).0 (in_range_at entries k (get_or entries k d) in_range at);
   };
-  ending = ((λ e. absurd cc), (λ (i, last, end, at, fails). absurd ((in_log (GoesOn (length entries)) entries all i last at).1 end fails)));
+  ending = ((λ e. absurd (other e)), (λ (i, last, end, at, fails). absurd ((in_log (GoesOn (length entries)) entries all i last at).1 end fails)));
+  word = word;
 }
+
+goes_on : (p : ℕ) (entries : List Entry) → IsProcessIn Three (first_life p) → 0 < length entries → length entries ≤ 1000000 → each_in_range entries ≡ true → InLog (GoesOn (length entries)) 0 entries
+    → IsLog (standing p entries)
+goes_on = ends_as Standing (λ e. absurd cc) tt
+
+no_more : (p : ℕ) (entries : List Entry) → IsProcessIn Three (first_life p) → 0 < length entries → length entries ≤ 1000000 → each_in_range entries ≡ true → InLog (GoesOn (length entries)) 0 entries
+    → IsLog (quiet p entries)
+no_more = ends_as Quiet (λ e. absurd cc) refl
 
 is_run : (run : List Log) → length run ≤ 32 → Pairwise IsBelowLog run → Each IsLog run → IsRun run
 is_run run few rising each = record { few = few; rising = pairs_of IsBelowLog run rising; each = all_of IsLog run each }
@@ -283,6 +295,7 @@ failed_log = record {
         (entry_is (Conf (regular 4) pair) of_2 refl, (entry_is (Send first (regular 4) Agreed) tt refl, (entry_is (Fail (regular 4)) tt refl, tt)));
   };
   ending = ((λ e. (2, Fail (regular 4), refl, refl, tt)), (λ ends. refl));
+  word = tt;
 }
 
 sent_and_failed : IsRun runs.sent_and_failed
@@ -292,5 +305,38 @@ sent_and_failed =
       (goes_on 2 _ second_process (lit< tt) (omega arith) refl (on of_2, tt), tt),
     )
 
+failure_alone : IsLog (failed 2 (Conf (regular 4) pair ∷ Fail (regular 4) ∷ []))
+failure_alone = record {
+  process = second_process;
+  entries = record {
+    some = lit< tt;
+    few = omega arith;
+    each = all_of IsEntry (Conf (regular 4) pair ∷ Fail (regular 4) ∷ []) (entry_is (Conf (regular 4) pair) of_2 refl, (entry_is (Fail (regular 4)) tt refl, tt));
+  };
+  ending = ((λ e. (1, Fail (regular 4), refl, refl, tt)), (λ ends. refl));
+  word = tt;
+}
+
+quiet_beside_a_failure : IsRun runs.quiet_beside_a_failure
+quiet_beside_a_failure =
+    is_run runs.quiet_beside_a_failure (omega arith) ((lit< tt, tt), (tt, tt)) (
+      no_more 1 _ first_process (lit< tt) (omega arith) refl (on of_2, tt),
+      (failure_alone, tt),
+    )
+
+quiet_together : IsRun runs.quiet_together
+quiet_together =
+    is_run runs.quiet_together (omega arith) ((lit< tt, tt), (tt, tt)) (
+      no_more 1 _ first_process (lit< tt) (omega arith) refl (on of_2, tt),
+      (no_more 2 _ second_process (lit< tt) (omega arith) refl (on of_2, tt), tt),
+    )
+
+sent_and_quiet : IsRun runs.sent_and_quiet
+sent_and_quiet =
+    is_run runs.sent_and_quiet (omega arith) ((lit< tt, tt), (tt, tt)) (
+      no_more 1 _ first_process (lit< tt) (omega arith) refl (on of_2, (on tt, tt)),
+      (goes_on 2 _ second_process (lit< tt) (omega arith) refl (on of_2, tt), tt),
+    )
+
 pub each_is_a_run : claim.EachIsARun
-each_is_a_run = all_of IsRun examples (delivered_before_sent, (delivered_never_sent, (delivered_two_rings_later, (sent_twice, (goes_on_after_a_failure, (one_configuration_twice, (sender_moved_on, (went_on_together, (cause_never_delivered, (two_orders, (gap_where_the_sender_stayed, (safe_with_a_member_that_moved_on, (safe_with_a_member_that_never_came, (one_message_delivered_by_both, (safe_message_on_the_way, (sent_and_open, (sent_and_failed, tt)))))))))))))))))
+each_is_a_run = all_of IsRun examples (delivered_before_sent, (delivered_never_sent, (delivered_two_rings_later, (sent_twice, (goes_on_after_a_failure, (one_configuration_twice, (sender_moved_on, (went_on_together, (cause_never_delivered, (two_orders, (gap_where_the_sender_stayed, (safe_with_a_member_that_moved_on, (safe_with_a_member_that_never_came, (one_message_delivered_by_both, (safe_message_on_the_way, (sent_and_open, (sent_and_failed, (quiet_beside_a_failure, (quiet_together, (sent_and_quiet, tt))))))))))))))))))))

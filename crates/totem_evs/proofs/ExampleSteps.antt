@@ -8,8 +8,9 @@ use Rattle.totem_ids.specs.declared.message.MsgId.{MsgId}
 use Rattle.totem_evs.specs.declared.entry.Entry.{Entry}
 use Rattle.totem_evs.specs.declared.entry.Entry.TheVariants.{Conf, Send, Deliver, Fail}
 use Rattle.totem_evs.specs.declared.log.Log.{Log}
-use Rattle.totem_evs.specs.Events.{IsChange, ChangesWith, log_of}
-use Rattle.totem_evs.specs.Following.{Com, OpenIn, DeliversOrEnds}
+use Rattle.totem_evs.specs.declared.ending.Ending.TheVariants.{Standing, Failed, Quiet}
+use Rattle.totem_evs.specs.Events.{IsChange, ChangesWith, IsQuiet, log_of}
+use Rattle.totem_evs.specs.Following.{Com, StaysIn, DeliversOrEnds}
 
 -- P holds of the entries, which count from `from`
 abbrev pub InLog : (ℕ → Entry → Type 0) → ℕ → List Entry → Type 0
@@ -53,11 +54,11 @@ pub none_between : (log : List Entry) (a b : ℕ) → InLog (NoChange a b) 0 log
 none_between log a b all k above below (x, (members, at)) = in_log (NoChange a b) log all k (Conf x members) at above below
 
 -- the last change is at `last`, nothing fails, and m is not delivered
-abbrev pub Quiet : ℕ → MsgId → ℕ → Entry → Type 0
-Quiet last m k (Conf x members) = k ≤ last
-Quiet last m k (Send n x service) = Unit {0}
-Quiet last m k (Deliver n x) = n ≡ m → ⊥
-Quiet last m k (Fail x) = ⊥
+abbrev pub Still : ℕ → MsgId → ℕ → Entry → Type 0
+Still last m k (Conf x members) = k ≤ last
+Still last m k (Send n x service) = Unit {0}
+Still last m k (Deliver n x) = n ≡ m → ⊥
+Still last m k (Fail x) = ⊥
 
 same_place : (log : List Entry) (i j : ℕ) (x y : ConfId) (ms ns : List ℕ) → i ≡ j → ChangesWith log i x ms → ChangesWith log j y ns → x ≡ y
 same_place log i j x y ms ns e at_i at_j = cc
@@ -66,20 +67,39 @@ not_com : (log : List Entry) (c e : RingId) (d : ConfId) → d ≡ Regular e →
 not_com log c e d is other (inl same) = other cc
 not_com log c e d is other (inr follows) = rw is at follows.transitional
 
--- a log that ends in the regular configuration of a ring is open in no other
-open_at_last : (log : List Entry) (last : ℕ) (e c : RingId) (ms : List ℕ) (m : MsgId) → ChangesWith log last (Regular e) ms → InLog (Quiet last m) 0 log → (c ≡ e → ⊥) → OpenIn log c → ⊥
-open_at_last log last e c ms m at quiet other (d, goes_on, end, stays) =
+-- a log that ends in the regular configuration of a ring stays in no other
+stays_at_last : (log : List Entry) (last : ℕ) (e c : RingId) (ms : List ℕ) (m : MsgId) → ChangesWith log last (Regular e) ms → InLog (Still last m) 0 log → (c ≡ e → ⊥) → StaysIn log c → ⊥
+stays_at_last log last e c ms m at quiet other (d, goes_on, end, stays) =
     let not_below : end.index < last → ⊥ = λ lt. end.none_after last lt (Regular e, (ms, at)) in
-    let not_above : end.index ≤ last = in_log (Quiet last m) log quiet end.index (Conf d end.change.0) end.change.1 in
+    let not_above : end.index ≤ last = in_log (Still last m) log quiet end.index (Conf d end.change.0) end.change.1 in
     let same : end.index ≡ last = omega arith in
     not_com log c e d (same_place log end.index last d (Regular e) end.change.0 ms same end.change.1 at) other stays
 
 -- who went on to another ring without m owes it
-pub moved_on : (log : List Entry) (last : ℕ) (e c : RingId) (ms : List ℕ) (m : MsgId) → ChangesWith log last (Regular e) ms → InLog (Quiet last m) 0 log → (c ≡ e → ⊥)
-    → DeliversOrEnds log c m → ⊥
-moved_on log last e c ms m at quiet other (inl (i, (d, delivers, stays))) = in_log (Quiet last m) log quiet i (Deliver m d) delivers refl
-moved_on log last e c ms m at quiet other (inr (inl (i, d, fails, stays))) = in_log (Quiet last m) log quiet i (Fail d) fails
-moved_on log last e c ms m at quiet other (inr (inr still)) = open_at_last log last e c ms m at quiet other still
+pub moved_on : (run : List Log) (p last : ℕ) (e c : RingId) (ms : List ℕ) (m : MsgId) → ChangesWith (log_of run p) last (Regular e) ms → InLog (Still last m) 0 (log_of run p) → (c ≡ e → ⊥)
+    → DeliversOrEnds run p c m → ⊥
+moved_on run p last e c ms m at quiet other (inl (i, (d, delivers, stays))) = in_log (Still last m) (log_of run p) quiet i (Deliver m d) delivers refl
+moved_on run p last e c ms m at quiet other (inr (inl (i, d, fails, stays))) = in_log (Still last m) (log_of run p) quiet i (Fail d) fails
+moved_on run p last e c ms m at quiet other (inr (inr (loud, still))) = stays_at_last (log_of run p) last e c ms m at quiet other still
+
+-- no log is quiet
+abbrev pub NoneIsQuiet : List Log → Type 0
+NoneIsQuiet [] = Unit {0}
+NoneIsQuiet (log ∷ logs) = (log.ending ≡ Quiet → ⊥) × NoneIsQuiet logs
+
+pub never_quiet : (run : List Log) → NoneIsQuiet run → (p : ℕ) → IsQuiet run p → ⊥
+never_quiet [] none p quiet = absurd cc
+never_quiet (log ∷ logs) none p quiet = go (log.proc == p) refl (λ rest. never_quiet logs none.1 p rest)
+  where
+    go : (b : Bool) → (log.proc == p) ≡ b → (IsQuiet logs p → ⊥) → ⊥
+    go true e later = none.0 (rw e at quiet)
+    go false e later = later (rw e at quiet)
+
+pub open_ended : Standing ≡ Quiet → ⊥
+open_ended e = absurd cc
+
+pub failed_ended : Failed ≡ Quiet → ⊥
+failed_ended e = absurd cc
 
 -- rings, configurations and messages differ by their numbers
 pub other_ring : (c e : RingId) → (c.seq ≡ e.seq → ⊥) → c ≡ e → ⊥

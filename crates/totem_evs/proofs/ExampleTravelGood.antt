@@ -20,7 +20,7 @@ use Rattle.totem_evs.specs.Synchrony.{IsVirtuallySynchronous}
 use Rattle.totem_evs.specs.Examples.{ring, regular, transitional, first, pair, first_life}
 use Rattle.totem_evs.specs.ExampleClaims.{numbers_on_the_way}
 use Rattle.totem_evs.specs.ExampleClaims as claim
-use Rattle.totem_evs.proofs.ExampleSteps.{none_between}
+use Rattle.totem_evs.proofs.ExampleSteps.{none_between, never_quiet, open_ended}
 use Rattle.totem_evs.proofs.ExamplePlaces.{each_log}
 use Rattle.totem_evs.proofs.ExampleTravel.{run, stage, fact, ascends, one_index, IsNumbered, IsMemberOfBoth, Fact, certified}
 use Rattle.totem_evs.proofs.Precedence.{each_log_ordered, each_twins_agree}
@@ -218,7 +218,7 @@ origin p i j q k l c d t ms ns ks ls lt is_transitional h g =
     (after_regular c t (neighbours p i j (Regular c) t ms ns h)).0 ∙ sym (after_regular d t (neighbours q k l (Regular d) t ks ls g)).0
 
 changes : ConfigurationChanges run
-changes = record { in_place = in_place; one = one_configuration; turns = turns; origin = origin; twins = each_twins_agree run }
+changes = record { together = λ p i x ms q quiet last member. absurd (never_quiet run (open_ended, (open_ended, tt)) p quiet); in_place = in_place; one = one_configuration; turns = turns; origin = origin; twins = each_twins_agree run }
 
 -- the delivery is in the transitional configuration, which follows ring 4 alone
 of_ring_4 : (p : ℕ) (c : RingId) (d : ConfId) → d ≡ transitional 8 → Com (log_of run p) c d → c ≡ ring 4

@@ -10,7 +10,7 @@ use Rattle.totem_ids.specs.Sources.{Parsed, ◌>>=◌}
 use Rattle.totem_ids.specs.Numbers.{byte_at, word_at}
 use Rattle.totem_ids.proofs.Spelled.{taken, word_is, word_again}
 use Rattle.totem_evs.specs.declared.entry.Entry.TheVariants.{Conf, Send, Deliver, Fail}
-use Rattle.totem_evs.specs.declared.ending.Ending.TheVariants.{Standing, Failed}
+use Rattle.totem_evs.specs.declared.ending.Ending.TheVariants.{Standing, Failed, Quiet}
 use Rattle.totem_evs.specs.declared.line.Line.{Line}
 use Rattle.totem_evs.specs.declared.line.Line.TheVariants as lines
 use Rattle.totem_evs.specs.declared.part.Part.{Part}
@@ -39,6 +39,7 @@ line_some version (lines.Entry (Deliver m x)) = omega arith
 line_some version (lines.Entry (Fail x)) = omega arith
 line_some version (lines.Close Standing) = omega arith
 line_some version (lines.Close Failed) = omega arith
+line_some version (lines.Close Quiet) = omega arith
 
 head_some : (version : Version) (head : Option ℕ) → 0 < length (head_text version head)
 head_some version None = omega arith
@@ -210,29 +211,33 @@ breaks_end version bytes d = ap (λ (r : Parsed (Unit {0})). r >>= λ w. Ok (ver
 header_breaks : (bytes : List ℕ) → header_at bytes ≡ Err faults.Header → BreaksHeader bytes
 unfolding header_at
 header_breaks bytes e =
-    bind_case (word_at faults.Header (codes "totem-run ") bytes) (λ w. byte_at w.1 >>= λ v. cond (v.0 == 49) (header_end One v.1) (cond (v.0 == 50) (header_end Two v.1) (Err faults.Header))) faults.Header e
+    bind_case (word_at faults.Header (codes "totem-run ") bytes) (λ w. byte_at w.1 >>= λ v. cond (v.0 == 49) (header_end One v.1) (cond (v.0 == 50) (header_end Two v.1) (cond (v.0 == 51) (header_end Three v.1) (Err faults.Header)))) faults.Header e
     (λ k. inl (word_differs faults.Header (codes "totem-run ") bytes (λ h. absurd cc) k))
-    (λ w mid e1 k. byte_case mid (λ v. cond (v.0 == 49) (header_end One v.1) (cond (v.0 == 50) (header_end Two v.1) (Err faults.Header))) faults.Header (λ h. absurd cc) k (λ v rest is k.
+    (λ w mid e1 k. byte_case mid (λ v. cond (v.0 == 49) (header_end One v.1) (cond (v.0 == 50) (header_end Two v.1) (cond (v.0 == 51) (header_end Three v.1) (Err faults.Header)))) faults.Header (λ h. absurd cc) k (λ v rest is k.
     let whole : bytes ≡ codes "totem-run " ++ v ∷ rest = word_is faults.Header (codes "totem-run ") bytes mid w e1 ∙ ap (λ (t : List ℕ). codes "totem-run " ++ t) is in
-    elim (taken (v == 49) (header_end One rest) (cond (v == 50) (header_end Two rest) (Err faults.Header)) (Err faults.Header) k) [
-      | inl r ↦ inr (inr (One, rest, tt, whole ∙ ap (λ (k : ℕ). codes "totem-run " ++ k ∷ rest) (eqb-true v 49 r.0), end_breaks One rest r.1))
-      | inr other ↦ elim (taken (v == 50) (header_end Two rest) (Err faults.Header) (Err faults.Header) other.1) [
-        | inl r ↦ inr (inr (Two, rest, tt, whole ∙ ap (λ (k : ℕ). codes "totem-run " ++ k ∷ rest) (eqb-true v 50 r.0), end_breaks Two rest r.1))
-        | inr none ↦ inr (inl (v, rest, whole, not_same v 49 other.0, not_same v 50 none.0))
+    elim (taken (v == 49) (header_end One rest) (cond (v == 50) (header_end Two rest) (cond (v == 51) (header_end Three rest) (Err faults.Header))) (Err faults.Header) k) [
+      | inl r ↦ inr (inr (One, rest, whole ∙ ap (λ (k : ℕ). codes "totem-run " ++ k ∷ rest) (eqb-true v 49 r.0), end_breaks One rest r.1))
+      | inr other ↦ elim (taken (v == 50) (header_end Two rest) (cond (v == 51) (header_end Three rest) (Err faults.Header)) (Err faults.Header) other.1) [
+        | inl r ↦ inr (inr (Two, rest, whole ∙ ap (λ (k : ℕ). codes "totem-run " ++ k ∷ rest) (eqb-true v 50 r.0), end_breaks Two rest r.1))
+        | inr third ↦ elim (taken (v == 51) (header_end Three rest) (Err faults.Header) (Err faults.Header) third.1) [
+          | inl r ↦ inr (inr (Three, rest, whole ∙ ap (λ (k : ℕ). codes "totem-run " ++ k ∷ rest) (eqb-true v 51 r.0), end_breaks Three rest r.1))
+          | inr none ↦ inr (inl (v, rest, whole, not_same v 49 other.0, not_same v 50 third.0, not_same v 51 none.0))
+        ]
       ]
     ]))
 
 breaks_header : (bytes : List ℕ) → BreaksHeader bytes → header_at bytes ≡ Err faults.Header
 unfolding header_at
 breaks_header bytes (inl d) =
-    ap (λ (r : Parsed (Unit {0})). r >>= λ w. byte_at w.1 >>= λ v. cond (v.0 == 49) (header_end One v.1) (cond (v.0 == 50) (header_end Two v.1) (Err faults.Header))) (differs_word faults.Header (codes "totem-run ") bytes d)
-breaks_header bytes (inr (inl (byte, rest, is, not_one, not_two))) =
+    ap (λ (r : Parsed (Unit {0})). r >>= λ w. byte_at w.1 >>= λ v. cond (v.0 == 49) (header_end One v.1) (cond (v.0 == 50) (header_end Two v.1) (cond (v.0 == 51) (header_end Three v.1) (Err faults.Header)))) (differs_word faults.Header (codes "totem-run ") bytes d)
+breaks_header bytes (inr (inl (byte, rest, is, not_one, not_two, not_three))) =
     let one : (byte == 49) ≡ false = search rules in
     let two : (byte == 50) ≡ false = search rules in
-    rw is (rw (word_again faults.Header (codes "totem-run ") (byte ∷ rest)) (rw (one, two) refl))
-breaks_header bytes (inr (inr (One, rest, of, is, d))) = rw is (rw (word_again faults.Header (codes "totem-run ") (49 ∷ rest)) (breaks_end One rest d))
-breaks_header bytes (inr (inr (Two, rest, of, is, d))) = rw is (rw (word_again faults.Header (codes "totem-run ") (50 ∷ rest)) (breaks_end Two rest d))
-breaks_header bytes (inr (inr (Three, rest, of, is, d))) = absurd of
+    let three : (byte == 51) ≡ false = search rules in
+    rw is (rw (word_again faults.Header (codes "totem-run ") (byte ∷ rest)) (rw (one, two, three) refl))
+breaks_header bytes (inr (inr (One, rest, is, d))) = rw is (rw (word_again faults.Header (codes "totem-run ") (49 ∷ rest)) (breaks_end One rest d))
+breaks_header bytes (inr (inr (Two, rest, is, d))) = rw is (rw (word_again faults.Header (codes "totem-run ") (50 ∷ rest)) (breaks_end Two rest d))
+breaks_header bytes (inr (inr (Three, rest, is, d))) = rw is (rw (word_again faults.Header (codes "totem-run ") (51 ∷ rest)) (breaks_end Three rest d))
 
 pub header_exactly : (bytes : List ℕ) → (run_at bytes ≡ Err faults.Header) ↔ BreaksHeader bytes
 header_exactly bytes = (
@@ -271,7 +276,7 @@ members_in : (version : Version) (logs last : ℕ) (log : Option OpenLog) (bytes
 members_in version logs last None bytes = (λ e. (head_only version NotMembers (logs == 32) last bytes names_not_members tt tt).fault faults.Members ((between_fault version logs last bytes faults.Members).0 e), λ h. absurd h)
 members_in version logs last (Some log) bytes = both (within_fault version log.entries log.failed bytes faults.Members) (members_exactly version (log.entries == 1000000) (nat_lt 0 log.entries) log.failed bytes)
 
-end_in : (version : Version) (logs last : ℕ) (log : Option OpenLog) (bytes : List ℕ) → (next_at version logs last log bytes ≡ Err faults.End) ↔ EndIn log bytes
+end_in : (version : Version) (logs last : ℕ) (log : Option OpenLog) (bytes : List ℕ) → (next_at version logs last log bytes ≡ Err faults.End) ↔ EndIn version log bytes
 end_in version logs last None bytes = (λ e. (head_only version NotEnd (logs == 32) last bytes names_not_end tt tt).fault faults.End ((between_fault version logs last bytes faults.End).0 e), λ h. absurd h)
 end_in version logs last (Some log) bytes = both (within_fault version log.entries log.failed bytes faults.End) (end_exactly version (log.entries == 1000000) (nat_lt 0 log.entries) log.failed bytes)
 

@@ -1,6 +1,6 @@
 -- What is known of the logs so far, part after part.
 use Rattle.totem_ids.specs.declared.version.Version.{Version}
-use Rattle.totem_ids.specs.declared.version.Version.TheVariants.{Two}
+use Rattle.totem_ids.specs.declared.version.Version.TheVariants.{Three}
 use Rattle.totem_ids.specs.Processes.{IsProcessIn}
 use Rattle.std.specs.Prelude.{nat_lt, ◌==◌, All, AllPairs, Contains, IsTrue, ◌↔◌}
 use Rattle.std.specs.List.{flat_map}
@@ -13,7 +13,7 @@ use Rattle.std.proofs.lemmas.List.Elements.{All-push, Contains-push, Contains-pu
 use Rattle.std.proofs.lemmas.Grind.{flat_map-append}
 use Rattle.std.proofs.lemmas.Bool.Decides.{nat_tests}
 use Rattle.totem_evs.specs.declared.ending.Ending.{Ending}
-use Rattle.totem_evs.specs.declared.ending.Ending.TheVariants.{Standing, Failed}
+use Rattle.totem_evs.specs.declared.ending.Ending.TheVariants.{Standing, Failed, Quiet}
 use Rattle.totem_evs.specs.declared.entry.Entry.{Entry}
 use Rattle.totem_evs.specs.declared.entry.Entry.TheVariants.{Conf, Send, Deliver, Fail}
 use Rattle.totem_evs.specs.declared.log.Log.{Log}
@@ -29,6 +29,7 @@ use Rattle.totem_evs.specs.ReadState.{ReadState, IsFirst, IsPart, Goes, MayCome,
 use Rattle.totem_evs.specs.Gathered.{GatheredLogs, none_gathered, gathered, MayGather}
 use Rattle.totem_evs.proofs.Waits.{Waits, in_none}
 use Rattle.totem_evs.proofs.Folding.{OfLast, FewEntries}
+use Rattle.totem_evs.proofs.Weaker.{any_ending}
 
 -- between logs
 pub record Idle (last : ℕ) (g : GatheredLogs) : Type 0 where
@@ -39,7 +40,7 @@ pub record Idle (last : ℕ) (g : GatheredLogs) : Type 0 where
 -- in a log
 pub record Busy (log : OpenLog) (last : ℕ) (g : GatheredLogs) : Type 0 where
   pub proc : g.proc ≡ Some last
-  pub process : IsProcessIn Two last
+  pub process : IsProcessIn Three last
   pub count : length g.entries ≡ log.entries
   pub few : log.entries ≤ 1000000
   pub each : All IsEntry g.entries
@@ -170,10 +171,10 @@ none_yet = record {
 pub first_gathers : (version : Version) (s : ReadState) → IsFirst version s → GathersIn s none_gathered
 first_gathers version s first = subst (λ (st : Stage). Gathers st.logs st.last st.log s.begun s.waiting none_gathered) (sym first.stage) (rw (first.begun, first.waiting) none_yet)
 
-goes_log : (logs last : ℕ) (log : Option OpenLog) (begun waiting next : List ℕ) (g : GatheredLogs) (p : ℕ) → Gathers logs last log begun waiting g → IsProcessIn Two p → ComesIn logs last log (Some (parts.Log p)) → Waits waiting [] (begun ++ p ∷ []) next
+goes_log : (version : Version) (logs last : ℕ) (log : Option OpenLog) (begun waiting next : List ℕ) (g : GatheredLogs) (p : ℕ) → Gathers logs last log begun waiting g → IsProcessIn Three p → ComesIn version logs last log (Some (parts.Log p)) → Waits waiting [] (begun ++ p ∷ []) next
     → Gathers (logs + 1) p (Some (record { entries = 0; failed = false })) (begun ++ p ∷ []) next (gathered g (parts.Log p))
-goes_log logs last (Some l) begun waiting next g p h is comes w = absurd comes
-goes_log logs last None begun waiting next g p h is comes w = record {
+goes_log version logs last (Some l) begun waiting next g p h is comes w = absurd comes
+goes_log version logs last None begun waiting next g p h is comes w = record {
   inside = record {
     proc = refl;
     process = is;
@@ -202,10 +203,10 @@ goes_log logs last None begun waiting next g p h is comes w = record {
       (λ q b. Contains-append_left begun (p ∷ []) q b) w h.waits;
 }
 
-goes_entry : (logs last : ℕ) (log : Option OpenLog) (begun waiting next : List ℕ) (g : GatheredLogs) (e : Entry) → Gathers logs last log begun waiting g → IsEntry e → ComesIn logs last log (Some (parts.Entry e)) → Waits waiting (members_of e) (begun ++ []) next
+goes_entry : (version : Version) (logs last : ℕ) (log : Option OpenLog) (begun waiting next : List ℕ) (g : GatheredLogs) (e : Entry) → Gathers logs last log begun waiting g → IsEntry e → ComesIn version logs last log (Some (parts.Entry e)) → Waits waiting (members_of e) (begun ++ []) next
     → Gathers logs last (with_entry log e) (begun ++ []) next (gathered g (parts.Entry e))
-goes_entry logs last None begun waiting next g e h is comes w = absurd comes
-goes_entry logs last (Some l) begun waiting next g e h is comes w = record {
+goes_entry version logs last None begun waiting next g e h is comes w = absurd comes
+goes_entry version logs last (Some l) begun waiting next g e h is comes w = record {
   inside = record {
     proc = h.inside.proc;
     process = h.inside.process;
@@ -224,28 +225,32 @@ goes_entry logs last (Some l) begun waiting next g e h is comes w = record {
 }
 
 -- the entries of a log that ends may end so
-may_end : (logs last : ℕ) (log : OpenLog) (g : GatheredLogs) (ending : Ending) → Busy log last g → ComesIn logs last (Some log) (Some (parts.Close ending)) → IsEntries g.entries × IsClosedBy g.entries ending
-may_end logs last log g Standing b comes = (
+may_end : (version : Version) (logs last : ℕ) (log : OpenLog) (g : GatheredLogs) (ending : Ending) → Busy log last g → ComesIn version logs last (Some log) (Some (parts.Close ending)) → IsEntries g.entries × IsClosedBy g.entries ending
+may_end version logs last log g Standing b comes = (
   record { some = omega (arith, above_none log.entries comes.0, b.count); few = omega (arith, b.count, b.few); each = b.each },
   ((λ e. absurd cc), (λ f. absurd (let k = b.fails.1 f in let n = comes.1 in cc))),
 )
-may_end logs last log g Failed b comes =
+may_end version logs last log g Failed b comes =
     let ends = b.fails.0 comes in
     (record { some = omega (arith, ends.2); few = omega (arith, b.count, b.few); each = b.each }, ((λ e. ends), (λ f. refl)))
+may_end version logs last log g Quiet b comes = (
+  record { some = omega (arith, above_none log.entries comes.1, b.count); few = omega (arith, b.count, b.few); each = b.each },
+  ((λ e. absurd cc), (λ f. absurd (let k = b.fails.1 f in let n = comes.2 in cc))),
+)
 
-goes_close : (logs last : ℕ) (log : Option OpenLog) (begun waiting next : List ℕ) (g : GatheredLogs) (ending : Ending) → Gathers logs last log begun waiting g → ComesIn logs last log (Some (parts.Close ending)) → Waits waiting [] (begun ++ []) next
+goes_close : (version : Version) (logs last : ℕ) (log : Option OpenLog) (begun waiting next : List ℕ) (g : GatheredLogs) (ending : Ending) → Gathers logs last log begun waiting g → ComesIn version logs last log (Some (parts.Close ending)) → Waits waiting [] (begun ++ []) next
     → Gathers logs last None (begun ++ []) next (gathered g (parts.Close ending))
-goes_close logs last None begun waiting next g ending h comes w = absurd comes
-goes_close logs last (Some l) begun waiting next g ending h comes w =
+goes_close version logs last None begun waiting next g ending h comes w = absurd comes
+goes_close version logs last (Some l) begun waiting next g ending h comes w =
     let b = h.inside in
-    let ends = may_end logs last l g ending b comes in
+    let ends = may_end version logs last l g ending b comes in
     let new : Log = record { proc = last; entries = g.entries; ending = ending } in
     rw b.proc (record {
       inside = record { proc = refl; entries = refl; below = All-push (λ x. x.proc ≤ last) g.logs new (λ k d within. omega (arith, b.below k d within)) (omega arith) };
       count = omega (arith, length_push g.logs new, h.count);
       few = h.few;
       rising = all_pairs_push IsBelowLog g.logs new h.rising b.below;
-      each = All-push IsLog g.logs new h.each (record { process = b.process; entries = ends.0; ending = ends.1 });
+      each = All-push IsLog g.logs new h.each (record { process = b.process; entries = ends.0; ending = ends.1; word = any_ending ending });
       has = rw (append-nil begun) (λ q. (
         (λ c. elim ((h.has q).0 c) [
           | inl has ↦ inl (has_before g.logs new q has)
@@ -262,24 +267,24 @@ goes_close logs last (Some l) begun waiting next g ending h comes w =
 -- a part has come
 goes_in : (s : ReadState) (part : Part) (begun next : List ℕ) (g : GatheredLogs) → GathersIn s g → IsPart part → MayCome s.stage (Some part) → begun ≡ s.begun ++ begun_by part → Waits s.waiting (named_by part) begun next
     → Gathers (next_stage s.stage part).logs (next_stage s.stage part).last (next_stage s.stage part).log begun next (gathered g part)
-goes_in s (parts.Log p) begun next g h is comes e w = rw e (goes_log s.stage.logs s.stage.last s.stage.log s.begun s.waiting next g p h is comes (rw e at w))
-goes_in s (parts.Entry x) begun next g h is comes e w = rw e (goes_entry s.stage.logs s.stage.last s.stage.log s.begun s.waiting next g x h is comes (rw e at w))
-goes_in s (parts.Close ending) begun next g h is comes e w = rw e (goes_close s.stage.logs s.stage.last s.stage.log s.begun s.waiting next g ending h comes (rw e at w))
+goes_in s (parts.Log p) begun next g h is comes e w = rw e (goes_log s.stage.version s.stage.logs s.stage.last s.stage.log s.begun s.waiting next g p h is comes (rw e at w))
+goes_in s (parts.Entry x) begun next g h is comes e w = rw e (goes_entry s.stage.version s.stage.logs s.stage.last s.stage.log s.begun s.waiting next g x h is comes (rw e at w))
+goes_in s (parts.Close ending) begun next g h is comes e w = rw e (goes_close s.stage.version s.stage.logs s.stage.last s.stage.log s.begun s.waiting next g ending h comes (rw e at w))
 
 pub goes_gathers : (s t : ReadState) (part : Part) (g : GatheredLogs) → GathersIn s g → IsPart part → MayCome s.stage (Some part) → Goes s part t → GathersIn t (gathered g part)
 goes_gathers s t part g h is comes goes = subst (λ (st : Stage). Gathers st.logs st.last st.log t.begun t.waiting (gathered g part)) (sym goes.stage) (goes_in s part t.begun t.waiting g h is comes goes.begun goes.waiting)
 
-may_gather_in : (logs last : ℕ) (log : Option OpenLog) (g : GatheredLogs) (part : Part) → InLog log last g → ComesIn logs last log (Some part) → MayGather g part
-may_gather_in logs last None g (parts.Log p) h comes = tt
-may_gather_in logs last None g (parts.Entry e) h comes = tt
-may_gather_in logs last None g (parts.Close ending) h comes = absurd comes
-may_gather_in logs last (Some l) g (parts.Log p) h comes = tt
-may_gather_in logs last (Some l) g (parts.Entry e) h comes = tt
-may_gather_in logs last (Some l) g (parts.Close ending) h comes = λ p e. may_end logs last l g ending h comes
+may_gather_in : (version : Version) (logs last : ℕ) (log : Option OpenLog) (g : GatheredLogs) (part : Part) → InLog log last g → ComesIn version logs last log (Some part) → MayGather g part
+may_gather_in version logs last None g (parts.Log p) h comes = tt
+may_gather_in version logs last None g (parts.Entry e) h comes = tt
+may_gather_in version logs last None g (parts.Close ending) h comes = absurd comes
+may_gather_in version logs last (Some l) g (parts.Log p) h comes = tt
+may_gather_in version logs last (Some l) g (parts.Entry e) h comes = tt
+may_gather_in version logs last (Some l) g (parts.Close ending) h comes = λ p e. may_end version logs last l g ending h comes
 
 -- a log that ends may be gathered
 pub may_gather : (s : ReadState) (g : GatheredLogs) (part : Part) → GathersIn s g → MayCome s.stage (Some part) → MayGather g part
-may_gather s g part h comes = may_gather_in s.stage.logs s.stage.last s.stage.log g part h.inside comes
+may_gather s g part h comes = may_gather_in s.stage.version s.stage.logs s.stage.last s.stage.log g part h.inside comes
 
 few_in : (log : Option OpenLog) (last : ℕ) (g : GatheredLogs) → InLog log last g → FewEntries log × OfLast log last g.proc
 few_in None last g h = (tt, tt)
@@ -299,7 +304,7 @@ pending (Some log) = 1000002 - log.entries
 abbrev pub parts_left : Stage → ℕ
 parts_left stage = 1000003 * (33 - stage.logs) + pending stage.log
 
-falls_in : (version : Version) (logs last : ℕ) (log : Option OpenLog) (part : Part) → logs ≤ 32 → FewEntries log → ComesIn logs last log (Some part) → parts_left (next_stage (record { version = version; logs = logs; last = last; log = log }) part) < parts_left (record { version = version; logs = logs; last = last; log = log })
+falls_in : (version : Version) (logs last : ℕ) (log : Option OpenLog) (part : Part) → logs ≤ 32 → FewEntries log → ComesIn version logs last log (Some part) → parts_left (next_stage (record { version = version; logs = logs; last = last; log = log }) part) < parts_left (record { version = version; logs = logs; last = last; log = log })
 falls_in version logs last None (parts.Log p) few entries comes = omega arith
 falls_in version logs last None (parts.Entry e) few entries comes = absurd comes
 falls_in version logs last None (parts.Close ending) few entries comes = absurd comes
@@ -315,9 +320,9 @@ falls s t part g h comes goes = rw goes.stage (falls_in s.stage.version s.stage.
 pub gathers_run : (s : ReadState) (g : GatheredLogs) → GathersIn s g → IsRun g.logs
 gathers_run s g h = record { few = omega (arith, h.count, h.few); rising = h.rising; each = h.each }
 
-idle_in : (logs last : ℕ) (log : Option OpenLog) (g : GatheredLogs) → InLog log last g → ComesIn logs last log None → Idle last g
-idle_in logs last None g h comes = h
-idle_in logs last (Some l) g h comes = absurd comes
+idle_in : (version : Version) (logs last : ℕ) (log : Option OpenLog) (g : GatheredLogs) → InLog log last g → ComesIn version logs last log None → Idle last g
+idle_in version logs last None g h comes = h
+idle_in version logs last (Some l) g h comes = absurd comes
 
 -- at the end the members that were named are those of the logs
 named_all : (last : ℕ) (g : GatheredLogs) → Idle last g → named g ≡ all_members g.logs
@@ -330,7 +335,7 @@ begun_has last g q idle (inr e) = absurd (let k = idle.proc in cc)
 -- nobody waits
 pub each_has : (s : ReadState) (g : GatheredLogs) → GathersIn s g → MayCome s.stage None → ((q : ℕ) → Contains s.waiting q → ⊥) → EachHasLog g.logs (all_members g.logs)
 each_has s g h comes none q c =
-    let idle = idle_in s.stage.logs s.stage.last s.stage.log g h.inside comes in
+    let idle = idle_in s.stage.version s.stage.logs s.stage.last s.stage.log g h.inside comes in
     elim (decided s.begun q) [
       | inl b ↦ begun_has s.stage.last g q idle ((h.has q).0 b)
       | inr no' ↦ absurd (none q ((h.waits q).1 (rw (named_all s.stage.last g idle) c, no')))
@@ -339,7 +344,7 @@ each_has s g h comes none q c =
 -- p is the least that waits
 pub least_lacks : (s : ReadState) (g : GatheredLogs) (p : ℕ) → GathersIn s g → MayCome s.stage None → Contains s.waiting p → ((q : ℕ) → Contains s.waiting q → p ≤ q) → IsLeastMissing g.logs (all_members g.logs) p
 least_lacks s g p h comes waits least =
-    let idle = idle_in s.stage.logs s.stage.last s.stage.log g h.inside comes in
+    let idle = idle_in s.stage.version s.stage.logs s.stage.last s.stage.log g h.inside comes in
     let k = (h.waits p).0 waits in
     record {
       named = rw (named_all s.stage.last g idle) at k.0;

@@ -3,7 +3,7 @@ use Rattle.std.specs.Prelude.{All, AllPairs}
 use Rattle.std.proofs.Common.{ℕ, ◌<◌, ◌≤◌, List, [], ◌∷◌, ◌++◌, length, arith}
 use Rattle.std.proofs.lemmas.List.Quantifiers.{all_pairs_push}
 use Rattle.std.proofs.lemmas.List.Elements.{All-push}
-use Rattle.totem_ids.specs.declared.version.Version.TheVariants.{Two}
+use Rattle.totem_ids.specs.declared.version.Version.TheVariants.{Three}
 use Rattle.totem_ids.specs.Processes.{IsProcessIn}
 use Rattle.totem_ids.specs.Ranks.{id_of}
 use Rattle.totem_evs.specs.Members.{IsBelow, IsMembers}
@@ -12,7 +12,7 @@ use Rattle.totem_evs.specs.Members.{IsBelow, IsMembers}
 pub record Rising (procs : List ℕ) (last : ℕ) : Type 0 where
   pub below : All (λ p. id_of p ≤ last) procs
   pub rising : AllPairs IsBelow procs
-  pub processes : All (IsProcessIn Two) procs
+  pub processes : All (IsProcessIn Three) procs
 
 -- none rises yet
 pub rising_none : (last : ℕ) → Rising [] last
@@ -23,11 +23,11 @@ rising_none last = record {
 }
 
 -- one more
-pub rising_more : (procs : List ℕ) (last p : ℕ) → Rising procs last → last < id_of p → IsProcessIn Two p → Rising (procs ++ p ∷ []) (id_of p)
+pub rising_more : (procs : List ℕ) (last p : ℕ) → Rising procs last → last < id_of p → IsProcessIn Three p → Rising (procs ++ p ∷ []) (id_of p)
 rising_more procs last p h lt is = record {
   below = All-push (λ q. id_of q ≤ id_of p) procs p (λ k d within. omega (arith, h.below k d within, lt)) (omega arith);
   rising = all_pairs_push IsBelow procs p h.rising (λ k d within. omega (arith, h.below k d within, lt));
-  processes = All-push (IsProcessIn Two) procs p h.processes is;
+  processes = All-push (IsProcessIn Three) procs p h.processes is;
 }
 
 -- these are members

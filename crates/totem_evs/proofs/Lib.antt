@@ -13,6 +13,7 @@ pub mod ExampleSteps
 pub mod ExampleBreaks
 pub mod ExamplePlaces
 pub mod ExampleOpen
+mod ExampleQuiet
 pub mod ExampleCertified
 pub mod ExampleGood
 pub mod ExampleRuns

@@ -22,11 +22,12 @@ use Rattle.totem_ids.specs.Texts.{conf_text, message_text, service_text, IsUpTo,
 use Rattle.totem_ids.proofs.ServiceSpelling.{service_is}
 use Rattle.totem_ids.proofs.Spelled.{byte_is, word_is, number_to_is, conf_is}
 use Rattle.totem_evs.specs.declared.entry.Entry.TheVariants.{Conf, Send, Deliver, Fail}
-use Rattle.totem_evs.specs.declared.ending.Ending.TheVariants.{Standing, Failed}
+use Rattle.totem_evs.specs.declared.ending.Ending.TheVariants.{Standing, Failed, Quiet}
 use Rattle.totem_evs.specs.declared.line.Line.{Line}
 use Rattle.totem_evs.specs.declared.line.Line.TheVariants as lines
 use Rattle.totem_evs.specs.RunText.{line, members_text}
-use Rattle.totem_evs.specs.RunGrammar.{members_at, change_at, send_at, delivery_at, open_at, failed_at, fail_at, ail_at, failure_at, line_at}
+use Rattle.totem_evs.specs.Endings.{writes_quiet}
+use Rattle.totem_evs.specs.RunGrammar.{members_at, change_at, send_at, delivery_at, open_at, quiet_at, failed_at, fail_at, ail_at, failure_at, line_at}
 use Rattle.totem_evs.specs.TextFronts.{IsLooseMembers, IsLooseEntry}
 use Rattle.totem_evs.proofs.LooseFrom.{LooseMembersFrom, loose_member, are_loose_members}
 use Rattle.totem_evs.proofs.SpelledLine.{IsLineOf, line_text, not_within}
@@ -141,7 +142,7 @@ members_cut version (suc room) last bytes =
 -- ---- lines
 
 abbrev pub LineTo : Version → Bool → Bool → Bool → List ℕ → Type 0
-LineTo version full some failed t = (l : Line) × IsLineOf (IsLooseEntry version) full some failed l × (t ≡ line_text version l)
+LineTo version full some failed t = (l : Line) × IsLineOf (IsLooseEntry version) (writes_quiet version) full some failed l × (t ≡ line_text version l)
 
 one_member : (version : Version) → IsLooseMembers version (rank_of 1 1 ∷ [])
 one_member version = are_loose_members version (rank_of 1 1 ∷ []) (record { some = omega arith; few = omega arith; rises = first_process_is version })
@@ -309,6 +310,18 @@ open_cut version full some failed bytes =
     Is : List ℕ → Type 0
     Is u = LineTo version full some failed (111 ∷ u)
 
+quiet_cut : (version : Version) (full some failed : Bool) (bytes : List ℕ) → Cut (quiet_at (writes_quiet version) some failed bytes) (λ u. LineTo version full some failed (113 ∷ u)) bytes
+unfolding quiet_at
+quiet_cut version full some failed bytes =
+    test_cut (writes_quiet version) (cond (some && not failed) (word_at faults.Word (line (codes "uiet")) bytes >>= λ w. Ok (lines.Close Quiet, w.1)) (Err faults.End)) (Err faults.Word) Is bytes
+    (λ written. test_cut (some && not failed) (word_at faults.Word (line (codes "uiet")) bytes >>= λ w. Ok (lines.Close Quiet, w.1)) (Err faults.End) Is bytes
+    (λ h. last_cut (word_at faults.Word (line (codes "uiet")) bytes) (λ w. (lines.Close Quiet, w.1)) (λ t. t ≡ line (codes "uiet")) Is bytes (word_cut faults.Word (line (codes "uiet")) bytes refl) (λ t e. (lines.Close Quiet, (written, (both_true some failed h).0, (both_true some failed h).1), ap (λ (k : List ℕ). 113 ∷ k) e)))
+    (λ h. fault_cut faults.End Is bytes refl))
+    (λ h. fault_cut faults.Word Is bytes refl)
+  where
+    Is : List ℕ → Type 0
+    Is u = LineTo version full some failed (113 ∷ u)
+
 failed_cut : (version : Version) (full some failed : Bool) (bytes : List ℕ) → Cut (failed_at failed bytes) (λ u. LineTo version full some failed (codes "faile" ++ u)) bytes
 unfolding failed_at
 failed_cut version full some failed bytes =
@@ -369,22 +382,24 @@ failure_cut version full some failed bytes = go full failed
 line_from : (version : Version) (full some failed : Bool) (bytes : List ℕ) (b : ℕ) (u : List ℕ) → LineTo version full some failed (b ∷ u) → Cut (line_at version full some failed bytes) (LineTo version full some failed) bytes
 unfolding line_at
 line_from version full some failed bytes b u one =
-    bind_cut (byte_at bytes) (λ b. cond (b.0 == 99) (change_at version full b.1) (cond (b.0 == 115) (send_at full b.1) (cond (b.0 == 100) (delivery_at full b.1) (cond (b.0 == 102) (failure_at full failed b.1) (cond (b.0 == 111) (open_at some failed b.1) (Err faults.Word)))))) (λ t. t ≡ b ∷ []) (LineTo version full some failed) bytes (byte_cut b bytes)
+    bind_cut (byte_at bytes) (λ b. cond (b.0 == 99) (change_at version full b.1) (cond (b.0 == 115) (send_at full b.1) (cond (b.0 == 100) (delivery_at full b.1) (cond (b.0 == 102) (failure_at full failed b.1) (cond (b.0 == 111) (open_at some failed b.1) (cond (b.0 == 113) (quiet_at (writes_quiet version) some failed b.1) (Err faults.Word))))))) (λ t. t ≡ b ∷ []) (LineTo version full some failed) bytes (byte_cut b bytes)
     (λ t e. (u, rw e one))
     (λ c rest e. record {
       text = c ∷ [];
       whole = byte_is bytes c rest e;
-      next = test_cut (c == 99) (change_at version full rest) (cond (c == 115) (send_at full rest) (cond (c == 100) (delivery_at full rest) (cond (c == 102) (failure_at full failed rest) (cond (c == 111) (open_at some failed rest) (Err faults.Word))))) (Is c) rest
+      next = test_cut (c == 99) (change_at version full rest) (cond (c == 115) (send_at full rest) (cond (c == 100) (delivery_at full rest) (cond (c == 102) (failure_at full failed rest) (cond (c == 111) (open_at some failed rest) (cond (c == 113) (quiet_at (writes_quiet version) some failed rest) (Err faults.Word)))))) (Is c) rest
           (λ h. by c 99 rest (change_at version full rest) h (change_cut version full some failed rest))
-          (λ h. test_cut (c == 115) (send_at full rest) (cond (c == 100) (delivery_at full rest) (cond (c == 102) (failure_at full failed rest) (cond (c == 111) (open_at some failed rest) (Err faults.Word)))) (Is c) rest
+          (λ h. test_cut (c == 115) (send_at full rest) (cond (c == 100) (delivery_at full rest) (cond (c == 102) (failure_at full failed rest) (cond (c == 111) (open_at some failed rest) (cond (c == 113) (quiet_at (writes_quiet version) some failed rest) (Err faults.Word))))) (Is c) rest
           (λ h. by c 115 rest (send_at full rest) h (send_cut version full some failed rest))
-          (λ h. test_cut (c == 100) (delivery_at full rest) (cond (c == 102) (failure_at full failed rest) (cond (c == 111) (open_at some failed rest) (Err faults.Word))) (Is c) rest
+          (λ h. test_cut (c == 100) (delivery_at full rest) (cond (c == 102) (failure_at full failed rest) (cond (c == 111) (open_at some failed rest) (cond (c == 113) (quiet_at (writes_quiet version) some failed rest) (Err faults.Word)))) (Is c) rest
           (λ h. by c 100 rest (delivery_at full rest) h (delivery_cut version full some failed rest))
-          (λ h. test_cut (c == 102) (failure_at full failed rest) (cond (c == 111) (open_at some failed rest) (Err faults.Word)) (Is c) rest
+          (λ h. test_cut (c == 102) (failure_at full failed rest) (cond (c == 111) (open_at some failed rest) (cond (c == 113) (quiet_at (writes_quiet version) some failed rest) (Err faults.Word))) (Is c) rest
           (λ h. by c 102 rest (failure_at full failed rest) h (failure_cut version full some failed rest))
-          (λ h. test_cut (c == 111) (open_at some failed rest) (Err faults.Word) (Is c) rest
+          (λ h. test_cut (c == 111) (open_at some failed rest) (cond (c == 113) (quiet_at (writes_quiet version) some failed rest) (Err faults.Word)) (Is c) rest
           (λ h. by c 111 rest (open_at some failed rest) h (open_cut version full some failed rest))
-          (λ h. fault_cut faults.Word (Is c) rest refl)))));
+          (λ h. test_cut (c == 113) (quiet_at (writes_quiet version) some failed rest) (Err faults.Word) (Is c) rest
+          (λ h. by c 113 rest (quiet_at (writes_quiet version) some failed rest) h (quiet_cut version full some failed rest))
+          (λ h. fault_cut faults.Word (Is c) rest refl))))));
     })
   where
     Is : ℕ → List ℕ → Type 0

@@ -117,6 +117,7 @@ loose_log version log is = record {
   process = is.process;
   entries = loose_entries version log.entries is.entries.some is.entries.few (all_loosely version log.entries (recursion_from_All (IsEntryIn version) log.entries is.entries.each));
   ending = is.ending;
+  word = is.word;
 }
 
 -- logs of which the last is such a one and need not rise

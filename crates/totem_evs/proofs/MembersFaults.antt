@@ -20,11 +20,12 @@ use Rattle.totem_evs.specs.declared.line.Line.TheVariants as lines
 use Rattle.totem_evs.specs.declared.entry.Entry.TheVariants.{Conf}
 use Rattle.totem_evs.specs.Members.{IsMembersIn}
 use Rattle.totem_evs.specs.RunText.{members_text}
+use Rattle.totem_evs.specs.Endings.{writes_quiet}
 use Rattle.totem_evs.specs.RunGrammar.{members_at, change_at, send_at, delivery_at, fail_at, ail_at, failure_at, line_at}
 use Rattle.totem_evs.specs.TextFaults.{BeginsEntry, HasManyMembers, IsMemberBelow}
 use Rattle.totem_evs.proofs.FromLeft.{Rises, are_members, members_from}
 use Rattle.totem_evs.proofs.SpelledLine.{not_within, members_first}
-use Rattle.totem_evs.proofs.OnlyFaults.{OfNames, ok_only, fault_only, word_only, process_only, conf_only, sent_only, delivered_only, lost_only, open_only, failed_only}
+use Rattle.totem_evs.proofs.OnlyFaults.{OfNames, ok_only, fault_only, word_only, process_only, conf_only, sent_only, delivered_only, lost_only, open_only, quiet_only, failed_only}
 use Rattle.totem_evs.proofs.PartFaults.{bind_case, byte_pick, line_case, ail_case}
 
 -- ---- TooMany
@@ -168,6 +169,7 @@ line_many version true some failed bytes e =
     (λ rest is k. inl (refl, inl (rest, inr (inr is))))
     (λ rest is k. inl (refl, full_failure failed bytes rest is k))
     (λ rest is k. absurd ((open_only NotMany some failed rest names_not_many tt).fault faults.TooMany k))
+    (λ rest is k. absurd ((quiet_only NotMany (writes_quiet version) some failed rest names_not_many tt).fault faults.TooMany k))
 line_many version false some failed bytes e =
     line_case version false some failed bytes faults.TooMany (λ h. absurd cc) (λ h. absurd cc) e
     (λ rest is k. inr (refl, change_many version bytes rest is k))
@@ -175,6 +177,7 @@ line_many version false some failed bytes e =
     (λ rest is k. absurd ((delivered_only NotMany rest names_not_many).fault faults.TooMany k))
     (λ rest is k. absurd (few_failure failed rest k))
     (λ rest is k. absurd ((open_only NotMany some failed rest names_not_many tt).fault faults.TooMany k))
+    (λ rest is k. absurd ((quiet_only NotMany (writes_quiet version) some failed rest names_not_many tt).fault faults.TooMany k))
 
 many_line : (version : Version) (full some failed : Bool) (bytes : List ℕ) → ManyIn version full failed bytes → line_at version full some failed bytes ≡ Err faults.TooMany
 unfolding line_at change_at send_at delivery_at failure_at ail_at fail_at word_at
@@ -368,6 +371,7 @@ line_fall version full some failed bytes e =
     (λ rest is k. absurd (delivers full rest k))
     (λ rest is k. absurd (fails full failed rest k))
     (λ rest is k. absurd ((open_only NotMembers some failed rest names_not_members tt).fault faults.Members k))
+    (λ rest is k. absurd ((quiet_only NotMembers (writes_quiet version) some failed rest names_not_members tt).fault faults.Members k))
   where
     change : (full : Bool) (rest : List ℕ) → bytes ≡ 99 ∷ rest → change_at version full rest ≡ Err faults.Members → IsMemberBelow version full bytes
     change true rest is k = absurd (full_change version rest k)

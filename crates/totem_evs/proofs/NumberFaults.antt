@@ -1,6 +1,6 @@
 -- Number is the fault of a number that the grammar reads.
 use Rattle.totem_ids.specs.declared.version.Version.{Version}
-use Rattle.totem_ids.specs.declared.version.Version.TheVariants.{One, Two}
+use Rattle.totem_ids.specs.declared.version.Version.TheVariants.{One, Two, Three}
 use Rattle.totem_ids.specs.Ranks.{id_of}
 use Rattle.totem_ids.specs.Processes.{writes_lives, first_life_then, life_then, process_then}
 use Rattle.std.specs.Prelude.{◌==◌, decimal, ◌↔◌}
@@ -21,7 +21,8 @@ use Rattle.totem_evs.specs.declared.line.Line.{Line}
 use Rattle.totem_evs.specs.declared.line.Line.TheVariants as lines
 use Rattle.totem_evs.specs.declared.log.Log.{Log}
 use Rattle.totem_ids.specs.Services.{service_at}
-use Rattle.totem_evs.specs.RunGrammar.{is_failure, members_at, change_at, send_at, delivery_at, open_at, failed_at, fail_at, ail_at, failure_at, line_at, by_line, lines_at, log_at, log_proc_at, begin_at, end_at, head_at, by_head, logs_at, header_end, header_at, run_at}
+use Rattle.totem_evs.specs.Endings.{writes_quiet}
+use Rattle.totem_evs.specs.RunGrammar.{is_failure, members_at, change_at, send_at, delivery_at, open_at, quiet_at, failed_at, fail_at, ail_at, failure_at, line_at, by_line, lines_at, log_at, log_proc_at, begin_at, end_at, head_at, by_head, logs_at, header_end, header_at, run_at}
 use Rattle.totem_evs.specs.TextFaults.{IsPast, IsNoNumber, BreaksNumber}
 use Rattle.totem_evs.proofs.PartFaults.{bind_case}
 
@@ -270,6 +271,10 @@ open_numbered : (some failed : Bool) → Numbered (open_at some failed)
 unfolding open_at
 open_numbered some failed = cond_numbered _ _ _ (bind_numbered _ _ (words _) (λ w. gives_numbered _)) end'
 
+quiet_numbered : (written some failed : Bool) → Numbered (quiet_at written some failed)
+unfolding quiet_at
+quiet_numbered written some failed = cond_numbered _ _ _ (cond_numbered _ _ _ (bind_numbered _ _ (words _) (λ w. gives_numbered _)) end') word'
+
 failed_numbered : (failed : Bool) → Numbered (failed_at failed)
 unfolding failed_at
 failed_numbered failed = cond_numbered _ _ _ (bind_numbered _ _ (words _) (λ w. gives_numbered _)) end'
@@ -288,7 +293,7 @@ failure_numbered full failed = cond_numbered _ _ _ too_many (ail_numbered full f
 
 line_numbered : (version : Version) (full some failed : Bool) → Numbered (line_at version full some failed)
 unfolding line_at
-line_numbered version full some failed = bind_numbered _ _ byte_numbered (λ b. cond_numbered _ _ _ (change_numbered version full) (cond_numbered _ _ _ (send_numbered full) (cond_numbered _ _ _ (delivery_numbered full) (cond_numbered _ _ _ (failure_numbered full failed) (cond_numbered _ _ _ (open_numbered some failed) word')))))
+line_numbered version full some failed = bind_numbered _ _ byte_numbered (λ b. cond_numbered _ _ _ (change_numbered version full) (cond_numbered _ _ _ (send_numbered full) (cond_numbered _ _ _ (delivery_numbered full) (cond_numbered _ _ _ (failure_numbered full failed) (cond_numbered _ _ _ (open_numbered some failed) (cond_numbered _ _ _ (quiet_numbered (writes_quiet version) some failed) word'))))))
 
 lines_numbered : (version : Version) (room : ℕ) (some failed : Bool) → Numbered (lines_at version room some failed)
 unfolding lines_at
@@ -339,7 +344,7 @@ header_end_numbered version = bind_numbered _ _ (header_words _) (λ w. gives_nu
 
 header_numbered : Numbered header_at
 unfolding header_at
-header_numbered = bind_numbered _ _ (header_words _) (λ w. bind_numbered _ _ byte_numbered (λ v. cond_numbered _ _ _ (header_end_numbered One) (cond_numbered _ _ _ (header_end_numbered Two) (fault_numbered faults.Header (λ h. absurd cc)))))
+header_numbered = bind_numbered _ _ (header_words _) (λ w. bind_numbered _ _ byte_numbered (λ v. cond_numbered _ _ _ (header_end_numbered One) (cond_numbered _ _ _ (header_end_numbered Two) (cond_numbered _ _ _ (header_end_numbered Three) (fault_numbered faults.Header (λ h. absurd cc))))))
 
 run_numbered : Numbered run_at
 unfolding run_at

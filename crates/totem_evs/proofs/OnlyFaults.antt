@@ -1,5 +1,5 @@
 -- Which faults the grammar of a run's text can give.
-use Rattle.totem_ids.specs.declared.version.Version.TheVariants.{One, Two}
+use Rattle.totem_ids.specs.declared.version.Version.TheVariants.{One, Two, Three}
 use Rattle.totem_ids.specs.declared.version.Version.{Version}
 use Rattle.totem_ids.specs.Ranks.{id_of}
 use Rattle.totem_ids.specs.Processes.{writes_lives, first_life_then, life_then, process_then}
@@ -12,7 +12,8 @@ use Rattle.totem_ids.specs.Sources.{Parsed, ◌>>=◌}
 use Rattle.totem_ids.specs.Numbers.{is_digit, byte_at, word_at, digits_at, number_at, number_to}
 use Rattle.totem_ids.specs.Parsers.{ring_at, message_at, regular_at, transitional_at, conf_at}
 use Rattle.totem_ids.specs.Services.{service_at}
-use Rattle.totem_evs.specs.RunGrammar.{members_at, change_at, send_at, delivery_at, open_at, failed_at, fail_at, ail_at, failure_at, line_at, log_proc_at, begin_at, end_at, head_at, header_end, header_at}
+use Rattle.totem_evs.specs.Endings.{writes_quiet}
+use Rattle.totem_evs.specs.RunGrammar.{members_at, change_at, send_at, delivery_at, open_at, quiet_at, failed_at, fail_at, ail_at, failure_at, line_at, log_proc_at, begin_at, end_at, head_at, header_end, header_at}
 
 -- an answer is a value, or a fault of this kind
 pub record Only {A : Type 0} (P : TextFault → Type 0) (r : Parsed A) : Type 0 where
@@ -111,7 +112,7 @@ header_end_only P version bytes is short = bind_only P _ _ (word_only P faults.H
 
 pub header_only : (P : TextFault → Type 0) (bytes : List ℕ) → P faults.Header → P faults.Truncated → Only P (header_at bytes)
 unfolding header_at
-header_only P bytes is short = bind_only P _ _ (word_only P faults.Header _ bytes is short) (λ w. bind_only P _ _ (byte_only P w.1 short) (λ v. cond_only P _ _ _ (header_end_only P One v.1 is short) (cond_only P _ _ _ (header_end_only P Two v.1 is short) (fault_only P faults.Header is))))
+header_only P bytes is short = bind_only P _ _ (word_only P faults.Header _ bytes is short) (λ w. bind_only P _ _ (byte_only P w.1 short) (λ v. cond_only P _ _ _ (header_end_only P One v.1 is short) (cond_only P _ _ _ (header_end_only P Two v.1 is short) (cond_only P _ _ _ (header_end_only P Three v.1 is short) (fault_only P faults.Header is)))))
 
 -- ---- lines
 
@@ -161,6 +162,10 @@ pub open_only : (P : TextFault → Type 0) (some failed : Bool) (bytes : List �
 unfolding open_at
 open_only P some failed bytes is end = cond_only P _ _ _ (bind_only P _ _ (word_only P faults.Word _ bytes is.word is.short) (λ w. ok_only P _)) (fault_only P faults.End end)
 
+pub quiet_only : (P : TextFault → Type 0) (written some failed : Bool) (bytes : List ℕ) → OfNames P → P faults.End → Only P (quiet_at written some failed bytes)
+unfolding quiet_at
+quiet_only P written some failed bytes is end = cond_only P _ _ _ (cond_only P _ _ _ (bind_only P _ _ (word_only P faults.Word _ bytes is.word is.short) (λ w. ok_only P _)) (fault_only P faults.End end)) (fault_only P faults.Word is.word)
+
 pub failed_only : (P : TextFault → Type 0) (failed : Bool) (bytes : List ℕ) → OfNames P → P faults.End → Only P (failed_at failed bytes)
 unfolding failed_at
 failed_only P failed bytes is end = cond_only P _ _ _ (bind_only P _ _ (word_only P faults.Word _ bytes is.word is.short) (λ w. ok_only P _)) (fault_only P faults.End end)
@@ -176,7 +181,7 @@ failure_only P full failed bytes is end = cond_only P _ _ _ (fault_only P faults
 pub line_only : (version : Version) (P : TextFault → Type 0) (full some failed : Bool) (bytes : List ℕ) → OfEntries P → P faults.End → Only P (line_at version full some failed bytes)
 unfolding line_at
 line_only version P full some failed bytes is end = bind_only P _ _ (byte_only P bytes is.names.short) (λ b. cond_only P _ _ _ (change_only version P full b.1 is) (cond_only P _ _ _ (send_only P full b.1 is) (cond_only P _ _ _ (delivery_only P full b.1 is)
-    (cond_only P _ _ _ (failure_only P full failed b.1 is end) (cond_only P _ _ _ (open_only P some failed b.1 is.names end) (fault_only P faults.Word is.names.word))))))
+    (cond_only P _ _ _ (failure_only P full failed b.1 is end) (cond_only P _ _ _ (open_only P some failed b.1 is.names end) (cond_only P _ _ _ (quiet_only P (writes_quiet version) some failed b.1 is.names end) (fault_only P faults.Word is.names.word)))))))
 
 -- ---- between logs
 

@@ -13,9 +13,10 @@ use Rattle.totem_ids.specs.Numbers.{byte_at, word_at}
 use Rattle.totem_ids.proofs.Spelled.{taken, word_is, word_again}
 use Rattle.totem_evs.specs.declared.line.Line.{Line}
 use Rattle.totem_evs.specs.declared.line.Line.TheVariants as lines
-use Rattle.totem_evs.specs.declared.ending.Ending.TheVariants.{Standing, Failed}
+use Rattle.totem_evs.specs.declared.ending.Ending.TheVariants.{Standing, Failed, Quiet}
 use Rattle.totem_evs.specs.RunText.{line}
-use Rattle.totem_evs.specs.RunGrammar.{change_at, send_at, delivery_at, open_at, failed_at, fail_at, ail_at, failure_at, line_at, log_proc_at, begin_at, end_at, head_at}
+use Rattle.totem_evs.specs.Endings.{writes_quiet}
+use Rattle.totem_evs.specs.RunGrammar.{change_at, send_at, delivery_at, open_at, quiet_at, failed_at, fail_at, ail_at, failure_at, line_at, log_proc_at, begin_at, end_at, head_at}
 use Rattle.totem_evs.specs.TextFaults.{IsLogBelow, ClosesWrong}
 use Rattle.totem_evs.proofs.OnlyFaults.{OfNames, OfEntries, fault_only, word_only, process_only, change_only, send_only, delivery_only, fail_only, end_only}
 
@@ -43,16 +44,18 @@ pub line_case : {P : Type 0} (version : Version) (full some failed : Bool) (byte
     → ((rest : List ℕ) → bytes ≡ 100 ∷ rest → delivery_at full rest ≡ Err f → P)
     → ((rest : List ℕ) → bytes ≡ 102 ∷ rest → failure_at full failed rest ≡ Err f → P)
     → ((rest : List ℕ) → bytes ≡ 111 ∷ rest → open_at some failed rest ≡ Err f → P)
+    → ((rest : List ℕ) → bytes ≡ 113 ∷ rest → quiet_at (writes_quiet version) some failed rest ≡ Err f → P)
     → P
 unfolding line_at
-line_case {P = P} version full some failed bytes f long fits e change send delivery failure open' =
-    byte_case bytes (λ b. cond (b.0 == 99) (change_at version full b.1) (cond (b.0 == 115) (send_at full b.1) (cond (b.0 == 100) (delivery_at full b.1) (cond (b.0 == 102) (failure_at full failed b.1) (cond (b.0 == 111) (open_at some failed b.1) (Err faults.Word)))))) f long e (λ b rest is k.
-    byte_pick b 99 (change_at version full rest) (cond (b == 115) (send_at full rest) (cond (b == 100) (delivery_at full rest) (cond (b == 102) (failure_at full failed rest) (cond (b == 111) (open_at some failed rest) (Err faults.Word))))) (Err f) k (λ h. change rest (is ∙ ap (λ (c : ℕ). c ∷ rest) h)) (λ k.
-    byte_pick b 115 (send_at full rest) (cond (b == 100) (delivery_at full rest) (cond (b == 102) (failure_at full failed rest) (cond (b == 111) (open_at some failed rest) (Err faults.Word)))) (Err f) k (λ h. send rest (is ∙ ap (λ (c : ℕ). c ∷ rest) h)) (λ k.
-    byte_pick b 100 (delivery_at full rest) (cond (b == 102) (failure_at full failed rest) (cond (b == 111) (open_at some failed rest) (Err faults.Word))) (Err f) k (λ h. delivery rest (is ∙ ap (λ (c : ℕ). c ∷ rest) h)) (λ k.
-    byte_pick b 102 (failure_at full failed rest) (cond (b == 111) (open_at some failed rest) (Err faults.Word)) (Err f) k (λ h. failure rest (is ∙ ap (λ (c : ℕ). c ∷ rest) h)) (λ k.
-    byte_pick b 111 (open_at some failed rest) (Err faults.Word) (Err f) k (λ h. open' rest (is ∙ ap (λ (c : ℕ). c ∷ rest) h)) (λ k.
-    absurd (fits (let same : faults.Word ≡ f = cc in sym same))))))))
+line_case {P = P} version full some failed bytes f long fits e change send delivery failure open' quiet =
+    byte_case bytes (λ b. cond (b.0 == 99) (change_at version full b.1) (cond (b.0 == 115) (send_at full b.1) (cond (b.0 == 100) (delivery_at full b.1) (cond (b.0 == 102) (failure_at full failed b.1) (cond (b.0 == 111) (open_at some failed b.1) (cond (b.0 == 113) (quiet_at (writes_quiet version) some failed b.1) (Err faults.Word))))))) f long e (λ b rest is k.
+    byte_pick b 99 (change_at version full rest) (cond (b == 115) (send_at full rest) (cond (b == 100) (delivery_at full rest) (cond (b == 102) (failure_at full failed rest) (cond (b == 111) (open_at some failed rest) (cond (b == 113) (quiet_at (writes_quiet version) some failed rest) (Err faults.Word)))))) (Err f) k (λ h. change rest (is ∙ ap (λ (c : ℕ). c ∷ rest) h)) (λ k.
+    byte_pick b 115 (send_at full rest) (cond (b == 100) (delivery_at full rest) (cond (b == 102) (failure_at full failed rest) (cond (b == 111) (open_at some failed rest) (cond (b == 113) (quiet_at (writes_quiet version) some failed rest) (Err faults.Word))))) (Err f) k (λ h. send rest (is ∙ ap (λ (c : ℕ). c ∷ rest) h)) (λ k.
+    byte_pick b 100 (delivery_at full rest) (cond (b == 102) (failure_at full failed rest) (cond (b == 111) (open_at some failed rest) (cond (b == 113) (quiet_at (writes_quiet version) some failed rest) (Err faults.Word)))) (Err f) k (λ h. delivery rest (is ∙ ap (λ (c : ℕ). c ∷ rest) h)) (λ k.
+    byte_pick b 102 (failure_at full failed rest) (cond (b == 111) (open_at some failed rest) (cond (b == 113) (quiet_at (writes_quiet version) some failed rest) (Err faults.Word))) (Err f) k (λ h. failure rest (is ∙ ap (λ (c : ℕ). c ∷ rest) h)) (λ k.
+    byte_pick b 111 (open_at some failed rest) (cond (b == 113) (quiet_at (writes_quiet version) some failed rest) (Err faults.Word)) (Err f) k (λ h. open' rest (is ∙ ap (λ (c : ℕ). c ∷ rest) h)) (λ k.
+    byte_pick b 113 (quiet_at (writes_quiet version) some failed rest) (Err faults.Word) (Err f) k (λ h. quiet rest (is ∙ ap (λ (c : ℕ). c ∷ rest) h)) (λ k.
+    absurd (fits (let same : faults.Word ≡ f = cc in sym same)))))))))
 
 -- a failure, or the closing word of a log that ends in one, by the byte behind `fail`
 pub ail_case : {P : Type 0} (full failed : Bool) (bytes : List ℕ) (f : TextFault) → f ≢ faults.Truncated → f ≢ faults.Word → ail_at full failed bytes ≡ Err f
@@ -111,10 +114,25 @@ open_end some failed bytes e = go (some && not failed) e
         (λ w mid e1 k. absurd cc)
     go false k = refl
 
-ail_end : (full some failed : Bool) (bytes rest : List ℕ) → (full && not failed) ≡ false → bytes ≡ 102 ∷ rest → ail_at full failed rest ≡ Err faults.End → ClosesWrong full some failed bytes
-ail_end full some failed bytes rest room is e =
+quiet_end : (written some failed : Bool) (bytes : List ℕ) → quiet_at written some failed bytes ≡ Err faults.End → (written ≡ true) × ((some && not failed) ≡ false)
+unfolding quiet_at
+quiet_end written some failed bytes e = go written (some && not failed) e
+  where
+    closes : Unit {0} × List ℕ → Parsed Line
+    closes w = Ok (lines.Close Quiet, w.1)
+
+    go : (may t : Bool) → ◌≡◌ {A = Parsed Line} (cond may (cond t (word_at faults.Word (line (codes "uiet")) bytes >>= closes) (Err faults.End)) (Err faults.Word)) (Err faults.End) → (may ≡ true) × (t ≡ false)
+    go true true k =
+        bind_case (word_at faults.Word (line (codes "uiet")) bytes) closes faults.End k
+        (λ k. absurd ((word_only NotEnd faults.Word (line (codes "uiet")) bytes tt tt).fault faults.End k))
+        (λ w mid e1 k. absurd cc)
+    go true false k = (refl, refl)
+    go false t k = absurd ((fault_only {A = Line} NotEnd faults.Word tt).fault faults.End k)
+
+ail_end : (written full some failed : Bool) (bytes rest : List ℕ) → (full && not failed) ≡ false → bytes ≡ 102 ∷ rest → ail_at full failed rest ≡ Err faults.End → ClosesWrong written full some failed bytes
+ail_end written full some failed bytes rest room is e =
     ail_case full failed rest faults.End (λ h. absurd cc) (λ h. absurd cc) e
-    (λ more behind k. let ends = failed_end failed more k in inr (more, is ∙ ap (λ (t : List ℕ). 102 ∷ t) behind, may full failed room ends, ends))
+    (λ more behind k. let ends = failed_end failed more k in inr (inr (more, is ∙ ap (λ (t : List ℕ). 102 ∷ t) behind, may full failed room ends, ends)))
     (λ more behind k. absurd ((fail_only NotEnd full more entries_not_end).fault faults.End k))
   where
     may : (full failed : Bool) → (full && not failed) ≡ false → failed ≡ false → full ≡ false
@@ -122,28 +140,30 @@ ail_end full some failed bytes rest room is e =
     may true false h k = absurd cc
     may false failed h k = refl
 
-failure_end : (full some failed : Bool) (bytes rest : List ℕ) → bytes ≡ 102 ∷ rest → failure_at full failed rest ≡ Err faults.End → ClosesWrong full some failed bytes
+failure_end : (written full some failed : Bool) (bytes rest : List ℕ) → bytes ≡ 102 ∷ rest → failure_at full failed rest ≡ Err faults.End → ClosesWrong written full some failed bytes
 unfolding failure_at
-failure_end full some failed bytes rest is e = elim (taken (full && not failed) (Err faults.TooMany) (ail_at full failed rest) (Err faults.End) e) [
+failure_end written full some failed bytes rest is e = elim (taken (full && not failed) (Err faults.TooMany) (ail_at full failed rest) (Err faults.End) e) [
   | inl x ↦ absurd ((fault_only {A = Line} NotEnd faults.TooMany tt).fault faults.End x.1)
-  | inr x ↦ ail_end full some failed bytes rest x.0 is x.1
+  | inr x ↦ ail_end written full some failed bytes rest x.0 is x.1
 ]
 
-line_end : (version : Version) (full some failed : Bool) (bytes : List ℕ) → line_at version full some failed bytes ≡ Err faults.End → ClosesWrong full some failed bytes
+line_end : (version : Version) (full some failed : Bool) (bytes : List ℕ) → line_at version full some failed bytes ≡ Err faults.End → ClosesWrong (writes_quiet version) full some failed bytes
 line_end version full some failed bytes e =
     line_case version full some failed bytes faults.End (λ h. absurd cc) (λ h. absurd cc) e
     (λ rest is k. absurd ((change_only version NotEnd full rest entries_not_end).fault faults.End k))
     (λ rest is k. absurd ((send_only NotEnd full rest entries_not_end).fault faults.End k))
     (λ rest is k. absurd ((delivery_only NotEnd full rest entries_not_end).fault faults.End k))
-    (λ rest is k. failure_end full some failed bytes rest is k)
+    (λ rest is k. failure_end (writes_quiet version) full some failed bytes rest is k)
     (λ rest is k. inl (rest, is, open_end some failed rest k))
+    (λ rest is k. let wrong = quiet_end (writes_quiet version) some failed rest k in inr (inl (rest, is, wrong.0, wrong.1)))
 
-end_line : (version : Version) (full some failed : Bool) (bytes : List ℕ) → ClosesWrong full some failed bytes → line_at version full some failed bytes ≡ Err faults.End
-unfolding line_at open_at failure_at ail_at failed_at word_at
+end_line : (version : Version) (full some failed : Bool) (bytes : List ℕ) → ClosesWrong (writes_quiet version) full some failed bytes → line_at version full some failed bytes ≡ Err faults.End
+unfolding line_at open_at quiet_at failure_at ail_at failed_at word_at
 end_line version full some failed bytes (inl (rest, is, wrong)) = rw (is, wrong) refl
-end_line version full some failed bytes (inr (rest, is, room, ends)) = rw (is, room, ends) refl
+end_line version full some failed bytes (inr (inl (rest, is, may, wrong))) = rw (is, may, wrong) refl
+end_line version full some failed bytes (inr (inr (rest, is, room, ends))) = rw (is, room, ends) refl
 
-pub end_exactly : (version : Version) (full some failed : Bool) (bytes : List ℕ) → (line_at version full some failed bytes ≡ Err faults.End) ↔ ClosesWrong full some failed bytes
+pub end_exactly : (version : Version) (full some failed : Bool) (bytes : List ℕ) → (line_at version full some failed bytes ≡ Err faults.End) ↔ ClosesWrong (writes_quiet version) full some failed bytes
 end_exactly version full some failed bytes = (line_end version full some failed bytes, end_line version full some failed bytes)
 
 -- ---- Order

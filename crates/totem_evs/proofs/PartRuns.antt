@@ -8,7 +8,7 @@ use Rattle.std.proofs.lemmas.List.{append-nil}
 use Rattle.std.proofs.lemmas.Grind.{flat_map-append}
 use Rattle.totem_ids.specs.Sources.{Parsed, ◌>>=◌}
 use Rattle.totem_ids.proofs.Spelled.{after, parsed_is}
-use Rattle.totem_evs.specs.declared.ending.Ending.TheVariants.{Standing, Failed}
+use Rattle.totem_evs.specs.declared.ending.Ending.TheVariants.{Standing, Failed, Quiet}
 use Rattle.totem_evs.specs.declared.entry.Entry.{Entry}
 use Rattle.totem_evs.specs.declared.line.Line.{Line}
 use Rattle.totem_evs.specs.declared.line.Line.TheVariants as lines
@@ -20,6 +20,7 @@ use Rattle.totem_evs.specs.declared.stage.OpenLog.{OpenLog}
 use Rattle.totem_evs.specs.RunText.{line, entry_text, ending_text, log_text, header_text}
 use Rattle.totem_evs.specs.RunGrammar.{line_at, head_at, by_line, by_head}
 use Rattle.totem_evs.specs.Parts.{begun_at, within_at, next_at, part_at, first_stage, next_stage, part_text, entry_parts, log_parts, run_parts}
+use Rattle.totem_evs.specs.Endings.{writes_quiet}
 use Rattle.totem_evs.specs.ReadState.{ComesBetween, ComesWithin, ComesIn, MayCome}
 use Rattle.totem_evs.specs.Gathered.{GatheredLogs, none_gathered, gathered}
 use Rattle.totem_evs.specs.PartLaws.{ReadsParts, PartsMakeTheRun, TextIsOfParts}
@@ -40,18 +41,19 @@ between_comes version logs last part bytes rest e =
     go None is same = subst (ComesBetween logs last) same tt
     go (Some p) is same = subst (ComesBetween logs last) same (is.0, is.1)
 
-within_comes : (version : Version) (entries : ℕ) (failed : Bool) (part : Option Part) (bytes rest : List ℕ) → within_at version entries failed bytes ≡ Ok (part, rest) → ComesWithin entries failed part
+within_comes : (version : Version) (entries : ℕ) (failed : Bool) (part : Option Part) (bytes rest : List ℕ) → within_at version entries failed bytes ≡ Ok (part, rest) → ComesWithin (writes_quiet version) entries failed part
 unfolding within_at
 within_comes version entries failed part bytes rest e =
     after (line_at version (entries == 1000000) (nat_lt 0 entries) failed bytes) line_part (part, rest) e (λ l mid e1 made.
     go l (line_is version (entries == 1000000) (nat_lt 0 entries) failed l bytes mid e1).0 (parsed_is (Some (by_line l parts.Close parts.Entry)) part mid rest made).0)
   where
-    go : (l : Line) → IsLine version (entries == 1000000) (nat_lt 0 entries) failed l → ◌≡◌ {A = Option Part} (Some (by_line l parts.Close parts.Entry)) part → ComesWithin entries failed part
-    go (lines.Entry x) is same = subst (ComesWithin entries failed) same is.0
-    go (lines.Close Standing) is same = subst (ComesWithin entries failed) same is
-    go (lines.Close Failed) is same = subst (ComesWithin entries failed) same is
+    go : (l : Line) → IsLine version (entries == 1000000) (nat_lt 0 entries) failed l → ◌≡◌ {A = Option Part} (Some (by_line l parts.Close parts.Entry)) part → ComesWithin (writes_quiet version) entries failed part
+    go (lines.Entry x) is same = subst (ComesWithin (writes_quiet version) entries failed) same is.0
+    go (lines.Close Standing) is same = subst (ComesWithin (writes_quiet version) entries failed) same is
+    go (lines.Close Failed) is same = subst (ComesWithin (writes_quiet version) entries failed) same is
+    go (lines.Close Quiet) is same = subst (ComesWithin (writes_quiet version) entries failed) same is
 
-comes_in : (version : Version) (logs last : ℕ) (log : Option OpenLog) (part : Option Part) (bytes rest : List ℕ) → next_at version logs last log bytes ≡ Ok (part, rest) → ComesIn logs last log part
+comes_in : (version : Version) (logs last : ℕ) (log : Option OpenLog) (part : Option Part) (bytes rest : List ℕ) → next_at version logs last log bytes ≡ Ok (part, rest) → ComesIn version logs last log part
 comes_in version logs last None part bytes rest e = between_comes version logs last part bytes rest e
 comes_in version logs last (Some log) part bytes rest e = within_comes version log.entries log.failed part bytes rest e
 
@@ -71,7 +73,7 @@ pub record Stands (stage : Stage) (g : GatheredLogs) : Type 0 where
   pub entries : FewEntries stage.log
   pub placed : Placed stage.log stage.last g
 
-stands_in : (version : Version) (logs last : ℕ) (log : Option OpenLog) (g : GatheredLogs) (part : Part) → logs ≤ 32 → FewEntries log → Placed log last g → ComesIn logs last log (Some part) → Stands (next_stage (record { version = version; logs = logs; last = last; log = log }) part) (gathered g part)
+stands_in : (version : Version) (logs last : ℕ) (log : Option OpenLog) (g : GatheredLogs) (part : Part) → logs ≤ 32 → FewEntries log → Placed log last g → ComesIn version logs last log (Some part) → Stands (next_stage (record { version = version; logs = logs; last = last; log = log }) part) (gathered g part)
 stands_in version logs last None g (parts.Log p) few entries placed may = record { few = below_limit logs 32 may.0 few; entries = omega arith; placed = refl }
 stands_in version logs last None g (parts.Entry e) few entries placed may = absurd may
 stands_in version logs last None g (parts.Close ending) few entries placed may = absurd may
@@ -110,15 +112,15 @@ opened_parts (Some p) entries = parts.Log p ∷ entry_parts entries
 abbrev given : GatheredLogs → List Part
 given g = run_parts g.logs ++ opened_parts g.proc g.entries
 
-given_in : (logs last : ℕ) (log : Option OpenLog) (g : GatheredLogs) (part : Part) → Placed log last g → ComesIn logs last log (Some part) → given (gathered g part) ≡ given g ++ part ∷ []
-given_in logs last None g (parts.Log p) placed may = rw placed (ap (λ (xs : List Part). xs ++ parts.Log p ∷ []) (sym (append-nil (run_parts g.logs))))
-given_in logs last None g (parts.Entry e) placed may = absurd may
-given_in logs last None g (parts.Close ending) placed may = absurd may
-given_in logs last (Some log) g (parts.Log p) placed may = absurd may
-given_in logs last (Some log) g (parts.Entry e) placed may = rw placed (
+given_in : (version : Version) (logs last : ℕ) (log : Option OpenLog) (g : GatheredLogs) (part : Part) → Placed log last g → ComesIn version logs last log (Some part) → given (gathered g part) ≡ given g ++ part ∷ []
+given_in version logs last None g (parts.Log p) placed may = rw placed (ap (λ (xs : List Part). xs ++ parts.Log p ∷ []) (sym (append-nil (run_parts g.logs))))
+given_in version logs last None g (parts.Entry e) placed may = absurd may
+given_in version logs last None g (parts.Close ending) placed may = absurd may
+given_in version logs last (Some log) g (parts.Log p) placed may = absurd may
+given_in version logs last (Some log) g (parts.Entry e) placed may = rw placed (
     ap (λ (xs : List Part). run_parts g.logs ++ (parts.Log last ∷ xs)) (flat_map-append (λ (x : Entry). parts.Entry x ∷ []) g.entries (e ∷ []))
     ∙ sym (append_assoc (run_parts g.logs) (parts.Log last ∷ entry_parts g.entries) (parts.Entry e ∷ [])))
-given_in logs last (Some log) g (parts.Close ending) placed may =
+given_in version logs last (Some log) g (parts.Close ending) placed may =
     let new : Log = record { proc = last; entries = g.entries; ending = ending } in
     rw placed (
     append-nil (run_parts (g.logs ++ new ∷ []))
@@ -126,16 +128,16 @@ given_in logs last (Some log) g (parts.Close ending) placed may =
     ∙ ap (λ (xs : List Part). run_parts g.logs ++ xs) (append-nil (log_parts new))
     ∙ sym (append_assoc (run_parts g.logs) (parts.Log last ∷ entry_parts g.entries) (parts.Close ending ∷ [])))
 
-ended_in : (logs last : ℕ) (log : Option OpenLog) (g : GatheredLogs) → Placed log last g → ComesIn logs last log None → run_parts g.logs ≡ given g ++ []
-ended_in logs last None g placed may = rw placed (sym (append-nil (run_parts g.logs ++ []) ∙ append-nil (run_parts g.logs)))
-ended_in logs last (Some log) g placed may = absurd may
+ended_in : (version : Version) (logs last : ℕ) (log : Option OpenLog) (g : GatheredLogs) → Placed log last g → ComesIn version logs last log None → run_parts g.logs ≡ given g ++ []
+ended_in version logs last None g placed may = rw placed (sym (append-nil (run_parts g.logs ++ []) ∙ append-nil (run_parts g.logs)))
+ended_in version logs last (Some log) g placed may = absurd may
 
 parts_are : (ps : List Part) (stage : Stage) (g : GatheredLogs) (bytes rest : List ℕ) → Stands stage g → ReadsParts stage bytes ps rest → run_parts (logs_from g ps) ≡ given g ++ ps
-parts_are [] stage g bytes rest h reads = ended_in stage.logs stage.last stage.log g h.placed (comes stage None bytes rest reads)
+parts_are [] stage g bytes rest h reads = ended_in stage.version stage.logs stage.last stage.log g h.placed (comes stage None bytes rest reads)
 parts_are (part ∷ ps) stage g bytes rest h reads =
     let may = comes stage (Some part) bytes reads.0 reads.1 in
     parts_are ps (next_stage stage part) (gathered g part) reads.0 rest (stands_next stage g part h may) reads.2
-    ∙ ap (λ (xs : List Part). xs ++ ps) (given_in stage.logs stage.last stage.log g part h.placed may)
+    ∙ ap (λ (xs : List Part). xs ++ ps) (given_in stage.version stage.logs stage.last stage.log g part h.placed may)
     ∙ append_assoc (given g) (part ∷ []) ps
 
 pub stands_first : (version : Version) → Stands (first_stage version) none_gathered

@@ -1,8 +1,8 @@
 -- Where the text of a run is too short, it goes on.
 use Rattle.totem_evs.specs.RunRecord.{RunRecord}
-use Rattle.totem_evs.specs.Runs.{IsOfText}
+use Rattle.totem_evs.specs.Endings.{writes_quiet}
 use Rattle.totem_ids.specs.declared.version.Version.{Version}
-use Rattle.totem_ids.specs.declared.version.Version.TheVariants.{One, Two}
+use Rattle.totem_ids.specs.declared.version.Version.TheVariants.{One, Two, Three}
 use Rattle.totem_ids.specs.Ranks.{rank_of}
 use Rattle.totem_ids.specs.Processes.{process_text, process_then, IsProcessIn}
 use Rattle.totem_ids.proofs.Lives.{process_then_is}
@@ -29,7 +29,7 @@ use Rattle.totem_evs.specs.RunGrammar.{is_failure, line_at, by_line, lines_at, l
 use Rattle.totem_evs.specs.TextFronts.{IsFront, IsLooseEntry, IsLooseLog, IsLooseRun, IsLooseFront, IsFirstWrong}
 use Rattle.totem_evs.proofs.LooseFrom.{EachLoosely, entry_loosely, loose_entries, LooseLogsFrom, log_loosely, is_loose_run}
 use Rattle.totem_evs.proofs.SpelledLine.{IsLineOf, IsLine, line_text, line_is}
-use Rattle.totem_evs.proofs.SpelledLog.{entries_text, body_text, ending_if, IsBodyOf, closing, closed_by, some_of, log_is}
+use Rattle.totem_evs.proofs.SpelledLog.{entries_text, body_text, ends_in_failure, ending_if, ends_if, IsBodyOf, closing, closed_by, word_so, some_of, log_is}
 use Rattle.totem_evs.proofs.SpelledRun.{head_text, IsHead, logs_text, logs_parts, head_is, header_is, run_parts, no_run}
 use Rattle.totem_evs.proofs.SteadyRun.{run_steady, run_first_break}
 use Rattle.totem_evs.proofs.GoesOn.{Cut, Splits, ok_cut, fault_cut, test_cut, bind_cut, last_cut, byte_cut, word_cut, first_ring, first_ring_is}
@@ -38,18 +38,18 @@ use Rattle.totem_evs.proofs.LineGoesOn.{ProcessTo, process_cut, first_process_is
 -- ---- the lines of a log
 
 abbrev pub BodyTo : Version → ℕ → Bool → Bool → List ℕ → Type 0
-BodyTo version room some failed t = (es : List Entry) × (ending : Ending) × IsBodyOf (EachLoosely version) room some failed es ending × (t ≡ body_text version es ending [])
+BodyTo version room some failed t = (es : List Entry) × (ending : Ending) × IsBodyOf (EachLoosely version) (writes_quiet version) room some failed es ending × (t ≡ body_text version es ending [])
 
 not_zero : (n : ℕ) → (n == 0) ≡ false → 0 < n
 not_zero n h = grind (arith, nat_tests)
 
 -- a line that came last but for the closing word
-body_from : (version : Version) (room : ℕ) (some failed : Bool) (l : Line) (t : List ℕ) → (failed ≡ true → some ≡ true) → IsLineOf (IsLooseEntry version) (room == 0) some failed l → t ≡ line_text version l → (u : List ℕ) × BodyTo version (suc room) some failed (t ++ u)
-body_from version room some failed (lines.Close x) t so is e = ([], ([], x, closing (IsLooseEntry version) (EachLoosely version) tt room (room == 0) some failed x so is, ap (λ (k : List ℕ). k ++ []) e))
+body_from : (version : Version) (room : ℕ) (some failed : Bool) (l : Line) (t : List ℕ) → (failed ≡ true → some ≡ true) → IsLineOf (IsLooseEntry version) (writes_quiet version) (room == 0) some failed l → t ≡ line_text version l → (u : List ℕ) × BodyTo version (suc room) some failed (t ++ u)
+body_from version room some failed (lines.Close x) t so is e = ([], ([], x, closing (IsLooseEntry version) (EachLoosely version) tt (writes_quiet version) room (room == 0) some failed x so is, ap (λ (k : List ℕ). k ++ []) e))
 body_from version room some failed (lines.Entry x) t so is e =
     let u = body_text version [] (ending_if (is_failure x)) [] in
     let few : 0 < room = not_zero room is.0 in
-    (u, (x ∷ [], ending_if (is_failure x), record { few = omega (arith, few); entries = is.1; has = refl; ends = refl }, ap (λ (k : List ℕ). k ++ u) (e ∙ sym (append-nil (line (entry_text (process_text version) x))))))
+    (u, (x ∷ [], ending_if (is_failure x), record { few = omega (arith, few); entries = is.1; has = refl; ends = ends_if (writes_quiet version) (is_failure x) }, ap (λ (k : List ℕ). k ++ u) (e ∙ sym (append-nil (line (entry_text (process_text version) x))))))
 
 body_step : (version : Version) (room : ℕ) (some failed : Bool) (l : Line) (bytes rest : List ℕ) → IsLine version (room == 0) some failed l × (bytes ≡ line_text version l ++ rest)
     → ((x : Entry) → Cut (lines_at version room true (is_failure x) rest) (BodyTo version room true (is_failure x)) rest)
@@ -73,11 +73,12 @@ lines_cut version (suc room) some failed bytes more so =
 
 -- ---- a log
 
-made_log : (version : Version) (p : ℕ) (es : List Entry) (ending : Ending) → IsProcessIn version p → IsBodyOf (EachLoosely version) 1000001 false false es ending → IsLooseLog version (record { proc = p; entries = es; ending = ending })
+made_log : (version : Version) (p : ℕ) (es : List Entry) (ending : Ending) → IsProcessIn version p → IsBodyOf (EachLoosely version) (writes_quiet version) 1000001 false false es ending → IsLooseLog version (record { proc = p; entries = es; ending = ending })
 made_log version p es ending process body = record {
   process = process;
   entries = loose_entries version es (some_of es body.has) (omega (arith, body.few)) body.entries;
-  ending = closed_by es ending body.ends;
+  ending = closed_by (writes_quiet version) es ending body.ends;
+  word = word_so version (ends_in_failure false es) ending body.ends;
 }
 
 abbrev pub LogTo : Version → ℕ → List ℕ → Type 0
@@ -226,32 +227,34 @@ logs_cut version (suc room) last bytes =
 -- ---- runs
 
 abbrev pub HeaderTo : List ℕ → Type 0
-HeaderTo t = (version : Version) × IsOfText version × (t ≡ header_text version)
+HeaderTo t = (version : Version) × (t ≡ header_text version)
 
-header_end_cut : (version : Version) (bytes : List ℕ) → IsOfText version → Cut (header_end version bytes) (λ u. HeaderTo (codes "totem-run " ++ version_digit version ∷ u)) bytes
+header_end_cut : (version : Version) (bytes : List ℕ) → Cut (header_end version bytes) (λ u. HeaderTo (codes "totem-run " ++ version_digit version ∷ u)) bytes
 unfolding header_end
-header_end_cut version bytes is =
+header_end_cut version bytes =
     last_cut (word_at faults.Header (line []) bytes) (λ w. (version, w.1)) (λ t. t ≡ line []) (λ u. HeaderTo (codes "totem-run " ++ version_digit version ∷ u)) bytes (word_cut faults.Header (line []) bytes refl)
-    (λ t e. (version, is, ap (λ (k : List ℕ). codes "totem-run " ++ version_digit version ∷ k) e))
+    (λ t e. (version, ap (λ (k : List ℕ). codes "totem-run " ++ version_digit version ∷ k) e))
 
 header_cut : (bytes : List ℕ) → Cut (header_at bytes) HeaderTo bytes
 unfolding header_at
 header_cut bytes =
-    bind_cut (word_at faults.Header (codes "totem-run ") bytes) (λ w. byte_at w.1 >>= λ v. cond (v.0 == 49) (header_end One v.1) (cond (v.0 == 50) (header_end Two v.1) (Err faults.Header))) (λ t. t ≡ codes "totem-run ") HeaderTo bytes (word_cut faults.Header (codes "totem-run ") bytes refl)
-    (λ t e. (49 ∷ 10 ∷ [], (One, tt, ap (λ (k : List ℕ). k ++ 49 ∷ 10 ∷ []) e)))
+    bind_cut (word_at faults.Header (codes "totem-run ") bytes) (λ w. byte_at w.1 >>= λ v. cond (v.0 == 49) (header_end One v.1) (cond (v.0 == 50) (header_end Two v.1) (cond (v.0 == 51) (header_end Three v.1) (Err faults.Header)))) (λ t. t ≡ codes "totem-run ") HeaderTo bytes (word_cut faults.Header (codes "totem-run ") bytes refl)
+    (λ t e. (49 ∷ 10 ∷ [], (One, ap (λ (k : List ℕ). k ++ 49 ∷ 10 ∷ []) e)))
     (λ w rest e. record {
       text = codes "totem-run ";
       whole = word_is faults.Header (codes "totem-run ") bytes rest w e;
-      next = bind_cut (byte_at rest) (λ v. cond (v.0 == 49) (header_end One v.1) (cond (v.0 == 50) (header_end Two v.1) (Err faults.Header))) (λ t. t ≡ 49 ∷ []) Is rest (byte_cut 49 rest)
-          (λ t e. (10 ∷ [], (One, tt, ap (λ (k : List ℕ). codes "totem-run " ++ (k ++ 10 ∷ [])) e)))
+      next = bind_cut (byte_at rest) (λ v. cond (v.0 == 49) (header_end One v.1) (cond (v.0 == 50) (header_end Two v.1) (cond (v.0 == 51) (header_end Three v.1) (Err faults.Header)))) (λ t. t ≡ 49 ∷ []) Is rest (byte_cut 49 rest)
+          (λ t e. (10 ∷ [], (One, ap (λ (k : List ℕ). codes "totem-run " ++ (k ++ 10 ∷ [])) e)))
           (λ v rest2 e2. record {
             text = v ∷ [];
             whole = byte_is rest v rest2 e2;
-            next = test_cut (v == 49) (header_end One rest2) (cond (v == 50) (header_end Two rest2) (Err faults.Header)) (λ u. Is (v ∷ u)) rest2
-                (λ h. let same : v ≡ 49 = eqb-true v 49 h in rw same (header_end_cut One rest2 tt))
-                (λ h. test_cut (v == 50) (header_end Two rest2) (Err faults.Header) (λ u. Is (v ∷ u)) rest2
-                (λ h. let same : v ≡ 50 = eqb-true v 50 h in rw same (header_end_cut Two rest2 tt))
-                (λ h. fault_cut faults.Header (λ u. Is (v ∷ u)) rest2 refl));
+            next = test_cut (v == 49) (header_end One rest2) (cond (v == 50) (header_end Two rest2) (cond (v == 51) (header_end Three rest2) (Err faults.Header))) (λ u. Is (v ∷ u)) rest2
+                (λ h. let same : v ≡ 49 = eqb-true v 49 h in rw same (header_end_cut One rest2))
+                (λ h. test_cut (v == 50) (header_end Two rest2) (cond (v == 51) (header_end Three rest2) (Err faults.Header)) (λ u. Is (v ∷ u)) rest2
+                (λ h. let same : v ≡ 50 = eqb-true v 50 h in rw same (header_end_cut Two rest2))
+                (λ h. test_cut (v == 51) (header_end Three rest2) (Err faults.Header) (λ u. Is (v ∷ u)) rest2
+                (λ h. let same : v ≡ 51 = eqb-true v 51 h in rw same (header_end_cut Three rest2))
+                (λ h. fault_cut faults.Header (λ u. Is (v ∷ u)) rest2 refl)));
           });
     })
   where
@@ -259,28 +262,26 @@ header_cut bytes =
     Is u = HeaderTo (codes "totem-run " ++ u)
 
 abbrev pub RunTo : List ℕ → Type 0
-RunTo t = (run : RunRecord) × IsOfText run.version × IsLooseRun run.version run.logs × (run_text run ≡ t)
+RunTo t = (run : RunRecord) × IsLooseRun run.version run.logs × (run_text run ≡ t)
 
-run_of : (version : Version) (logs : List Log) (t : List ℕ) → IsOfText version → LooseLogsFrom version 33 0 logs → t ≡ logs_text version logs [] → RunTo (header_text version ++ t)
-run_of version logs t of is e =
+run_of : (version : Version) (logs : List Log) (t : List ℕ) → LooseLogsFrom version 33 0 logs → t ≡ logs_text version logs [] → RunTo (header_text version ++ t)
+run_of version logs t is e =
     let run : RunRecord = record { version = version; logs = logs } in
-    (run, of, is_loose_run version logs is, sym (append-nil (run_text run)) ∙ run_parts run [] ∙ ap (λ (k : List ℕ). header_text version ++ k) (sym e))
+    (run, is_loose_run version logs is, sym (append-nil (run_text run)) ∙ run_parts run [] ∙ ap (λ (k : List ℕ). header_text version ++ k) (sym e))
 
 run_cut : (bytes : List ℕ) → Cut (run_at bytes) RunTo bytes
 unfolding run_at
 run_cut bytes =
     bind_cut (header_at bytes) (λ v. logs_at v.0 33 0 v.1 >>= λ logs. Ok (record { version = v.0; logs = logs.0 }, logs.1)) HeaderTo RunTo bytes (header_cut bytes)
-    (λ t x. (logs_text x.0 [] [], rw x.2 (run_of x.0 [] (logs_text x.0 [] []) x.1 (record { few = omega arith; rises = tt }) refl)))
-    (λ v rest e.
-    let y = header_is v bytes rest e in
-    record {
+    (λ t x. (logs_text x.0 [] [], rw x.1 (run_of x.0 [] (logs_text x.0 [] []) (record { few = omega arith; rises = tt }) refl)))
+    (λ v rest e. record {
       text = header_text v;
-      whole = y.1;
-      next = last_cut {B = RunRecord} (logs_at v 33 0 rest) (λ logs. (record { version = v; logs = logs.0 }, logs.1)) (LogsTo v 33 0) (λ u. RunTo (header_text v ++ u)) rest (logs_cut v 33 0 rest) (λ t x. run_of v x.0 t y.0 x.1 x.2);
+      whole = header_is v bytes rest e;
+      next = last_cut {B = RunRecord} (logs_at v 33 0 rest) (λ logs. (record { version = v; logs = logs.0 }, logs.1)) (LogsTo v 33 0) (λ u. RunTo (header_text v ++ u)) rest (logs_cut v 33 0 rest) (λ t x. run_of v x.0 t x.1 x.2);
     })
 
 pub cut_front : (bytes : List ℕ) → run_at bytes ≡ Err faults.Truncated → IsLooseFront bytes
-cut_front bytes e = let found = (run_cut bytes).goes e in (found.1.0, found.0, found.1.1, found.1.2, found.1.3)
+cut_front bytes e = let found = (run_cut bytes).goes e in (found.1.0, found.0, found.1.1, found.1.2)
 
 -- behind a byte that breaks a rule no run's text goes on
 no_front : (bytes : List ℕ) (fault : TextFault) → run_at bytes ≡ Err fault → is_short fault ≡ false → IsFront bytes → ⊥

@@ -21,13 +21,14 @@ use Rattle.totem_ids.proofs.ServiceSpelling.{service_is, service_again}
 use Rattle.totem_ids.proofs.Spelled.{after, taken, guard_then, guard_else, parsed_is, byte_is, word_is, word_again, conf_is, conf_again, message_is, message_again}
 use Rattle.totem_evs.specs.declared.entry.Entry.{Entry}
 use Rattle.totem_evs.specs.declared.entry.Entry.TheVariants.{Conf, Send, Deliver, Fail}
-use Rattle.totem_evs.specs.declared.ending.Ending.TheVariants.{Standing, Failed}
+use Rattle.totem_evs.specs.declared.ending.Ending.TheVariants.{Standing, Failed, Quiet}
 use Rattle.totem_evs.specs.declared.line.Line.{Line}
 use Rattle.totem_evs.specs.declared.line.Line.TheVariants as lines
 use Rattle.totem_evs.specs.Members.{IsMembersIn}
+use Rattle.totem_evs.specs.Endings.{writes_quiet}
 use Rattle.totem_evs.specs.Runs.{IsEntryIn}
 use Rattle.totem_evs.specs.RunText.{line, members_text, entry_text, ending_text}
-use Rattle.totem_evs.specs.RunGrammar.{members_at, change_at, send_at, delivery_at, open_at, failed_at, fail_at, ail_at, failure_at, line_at}
+use Rattle.totem_evs.specs.RunGrammar.{members_at, change_at, send_at, delivery_at, open_at, quiet_at, failed_at, fail_at, ail_at, failure_at, line_at}
 use Rattle.totem_evs.proofs.FromLeft.{MembersFrom, are_members, members_from}
 
 -- ---- members
@@ -84,14 +85,15 @@ abbrev pub line_text : Version → Line → List ℕ
 line_text version (lines.Entry e) = line (entry_text (process_text version) e)
 line_text version (lines.Close ending) = line (ending_text ending)
 
--- a line that may come next; of its entry this holds
-abbrev pub IsLineOf : (Entry → Type 0) → Bool → Bool → Bool → Line → Type 0
-IsLineOf E full some failed (lines.Entry e) = (full ≡ false) × E e
-IsLineOf E full some failed (lines.Close Standing) = (some ≡ true) × (failed ≡ false)
-IsLineOf E full some failed (lines.Close Failed) = failed ≡ true
+-- a line that may come next, `quiet` where that is written; of its entry this holds
+abbrev pub IsLineOf : (Entry → Type 0) → Bool → Bool → Bool → Bool → Line → Type 0
+IsLineOf E written full some failed (lines.Entry e) = (full ≡ false) × E e
+IsLineOf E written full some failed (lines.Close Standing) = (some ≡ true) × (failed ≡ false)
+IsLineOf E written full some failed (lines.Close Failed) = failed ≡ true
+IsLineOf E written full some failed (lines.Close Quiet) = (written ≡ true) × (some ≡ true) × (failed ≡ false)
 
 abbrev pub IsLine : Version → Bool → Bool → Bool → Line → Type 0
-IsLine version full some failed l = IsLineOf (IsEntryIn version) full some failed l
+IsLine version full some failed l = IsLineOf (IsEntryIn version) (writes_quiet version) full some failed l
 
 pub send_parts : (x s m rest : List ℕ) → (codes "send " ++ x ++ codes " " ++ s ++ codes " " ++ m ++ 10 ∷ []) ++ rest ≡ 115 ∷ (codes "end " ++ (x ++ 32 ∷ (s ++ (32 ∷ (m ++ 10 ∷ rest)))))
 send_parts x s m rest = simp append_assoc
@@ -181,6 +183,18 @@ open_is version full some failed l bytes rest e =
     let fits : Fits version full some failed 111 bytes (lines.Close Standing) b1 = record { is = (tests.0, not_true failed tests.1); spelled = ap (λ (t : List ℕ). 111 ∷ t) t1 } in
     rw (← q.0, ← q.1) fits)
 
+quiet_is : (version : Version) (full some failed : Bool) (l : Line) (bytes rest : List ℕ) → quiet_at (writes_quiet version) some failed bytes ≡ Ok (l, rest) → Fits version full some failed 113 bytes l rest
+unfolding quiet_at
+quiet_is version full some failed l bytes rest e =
+    let d = guard_then (writes_quiet version) (cond (some && not failed) (word_at faults.Word (line (codes "uiet")) bytes >>= λ w. Ok (lines.Close Quiet, w.1)) (Err faults.End)) faults.Word (l, rest) e in
+    let g = guard_then (some && not failed) (word_at faults.Word (line (codes "uiet")) bytes >>= λ w. Ok (lines.Close Quiet, w.1)) faults.End (l, rest) d.1 in
+    let tests = both_true some (not failed) g.0 in
+    after (word_at faults.Word (line (codes "uiet")) bytes) (λ w. Ok (lines.Close Quiet, w.1)) (l, rest) g.1 (λ w b1 e1 made.
+    let q = parsed_is (lines.Close Quiet) l b1 rest made in
+    let t1 = word_is faults.Word (line (codes "uiet")) bytes b1 w e1 in
+    let fits : Fits version full some failed 113 bytes (lines.Close Quiet) b1 = record { is = (d.0, tests.0, not_true failed tests.1); spelled = ap (λ (t : List ℕ). 113 ∷ t) t1 } in
+    rw (← q.0, ← q.1) fits)
+
 failed_is : (version : Version) (full some failed : Bool) (l : Line) (bytes rest : List ℕ) → failed_at failed bytes ≡ Ok (l, rest) → IsLine version full some failed l × (codes "faile" ++ bytes ≡ line_text version l ++ rest)
 unfolding failed_at
 failed_is version full some failed l bytes rest e =
@@ -232,19 +246,22 @@ led version full some failed letter b bytes mid l rest whole test fits = (fits.i
 pub line_is : (version : Version) (full some failed : Bool) (l : Line) (bytes rest : List ℕ) → line_at version full some failed bytes ≡ Ok (l, rest) → IsLine version full some failed l × (bytes ≡ line_text version l ++ rest)
 unfolding line_at
 line_is version full some failed l bytes rest e =
-    after (byte_at bytes) (λ b. cond (b.0 == 99) (change_at version full b.1) (cond (b.0 == 115) (send_at full b.1) (cond (b.0 == 100) (delivery_at full b.1) (cond (b.0 == 102) (failure_at full failed b.1) (cond (b.0 == 111) (open_at some failed b.1) (Err faults.Word)))))) (l, rest) e (λ b mid e1 more.
+    after (byte_at bytes) (λ b. cond (b.0 == 99) (change_at version full b.1) (cond (b.0 == 115) (send_at full b.1) (cond (b.0 == 100) (delivery_at full b.1) (cond (b.0 == 102) (failure_at full failed b.1) (cond (b.0 == 111) (open_at some failed b.1) (cond (b.0 == 113) (quiet_at (writes_quiet version) some failed b.1) (Err faults.Word))))))) (l, rest) e (λ b mid e1 more.
     let whole = byte_is bytes b mid e1 in
-    elim (taken (b == 99) (change_at version full mid) (cond (b == 115) (send_at full mid) (cond (b == 100) (delivery_at full mid) (cond (b == 102) (failure_at full failed mid) (cond (b == 111) (open_at some failed mid) (Err faults.Word))))) (Ok (l, rest)) more) [
+    elim (taken (b == 99) (change_at version full mid) (cond (b == 115) (send_at full mid) (cond (b == 100) (delivery_at full mid) (cond (b == 102) (failure_at full failed mid) (cond (b == 111) (open_at some failed mid) (cond (b == 113) (quiet_at (writes_quiet version) some failed mid) (Err faults.Word)))))) (Ok (l, rest)) more) [
       | inl r ↦ led version full some failed 99 b bytes mid l rest whole r.0 (change_is version full some failed l mid rest r.1)
-      | inr o1 ↦ elim (taken (b == 115) (send_at full mid) (cond (b == 100) (delivery_at full mid) (cond (b == 102) (failure_at full failed mid) (cond (b == 111) (open_at some failed mid) (Err faults.Word)))) (Ok (l, rest)) o1.1) [
+      | inr o1 ↦ elim (taken (b == 115) (send_at full mid) (cond (b == 100) (delivery_at full mid) (cond (b == 102) (failure_at full failed mid) (cond (b == 111) (open_at some failed mid) (cond (b == 113) (quiet_at (writes_quiet version) some failed mid) (Err faults.Word))))) (Ok (l, rest)) o1.1) [
         | inl r ↦ led version full some failed 115 b bytes mid l rest whole r.0 (send_is version full some failed l mid rest r.1)
-        | inr o2 ↦ elim (taken (b == 100) (delivery_at full mid) (cond (b == 102) (failure_at full failed mid) (cond (b == 111) (open_at some failed mid) (Err faults.Word))) (Ok (l, rest)) o2.1) [
+        | inr o2 ↦ elim (taken (b == 100) (delivery_at full mid) (cond (b == 102) (failure_at full failed mid) (cond (b == 111) (open_at some failed mid) (cond (b == 113) (quiet_at (writes_quiet version) some failed mid) (Err faults.Word)))) (Ok (l, rest)) o2.1) [
           | inl r ↦ led version full some failed 100 b bytes mid l rest whole r.0 (delivery_is version full some failed l mid rest r.1)
-          | inr o3 ↦ elim (taken (b == 102) (failure_at full failed mid) (cond (b == 111) (open_at some failed mid) (Err faults.Word)) (Ok (l, rest)) o3.1) [
+          | inr o3 ↦ elim (taken (b == 102) (failure_at full failed mid) (cond (b == 111) (open_at some failed mid) (cond (b == 113) (quiet_at (writes_quiet version) some failed mid) (Err faults.Word))) (Ok (l, rest)) o3.1) [
             | inl r ↦ led version full some failed 102 b bytes mid l rest whole r.0 (failure_is version full some failed l mid rest r.1)
-            | inr o4 ↦
-                let t = guard_then (b == 111) (open_at some failed mid) faults.Word (l, rest) o4.1 in
-                led version full some failed 111 b bytes mid l rest whole t.0 (open_is version full some failed l mid rest t.1)
+            | inr o4 ↦ elim (taken (b == 111) (open_at some failed mid) (cond (b == 113) (quiet_at (writes_quiet version) some failed mid) (Err faults.Word)) (Ok (l, rest)) o4.1) [
+              | inl r ↦ led version full some failed 111 b bytes mid l rest whole r.0 (open_is version full some failed l mid rest r.1)
+              | inr o5 ↦
+                  let t = guard_then (b == 113) (quiet_at (writes_quiet version) some failed mid) faults.Word (l, rest) o5.1 in
+                  led version full some failed 113 b bytes mid l rest whole t.0 (quiet_is version full some failed l mid rest t.1)
+            ]
           ]
         ]
       ]
@@ -289,6 +306,10 @@ open_again : (rest : List ℕ) → open_at true false (codes "pen" ++ 10 ∷ res
 unfolding open_at
 open_again rest = rw (word_again faults.Word (line (codes "pen")) rest) refl
 
+quiet_again : (rest : List ℕ) → quiet_at true true false (codes "uiet" ++ 10 ∷ rest) ≡ Ok (lines.Close Quiet, rest)
+unfolding quiet_at
+quiet_again rest = rw (word_again faults.Word (line (codes "uiet")) rest) refl
+
 pub line_again : (version : Version) (full some failed : Bool) (l : Line) (rest : List ℕ) → IsLine version full some failed l → line_at version full some failed (line_text version l ++ rest) ≡ Ok (l, rest)
 unfolding line_at
 line_again version full some failed (lines.Entry (Conf x ms)) rest is = ap (line_at version full some failed) (change_parts (conf_text x) (members_text (process_text version) ms) rest) ∙ rw is.0 (change_again version x ms rest is.1.0 is.1.1)
@@ -297,3 +318,4 @@ line_again version full some failed (lines.Entry (Deliver m x)) rest is = ap (li
 line_again version full some failed (lines.Entry (Fail x)) rest is = ap (line_at version full some failed) (fail_parts (conf_text x) rest) ∙ rw is.0 (fail_again x failed rest is.1)
 line_again version full some failed (lines.Close Standing) rest is = rw (is.0, is.1) (open_again rest)
 line_again version full some failed (lines.Close Failed) rest is = rw is (failed_again full rest)
+line_again version full some failed (lines.Close Quiet) rest is = rw (is.0, is.1, is.2) (quiet_again rest)

@@ -11,10 +11,11 @@ use Rattle.totem_ids.proofs.Spelled.{after, parsed_is}
 use Rattle.totem_evs.specs.declared.entry.Entry.{Entry}
 use Rattle.totem_evs.specs.declared.entry.Entry.TheVariants.{Conf, Send, Deliver, Fail}
 use Rattle.totem_evs.specs.declared.ending.Ending.{Ending}
-use Rattle.totem_evs.specs.declared.ending.Ending.TheVariants.{Standing, Failed}
+use Rattle.totem_evs.specs.declared.ending.Ending.TheVariants.{Standing, Failed, Quiet}
 use Rattle.totem_evs.specs.declared.line.Line.{Line}
 use Rattle.totem_evs.specs.declared.line.Line.TheVariants as lines
 use Rattle.totem_evs.specs.declared.log.Log.{Log}
+use Rattle.totem_evs.specs.Endings.{writes_quiet, IsEndingIn}
 use Rattle.totem_evs.specs.Runs.{IsEntryIn, IsFailure, EndsInFail, IsClosedBy, IsLogIn}
 use Rattle.totem_evs.specs.RunText.{line, entry_text, ending_text}
 use Rattle.totem_evs.specs.RunGrammar.{is_failure, line_at, by_line, lines_at, log_at}
@@ -55,23 +56,42 @@ fails_last : (e : Entry) (es : List Entry) → ends_in_failure (is_failure e) es
 fails_last e [] h = (zero, e, omega arith, refl, one_is_failure e h)
 fails_last e (x ∷ es) h = let found = fails_last x es h in (suc found.0, found.1, omega (arith, found.2), found.3, found.4)
 
-pub closed_by : (es : List Entry) (ending : Ending) → ending ≡ ending_if (ends_in_failure false es) → IsClosedBy es ending
-closed_by [] ending h = (λ f. absurd (let k = sym f ∙ h in cc), λ e. absurd (omega (arith, e.2)))
-closed_by (e ∷ es) ending h = go (ends_in_failure (is_failure e) es) refl h
-  where
-    go : (t : Bool) → ends_in_failure (is_failure e) es ≡ t → ending ≡ ending_if t → IsClosedBy (e ∷ es) ending
-    go true s k = (λ f. fails_last e es s, λ found. k)
-    go false s k = (λ f. absurd (let j = sym f ∙ k in cc), λ found. absurd (let j = last_fails false (e ∷ es) found.0 found.1 found.2 found.3 found.4 in let i = sym s ∙ j in cc))
+-- a log closes so whose last entry is a failure or not, as quiet where that is written
+abbrev pub EndsSo : Bool → Bool → Ending → Type 0
+EndsSo written failed Standing = failed ≡ false
+EndsSo written failed Failed = failed ≡ true
+EndsSo written failed Quiet = (written ≡ true) × (failed ≡ false)
 
-pub closes_by : (es : List Entry) (ending : Ending) → 0 < length es → IsClosedBy es ending → ending ≡ ending_if (ends_in_failure false es)
-closes_by [] ending some h = absurd (omega (arith, some))
-closes_by (e ∷ es) ending some h = go ending (ends_in_failure (is_failure e) es) refl refl
+pub ends_if : (written failed : Bool) → EndsSo written failed (ending_if failed)
+ends_if written true = refl
+ends_if written false = refl
+
+never_fails : (es : List Entry) → ends_in_failure false es ≡ false → EndsInFail es → ⊥
+never_fails es h found = let j = last_fails false es found.0 found.1 found.2 found.3 found.4 in let i = sym h ∙ j in cc
+
+pub closed_by : (written : Bool) (es : List Entry) (ending : Ending) → EndsSo written (ends_in_failure false es) ending → IsClosedBy es ending
+closed_by written es Standing h = (λ f. absurd cc, λ found. absurd (never_fails es h found))
+closed_by written es Quiet h = (λ f. absurd cc, λ found. absurd (never_fails es h.1 found))
+closed_by written [] Failed h = absurd cc
+closed_by written (e ∷ es) Failed h = (λ f. fails_last e es h, λ found. refl)
+
+-- texts have the word
+pub word_so : (version : Version) (failed : Bool) (ending : Ending) → EndsSo (writes_quiet version) failed ending → IsEndingIn version ending
+word_so version failed Standing h = tt
+word_so version failed Failed h = tt
+word_so version failed Quiet h = h.0
+
+pub closes_by : (version : Version) (es : List Entry) (ending : Ending) → 0 < length es → IsClosedBy es ending → IsEndingIn version ending → EndsSo (writes_quiet version) (ends_in_failure false es) ending
+closes_by version [] ending some h word = absurd (omega (arith, some))
+closes_by version (e ∷ es) ending some h word = go ending (ends_in_failure (is_failure e) es) refl h word
   where
-    go : (x : Ending) (t : Bool) → ending ≡ x → ends_in_failure (is_failure e) es ≡ t → ending ≡ ending_if t
-    go Standing true s k = h.1 (fails_last e es k)
-    go Standing false s k = s
-    go Failed true s k = s
-    go Failed false s k = absurd (let found = h.0 s in let j = last_fails false (e ∷ es) found.0 found.1 found.2 found.3 found.4 in let i = sym k ∙ j in cc)
+    go : (x : Ending) (t : Bool) → ends_in_failure (is_failure e) es ≡ t → IsClosedBy (e ∷ es) x → IsEndingIn version x → EndsSo (writes_quiet version) t x
+    go Standing true s k w = absurd (let j = k.1 (fails_last e es s) in cc)
+    go Standing false s k w = refl
+    go Failed true s k w = refl
+    go Failed false s k w = absurd (never_fails (e ∷ es) s (k.0 refl))
+    go Quiet true s k w = absurd (let j = k.1 (fails_last e es s) in cc)
+    go Quiet false s k w = (w, refl)
 
 -- ---- the lines of a log
 
@@ -82,19 +102,21 @@ abbrev pub has_some : Bool → List Entry → Bool
 has_some some [] = some
 has_some some (e ∷ es) = true
 
--- what may follow, room being one more than the entries that may; of the entries this holds
-pub record IsBodyOf (Each : List Entry → Type 0) (room : ℕ) (some failed : Bool) (es : List Entry) (ending : Ending) : Type 0 where
+-- what may follow, room being one more than the entries that may, and `quiet` where that is written; of the entries this holds
+pub record IsBodyOf (Each : List Entry → Type 0) (written : Bool) (room : ℕ) (some failed : Bool) (es : List Entry) (ending : Ending) : Type 0 where
   pub few : length es < room
   pub entries : Each es
   pub has : has_some some es ≡ true
-  pub ends : ending ≡ ending_if (ends_in_failure failed es)
+  pub ends : EndsSo written (ends_in_failure failed es) ending
 
 abbrev pub IsBody : Version → ℕ → Bool → Bool → List Entry → Ending → Type 0
-IsBody version room some failed es ending = IsBodyOf (AllByRecursion (IsEntryIn version)) room some failed es ending
+IsBody version room some failed es ending = IsBodyOf (AllByRecursion (IsEntryIn version)) (writes_quiet version) room some failed es ending
 
-pub closing : (E : Entry → Type 0) (Each : List Entry → Type 0) (none : Each []) (room : ℕ) (full some failed : Bool) (ending : Ending) → (failed ≡ true → some ≡ true) → IsLineOf E full some failed (lines.Close ending) → IsBodyOf Each (suc room) some failed [] ending
-closing E Each none room full some failed Standing so is = record { few = omega arith; entries = none; has = is.0; ends = rw is.1 refl }
-closing E Each none room full some failed Failed so is = record { few = omega arith; entries = none; has = so is; ends = rw is refl }
+pub closing : (E : Entry → Type 0) (Each : List Entry → Type 0) (none : Each []) (written : Bool) (room : ℕ) (full some failed : Bool) (ending : Ending) → (failed ≡ true → some ≡ true) → IsLineOf E written full some failed (lines.Close ending)
+    → IsBodyOf Each written (suc room) some failed [] ending
+closing E Each none written room full some failed Standing so is = record { few = omega arith; entries = none; has = is.0; ends = is.1 }
+closing E Each none written room full some failed Failed so is = record { few = omega arith; entries = none; has = so is; ends = is }
+closing E Each none written room full some failed Quiet so is = record { few = omega arith; entries = none; has = is.1; ends = (is.0, is.2) }
 
 pub lines_is : (version : Version) (room : ℕ) (some failed : Bool) (es : List Entry) (ending : Ending) (bytes rest : List ℕ) → (failed ≡ true → some ≡ true) → lines_at version room some failed bytes ≡ Ok ((es, ending), rest)
     → IsBody version room some failed es ending × (bytes ≡ entries_text version es ++ (line (ending_text ending) ++ rest))
@@ -115,7 +137,7 @@ lines_is version (suc room) some failed es ending bytes rest so e =
         let found = line_is version (room == 0) some failed (lines.Close x) bytes mid e1 in
         let q = parsed_is ([], x) (es, ending) mid rest more in
         let p = pair_is [] es x ending q.0 in
-        let whole : IsBody version (suc room) some failed [] x × (bytes ≡ entries_text version [] ++ (line (ending_text x) ++ mid)) = (closing (IsEntryIn version) (AllByRecursion (IsEntryIn version)) tt room (room == 0) some failed x so found.0, found.1) in
+        let whole : IsBody version (suc room) some failed [] x × (bytes ≡ entries_text version [] ++ (line (ending_text x) ++ mid)) = (closing (IsEntryIn version) (AllByRecursion (IsEntryIn version)) tt (writes_quiet version) room (room == 0) some failed x so found.0, found.1) in
         rw (← p.0, ← p.1, ← q.1) whole
     go (lines.Entry x) mid e1 more again =
         let found = line_is version (room == 0) some failed (lines.Entry x) bytes mid e1 in
@@ -132,11 +154,12 @@ pub lines_again : (version : Version) (room : ℕ) (some failed : Bool) (es : Li
     → lines_at version room some failed (entries_text version es ++ (line (ending_text ending) ++ rest)) ≡ Ok ((es, ending), rest)
 unfolding lines_at
 lines_again version zero some failed es ending rest is = absurd (omega (arith, is.few))
-lines_again version (suc room) some failed [] ending rest is = rw (line_again version (room == 0) some failed (lines.Close ending) rest (closes failed is.ends)) refl
+lines_again version (suc room) some failed [] ending rest is = rw (line_again version (room == 0) some failed (lines.Close ending) rest (closes ending is.ends)) refl
   where
-    closes : (f : Bool) → ending ≡ ending_if f → IsLine version (room == 0) some f (lines.Close ending)
-    closes true h = rw h refl
-    closes false h = rw h (is.has, refl)
+    closes : (x : Ending) → EndsSo (writes_quiet version) failed x → IsLine version (room == 0) some failed (lines.Close x)
+    closes Standing h = (is.has, h)
+    closes Failed h = h
+    closes Quiet h = (h.0, is.has, h.1)
 lines_again version (suc room) some failed (e ∷ es) ending rest is =
     let more : (room == 0) ≡ false = (let k : 0 < room = omega (arith, is.few) in grind (arith, nat_tests)) in
     let regrouped : entries_text version (e ∷ es) ++ (line (ending_text ending) ++ rest) ≡ line (entry_text (process_text version) e) ++ (entries_text version es ++ (line (ending_text ending) ++ rest)) = append_assoc (line (entry_text (process_text version) e)) (entries_text version es) (line (ending_text ending) ++ rest) in
@@ -162,7 +185,8 @@ pub made_log : (version : Version) (p : ℕ) (es : List Entry) (ending : Ending)
 made_log version p es ending proc body = record {
   process = proc;
   entries = record { some = some_of es body.has; few = omega (arith, body.few); each = All-from_recursion (IsEntryIn version) es body.entries };
-  ending = closed_by es ending body.ends;
+  ending = closed_by (writes_quiet version) es ending body.ends;
+  word = word_so version (ends_in_failure false es) ending body.ends;
 }
 
 pub log_is : (version : Version) (p : ℕ) (log : Log) (bytes rest : List ℕ) → IsProcessIn version p → log_at version p bytes ≡ Ok (log, rest) → IsLogIn version log × (log.proc ≡ p) × (bytes ≡ body_text version log.entries log.ending rest)
@@ -182,7 +206,7 @@ log_again version log rest is =
       few = omega (arith, is.entries.few);
       entries = recursion_from_All (IsEntryIn version) log.entries is.entries.each;
       has = has_of log.entries is.entries.some;
-      ends = closes_by log.entries log.ending is.entries.some is.ending;
+      ends = closes_by version log.entries log.ending is.entries.some is.ending is.word;
     } in
     rw (lines_again version 1000001 false false log.entries log.ending rest body) refl
   where

@@ -6,7 +6,7 @@ use Rattle.totem_ids.specs.Processes.{process_text, process_then, IsProcessIn}
 use Rattle.totem_ids.proofs.Lives.{process_then_is, process_then_again}
 use Rattle.std.specs.Prelude.{nat_le, ◌==◌, codes}
 use Rattle.std.specs.List.{flat_map}
-use Rattle.std.proofs.Common.{◌≡◌, ℕ, zero, suc, ◌<◌, inl, inr, List, [], ◌∷◌, ◌++◌, Option, Some, None, Ok, Err, Bool, false, cond, refl, sym, ◌∙◌, ap, subst, append_assoc, arith}
+use Rattle.std.proofs.Common.{◌≡◌, ℕ, zero, suc, ◌<◌, inl, inr, List, [], ◌∷◌, ◌++◌, Option, Some, None, Ok, Err, Bool, true, false, cond, refl, sym, ◌∙◌, ap, subst, append_assoc, arith}
 use Rattle.std.proofs.lemmas.Bool.{eqb-true}
 use Rattle.std.proofs.lemmas.Bool.Decides.{nat_tests}
 use Rattle.totem_ids.specs.declared.fault.TextFault.{TextFault}
@@ -15,8 +15,8 @@ use Rattle.totem_ids.specs.Sources.{Parsed, ◌>>=◌}
 use Rattle.totem_ids.specs.Numbers.{byte_at, word_at}
 use Rattle.totem_ids.proofs.Spelled.{after, taken, guard_then, guard_else, parsed_is, byte_is, word_is, word_again}
 use Rattle.totem_evs.specs.declared.log.Log.{Log}
-use Rattle.totem_evs.specs.Runs.{IsLogIn, IsOfText, IsRunOf}
-use Rattle.totem_evs.specs.RunText.{line, ending_text, log_text, header_text, run_text}
+use Rattle.totem_evs.specs.Runs.{IsLogIn, IsRunOf}
+use Rattle.totem_evs.specs.RunText.{line, ending_text, log_text, version_digit, header_text, run_text}
 use Rattle.totem_evs.specs.RunGrammar.{log_at, log_proc_at, begin_at, end_at, head_at, by_head, logs_at, header_end, header_at, run_at}
 use Rattle.totem_evs.proofs.FromLeft.{LogsFrom, is_run, run_from}
 use Rattle.totem_evs.proofs.SpelledLine.{not_within}
@@ -160,25 +160,30 @@ header_end_is version v bytes rest e =
     let q = parsed_is version v mid rest made in
     (q.0, word_is faults.Header (line []) bytes mid w e1 ∙ ap (λ (t : List ℕ). 10 ∷ t) q.1))
 
-pub header_is : (version : Version) (bytes rest : List ℕ) → header_at bytes ≡ Ok (version, rest) → IsOfText version × (bytes ≡ header_text version ++ rest)
+pub header_is : (version : Version) (bytes rest : List ℕ) → header_at bytes ≡ Ok (version, rest) → bytes ≡ header_text version ++ rest
 unfolding header_at
 header_is version bytes rest e =
-    after (word_at faults.Header (codes "totem-run ") bytes) (λ w. byte_at w.1 >>= λ v. cond (v.0 == 49) (header_end One v.1) (cond (v.0 == 50) (header_end Two v.1) (Err faults.Header))) (version, rest) e (λ w mid e1 more.
-    after (byte_at mid) (λ v. cond (v.0 == 49) (header_end One v.1) (cond (v.0 == 50) (header_end Two v.1) (Err faults.Header))) (version, rest) more (λ v left e2 made.
+    after (word_at faults.Header (codes "totem-run ") bytes) (λ w. byte_at w.1 >>= λ v. cond (v.0 == 49) (header_end One v.1) (cond (v.0 == 50) (header_end Two v.1) (cond (v.0 == 51) (header_end Three v.1) (Err faults.Header)))) (version, rest) e (λ w mid e1 more.
+    after (byte_at mid) (λ v. cond (v.0 == 49) (header_end One v.1) (cond (v.0 == 50) (header_end Two v.1) (cond (v.0 == 51) (header_end Three v.1) (Err faults.Header)))) (version, rest) more (λ v left e2 made.
     let whole : bytes ≡ codes "totem-run " ++ v ∷ left = word_is faults.Header (codes "totem-run ") bytes mid w e1 ∙ ap (λ (t : List ℕ). codes "totem-run " ++ t) (byte_is mid v left e2) in
-    elim (taken (v == 49) (header_end One left) (cond (v == 50) (header_end Two left) (Err faults.Header)) (Ok (version, rest)) made) [
-      | inl r ↦ let found = header_end_is One version left rest r.1 in rw (← found.0) (tt, whole ∙ ap (λ (k : ℕ). codes "totem-run " ++ k ∷ left) (eqb-true v 49 r.0) ∙ ap (λ (t : List ℕ). codes "totem-run 1" ++ t) found.1)
-      | inr other ↦
-          let t = guard_then (v == 50) (header_end Two left) faults.Header (version, rest) other.1 in
-          let found = header_end_is Two version left rest t.1 in
-          rw (← found.0) (tt, whole ∙ ap (λ (k : ℕ). codes "totem-run " ++ k ∷ left) (eqb-true v 50 t.0) ∙ ap (λ (t : List ℕ). codes "totem-run 2" ++ t) found.1)
+    elim (taken (v == 49) (header_end One left) (cond (v == 50) (header_end Two left) (cond (v == 51) (header_end Three left) (Err faults.Header))) (Ok (version, rest)) made) [
+      | inl r ↦ of_digit One v left whole r.0 r.1
+      | inr o1 ↦ elim (taken (v == 50) (header_end Two left) (cond (v == 51) (header_end Three left) (Err faults.Header)) (Ok (version, rest)) o1.1) [
+        | inl r ↦ of_digit Two v left whole r.0 r.1
+        | inr o2 ↦ let t = guard_then (v == 51) (header_end Three left) faults.Header (version, rest) o2.1 in of_digit Three v left whole t.0 t.1
+      ]
     ]))
+  where
+    of_digit : (w : Version) (v : ℕ) (left : List ℕ) → bytes ≡ codes "totem-run " ++ v ∷ left → (v == version_digit w) ≡ true → header_end w left ≡ Ok (version, rest) → bytes ≡ header_text version ++ rest
+    of_digit w v left whole test made =
+        let found = header_end_is w version left rest made in
+        rw (← found.0) (whole ∙ ap (λ (k : ℕ). codes "totem-run " ++ k ∷ left) (eqb-true v (version_digit w) test) ∙ ap (λ (t : List ℕ). codes "totem-run " ++ version_digit w ∷ t) found.1)
 
-header_again : (version : Version) (rest : List ℕ) → IsOfText version → header_at (header_text version ++ rest) ≡ Ok (version, rest)
+header_again : (version : Version) (rest : List ℕ) → header_at (header_text version ++ rest) ≡ Ok (version, rest)
 unfolding header_at header_end word_at
-header_again One rest is = refl
-header_again Two rest is = refl
-header_again Three rest is = absurd is
+header_again One rest = refl
+header_again Two rest = refl
+header_again Three rest = refl
 
 -- ---- runs
 
@@ -198,14 +203,14 @@ run_is run bytes rest e =
     let t1 = header_is v bytes mid e1 in
     let found = logs_is v 33 0 logs mid left e2 in
     let whole : IsRunOf new × (bytes ≡ run_text new ++ left) =
-    (record { version = t1.0; logs = is_run v logs found.0 }, t1.1 ∙ ap (λ (t : List ℕ). header_text v ++ t) found.1 ∙ sym (run_parts new left)) in
+    (is_run v logs found.0, t1 ∙ ap (λ (t : List ℕ). header_text v ++ t) found.1 ∙ sym (run_parts new left)) in
     subst (λ (r : RunRecord). IsRunOf r × (bytes ≡ run_text r ++ rest)) q.0 (rw (← q.1) whole)))
 
 -- what is spelled so is read
 pub run_again : (run : RunRecord) (rest : List ℕ) → IsRunOf run → run_at (run_text run ++ rest) ≡ Ok (run, rest)
 unfolding run_at
 run_again run rest is =
-    rw (run_parts run rest) (rw (header_again run.version (logs_text run.version run.logs rest) is.version) (rw (logs_again run.version 33 0 run.logs rest (run_from run.version run.logs is.logs)) refl))
+    rw (run_parts run rest) (rw (header_again run.version (logs_text run.version run.logs rest)) (rw (logs_again run.version 33 0 run.logs rest (run_from run.version run.logs is)) refl))
 
 -- ---- runs and bytes
 

@@ -1,5 +1,6 @@
 -- The state of a reader of parts, part after part.
 use Rattle.std.specs.Prelude.{Contains, ◌↔◌, ◌==◌}
+use Rattle.totem_ids.specs.declared.version.Version.{Version}
 use Rattle.std.specs.Option.{ForSome}
 use Rattle.std.proofs.Common.{◌≡◌, ◌≢◌, ◌⊎◌, ◌+◌, ◌≤◌, ℕ, List, [], ◌∷◌, ◌++◌, false, Option, Some, None, refl, sym, arith}
 use Rattle.std.proofs.lemmas.List.{append-nil, length_push}
@@ -18,13 +19,13 @@ use Rattle.totem_evs.proofs.Waits.{waits_log, waits_entry, waits_still, waits_ap
 below_limit : (n limit : ℕ) → (n == limit) ≡ false → n ≤ limit → n + 1 ≤ limit
 below_limit n limit other le = grind (arith, nat_tests)
 
-logs_left : (logs last : ℕ) (log : Option OpenLog) (p : ℕ) → ComesIn logs last log (Some (parts.Log p)) → (logs == 32) ≡ false
-logs_left logs last None p h = h.0
-logs_left logs last (Some log) p h = absurd h
+logs_left : (version : Version) (logs last : ℕ) (log : Option OpenLog) (p : ℕ) → ComesIn version logs last log (Some (parts.Log p)) → (logs == 32) ≡ false
+logs_left version logs last None p h = h.0
+logs_left version logs last (Some log) p h = absurd h
 
-entries_left : (logs last : ℕ) (log : Option OpenLog) (e : Entry) → ForSome log (λ l. l.entries ≤ 1000000) → ComesIn logs last log (Some (parts.Entry e)) → ForSome (with_entry log e) (λ l. l.entries ≤ 1000000)
-entries_left logs last None e few h = λ x is. absurd cc
-entries_left logs last (Some log) e few h = λ x is.
+entries_left : (version : Version) (logs last : ℕ) (log : Option OpenLog) (e : Entry) → ForSome log (λ l. l.entries ≤ 1000000) → ComesIn version logs last log (Some (parts.Entry e)) → ForSome (with_entry log e) (λ l. l.entries ≤ 1000000)
+entries_left version logs last None e few h = λ x is. absurd cc
+entries_left version logs last (Some log) e few h = λ x is.
     let same : log.entries + 1 ≡ x.entries = cc in
     omega (arith, below_limit log.entries 1000000 h (few log refl))
 
@@ -33,7 +34,7 @@ pub state_log : (s : ReadState) (stage : Stage) (begun waiting : List ℕ) (p : 
     → ((q : ℕ) → Contains waiting q ↔ (Contains s.waiting q × (q ≢ p))) → let t : ReadState = record { stage = stage; begun = begun; waiting = waiting } in IsReadState t × Goes s (parts.Log p) t
 state_log s stage begun waiting p is comes goes more h =
     let waits = waits_log s.waiting s.begun waiting p is.apart h in
-    let left = logs_left s.stage.logs s.stage.last s.stage.log p comes in
+    let left = logs_left s.stage.version s.stage.logs s.stage.last s.stage.log p comes in
     rw (goes, more) (
       record {
         few_logs = below_limit s.stage.logs 32 left is.few_logs;
@@ -52,7 +53,7 @@ state_entry s stage waiting e is comes goes h =
     rw goes (
       record {
         few_logs = is.few_logs;
-        few_entries = entries_left s.stage.logs s.stage.last s.stage.log e is.few_entries comes;
+        few_entries = entries_left s.stage.version s.stage.logs s.stage.last s.stage.log e is.few_entries comes;
         count = is.count;
         apart = waits_apart s.waiting (members_of e) s.begun waiting waits;
       },

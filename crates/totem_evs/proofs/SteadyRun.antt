@@ -1,7 +1,7 @@
 -- What a run's grammar answers doesn't change by what follows.
 use Rattle.totem_ids.specs.Ranks.{id_of}
 use Rattle.totem_ids.specs.declared.version.Version.{Version}
-use Rattle.totem_ids.specs.declared.version.Version.TheVariants.{One, Two}
+use Rattle.totem_ids.specs.declared.version.Version.TheVariants.{One, Two, Three}
 use Rattle.totem_ids.proofs.Lives.{process_then_steady}
 use Rattle.std.specs.Prelude.{◌==◌}
 use Rattle.std.proofs.Common.{◌≡◌, ℕ, zero, suc, List, [], ◌∷◌, Bool, true, false, Option, Some, None, Ok, Err, refl}
@@ -16,7 +16,8 @@ use Rattle.totem_evs.specs.declared.ending.Ending.{Ending}
 use Rattle.totem_evs.specs.declared.log.Log.{Log}
 use Rattle.totem_evs.specs.declared.line.Line.{Line}
 use Rattle.totem_evs.specs.declared.line.Line.TheVariants as lines
-use Rattle.totem_evs.specs.RunGrammar.{is_failure, members_at, change_at, send_at, delivery_at, open_at, failed_at, fail_at, ail_at, failure_at, line_at, by_line, lines_at, log_at, log_proc_at, begin_at, end_at, head_at, by_head, logs_at, header_end, header_at, run_at}
+use Rattle.totem_evs.specs.Endings.{writes_quiet}
+use Rattle.totem_evs.specs.RunGrammar.{is_failure, members_at, change_at, send_at, delivery_at, open_at, quiet_at, failed_at, fail_at, ail_at, failure_at, line_at, by_line, lines_at, log_at, log_proc_at, begin_at, end_at, head_at, by_head, logs_at, header_end, header_at, run_at}
 
 members_steady : (version : Version) (room last : ℕ) → Steady (members_at version room last)
 unfolding members_at
@@ -39,6 +40,10 @@ open_steady : (some failed : Bool) → Steady (open_at some failed)
 unfolding open_at
 open_steady some failed = cond_steady _ _ _ (bind_steady _ _ (word_steady _ _) (λ w. gives_steady _)) (fault_steady _)
 
+quiet_steady : (written some failed : Bool) → Steady (quiet_at written some failed)
+unfolding quiet_at
+quiet_steady written some failed = cond_steady _ _ _ (cond_steady _ _ _ (bind_steady _ _ (word_steady _ _) (λ w. gives_steady _)) (fault_steady _)) (fault_steady _)
+
 failed_steady : (failed : Bool) → Steady (failed_at failed)
 unfolding failed_at
 failed_steady failed = cond_steady _ _ _ (bind_steady _ _ (word_steady _ _) (λ w. gives_steady _)) (fault_steady _)
@@ -57,7 +62,7 @@ failure_steady full failed = cond_steady _ _ _ (fault_steady _) (ail_steady full
 
 line_steady : (version : Version) (full some failed : Bool) → Steady (line_at version full some failed)
 unfolding line_at
-line_steady version full some failed = bind_steady _ _ byte_steady (λ b. cond_steady _ _ _ (change_steady version full) (cond_steady _ _ _ (send_steady full) (cond_steady _ _ _ (delivery_steady full) (cond_steady _ _ _ (failure_steady full failed) (cond_steady _ _ _ (open_steady some failed) (fault_steady _))))))
+line_steady version full some failed = bind_steady _ _ byte_steady (λ b. cond_steady _ _ _ (change_steady version full) (cond_steady _ _ _ (send_steady full) (cond_steady _ _ _ (delivery_steady full) (cond_steady _ _ _ (failure_steady full failed) (cond_steady _ _ _ (open_steady some failed) (cond_steady _ _ _ (quiet_steady (writes_quiet version) some failed) (fault_steady _)))))))
 
 lines_steady : (version : Version) (room : ℕ) (some failed : Bool) → Steady (lines_at version room some failed)
 unfolding lines_at
@@ -103,7 +108,7 @@ header_end_steady version = bind_steady _ _ (word_steady _ _) (λ w. gives_stead
 
 header_steady : Steady header_at
 unfolding header_at
-header_steady = bind_steady _ _ (word_steady _ _) (λ w. bind_steady _ _ byte_steady (λ v. cond_steady _ _ _ (header_end_steady One) (cond_steady _ _ _ (header_end_steady Two) (fault_steady _))))
+header_steady = bind_steady _ _ (word_steady _ _) (λ w. bind_steady _ _ byte_steady (λ v. cond_steady _ _ _ (header_end_steady One) (cond_steady _ _ _ (header_end_steady Two) (cond_steady _ _ _ (header_end_steady Three) (fault_steady _)))))
 
 pub run_steady : Steady run_at
 unfolding run_at

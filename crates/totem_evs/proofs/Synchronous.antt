@@ -36,12 +36,13 @@ none_listed run k ks (inr (places, rest, is, least, more)) = absurd cc
 
 pub meets_passes : (run : List Log) → Lists run pass_a [] → Lists run pass_b [] → MeetsPasses run
 meets_passes run a b =
-    let one = none_listed run spec.Twice (spec.Misplaced ∷ spec.Configuration ∷ spec.Turns ∷ []) a in
-    let two = none_listed run spec.Misplaced (spec.Configuration ∷ spec.Turns ∷ []) one.1 in
+    let one = none_listed run spec.Twice (spec.End ∷ spec.Misplaced ∷ spec.Configuration ∷ spec.Turns ∷ []) a in
+    let end = none_listed run spec.End (spec.Misplaced ∷ spec.Configuration ∷ spec.Turns ∷ []) one.1 in
+    let two = none_listed run spec.Misplaced (spec.Configuration ∷ spec.Turns ∷ []) end.1 in
     let three = none_listed run spec.Configuration (spec.Turns ∷ []) two.1 in
     let four = none_listed run spec.Turns [] three.1 in
     let five = none_listed run spec.Unsent [] b in
-    record { sent = five.0; once = one.0; placed = two.0; one = three.0; turns = four.0 }
+    record { sent = five.0; once = one.0; together = end.0; placed = two.0; one = three.0; turns = four.0 }
 
 -- ---- pass D
 
@@ -133,7 +134,7 @@ synchronous run lines meets certified each =
     let both = ordered run lines certified in
     record {
       basic = record { no_cycle = both.0; ordered = each_log_ordered run; sent = meets.sent; once = meets.once };
-      changes = record { in_place = meets.placed; one = meets.one; turns = meets.turns.each; origin = meets.turns.origin; twins = each_twins_agree run };
+      changes = record { together = meets.together; in_place = meets.placed; one = meets.one; turns = meets.turns.each; origin = meets.turns.origin; twins = each_twins_agree run };
       own = own_delivery run meets each.own;
       atomic = atomic run meets each.atomicity;
       causal = causal.chains run lines certified meets.placed meets.sent meets.once (one_hop run meets each.causality);

@@ -14,7 +14,7 @@ use Rattle.totem_evs.specs.Following.{IsNextChange, Com, DeliversIn, HasDelivere
 
 -- 3: who sends a message delivers it
 abbrev pub SelfDelivery : List Log → Type 0
-SelfDelivery run = (p i : ℕ) (m : MsgId) (c : RingId) → Sends (log_of run p) i m (Regular c) → DeliversOrEnds (log_of run p) c m
+SelfDelivery run = (p i : ℕ) (m : MsgId) (c : RingId) → Sends (log_of run p) i m (Regular c) → DeliversOrEnds run p c m
 
 -- the next change after a change to x is to d
 abbrev pub Goes : List Entry → ConfId → ConfId → Type 0
@@ -50,6 +50,6 @@ NoGaps run = (c : RingId) (m n : MsgId) (p i j q k : ℕ) (d : ConfId)
 -- 7.1, 7.2: a safe message that is delivered reaches each member
 pub record SafeDelivery (run : List Log) : Type 0 where
   pub reaches : (c : RingId) (m : MsgId) (p i : ℕ) (d : ConfId) (q : ℕ) → IsSafe run m → Delivers (log_of run p) i m d → Com (log_of run p) c d
-      → IsMember run d q → DeliversOrEnds (log_of run q) c m
+      → IsMember run d q → DeliversOrEnds run q c m
   pub installed : (m : MsgId) (p i : ℕ) (c : RingId) (q : ℕ) → IsSafe run m → Delivers (log_of run p) i m (Regular c)
       → IsMember run (Regular c) q → (j : ℕ) × ChangesTo (log_of run q) j (Regular c)

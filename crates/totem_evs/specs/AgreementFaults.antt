@@ -12,13 +12,13 @@ use Rattle.totem_evs.specs.Steps.{SendsAt, Precedes}
 use Rattle.totem_evs.specs.Following.{IsNextChange, Com, DeliversIn, HasDelivered, DeliversOrEnds}
 use Rattle.totem_evs.specs.Places.{At, IsClosed, IsOrderStep}
 
--- the entry sends in c what its process neither delivers, nor failed or is open where it might
-abbrev pub IsNotOwned : List Entry → RingId → ℕ → Type 0
-IsNotOwned log c i = (m : MsgId) × Sends log i m (Regular c) × (DeliversOrEnds log c m → ⊥)
+-- p's entry i sends in c what p neither delivers, nor failed or is open where it might
+abbrev pub IsNotOwned : List Log → RingId → ℕ → ℕ → Type 0
+IsNotOwned run c p i = (m : MsgId) × Sends (log_of run p) i m (Regular c) × (DeliversOrEnds run p c m → ⊥)
 
 -- 3: the send
 abbrev pub BreaksOwnDelivery : List Log → List Place → Type 0
-BreaksOwnDelivery run (e ∷ []) = At e (λ p i. (c : RingId) × IsNotOwned (log_of run p) c i)
+BreaksOwnDelivery run (e ∷ []) = At e (λ p i. (c : RingId) × IsNotOwned run c p i)
 BreaksOwnDelivery run _ = ⊥
 
 -- the change at j is to d, and is the next one after a change to x
@@ -64,7 +64,7 @@ BreaksGap run _ = ⊥
 -- where it might
 abbrev pub IsNotReached : List Log → RingId → ℕ → ℕ → Type 0
 IsNotReached run c p i = (m : MsgId) × (d : ConfId) × (q : ℕ) × IsSafe run m × Delivers (log_of run p) i m d × Com (log_of run p) c d
-    × IsMember run d q × (DeliversOrEnds (log_of run q) c m → ⊥)
+    × IsMember run d q × (DeliversOrEnds run q c m → ⊥)
 
 -- 7.1: p's delivery
 abbrev pub BreaksSafety : List Log → List Place → Type 0

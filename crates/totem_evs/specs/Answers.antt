@@ -12,7 +12,7 @@ use Rattle.totem_evs.specs.declared.pending.Pending.{Pending}
 use Rattle.totem_evs.specs.declared.pending.Waiting.{Waiting}
 use Rattle.totem_evs.specs.Events.{ChangesTo, log_of}
 use Rattle.totem_evs.specs.Delivery.{DeliversWhatWasSent, DeliversOnce}
-use Rattle.totem_evs.specs.Changes.{StaysInPlace, IsOneConfiguration, TakesTurns, HasOneOrigin}
+use Rattle.totem_evs.specs.Changes.{EndsTogether, StaysInPlace, IsOneConfiguration, TakesTurns, HasOneOrigin}
 use Rattle.totem_evs.specs.Faults.{Breaks}
 use Rattle.totem_evs.specs.RingFaults.{BreaksIn, MeetsIn}
 use Rattle.totem_evs.specs.Unsettled.{ArePending, AreWaiting}
@@ -44,6 +44,7 @@ pub record TakeTurns (run : List Log) : Type 0 where
 abbrev pub Meets : List Log → SpecNo → Type 0
 Meets run spec.Unsent = DeliversWhatWasSent run
 Meets run spec.Twice = DeliversOnce run
+Meets run spec.End = EndsTogether run
 Meets run spec.Misplaced = (p : ℕ) → StaysInPlace (log_of run p)
 Meets run spec.Configuration = IsOneConfiguration run
 Meets run spec.Turns = TakeTurns run
@@ -53,6 +54,7 @@ Meets run _ = ⊥
 pub record MeetsPasses (run : List Log) : Type 0 where
   pub sent : Meets run spec.Unsent
   pub once : Meets run spec.Twice
+  pub together : Meets run spec.End
   pub placed : Meets run spec.Misplaced
   pub one : Meets run spec.Configuration
   pub turns : Meets run spec.Turns
@@ -70,9 +72,9 @@ Lists run (k ∷ ks) faults =
     ⊎ ((places : List Place) × (rest : List Fault) × (faults ≡ record { spec = k; places = places } ∷ rest)
     × IsLeastBreak run k places × Lists run ks rest)
 
--- pass A: 1.4, 2.2, 2.3, 2.4
+-- pass A: 1.4, 2.1, 2.2, 2.3, 2.4
 abbrev pub pass_a : List SpecNo
-pass_a = spec.Twice ∷ spec.Misplaced ∷ spec.Configuration ∷ spec.Turns ∷ []
+pass_a = spec.Twice ∷ spec.End ∷ spec.Misplaced ∷ spec.Configuration ∷ spec.Turns ∷ []
 
 -- pass B: 1.3
 abbrev pub pass_b : List SpecNo

@@ -6,9 +6,19 @@ use Rattle.totem_ids.specs.declared.conf.ConfId.TheVariants.{Regular, Transition
 use Rattle.totem_ids.specs.declared.place.Place.{Place}
 use Rattle.totem_evs.specs.declared.entry.Entry.{Entry}
 use Rattle.totem_evs.specs.declared.log.Log.{Log}
-use Rattle.totem_evs.specs.Events.{ChangesWith, ChangesTo, IsChange, Fails, IsRegular, IsTransitional, log_of}
-use Rattle.totem_evs.specs.Changes.{Names, StandsIn, ChangesNext}
+use Rattle.totem_evs.specs.Events.{ChangesWith, ChangesTo, IsChange, Fails, IsRegular, IsTransitional, IsQuiet, log_of}
+use Rattle.totem_evs.specs.Following.{IsLastChange}
+use Rattle.totem_evs.specs.Changes.{Names, StandsIn, ChangesNext, SharesEnd}
 use Rattle.totem_evs.specs.Places.{At}
+
+-- p's log is quiet, its last change is this one, and a member of its configuration neither ends there nor may still come
+abbrev pub EndsAlone : List Log → ℕ → ℕ → Type 0
+EndsAlone run p i = (x : ConfId) × (ms : List ℕ) × (q : ℕ) × IsQuiet run p × IsLastChange (log_of run p) i x ms × Contains ms q × (SharesEnd run x q → ⊥)
+
+-- 2.1: p's last change
+abbrev pub BreaksEnd : List Log → List Place → Type 0
+BreaksEnd run (e ∷ []) = At e (EndsAlone run)
+BreaksEnd run _ = ⊥
 
 -- the entry begins the log and is no change, names what it does not stand in, or follows a failure
 abbrev pub IsMisplaced : List Entry → ℕ → Type 0

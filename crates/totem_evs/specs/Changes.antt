@@ -1,5 +1,5 @@
 -- Specification 2 (docs/SPECIFICATIONS.md, "2 Changes of configuration").
-use Rattle.std.specs.Prelude.{◌≡◌, ◌↔◌, ℕ, ◌<◌, List, length, slice_get, Some, All, Contains}
+use Rattle.std.specs.Prelude.{◌≡◌, ◌↔◌, ◌⊎◌, ℕ, ◌<◌, List, length, slice_get, Some, All, Contains}
 use Rattle.totem_ids.specs.declared.ring.RingId.{RingId}
 use Rattle.totem_ids.specs.declared.conf.ConfId.{ConfId}
 use Rattle.totem_ids.specs.declared.conf.ConfId.TheVariants.{Regular, Transitional}
@@ -7,9 +7,21 @@ use Rattle.totem_ids.specs.declared.place.Place.{Place}
 use Rattle.totem_evs.specs.declared.entry.Entry.{Entry}
 use Rattle.totem_evs.specs.declared.entry.Entry.TheVariants.{Conf, Send, Deliver, Fail}
 use Rattle.totem_evs.specs.declared.log.Log.{Log}
-use Rattle.totem_evs.specs.Events.{ChangesWith, ChangesTo, IsChange, Fails, IsRegular, IsTransitional, log_of}
+use Rattle.totem_evs.specs.Events.{ChangesWith, ChangesTo, IsChange, Fails, IsRegular, IsTransitional, IsQuiet, log_of}
 use Rattle.totem_evs.specs.Steps.{ChangesAt, Precedes}
-use Rattle.totem_evs.specs.Following.{IsNextChange}
+use Rattle.totem_evs.specs.Following.{IsNextChange, IsLastChange, LastChange, NeverFails}
+use Rattle.totem_evs.specs.Missing.{HasLog}
+
+-- where a quiet log ends in x, its member q does too, or may still come: q has a log without a failure, and its last change is
+-- to x, or it is not quiet and never changes to x
+pub record SharesEnd (run : List Log) (x : ConfId) (q : ℕ) : Type 0 where
+  pub has_log : HasLog run q
+  pub goes_on : NeverFails (log_of run q)
+  pub ends : LastChange (log_of run q) x ⊎ ((IsQuiet run q → ⊥) × ((k : ℕ) → ChangesTo (log_of run q) k x → ⊥))
+
+-- 2.1: the configuration in which a quiet log ends is the last one of each of its members
+abbrev pub EndsTogether : List Log → Type 0
+EndsTogether run = (p i : ℕ) (x : ConfId) (ms : List ℕ) (q : ℕ) → IsQuiet run p → IsLastChange (log_of run p) i x ms → Contains ms q → SharesEnd run x q
 
 -- an entry that is no change, and the configuration that it names
 abbrev pub NamesOnly : Entry → ConfId → Type 0
@@ -65,6 +77,7 @@ pub record TwinsAgree (run : List Log) : Type 0 where
   pub after : (a e f : Place) (x : ConfId) → ChangesAt run e x → ChangesAt run f x → Precedes run e a → Precedes run f a
 
 pub record ConfigurationChanges (run : List Log) : Type 0 where
+  pub together : EndsTogether run
   pub in_place : (p : ℕ) → StaysInPlace (log_of run p)
   pub one : IsOneConfiguration run
   pub turns : (p : ℕ) → TakesTurns (log_of run p)

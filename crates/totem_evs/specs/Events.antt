@@ -10,6 +10,8 @@ use Rattle.totem_ids.specs.declared.message.Service.TheVariants.{Safe}
 use Rattle.totem_evs.specs.declared.entry.Entry.{Entry}
 use Rattle.totem_evs.specs.declared.entry.Entry.TheVariants.{Conf, Send, Deliver, Fail}
 use Rattle.totem_evs.specs.declared.log.Log.{Log}
+use Rattle.totem_evs.specs.declared.ending.Ending.{Ending}
+use Rattle.totem_evs.specs.declared.ending.Ending.TheVariants.{Standing, Quiet}
 
 abbrev pub IsRegular : ConfId → Type 0
 IsRegular (Regular c) = Unit {0}
@@ -46,6 +48,15 @@ Fails log i x = slice_get log i ≡ Some (Fail x)
 abbrev pub log_of : List Log → ℕ → List Entry
 log_of [] p = []
 log_of (log ∷ logs) p = if log.proc == p then log.entries else log_of logs p
+
+-- how p's log ends; open where it has none
+abbrev pub ending_of : List Log → ℕ → Ending
+ending_of [] p = Standing
+ending_of (log ∷ logs) p = if log.proc == p then log.ending else ending_of logs p
+
+-- p's log is quiet: it says that nothing more was to come
+abbrev pub IsQuiet : List Log → ℕ → Type 0
+IsQuiet run p = ending_of run p ≡ Quiet
 
 abbrev pub at_place : List Entry → ℕ → Option Entry
 at_place log zero = None

@@ -8,6 +8,7 @@ use Rattle.totem_evs.specs.declared.spec.SpecNo.{SpecNo}
 use Rattle.totem_evs.specs.declared.spec.SpecNo.TheVariants as spec
 use Rattle.totem_evs.specs.Runs.{IsRun}
 use Rattle.totem_evs.specs.Unsettled.{IsPending, IsWaiting}
+use Rattle.totem_evs.specs.Changes.{EndsTogether}
 use Rattle.totem_evs.specs.Synchrony.{IsVirtuallySynchronous}
 use Rattle.totem_evs.specs.Faults.{Breaks}
 use Rattle.totem_evs.specs.Certificates.{Numbering, Certified}
@@ -78,6 +79,21 @@ SafeWithAMemberThatNeverCame = Breaks runs.safe_with_a_member_that_never_came sp
 abbrev pub SafeWhereAMemberNeverCame : Type 0
 SafeWhereAMemberNeverCame = Breaks runs.safe_with_a_member_that_never_came spec.Installed (place 1 3 ∷ [])
 
+-- 2.1: 1's last change
+abbrev pub QuietBesideAFailure : Type 0
+QuietBesideAFailure = Breaks runs.quiet_beside_a_failure spec.End (place 1 1 ∷ [])
+
+-- 2.1 is met where both are quiet in one configuration
+abbrev pub QuietTogether : Type 0
+QuietTogether = EndsTogether runs.quiet_together
+
+-- 3: the send, which no ending excuses; and only 2 may still deliver the message
+abbrev pub SentAndQuiet : Type 0
+SentAndQuiet =
+    Breaks runs.sent_and_quiet spec.OwnDelivery (place 1 2 ∷ [])
+    × IsPending runs.sent_and_quiet (first_life 2) first
+    × (IsPending runs.sent_and_quiet (first_life 1) first → ⊥)
+
 -- 1 and 2 may still deliver the message
 abbrev pub SentAndOpen : Type 0
 SentAndOpen = IsPending runs.sent_and_open (first_life 1) first × IsPending runs.sent_and_open (first_life 2) first
@@ -139,6 +155,9 @@ examples =
     ∷ runs.safe_message_on_the_way
     ∷ runs.sent_and_open
     ∷ runs.sent_and_failed
+    ∷ runs.quiet_beside_a_failure
+    ∷ runs.quiet_together
+    ∷ runs.sent_and_quiet
     ∷ []
 
 -- the logs of each keep the rules of a run

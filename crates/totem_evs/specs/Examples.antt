@@ -8,7 +8,7 @@ use Rattle.totem_ids.specs.declared.message.MsgId.{MsgId}
 use Rattle.totem_ids.specs.declared.message.Service.TheVariants.{Agreed, Safe}
 use Rattle.totem_evs.specs.declared.entry.Entry.{Entry}
 use Rattle.totem_evs.specs.declared.entry.Entry.TheVariants.{Conf, Send, Deliver, Fail}
-use Rattle.totem_evs.specs.declared.ending.Ending.TheVariants.{Standing, Failed}
+use Rattle.totem_evs.specs.declared.ending.Ending.TheVariants.{Standing, Failed, Quiet}
 use Rattle.totem_evs.specs.declared.log.Log.{Log}
 
 -- the ring of this number, whose representative is 1; 3 is that of a ring of its own
@@ -49,12 +49,15 @@ all_three = first_life 1 ∷ first_life 2 ∷ first_life 3 ∷ []
 abbrev pub lone_3 : List ℕ
 lone_3 = first_life 3 ∷ []
 
--- the log of the first life of p, which goes on, and that of p, which failed
+-- the log of the first life of p, which goes on, that of p, which failed, and that of p, of which nothing more was to come
 abbrev pub standing : ℕ → List Entry → Log
 standing p entries = record { proc = first_life p; entries = entries; ending = Standing }
 
 abbrev pub failed : ℕ → List Entry → Log
 failed p entries = record { proc = first_life p; entries = entries; ending = Failed }
+
+abbrev pub quiet : ℕ → List Entry → Log
+quiet p entries = record { proc = first_life p; entries = entries; ending = Quiet }
 
 -- 1 delivers a message and then sends it
 abbrev pub delivered_before_sent : List Log
@@ -171,5 +174,23 @@ sent_and_open =
 abbrev pub sent_and_failed : List Log
 sent_and_failed =
     failed 1 (Conf (regular 4) pair ∷ Send first (regular 4) Agreed ∷ Fail (regular 4) ∷ [])
+    ∷ standing 2 (Conf (regular 4) pair ∷ [])
+    ∷ []
+
+-- 1 is quiet in a configuration in which 2 failed
+abbrev pub quiet_beside_a_failure : List Log
+quiet_beside_a_failure =
+    quiet 1 (Conf (regular 4) pair ∷ [])
+    ∷ failed 2 (Conf (regular 4) pair ∷ Fail (regular 4) ∷ [])
+    ∷ []
+
+-- 1 and 2 are quiet in one configuration
+abbrev pub quiet_together : List Log
+quiet_together = quiet 1 (Conf (regular 4) pair ∷ []) ∷ quiet 2 (Conf (regular 4) pair ∷ []) ∷ []
+
+-- 1 sends a message that no one delivers, and is quiet; 2 is open
+abbrev pub sent_and_quiet : List Log
+sent_and_quiet =
+    quiet 1 (Conf (regular 4) pair ∷ Send first (regular 4) Agreed ∷ [])
     ∷ standing 2 (Conf (regular 4) pair ∷ [])
     ∷ []

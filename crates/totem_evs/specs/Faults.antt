@@ -6,7 +6,7 @@ use Rattle.totem_evs.specs.declared.log.Log.{Log}
 use Rattle.totem_evs.specs.declared.spec.SpecNo.{SpecNo}
 use Rattle.totem_evs.specs.declared.spec.SpecNo.TheVariants as spec
 use Rattle.totem_evs.specs.DeliveryFaults.{BreaksCycle, BreaksUnsent, BreaksTwice}
-use Rattle.totem_evs.specs.ChangeFaults.{BreaksPlace, BreaksConfiguration, BreaksTurns}
+use Rattle.totem_evs.specs.ChangeFaults.{BreaksEnd, BreaksPlace, BreaksConfiguration, BreaksTurns}
 use Rattle.totem_evs.specs.AgreementFaults.{BreaksOwnDelivery, BreaksAtomicity, BreaksCausality, BreaksOrder, BreaksGap, BreaksSafety, BreaksInstalled}
 
 -- the places break the specification
@@ -14,6 +14,7 @@ abbrev pub Breaks : List Log → SpecNo → List Place → Type 0
 Breaks run spec.Cycle places = BreaksCycle run places
 Breaks run spec.Unsent places = BreaksUnsent run places
 Breaks run spec.Twice places = BreaksTwice run places
+Breaks run spec.End places = BreaksEnd run places
 Breaks run spec.Misplaced places = BreaksPlace run places
 Breaks run spec.Configuration places = BreaksConfiguration run places
 Breaks run spec.Turns places = BreaksTurns run places

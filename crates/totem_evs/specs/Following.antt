@@ -6,7 +6,8 @@ use Rattle.totem_ids.specs.declared.conf.ConfId.{ConfId}
 use Rattle.totem_ids.specs.declared.conf.ConfId.TheVariants.{Regular}
 use Rattle.totem_ids.specs.declared.message.MsgId.{MsgId}
 use Rattle.totem_evs.specs.declared.entry.Entry.{Entry}
-use Rattle.totem_evs.specs.Events.{ChangesTo, IsChange, Delivers, Fails, IsTransitional}
+use Rattle.totem_evs.specs.declared.log.Log.{Log}
+use Rattle.totem_evs.specs.Events.{ChangesTo, ChangesWith, IsChange, Delivers, Fails, IsTransitional, IsQuiet, log_of}
 
 -- j is the next change after i
 pub record IsNextChange (log : List Entry) (i j : ℕ) : Type 0 where
@@ -24,6 +25,11 @@ pub record LastChange (log : List Entry) (x : ConfId) : Type 0 where
   pub index : ℕ
   pub change : ChangesTo log index x
   pub none_after : (k : ℕ) → index < k → IsChange log k → ⊥
+
+-- the change at i is the last one, to x with these members
+pub record IsLastChange (log : List Entry) (i : ℕ) (x : ConfId) (members : List ℕ) : Type 0 where
+  pub change : ChangesWith log i x members
+  pub none_after : (k : ℕ) → i < k → IsChange log k → ⊥
 
 -- t is the configuration of the next change after the first change to c, and it is transitional
 pub record Follows (log : List Entry) (c : RingId) (t : ConfId) : Type 0 where
@@ -55,9 +61,13 @@ abbrev pub FailedIn : List Entry → RingId → Type 0
 FailedIn log c = (i : ℕ) × (d : ConfId) × Fails log i d × Com log c d
 
 -- it has no failure, and its last change is to c or to what follows it
-abbrev pub OpenIn : List Entry → RingId → Type 0
-OpenIn log c = (d : ConfId) × NeverFails log × LastChange log d × Com log c d
+abbrev pub StaysIn : List Entry → RingId → Type 0
+StaysIn log c = (d : ConfId) × NeverFails log × LastChange log d × Com log c d
 
--- what a process that ought to deliver m does
-abbrev pub DeliversOrEnds : List Entry → RingId → MsgId → Type 0
-DeliversOrEnds log c m = HasDelivered log c m ⊎ FailedIn log c ⊎ OpenIn log c
+-- p is open there: its log stays there, and is not quiet
+abbrev pub OpenIn : List Log → ℕ → RingId → Type 0
+OpenIn run p c = (IsQuiet run p → ⊥) × StaysIn (log_of run p) c
+
+-- what p does, which ought to deliver m
+abbrev pub DeliversOrEnds : List Log → ℕ → RingId → MsgId → Type 0
+DeliversOrEnds run p c m = HasDelivered (log_of run p) c m ⊎ FailedIn (log_of run p) c ⊎ OpenIn run p c

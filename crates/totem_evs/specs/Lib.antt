@@ -27,6 +27,7 @@ pub mod RunText
 pub mod ReportText
 pub mod WriteRun
 pub mod WriteFaults
+pub mod Endings
 pub mod Examples
 pub mod ExampleClaims
 pub mod RunGrammar

@@ -1,7 +1,7 @@
 -- Lists that keep a rule, and what is wrong with those that don't (docs/SPECIFICATIONS.md, "Runs").
 use Rattle.std.specs.Prelude.{◌≡◌, ℕ, ◌+◌, ◌<◌, ◌≤◌, List, [], length, take, AllPairs}
 use Rattle.totem_evs.specs.declared.refused.ListFault.{ListFault}
-use Rattle.totem_evs.specs.declared.refused.ListFault.TheVariants.{Empty, TooMany, NotRising, Life}
+use Rattle.totem_evs.specs.declared.refused.ListFault.TheVariants.{Empty, TooMany, NotRising, Life, Silence}
 
 -- the elements before `at` rise, and with the one at `at` they don't
 pub record FallsAt {X : Type 0} (Below : X → X → Type 0) (xs : List X) (at : ℕ) : Type 0 where
@@ -15,6 +15,7 @@ Refuses least greatest Below xs Empty = (0 < least) × (xs ≡ [])
 Refuses least greatest Below xs (TooMany limit) = (limit ≡ greatest) × (greatest < length xs)
 Refuses least greatest Below xs (NotRising at) = (length xs ≤ greatest) × FallsAt Below xs at
 Refuses least greatest Below xs (Life at) = ⊥
+Refuses least greatest Below xs (Silence at) = ⊥
 
 -- each element is above each other
 abbrev pub Anyhow : {X : Type 0} → X → X → Type 0

@@ -1,7 +1,7 @@
 -- The members of a configuration (docs/SPECIFICATIONS.md, "Runs").
 use Rattle.std.specs.Prelude.{ℕ, ◌<◌, ◌≤◌, List, length, All, AllPairs}
 use Rattle.totem_ids.specs.declared.version.Version.{Version}
-use Rattle.totem_ids.specs.declared.version.Version.TheVariants.{Two}
+use Rattle.totem_ids.specs.declared.version.Version.TheVariants.{Three}
 use Rattle.totem_ids.specs.Processes.{IsProcessIn}
 use Rattle.totem_ids.specs.Ranks.{id_of}
 
@@ -19,4 +19,4 @@ pub record IsMembersIn (version : Version) (members : List ℕ) : Type 0 where
 
 -- members of any lives
 abbrev pub IsMembers : List ℕ → Type 0
-IsMembers = IsMembersIn Two
+IsMembers = IsMembersIn Three

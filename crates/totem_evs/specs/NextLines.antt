@@ -1,15 +1,16 @@
 -- Which lines may come next (docs/SPECIFICATIONS.md, "Run text").
 use Rattle.std.specs.Prelude.{◌≡◌, ℕ, ◌<◌, Option, Some, None, Bool, true, false}
-use Rattle.totem_evs.specs.declared.ending.Ending.TheVariants.{Standing, Failed}
+use Rattle.totem_evs.specs.declared.ending.Ending.TheVariants.{Standing, Failed, Quiet}
 use Rattle.totem_evs.specs.declared.line.Line.{Line}
 use Rattle.totem_evs.specs.declared.line.Line.TheVariants as lines
 
 -- in a log that is full or not and has some entries, the last a failure or not: an entry while it is not full, `open`
--- behind an entry that is no failure, and `failed` behind a failure
-abbrev pub MayFollow : Bool → Bool → Bool → Line → Type 0
-MayFollow full some failed (lines.Entry e) = full ≡ false
-MayFollow full some failed (lines.Close Standing) = (some ≡ true) × (failed ≡ false)
-MayFollow full some failed (lines.Close Failed) = failed ≡ true
+-- behind an entry that is no failure, so also `quiet` where that is written, and `failed` behind a failure
+abbrev pub MayFollow : Bool → Bool → Bool → Bool → Line → Type 0
+MayFollow written full some failed (lines.Entry e) = full ≡ false
+MayFollow written full some failed (lines.Close Standing) = (some ≡ true) × (failed ≡ false)
+MayFollow written full some failed (lines.Close Failed) = failed ≡ true
+MayFollow written full some failed (lines.Close Quiet) = (written ≡ true) × (some ≡ true) × (failed ≡ false)
 
 -- in a run that is full or not: the last line, or while it is not full a log whose process is above the last one
 abbrev pub MayBegin : Bool → ℕ → Option ℕ → Type 0

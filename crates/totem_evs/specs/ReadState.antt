@@ -2,14 +2,15 @@
 use Rattle.totem_ids.specs.declared.version.Version.{Version}
 use Rattle.std.specs.Prelude.{◌≡◌, ℕ, ◌<◌, ◌≤◌, ◌==◌, ◌++◌, ◌↔◌, ◌⊎◌, List, [], ◌∷◌, length, Contains, Option, Some, None, Bool, true, false, nat_lt}
 use Rattle.std.specs.Option.{ForSome}
-use Rattle.totem_evs.specs.declared.ending.Ending.TheVariants.{Standing, Failed}
+use Rattle.totem_evs.specs.declared.ending.Ending.TheVariants.{Standing, Failed, Quiet}
 use Rattle.totem_evs.specs.declared.part.Part.{Part}
 use Rattle.totem_evs.specs.declared.part.Part.TheVariants as parts
 use Rattle.totem_evs.specs.declared.stage.Stage.{Stage}
 use Rattle.totem_evs.specs.declared.stage.OpenLog.{OpenLog}
-use Rattle.totem_ids.specs.declared.version.Version.TheVariants.{Two}
+use Rattle.totem_ids.specs.declared.version.Version.TheVariants.{Three}
 use Rattle.totem_ids.specs.Processes.{IsProcessIn}
 use Rattle.totem_evs.specs.Runs.{IsEntry}
+use Rattle.totem_evs.specs.Endings.{writes_quiet}
 use Rattle.totem_evs.specs.Missing.{members_of}
 use Rattle.totem_evs.specs.Parts.{first_stage, next_stage}
 
@@ -52,7 +53,7 @@ pub record Goes (old : ReadState) (part : Part) (new : ReadState) : Type 0 where
 
 -- its names are in range
 abbrev pub IsPart : Part → Type 0
-IsPart (parts.Log p) = IsProcessIn Two p
+IsPart (parts.Log p) = IsProcessIn Three p
 IsPart (parts.Entry e) = IsEntry e
 IsPart (parts.Close ending) = Unit {0}
 
@@ -63,19 +64,20 @@ ComesBetween logs last (Some (parts.Log p)) = ((logs == 32) ≡ false) × (last 
 ComesBetween logs last (Some (parts.Entry e)) = ⊥
 ComesBetween logs last (Some (parts.Close ending)) = ⊥
 
--- in a log: an entry while there are fewer than 1,000,000, or its end as the last entry asks
-abbrev pub ComesWithin : ℕ → Bool → Option Part → Type 0
-ComesWithin entries failed None = ⊥
-ComesWithin entries failed (Some (parts.Log p)) = ⊥
-ComesWithin entries failed (Some (parts.Entry e)) = (entries == 1000000) ≡ false
-ComesWithin entries failed (Some (parts.Close Standing)) = (nat_lt 0 entries ≡ true) × (failed ≡ false)
-ComesWithin entries failed (Some (parts.Close Failed)) = failed ≡ true
+-- in a log: an entry while there are fewer than 1,000,000, or its end as the last entry asks, `quiet` where it is written
+abbrev pub ComesWithin : Bool → ℕ → Bool → Option Part → Type 0
+ComesWithin written entries failed None = ⊥
+ComesWithin written entries failed (Some (parts.Log p)) = ⊥
+ComesWithin written entries failed (Some (parts.Entry e)) = (entries == 1000000) ≡ false
+ComesWithin written entries failed (Some (parts.Close Standing)) = (nat_lt 0 entries ≡ true) × (failed ≡ false)
+ComesWithin written entries failed (Some (parts.Close Failed)) = failed ≡ true
+ComesWithin written entries failed (Some (parts.Close Quiet)) = (written ≡ true) × (nat_lt 0 entries ≡ true) × (failed ≡ false)
 
 -- what may come next, by whether a log is open
-abbrev pub ComesIn : ℕ → ℕ → Option OpenLog → Option Part → Type 0
-ComesIn logs last None part = ComesBetween logs last part
-ComesIn logs last (Some log) part = ComesWithin log.entries log.failed part
+abbrev pub ComesIn : Version → ℕ → ℕ → Option OpenLog → Option Part → Type 0
+ComesIn version logs last None part = ComesBetween logs last part
+ComesIn version logs last (Some log) part = ComesWithin (writes_quiet version) log.entries log.failed part
 
 -- what may come next, which is a part or the end
 abbrev pub MayCome : Stage → Option Part → Type 0
-MayCome stage part = ComesIn stage.logs stage.last stage.log part
+MayCome stage part = ComesIn stage.version stage.logs stage.last stage.log part

@@ -15,7 +15,7 @@ use Rattle.totem_evs.specs.Places.{At}
 
 -- 3: who sends a message in c delivers it
 pub record OwnDeliveryIn (run : List Log) (c : RingId) : Type 0 where
-  pub each : (p i : ℕ) (m : MsgId) → Sends (log_of run p) i m (Regular c) → DeliversOrEnds (log_of run p) c m
+  pub each : (p i : ℕ) (m : MsgId) → Sends (log_of run p) i m (Regular c) → DeliversOrEnds run p c m
 
 -- 4: who goes from c, or from what follows it, to one next configuration delivers the same messages there
 pub record AtomicityIn (run : List Log) (c : RingId) : Type 0 where
@@ -41,7 +41,7 @@ pub record NoGapsIn (run : List Log) (c : RingId) : Type 0 where
 -- 7.1: a safe message that is delivered reaches each member
 pub record SafetyIn (run : List Log) (c : RingId) : Type 0 where
   pub each : (m : MsgId) (p i : ℕ) (d : ConfId) (q : ℕ) → IsSafe run m → Delivers (log_of run p) i m d → Com (log_of run p) c d
-      → IsMember run d q → DeliversOrEnds (log_of run q) c m
+      → IsMember run d q → DeliversOrEnds run q c m
 
 -- 7.2: where a safe message is delivered in c, each member of c changes to c
 pub record InstalledIn (run : List Log) (c : RingId) : Type 0 where

@@ -18,7 +18,7 @@ use Rattle.totem_evs.specs.AgreementFaults.{IsNotOwned, IsParted, IsGap, IsNotRe
 
 -- 3: the send
 abbrev pub BreaksOwnDeliveryIn : List Log → RingId → List Place → Type 0
-BreaksOwnDeliveryIn run c (e ∷ []) = At e (λ p i. IsNotOwned (log_of run p) c i)
+BreaksOwnDeliveryIn run c (e ∷ []) = At e (λ p i. IsNotOwned run c p i)
 BreaksOwnDeliveryIn run c _ = ⊥
 
 -- 4: p's delivery, p's change to the next configuration, and q's

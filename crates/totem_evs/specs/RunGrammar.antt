@@ -6,7 +6,7 @@ use Rattle.totem_ids.specs.declared.fault.TextFault.TheVariants as faults
 use Rattle.totem_ids.specs.Sources.{Parsed, ◌>>=◌}
 use Rattle.totem_ids.specs.Numbers.{byte_at, word_at}
 use Rattle.totem_ids.specs.declared.version.Version.{Version}
-use Rattle.totem_ids.specs.declared.version.Version.TheVariants.{One, Two}
+use Rattle.totem_ids.specs.declared.version.Version.TheVariants.{One, Two, Three}
 use Rattle.totem_ids.specs.Processes.{process_then}
 use Rattle.totem_ids.specs.Ranks.{id_of}
 use Rattle.totem_ids.specs.Parsers.{message_at, conf_at}
@@ -14,10 +14,11 @@ use Rattle.totem_ids.specs.Services.{service_at}
 use Rattle.totem_evs.specs.declared.entry.Entry.{Entry}
 use Rattle.totem_evs.specs.declared.entry.Entry.TheVariants.{Conf, Send, Deliver, Fail}
 use Rattle.totem_evs.specs.declared.ending.Ending.{Ending}
-use Rattle.totem_evs.specs.declared.ending.Ending.TheVariants.{Standing, Failed}
+use Rattle.totem_evs.specs.declared.ending.Ending.TheVariants.{Standing, Failed, Quiet}
 use Rattle.totem_evs.specs.declared.line.Line.{Line}
 use Rattle.totem_evs.specs.declared.line.Line.TheVariants as lines
 use Rattle.totem_evs.specs.declared.log.Log.{Log}
+use Rattle.totem_evs.specs.Endings.{writes_quiet}
 use Rattle.totem_evs.specs.RunText.{line}
 
 -- a failure
@@ -71,6 +72,12 @@ open_at some failed bytes = if some && not failed then (do
   w ← word_at faults.Word (line (codes "pen")) bytes
   Ok (lines.Close Standing, w.1)) else Err faults.End
 
+-- the closing word of such a log of which nothing more was to come, where texts have one
+unfoldable pub quiet_at : Bool → Bool → Bool → List ℕ → Parsed Line
+quiet_at written some failed bytes = if written then (if some && not failed then (do
+  w ← word_at faults.Word (line (codes "uiet")) bytes
+  Ok (lines.Close Quiet, w.1)) else Err faults.End) else Err faults.Word
+
 -- the closing word of a log whose last entry is a failure
 unfoldable pub failed_at : Bool → List ℕ → Parsed Line
 failed_at failed bytes = if failed then (do
@@ -103,6 +110,7 @@ line_at version full some failed bytes = do
       else if b.0 == 100 then delivery_at full b.1
       else if b.0 == 102 then failure_at full failed b.1
       else if b.0 == 111 then open_at some failed b.1
+      else if b.0 == 113 then quiet_at (writes_quiet version) some failed b.1
       else Err faults.Word
 
 -- one for a closing word, another for an entry
@@ -171,7 +179,10 @@ unfoldable pub header_at : List ℕ → Parsed Version
 header_at bytes = do
   w ← word_at faults.Header (codes "totem-run ") bytes
   v ← byte_at w.1
-  if v.0 == 49 then header_end One v.1 else if v.0 == 50 then header_end Two v.1 else Err faults.Header
+  if v.0 == 49 then header_end One v.1
+      else if v.0 == 50 then header_end Two v.1
+      else if v.0 == 51 then header_end Three v.1
+      else Err faults.Header
 
 -- the text of a run
 unfoldable pub run_at : List ℕ → Parsed RunRecord

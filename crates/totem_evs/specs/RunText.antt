@@ -10,7 +10,7 @@ use Rattle.totem_ids.specs.Texts.{conf_text, message_text, service_text}
 use Rattle.totem_evs.specs.declared.entry.Entry.{Entry}
 use Rattle.totem_evs.specs.declared.entry.Entry.TheVariants.{Conf, Send, Deliver, Fail}
 use Rattle.totem_evs.specs.declared.ending.Ending.{Ending}
-use Rattle.totem_evs.specs.declared.ending.Ending.TheVariants.{Standing, Failed}
+use Rattle.totem_evs.specs.declared.ending.Ending.TheVariants.{Standing, Failed, Quiet}
 use Rattle.totem_evs.specs.declared.log.Log.{Log}
 
 -- a line, with its end
@@ -32,6 +32,7 @@ entry_text spell (Fail x) = codes "fail " ++ conf_text x
 abbrev pub ending_text : Ending → List ℕ
 ending_text Standing = codes "open"
 ending_text Failed = codes "failed"
+ending_text Quiet = codes "quiet"
 
 -- a log: its process, its entries, its closing word, a line for each
 abbrev pub log_text : (ℕ → List ℕ) → Log → List ℕ

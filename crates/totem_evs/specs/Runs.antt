@@ -6,11 +6,12 @@ use Rattle.totem_evs.specs.declared.entry.Entry.TheVariants.{Conf, Send, Deliver
 use Rattle.totem_evs.specs.declared.ending.Ending.{Ending}
 use Rattle.totem_evs.specs.declared.ending.Ending.TheVariants.{Failed}
 use Rattle.totem_ids.specs.declared.version.Version.{Version}
-use Rattle.totem_ids.specs.declared.version.Version.TheVariants.{One, Two, Three}
+use Rattle.totem_ids.specs.declared.version.Version.TheVariants.{Three}
 use Rattle.totem_ids.specs.Processes.{IsProcessIn}
 use Rattle.totem_ids.specs.Texts.{IsConf, IsMessage}
 use Rattle.totem_evs.specs.Members.{IsMembersIn}
 use Rattle.totem_evs.specs.LogRecord.{LogRecord}
+use Rattle.totem_evs.specs.Endings.{IsEndingIn}
 
 -- names are in range, and a change has members that texts of this version can write
 abbrev pub IsEntryIn : Version → Entry → Type 0
@@ -21,7 +22,7 @@ IsEntryIn version (Fail x) = IsConf x
 
 -- an entry whose processes have any lives
 abbrev pub IsEntry : Entry → Type 0
-IsEntry e = IsEntryIn Two e
+IsEntry e = IsEntryIn Three e
 
 abbrev pub IsFailure : Entry → Type 0
 IsFailure (Conf x members) = ⊥
@@ -36,7 +37,7 @@ pub record IsEntriesIn (version : Version) (entries : List Entry) : Type 0 where
   pub each : All (IsEntryIn version) entries
 
 abbrev pub IsEntries : List Entry → Type 0
-IsEntries = IsEntriesIn Two
+IsEntries = IsEntriesIn Three
 
 -- the last entry is a failure
 abbrev pub EndsInFail : List Entry → Type 0
@@ -50,32 +51,26 @@ pub record IsLogIn (version : Version) (log : LogRecord) : Type 0 where
   pub process : IsProcessIn version log.proc
   pub entries : IsEntriesIn version log.entries
   pub ending : IsClosedBy log.entries log.ending
+  pub word : IsEndingIn version log.ending
 
 abbrev pub IsLog : LogRecord → Type 0
-IsLog = IsLogIn Two
+IsLog = IsLogIn Three
 
 -- one process is below the other: by identifier, and then by life
 abbrev pub IsBelowLog : LogRecord → LogRecord → Type 0
 IsBelowLog a b = a.proc < b.proc
 
 -- the logs of a run that texts of this version can write: 0 to 32, their processes strictly rising. Where a version
--- writes no lives, each process has life 1
+-- writes no lives, each process has life 1, and where it has no word for it, no log is quiet
 pub record IsRunIn (version : Version) (logs : List LogRecord) : Type 0 where
   pub few : length logs ≤ 32
   pub rising : AllPairs IsBelowLog logs
   pub each : All (IsLogIn version) logs
 
--- the logs of a run whose processes have any lives
+-- the logs of a run whose processes have any lives, and whose logs end in any way
 abbrev pub IsRun : List LogRecord → Type 0
-IsRun = IsRunIn Two
-
--- the versions of which there are texts of runs
-abbrev pub IsOfText : Version → Type 0
-IsOfText One = Unit {0}
-IsOfText Two = Unit {0}
-IsOfText Three = ⊥
+IsRun = IsRunIn Three
 
 -- a run: the logs are ones that texts of its version can write
-pub record IsRunOf (run : RunRecord) : Type 0 where
-  pub version : IsOfText run.version
-  pub logs : IsRunIn run.version run.logs
+abbrev pub IsRunOf : RunRecord → Type 0
+IsRunOf run = IsRunIn run.version run.logs

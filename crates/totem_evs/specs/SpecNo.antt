@@ -7,6 +7,7 @@ abbrev pub spec_text : SpecNo → List ℕ
 spec_text spec.Cycle = codes "1.1"
 spec_text spec.Unsent = codes "1.3"
 spec_text spec.Twice = codes "1.4"
+spec_text spec.End = codes "2.1"
 spec_text spec.Misplaced = codes "2.2"
 spec_text spec.Configuration = codes "2.3"
 spec_text spec.Turns = codes "2.4"

@@ -1,12 +1,11 @@
 -- Where each fault of a run's text stands (docs/SPECIFICATIONS.md, "Run text").
-use Rattle.totem_evs.specs.Runs.{IsOfText}
 use Rattle.std.specs.Prelude.{◌≡◌, ◌≢◌, ℕ, ◌<◌, ◌≤◌, ◌+◌, ◌-◌, ◌*◌, ◌==◌, ◌⊎◌, ◌&&◌, not, List, [], ◌∷◌, ◌++◌, length, codes, decimal, Option, Some, None, Bool, true, false, nat_lt, Ok, Err}
 use Rattle.totem_ids.specs.declared.conf.ConfId.{ConfId}
 use Rattle.totem_ids.specs.declared.fault.TextFault.{TextFault}
 use Rattle.totem_ids.specs.Sources.{Parsed, ◌>>=◌}
 use Rattle.totem_ids.specs.Numbers.{is_digit, number_at}
 use Rattle.totem_ids.specs.declared.version.Version.{Version}
-use Rattle.totem_ids.specs.declared.version.Version.TheVariants.{One, Two}
+use Rattle.totem_ids.specs.declared.version.Version.TheVariants.{One, Two, Three}
 use Rattle.totem_ids.specs.Processes.{process_text, IsProcessIn}
 use Rattle.totem_ids.specs.Ranks.{id_of}
 use Rattle.totem_ids.specs.Texts.{conf_text, IsUpTo, IsConf}
@@ -14,6 +13,7 @@ use Rattle.totem_evs.specs.declared.part.Part.{Part}
 use Rattle.totem_evs.specs.declared.stage.Stage.{Stage}
 use Rattle.totem_evs.specs.declared.stage.OpenLog.{OpenLog}
 use Rattle.totem_evs.specs.Members.{IsMembersIn}
+use Rattle.totem_evs.specs.Endings.{writes_quiet}
 use Rattle.totem_evs.specs.RunText.{line, members_text, version_digit}
 use Rattle.totem_evs.specs.RunGrammar.{header_at, run_at}
 use Rattle.totem_evs.specs.Parts.{part_at, first_stage, next_stage}
@@ -57,8 +57,8 @@ pub record Differs (word bytes : List ℕ) : Type 0 where
 abbrev pub BreaksHeader : List ℕ → Type 0
 BreaksHeader bytes =
     Differs (codes "totem-run ") bytes
-    ⊎ ((byte : ℕ) × (rest : List ℕ) × (bytes ≡ codes "totem-run " ++ byte ∷ rest) × (byte ≢ version_digit One) × (byte ≢ version_digit Two))
-    ⊎ ((version : Version) × (rest : List ℕ) × IsOfText version × (bytes ≡ codes "totem-run " ++ version_digit version ∷ rest) × Differs (line []) rest)
+    ⊎ ((byte : ℕ) × (rest : List ℕ) × (bytes ≡ codes "totem-run " ++ byte ∷ rest) × (byte ≢ version_digit One) × (byte ≢ version_digit Two) × (byte ≢ version_digit Three))
+    ⊎ ((version : Version) × (rest : List ℕ) × (bytes ≡ codes "totem-run " ++ version_digit version ∷ rest) × Differs (line []) rest)
 
 -- ---- Number
 
@@ -137,20 +137,21 @@ HasMembers stage rest = MembersIn stage.version stage.log rest
 
 -- ---- End
 
--- a log closes as it may not: it has no entry or ends in a failure, and `open` begins; or it does not end in a failure,
--- may have more entries, and `failed` begins where `fail` and a space could
-abbrev pub ClosesWrong : Bool → Bool → Bool → List ℕ → Type 0
-ClosesWrong full some failed bytes =
+-- a log closes as it may not: it has no entry or ends in a failure, and `open` begins, or `quiet` where that is written; or
+-- it does not end in a failure, may have more entries, and `failed` begins where `fail` and a space could
+abbrev pub ClosesWrong : Bool → Bool → Bool → Bool → List ℕ → Type 0
+ClosesWrong written full some failed bytes =
     ((rest : List ℕ) × (bytes ≡ codes "o" ++ rest) × ((some && not failed) ≡ false))
+    ⊎ ((rest : List ℕ) × (bytes ≡ codes "q" ++ rest) × (written ≡ true) × ((some && not failed) ≡ false))
     ⊎ ((rest : List ℕ) × (bytes ≡ codes "faile" ++ rest) × (full ≡ false) × (failed ≡ false))
 
 -- where a log is open
-abbrev pub EndIn : Option OpenLog → List ℕ → Type 0
-EndIn None bytes = ⊥
-EndIn (Some log) bytes = ClosesWrong (log.entries == 1000000) (nat_lt 0 log.entries) log.failed bytes
+abbrev pub EndIn : Version → Option OpenLog → List ℕ → Type 0
+EndIn version None bytes = ⊥
+EndIn version (Some log) bytes = ClosesWrong (writes_quiet version) (log.entries == 1000000) (nat_lt 0 log.entries) log.failed bytes
 
 abbrev pub HasEnd : Stage → List ℕ → Type 0
-HasEnd stage rest = EndIn stage.log rest
+HasEnd stage rest = EndIn stage.version stage.log rest
 
 -- ---- TooMany
 

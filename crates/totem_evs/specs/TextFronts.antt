@@ -8,7 +8,8 @@ use Rattle.totem_evs.specs.declared.entry.Entry.{Entry}
 use Rattle.totem_evs.specs.declared.entry.Entry.TheVariants.{Conf, Send, Deliver, Fail}
 use Rattle.totem_evs.specs.declared.log.Log.{Log}
 use Rattle.totem_evs.specs.Members.{IsBelow}
-use Rattle.totem_evs.specs.Runs.{IsBelowLog, IsClosedBy, IsEntryIn, IsLogIn, IsOfText, IsRunOf}
+use Rattle.totem_evs.specs.Runs.{IsBelowLog, IsClosedBy, IsEntryIn, IsLogIn, IsRunOf}
+use Rattle.totem_evs.specs.Endings.{IsEndingIn}
 use Rattle.totem_evs.specs.RunText.{run_text}
 
 -- the text of some run begins so
@@ -51,6 +52,7 @@ pub record IsLooseLog (version : Version) (log : Log) : Type 0 where
   pub process : IsProcessIn version log.proc
   pub entries : IsLooseEntries version log.entries
   pub ending : IsClosedBy log.entries log.ending
+  pub word : IsEndingIn version log.ending
 
 -- 0 to 32 logs, of which the last may be such a one, and need not rise
 pub record IsLooseRun (version : Version) (logs : List Log) : Type 0 where
@@ -61,7 +63,7 @@ pub record IsLooseRun (version : Version) (logs : List Log) : Type 0 where
 
 -- the text of some run begins so whose last process need not rise
 abbrev pub IsLooseFront : List ℕ → Type 0
-IsLooseFront bytes = (run : RunRecord) × (more : List ℕ) × IsOfText run.version × IsLooseRun run.version run.logs × (run_text run ≡ bytes ++ more)
+IsLooseFront bytes = (run : RunRecord) × (more : List ℕ) × IsLooseRun run.version run.logs × (run_text run ≡ bytes ++ more)
 
 -- up to here some text goes on, if only one whose last process need not rise, and with this byte no run's text begins
 pub record IsFirstWrong (front : List ℕ) (byte : ℕ) : Type 0 where

@@ -16,7 +16,7 @@ use Rattle.totem_evs.specs.Following.{HasDelivered, NeverFails, LastChange, Open
 pub record IsPending (run : List Log) (q : ℕ) (m : MsgId) : Type 0 where
   pub ring : RingId
   pub sent : WasSentIn run m (Regular ring)
-  pub still_open : OpenIn (log_of run q) ring
+  pub still_open : OpenIn run q ring
   pub missing : HasDelivered (log_of run q) ring m → ⊥
 
 -- it has no failure, and its last change is to x

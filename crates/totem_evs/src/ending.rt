@@ -1,6 +1,25 @@
-/// How a log ends: open, which is `Standing`, or with a failure of its process.
+ghost use Rattle.std.specs.Prelude.{◌≡◌};
+ghost use Rattle.totem_evs.specs.Endings.{writes_quiet};
+
+use totem_ids::Version;
+
+/// How a log ends.
 #[derive(Clone, Copy, Debug, PartialEq, Eq, PartialOrd, Ord, Hash)]
 pub enum Ending {
+    /// `open`: more may have come behind it.
     Standing,
+    /// `failed`: the last entry is a failure.
     Failed,
+    /// `quiet`: nothing more was to come. Texts of runs say so from version 3 on.
+    Quiet,
+}
+
+/// Whether a text of this version can close a log as quiet.
+pub(crate) fn may_be_quiet(version: Version) -> bool
+    ensures { result ≡ writes_quiet version }
+{
+    match version {
+        Version::One | Version::Two => false,
+        Version::Three => true,
+    }
 }

@@ -1,7 +1,8 @@
-ghost use Rattle.std.specs.Prelude.{◌≡◌, ◌↔◌, IsTrue, IfOk, MatchResult, All};
+ghost use Rattle.std.specs.Prelude.{◌≡◌, ◌≢◌, ◌↔◌, IsTrue, IfOk, MatchResult, All};
 ghost use Rattle.totem_evs.specs.Lists.{Refuses, Anyhow};
-ghost use Rattle.totem_evs.specs.Runs.{IsEntry, IsEntries};
+ghost use Rattle.totem_evs.specs.Runs.{IsEntry, IsEntries, EndsInFail, IsClosedBy};
 
+use crate::ending::Ending;
 use crate::entry::Entry;
 use crate::refused::{ListFault, Refused};
 use std::alloc::{AllocError, Global};
@@ -37,6 +38,15 @@ fn keep_their_rules(list: &[Entry])
     }
 }
 
+fn ends_in_fail(entries: &[Entry]) -> bool
+    ensures { IsTrue result ↔ EndsInFail entries.now }
+{
+    match entries.last() {
+        None => false,
+        Some(entry) => entry.is_failure(),
+    }
+}
+
 impl Entries {
     /// Makes the entries from this list. A refusal gives the list back with the first rule that it breaks.
     pub fn new(list: Vec<Entry>) -> Result<Entries, Refused<Vec<Entry>>>
@@ -67,6 +77,26 @@ impl Entries {
         ensures entries { IsEntries self.now }
     {
         &self.list
+    }
+
+    /// Returns how a log of these entries ends that says nothing of what was to come: as failed if the last entry is a
+    /// failure, else open.
+    pub fn ending(&self) -> Ending
+        ensures closed { IsClosedBy self.now result }
+        ensures loud { result ≢ Ending.Quiet }
+    {
+        if ends_in_fail(&self.list) {
+            Ending::Failed
+        } else {
+            Ending::Standing
+        }
+    }
+
+    /// Returns whether a log of these entries may end so: as failed if the last entry is a failure, and in another way if not.
+    pub fn may_end(&self, ending: Ending) -> bool
+        ensures { IsTrue result ↔ IsClosedBy self.now ending }
+    {
+        ends_in_fail(&self.list) == (ending == Ending::Failed)
     }
 
     /// Returns the entries as a vector, without taking memory.

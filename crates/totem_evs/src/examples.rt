@@ -1,5 +1,5 @@
 //! The specifications, tried on small runs: each claim is the contract of a function that does nothing.
-ghost use Rattle.totem_evs.specs.ExampleClaims.{DeliveredBeforeSent, DeliveredNeverSent, DeliveredTwoRingsLater, SentTwice, GoesOnAfterAFailure, OneConfigurationTwice, RegularAfterRegular, SenderMovedOn, WentOnTogether, CauseNeverDelivered, TwoOrders, GapWhereTheSenderStayed, SafeWithAMemberThatMovedOn, SafeWithAMemberThatNeverCame, SafeWhereAMemberNeverCame, SentAndOpen, SentAndFailed, FailedWhileTheOtherWaits, OneMessageDeliveredByBoth, CertifiedByItsNumbers, NothingBreaks, NothingLeftOpen, SafeMessageOnTheWay, EachIsARun};
+ghost use Rattle.totem_evs.specs.ExampleClaims.{DeliveredBeforeSent, DeliveredNeverSent, DeliveredTwoRingsLater, SentTwice, GoesOnAfterAFailure, OneConfigurationTwice, RegularAfterRegular, SenderMovedOn, WentOnTogether, CauseNeverDelivered, TwoOrders, GapWhereTheSenderStayed, SafeWithAMemberThatMovedOn, SafeWithAMemberThatNeverCame, SafeWhereAMemberNeverCame, QuietBesideAFailure, QuietTogether, SentAndQuiet, SentAndOpen, SentAndFailed, FailedWhileTheOtherWaits, OneMessageDeliveredByBoth, CertifiedByItsNumbers, NothingBreaks, NothingLeftOpen, SafeMessageOnTheWay, EachIsARun};
 
 /// Process 1 delivers a message before it sends it (1.1).
 pub fn delivered_before_sent()
@@ -74,6 +74,21 @@ pub fn safe_with_a_member_that_never_came()
 /// Processes 1 and 2 deliver a safe message in a configuration to which 3, a member, never changed (7.2).
 pub fn safe_where_a_member_never_came()
     ensures { SafeWhereAMemberNeverCame }
+{}
+
+/// Process 1 is quiet in a configuration in which 2 failed (2.1).
+pub fn quiet_beside_a_failure()
+    ensures { QuietBesideAFailure }
+{}
+
+/// Processes 1 and 2 are quiet in one configuration, which 2.1 asks.
+pub fn quiet_together()
+    ensures { QuietTogether }
+{}
+
+/// Process 1 sends a message that no one delivers, and is quiet (3); so 2 may still deliver it, and 1 may not.
+pub fn sent_and_quiet()
+    ensures { SentAndQuiet }
 {}
 
 /// Process 1 sends a message that 1 and 2 may still deliver.

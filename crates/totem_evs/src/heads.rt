@@ -31,6 +31,9 @@ pub fn read_header<S: Source>(source: &mut S) -> Result<Version, ReadError>
     if digit == b'2' {
         return read_header_end(source, Version::Two);
     }
+    if digit == b'3' {
+        return read_header_end(source, Version::Three);
+    }
     Err(ReadError::Text(TextFault::Header))
 }
 

@@ -1,10 +1,11 @@
 //! Readers of the lines of a log. Each leaves unread what follows the line.
 ghost use Rattle.std.specs.Prelude.{IfOk, Bool};
 ghost use Rattle.totem_ids.specs.Sources.{Reads, seen};
+ghost use Rattle.totem_evs.specs.Endings.{writes_quiet};
 ghost use Rattle.totem_evs.specs.NextLines.{MayFollow};
-ghost use Rattle.totem_evs.specs.RunGrammar.{members_at, change_at, send_at, delivery_at, open_at, failed_at, fail_at, ail_at, failure_at, line_at};
+ghost use Rattle.totem_evs.specs.RunGrammar.{members_at, change_at, send_at, delivery_at, open_at, quiet_at, failed_at, fail_at, ail_at, failure_at, line_at};
 
-use crate::ending::Ending;
+use crate::ending::{Ending, may_be_quiet};
 use crate::entry::Entry;
 use crate::line::Line;
 use crate::members::Members;
@@ -31,7 +32,7 @@ fn read_members<S: Source>(
         if id <= last {
             return Err(ReadError::Text(TextFault::Members));
         }
-        life_fits(Version::Two, proc);
+        life_fits(Version::Three, proc);
         procs.push(proc)?;
         if byte == b'\n' {
             return Ok(Members::of(procs));
@@ -53,7 +54,7 @@ fn read_change<S: Source>(
 ) -> Result<Line, ReadError>
     ensures read { Reads (seen S.remaining S.failures source.old)
         (seen S.remaining S.failures source.new) result (change_at version full) }
-    ensures follows { (some failed : Bool) → IfOk result (MayFollow full some failed) }
+    ensures follows { (written some failed : Bool) → IfOk result (MayFollow written full some failed) }
 {
     if full {
         return Err(ReadError::Text(TextFault::TooMany));
@@ -68,7 +69,7 @@ fn read_change<S: Source>(
 fn read_send<S: Source>(source: &mut S, full: bool) -> Result<Line, ReadError>
     ensures read { Reads (seen S.remaining S.failures source.old)
         (seen S.remaining S.failures source.new) result (send_at full) }
-    ensures follows { (some failed : Bool) → IfOk result (MayFollow full some failed) }
+    ensures follows { (written some failed : Bool) → IfOk result (MayFollow written full some failed) }
 {
     if full {
         return Err(ReadError::Text(TextFault::TooMany));
@@ -85,7 +86,7 @@ fn read_send<S: Source>(source: &mut S, full: bool) -> Result<Line, ReadError>
 fn read_delivery<S: Source>(source: &mut S, full: bool) -> Result<Line, ReadError>
     ensures read { Reads (seen S.remaining S.failures source.old)
         (seen S.remaining S.failures source.new) result (delivery_at full) }
-    ensures follows { (some failed : Bool) → IfOk result (MayFollow full some failed) }
+    ensures follows { (written some failed : Bool) → IfOk result (MayFollow written full some failed) }
 {
     if full {
         return Err(ReadError::Text(TextFault::TooMany));
@@ -100,7 +101,7 @@ fn read_delivery<S: Source>(source: &mut S, full: bool) -> Result<Line, ReadErro
 fn read_open<S: Source>(source: &mut S, some: bool, failed: bool) -> Result<Line, ReadError>
     ensures read { Reads (seen S.remaining S.failures source.old)
         (seen S.remaining S.failures source.new) result (open_at some failed) }
-    ensures follows { (full : Bool) → IfOk result (MayFollow full some failed) }
+    ensures follows { (written full : Bool) → IfOk result (MayFollow written full some failed) }
 {
     if !some || failed {
         return Err(ReadError::Text(TextFault::End));
@@ -109,11 +110,33 @@ fn read_open<S: Source>(source: &mut S, some: bool, failed: bool) -> Result<Line
     Ok(Line::Close(Ending::Standing))
 }
 
+// `written` says that texts have a closing word for quiet logs.
+#[tactic(auto, using(crate::proofs::ReaderSteps::reader_steps), unfolding(crate::specs::RunGrammar::quiet_at))]
+fn read_quiet<S: Source>(
+    source: &mut S,
+    written: bool,
+    some: bool,
+    failed: bool,
+) -> Result<Line, ReadError>
+    ensures read { Reads (seen S.remaining S.failures source.old)
+        (seen S.remaining S.failures source.new) result (quiet_at written some failed) }
+    ensures follows { (full : Bool) → IfOk result (MayFollow written full some failed) }
+{
+    if !written {
+        return Err(ReadError::Text(TextFault::Word));
+    }
+    if failed || !some {
+        return Err(ReadError::Text(TextFault::End));
+    }
+    word(source, b"uiet\n", TextFault::Word)?;
+    Ok(Line::Close(Ending::Quiet))
+}
+
 #[tactic(auto, using(crate::proofs::ReaderSteps::reader_steps), unfolding(crate::specs::RunGrammar::failed_at))]
 fn read_failed<S: Source>(source: &mut S, failed: bool) -> Result<Line, ReadError>
     ensures read { Reads (seen S.remaining S.failures source.old)
         (seen S.remaining S.failures source.new) result (failed_at failed) }
-    ensures follows { (full some : Bool) → IfOk result (MayFollow full some failed) }
+    ensures follows { (written full some : Bool) → IfOk result (MayFollow written full some failed) }
 {
     if !failed {
         return Err(ReadError::Text(TextFault::End));
@@ -126,7 +149,7 @@ fn read_failed<S: Source>(source: &mut S, failed: bool) -> Result<Line, ReadErro
 fn read_fail<S: Source>(source: &mut S, full: bool) -> Result<Line, ReadError>
     ensures read { Reads (seen S.remaining S.failures source.old)
         (seen S.remaining S.failures source.new) result (fail_at full) }
-    ensures follows { (some failed : Bool) → IfOk result (MayFollow full some failed) }
+    ensures follows { (written some failed : Bool) → IfOk result (MayFollow written full some failed) }
 {
     if full {
         return Err(ReadError::Text(TextFault::TooMany));
@@ -139,7 +162,7 @@ fn read_fail<S: Source>(source: &mut S, full: bool) -> Result<Line, ReadError>
 fn read_ail<S: Source>(source: &mut S, full: bool, failed: bool) -> Result<Line, ReadError>
     ensures read { Reads (seen S.remaining S.failures source.old)
         (seen S.remaining S.failures source.new) result (ail_at full failed) }
-    ensures follows { (some : Bool) → IfOk result (MayFollow full some failed) }
+    ensures follows { (written some : Bool) → IfOk result (MayFollow written full some failed) }
 {
     word(source, b"ail", TextFault::Word)?;
     let letter = next(source)?;
@@ -156,7 +179,7 @@ fn read_ail<S: Source>(source: &mut S, full: bool, failed: bool) -> Result<Line,
 fn read_failure<S: Source>(source: &mut S, full: bool, failed: bool) -> Result<Line, ReadError>
     ensures read { Reads (seen S.remaining S.failures source.old)
         (seen S.remaining S.failures source.new) result (failure_at full failed) }
-    ensures follows { (some : Bool) → IfOk result (MayFollow full some failed) }
+    ensures follows { (written some : Bool) → IfOk result (MayFollow written full some failed) }
 {
     if full && !failed {
         return Err(ReadError::Text(TextFault::TooMany));
@@ -177,7 +200,7 @@ pub fn read_line<S: Source>(
 ) -> Result<Line, ReadError>
     ensures read { Reads (seen S.remaining S.failures source.old)
         (seen S.remaining S.failures source.new) result (line_at version full some failed) }
-    ensures follows { IfOk result (MayFollow full some failed) }
+    ensures follows { IfOk result (MayFollow (writes_quiet version) full some failed) }
 {
     let letter = next(source)?;
     match letter {
@@ -186,6 +209,7 @@ pub fn read_line<S: Source>(
         b'd' => read_delivery(source, full),
         b'f' => read_failure(source, full, failed),
         b'o' => read_open(source, some, failed),
+        b'q' => read_quiet(source, may_be_quiet(version), some, failed),
         _ => Err(ReadError::Text(TextFault::Word)),
     }
 }

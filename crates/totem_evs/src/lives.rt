@@ -1,12 +1,17 @@
-//! Which logs a text without lives can write.
-ghost use Rattle.std.specs.Prelude.{◌≡◌, ◌↔◌, IsTrue, IfSome, IfNone, All};
+//! Which logs the texts of a version can write.
+ghost use Rattle.std.specs.Prelude.{◌≡◌, ◌↔◌, IsTrue, IfSome, IfNone, All, false};
 ghost use Rattle.totem_ids.specs.Ranks.{life_of};
 ghost use Rattle.totem_evs.specs.Missing.{members_of};
-ghost use Rattle.totem_evs.specs.Runs.{IsRun, IsLogIn, IsRunIn};
-ghost use Rattle.totem_evs.specs.Lives.{AreFirst, HasFirstLives, IsFirstVersion, IsUnwritten};
+ghost use Rattle.totem_evs.specs.Runs.{IsRun, IsRunIn};
+ghost use Rattle.totem_ids.specs.Processes.{writes_lives};
+ghost use Rattle.totem_evs.specs.declared.ending.Ending.TheVariants.{Quiet};
+ghost use Rattle.totem_evs.specs.Endings.{writes_quiet};
+ghost use Rattle.totem_evs.specs.Lives.{AreFirst, AreLoud, HasFirstLives, IsFirstVersion, IsUnsaid, IsUnwritten, RefusesRun};
 
+use crate::ending::{Ending, may_be_quiet};
 use crate::entry::Entry;
 use crate::log::Log;
+use crate::refused::ListFault;
 use totem_ids::{Proc, Version};
 
 fn are_first(procs: &[Proc]) -> bool
@@ -27,12 +32,16 @@ fn has_first_lives(log: &Log) -> bool
     log.proc.life() == 1 && name_first(log.entries.as_slice())
 }
 
-/// Returns the index of the first log that a text of this version cannot write, or `None` if it can write them all.
-#[tactic(auto, using(crate::proofs::Weaker::with_lives))]
-pub fn first_unwritten(version: Version, logs: &[Log]) -> Option<usize>
-    requires { IsRun logs.now }
+fn is_quiet(log: &Log) -> bool
+    ensures { IsTrue result ↔ (log.now.ending ≡ Quiet) }
+{
+    log.ending == Ending::Quiet
+}
+
+/// The index of the first log with lives that a text of this version does not write.
+fn first_unwritten(version: Version, logs: &[Log]) -> Option<usize>
     ensures some { IfSome result (IsUnwritten version logs.now) }
-    ensures none { IfNone result (IsRunIn version logs.now) }
+    ensures none { IfNone result (writes_lives version ≡ false → All HasFirstLives logs.now) }
 {
     if version.lives() {
         return None;
@@ -45,10 +54,44 @@ pub fn first_unwritten(version: Version, logs: &[Log]) -> Option<usize>
     None
 }
 
+/// The index of the first quiet log, where a text of this version has no word for it.
+fn first_unsaid(version: Version, logs: &[Log]) -> Option<usize>
+    ensures some { IfSome result (IsUnsaid version logs.now) }
+    ensures none { IfNone result (writes_quiet version ≡ false → AreLoud logs.now) }
+{
+    if may_be_quiet(version) {
+        return None;
+    }
+    for (at, log) in logs.iter().enumerate() {
+        if is_quiet(log) {
+            return Some(at);
+        }
+    }
+    None
+}
+
+/// Returns the first rule of a run of this version that these logs break, or `None` if a text of it can write them all.
+pub fn refusal(version: Version, logs: &[Log]) -> Option<ListFault>
+    requires { IsRun logs.now }
+    ensures some { IfSome result (RefusesRun version logs.now) }
+    ensures none { IfNone result (IsRunIn version logs.now) }
+{
+    if let Some(at) = first_unwritten(version, logs) {
+        return Some(ListFault::Life(at));
+    }
+    if let Some(at) = first_unsaid(version, logs) {
+        return Some(ListFault::Silence(at));
+    }
+    None
+}
+
 /// Returns the first version whose texts can write these logs.
 pub fn first_version(logs: &[Log]) -> Version
     ensures { IsFirstVersion result logs.now }
 {
+    if logs.iter().any(is_quiet) {
+        return Version::Three;
+    }
     if logs.iter().all(has_first_lives) {
         return Version::One;
     }

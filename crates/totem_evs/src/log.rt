@@ -1,15 +1,15 @@
 ghost use Rattle.std.specs.Prelude.{◌≡◌, ◌↔◌, IsTrue, IfOk};
-ghost use Rattle.totem_evs.specs.Runs.{EndsInFail, IsClosedBy, IsLog};
+ghost use Rattle.totem_evs.specs.Runs.{IsClosedBy, IsLog};
 
 use crate::ending::Ending;
 use crate::entries::Entries;
-use crate::entry::Entry;
 use crate::rising::Keyed;
 use std::alloc::{AllocError, Global};
 use std::marker::Model;
 use totem_ids::{Proc, Version, life_fits};
 
-/// A log: what one process recorded. It ends as failed exactly where its last entry is a failure.
+/// A log: what one process recorded. It ends as failed exactly where its last entry is a failure; any other is open, or quiet if
+/// nothing more was to come.
 #[derive(Debug, Drop)]
 pub struct Log {
     pub proc: Proc,
@@ -28,27 +28,15 @@ impl Model for Log {
     ghost invariant = { λ l. IsClosedBy l.entries l.ending };
 }
 
-fn ends_in_fail(entries: &[Entry]) -> bool
-    ensures { IsTrue result ↔ EndsInFail entries.now }
-{
-    match entries.last() {
-        None => false,
-        Some(entry) => entry.is_failure(),
-    }
-}
-
 impl Log {
-    /// Makes the log of these entries. The last of them decides how the log ends.
-    pub fn new(proc: Proc, entries: Entries) -> Log
+    /// Makes the log of these entries, which ends so. It is asked that entries may end so: `Entries::may_end` tests it, and
+    /// `Entries::ending` is the ending of a log that says nothing of what was to come.
+    pub fn new(proc: Proc, entries: Entries, ending: Ending) -> Log
+        requires { IsClosedBy entries ending }
         ensures process { result.proc ≡ proc }
         ensures entries { result.entries ≡ entries }
-        ensures ending { IsClosedBy result.entries result.ending }
+        ensures ending { result.ending ≡ ending }
     {
-        let ending = if ends_in_fail(entries.as_slice()) {
-            Ending::Failed
-        } else {
-            Ending::Standing
-        };
         Log {
             proc,
             entries,
@@ -60,7 +48,7 @@ impl Log {
     pub(crate) fn keeps_its_rules(&self)
         ensures { IsLog self.now }
     {
-        life_fits(Version::Two, self.proc);
+        life_fits(Version::Three, self.proc);
         let _ = self.entries.as_slice();
     }
 

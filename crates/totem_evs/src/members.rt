@@ -1,7 +1,7 @@
 ghost use Rattle.std.specs.Prelude.{◌≡◌, ◌<◌, ◌^◌, All, ◌↔◌, IsTrue, Contains, IfOk, MatchResult};
 ghost use Rattle.totem_evs.specs.Lists.{Refuses};
 ghost use Rattle.totem_evs.specs.Members.{IsMembers, IsBelow};
-ghost use Rattle.totem_ids.specs.declared.version.Version.TheVariants.{Two};
+ghost use Rattle.totem_ids.specs.declared.version.Version.TheVariants.{Three};
 ghost use Rattle.totem_ids.specs.Processes.{IsProcessIn};
 
 use crate::refused::{ListFault, Refused};
@@ -32,10 +32,10 @@ impl Model for Members {
 
 /// Each process keeps its own rules, so a list of processes does.
 fn keep_their_rules(list: &[Proc])
-    ensures { All (IsProcessIn Two) list.now }
+    ensures { All (IsProcessIn Three) list.now }
 {
     for proc in list {
-        life_fits(Version::Two, *proc);
+        life_fits(Version::Three, *proc);
     }
 }
 

@@ -24,7 +24,7 @@ impl Part {
         ensures { IsPart self.now }
     {
         match self {
-            Part::Log(proc) => life_fits(Version::Two, *proc),
+            Part::Log(proc) => life_fits(Version::Three, *proc),
             Part::Entry(entry) => entry.keeps_its_rule(),
             Part::Close(_) => {}
         }

@@ -1,6 +1,7 @@
 //! Readers of the parts of a run.
 ghost use Rattle.std.specs.Prelude.{IfOk};
 ghost use Rattle.totem_ids.specs.Sources.{Reads, seen};
+ghost use Rattle.totem_evs.specs.Endings.{writes_quiet};
 ghost use Rattle.totem_evs.specs.Parts.{begun_at, within_at, part_at};
 ghost use Rattle.totem_evs.specs.ReadState.{ComesBetween, ComesWithin, MayCome};
 
@@ -47,7 +48,7 @@ fn read_within<S: Source>(
 ) -> Result<Option<Part>, ReadError>
     ensures read { Reads (seen S.remaining S.failures source.old)
         (seen S.remaining S.failures source.new) result (within_at version log.entries log.failed) }
-    ensures comes { IfOk result (ComesWithin log.entries log.failed) }
+    ensures comes { IfOk result (ComesWithin (writes_quiet version) log.entries log.failed) }
 {
     let full = log.entries == MOST_ENTRIES;
     let line = read_line(alloc, source, version, full, log.entries > 0, log.failed)?;

@@ -14,6 +14,9 @@ pub enum ListFault {
     /// A log of a run of version 1 which is of another life than 1, or names one.
     #[error("the one at index {0} has lives other than 1")]
     Life(usize),
+    /// A log of a run of version 1 or 2 which is quiet.
+    #[error("the one at index {0} is quiet")]
+    Silence(usize),
 }
 
 /// A value that was refused, given back with the rule that it breaks.

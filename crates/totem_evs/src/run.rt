@@ -1,18 +1,18 @@
 ghost use Rattle.std.specs.Prelude.{◌≡◌, ◌↔◌, IsTrue, IfOk, MatchResult};
 ghost use Rattle.totem_evs.specs.Lists.{Refuses};
 ghost use Rattle.totem_evs.specs.Lives.{RefusesRun, IsFirstVersion};
-ghost use Rattle.totem_evs.specs.Runs.{IsRunIn, IsOfText, IsBelowLog};
+ghost use Rattle.totem_evs.specs.Runs.{IsRunIn, IsBelowLog};
 
-use crate::lives::{first_unwritten, first_version};
+use crate::lives::{first_version, refusal};
 use crate::log::Log;
 use crate::logs::Logs;
-use crate::refused::{ListFault, Refused};
+use crate::refused::Refused;
 use std::alloc::{AllocError, Global};
 use std::marker::Model;
 use totem_ids::Version;
 
-/// A run: the logs that its processes recorded, and the version of its text, 1 or 2. Version 1 writes no lives, so in it
-/// each process has life 1.
+/// A run: the logs that its processes recorded, and the version of its text, 1 to 3. Version 1 writes no lives, so in it
+/// each process has life 1; from version 3 on a log may be quiet.
 #[derive(Debug, Drop)]
 pub struct Run {
     pub version: Version,
@@ -34,22 +34,21 @@ impl Run {
     /// Makes the run of these logs, whose text has this version. A refusal gives the list back with the first rule that it
     /// breaks.
     pub fn new(version: Version, logs: Vec<Log>) -> Result<Run, Refused<Vec<Log>>>
-        requires { IsOfText version }
         ensures { MatchResult result (λ run. (run.version ≡ version) × (run.logs ≡ logs.items) × IsRunIn version logs.items)
             (λ r. (r.value.items ≡ logs.items) × RefusesRun version logs.items r.fault) }
     {
         let logs = Logs::new(logs)?;
-        match first_unwritten(version, logs.as_slice()) {
+        match refusal(version, logs.as_slice()) {
             None => Ok(Run { version, logs }),
-            Some(at) => Err(Refused {
-                fault: ListFault::Life(at),
+            Some(fault) => Err(Refused {
+                fault,
                 value: logs.into_vec(),
             }),
         }
     }
 
     /// Makes the run of these logs in the first version whose texts can write them: version 1 if each process that is named
-    /// has life 1. A refusal gives the list back with the first rule that it breaks.
+    /// has life 1 and no log is quiet, version 3 if one is. A refusal gives the list back with the first rule that it breaks.
     #[tactic(auto, using(crate::proofs::Weaker::first_run))]
     pub fn of(logs: Vec<Log>) -> Result<Run, Refused<Vec<Log>>>
         ensures { MatchResult result (λ run. (run.logs ≡ logs.items) × IsFirstVersion run.version logs.items)

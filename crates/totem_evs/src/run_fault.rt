@@ -10,7 +10,7 @@ use totem_ids::{ReadError, TextFault, WrittenProc};
 /// Why a run could not be read (docs/SPECIFICATIONS.md, "Run text").
 #[derive(Clone, Copy, Debug, PartialEq, Eq, Error)]
 pub enum RunFault {
-    #[error("the text does not begin with the line `totem-run 1` or `totem-run 2`")]
+    #[error("the text does not begin with a line `totem-run 1`, `totem-run 2` or `totem-run 3`")]
     Header,
     #[error("a byte that does not fit")]
     Word,

@@ -12,6 +12,8 @@ pub enum SpecNo {
     Unsent,
     /// 1.4: a message sent twice, or delivered twice in one log, or sent in a transitional configuration.
     Twice,
+    /// 2.1: a quiet log that ends where another member neither ends nor may still come.
+    End,
     /// 2.2: an entry that stands where it may not.
     Misplaced,
     /// 2.3: one configuration in two forms, twice in one log, or without the process that changes to it.
@@ -43,6 +45,7 @@ impl SpecNo {
             SpecNo::Cycle => "1.1",
             SpecNo::Unsent => "1.3",
             SpecNo::Twice => "1.4",
+            SpecNo::End => "2.1",
             SpecNo::Misplaced => "2.2",
             SpecNo::Configuration => "2.3",
             SpecNo::Turns => "2.4",

@@ -127,6 +127,7 @@ fn put_ending<S: Sink>(pieces: &mut Pieces, sink: &mut S, ending: Ending) -> Res
     match ending {
         Ending::Standing => pieces.put(sink, b"open\n"),
         Ending::Failed => pieces.put(sink, b"failed\n"),
+        Ending::Quiet => pieces.put(sink, b"quiet\n"),
     }
 }
 

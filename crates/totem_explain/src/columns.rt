@@ -87,6 +87,7 @@ fn closing(ending: Ending) -> &'static str {
     match ending {
         Ending::Standing => "    open",
         Ending::Failed => "    failed",
+        Ending::Quiet => "    quiet",
     }
 }
 

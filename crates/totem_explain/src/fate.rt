@@ -13,10 +13,12 @@ pub enum Fate {
     WentOn(ConfId, Place),
     Failed(ConfId),
     StillThere(ConfId),
+    Quiet(ConfId),
 }
 
 impl Fate {
-    /// Returns whether nothing excuses the process: it neither failed nor is still there.
+    /// Returns whether nothing excuses the process: it neither failed nor is still there. A quiet log is not: it says that
+    /// nothing more was to come.
     pub fn owes(&self) -> bool {
         !matches!(self, Fate::Failed(_) | Fate::StillThere(_))
     }
@@ -32,6 +34,7 @@ impl Fate {
             }
             Fate::Failed(conf) => format!(in alloc; "failed in {conf}"),
             Fate::StillThere(conf) => format!(in alloc; "is still in {conf}"),
+            Fate::Quiet(conf) => format!(in alloc; "ended in {conf}, and is quiet"),
         }
     }
 }
@@ -41,6 +44,7 @@ fn end_of(log: &Log, conf: ConfId) -> Fate {
     match log.ending {
         Ending::Standing => Fate::StillThere(conf),
         Ending::Failed => Fate::Failed(conf),
+        Ending::Quiet => Fate::Quiet(conf),
     }
 }
 

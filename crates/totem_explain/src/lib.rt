@@ -10,6 +10,7 @@ mod lane;
 mod layout;
 mod lookup;
 mod no;
+mod quiet_end;
 mod reason;
 mod refusal;
 mod rule;

@@ -3,6 +3,7 @@ use crate::cycle::cycle;
 use crate::event::place_name;
 use crate::fate::{fate_of, next_of};
 use crate::lookup::{change_before, change_in, delivery_in, entry_at, entry_of, log_of, send_in};
+use crate::quiet_end::ended_alone;
 use std::alloc::{AllocError, Global};
 use totem_evs::{Entry, Fault, Run, SpecNo};
 use totem_ids::{ConfId, MsgId, Place, Proc};
@@ -202,6 +203,7 @@ pub fn reason(alloc: Global, run: &Run, fault: &Fault) -> Result<String, AllocEr
         (SpecNo::Cycle | SpecNo::Order, _) => cycle(alloc, run, places),
         (SpecNo::Unsent, [delivery, ..]) => unsent(alloc, run, *delivery),
         (SpecNo::Twice, _) => twice(alloc, run, places),
+        (SpecNo::End, [change, ..]) => ended_alone(alloc, run, *change),
         (SpecNo::Misplaced, [entry, ..]) => misplaced(alloc, run, *entry),
         (SpecNo::Configuration, _) => configuration(alloc, run, places),
         (SpecNo::Turns, _) => turns(alloc, places),

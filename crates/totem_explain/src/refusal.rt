@@ -10,11 +10,11 @@ const BEFORE: usize = 72;
 const BEHIND: [(&[u8], &str); 5] = [
     (
         b"log ",
-        "`log` is followed by a process: `log 3`, or `log 3:1` with its life in version 2.",
+        "`log` is followed by a process: `log 3`, or `log 3:1` with its life from version 2 on.",
     ),
     (
         b"conf ",
-        "`conf` is followed by a configuration and its members, with one space before each: `conf r4.1 1 2 3`, `conf t8.1/1 1 2`, or `conf r4.1 1:1 2:1` in version 2.",
+        "`conf` is followed by a configuration and its members, with one space before each: `conf r4.1 1 2 3`, `conf t8.1/1 1 2`, or `conf r4.1 1:1 2:1` from version 2 on.",
     ),
     (
         b"send ",
@@ -37,14 +37,14 @@ fn behind(line: &[u8]) -> &'static str {
             return *wanted;
         }
     }
-    "A line is `log`, `conf`, `send`, `dlv` or `fail` with what follows it, or `open`, `failed` or `end` alone."
+    "A line is `log`, `conf`, `send`, `dlv` or `fail` with what follows it, or `open`, `failed`, `quiet` (from version 3 on) or `end` alone."
 }
 
 /// Returns what is wanted where a text is refused, in a line that begins so; nothing if the text is not what was refused.
 fn wanted(alloc: Global, fault: &RunFault, line: &[u8]) -> Result<String, AllocError> {
     let text = match fault {
         RunFault::Header =>
-            "The text of a run begins with the line `totem-run 1` or `totem-run 2`.",
+            "The text of a run begins with a line `totem-run 1`, `totem-run 2` or `totem-run 3`.",
         RunFault::Word => behind(line),
         RunFault::Number => {
             "A number has no zero in front. Processes and lives are 1 to 65535, the numbers of rings and messages 1 to 4294967295."
@@ -54,10 +54,10 @@ fn wanted(alloc: Global, fault: &RunFault, line: &[u8]) -> Result<String, AllocE
         RunFault::Members =>
             "The member that ends here is not greater than the one before it. Members stand in rising order, one life of each.",
         RunFault::End => {
-            "A log whose last entry is `fail` ends with the line `failed`, any other with `open`, and nothing stands behind the line `end`."
+            "A log whose last entry is `fail` ends with the line `failed`, any other with `open`, or from version 3 on with `quiet`; and nothing stands behind the line `end`."
         }
         RunFault::Truncated => {
-            "The text ends here. Each log ends with the line `open` or `failed`, and the text with the line `end`."
+            "The text ends here. Each log ends with the line `open` or `failed`, or from version 3 on with `quiet`, and the text with the line `end`."
         }
         RunFault::TooMany => {
             "A run has 32 logs at most, a configuration 32 members, and a log 1000000 entries."

@@ -11,6 +11,9 @@ pub fn rule_of(spec: SpecNo) -> &'static str {
         SpecNo::Twice => {
             "A message is sent once, in a regular configuration, and each process delivers it at most once."
         }
+        SpecNo::End => {
+            "Where a quiet log ends, each member ends too, without a failure, or is not quiet and has not come there yet."
+        }
         SpecNo::Misplaced => {
             "A log begins with a change, its entries name the configuration that they stand in, and nothing follows a failure."
         }

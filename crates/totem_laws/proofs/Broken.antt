@@ -13,7 +13,7 @@ use Rattle.totem_evs.specs.Agreement.{Goes}
 use Rattle.totem_evs.specs.Answers.{TakeTurns, No}
 use Rattle.totem_evs.specs.Synchrony.{IsVirtuallySynchronous}
 use Rattle.totem_evs.specs.DeliveryFaults.{BreaksUnsent, BreaksTwice}
-use Rattle.totem_evs.specs.ChangeFaults.{BreaksPlace, BreaksConfiguration, AreWrongNeighbours, BreaksTurns}
+use Rattle.totem_evs.specs.ChangeFaults.{BreaksEnd, BreaksPlace, BreaksConfiguration, AreWrongNeighbours, BreaksTurns}
 use Rattle.totem_evs.specs.AgreementFaults.{GoesAt, BreaksOwnDelivery, BreaksAtomicity, BreaksCausality, BreaksGap, BreaksSafety, BreaksInstalled}
 use Rattle.totem_evs.proofs.Closed.{closed_cycles, closed_rises}
 use Rattle.totem_evs.proofs.Consistent.{placed_contradicts}
@@ -38,6 +38,11 @@ twice run (e ∷ f ∷ []) (i, at, (j, at', inl (m, x, y, s, t, other))) ok =
 twice run (e ∷ f ∷ []) (i, at, (j, at', inr (m, x, y, s, t, same, never))) ok = never (ok.one_delivery e.proc i j m x y s (rw same t))
 twice run [] h ok = h
 twice run (e ∷ f ∷ g ∷ more) h ok = h
+
+ends_alone : (run : List Log) (places : List Place) → BreaksEnd run places → MeetsSpec run spec.End → ⊥
+ends_alone run (e ∷ []) (i, at, (x, ms, q, quiet, last, member, never)) ok = never (ok e.proc i x ms q quiet last member)
+ends_alone run [] h ok = h
+ends_alone run (e ∷ f ∷ more) h ok = h
 
 misplaced : (run : List Log) (places : List Place) → BreaksPlace run places → MeetsSpec run spec.Misplaced → ⊥
 misplaced run (e ∷ []) (i, at, h) ok = placed_contradicts (log_of run e.proc) i (ok e.proc) h
@@ -117,6 +122,7 @@ pub not_met : BrokenIsNotMet
 not_met run spec.Cycle places h ok = closed_cycles run places ok h
 not_met run spec.Unsent places h ok = unsent run places h ok
 not_met run spec.Twice places h ok = twice run places h ok
+not_met run spec.End places h ok = ends_alone run places h ok
 not_met run spec.Misplaced places h ok = misplaced run places h ok
 not_met run spec.Configuration places h ok = configuration run places h ok
 not_met run spec.Turns places h ok = turns run places h ok
@@ -136,6 +142,7 @@ one_of : (run : List Log) → IsVirtuallySynchronous run → (k : SpecNo) → Me
 one_of run ev spec.Cycle = ev.basic.no_cycle
 one_of run ev spec.Unsent = ev.basic.sent
 one_of run ev spec.Twice = ev.basic.once
+one_of run ev spec.End = ev.changes.together
 one_of run ev spec.Misplaced = ev.changes.in_place
 one_of run ev spec.Configuration = ev.changes.one
 one_of run ev spec.Turns = record { each = ev.changes.turns; origin = ev.changes.origin }
@@ -152,7 +159,7 @@ all_of run meets =
     let turn : TakeTurns run = meets spec.Turns in
     record {
       basic = record { no_cycle = meets spec.Cycle; ordered = each_log_ordered run; sent = meets spec.Unsent; once = meets spec.Twice };
-      changes = record { in_place = meets spec.Misplaced; one = meets spec.Configuration; turns = turn.each; origin = turn.origin; twins = each_twins_agree run };
+      changes = record { together = meets spec.End; in_place = meets spec.Misplaced; one = meets spec.Configuration; turns = turn.each; origin = turn.origin; twins = each_twins_agree run };
       own = meets spec.OwnDelivery;
       atomic = meets spec.Atomicity;
       causal = meets spec.Causality;

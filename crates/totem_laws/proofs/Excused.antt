@@ -16,13 +16,13 @@ use Rattle.totem_evs.proofs.Standing.{less_or_not}
 use Rattle.totem_evs.proofs.Originating.{same_com}
 use Rattle.totem_laws.specs.Excuses.{StillOwes, SenderIsPending, MemberIsPending}
 
-still_open : (run : List Log) (q : ℕ) (c : RingId) (m : MsgId) → StillOwes run q c m → DeliversOrEnds (log_of run q) c m → OpenIn (log_of run q) c
+still_open : (run : List Log) (q : ℕ) (c : RingId) (m : MsgId) → StillOwes run q c m → DeliversOrEnds run q c m → OpenIn run q c
 still_open run q c m owes (inl delivered) = absurd (owes.missing delivered)
 still_open run q c m owes (inr (inl failed)) = absurd (owes.goes_on failed)
 still_open run q c m owes (inr (inr open_there)) = open_there
 
 listed : (run : List Log) (pending : List Pending) (q : ℕ) (c : RingId) (m : MsgId) → ArePending run pending → WasSentIn run m (Regular c)
-    → StillOwes run q c m → DeliversOrEnds (log_of run q) c m → Contains pending (record { proc = q; msg = m })
+    → StillOwes run q c m → DeliversOrEnds run q c m → Contains pending (record { proc = q; msg = m })
 listed run pending q c m are sent owes ends =
     (are.exact q m).1 (record { ring = c; sent = sent; still_open = still_open run q c m owes ends; missing = owes.missing })
 

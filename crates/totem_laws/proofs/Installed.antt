@@ -4,28 +4,28 @@ use Rattle.totem_ids.specs.declared.ring.RingId.{RingId}
 use Rattle.totem_ids.specs.declared.conf.ConfId.{ConfId}
 use Rattle.totem_ids.specs.declared.conf.ConfId.TheVariants.{Regular}
 use Rattle.totem_ids.specs.declared.message.MsgId.{MsgId}
-use Rattle.totem_evs.specs.declared.entry.Entry.{Entry}
 use Rattle.totem_evs.specs.declared.entry.Entry.TheVariants.{Deliver, Fail}
+use Rattle.totem_evs.specs.declared.log.Log.{Log}
 use Rattle.totem_evs.specs.Events.{log_of, ChangesTo}
 use Rattle.totem_evs.specs.Following.{Com, DeliversOrEnds}
 use Rattle.totem_evs.specs.Changes.{StaysInPlace}
 use Rattle.totem_laws.specs.Laws.{InstalledBreaksWithSafety}
 
-module _ (log : List Entry) (c : RingId) (never : (j : ℕ) → ChangesTo log j (Regular c) → ⊥) where
+module _ (run : List Log) (q : ℕ) (c : RingId) (never : (j : ℕ) → ChangesTo (log_of run q) j (Regular c) → ⊥) where
   -- nothing was changed to by which the log could be in c or in what follows it
-  not_there : (d : ConfId) (j : ℕ) → ChangesTo log j d → Com log c d → ⊥
+  not_there : (d : ConfId) (j : ℕ) → ChangesTo (log_of run q) j d → Com (log_of run q) c d → ⊥
   not_there d j change (inl same) = never j (rw same at change)
   not_there d j change (inr follows) = never follows.from follows.first.change
 
-  nothing_there : (m : MsgId) → StaysInPlace log → DeliversOrEnds log c m → ⊥
+  nothing_there : (m : MsgId) → StaysInPlace (log_of run q) → DeliversOrEnds run q c m → ⊥
   nothing_there m placed (inl (i, (d, delivers, stays))) =
       let stands = placed.named i d (Deliver m d, delivers, refl) in not_there d stands.from stands.change stays
   nothing_there m placed (inr (inl (i, d, fails, stays))) =
       let stands = placed.named i d (Fail d, fails, refl) in not_there d stands.from stands.change stays
-  nothing_there m placed (inr (inr (d, goes_on, last, stays))) = not_there d last.index last.change stays
+  nothing_there m placed (inr (inr (loud, (d, goes_on, last, stays)))) = not_there d last.index last.change stays
 
 pub with_safety : InstalledBreaksWithSafety
 with_safety run (e ∷ []) placed (i, at, (c, (m, q, safe, delivers, member, never))) =
-    (i, at, (c, (m, Regular c, q, safe, delivers, inl refl, member, nothing_there (log_of run q) c never m (placed q))))
+    (i, at, (c, (m, Regular c, q, safe, delivers, inl refl, member, nothing_there run q c never m (placed q))))
 with_safety run [] placed h = h
 with_safety run (e ∷ f ∷ more) placed h = h

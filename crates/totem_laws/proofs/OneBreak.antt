@@ -44,6 +44,7 @@ least_one run k a b least also = one_least (Breaks run k) a b least also
 passes_meet : (run : List Log) (k : SpecNo) (places : List Place) → Meets run k → Breaks run k places → ⊥
 passes_meet run spec.Unsent places ok h = not_met run spec.Unsent places h ok
 passes_meet run spec.Twice places ok h = not_met run spec.Twice places h ok
+passes_meet run spec.End places ok h = not_met run spec.End places h ok
 passes_meet run spec.Misplaced places ok h = not_met run spec.Misplaced places h ok
 passes_meet run spec.Configuration places ok h = not_met run spec.Configuration places h ok
 passes_meet run spec.Turns places ok h = not_met run spec.Turns places h ok

@@ -10,14 +10,14 @@ use Rattle.totem_evs.specs.declared.spec.SpecNo.TheVariants as spec
 use Rattle.totem_evs.specs.Events.{ChangesTo, Delivers, IsSafe, IsMember, log_of}
 use Rattle.totem_evs.specs.Following.{Com, DeliversOrEnds}
 use Rattle.totem_evs.specs.Delivery.{NoCycle, DeliversWhatWasSent, DeliversOnce}
-use Rattle.totem_evs.specs.Changes.{StaysInPlace, IsOneConfiguration}
+use Rattle.totem_evs.specs.Changes.{EndsTogether, StaysInPlace, IsOneConfiguration}
 use Rattle.totem_evs.specs.Agreement.{SelfDelivery, FailureAtomicity, CausalDelivery, HasTotalOrder, NoGaps}
 use Rattle.totem_evs.specs.Answers.{TakeTurns}
 
 -- 7.1: a safe message that is delivered in c or in what follows it reaches each member
 abbrev pub SafeReaches : List Log → Type 0
 SafeReaches run = (c : RingId) (m : MsgId) (p i : ℕ) (d : ConfId) (q : ℕ) → IsSafe run m → Delivers (log_of run p) i m d → Com (log_of run p) c d
-    → IsMember run d q → DeliversOrEnds (log_of run q) c m
+    → IsMember run d q → DeliversOrEnds run q c m
 
 -- 7.2: where a safe message is delivered in c, each member of c changes to c
 abbrev pub SafeIsInstalled : List Log → Type 0
@@ -29,6 +29,7 @@ abbrev pub MeetsSpec : List Log → SpecNo → Type 0
 MeetsSpec run spec.Cycle = NoCycle run
 MeetsSpec run spec.Unsent = DeliversWhatWasSent run
 MeetsSpec run spec.Twice = DeliversOnce run
+MeetsSpec run spec.End = EndsTogether run
 MeetsSpec run spec.Misplaced = (p : ℕ) → StaysInPlace (log_of run p)
 MeetsSpec run spec.Configuration = IsOneConfiguration run
 MeetsSpec run spec.Turns = TakeTurns run

@@ -1,4 +1,5 @@
-//! Which version writes a process that came back, and texts of version 2 that are written as they were read.
+//! Which version writes a process that came back, and which a quiet log; texts of versions 2 and 3 that are written as they were
+//! read.
 use crate::lists::{push_line, refusal};
 use crate::logs::push_log_of;
 use crate::values::is_told;
@@ -16,17 +17,19 @@ fn life(number: u16) -> Proc {
 enum Asked {
     One,
     Two,
+    Three,
     /// The first that can write it.
     First,
 }
 
-/// Tells the version of a run of one log, of this life of process 1, or why there is none.
-fn run_told(alloc: Global, asked: &Asked, number: u16) -> Result<String, AllocError> {
+/// Tells the version of a run of one log, of this life of process 1, with these entries, or why there is none.
+fn run_told(alloc: Global, asked: &Asked, number: u16, words: &str) -> Result<String, AllocError> {
     let mut logs = Vec::new(alloc);
-    push_log_of(alloc, &mut logs, life(number), "fail")?;
+    push_log_of(alloc, &mut logs, life(number), words)?;
     let made = match asked {
         Asked::One => Run::new(Version::One, logs),
         Asked::Two => Run::new(Version::Two, logs),
+        Asked::Three => Run::new(Version::Three, logs),
         Asked::First => Run::of(logs),
     };
     match made {
@@ -41,7 +44,7 @@ fn certificate_told(alloc: Global, asked: &Asked, number: u16) -> Result<String,
     push_line(alloc, &mut lines, life(number))?;
     let made = match asked {
         Asked::One => Certificate::new(Version::One, lines),
-        Asked::Two => Certificate::new(Version::Two, lines),
+        Asked::Two | Asked::Three => Certificate::new(Version::Two, lines),
         Asked::First => Certificate::of(lines),
     };
     match made {
@@ -93,13 +96,82 @@ const ROWS: [Row; 6] = [
 #[test]
 fn version_one_writes_first_lives_alone(rt: HostRuntime) -> Result<(), AllocError> {
     for row in &ROWS {
-        let run = run_told(rt.alloc(), &row.asked, row.life)?;
+        let run = run_told(rt.alloc(), &row.asked, row.life, "fail")?;
         is_told(&rt, &run, row.told, "a run");
         let certificate = certificate_told(rt.alloc(), &row.asked, row.life)?;
         is_told(&rt, &certificate, row.told, "a certificate");
     }
     Ok(())
 }
+
+/// A life, the entries of its log, and what is told of a run that has it.
+struct QuietRow {
+    asked: Asked,
+    life: u16,
+    words: &'static str,
+    told: &'static str,
+}
+
+const QUIET_ROWS: [QuietRow; 7] = [
+    QuietRow {
+        asked: Asked::One,
+        life: 1,
+        words: "change quiet",
+        told: "Silence(0) of 1",
+    },
+    QuietRow {
+        asked: Asked::One,
+        life: 2,
+        words: "change quiet",
+        told: "Life(0) of 1",
+    },
+    QuietRow {
+        asked: Asked::Two,
+        life: 2,
+        words: "change quiet",
+        told: "Silence(0) of 1",
+    },
+    QuietRow {
+        asked: Asked::Three,
+        life: 2,
+        words: "change quiet",
+        told: "Three",
+    },
+    QuietRow {
+        asked: Asked::Three,
+        life: 1,
+        words: "change",
+        told: "Three",
+    },
+    QuietRow {
+        asked: Asked::First,
+        life: 1,
+        words: "change send quiet",
+        told: "Three",
+    },
+    // A log that ends in a failure can't be quiet: there is none, and the run has no log.
+    QuietRow {
+        asked: Asked::First,
+        life: 2,
+        words: "change fail quiet",
+        told: "One",
+    },
+];
+
+#[test]
+fn version_three_writes_quiet_logs(rt: HostRuntime) -> Result<(), AllocError> {
+    for row in &QUIET_ROWS {
+        let run = run_told(rt.alloc(), &row.asked, row.life, row.words)?;
+        is_told(&rt, &run, row.told, row.words);
+    }
+    Ok(())
+}
+
+const QUIET_RUN: &str = "totem-run 3\n\
+    log 1:1\nconf r4.1 1:1 2:1\nsend r4.1 a 4.1#1\ndlv r4.1 4.1#1\nquiet\n\
+    log 2:1\nconf r4.1 1:1 2:1\nfail r4.1\nfailed\n\
+    log 2:2\nconf r8.2 2:2\nopen\n\
+    end\n";
 
 const RUN: &str = "totem-run 2\n\
     log 1:1\nconf r4.1 1:1\nfail r4.1\nfailed\n\
@@ -136,6 +208,8 @@ fn certificate_again(alloc: Global, text: &str) -> Result<Vec<u8>, AllocError> {
 fn lives_are_written_as_they_were_read(rt: HostRuntime) -> Result<(), AllocError> {
     let run = run_again(rt.alloc(), RUN)?;
     assert!(rt; run.as_slice() == RUN.as_bytes());
+    let quiet = run_again(rt.alloc(), QUIET_RUN)?;
+    assert!(rt; quiet.as_slice() == QUIET_RUN.as_bytes());
     let certificate = certificate_again(rt.alloc(), CERTIFICATE)?;
     assert!(rt; certificate.as_slice() == CERTIFICATE.as_bytes());
     Ok(())

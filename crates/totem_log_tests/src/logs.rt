@@ -23,7 +23,7 @@ fn message() -> MsgId {
     }
 }
 
-/// Adds an entry of this word: `change` to ring 4.1 of processes 1 and 2, `send` and `deliver` of a message there, and
+/// Adds an entry of this word, which is not `quiet`: `change` to ring 4.1 of processes 1 and 2, `send` and `deliver` of a message there, and
 /// a failure for any other word.
 fn push_entry(alloc: Global, list: &mut Vec<Entry>, word: &str) -> Result<(), AllocError> {
     let entry = match word {
@@ -42,12 +42,23 @@ fn push_entry(alloc: Global, list: &mut Vec<Entry>, word: &str) -> Result<(), Al
 fn entries(alloc: Global, words: &str) -> Result<Vec<Entry>, AllocError> {
     let mut list = Vec::new(alloc);
     for word in words.split_whitespace() {
-        push_entry(alloc, &mut list, word)?;
+        if word != "quiet" {
+            push_entry(alloc, &mut list, word)?;
+        }
     }
     Ok(list)
 }
 
-/// Adds a log of these entries, if there are any.
+/// Returns how a log of these words ends: as quiet if they say so, and else as its entries have it.
+fn ending_of(entries: &Entries, words: &str) -> Ending {
+    if words.contains("quiet") {
+        Ending::Quiet
+    } else {
+        entries.ending()
+    }
+}
+
+/// Adds a log of these entries, if there are any and they may end so.
 pub fn push_log_of(
     alloc: Global,
     logs: &mut Vec<Log>,
@@ -55,7 +66,10 @@ pub fn push_log_of(
     words: &str,
 ) -> Result<(), AllocError> {
     if let Ok(entries) = Entries::new(entries(alloc, words)?) {
-        logs.push(Log::new(proc, entries))?;
+        let ending = ending_of(&entries, words);
+        if entries.may_end(ending) {
+            logs.push(Log::new(proc, entries, ending))?;
+        }
     }
     Ok(())
 }
@@ -135,6 +149,7 @@ pub fn copied_parts_told(alloc: Global) -> Result<String, AllocError> {
     push_copied_part(alloc, &mut text, &Part::Log(proc(2)))?;
     push_copied_part(alloc, &mut text, &Part::Entry(Entry::Fail(conf())))?;
     push_copied_part(alloc, &mut text, &Part::Close(Ending::Failed))?;
+    push_copied_part(alloc, &mut text, &Part::Close(Ending::Quiet))?;
     Ok(text)
 }
 

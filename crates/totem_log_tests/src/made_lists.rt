@@ -250,7 +250,7 @@ const ROWS: [Row; 28] = [
         what: What::CopiedParts,
         list: &[],
         times: 1,
-        told: "true; true; true; ",
+        told: "true; true; true; true; ",
     },
     Row {
         about: "a fault of 1.3",

@@ -67,7 +67,7 @@ fn refused(fault: ListFault) -> Refused<u8> {
 
 fn texts_told(alloc: Global) -> Result<String, AllocError> {
     format!(in alloc;
-        "{}; {}; {}; {}; {}; {}; {}; {}",
+        "{}; {}; {}; {}; {}; {}; {}; {}; {}",
         CertFault::Order,
         RunFault::MissingLog(life(3, 1).written(Version::One)),
         RunFault::MissingLog(life(3, 1).written(Version::Two)),
@@ -75,14 +75,16 @@ fn texts_told(alloc: Global) -> Result<String, AllocError> {
         refused(ListFault::Empty),
         refused(ListFault::TooMany(32)),
         refused(ListFault::NotRising(2)),
-        refused(ListFault::Life(2))
+        refused(ListFault::Life(2)),
+        refused(ListFault::Silence(2))
     )
 }
 
-const SPECIFICATIONS: [SpecNo; 13] = [
+const SPECIFICATIONS: [SpecNo; 14] = [
     SpecNo::Cycle,
     SpecNo::Unsent,
     SpecNo::Twice,
+    SpecNo::End,
     SpecNo::Misplaced,
     SpecNo::Configuration,
     SpecNo::Turns,
@@ -200,12 +202,12 @@ const ROWS: [Row; 7] = [
         topic: Topic::Texts,
         told: "a line whose process is not above the one before; process 3 has no log; process 3:1 has no log; \
             a byte that does not fit; there is none; there are more than 32; the one at index 2 is not above the one before; \
-            the one at index 2 has lives other than 1",
+            the one at index 2 has lives other than 1; the one at index 2 is quiet",
     },
     Row {
         about: "specifications have their numbers, and rise",
         topic: Topic::Specifications,
-        told: "< 1.1 < 1.3 < 1.4 < 2.2 < 2.3 < 2.4 < 3 < 4 < 5 < 6.1 < 6.3 < 7.1 < 7.2 ",
+        told: "< 1.1 < 1.3 < 1.4 < 2.1 < 2.2 < 2.3 < 2.4 < 3 < 4 < 5 < 6.1 < 6.3 < 7.1 < 7.2 ",
     },
     Row {
         about: "what is unsettled as a report has it",

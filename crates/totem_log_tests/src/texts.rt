@@ -94,7 +94,7 @@ struct Example {
     told: &'static str,
 }
 
-const TEXTS: [Example; 49] = [
+const TEXTS: [Example; 56] = [
     Example {
         text: "totem-run 1\nend\n",
         told: "end end ",
@@ -105,8 +105,36 @@ const TEXTS: [Example; 49] = [
         told: "log 1: fail r4.1; conf t8.1/1 1; fail t8.1/1; failed. end end ",
     },
     Example {
-        text: "totem-run 3\nend\n",
+        text: "totem-run 4\nend\n",
         told: "Header",
+    },
+    Example {
+        text: "totem-run 3\nend\n",
+        told: "end end ",
+    },
+    Example {
+        text: "totem-run 3\nlog 1:1\nconf r4.1 1:1\nquiet\nlog 2:1\nconf r4.2 2:1\nopen\nend\n",
+        told: "log 1: conf r4.1 1; quiet. log 2: conf r4.2 2; open. end end ",
+    },
+    Example {
+        text: "totem-run 3\nlog 1:1\nquiet\nend\n",
+        told: "End",
+    },
+    Example {
+        text: "totem-run 3\nlog 1:1\nconf r4.1 1:1\nfail r4.1\nquiet\nend\n",
+        told: "End",
+    },
+    Example {
+        text: "totem-run 3\nlog 1:1\nconf r4.1 1:1\nquite\nend\n",
+        told: "Word",
+    },
+    Example {
+        text: "totem-run 2\nlog 1:1\nconf r4.1 1:1\nquiet\nend\n",
+        told: "Word",
+    },
+    Example {
+        text: "totem-run 1\nlog 1\nquiet\nend\n",
+        told: "Word",
     },
     Example {
         text: "totem-run 1\nopen\n",

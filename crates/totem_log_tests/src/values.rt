@@ -52,5 +52,6 @@ pub fn push_log(text: &mut String, log: &Log) -> Result<(), AllocError> {
     text.push_str(match log.ending {
         Ending::Standing => "open. ",
         Ending::Failed => "failed. ",
+        Ending::Quiet => "quiet. ",
     })
 }

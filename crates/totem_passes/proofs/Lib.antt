@@ -19,3 +19,5 @@ pub mod Exact
 pub mod QuickSends
 pub mod QuickTest
 pub mod KnownSending
+pub mod LogEnds
+pub mod EndsTogether

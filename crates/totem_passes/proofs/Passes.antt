@@ -12,15 +12,16 @@ pub lists_more : (run : List Log) (k : SpecNo) (ks : List SpecNo) (found : Optio
 lists_more run k ks None rest h more = inl (h, more)
 lists_more run k ks (Some places) rest h more = inr (places, rest, refl, h, more)
 
-pub lists_pass_a : (run : List Log) (a b c d : Option (List Place)) (fs gs hs is js : List Fault) → Finds run spec.Twice a → Finds run spec.Misplaced b → Finds run spec.Configuration c → Finds run spec.Turns d
-    → fs ≡ [] → gs ≡ fs ++ listed spec.Twice a → hs ≡ gs ++ listed spec.Misplaced b → is ≡ hs ++ listed spec.Configuration c → js ≡ is ++ listed spec.Turns d → Lists run pass_a js
-lists_pass_a run a b c d fs gs hs is js fa fb fc fd ef eg eh ei ej =
-    let all = lists_more run spec.Twice (spec.Misplaced ∷ spec.Configuration ∷ spec.Turns ∷ []) a _ fa
-    (lists_more run spec.Misplaced (spec.Configuration ∷ spec.Turns ∷ []) b _ fb
-    (lists_more run spec.Configuration (spec.Turns ∷ []) c _ fc
-    (lists_more run spec.Turns [] d [] fd refl))) in
-    let flat : js ≡ listed spec.Twice a ++ (listed spec.Misplaced b ++ (listed spec.Configuration c ++ (listed spec.Turns d ++ []))) =
-    rw (ej, ei, eh, eg, ef) (simp (append_assoc, append-nil)) in
+pub lists_pass_a : (run : List Log) (a b c d e : Option (List Place)) (fs gs hs is js ks : List Fault) → Finds run spec.Twice a → Finds run spec.End b → Finds run spec.Misplaced c → Finds run spec.Configuration d → Finds run spec.Turns e
+    → fs ≡ [] → gs ≡ fs ++ listed spec.Twice a → hs ≡ gs ++ listed spec.End b → is ≡ hs ++ listed spec.Misplaced c → js ≡ is ++ listed spec.Configuration d → ks ≡ js ++ listed spec.Turns e → Lists run pass_a ks
+lists_pass_a run a b c d e fs gs hs is js ks fa fb fc fd fe ef eg eh ei ej ek =
+    let all = lists_more run spec.Twice (spec.End ∷ spec.Misplaced ∷ spec.Configuration ∷ spec.Turns ∷ []) a _ fa
+    (lists_more run spec.End (spec.Misplaced ∷ spec.Configuration ∷ spec.Turns ∷ []) b _ fb
+    (lists_more run spec.Misplaced (spec.Configuration ∷ spec.Turns ∷ []) c _ fc
+    (lists_more run spec.Configuration (spec.Turns ∷ []) d _ fd
+    (lists_more run spec.Turns [] e [] fe refl)))) in
+    let flat : ks ≡ listed spec.Twice a ++ (listed spec.End b ++ (listed spec.Misplaced c ++ (listed spec.Configuration d ++ (listed spec.Turns e ++ [])))) =
+    rw (ek, ej, ei, eh, eg, ef) (simp (append_assoc, append-nil)) in
     rw flat all
 
 pub lists_pass_b : (run : List Log) (a : Option (List Place)) (fs gs : List Fault) → Finds run spec.Unsent a → fs ≡ [] → gs ≡ fs ++ listed spec.Unsent a → Lists run pass_b gs

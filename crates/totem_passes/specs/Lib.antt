@@ -12,3 +12,4 @@ pub mod Forms
 pub mod Origins
 pub mod Sendings
 pub mod Followed
+pub mod Ends

@@ -3,6 +3,7 @@
 
 mod configuration;
 mod delivery;
+mod ends;
 mod follow;
 mod followed;
 mod forms;

@@ -4,7 +4,7 @@ ghost use Rattle.totem_evs.specs.Answers.{Lists, pass_a, pass_b};
 ghost use Rattle.totem_table.specs.Tables.{IsTable};
 ghost use Rattle.totem_passes.specs.Listed.{listed, ListsFirst};
 
-use crate::{configuration, misplaced, turns, twice, unsent};
+use crate::{configuration, ends, misplaced, turns, twice, unsent};
 use std::alloc::{AllocError, Global};
 use totem_evs::{Fault, Places, Run, SpecNo};
 use totem_table::Table;
@@ -30,7 +30,8 @@ fn pass_a_over(alloc: Global, run: &Run, table: Option<&Table>) -> Result<Vec<Fa
 {
     let once = twice::find(alloc, run, table)?;
     let sends = with_found(Vec::new(alloc), SpecNo::Twice, once)?;
-    let places = with_found(sends, SpecNo::Misplaced, misplaced::find(alloc, run)?)?;
+    let last = with_found(sends, SpecNo::End, ends::find(alloc, run)?)?;
+    let places = with_found(last, SpecNo::Misplaced, misplaced::find(alloc, run)?)?;
     let forms = with_found(
         places,
         SpecNo::Configuration,
@@ -47,7 +48,7 @@ fn pass_b_over(alloc: Global, run: &Run, table: Option<&Table>) -> Result<Vec<Fa
     with_found(Vec::new(alloc), SpecNo::Unsent, unsent)
 }
 
-/// Pass A: for each of 1.4, 2.2, 2.3 and 2.4 that the run breaks, in this order, its least events. `Err` is want of
+/// Pass A: for each of 1.4, 2.1, 2.2, 2.3 and 2.4 that the run breaks, in this order, its least events. `Err` is want of
 /// memory, and says nothing of the run.
 pub fn pass_a(alloc: Global, run: &Run) -> Result<Vec<Fault>, AllocError>
     ensures { IfOk result (λ faults. Lists run.now.logs pass_a faults.items) }

@@ -5,7 +5,7 @@ use Rattle.std.proofs.lemmas.List.{length-map, get_or-map, get_or-take, length-t
 use Rattle.totem_evs.specs.Lists.{Refuses}
 use Rattle.totem_evs.specs.Members.{IsBelow}
 use Rattle.totem_evs.specs.declared.refused.ListFault.{ListFault}
-use Rattle.totem_evs.specs.declared.refused.ListFault.TheVariants.{Empty, TooMany, NotRising, Life}
+use Rattle.totem_evs.specs.declared.refused.ListFault.TheVariants.{Empty, TooMany, NotRising, Life, Silence}
 use Rattle.totem_ids.specs.Ranks.{id_of}
 use Rattle.totem_recover.specs.Lives.{first_rank, first_ranks, ids_of, IsRingMembers}
 
@@ -29,6 +29,7 @@ not_refused lives (NotRising at) is refused =
     let within = refused.1.within in
     refused.1.falls (beginning_rises lives (at + 1) is (omega (arith, within)))
 not_refused lives (Life at) is refused = absurd refused
+not_refused lives (Silence at) is refused = absurd refused
 
 -- first lives are of the identifiers that they were made from
 pub first_are_of : (ids : List ℕ) → ids_of (first_ranks ids) ≡ ids

@@ -6,7 +6,7 @@ use Rattle.totem_ids.specs.Names.{RingName}
 use Rattle.totem_evs.specs.declared.entry.Entry.{Entry}
 use Rattle.totem_evs.specs.declared.entry.Entry.TheVariants.{Conf, Send, Deliver, Fail}
 use Rattle.totem_evs.specs.declared.ending.Ending.{Ending}
-use Rattle.totem_evs.specs.declared.ending.Ending.TheVariants.{Standing, Failed}
+use Rattle.totem_evs.specs.declared.ending.Ending.TheVariants.{Standing, Failed, Quiet}
 use Rattle.totem_evs.specs.LogRecord.{LogRecord}
 use Rattle.totem_evs.specs.Runs.{IsFailure, EndsInFail, IsClosedBy}
 use Rattle.totem_ring.specs.Visits.{Sending}
@@ -19,7 +19,7 @@ use Rattle.totem_node.specs.Outcomes.{IsRefused}
 use Rattle.totem_node.specs.Replay.{first_change}
 use Rattle.totem_node.specs.Table.{step}
 use Rattle.totem_script.specs.declared.script_fault.ScriptFaultKind.TheVariants.{TooMany}
-use Rattle.totem_script.specs.Actors.{Actor, new_actor, acted, takes, is_failure, ends_in_failure}
+use Rattle.totem_script.specs.Actors.{Actor, new_actor, acted, takes, is_failure, ends_in_failure, log_with}
 
 pub starts : (p : ℕ) (ring : RingName) (members : List ℕ) (n : Node) (earlier : List LogRecord) (entries : List Entry) → n ≡ new_node p ring members
     → earlier ≡ [] → entries ≡ first_change ring members ∷ []
@@ -78,25 +78,36 @@ end_is (e ∷ f ∷ entries) h =
     let more : length (e ∷ f ∷ entries) ≡ suc rest.0 + 1 = let many = rest.2 in omega arith in
     (suc rest.0, rest.1, more, rest.3, rest.4)
 
-by_ending : (entries : List Entry) (ending : Ending) → IsClosedBy entries ending → ends_in_failure entries ≡ false → ending ≡ Standing
-by_ending entries Standing closed stands = refl
-by_ending entries Failed closed stands =
+by_ending : (entries : List Entry) (ending : Ending) → IsClosedBy entries ending → ending ≢ Quiet → ends_in_failure entries ≡ false → ending ≡ Standing
+by_ending entries Standing closed loud stands = refl
+by_ending entries Quiet closed loud stands = absurd (loud refl)
+by_ending entries Failed closed loud stands =
     let end : EndsInFail entries = closed.0 refl in
     let seen = end_seen entries end.0 end.1 end.2 end.3 end.4 in
     absurd (cc)
 
 -- what is closed so ends so
-pub closes : (entries : List Entry) (ending : Ending) → IsClosedBy entries ending → ending ≡ cond (ends_in_failure entries) Failed Standing
-closes entries ending closed = by_end (ends_in_failure entries) refl
+pub closes : (entries : List Entry) (ending : Ending) → IsClosedBy entries ending → ending ≢ Quiet → ending ≡ cond (ends_in_failure entries) Failed Standing
+closes entries ending closed loud = by_end (ends_in_failure entries) refl
   where
     by_end : (b : Bool) → ends_in_failure entries ≡ b → ending ≡ cond b Failed Standing
     by_end true is = closed.1 (end_is entries is)
-    by_end false is = by_ending entries ending closed is
+    by_end false is = by_ending entries ending closed loud is
 
 told : (p q : ℕ) (before after : List Entry) (ending : Ending) → q ≡ p → after ≡ before → ending ≡ cond (ends_in_failure after) Failed Standing
     → (let log : LogRecord = record { proc = q; entries = after; ending = ending } in log) ≡ (let whole : LogRecord = record { proc = p; entries = before; ending = cond (ends_in_failure before) Failed Standing } in whole)
 told p q before after ending proc is ends = rw (ends, is, proc)
 
--- the log of a process's entries
-pub recorded : (log : LogRecord) (p : ℕ) (entries : List Entry) → log.proc ≡ p → log.entries ≡ entries → IsClosedBy log.entries log.ending → log ≡ (let whole : LogRecord = record { proc = p; entries = entries; ending = cond (ends_in_failure entries) Failed Standing } in whole)
-recorded log p entries proc is closed = told p log.proc entries log.entries log.ending proc is (closes log.entries log.ending closed)
+-- the log of a process's entries, which ends as they may, and not as quiet
+pub recorded : (log : LogRecord) (p : ℕ) (given entries : List Entry) (ending : Ending) → log.proc ≡ p → log.entries ≡ given → given ≡ entries → log.ending ≡ ending
+    → IsClosedBy given ending → ending ≢ Quiet → log ≡ (let whole : LogRecord = record { proc = p; entries = entries; ending = cond (ends_in_failure entries) Failed Standing } in whole)
+recorded log p given entries ending proc is same ends closed loud =
+    told p log.proc entries log.entries log.ending proc (is ∙ same) (ends ∙ rw is (closes given ending closed loud))
+
+-- it is not quiet
+pub recorded_loud : (log : LogRecord) (p : ℕ) (entries : List Entry) → log ≡ log_with p entries → log.ending ≢ Quiet
+recorded_loud log p entries is = rw is (by_end (ends_in_failure entries))
+  where
+    by_end : (b : Bool) → cond b Failed Standing ≢ Quiet
+    by_end true = λ e. absurd cc
+    by_end false = λ e. absurd cc

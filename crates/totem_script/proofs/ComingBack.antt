@@ -1,10 +1,12 @@
 -- A process that comes back.
-use Rattle.std.proofs.Common.{◌≡◌, ℕ, ◌<◌, ◌≤◌, ◌+◌, ◌&&◌, List, [], ◌∷◌, ◌++◌, Bool, true, false, nat_lt, nat_le, refl, ap, arith}
+use Rattle.std.proofs.Common.{◌≡◌, ◌≢◌, ℕ, ◌<◌, ◌≤◌, ◌+◌, ◌&&◌, List, [], ◌∷◌, ◌++◌, Bool, true, false, nat_lt, nat_le, refl, ap, arith}
 use Rattle.std.proofs.lemmas.Bool.Decides.{nat_tests}
 use Rattle.totem_ids.specs.Names.{RingName}
 use Rattle.totem_ids.specs.Ranks.{id_of, life_of}
 use Rattle.totem_evs.specs.declared.entry.Entry.{Entry}
+use Rattle.std.proofs.lemmas.List.Elements.{All-push}
 use Rattle.totem_evs.specs.LogRecord.{LogRecord}
+use Rattle.totem_evs.specs.declared.ending.Ending.TheVariants.{Quiet}
 use Rattle.totem_node.specs.Nodes.{Node, new_node}
 use Rattle.totem_node.specs.Replay.{first_change}
 use Rattle.totem_script.specs.Actors.{Actor, new_actor, log_of, may_return, next_life, ring_of_return, returned, procs_in, IsBelowAll, Rises, AreLives, IsHistory}
@@ -55,15 +57,16 @@ rises_more p q (r ∷ ps) rises less =
     (below_more r q (ps ++ p ∷ []) rises.0 (omega arith), rises_more p q ps rises.1 less)
 
 -- the log of the life that ended joins the earlier ones
-pub next_history : (p q : ℕ) (logs all : List LogRecord) (log : LogRecord) → IsHistory p logs → life_of p < 65535 → q ≡ next_life p → log.proc ≡ p
+pub next_history : (p q : ℕ) (logs all : List LogRecord) (log : LogRecord) → IsHistory p logs → life_of p < 65535 → q ≡ next_life p → log.proc ≡ p → log.ending ≢ Quiet
     → all ≡ logs ++ log ∷ [] → IsHistory q all
-next_history p q logs all log history less next is more =
+next_history p q logs all log history less next is loud more =
     let procs : procs_in all ≡ procs_in logs ++ p ∷ [] = rw (more, ← is) (procs_more logs log) in
     let id : id_of q ≡ id_of p = rw next (same_id p less) in
     let above : p < q = rw next (later p less) in
     record {
       lives = rw (procs, id) (lives_more (id_of p) q (procs_in logs ++ p ∷ []) history.lives id);
       rising = rw procs (rises_more p q (procs_in logs) history.rising above);
+      loud = rw more (All-push (λ (l : LogRecord). l.ending ≢ Quiet) logs log history.loud loud);
     }
 
 -- ---- The process after its return

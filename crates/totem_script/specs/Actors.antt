@@ -6,6 +6,7 @@ use Rattle.totem_evs.specs.declared.entry.Entry.{Entry}
 use Rattle.totem_evs.specs.declared.entry.Entry.TheVariants.{Conf, Send, Deliver, Fail}
 use Rattle.totem_evs.specs.declared.ending.Ending.TheVariants.{Standing, Failed}
 use Rattle.totem_evs.specs.LogRecord.{LogRecord}
+use Rattle.totem_evs.specs.Lives.{AreLoud}
 use Rattle.totem_ring.specs.Visits.{Sending}
 use Rattle.totem_node.specs.declared.input.Input.{Input}
 use Rattle.totem_node.specs.Nodes.{Node, Stepped, new_node}
@@ -104,10 +105,11 @@ abbrev pub AreLives : ℕ → List ℕ → Type 0
 AreLives id [] = Unit {0}
 AreLives id (p ∷ ps) = (id_of p ≡ id) × AreLives id ps
 
--- these are lives of one identifier, strictly rising, and p is the last of them
+-- these are lives of one identifier, strictly rising, and p is the last of them; no log that has ended is quiet
 pub record IsHistory (p : ℕ) (earlier : List LogRecord) : Type 0 where
   pub lives : AreLives (id_of p) (procs_in earlier ++ p ∷ [])
   pub rising : Rises (procs_in earlier ++ p ∷ [])
+  pub loud : AreLoud earlier
 
 -- ---- Answers
 

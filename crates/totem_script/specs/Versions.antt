@@ -6,6 +6,7 @@ use Rattle.totem_ids.specs.declared.version.Version.{Version}
 use Rattle.totem_ids.specs.declared.version.Version.TheVariants.{One, Two}
 use Rattle.totem_ids.specs.Ranks.{life_of}
 use Rattle.totem_evs.specs.LogRecord.{LogRecord}
+use Rattle.totem_evs.specs.Lives.{AreLoud}
 use Rattle.totem_evs.specs.Missing.{members_of}
 use Rattle.totem_evs.specs.RunRecord.{RunRecord}
 use Rattle.totem_evs.specs.Runs.{IsBelowLog}
@@ -31,10 +32,11 @@ has_first_lives log = (life_of log.proc == 1) && list_all (λ e. are_first (memb
 abbrev pub version_of : List LogRecord → Version
 version_of logs = if list_all has_first_lives logs then One else Two
 
--- at most 32 logs, their processes strictly rising
+-- at most 32 logs, their processes strictly rising, none of them quiet
 pub record AreRunLogs (logs : List LogRecord) : Type 0 where
   pub few : length logs ≤ 32
   pub rising : AllPairs IsBelowLog logs
+  pub loud : AreLoud logs
 
 -- the run of these logs: for a script of version 1 in the first version whose texts can write them
 abbrev pub run_of : ScriptVersion → List LogRecord → RunRecord

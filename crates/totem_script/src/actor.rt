@@ -66,7 +66,10 @@ fn log_with(proc: Proc, entries: Vec<Entry>) -> Log
     ensures { result ≡ log_with proc entries.items }
 {
     match Entries::new(entries) {
-        Ok(entries) => Log::new(proc, entries),
+        Ok(entries) => {
+            let ending = entries.ending();
+            Log::new(proc, entries, ending)
+        }
         Err(_) => unreachable!(),
     }
 }

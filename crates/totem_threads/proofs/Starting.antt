@@ -1,10 +1,12 @@
 -- The members of the first ring, and the logs of its nodes.
-use Rattle.std.proofs.Common.{◌≡◌, ℕ, ◌+◌, ◌<◌, ◌≤◌, List, [], ◌∷◌, ◌++◌, length, take, get_or, map, refl, ap, sym, subst, ◌∙◌, arith}
+use Rattle.std.proofs.Common.{◌≡◌, ◌≢◌, ℕ, ◌+◌, ◌<◌, ◌≤◌, List, [], ◌∷◌, ◌++◌, length, take, get_or, map, refl, ap, sym, subst, ◌∙◌, arith}
 use Rattle.std.specs.Prelude.{AllPairs}
 use Rattle.std.proofs.lemmas.List.{length-map, get_or-map, length-take-le, get_or-take, map-append, take_more, take_all}
 use Rattle.std.proofs.lemmas.List.FromFn.{length-range_with_len, get_or-range_with_len}
+use Rattle.std.proofs.lemmas.List.Elements.{All-push}
+use Rattle.totem_evs.specs.declared.ending.Ending.TheVariants.{Quiet}
 use Rattle.totem_evs.specs.declared.refused.ListFault.{ListFault}
-use Rattle.totem_evs.specs.declared.refused.ListFault.TheVariants.{Empty, TooMany, NotRising, Life}
+use Rattle.totem_evs.specs.declared.refused.ListFault.TheVariants.{Empty, TooMany, NotRising, Life, Silence}
 use Rattle.totem_evs.specs.Lists.{Refuses}
 use Rattle.totem_evs.specs.LogRecord.{LogRecord}
 use Rattle.totem_evs.specs.Runs.{IsBelowLog}
@@ -97,6 +99,7 @@ logs_taken nodes books logs (NotRising at) few begun are refused =
     let within = refused.1.within in
     refused.1.falls (front_pairs IsBelowLog logs (at + 1) (omega (arith, within)) (rise nodes logs (processes nodes books logs begun are)))
 logs_taken nodes books logs (Life at) few begun are refused = absurd refused
+logs_taken nodes books logs (Silence at) few begun are refused = absurd refused
 
 -- ---- Books and their logs, one after another
 
@@ -110,12 +113,13 @@ mapped {C = C} f g xs ys x y before here =
 
 -- one log more
 pub logs_more : (books : List Closed) (logs : List LogRecord) (i : ℕ) (b : Closed) (l : LogRecord) → b ≡ get_or books i b → i < length books
-    → AreLogsOf (take i books) logs → l.proc ≡ b.start.me → l.entries ≡ b.log → AreLogsOf (take (i + 1) books) (logs ++ l ∷ [])
-logs_more books logs i b l is within before proc entries =
+    → AreLogsOf (take i books) logs → l.proc ≡ b.start.me → l.entries ≡ b.log → l.ending ≢ Quiet → AreLogsOf (take (i + 1) books) (logs ++ l ∷ [])
+logs_more books logs i b l is within before proc entries loud =
     let more : take (i + 1) books ≡ take i books ++ b ∷ [] = take_more books i b within ∙ ap (λ (x : Closed). take i books ++ x ∷ []) (sym is) in
     rw more (record {
       processes = mapped (λ (l : LogRecord). l.proc) (λ (b : Closed). b.start.me) logs (take i books) l b before.processes proc;
       entries = mapped (λ (l : LogRecord). l.entries) (λ (b : Closed). b.log) logs (take i books) l b before.entries entries;
+      loud = All-push (λ (l : LogRecord). l.ending ≢ Quiet) logs l before.loud loud;
     })
 
 -- all of them

@@ -1,14 +1,16 @@
 -- The books of a run in threads, and the run that they are (docs/PROTOCOL.md, "A run in threads").
 use Rattle.std.specs.Prelude.{◌≡◌, ℕ, List, map, All}
 use Rattle.totem_evs.specs.LogRecord.{LogRecord}
+use Rattle.totem_evs.specs.Lives.{AreLoud}
 use Rattle.totem_books.specs.Seats.{Closed}
 use Rattle.totem_books.specs.Replay.{IsRecorded}
 use Rattle.totem_threads.specs.Starts.{starts}
 
--- each log has the process of a book and the entries, in order; how it ends follows from its entries
+-- each log has the process of a book and the entries, in order. None is quiet, so how it ends follows from its entries
 pub record AreLogsOf (books : List Closed) (logs : List LogRecord) : Type 0 where
   pub processes : map (λ (l : LogRecord). l.proc) logs ≡ map (λ (b : Closed). b.start.me) books
   pub entries : map (λ (l : LogRecord). l.entries) logs ≡ map (λ (b : Closed). b.log) books
+  pub loud : AreLoud logs
 
 -- the log and the replies are the replay of the calls from the start
 abbrev pub IsReplayed : Closed → Type 0

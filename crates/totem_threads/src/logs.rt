@@ -1,5 +1,5 @@
 //! Makes a run of books.
-ghost use Rattle.std.specs.Prelude.{◌≡◌, ◌≤◌, IfOk, map, All};
+ghost use Rattle.std.specs.Prelude.{◌≡◌, ◌≢◌, ◌≤◌, IfOk, map, All};
 ghost use Rattle.totem_evs.specs.Lives.{IsFirstVersion};
 ghost use Rattle.totem_threads.specs.Starts.{starts};
 ghost use Rattle.totem_threads.specs.Books.{AreLogsOf, IsReplayed};
@@ -7,7 +7,7 @@ ghost use Rattle.totem_threads.specs.Books.{AreLogsOf, IsReplayed};
 use crate::fault::{BookTrouble, ThreadsFault};
 use std::alloc::{AllocError, Global};
 use totem_books::{BookFault, ClosedBook};
-use totem_evs::{Entries, Entry, Log, Run};
+use totem_evs::{Ending, Entries, Entry, Log, Run};
 
 fn copy_of(alloc: Global, entries: &[Entry]) -> Result<Vec<Entry>, AllocError>
     ensures { IfOk result (λ copy. copy.items ≡ entries.now) }
@@ -23,9 +23,13 @@ fn copy_of(alloc: Global, entries: &[Entry]) -> Result<Vec<Entry>, AllocError>
 fn log_of(alloc: Global, book: &ClosedBook) -> Result<Log, ThreadsFault>
     ensures process { IfOk result (λ log. log.proc ≡ book.now.start.me) }
     ensures entries { IfOk result (λ log. log.entries ≡ book.now.log) }
+    ensures loud { IfOk result (λ log. log.ending ≢ Ending.Quiet) }
 {
     match Entries::new(copy_of(alloc, book.log())?) {
-        Ok(entries) => Ok(Log::new(book.me(), entries)),
+        Ok(entries) => {
+            let ending = entries.ending();
+            Ok(Log::new(book.me(), entries, ending))
+        }
         Err(_) => Err(ThreadsFault::Book(BookTrouble::Call(BookFault::Long))),
     }
 }

@@ -41,7 +41,7 @@ def try_long_line(deliveries, program):
     text = 'totem-run 1\nlog 1\nconf r4.1 1\n%sdeliver' % ('dlv r4.1 4.1#1\n' * deliveries)
     came = told_by(program, (), text)
     wanted = 'totem: run refused: 2 Word\nline %d, column 2:\n  deliver\n   ^\nA line is `log`, `conf`, `send`, `dlv` or ' \
-        '`fail` with what follows it, or `open`, `failed` or `end` alone.\n' % (deliveries + 4)
+        '`fail` with what follows it, or `open`, `failed`, `quiet` (from version 3 on) or `end` alone.\n' % (deliveries + 4)
     return None if came.errors.decode() == wanted and came.status == 2 else 'came: %s\n  wanted: %r' % (came, wanted)
 
 

@@ -10,6 +10,11 @@ EXAMPLES = os.path.join(os.path.dirname(row_files.FOLDER), '..', 'examples')
 AUDITS = {
     'ring-entered-twice.script': b'verdict no\nfault 4 2@3 2@4 1@3\nend\n',
 }
+# Runs of that folder, and their reports.
+REPORTS = {
+    'shut-down-in-order.run': b'verdict yes\ntotem-cert 2\npos 1:1 1 2 3 5\npos 2:1 1 3 4 5\npos 3:1 1 3 5\nend\n',
+    'shut-down-after-a-crash.run': b'verdict no\nfault 2.1 1:1@1\nend\n',
+}
 
 # How many messages a long run has.
 LONG = 20000
@@ -44,6 +49,14 @@ def try_example(script, wanted, program):
     return None if is_right else 'came:   %s, then %s\n  wanted: %r' % (made, came, wanted)
 
 
+def try_example_run(run, wanted, program):
+    """Has a run judged."""
+    with open(os.path.join(EXAMPLES, run), 'rb') as it:
+        came, _ = process.run([program, 'audit'], it.read())
+    is_right = came.output == wanted and not came.errors
+    return None if is_right else 'came: %s\n  wanted: %r' % (came, wanted)
+
+
 def of_two(count, order):
     """A run in which process 1 sends so many messages, and delivers each at once; process 2 delivers them in this
     order."""
@@ -72,6 +85,8 @@ def long_runs():
 
 
 def examples():
-    """What scripts of the examples make is judged as it is written."""
+    """What scripts of the examples make, and their runs, are judged as it is written."""
     for script, wanted in AUDITS.items():
         yield script, partial(try_example, script, wanted)
+    for run, wanted in REPORTS.items():
+        yield run, partial(try_example_run, run, wanted)

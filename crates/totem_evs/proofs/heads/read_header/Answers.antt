@@ -18,6 +18,12 @@ pub returns-then-digit-eq50-clause-read : goal.returns-then-digit-eq50-clause-re
 unfolding header_at
 returns-then-digit-eq50-clause-read g c = handed _ _ _ _ _ _ (picks _ _ _ _ _ _ _ (skips _ _ _ _ _ _ _ (called _ _ _ _ _ _ _ (called _ _ _ _ _ _ _ (begins _ _) c.in_ok-word.ensures.read) c.in_ok-digit.ensures.read) c.if-digit-eq49.false) c.if-digit-eq50.true) c.read_header_end-then-digit-eq50.ensures.read
 
+pub returns-then-digit-eq51-clause-read : goal.returns-then-digit-eq51-clause-read
+unfolding header_at
+returns-then-digit-eq51-clause-read g c =
+    handed _ _ _ _ _ _ (picks _ _ _ _ _ _ _ (skips _ _ _ _ _ _ _ (skips _ _ _ _ _ _ _ (called _ _ _ _ _ _ _ (called _ _ _ _ _ _ _ (begins _ _) c.in_ok-word.ensures.read) c.in_ok-digit.ensures.read) c.if-digit-eq49.false) c.if-digit-eq50.false) c.if-digit-eq51.true) c.read_header_end-then-digit-eq51.ensures.read
+
 pub returns-clause-read : goal.returns-clause-read
 unfolding header_at
-returns-clause-read g c = stops _ _ _ _ (skips _ _ _ _ _ _ _ (skips _ _ _ _ _ _ _ (called _ _ _ _ _ _ _ (called _ _ _ _ _ _ _ (begins _ _) c.in_ok-word.ensures.read) c.in_ok-digit.ensures.read) c.if-digit-eq49.false) c.if-digit-eq50.false) refl
+returns-clause-read g c =
+    stops _ _ _ _ (skips _ _ _ _ _ _ _ (skips _ _ _ _ _ _ _ (skips _ _ _ _ _ _ _ (called _ _ _ _ _ _ _ (called _ _ _ _ _ _ _ (begins _ _) c.in_ok-word.ensures.read) c.in_ok-digit.ensures.read) c.if-digit-eq49.false) c.if-digit-eq50.false) c.if-digit-eq51.false) refl

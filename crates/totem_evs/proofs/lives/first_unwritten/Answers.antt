@@ -3,7 +3,7 @@ use Rattle.std.proofs.lemmas.Option.{slice_get-get_or}
 use Rattle.totem_evs.specs.declared.log.Log.{Log}
 use Rattle.totem_evs.specs.Lives.{HasFirstLives}
 use Rattle.totem_evs.proofs.Each.{each_more, each_whole}
-use Rattle.totem_evs.proofs.Weaker.{unwritten, all_first}
+use Rattle.totem_evs.proofs.Weaker.{unwritten}
 use Rattle.totem_evs.proofs.lives.first_unwritten.Goals as goal
 
 pub returns-then-not-has_first_lives-clause-some : goal.returns-then-not-has_first_lives-clause-some
@@ -16,4 +16,4 @@ pub loop-at-preserved : goal.loop-at-preserved
 loop-at-preserved c = each_more HasFirstLives _ _ _ c.loop-at-test.true c.index-logs-at.is (c.has_first_lives.ensures.0 c.if-not-has_first_lives.false) c.loop-at.invariant
 
 pub returns-clause-none : goal.returns-clause-none
-returns-clause-none c = all_first c.args.version _ (each_whole HasFirstLives _ _ c.loop-at-test.false c.loop-at.invariant) c.requires
+returns-clause-none c = λ h. each_whole HasFirstLives _ _ c.loop-at-test.false c.loop-at.invariant

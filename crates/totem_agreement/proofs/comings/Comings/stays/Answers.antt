@@ -17,7 +17,7 @@ loop-arrival-preserved c =
     let h = c.stay_from-stay.ensures in
     rw c.in_ok-extend_from_slice.ensures.items
     (one_more_stay run c.args.ring arrivals _ _ arrival c.stay_from-stay.result listed
-    (stay_at run c.args.ring arrivals _ arrival _ c.stay_from-stay.result c.requires.meets (rw runs at c.as_slice-logs.ensures.run) are listed stands h.proc h.log h.from h.next)
+    (stay_at run c.args.ring arrivals _ arrival _ c.stay_from-stay.result c.requires.meets (rw runs at c.as_slice-logs.ensures.run) are listed stands h.proc h.log h.quiet h.from h.next)
     c.loop-arrival.invariant)
 
 pub returns : goal.returns

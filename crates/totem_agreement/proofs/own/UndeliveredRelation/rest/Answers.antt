@@ -1,7 +1,7 @@
 use Rattle.std.proofs.Common.{refl, arith}
 use Rattle.std.proofs.lemmas.Option.{slice_get-get_or}
 use Rattle.totem_agreement.proofs.Known.{stay_is}
-use Rattle.totem_agreement.proofs.Rooms.{owned_no_send, owned_at_end, owned_delivered, owned_never}
+use Rattle.totem_agreement.proofs.Rooms.{owned_no_send, owned_excused, owned_delivered, owned_never}
 use Rattle.totem_agreement.proofs.own.UndeliveredRelation.rest.Goals as goal
 
 pub offset_bounds-stay-at : goal.offset_bounds-stay-at
@@ -23,11 +23,11 @@ returns-in_default c =
     let at = slice_get-get_or c.args.stay.now.log.now c.args.at c.index-stay-at.result (omega (arith, is.is.within, c.requires.inside.until)) in
     owned_no_send s.run.now.logs s.ring c.args.stay.now c.args.at _ is at c.in_default.not-Send
 
-pub returns-then-is_last : goal.returns-then-is_last
-returns-then-is_last c =
+pub returns-then-is_excused : goal.returns-then-is_excused
+returns-then-is_excused c =
     let s = c.args.self.now.stays.now in
     let is = stay_is s.run.now.logs s.ring s.list.items c.args.stay.now s.meets s.are c.requires.among in
-    owned_at_end s.run.now.logs s.ring c.args.stay.now c.args.at is (c.if-is_last.ensures.0 refl)
+    owned_excused s.run.now.logs s.ring c.args.stay.now c.args.at is (c.if-is_excused.ensures.0 refl)
 
 pub returns-in-Some : goal.returns-in-Some
 returns-in-Some c =
@@ -43,4 +43,4 @@ returns-in-None c =
     let at = slice_get-get_or c.args.stay.now.log.now c.args.at c.index-stay-at.result (omega (arith, is.is.within, c.requires.inside.until)) in
     rw c.new.ensures.items
     (owned_never s.run.now.logs s.ring c.args.stay.now c.args.at c.in-Send.message _ _ s.meets is c.requires.inside.after c.requires.inside.until (rw c.in-Send.is at at)
-    (λ e. let t = c.if-is_last.ensures.1 e in cc) c.in-None.ensures.none)
+    (λ e. let t = c.if-is_excused.ensures.1 e in cc) c.in-None.ensures.none)

@@ -1,0 +1,73 @@
+-- Whom the end of a stay excuses: where its log is not quiet, the process failed or is open there.
+use Rattle.std.proofs.Common.{◌≡◌, ℕ, zero, suc, ◌+◌, ◌<◌, ◌⊎◌, inl, inr, List, [], ◌∷◌, length, slice_get, Some, Bool, true, false, refl, ap, arith, rules}
+use Rattle.std.specs.Prelude.{◌==◌}
+use Rattle.std.proofs.lemmas.Bool.{cases_eq}
+use Rattle.std.proofs.lemmas.Option.{slice_get_within}
+use Rattle.totem_ids.specs.declared.ring.RingId.{RingId}
+use Rattle.totem_evs.specs.declared.entry.Entry.{Entry}
+use Rattle.totem_evs.specs.declared.entry.Entry.TheVariants.{Fail}
+use Rattle.totem_evs.specs.declared.log.Log.{Log}
+use Rattle.totem_evs.specs.declared.ending.Ending.{Ending}
+use Rattle.totem_evs.specs.declared.ending.Ending.TheVariants.{Failed, Quiet}
+use Rattle.totem_evs.specs.Runs.{IsClosedBy}
+use Rattle.totem_evs.specs.Events.{IsQuiet, log_of, ending_of}
+use Rattle.totem_evs.specs.Following.{NeverFails, FailedIn, StaysIn, OpenIn}
+use Rattle.totem_evs.specs.Changes.{StaysInPlace}
+use Rattle.totem_evs.proofs.LogOf.{Rising, Rising-tail, in_order, less_or_not}
+use Rattle.totem_agreement.specs.declared.stay.Stay.{Stay}
+use Rattle.totem_agreement.specs.Stays.{IsExcused, IsStayOf}
+use Rattle.totem_agreement.proofs.Deciding.{both_or_not}
+
+-- in a run each log ends as that of its process
+pub ending_of_at : (run : List Log) (k : ℕ) (log : Log) → Rising run → slice_get run k ≡ Some log → ending_of run log.proc ≡ log.ending
+ending_of_at [] k log rising at = absurd cc
+ending_of_at (x ∷ xs) zero log rising at =
+    let same : x ≡ log = cc in
+    let test : (x.proc == log.proc) ≡ true = rw same (search rules) in
+    rw test (ap (λ (l : Log). l.ending) same)
+ending_of_at (x ∷ xs) (suc k) log rising at =
+    let lt : x.proc < log.proc = in_order (x ∷ xs) 0 (suc k) x log rising refl at (omega arith) in
+    let test : (x.proc == log.proc) ≡ false = search rules in
+    rw test (ending_of_at xs k log (Rising-tail x xs rising) at)
+
+-- a quiet log has no failure: that would be its last entry
+pub quiet_never_fails : (entries : List Entry) (ending : Ending) → StaysInPlace entries → IsClosedBy entries ending → ending ≡ Quiet → NeverFails entries
+quiet_never_fails entries ending placed closed quiet i x fails = (let failed : ending ≡ Failed = closed.1 (i, Fail x, whole, fails, tt) in cc)
+  where
+    whole : length entries ≡ i + 1
+    whole = elim (less_or_not (i + 1) (length entries)) [
+      | inl lt ↦ absurd (placed.final i (i + 1) x fails (omega arith) lt)
+      | inr rest ↦ elim rest [ inl gt ↦ omega (arith, slice_get_within entries i (Fail x) fails) | inr same ↦ omega arith ]
+    ]
+
+pub excused_or_not : (stay : Stay) → IsExcused stay ⊎ (IsExcused stay → ⊥)
+excused_or_not stay = both_or_not (cases_eq stay.end (length stay.log.now)) (loud_or_not stay.quiet)
+  where
+    loud_or_not : (b : Bool) → (b ≡ false) ⊎ (b ≡ false → ⊥)
+    loud_or_not true = inr (λ e. cc)
+    loud_or_not false = inl refl
+
+pub excused : (run : List Log) (c : RingId) (stay : Stay) → IsStayOf run c stay → IsExcused stay → FailedIn (log_of run stay.proc) c ⊎ OpenIn run stay.proc c
+excused run c stay is e = go (rw is.log at (is.is.ends e.0))
+  where
+    loud : IsQuiet run stay.proc → ⊥
+    loud quiet = let told = is.quiet.1 quiet in let other = e.1 in cc
+
+    go : FailedIn (log_of run stay.proc) c ⊎ StaysIn (log_of run stay.proc) c → FailedIn (log_of run stay.proc) c ⊎ OpenIn run stay.proc c
+    go (inl failed) = inl failed
+    go (inr stays) = inr (loud, stays)
+
+pub not_excused : (run : List Log) (c : RingId) (stay : Stay) → IsStayOf run c stay → (IsExcused stay → ⊥) → FailedIn (log_of run stay.proc) c ⊎ OpenIn run stay.proc c → ⊥
+not_excused run c stay is never ends = elim (less_or_not stay.end (length stay.log.now)) [
+  | inl lt ↦ is.is.goes_on lt (rw is.log (here ends))
+  | inr rest ↦ elim rest [ inl gt ↦ omega (arith, is.is.within) | inr last ↦ at_end last stay.quiet refl ends ]
+]
+  where
+    here : FailedIn (log_of run stay.proc) c ⊎ OpenIn run stay.proc c → FailedIn (log_of run stay.proc) c ⊎ StaysIn (log_of run stay.proc) c
+    here (inl failed) = inl failed
+    here (inr (loud, stays)) = inr stays
+
+    at_end : stay.end ≡ length stay.log.now → (b : Bool) → stay.quiet ≡ b → FailedIn (log_of run stay.proc) c ⊎ OpenIn run stay.proc c → ⊥
+    at_end last false is_not h = never (last, is_not)
+    at_end last true told (inl (i, d, fails, inside)) = is.unfailed told i d (rw is.log fails)
+    at_end last true told (inr (loud, stays)) = loud (is.quiet.0 told)
