@@ -5,7 +5,8 @@
 #
 # FOLDER has a file P.log for each process P, with one line for each entry, as docs/OWN-LOGS.md tells. Where processes come back, it
 # has a file P.L.log for each life L of each process P instead, and the lines name members as P:L. A last line that was cut off is
-# left out. A log is closed with `failed` where its last entry is a failure, else with `open`.
+# left out. A log is closed with `failed` where its last entry is a failure, with `quiet` where that is its last line, else with `open`.
+# Where a log is quiet, processes of files P.log are written with the life 1.
 set -eu
 
 if [ $# -ne 1 ] || [ ! -d "$1" ]; then
@@ -23,9 +24,20 @@ whole_lines() {
     fi
 }
 
+# Whether a file ends with the line `quiet`.
+is_quiet() {
+    [ "$(tail -n 1 "$1")" = quiet ] && [ -z "$(tail -c 1 "$1")" ]
+}
+
+# The log of process $1, whose file is $2; $3 is added to its members.
 put_log() {
     echo "log $1"
-    whole_lines "$2" | awk '{ print; last = $1 } END { print (last == "fail" ? "failed" : "open") }'
+    whole_lines "$2" | awk -v life="$3" '
+        NR > 1 && last == "quiet" { print last }
+        $1 == "conf" && life != "" { for (i = 3; i <= NF; i++) $i = $i life }
+        $0 != "quiet" { print }
+        { last = ($0 == "quiet" ? $0 : $1) }
+        END { print (last == "fail" ? "failed" : last == "quiet" ? last : "open") }'
 }
 
 processes=$(ls | sed -n 's/^\([1-9][0-9]*\)\.log$/\1/p' | sort -n)
@@ -39,15 +51,23 @@ if [ -n "$processes" ] && [ -n "$lives" ]; then
     exit 1
 fi
 
+version=1
 if [ -n "$lives" ]; then
-    echo "totem-run 2"
-else
-    echo "totem-run 1"
+    version=2
 fi
+first_life=
+for name in $processes $lives; do
+    if is_quiet "$name.log"; then
+        version=3
+        first_life=:1
+    fi
+done
+
+echo "totem-run $version"
 for process in $processes; do
-    put_log "$process" "$process.log"
+    put_log "$process$first_life" "$process.log" "$first_life"
 done
 for life in $lives; do
-    put_log "$(echo "$life" | tr . :)" "$life.log"
+    put_log "$(echo "$life" | tr . :)" "$life.log" ""
 done
 echo "end"
