@@ -63,18 +63,26 @@ class Ring:
         return lines
 
 
+def with_first_lives(line):
+    """The line as texts write it that write lives."""
+    words = line.split(" ")
+    return " ".join([*words[:2], *(word + ":1" for word in words[2:])]) if words[0] == "conf" else line
+
+
 def text_of(logs):
-    """The run's text: each log is a process, its lines and its closing word."""
-    lines = ["totem-run 1"]
+    """The run's text: each log is a process, its lines and its closing word. Where one is quiet, it is of version 3."""
+    quiet = any(ending == "quiet" for _, _, ending in logs)
+    lines = ["totem-run 3" if quiet else "totem-run 1"]
     for process, body, ending in logs:
-        lines += [f"log {process}", *body, ending]
+        body = map(with_first_lives, body) if quiet else body
+        lines += [f"log {process}:1" if quiet else f"log {process}", *body, ending]
     return "\n".join([*lines, "end", ""])
 
 
-def all_well(count):
+def all_well(count, ending="open"):
     def family(rng, entries):
         ring = Ring(rng, 4, list(range(1, count + 1)), entries // (count + 1))
-        return [(member, ring.life(member), "open") for member in ring.members]
+        return [(member, ring.life(member), ending) for member in ring.members]
 
     return family
 
@@ -183,6 +191,7 @@ FAMILIES = {
     "well3": ("3 logs, all well", all_well(3)),
     "well8": ("8 logs, all well", all_well(8)),
     "well32": ("32 logs, all well", all_well(32)),
+    "quiet8": ("8 logs, all well and quiet", all_well(8, "quiet")),
     "rings100": ("8 logs, 100 messages on each ring", many_rings(100)),
     "rings1": ("8 logs, one message on each ring", many_rings(1)),
     "parts8": ("8 logs that part and join again", parts_and_joins(8)),
