@@ -1,6 +1,6 @@
 //! Why a quiet log may not end where it does (docs/SPECIFICATIONS.md, "2 Changes of configuration").
 use crate::event::place_name;
-use crate::lookup::{change_behind, change_in, entry_at, log_of, place_of};
+use crate::lookup::{change_before, change_behind, change_in, entry_at, log_of, place_of};
 use std::alloc::{AllocError, Global};
 use totem_evs::{Ending, Entry, Log, Run};
 use totem_ids::{ConfId, Place, Proc, Version};
@@ -15,7 +15,7 @@ fn failure_in(log: &Log) -> Option<Place> {
     None
 }
 
-/// Returns what a process did that came to the configuration, at this place, or `None` if it ended there.
+/// Returns what a process did behind this place, at which it came to the configuration, or `None` if it changed no more.
 fn behind(
     alloc: Global,
     version: Version,
@@ -31,6 +31,14 @@ fn behind(
     }
 }
 
+/// Whether the last change of a log is to the configuration.
+fn ends_in(log: &Log, conf: &ConfId) -> bool {
+    match change_before(log, u32::MAX) {
+        Some((last, _)) => last.is(conf),
+        None => false,
+    }
+}
+
 /// Returns what a process did in place of ending in the configuration, or `None` if it ended there or may still come.
 fn parted(
     alloc: Global,
@@ -41,6 +49,9 @@ fn parted(
     if let Some(place) = failure_in(log) {
         let place = place_name(alloc, version, place)?;
         return Ok(Some(format!(in alloc; "failed ({place})")?));
+    }
+    if ends_in(log, conf) {
+        return Ok(None);
     }
     match change_in(log, conf) {
         Some(came) => behind(alloc, version, log, came),
