@@ -12,13 +12,21 @@ use Rattle.totem_ids.specs.declared.conf.ConfId.TheVariants.{Regular}
 use Rattle.totem_evs.specs.declared.entry.Entry.{Entry}
 use Rattle.totem_evs.specs.declared.entry.Entry.TheVariants.{Conf}
 use Rattle.totem_evs.specs.declared.log.Log.{Log}
-use Rattle.totem_evs.specs.Events.{log_of, ChangesTo}
+use Rattle.totem_evs.specs.Events.{log_of, ChangesTo, IsChange}
 use Rattle.totem_evs.specs.Answers.{IsRing}
 use Rattle.totem_passes.specs.declared.visit.Visit.{Visit}
 use Rattle.totem_passes.specs.Registers.{Keeps, StaysSound}
 use Rattle.totem_passes.proofs.Knowing.{equal_at, apart_or_at}
 use Rattle.totem_passes.proofs.QuickSends.{visit}
 use Rattle.totem_agreement.specs.Comings.{KnowsComing, AreComings}
+
+-- what is no change comes nowhere
+pub spares_coming : (by_ring : RingId → RingId → Ordering) (by_visit : Visit → Visit → Ordering) (rings : BTreeSet RingId) (indices : BTreeMap Visit ℕ) (p : ℕ) (log : List Entry) (i : ℕ) → (IsChange log i → ⊥)
+    → KnowsComing by_ring by_visit rings indices p log i
+spares_coming by_ring by_visit rings indices p log i never = record {
+  ring = λ c change. absurd (never (Regular c, change));
+  index = λ c change. absurd (never (Regular c, change));
+}
 
 pub one_more : (by_ring : RingId → RingId → Ordering) (by_visit : Visit → Visit → Ordering) → CmpEqualImpliesEq by_ring → CmpEqualImpliesEq by_visit
     → (r s : BTreeSet RingId) (m n : BTreeMap Visit ℕ) (p i : ℕ) (log : List Entry) (x : ConfId) (c : RingId) (ms : List ℕ) → slice_get log i ≡ Some (Conf x ms) → x ≡ Regular c

@@ -1,9 +1,9 @@
 -- From what each job finds to the faults of the pass.
 use Rattle.std.proofs.Common.{◌≡◌, ◌<◌, ◌+◌, ℕ, inl, inr, List, [], ◌∷◌, ◌++◌, length, take, slice_get, Option, Some, None, refl, ap, arith}
-use Rattle.std.proofs.Common.{◌≤◌, Result, Ok, Err, IfOk, Vec, Global}
-use Rattle.std.specs.declared.alloc.AllocError.{AllocError}
+use Rattle.std.proofs.Common.{◌≤◌, zero, suc, Bool, true, false, Result, Ok, Err, IfOk}
+use Rattle.std.specs.Bool.{OnTrue}
 use Rattle.std.specs.Prelude.{slice_index_or}
-use Rattle.std.proofs.lemmas.List.{take_more, take_all}
+use Rattle.std.proofs.lemmas.List.{take_more, take_all, length-append}
 use Rattle.std.proofs.lemmas.Option.{slice_get_cases, slice_get_read}
 use Rattle.totem_ids.specs.declared.ring.RingId.{RingId}
 use Rattle.totem_ids.specs.declared.place.Place.{Place}
@@ -15,7 +15,9 @@ use Rattle.totem_evs.specs.Answers.{FindsIn, ListsRings, ListsEach, ListsConfigu
 use Rattle.totem_passes.specs.Listed.{listed}
 use Rattle.totem_agreement.specs.declared.findings.Findings.{Findings}
 use Rattle.totem_agreement.specs.declared.pass.Found.{Found}
-use Rattle.totem_agreement.specs.Findings.{AreFindings, IsNothing, GrowsBy, AreFound, all_found}
+use Rattle.totem_agreement.specs.declared.pass.Judged.{Judged}
+use Rattle.totem_agreement.specs.Pendings.{HasNonePending}
+use Rattle.totem_agreement.specs.Findings.{AreFindings, IsNothing, GrowsBy, AreComplete, AreFound, all_found}
 use Rattle.totem_agreement.specs.Jobs.{AreFindingsAt}
 
 one_more : (run : List Log) (k : SpecNo) (cs : List RingId) (c : RingId) (fs : List Fault) (found : Option (List Place)) → ListsRings run k cs fs → FindsIn run c k found → ListsRings run k (cs ++ c ∷ []) (fs ++ listed k found)
@@ -24,8 +26,31 @@ one_more run k [] c fs (Some places) is least = rw is (inr (places, [], refl, le
 one_more run k (b ∷ cs) c fs found (inl (meets, more)) h = inl (meets, one_more run k cs c fs found more h)
 one_more run k (b ∷ cs) c fs found (inr (places, rest, is, least, more)) h = inr (places, rest ++ listed k found, rw is refl, least, one_more run k cs c rest found more h)
 
+-- the flags of one more configuration
+more_complete : (run : List Log) (cs : List RingId) (c : RingId) (flags : List Bool) (b : Bool) → length flags ≡ length cs → OnTrue b (HasNonePending run c) → AreComplete run cs flags
+    → (k : ℕ) (d : RingId) → slice_get (cs ++ c ∷ []) k ≡ Some d → slice_get (flags ++ b ∷ []) k ≡ Some true → HasNonePending run d
+more_complete run [] c [] true long is h zero d at set = (let same : c ≡ d = cc in rw same at is)
+more_complete run [] c [] false long is h zero d at set = absurd cc
+more_complete run [] c [] b long is h (suc k) d at set = absurd cc
+more_complete run [] c (y ∷ flags) b long is h k d at set = absurd (omega (arith, long))
+more_complete run (x ∷ cs) c [] b long is h k d at set = absurd (omega (arith, long))
+more_complete run (x ∷ cs) c (y ∷ flags) b long is h zero d at set = h.each zero d at set
+more_complete run (x ∷ cs) c (y ∷ flags) b long is h (suc k) d at set = more_complete run cs c flags b (omega (arith, long)) is (record { each = λ j e at_e set_e. h.each (suc j) e at_e set_e }) k d at set
+
+one_longer : (cs : List RingId) (c : RingId) (flags : List Bool) (b : Bool) → length flags ≡ length cs → length (flags ++ b ∷ []) ≡ length (cs ++ c ∷ [])
+one_longer cs c flags b long = omega (arith, length-append flags (b ∷ []), length-append cs (c ∷ []), long)
+
 pub nothing_found : (run : List Log) (found : Found) → IsNothing found → AreFound run [] found
-nothing_found run found h = record { own = h.own; atomicity = h.atomicity; causality = h.causality; gap = h.gap; safety = h.safety; installed = h.installed }
+nothing_found run found h = record {
+  own = h.own;
+  atomicity = h.atomicity;
+  causality = h.causality;
+  gap = h.gap;
+  safety = h.safety;
+  installed = h.installed;
+  long = rw h.complete refl;
+  complete = record { each = λ k c at set. absurd cc };
+}
 
 pub found_more : (run : List Log) (cs : List RingId) (c : RingId) (old new : Found) (findings : Findings) → AreFindings run c findings → GrowsBy old findings new → AreFound run cs old → AreFound run (cs ++ c ∷ []) new
 found_more run cs c old new findings h grows before = record {
@@ -35,6 +60,8 @@ found_more run cs c old new findings h grows before = record {
   gap = rw grows.gap (one_more run spec.Gap cs c old.gap.items findings.gap before.gap h.gap);
   safety = rw grows.safety (one_more run spec.Safety cs c old.safety.items findings.safety before.safety h.safety);
   installed = rw grows.installed (one_more run spec.Installed cs c old.installed.items findings.installed before.installed h.installed);
+  long = rw grows.complete (one_longer cs c old.complete.items findings.complete before.long);
+  complete = rw grows.complete (record { each = more_complete run cs c old.complete.items findings.complete before.long h.complete before.complete });
 }
 
 nil_behind : (fs : List Fault) → fs ≡ fs ++ []
@@ -79,7 +106,12 @@ found_next run rings i old new findings lt h grows before = elim (slice_get_case
   | inr (past, none) ↦ absurd (omega arith)
 ]
 
-pub all_found_of : (run : List Log) (rings : List RingId) (i : ℕ) (found : Found) (r : Result (Vec Fault Global) AllocError) → AreRings run rings → length rings ≤ i → AreFound run (take i rings) found → IfOk r (λ faults. faults.items ≡ all_found found)
-    → IfOk r (λ faults. ListsConfigurations run faults.items)
+pub all_found_of : (run : List Log) (rings : List RingId) (i : ℕ) (found : Found) {E : Type 0} → (r : Result Judged E) → AreRings run rings → length rings ≤ i → AreFound run (take i rings) found
+    → IfOk r (λ judged. judged.faults.items ≡ all_found found) → IfOk r (λ judged. ListsConfigurations run judged.faults.items)
 all_found_of run rings i found (Err e) are end h is = tt
-all_found_of run rings i found (Ok faults) are end h is = all_listed run rings found faults.items are (rw (take_all i rings end) at h) is
+all_found_of run rings i found (Ok judged) are end h is = all_listed run rings found judged.faults.items are (rw (take_all i rings end) at h) is
+
+pub all_complete_of : (run : List Log) (rings : List RingId) (i : ℕ) (found : Found) {E : Type 0} → (r : Result Judged E) → length rings ≤ i → AreFound run (take i rings) found
+    → IfOk r (λ judged. judged.complete.items ≡ found.complete.items) → IfOk r (λ judged. AreComplete run rings judged.complete.items)
+all_complete_of run rings i found (Err e) end h is = tt
+all_complete_of run rings i found (Ok judged) end h is = (let all : AreFound run rings found = rw (take_all i rings end) at h in rw is all.complete)

@@ -10,9 +10,10 @@ use Rattle.totem_evs.specs.Events.{ChangesTo, IsChange}
 use Rattle.totem_evs.specs.Following.{IsNextChange, IsFirstChange, LastChange, Follows, Com, NeverFails, FailedIn, StaysIn}
 use Rattle.totem_evs.specs.Changes.{Names, NamesOnly, StandsIn, StaysInPlace, TakesTurns}
 use Rattle.totem_evs.proofs.LogOf.{less_or_not}
+use Rattle.totem_table.specs.Changes.{IsNextOrEnd}
 use Rattle.totem_passes.proofs.SentOrNot.{one_next}
 use Rattle.totem_passes.proofs.Turning.{NoneBetween}
-use Rattle.totem_agreement.specs.Stays.{IsNextOrEnd, AreNextTwo, TurnsAt, IsStay}
+use Rattle.totem_agreement.specs.Stays.{AreNextTwo, TurnsAt, IsStay}
 
 -- what a log keeps of the specifications of the first two passes
 pub record KeepsRules (log : List Entry) : Type 0 where

@@ -1,6 +1,5 @@
 -- Where no process is open in its stay, nothing is pending.
-use Rattle.std.proofs.Common.{◌≡◌, inr, ℕ, List, All, slice_get, Some, Bool, true, false, Result}
-use Rattle.std.specs.Prelude.{IfOk}
+use Rattle.std.proofs.Common.{◌≡◌, inr, ℕ, List, All, slice_get, Some, Bool, true, false}
 use Rattle.std.specs.Bool.{OnTrue}
 use Rattle.std.proofs.lemmas.Option.{slice_get_within, get_or_from_slice_get}
 use Rattle.totem_ids.specs.declared.ring.RingId.{RingId}
@@ -10,7 +9,6 @@ use Rattle.totem_evs.specs.declared.pending.Pending.{Pending}
 use Rattle.totem_evs.specs.Events.{log_of}
 use Rattle.totem_evs.specs.Following.{OpenIn, NeverFails}
 use Rattle.totem_evs.specs.Answers.{MeetsPasses}
-use Rattle.totem_passes.proofs.Passes.{if_ok}
 use Rattle.totem_agreement.specs.declared.stay.Stay.{Stay}
 use Rattle.totem_agreement.specs.Stays.{IsStayOf}
 use Rattle.totem_agreement.specs.Endings.{HasFailed}
@@ -29,7 +27,7 @@ no_failure : (log here : List Entry) → here ≡ log → HasFailed here → Nev
 no_failure log here same failed never = never failed.index failed.conf (rw same at failed.fails)
 
 -- who is open in c has a stay whose end excuses it, and has not failed
-pub none_open : (run : List Log) (c : RingId) (stays : List Stay) → Facts run c stays → All EndsClosed stays → HasNonePending run c
+none_open : (run : List Log) (c : RingId) (stays : List Stay) → Facts run c stays → All EndsClosed stays → HasNonePending run c
 none_open run c stays facts closed = record { none = never }
   where
     closed_at : (stay : Stay) (k : ℕ) → slice_get stays k ≡ Some stay → EndsClosed stay
@@ -48,9 +46,6 @@ none_open run c stays facts closed = record { none = never }
 pub complete_none : (run : List Log) (c : RingId) (stays : List Stay) → Facts run c stays → IsComplete stays → HasNonePending run c
 complete_none run c stays facts complete = record { none = λ x pending. none_pending run c stays x facts complete pending }
 
-true_none : (run : List Log) (c : RingId) (stays : List Stay) → Facts run c stays → (b : Bool) → OnTrue b (IsComplete stays) → OnTrue b (HasNonePending run c)
-true_none run c stays facts true complete = complete_none run c stays facts complete
-true_none run c stays facts false h = tt
-
-pub if_complete : (run : List Log) (c : RingId) (stays : List Stay) → Facts run c stays → {E : Type 0} → (r : Result Bool E) → IfOk r (λ b. OnTrue b (IsComplete stays)) → IfOk r (λ b. OnTrue b (HasNonePending run c))
-if_complete run c stays facts r h = if_ok r (λ b. OnTrue b (IsComplete stays)) (λ b. OnTrue b (HasNonePending run c)) (true_none run c stays facts) h
+pub open_or_none : (run : List Log) (c : RingId) (stays : List Stay) → Facts run c stays → (b : Bool) → OnTrue b (All EndsClosed stays) → OnTrue b (HasNonePending run c)
+open_or_none run c stays facts true closed = none_open run c stays facts closed
+open_or_none run c stays facts false closed = tt

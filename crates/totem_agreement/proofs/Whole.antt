@@ -1,11 +1,14 @@
 -- Whether all stays went as far as they ought to, stay by stay and member by member.
-use Rattle.std.proofs.Common.{◌≡◌, ℕ, ◌+◌, ◌<◌, ◌≤◌, inl, inr, List, length, slice_get, slice_index_or, Some, ap, ◌∙◌, arith}
+use Rattle.std.proofs.Common.{◌≡◌, ℕ, ◌+◌, ◌<◌, ◌≤◌, ◌||◌, inl, inr, Bool, true, false, List, length, slice_get, slice_index_or, Some, ap, ◌∙◌, arith}
+use Rattle.std.specs.Bool.{OnTrue}
 use Rattle.std.proofs.lemmas.Option.{slice_get-get_or, slice_get_within}
 use Rattle.totem_evs.proofs.LogOf.{less_or_not}
 use Rattle.totem_agreement.specs.declared.stay.Stay.{Stay}
 use Rattle.totem_agreement.specs.declared.replay.Replay.{Replay}
 use Rattle.totem_agreement.specs.Stays.{HasStay}
-use Rattle.totem_agreement.specs.Uniform.{HasAll, EachComplete}
+use Rattle.totem_agreement.specs.declared.uniform.Uniformity.{Uniformity}
+use Rattle.totem_agreement.specs.Uniform.{HasAll, EachComplete, IsComplete}
+use Rattle.totem_agreement.specs.Owed.{IsUniform, IsSeenOf}
 
 -- there are stays of the first n members
 pub record HaveUpTo (stays : List Stay) (members : List ℕ) (n : ℕ) : Type 0 where
@@ -45,3 +48,14 @@ one_more_complete replays messages taken n replay at count sends before = record
 
 pub all_complete : (replays : List Replay) (messages : ℕ) (taken : List ℕ) (n : ℕ) → length replays ≤ n → CompleteUpTo replays messages taken n → EachComplete replays messages taken
 all_complete replays messages taken n end h = record { each = λ k replay at. h.each k replay (let within = slice_get_within replays k replay at in omega (arith, within)) at }
+
+-- what is seen with one sequence or another
+true_or : (P : Type 0) (x y : Bool) → OnTrue x P → OnTrue y P → OnTrue (x || y) P
+true_or P true y first second = first
+true_or P false y first second = second
+
+pub either_seen : (stays : List Stay) (a b c : Uniformity) → IsSeenOf stays a → IsSeenOf stays b → c.uniform ≡ (a.uniform || b.uniform) → c.complete ≡ (a.complete || b.complete) → IsSeenOf stays c
+either_seen stays a b c first second uniform complete = record {
+  uniform = rw uniform (true_or (IsUniform stays) a.uniform b.uniform first.uniform second.uniform);
+  complete = rw complete (true_or (IsComplete stays) a.complete b.complete first.complete second.complete);
+}

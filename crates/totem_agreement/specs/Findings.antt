@@ -1,6 +1,7 @@
 -- What one job finds: for each specification of the last pass the least events that break it in one regular configuration,
 -- or that the run meets it there (docs/SPECIFICATIONS.md, "Passes").
-use Rattle.std.specs.Prelude.{◌≡◌, ◌++◌, List, [], None}
+use Rattle.std.specs.Prelude.{◌≡◌, ◌++◌, ℕ, Bool, true, List, [], ◌∷◌, length, slice_get, Some, None}
+use Rattle.std.specs.Bool.{OnTrue}
 use Rattle.totem_ids.specs.declared.ring.RingId.{RingId}
 use Rattle.totem_evs.specs.declared.log.Log.{Log}
 use Rattle.totem_evs.specs.declared.spec.SpecNo.TheVariants as spec
@@ -9,6 +10,7 @@ use Rattle.totem_evs.specs.Answers.{FindsIn, ListsRings}
 use Rattle.totem_passes.specs.Listed.{listed}
 use Rattle.totem_agreement.specs.declared.findings.Findings.{Findings}
 use Rattle.totem_agreement.specs.declared.pass.Found.{Found}
+use Rattle.totem_agreement.specs.Pendings.{HasNonePending}
 
 pub record AreFindings (run : List Log) (c : RingId) (findings : Findings) : Type 0 where
   pub own : FindsIn run c spec.OwnDelivery findings.own
@@ -17,6 +19,7 @@ pub record AreFindings (run : List Log) (c : RingId) (findings : Findings) : Typ
   pub gap : FindsIn run c spec.Gap findings.gap
   pub safety : FindsIn run c spec.Safety findings.safety
   pub installed : FindsIn run c spec.Installed findings.installed
+  pub complete : OnTrue findings.complete (HasNonePending run c)
 
 -- nothing is broken
 pub record AreNone (findings : Findings) : Type 0 where
@@ -35,8 +38,9 @@ pub record IsNothing (found : Found) : Type 0 where
   pub gap : found.gap.items ≡ []
   pub safety : found.safety.items ≡ []
   pub installed : found.installed.items ≡ []
+  pub complete : found.complete.items ≡ []
 
--- each list has what was found for its specification behind what it had
+-- each list has what was found for its specification behind what it had, and the flags have one more
 pub record GrowsBy (old : Found) (findings : Findings) (new : Found) : Type 0 where
   pub own : new.own.items ≡ old.own.items ++ listed spec.OwnDelivery findings.own
   pub atomicity : new.atomicity.items ≡ old.atomicity.items ++ listed spec.Atomicity findings.atomicity
@@ -44,12 +48,17 @@ pub record GrowsBy (old : Found) (findings : Findings) (new : Found) : Type 0 wh
   pub gap : new.gap.items ≡ old.gap.items ++ listed spec.Gap findings.gap
   pub safety : new.safety.items ≡ old.safety.items ++ listed spec.Safety findings.safety
   pub installed : new.installed.items ≡ old.installed.items ++ listed spec.Installed findings.installed
+  pub complete : new.complete.items ≡ old.complete.items ++ findings.complete ∷ []
 
 -- all lists, one behind the other
 abbrev pub all_found : Found → List Fault
 all_found found = found.own.items ++ (found.atomicity.items ++ (found.causality.items ++ (found.gap.items ++ (found.safety.items ++ found.installed.items))))
 
--- the faults of each specification in these configurations
+-- nothing is pending in a configuration whose flag is set
+pub record AreComplete (run : List Log) (cs : List RingId) (complete : List Bool) : Type 0 where
+  pub each : (k : ℕ) (c : RingId) → slice_get cs k ≡ Some c → slice_get complete k ≡ Some true → HasNonePending run c
+
+-- the faults of each specification in these configurations, and a flag for each of these
 pub record AreFound (run : List Log) (cs : List RingId) (found : Found) : Type 0 where
   pub own : ListsRings run spec.OwnDelivery cs found.own.items
   pub atomicity : ListsRings run spec.Atomicity cs found.atomicity.items
@@ -57,3 +66,5 @@ pub record AreFound (run : List Log) (cs : List RingId) (found : Found) : Type 0
   pub gap : ListsRings run spec.Gap cs found.gap.items
   pub safety : ListsRings run spec.Safety cs found.safety.items
   pub installed : ListsRings run spec.Installed cs found.installed.items
+  pub long : length found.complete.items ≡ length cs
+  pub complete : AreComplete run cs found.complete.items

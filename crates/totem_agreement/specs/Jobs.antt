@@ -5,6 +5,7 @@ use Rattle.totem_ids.specs.contracts.ring.RingIdOrd.TheImpl as ring
 use Rattle.totem_passes.specs.contracts.visit.VisitOrd.TheImpl as visit
 use Rattle.totem_evs.specs.declared.log.Log.{Log}
 use Rattle.totem_evs.specs.Answers.{MeetsPasses, AreRings}
+use Rattle.totem_table.specs.Changes.{AreChanges}
 use Rattle.totem_agreement.specs.declared.findings.Findings.{Findings}
 use Rattle.totem_agreement.specs.declared.jobs.Jobs.{Jobs}
 use Rattle.totem_agreement.specs.Comings.{HoldsComings}
@@ -15,6 +16,7 @@ pub record AreJobs (run : List Log) (jobs : Jobs) : Type 0 where
   pub logs : jobs.run.now.logs ≡ run
   pub meets : MeetsPasses run
   pub rings : AreRings run jobs.rings.items
+  pub changes : AreChanges run jobs.changes.rows.items
   pub comings : HoldsComings ring.cmp-value.it visit.cmp-value.it jobs.comings.rings jobs.comings.indices run
 
 -- what is found in the configuration at this index of the list, if there is one

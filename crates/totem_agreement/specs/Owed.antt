@@ -1,5 +1,6 @@
 -- What a stay lacks of the messages of its configuration (docs/DECISIONS.md, "The audit").
 use Rattle.std.specs.Prelude.{◌⊎◌, ◌≡◌, ℕ, ◌<◌, ◌≤◌, Bool, true, false, List, length, slice_get, slice_index_or, Some}
+use Rattle.std.specs.Bool.{OnTrue}
 use Rattle.totem_ids.specs.declared.conf.ConfId.{ConfId}
 use Rattle.totem_ids.specs.declared.message.MsgId.{MsgId}
 use Rattle.totem_ids.specs.declared.message.Service.TheVariants.{Safe}
@@ -8,8 +9,9 @@ use Rattle.totem_agreement.specs.declared.stay.Stay.{Stay}
 use Rattle.totem_agreement.specs.declared.replay.Replay.{Replay}
 use Rattle.totem_agreement.specs.declared.origins.Origin.{Origin}
 use Rattle.totem_agreement.specs.declared.uniform.Alignment.{Alignment}
+use Rattle.totem_agreement.specs.declared.uniform.Uniformity.{Uniformity}
 use Rattle.totem_agreement.specs.Stays.{IsExcused}
-use Rattle.totem_agreement.specs.Uniform.{HasPlace, HasMembers, IsTurnMember, IsBeyond, AreReplays, AreOrigins}
+use Rattle.totem_agreement.specs.Uniform.{HasPlace, HasMembers, IsTurnMember, IsBeyond, IsComplete, AreReplays, AreOrigins}
 
 -- the list tells of each number below n whether it is one of the places
 pub record TellsPlaces (places : List ℕ) (n : ℕ) (has : List Bool) : Type 0 where
@@ -113,3 +115,8 @@ pub record IsUniform (stays : List Stay) : Type 0 where
   pub are : AreReplays messages stays replays
   pub order : AreOrigins replays messages origins taken
   pub settled : AllSettled stays replays origins taken
+
+-- what is seen of a configuration is so
+pub record IsSeenOf (stays : List Stay) (seen : Uniformity) : Type 0 where
+  pub uniform : OnTrue seen.uniform (IsUniform stays)
+  pub complete : OnTrue seen.complete (IsComplete stays)

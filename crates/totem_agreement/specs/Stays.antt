@@ -9,14 +9,8 @@ use Rattle.totem_evs.specs.declared.log.Log.{Log}
 use Rattle.totem_evs.specs.Events.{IsChange, ChangesTo, IsQuiet, log_of}
 use Rattle.totem_evs.specs.Changes.{Names}
 use Rattle.totem_evs.specs.Following.{IsNextChange, Follows, Com, NeverFails, FailedIn, StaysIn}
+use Rattle.totem_table.specs.Changes.{IsNextOrEnd}
 use Rattle.totem_agreement.specs.declared.stay.Stay.{Stay}
-
--- j is the next change after i, or the end of the log where no change follows
-pub record IsNextOrEnd (log : List Entry) (i j : ℕ) : Type 0 where
-  pub later : i < j
-  pub within : j ≤ length log
-  pub change : j < length log → IsChange log j
-  pub none_between : (k : ℕ) → i < k → k < j → IsChange log k → ⊥
 
 -- from i on the next change stands at j, and the one after that at k; where there is no next one, k is j
 pub record AreNextTwo (log : List Entry) (i j k : ℕ) : Type 0 where

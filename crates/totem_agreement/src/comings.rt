@@ -7,7 +7,8 @@ use std::alloc::{AllocError, Global};
 use std::collections::{BTreeMap, BTreeSet};
 use totem_evs::{Entry, Run};
 use totem_ids::{ConfId, Proc, RingId};
-use totem_passes::{Register, Visit, enter_run};
+use totem_passes::{ChangeRegister, Visit, enter_changes};
+use totem_table::Changes;
 
 /// The rings of the regular configurations, and the index at which each process changes to each of these.
 #[derive(Drop)]
@@ -16,19 +17,22 @@ pub struct Comings {
     pub indices: BTreeMap<Visit, usize>,
 }
 
-impl Register for Comings {
+impl ChangeRegister for Comings {
     ghost use Rattle.totem_agreement.specs.Comings.{AreComings, KnowsComing};
 
     ghost sound = { λ s. AreComings ⟦<RingId as Ord>⟧.cmp ⟦<Visit as Ord>⟧.cmp s.rings s.indices };
 
     ghost knows = { λ s. KnowsComing ⟦<RingId as Ord>⟧.cmp ⟦<Visit as Ord>⟧.cmp s.rings s.indices };
 
-    fn enter(
+    fn spares(&self) {}
+
+    fn enter_change(
         &mut self,
         _alloc: Global,
         proc: Proc,
         log: &[Entry],
         at: usize,
+        _next: usize,
     ) -> Result<(), AllocError> {
         let Entry::Conf(conf, _) = &log[at] else {
             return Ok(());
@@ -49,6 +53,7 @@ impl Comings {
     ghost use Rattle.std.specs.BTreeMap as tree;
     ghost use Rattle.std.specs.BTreeSet as sorted;
     ghost use Rattle.totem_evs.specs.Answers.{AreRings, MeetsPasses};
+    ghost use Rattle.totem_table.specs.Changes.{AreChanges};
     ghost use Rattle.totem_agreement.specs.Arrivals.{AreArrivals};
     ghost use Rattle.totem_agreement.specs.Stays.{AreStays};
     ghost use Rattle.totem_agreement.specs.Comings.{HoldsComings};
@@ -63,12 +68,13 @@ impl Comings {
         }
     }
 
-    /// Finds the changes of a run, in n log n steps.
-    pub fn build(alloc: Global, run: &Run) -> Result<Comings, AllocError>
+    /// Keeps the changes of a run to regular configurations, in n log n steps for n changes.
+    pub fn build(alloc: Global, run: &Run, changes: &Changes) -> Result<Comings, AllocError>
+        requires { AreChanges run.now.logs changes.now.rows.items }
         ensures { IfOk result (λ comings. HoldsComings ⟦<RingId as Ord>⟧.cmp ⟦<Visit as Ord>⟧.cmp comings.rings comings.indices run.now.logs) }
     {
         let mut comings = Comings::new(alloc);
-        enter_run(&mut comings, alloc, run)?;
+        enter_changes(&mut comings, alloc, run, changes)?;
         Ok(comings)
     }
 
@@ -106,17 +112,20 @@ impl Comings {
         &self,
         alloc: Global,
         run: &'r Run,
+        changes: &Changes,
         ring: RingId,
     ) -> Result<Vec<Stay<'r>>, AllocError>
         requires comings { HoldsComings ⟦<RingId as Ord>⟧.cmp ⟦<Visit as Ord>⟧.cmp self.now.rings self.now.indices run.now.logs }
         requires meets { MeetsPasses run.now.logs }
+        requires changes { AreChanges run.now.logs changes.now.rows.items }
         ensures { IfOk result (λ list. AreStays run.now.logs ring list.items) }
     {
         let arrivals = self.arrivals(alloc, run, ring)?;
         let mut list = Vec::new(alloc);
         let logs = run.logs.as_slice();
         for arrival in &arrivals {
-            let stay = stay_from(&logs[arrival.log], arrival.at);
+            let row = changes.rows[arrival.log].as_slice();
+            let stay = stay_from(&logs[arrival.log], row, arrival.at);
             list.extend_from_slice(&[stay])?;
         }
         Ok(list)

@@ -1,4 +1,6 @@
 ghost use Rattle.std.specs.Prelude.{IfOk};
+ghost use Rattle.std.specs.Bool.{OnTrue};
+ghost use Rattle.totem_agreement.specs.Pendings.{HasNonePending};
 ghost use Rattle.totem_agreement.specs.Findings.{AreFindings};
 
 use crate::stays::Stays;
@@ -22,14 +24,18 @@ pub struct Findings {
     pub safety: Option<Places>,
     /// What breaks specification 7.2.
     pub installed: Option<Places>,
+    /// Whether nothing is pending in the configuration, as far as is known: `false` says nothing.
+    pub complete: bool,
 }
 
 impl Findings {
+    ghost use Rattle.std.specs.Prelude.{◌≡◌};
     ghost use Rattle.totem_agreement.specs.Findings.{AreNone};
 
-    /// Returns the findings of a configuration in which nothing is broken.
-    pub fn none() -> Findings
-        ensures { AreNone result }
+    /// Returns the findings of a configuration in which nothing is broken, and nothing is pending if it is known to be complete.
+    pub fn none(complete: bool) -> Findings
+        ensures none { AreNone result }
+        ensures complete { result.complete ≡ complete }
     {
         Findings {
             own: None,
@@ -38,12 +44,14 @@ impl Findings {
             gap: None,
             safety: None,
             installed: None,
+            complete,
         }
     }
 }
 
-/// Does the job of one regular configuration.
-pub fn findings_in(alloc: Global, stays: &Stays) -> Result<Findings, AllocError>
+/// Does the job of one regular configuration. If it is known to be complete, nothing is pending in it.
+pub fn findings_in(alloc: Global, stays: &Stays, complete: bool) -> Result<Findings, AllocError>
+    requires { OnTrue complete (HasNonePending stays.now.run.now.logs stays.now.ring) }
     ensures { IfOk result (AreFindings stays.now.run.now.logs stays.now.ring) }
 {
     Ok(Findings {
@@ -53,5 +61,6 @@ pub fn findings_in(alloc: Global, stays: &Stays) -> Result<Findings, AllocError>
         gap: gap::find(alloc, stays)?,
         safety: safety::find(alloc, stays)?,
         installed: installed::find(alloc, stays)?,
+        complete,
     })
 }

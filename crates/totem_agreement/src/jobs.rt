@@ -1,15 +1,18 @@
 //! The jobs of the last pass: one for each regular configuration of a run (docs/SPECIFICATIONS.md, "Passes").
 ghost use Rattle.std.specs.Prelude.{◌<◌, IfOk, vec_len};
 ghost use Rattle.totem_evs.specs.Answers.{MeetsPasses};
+ghost use Rattle.totem_table.specs.Changes.{AreChanges};
 ghost use Rattle.totem_agreement.specs.Jobs.{AreJobs, AreFindingsAt};
 
+use crate::closed::is_closed;
 use crate::comings::Comings;
 use crate::findings::{Findings, findings_in};
 use crate::stays::Stays;
-use crate::uniform::is_uniform;
+use crate::uniform::uniformity_of;
 use std::alloc::{AllocError, Global};
 use totem_evs::Run;
 use totem_ids::RingId;
+use totem_table::Changes;
 
 /// The jobs of a run that has passed the passes before, in the order of their configurations. Each sees no other part of the run
 /// than its configuration and what follows it, so they can be done in any order and by any thread.
@@ -19,6 +22,7 @@ pub struct Jobs<'r> {
     /// The configurations, by ring number and then by representative.
     pub rings: Vec<RingId>,
     pub comings: Comings,
+    pub changes: Changes,
 }
 
 impl<'r> Jobs<'r> {
@@ -27,12 +31,23 @@ impl<'r> Jobs<'r> {
         requires { MeetsPasses run.now.logs }
         ensures { IfOk result (AreJobs run.now.logs) }
     {
-        let comings = Comings::build(alloc, run)?;
+        let changes = Changes::of(alloc, run)?;
+        Jobs::over(alloc, run, changes)
+    }
+
+    /// Builds the list of a run's jobs as `build` does, where the changes of the run are known.
+    pub fn over(alloc: Global, run: &'r Run, changes: Changes) -> Result<Jobs<'r>, AllocError>
+        requires meets { MeetsPasses run.now.logs }
+        requires changes { AreChanges run.now.logs changes.rows.items }
+        ensures { IfOk result (AreJobs run.now.logs) }
+    {
+        let comings = Comings::build(alloc, run, &changes)?;
         let rings = comings.rings(alloc)?;
         Ok(Jobs {
             run,
             rings,
             comings,
+            changes,
         })
     }
 
@@ -43,11 +58,13 @@ impl<'r> Jobs<'r> {
         ensures { IfOk result (AreFindingsAt self.now.run.now.logs self.now.rings.items index) }
     {
         let ring = self.rings[index];
-        let list = self.comings.stays(alloc, self.run, ring)?;
-        if is_uniform(alloc, &list)? {
-            return Ok(Findings::none());
+        let list = self.comings.stays(alloc, self.run, &self.changes, ring)?;
+        let seen = uniformity_of(alloc, &list)?;
+        let closed = is_closed(self.run, ring, &list, seen.complete);
+        if seen.uniform {
+            return Ok(Findings::none(closed));
         }
         let stays = Stays::build(alloc, self.run, ring, list)?;
-        findings_in(alloc, &stays)
+        findings_in(alloc, &stays, closed)
     }
 }

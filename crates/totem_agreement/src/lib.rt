@@ -6,6 +6,7 @@ mod alike;
 mod arrival;
 mod atomicity;
 mod causality;
+mod closed;
 mod comings;
 mod entries;
 mod findings;
@@ -33,6 +34,6 @@ mod waitings;
 
 pub use findings::Findings;
 pub use jobs::Jobs;
-pub use pass::{Found, pass_d, pass_d_of};
+pub use pass::{Found, Judged, pass_d, pass_d_of};
 pub use pendings::{pending, pending_of};
 pub use waitings::waiting;

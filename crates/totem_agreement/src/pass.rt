@@ -1,6 +1,7 @@
 //! Pass D of the audit (docs/SPECIFICATIONS.md, "Passes").
 ghost use Rattle.std.specs.Prelude.{◌≡◌, ◌++◌, IfOk};
 ghost use Rattle.totem_evs.specs.Answers.{MeetsPasses, ListsConfigurations};
+ghost use Rattle.totem_agreement.specs.Findings.{AreComplete};
 ghost use Rattle.totem_agreement.specs.Jobs.{AreJobs};
 
 use crate::findings::Findings;
@@ -8,6 +9,14 @@ use crate::jobs::Jobs;
 use std::alloc::{AllocError, Global};
 use totem_evs::{Fault, Run, SpecNo};
 use totem_passes::with_found;
+
+/// What the jobs of the pass come to.
+#[derive(Drop)]
+pub struct Judged {
+    pub faults: Vec<Fault>,
+    /// For each job in their order whether nothing is pending in its configuration, as far as is known: `false` says nothing.
+    pub complete: Vec<bool>,
+}
 
 /// The faults of each specification: one for each configuration in which it is broken, in their order.
 #[derive(Drop)]
@@ -18,6 +27,8 @@ pub struct Found {
     pub gap: Vec<Fault>,
     pub safety: Vec<Fault>,
     pub installed: Vec<Fault>,
+    /// For each configuration whether it is known that nothing is pending in it.
+    pub complete: Vec<bool>,
 }
 
 /// Returns the list with the other behind it.
@@ -45,6 +56,7 @@ impl Found {
             gap: Vec::new(alloc),
             safety: Vec::new(alloc),
             installed: Vec::new(alloc),
+            complete: Vec::new(alloc),
         }
     }
 
@@ -52,6 +64,8 @@ impl Found {
     pub fn with(self, findings: Findings) -> Result<Found, AllocError>
         ensures { IfOk result (GrowsBy self findings) }
     {
+        let mut complete = self.complete;
+        complete.push(findings.complete)?;
         Ok(Found {
             own: with_found(self.own, SpecNo::OwnDelivery, findings.own)?,
             atomicity: with_found(self.atomicity, SpecNo::Atomicity, findings.atomicity)?,
@@ -59,32 +73,37 @@ impl Found {
             gap: with_found(self.gap, SpecNo::Gap, findings.gap)?,
             safety: with_found(self.safety, SpecNo::Safety, findings.safety)?,
             installed: with_found(self.installed, SpecNo::Installed, findings.installed)?,
+            complete,
         })
     }
 
-    /// Returns all faults, specification by specification.
-    pub fn into_faults(self) -> Result<Vec<Fault>, AllocError>
-        ensures { IfOk result (λ faults. faults.items ≡ all_found self) }
+    /// Returns all faults, specification by specification, and where nothing is known to be pending.
+    pub fn into_judged(self) -> Result<Judged, AllocError>
+        ensures faults { IfOk result (λ judged. judged.faults.items ≡ all_found self) }
+        ensures complete { IfOk result (λ judged. judged.complete.items ≡ self.complete.items) }
     {
+        let complete = self.complete;
         let gaps = joined(self.gap, joined(self.safety, self.installed)?)?;
-        joined(
+        let faults = joined(
             self.own,
             joined(self.atomicity, joined(self.causality, gaps)?)?,
-        )
+        )?;
+        Ok(Judged { faults, complete })
     }
 }
 
 /// Does these jobs in their order, on the thread that asks. Returns, for each of 3, 4, 5, 6.3, 7.1 and 7.2 and for each regular
-/// configuration in which the run breaks it, the least events that do.
-pub fn pass_d_of(alloc: Global, jobs: &Jobs<'_>) -> Result<Vec<Fault>, AllocError>
+/// configuration in which the run breaks it, the least events that do, and in which configurations nothing is known to be pending.
+pub fn pass_d_of(alloc: Global, jobs: &Jobs<'_>) -> Result<Judged, AllocError>
     requires { AreJobs jobs.now.run.now.logs jobs.now }
-    ensures { IfOk result (λ faults. ListsConfigurations jobs.now.run.now.logs faults.items) }
+    ensures faults { IfOk result (λ judged. ListsConfigurations jobs.now.run.now.logs judged.faults.items) }
+    ensures complete { IfOk result (λ judged. AreComplete jobs.now.run.now.logs jobs.now.rings.items judged.complete.items) }
 {
     let mut found = Found::new(alloc);
     for index in 0..jobs.rings.len() {
         found = found.with(jobs.findings(alloc, index)?)?;
     }
-    found.into_faults()
+    found.into_judged()
 }
 
 /// Does pass D of a run that has passed the others.
@@ -93,5 +112,6 @@ pub fn pass_d(alloc: Global, run: &Run) -> Result<Vec<Fault>, AllocError>
     ensures { IfOk result (λ faults. ListsConfigurations run.now.logs faults.items) }
 {
     let jobs = Jobs::build(alloc, run)?;
-    pass_d_of(alloc, &jobs)
+    let judged = pass_d_of(alloc, &jobs)?;
+    Ok(judged.faults)
 }

@@ -1,22 +1,22 @@
 //! What is pending (docs/SPECIFICATIONS.md, "Pending and waiting").
-ghost use Rattle.std.specs.Prelude.{◌≡◌, ◌↔◌, ◌<◌, [], ◌∷◌, IsTrue, IfSome, IfNone, IfOk, OnOk, All, length};
+ghost use Rattle.std.specs.Prelude.{◌≡◌, ◌↔◌, ◌<◌, [], ◌∷◌, true, IsTrue, IfSome, IfNone, IfOk, OnOk, length, slice_get};
 ghost use Rattle.std.specs.Bool.{OnTrue};
 ghost use Rattle.std.specs.BTreeSet as sorted;
 ghost use Rattle.totem_evs.specs.Answers.{MeetsPasses};
 ghost use Rattle.totem_evs.specs.Following.{OpenIn};
 ghost use Rattle.totem_evs.specs.Unsettled.{ArePending, IsPending};
 ghost use Rattle.totem_agreement.specs.Acts.{IsAmong};
-ghost use Rattle.totem_agreement.specs.Stays.{AreStays};
 ghost use Rattle.totem_agreement.specs.Jobs.{AreJobs};
 ghost use Rattle.totem_agreement.specs.Kept.{AreKept};
-ghost use Rattle.totem_agreement.specs.Pendings.{Adds, MissesNone, MissesAt, MissesNothingAt, MissesFrom, Misses, IsPendingIn, IsPlacedStay, EndsClosed, HasNonePending};
+ghost use Rattle.totem_agreement.specs.Pendings.{Adds, MissesNone, MissesAt, MissesNothingAt, MissesFrom, Misses, IsPendingIn};
+ghost use Rattle.totem_agreement.specs.Findings.{AreComplete};
 
+use crate::closed::is_closed;
 use crate::jobs::Jobs;
 use crate::kept::{Delivery, Kept};
 use crate::ring_stays::RingStays;
 use crate::standing::has_failed;
 use crate::stay::Stay;
-use crate::uniform::is_complete;
 use std::alloc::{AllocError, Global};
 use std::collections::BTreeSet;
 use totem_evs::{Entry, Pending, Run};
@@ -167,38 +167,6 @@ fn add_pending(
     Ok(())
 }
 
-/// Whether none of these processes is open in its stay: each goes on, is quiet, or has failed.
-fn none_is_open(stays: &[Stay]) -> bool
-    requires { All IsPlacedStay stays.now }
-    ensures { OnTrue result (All EndsClosed stays.now) }
-{
-    for stay in stays {
-        let failed = has_failed(stay.log);
-        if stay.is_excused() && !failed {
-            return false;
-        }
-    }
-    true
-}
-
-/// Whether nothing is pending in the regular configuration of a ring with these stays. A no is not to be trusted.
-fn has_nothing_pending(
-    alloc: Global,
-    run: &Run,
-    ring: RingId,
-    stays: &[Stay],
-) -> Result<bool, AllocError>
-    requires meets { MeetsPasses run.now.logs }
-    requires are { AreStays run.now.logs ring stays.now }
-    ensures { IfOk result (λ nothing. OnTrue nothing (HasNonePending run.now.logs ring)) }
-{
-    let _ = run.logs.as_slice();
-    if none_is_open(stays) {
-        return Ok(true);
-    }
-    is_complete(alloc, stays)
-}
-
 /// The elements of the set, in their order.
 fn in_order(alloc: Global, set: &BTreeSet<Pending>) -> Result<Vec<Pending>, AllocError>
     ensures items { IfOk result (λ list. list.items ≡ set.now.keys) }
@@ -211,18 +179,49 @@ fn in_order(alloc: Global, set: &BTreeSet<Pending>) -> Result<Vec<Pending>, Allo
     Ok(list)
 }
 
-/// Returns all that is pending in the run of these jobs, by process and then by message.
-pub fn pending_of(alloc: Global, jobs: &Jobs<'_>) -> Result<Vec<Pending>, AllocError>
+/// Adds what is pending in the configuration of this ring.
+fn add_ring(
+    alloc: Global,
+    set: &mut BTreeSet<Pending>,
+    jobs: &Jobs<'_>,
+    ring: RingId,
+) -> Result<(), AllocError>
     requires { AreJobs jobs.now.run.now.logs jobs.now }
+    ensures { OnOk result (Adds ⟦<Pending as Ord>⟧.cmp (IsPendingIn jobs.now.run.now.logs ring) set.old set.new) }
+{
+    let list = jobs.comings.stays(alloc, jobs.run, &jobs.changes, ring)?;
+    if is_closed(jobs.run, ring, &list, false) {
+        return Ok(());
+    }
+    let stays = RingStays::build(alloc, jobs.run, ring, list)?;
+    add_pending(alloc, set, &stays)
+}
+
+/// Whether the flag at this index is set. One that is not there is not.
+fn is_set(flags: &[bool], index: usize) -> bool
+    ensures { OnTrue result (slice_get flags.now index ≡ Some true) }
+{
+    match flags.get(index) {
+        Some(flag) => *flag,
+        None => false,
+    }
+}
+
+/// Returns all that is pending in the run of these jobs, by process and then by message. Nothing is looked for where it is known of a
+/// job that nothing is pending.
+pub fn pending_of(
+    alloc: Global,
+    jobs: &Jobs<'_>,
+    complete: &[bool],
+) -> Result<Vec<Pending>, AllocError>
+    requires jobs { AreJobs jobs.now.run.now.logs jobs.now }
+    requires complete { AreComplete jobs.now.run.now.logs jobs.now.rings.items complete.now }
     ensures { IfOk result (λ list. ArePending jobs.now.run.now.logs list.items) }
 {
-    let run = jobs.run;
     let mut set = BTreeSet::new(alloc);
-    for ring in &jobs.rings {
-        let list = jobs.comings.stays(alloc, run, *ring)?;
-        if !has_nothing_pending(alloc, run, *ring, &list)? {
-            let stays = RingStays::build(alloc, run, *ring, list)?;
-            add_pending(alloc, &mut set, &stays)?;
+    for (k, ring) in jobs.rings.iter().enumerate() {
+        if !is_set(complete, k) {
+            add_ring(alloc, &mut set, jobs, *ring)?;
         }
     }
     in_order(alloc, &set)
@@ -234,5 +233,5 @@ pub fn pending(alloc: Global, run: &Run) -> Result<Vec<Pending>, AllocError>
     ensures { IfOk result (λ list. ArePending run.now.logs list.items) }
 {
     let jobs = Jobs::build(alloc, run)?;
-    pending_of(alloc, &jobs)
+    pending_of(alloc, &jobs, &[])
 }

@@ -38,17 +38,68 @@ fn fullest<'s, 'r>(stays: &'s [Stay<'r>], regular: bool) -> Option<&'s Stay<'r>>
     found
 }
 
-/// What the stay that delivers most delivers.
-pub fn sequence_of(alloc: Global, stays: &[Stay]) -> Result<Vec<MsgId>, AllocError> {
+/// The stay over the most entries, or none where there are no stays.
+fn longest<'s, 'r>(stays: &'s [Stay<'r>]) -> Option<&'s Stay<'r>> {
+    let mut most = 0;
+    let mut found = stays.first();
+    for stay in stays {
+        let span = stay.end.saturating_sub(stay.from);
+        if span > most {
+            most = span;
+            found = Some(stay);
+        }
+    }
+    found
+}
+
+/// What the stay delivers.
+fn delivered_by(alloc: Global, stay: &Stay) -> Result<Vec<MsgId>, AllocError> {
     let mut messages = Vec::new(alloc);
-    if let Some(stay) = fullest(stays, false) {
-        for at in stay.from..stay.end {
-            if let Some(message) = delivered_at(stay, at) {
-                messages.push(message)?;
-            }
+    for at in stay.from..stay.end {
+        if let Some(message) = delivered_at(stay, at) {
+            messages.push(message)?;
         }
     }
     Ok(messages)
+}
+
+/// What the stay over the most entries delivers. No entries are counted for it.
+pub fn longest_sequence_of(alloc: Global, stays: &[Stay]) -> Result<Vec<MsgId>, AllocError> {
+    match longest(stays) {
+        Some(stay) => delivered_by(alloc, stay),
+        None => Ok(Vec::new(alloc)),
+    }
+}
+
+/// Whether these are the same messages in the same order.
+fn are_same(messages: &[MsgId], others: &[MsgId]) -> bool {
+    if messages.len() != others.len() {
+        return false;
+    }
+    for (place, message) in messages.iter().enumerate() {
+        if others[place] != *message {
+            return false;
+        }
+    }
+    true
+}
+
+/// What the stay that delivers most delivers. Returns `None` where the stay over the most entries delivers the same.
+pub fn fullest_sequence_of(
+    alloc: Global,
+    stays: &[Stay],
+) -> Result<Option<Vec<MsgId>>, AllocError> {
+    let (Some(first), Some(stay)) = (longest(stays), fullest(stays, false)) else {
+        return Ok(None);
+    };
+    if stay.proc == first.proc {
+        return Ok(None);
+    }
+    let messages = delivered_by(alloc, stay)?;
+    if are_same(&messages, &delivered_by(alloc, first)?) {
+        return Ok(None);
+    }
+    Ok(Some(messages))
 }
 
 /// What the stays deliver behind the regular configuration, in the order of the messages, each as often as it is delivered there.

@@ -1,11 +1,13 @@
 //! The part of a log that stands in a regular configuration and in what follows it.
 ghost use Rattle.std.specs.Prelude.{◌≡◌, ◌↔◌, ◌<◌, IsTrue, length};
 ghost use Rattle.std.specs.Bool.{OnTrue};
-ghost use Rattle.totem_agreement.specs.Stays.{IsNextOrEnd, AreNextTwo, IsExcused};
+ghost use Rattle.totem_table.specs.Changes.{ListsChanges, IsNextOrEnd};
+ghost use Rattle.totem_agreement.specs.Stays.{AreNextTwo, IsExcused};
 ghost use Rattle.totem_agreement.specs.Acts.{DeliversHere};
 
 use totem_evs::{Ending, Entry, Log};
 use totem_ids::{MsgId, Proc};
+use totem_table::next_change;
 
 /// The stay of a process: its log changes to the regular configuration at `from` and to what follows that at `turn`, and
 /// the entries before `end` are those that stand in these two. Where nothing follows, `turn` is `end`. A log may be quiet: nothing
@@ -42,8 +44,8 @@ impl Stay<'_> {
     }
 }
 
-/// The index of the next change after this index, or the length of the log where none follows.
-fn next_change(log: &[Entry], at: usize) -> usize
+/// The index of the next change after this index, or the length of the log where none follows, found entry by entry.
+fn walk_to_change(log: &[Entry], at: usize) -> usize
     requires { at < length log.now }
     ensures { IsNextOrEnd log.now at result }
 {
@@ -55,9 +57,30 @@ fn next_change(log: &[Entry], at: usize) -> usize
     log.len()
 }
 
-/// The part of a log from this index up to the change after the next one.
-pub fn stay_from(log: &Log, from: usize) -> Stay<'_>
-    requires { from < length log.now.entries }
+/// Where among the changes the one at this index is likely to stand, counted from 0. Nothing is claimed of it: whoever takes it looks
+/// there.
+fn number_of(changes: &[u32], at: usize) -> usize {
+    changes.partition_point(|change| (*change as usize) < at)
+}
+
+/// The index of the next change after this index, or the length of the log where none follows. Where the change of this number stands at
+/// this index, the list of the changes tells it.
+fn change_after(log: &[Entry], changes: &[u32], at: usize, number: usize) -> usize
+    requires lists { ListsChanges log.now (length log.now) changes.now }
+    requires within { at < length log.now }
+    ensures { IsNextOrEnd log.now at result }
+{
+    if number < changes.len() && changes[number] as usize == at {
+        next_change(log, changes, number)
+    } else {
+        walk_to_change(log, at)
+    }
+}
+
+/// The part of a log from this index up to the change after the next one. `changes` lists the changes of the log.
+pub fn stay_from<'r>(log: &'r Log, changes: &[u32], from: usize) -> Stay<'r>
+    requires lists { ListsChanges log.now.entries (length log.now.entries) changes.now }
+    requires within { from < length log.now.entries }
     ensures proc { result.proc ≡ log.now.proc }
     ensures log { result.log.now ≡ log.now.entries }
     ensures quiet { IsTrue result.quiet ↔ (log.now.ending ≡ Ending.Quiet) }
@@ -65,9 +88,10 @@ pub fn stay_from(log: &Log, from: usize) -> Stay<'_>
     ensures next { AreNextTwo log.now.entries from result.turn result.end }
 {
     let entries = log.entries.as_slice();
-    let turn = next_change(entries, from);
+    let number = number_of(changes, from);
+    let turn = change_after(entries, changes, from, number);
     let end = if turn < entries.len() {
-        next_change(entries, turn)
+        change_after(entries, changes, turn, number.saturating_add(1))
     } else {
         turn
     };

@@ -1,16 +1,16 @@
 //! A quick test of 3 to 7 in one regular configuration: it is uniform where all processes deliver messages of one sequence in its order,
 //! and who lacks one of them is excused (docs/DECISIONS.md, "The audit"). It takes a few walks through each stay, and no map.
-ghost use Rattle.std.specs.Prelude.{◌≡◌, ◌<◌, IfOk, IfSome, All, length, slice_index_or};
+ghost use Rattle.std.specs.Prelude.{◌≡◌, ◌<◌, ◌||◌, IfOk, IfSome, All, length, slice_index_or};
 ghost use Rattle.std.specs.Bool.{OnTrue};
 ghost use Rattle.totem_agreement.specs.Stays.{IsShortStay, HasStay};
-ghost use Rattle.totem_agreement.specs.Uniform.{HasAll, HasMembers, EachComplete, IsComplete};
-ghost use Rattle.totem_agreement.specs.Owed.{IsAlignment, PaysBy, SettledAt, AllSettled, IsUniform};
+ghost use Rattle.totem_agreement.specs.Uniform.{HasAll, HasMembers, EachComplete};
+ghost use Rattle.totem_agreement.specs.Owed.{IsAlignment, PaysBy, SettledAt, AllSettled, IsSeenOf};
 
 use crate::alike::{all_go_alike, joins};
 use crate::origins::{Origins, origins_of};
 use crate::owed::{has_own, has_safe, is_full, is_orderly, last_place, tell_places};
 use crate::replay::{Replay, replay_all};
-use crate::sequence::{ordered_sequence, sequence_of};
+use crate::sequence::{fullest_sequence_of, longest_sequence_of, ordered_sequence};
 use crate::stay::Stay;
 use crate::stays::members_of;
 use std::alloc::{AllocError, Global};
@@ -147,28 +147,6 @@ fn all_settled(
     Ok(true)
 }
 
-/// Whether the configuration is uniform with this sequence.
-fn is_uniform_along(alloc: Global, stays: &[Stay], messages: Vec<MsgId>) -> Result<bool, AllocError>
-    requires { All IsShortStay stays.now }
-    ensures { IfOk result (λ uniform. OnTrue uniform (IsUniform stays.now)) }
-{
-    match aligned(alloc, stays, messages)? {
-        Some(found) => all_settled(alloc, stays, &found.replays, &found.origins),
-        None => Ok(false),
-    }
-}
-
-/// Whether the configuration is uniform. A no is not to be trusted.
-pub fn is_uniform(alloc: Global, stays: &[Stay]) -> Result<bool, AllocError>
-    requires { All IsShortStay stays.now }
-    ensures { IfOk result (λ uniform. OnTrue uniform (IsUniform stays.now)) }
-{
-    if is_uniform_along(alloc, stays, sequence_of(alloc, stays)?)? {
-        return Ok(true);
-    }
-    is_uniform_along(alloc, stays, ordered_sequence(alloc, stays)?)
-}
-
 /// Whether each replay has all of the messages, and all of its sends are taken.
 fn are_complete(replays: &[Replay], messages: usize, taken: &[usize]) -> bool
     requires { length replays.now ≡ length taken.now }
@@ -182,13 +160,78 @@ fn are_complete(replays: &[Replay], messages: usize, taken: &[usize]) -> bool
     true
 }
 
-/// Whether all that was sent in the configuration is delivered by all who came to it. A no is not to be trusted.
-pub fn is_complete(alloc: Global, stays: &[Stay]) -> Result<bool, AllocError>
-    requires { All IsShortStay stays.now }
-    ensures { IfOk result (λ complete. OnTrue complete (IsComplete stays.now)) }
+/// What is seen of a configuration by laying its stays beside a sequence. A no is not to be trusted.
+#[derive(Clone, Copy)]
+pub struct Uniformity {
+    /// Whether the configuration is uniform.
+    pub uniform: bool,
+    /// Whether all that was sent in the configuration is delivered by all who came to it.
+    pub complete: bool,
+}
+
+/// What is seen in either way.
+fn either(first: Uniformity, second: Uniformity) -> Uniformity
+    ensures uniform { result.uniform ≡ (first.uniform || second.uniform) }
+    ensures complete { result.complete ≡ (first.complete || second.complete) }
 {
-    match aligned(alloc, stays, sequence_of(alloc, stays)?)? {
-        Some(found) => Ok(are_complete(&found.replays, found.messages.len(), &found.origins.taken)),
-        None => Ok(false),
+    Uniformity {
+        uniform: first.uniform || second.uniform,
+        complete: first.complete || second.complete,
     }
+}
+
+/// What is seen with this sequence.
+fn uniformity_along(
+    alloc: Global,
+    stays: &[Stay],
+    messages: Vec<MsgId>,
+) -> Result<Uniformity, AllocError>
+    requires { All IsShortStay stays.now }
+    ensures { IfOk result (IsSeenOf stays.now) }
+{
+    let Some(found) = aligned(alloc, stays, messages)? else {
+        return Ok(Uniformity {
+            uniform: false,
+            complete: false,
+        });
+    };
+    let uniform = all_settled(alloc, stays, &found.replays, &found.origins)?;
+    let complete = are_complete(&found.replays, found.messages.len(), &found.origins.taken);
+    Ok(Uniformity { uniform, complete })
+}
+
+/// What is seen with the sequence of the stay that delivers most besides what is seen with that of the stay over the most entries.
+fn uniformity_of_fullest(
+    alloc: Global,
+    stays: &[Stay],
+    first: Uniformity,
+) -> Result<Uniformity, AllocError>
+    requires short { All IsShortStay stays.now }
+    requires first { IsSeenOf stays.now first }
+    ensures { IfOk result (IsSeenOf stays.now) }
+{
+    if first.uniform {
+        return Ok(first);
+    }
+    let Some(messages) = fullest_sequence_of(alloc, stays)? else {
+        return Ok(first);
+    };
+    let second = uniformity_along(alloc, stays, messages)?;
+    Ok(either(first, second))
+}
+
+/// What is seen with the sequences that the stays suggest, up to one with which the configuration is uniform.
+pub fn uniformity_of(alloc: Global, stays: &[Stay]) -> Result<Uniformity, AllocError>
+    requires { All IsShortStay stays.now }
+    ensures { IfOk result (IsSeenOf stays.now) }
+{
+    let longest = longest_sequence_of(alloc, stays)?;
+    let first = uniformity_along(alloc, stays, longest)?;
+    let second = uniformity_of_fullest(alloc, stays, first)?;
+    if second.uniform {
+        return Ok(second);
+    }
+    let ordered = ordered_sequence(alloc, stays)?;
+    let last = uniformity_along(alloc, stays, ordered)?;
+    Ok(either(second, last))
 }

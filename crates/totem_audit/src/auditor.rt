@@ -2,6 +2,7 @@
 ghost use Rattle.std.specs.Prelude.{IfOk};
 ghost use Rattle.totem_evs.specs.Answers.{ListsConfigurations, IsAnswered};
 ghost use Rattle.totem_evs.specs.Meanings.{IsSound};
+ghost use Rattle.totem_agreement.specs.Findings.{AreComplete};
 ghost use Rattle.totem_agreement.specs.Jobs.{AreJobs};
 ghost use Rattle.totem_cert.specs.Keeping.{certificate_version};
 ghost use Rattle.totem_audit.specs.Verdicts.{answer_of, HasVersion};
@@ -15,30 +16,33 @@ use crate::workers::Workers;
 use std::alloc::{AllocError, Global};
 use std::sync::Wait;
 use std::thread::Threads;
-use totem_agreement::{Jobs, pass_d_of, pending_of, waiting};
+use totem_agreement::{Jobs, Judged, pass_d_of, pending_of, waiting};
 use totem_cert::Certificate;
-use totem_evs::{Fault, Run};
+use totem_evs::Run;
+use totem_table::Changes;
 
-/// The verdict of a run that has passed the first three passes, from its jobs and the faults of the last one: where there is none, a
+/// The verdict of a run that has passed the first three passes, from its jobs and what the last one comes to: where that has no fault, a
 /// yes with what is left open.
 fn settle(
     alloc: Global,
     jobs: &Jobs<'_>,
     certificate: Certificate,
-    broken: Vec<Fault>,
+    judged: Judged,
 ) -> Result<Verdict, AllocError>
     requires jobs { AreJobs jobs.now.run.now.logs jobs.now }
     requires passed { IsOrdered jobs.now.run.now.logs certificate.lines }
-    requires broken { ListsConfigurations jobs.now.run.now.logs broken.items }
+    requires faults { ListsConfigurations jobs.now.run.now.logs judged.faults.items }
+    requires complete { AreComplete jobs.now.run.now.logs jobs.now.rings.items judged.complete.items }
     ensures answer { IfOk result (λ verdict. IsAnswered jobs.now.run.now.logs (answer_of verdict)) }
     ensures version { IfOk result (HasVersion certificate.version) }
 {
-    if !broken.is_empty() {
-        return Ok(Verdict::No { faults: broken });
+    let Judged { faults, complete } = judged;
+    if !faults.is_empty() {
+        return Ok(Verdict::No { faults });
     }
     Ok(Verdict::Yes {
         certificate,
-        pending: pending_of(alloc, jobs)?,
+        pending: pending_of(alloc, jobs, &complete)?,
         waiting: waiting(alloc, jobs.run)?,
     })
 }
@@ -49,12 +53,13 @@ fn pass_all(alloc: Global, run: &Run) -> Result<Verdict, AllocError>
     ensures answer { IfOk result (λ verdict. IsAnswered run.now.logs (answer_of verdict)) }
     ensures version { IfOk result (λ verdict. HasVersion (certificate_version run.now.version) verdict) }
 {
-    match first_passes(alloc, run)? {
+    let changes = Changes::of(alloc, run)?;
+    match first_passes(alloc, run, &changes)? {
         FirstPasses::Broken(faults) => Ok(Verdict::No { faults }),
         FirstPasses::Ordered(certificate) => {
-            let jobs = Jobs::build(alloc, run)?;
-            let broken = pass_d_of(alloc, &jobs)?;
-            settle(alloc, &jobs, certificate, broken)
+            let jobs = Jobs::over(alloc, run, changes)?;
+            let judged = pass_d_of(alloc, &jobs)?;
+            settle(alloc, &jobs, certificate, judged)
         }
     }
 }
@@ -71,12 +76,13 @@ fn pass_all_with<T: Threads + Wait + Sync, G: Gate>(
     ensures answer { IfOk result (λ verdict. IsAnswered run.now.logs (answer_of verdict)) }
     ensures version { IfOk result (λ verdict. HasVersion (certificate_version run.now.version) verdict) }
 {
-    match first_passes(alloc, run)? {
+    let changes = Changes::of(alloc, run)?;
+    match first_passes(alloc, run, &changes)? {
         FirstPasses::Broken(faults) => Ok(Verdict::No { faults }),
         FirstPasses::Ordered(certificate) => {
-            let jobs = Jobs::build(alloc, run)?;
-            let broken = pass_d_with(rt, alloc, &jobs, workers, gate)?;
-            settle(alloc, &jobs, certificate, broken)
+            let jobs = Jobs::over(alloc, run, changes)?;
+            let judged = pass_d_with(rt, alloc, &jobs, workers, gate)?;
+            settle(alloc, &jobs, certificate, judged)
         }
     }
 }

@@ -1,6 +1,7 @@
 //! From what jobs found to the faults of pass D (docs/SPECIFICATIONS.md, "Passes").
 ghost use Rattle.std.specs.Prelude.{◌≡◌, ◌-◌, ◌<◌, IfOk, IfSome, IsSome, None, Some, replicate, slice_index_or, slice_set, vec_len};
 ghost use Rattle.totem_evs.specs.Answers.{MeetsPasses, ListsConfigurations};
+ghost use Rattle.totem_agreement.specs.Findings.{AreComplete};
 ghost use Rattle.totem_agreement.specs.Jobs.{AreJobs, AreFindingsAt};
 ghost use Rattle.totem_audit.specs.Jobs.{IsRight, AreKnown};
 
@@ -9,7 +10,7 @@ use crate::gated::{Done, do_gated};
 use crate::job_result::JobResult;
 use std::alloc::{AllocError, Global};
 use std::mem;
-use totem_agreement::{Findings, Found, Jobs};
+use totem_agreement::{Findings, Found, Jobs, Judged};
 use totem_evs::{Fault, Run};
 
 /// Nothing is known of any job.
@@ -60,23 +61,24 @@ fn known_or_done<G: Gate>(
     Ok(done.findings)
 }
 
-/// The faults of the pass, from what is known of its jobs. A job of which nothing is known is done here.
+/// What the pass comes to, from what is known of its jobs. A job of which nothing is known is done here.
 pub fn complete<G: Gate>(
     alloc: Global,
     jobs: &Jobs<'_>,
     mut known: Vec<Option<Findings>>,
     gate: &G,
-) -> Result<Vec<Fault>, AllocError>
+) -> Result<Judged, AllocError>
     requires jobs { AreJobs jobs.now.run.now.logs jobs.now }
     requires known { AreKnown jobs.now.run.now.logs jobs.now.rings.items known.items }
-    ensures { IfOk result (λ faults. ListsConfigurations jobs.now.run.now.logs faults.items) }
+    ensures faults { IfOk result (λ judged. ListsConfigurations jobs.now.run.now.logs judged.faults.items) }
+    ensures complete { IfOk result (λ judged. AreComplete jobs.now.run.now.logs jobs.now.rings.items judged.complete.items) }
 {
     let mut found = Found::new(alloc);
     for index in 0..jobs.rings.len() {
         let one = mem::replace(&mut known[index], None);
         found = found.with(known_or_done(alloc, jobs, index, one, gate)?)?;
     }
-    found.into_faults()
+    found.into_judged()
 }
 
 /// Notes a result of the run whose jobs these are. One of another run is refused.
@@ -113,5 +115,6 @@ pub fn collect(
     for done in results {
         take_in(&jobs, &mut known, done);
     }
-    complete(alloc, &jobs, known, &OpenGate)
+    let judged = complete(alloc, &jobs, known, &OpenGate)?;
+    Ok(judged.faults)
 }

@@ -1,6 +1,7 @@
 //! The first three passes (docs/SPECIFICATIONS.md, "Passes").
 ghost use Rattle.std.specs.Prelude.{◌≡◌, [], ◌∷◌, IfOk, IfSome};
 ghost use Rattle.totem_evs.specs.Answers.{Lists, pass_a, pass_b};
+ghost use Rattle.totem_table.specs.Changes.{AreChanges};
 ghost use Rattle.totem_table.specs.Tables.{IsTable};
 ghost use Rattle.totem_audit.specs.Early.{IsEarly, ListsEarly};
 
@@ -8,7 +9,7 @@ use std::alloc::{AllocError, Global};
 use totem_cert::{Certificate, Order, positions_over};
 use totem_evs::{Fault, Run};
 use totem_passes::pass_a_and_b;
-use totem_table::Table;
+use totem_table::{Changes, Table};
 
 /// How the first three passes end.
 #[derive(Drop)]
@@ -40,13 +41,14 @@ fn pass_c(alloc: Global, run: &Run, table: Option<Table>) -> Result<FirstPasses,
     }
 }
 
-/// Does passes A, B and C, up to the first that finds a fault.
+/// Does passes A, B and C, up to the first that finds a fault. The run makes these changes.
 #[tactic(auto, using(crate::proofs::Firsts::first_breaks, crate::proofs::Firsts::first_a, crate::proofs::Firsts::first_b))]
-pub fn first_passes(alloc: Global, run: &Run) -> Result<FirstPasses, AllocError>
+pub fn first_passes(alloc: Global, run: &Run, changes: &Changes) -> Result<FirstPasses, AllocError>
+    requires { AreChanges run.now.logs changes.now.rows.items }
     ensures { IfOk result (IsEarly run.now) }
 {
     let table = Table::build(alloc, run)?;
-    let faults = pass_a_and_b(alloc, run, table.as_ref())?;
+    let faults = pass_a_and_b(alloc, run, table.as_ref(), changes)?;
     if !faults.is_empty() {
         return Ok(FirstPasses::Broken(faults));
     }
@@ -59,7 +61,8 @@ pub fn first_passes(alloc: Global, run: &Run) -> Result<FirstPasses, AllocError>
 pub fn early(alloc: Global, run: &Run) -> Result<Vec<Fault>, AllocError>
     ensures { IfOk result (λ faults. ListsEarly run.now.logs faults.items) }
 {
-    match first_passes(alloc, run)? {
+    let changes = Changes::of(alloc, run)?;
+    match first_passes(alloc, run, &changes)? {
         FirstPasses::Broken(faults) => Ok(faults),
         FirstPasses::Ordered(_) => Ok(Vec::new(alloc)),
     }

@@ -1,6 +1,7 @@
 //! Pass D by many threads (docs/SPECIFICATIONS.md, "Passes").
 ghost use Rattle.std.specs.Prelude.{◌<◌, IfOk};
 ghost use Rattle.totem_evs.specs.Answers.{ListsConfigurations};
+ghost use Rattle.totem_agreement.specs.Findings.{AreComplete};
 ghost use Rattle.totem_agreement.specs.Jobs.{AreJobs};
 ghost use Rattle.totem_audit.specs.Jobs.{AreRight, AreNamed, AreKnown};
 
@@ -16,8 +17,7 @@ use std::alloc::{AllocError, Global};
 use std::marker::Brand;
 use std::sync::Wait;
 use std::thread::Threads;
-use totem_agreement::{Findings, Jobs};
-use totem_evs::Fault;
+use totem_agreement::{Findings, Jobs, Judged};
 
 /// Notes these results.
 #[tactic(auto, using(crate::proofs::Known::popped))]
@@ -84,9 +84,10 @@ pub fn pass_d_with<T: Threads + Wait + Sync, G: Gate>(
     jobs: &Jobs<'_>,
     workers: Workers,
     gate: &G,
-) -> Result<Vec<Fault>, AllocError>
+) -> Result<Judged, AllocError>
     requires { AreJobs jobs.now.run.now.logs jobs.now }
-    ensures { IfOk result (λ faults. ListsConfigurations jobs.now.run.now.logs faults.items) }
+    ensures faults { IfOk result (λ judged. ListsConfigurations jobs.now.run.now.logs judged.faults.items) }
+    ensures complete { IfOk result (λ judged. AreComplete jobs.now.run.now.logs jobs.now.rings.items judged.complete.items) }
 {
     let known = if workers.count() == 1 {
         nothing_known(alloc, jobs.rings.len())?

@@ -1,5 +1,5 @@
 -- Entering changes, and what it tells.
-use Rattle.std.proofs.Common.{◌≡◌, ℕ, ◌+◌, inl, inr, List, [], ◌∷◌, Option, Some, refl, ap, subst, arith}
+use Rattle.std.proofs.Common.{◌≡◌, ℕ, ◌+◌, inl, inr, List, [], ◌∷◌, slice_get, Option, Some, refl, ap, subst, arith}
 use Rattle.std.specs.declared.cmp.Ordering.{Ordering}
 use Rattle.std.specs.Cmp.{IsTotalOrder}
 use Rattle.std.specs.BTreeMap.{BTreeMap}
@@ -10,20 +10,24 @@ use Rattle.totem_ids.specs.declared.place.Place.{Place}
 use Rattle.totem_evs.specs.declared.entry.Entry.{Entry}
 use Rattle.totem_evs.specs.declared.entry.Entry.TheVariants.{Conf, Send, Deliver, Fail}
 use Rattle.totem_evs.specs.declared.log.Log.{Log}
-use Rattle.totem_evs.specs.Events.{log_of}
+use Rattle.totem_evs.specs.Events.{log_of, IsChange}
 use Rattle.totem_passes.specs.declared.visit.Visit.{Visit}
 use Rattle.totem_passes.specs.Met.{IsMet}
 use Rattle.totem_passes.specs.Registers.{Keeps, KnowsRun}
 use Rattle.totem_passes.specs.Forms.{KnowsChange}
-use Rattle.totem_passes.specs.Search.{place, HoldsOfNone}
-use Rattle.totem_passes.specs.Pairs.{IsOne}
-use Rattle.totem_passes.specs.Bad.{AreTwoForms}
+use Rattle.totem_passes.specs.Search.{place, NoneFrom, HoldsOfNone}
+use Rattle.totem_passes.specs.Pairs.{IsOne, IsOneOrTwo}
+use Rattle.totem_passes.specs.Bad.{IsForeignChange, AreTwoForms}
 use Rattle.totem_passes.proofs.Knowing.{meets_keeps}
 
 abbrev visit : ℕ → ConfId → Visit
 visit p x = record { proc = p; conf = x }
 
 module _ (by_visit : Visit → Visit → Ordering) (by_conf : ConfId → ConfId → Ordering) where
+  -- of what is no change there is nothing to know
+  pub spares_change : (v : BTreeMap Visit (Option Place)) (f : BTreeMap ConfId (Option (List ℕ))) (p : ℕ) (log : List Entry) (i : ℕ) → (IsChange log i → ⊥) → KnowsChange by_visit by_conf v f p log i
+  spares_change v f p log i never = record { visited = λ x ms at. absurd (never (x, (ms, at))); formed = λ x ms at. absurd (never (x, (ms, at))) }
+
   pub keeps_changes : IsTotalOrder by_visit → IsTotalOrder by_conf → (v w : BTreeMap Visit (Option Place)) (f g : BTreeMap ConfId (Option (List ℕ))) (k : Visit) (e : Place) (y : ConfId) (ns : List ℕ) → IsMet by_visit v w k e → IsMet by_conf f g y ns
       → Keeps (KnowsChange by_visit by_conf v f) (KnowsChange by_visit by_conf w g)
   keeps_changes first second v w f g k e y ns met formed = record {
@@ -63,3 +67,21 @@ module _ (by_visit : Visit → Visit → Ordering) (by_conf : ConfId → ConfId 
       go (Deliver m x) is (f ∷ []) (j, js, (y, at, h)) = h
       go (Fail x) is (f ∷ []) (j, js, (y, at, h)) = h
       go z is (f ∷ g ∷ more) h = h
+
+-- what is no change is bad neither alone nor with another
+pub no_bad_form : (run : List Log) (p i : ℕ) → (IsChange (log_of run p) i → ⊥) → NoneFrom (IsOneOrTwo run IsForeignChange AreTwoForms) p i
+no_bad_form run p i never = record { none = λ rest h. go rest h }
+  where
+    at_index : (j : ℕ) (x : ConfId) (ms : List ℕ) → i + 1 ≡ j + 1 → slice_get (log_of run p) j ≡ Some (Conf x ms) → ⊥
+    at_index j x ms is at = let same : j ≡ i = omega arith in never (x, (ms, rw same at at))
+
+    go : (rest : List Place) → IsOneOrTwo run IsForeignChange AreTwoForms (place p i ∷ rest) → ⊥
+    go [] (j, is, (Conf x ms, at, h)) = at_index j x ms is at
+    go [] (j, is, (Send m x s, at, h)) = h
+    go [] (j, is, (Deliver m x, at, h)) = h
+    go [] (j, is, (Fail x, at, h)) = h
+    go (f ∷ []) (j, is, (Conf x ms, at, h)) = at_index j x ms is at
+    go (f ∷ []) (j, is, (Send m x s, at, (k, ks, (y, at_k, h)))) = h
+    go (f ∷ []) (j, is, (Deliver m x, at, (k, ks, (y, at_k, h)))) = h
+    go (f ∷ []) (j, is, (Fail x, at, (k, ks, (y, at_k, h)))) = h
+    go (f ∷ g ∷ more) (j, is, (x, at, h)) = h

@@ -10,6 +10,7 @@ pub mod Sent
 pub mod SentOrNot
 pub mod Passes
 pub mod Entering
+pub mod Listing
 pub mod Knowing
 pub mod Repeating
 pub mod Forming

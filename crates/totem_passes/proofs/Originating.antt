@@ -12,7 +12,7 @@ use Rattle.totem_ids.specs.declared.place.Place.{Place}
 use Rattle.totem_evs.specs.declared.entry.Entry.{Entry}
 use Rattle.totem_evs.specs.declared.entry.Entry.TheVariants.{Conf}
 use Rattle.totem_evs.specs.declared.log.Log.{Log}
-use Rattle.totem_evs.specs.Events.{log_of}
+use Rattle.totem_evs.specs.Events.{log_of, IsChange}
 use Rattle.totem_evs.specs.Changes.{ChangesNext}
 use Rattle.totem_passes.specs.Met.{IsMet}
 use Rattle.totem_passes.specs.Origins.{KnowsOrigin}
@@ -23,6 +23,10 @@ use Rattle.totem_passes.proofs.Knowing.{meets_knows, meets_keeps}
 use Rattle.totem_passes.proofs.Turning.{one_turn}
 
 module _ (by_conf : ConfId → ConfId → Ordering) where
+  -- from what is no change no log comes
+  pub spares_origin : (s : BTreeMap ConfId (Option RingId)) (p : ℕ) (log : List Entry) (i : ℕ) → (IsChange log i → ⊥) → KnowsOrigin by_conf s p log i
+  spares_origin s p log i never = record { each = λ j c t ms ns turn. absurd (never (Regular c, (ms, turn.first))) }
+
   pub keeps_origins : IsTotalOrder by_conf → (s t : BTreeMap ConfId (Option RingId)) (y : ConfId) (d : RingId) → IsMet by_conf s t y d → Keeps (KnowsOrigin by_conf s) (KnowsOrigin by_conf t)
   keeps_origins total s t y d met = record { each = λ p log i h. record { each = λ j c x ms ns turn. meets_keeps by_conf total s t y d met x c (h.each j c x ms ns turn) } }
 

@@ -14,7 +14,7 @@ use Rattle.totem_ids.specs.declared.message.Service.{Service}
 use Rattle.totem_evs.specs.declared.entry.Entry.{Entry}
 use Rattle.totem_evs.specs.declared.entry.Entry.TheVariants.{Conf, Send}
 use Rattle.totem_evs.specs.declared.log.Log.{Log}
-use Rattle.totem_evs.specs.Events.{log_of, IsTransitional, WasSentIn}
+use Rattle.totem_evs.specs.Events.{log_of, IsChange, IsTransitional, WasSentIn}
 use Rattle.totem_evs.specs.Following.{IsFirstChange, Follows}
 use Rattle.totem_evs.specs.Changes.{ChangesNext}
 use Rattle.totem_passes.specs.declared.sending.Sending.{Sending}
@@ -48,6 +48,10 @@ enters_visit cmp s n p i log x c ms at is h = record {
   each = λ d (ns, at'). (let same : c ≡ d = (let one : Conf x ms ≡ Conf (Regular d) ns = cc in cc) in
       subst (λ (z : RingId). IsTrue (sorted.contains cmp n (visit p (Regular z)))) same h.1);
 }
+
+-- what is no change is no visit
+pub spares_visit : (cmp : Visit → Visit → Ordering) (s : BTreeSet Visit) (p : ℕ) (log : List Entry) (i : ℕ) → (IsChange log i → ⊥) → KnowsVisit cmp s p log i
+spares_visit cmp s p log i never = record { each = λ c to. absurd (never (Regular c, to)) }
 
 first_visit : (cmp : Visit → Visit → Ordering) (s : BTreeSet Visit) (p i : ℕ) (log : List Entry) (x : ConfId) (c : RingId) (ms : List ℕ) → slice_get log i ≡ Some (Conf x ms) → x ≡ Regular c → sorted.contains cmp s (visit p (Regular c)) ≡ false
     → KnowsLog (KnowsVisit cmp s) p log i → IsFirstChange log (Regular c) i

@@ -1,5 +1,5 @@
 -- Searching for what breaks 2.4, change by change.
-use Rattle.std.proofs.Common.{◌≡◌, ◌≢◌, ℕ, ◌+◌, ◌-◌, ◌<◌, ◌≤◌, ◌⊎◌, inl, inr, List, [], ◌∷◌, length, slice_get, Some, Bool, true, false, not, IsTrue, ◌↔◌, refl, sym, subst, ◌∙◌, arith}
+use Rattle.std.proofs.Common.{◌≡◌, ◌≢◌, ℕ, ◌+◌, ◌<◌, ◌≤◌, ◌⊎◌, inl, inr, List, [], ◌∷◌, length, slice_get, Some, Bool, true, false, not, IsTrue, ◌↔◌, refl, sym, subst, ◌∙◌, arith}
 use Rattle.std.specs.Prelude.{All, Contains}
 use Rattle.std.proofs.lemmas.Option.{slice_get_within}
 use Rattle.totem_ids.specs.declared.ring.RingId.{RingId}
@@ -14,6 +14,7 @@ use Rattle.totem_evs.specs.Changes.{ChangesNext}
 use Rattle.totem_evs.specs.ChangeFaults.{BeginsTransitional, AreWrongNeighbours}
 use Rattle.totem_evs.specs.Answers.{ComesFirst, IsLeast}
 use Rattle.totem_passes.specs.Search.{place, NoneFrom, IsLeastFrom, HoldsOfNone}
+use Rattle.totem_table.specs.Changes.{IsNextOrEnd}
 use Rattle.totem_passes.specs.Turns.{IsWrongTurn, HasNoTurn, IsOfOtherRing, ComesFromElsewhere, IsOtherOrigin, IsTurnRest, IsTurnFault}
 use Rattle.totem_evs.proofs.LogOf.{less_or_not}
 use Rattle.totem_passes.proofs.Starting.{Begins, EachBegins, begins_at}
@@ -45,23 +46,15 @@ no_turn_without_change log i e at other = record { none = λ j x y ms ns turn. n
 pub no_turn_at_end : (log : List Entry) (i n : ℕ) → length log ≤ n → NoneBetween log i n → HasNoTurn log i
 no_turn_at_end log i n end before = record { none = λ j x y ms ns turn. before.none j turn.next.later (omega (arith, slice_get_within log j (Conf y ns) turn.second)) turn.next.change }
 
--- no change stands at n or after it, before i
-pub record NoneBack (log : List Entry) (n i : ℕ) : Type 0 where
-  pub none : (k : ℕ) → n ≤ k → k < i → IsChange log k → ⊥
+-- what is told of the next change is what is asked of a turn
+pub turn_to_next : (log : List Entry) (i j : ℕ) (x y : ConfId) (ms ns : List ℕ) → slice_get log i ≡ Some (Conf x ms) → slice_get log j ≡ Some (Conf y ns) → IsNextOrEnd log i j → ChangesNext log i j x y ms ns
+turn_to_next log i j x y ms ns at_i at_j next = record { first = at_i; second = at_j; next = record { change = (y, (ns, at_j)); later = next.later; none_between = next.none_between } }
 
-pub none_back_yet : (log : List Entry) (i : ℕ) → NoneBack log (i - 0) i
-none_back_yet log i = record { none = λ k le lt h. absurd (omega arith) }
+pub no_turn_to_end : (log : List Entry) (i j : ℕ) → IsNextOrEnd log i j → length log ≤ j → HasNoTurn log i
+no_turn_to_end log i j next end = no_turn_at_end log i j end (record { none = next.none_between })
 
-pub none_back_more : (log : List Entry) (b i : ℕ) (e : Entry) → b < i → slice_get log (i - 1 - b) ≡ Some e → ((x : ConfId) (ms : List ℕ) → e ≡ Conf x ms → ⊥) → NoneBack log (i - b) i → NoneBack log (i - (b + 1)) i
-none_back_more log b i e within at other before = record {
-  none = λ k le below h. elim (less_or_not k (i - b)) [
-    | inr more ↦ elim more [ inl over ↦ before.none k (omega arith) below h | inr same ↦ before.none k (omega arith) below h ]
-    | inl under ↦ (let same : k ≡ i - 1 - b = omega arith in no_change log (i - 1 - b) e at other (rw same at h))
-  ];
-}
-
-pub none_back_no : (log : List Entry) (b i : ℕ) → i ≤ b → NoneBack log (i - b) i → IsTrue false ↔ ((k : ℕ) × (k < i) × IsChange log k)
-none_back_no log b i le before = (λ t. absurd cc, λ (k, lt, h). absurd (before.none k (omega arith) lt h))
+pub next_is_change : (log : List Entry) (i j : ℕ) (e : Entry) → IsNextOrEnd log i j → j < length log → slice_get log j ≡ Some e → ((x : ConfId) (ms : List ℕ) → e ≡ Conf x ms → ⊥) → ⊥
+next_is_change log i j e next lt at other = no_change log j e at other (next.change lt)
 
 -- the first change of a log
 pub begins_decided : (log : List Entry) (i : ℕ) (x : ConfId) (ms : List ℕ) (before : Bool) → slice_get log i ≡ Some (Conf x ms) → IsTransitional x → IsTrue before ↔ ((k : ℕ) × (k < i) × IsChange log k)
@@ -154,6 +147,10 @@ none_without_turn run p i not_first never = record { none = λ rest h. go rest h
     go : (rest : List Place) → IsTurnFault run (place p i ∷ rest) → ⊥
     go [] (k, is, h) = let same : k ≡ i = omega arith in not_first (rw same at h)
     go (f ∷ rest) (k, is, (j, js, (procs, h))) = at_index k f rest j (omega arith) h
+
+-- no list begins with what is no change
+pub none_without_change : (run : List Log) (p i : ℕ) → (IsChange (log_of run p) i → ⊥) → NoneFrom (IsTurnFault run) p i
+none_without_change run p i never = none_without_turn run p i (λ (x, change, moves, none). never (x, change)) (record { none = λ j x y ms ns turn. never (x, (ms, turn.first)) })
 
 -- the list ends with a change that may not be the next one
 pub wrong_here : (run : List Log) (p i j : ℕ) (x y : ConfId) (ms ns : List ℕ) → (BeginsTransitional (log_of run p) i → ⊥) → ChangesNext (log_of run p) i j x y ms ns → IsWrongTurn x ms y ns

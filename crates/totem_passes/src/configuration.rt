@@ -1,17 +1,22 @@
 //! 2.3: each configuration has one form (docs/SPECIFICATIONS.md, "2 Changes of configuration").
-ghost use Rattle.std.specs.Prelude.{◌≡◌, ◌↔◌, ◌<◌, IsTrue, IfOk};
-ghost use Rattle.totem_evs.specs.Answers.{Finds};
+ghost use Rattle.std.specs.Prelude.{◌≡◌, ◌↔◌, ◌<◌, IsTrue, IfOk, MatchOption};
+ghost use Rattle.totem_evs.specs.Answers.{Finds, IsLeast};
+ghost use Rattle.totem_table.specs.Changes.{AreChanges};
 ghost use Rattle.totem_passes.specs.Bad.{IsForeignChange, AreTwoForms};
+ghost use Rattle.totem_passes.specs.Pairs.{IsOneOrTwo};
+ghost use Rattle.totem_passes.specs.Search.{HoldsOfNone};
 ghost use Rattle.totem_passes.specs.Registers.{KnowsRun};
 ghost use Rattle.totem_passes.specs.Forms.{KnowsChange};
 
+use crate::change_register::enter_changes;
+use crate::change_search::{ChangeRelation, least_change};
 use crate::forms::Forms;
-use crate::pairs::{Standing, Test, least_bad};
-use crate::register::enter_run;
+use crate::pairs::{Standing, Test, bad_from};
 use crate::visit::Visit;
 use std::alloc::{AllocError, Global};
 use totem_evs::{Entry, Places, Run, SpecNo};
-use totem_ids::{ConfId, Place};
+use totem_ids::{ConfId, Place, Proc};
+use totem_table::Changes;
 
 /// Looks for changes by processes that are no members, for two changes of one log to one configuration, and for two
 /// forms of a configuration.
@@ -64,12 +69,49 @@ impl Test for TwoForms<'_> {
     }
 }
 
+impl ChangeRelation for TwoForms<'_> {
+    ghost of = { λ t. t.run.now.logs };
+
+    ghost holds = { λ t. IsOneOrTwo t.run.now.logs IsForeignChange AreTwoForms };
+
+    fn spares(&self) {}
+
+    fn rest(
+        &self,
+        alloc: Global,
+        proc: Proc,
+        log: &[Entry],
+        at: usize,
+        _next: usize,
+        _is_later: bool,
+    ) -> Result<Option<Vec<Place>>, AllocError> {
+        bad_from(self, alloc, proc, log, at)
+    }
+}
+
+/// Finds the least list of one or two changes that are bad.
+fn least_form(
+    two_forms: &TwoForms,
+    alloc: Global,
+    changes: &Changes,
+) -> Result<Option<Places>, AllocError>
+    requires { AreChanges two_forms.now.run.now.logs changes.now.rows.items }
+    ensures { IfOk result (λ found. MatchOption found (HoldsOfNone (IsOneOrTwo two_forms.now.run.now.logs IsForeignChange AreTwoForms))
+        (IsLeast (IsOneOrTwo two_forms.now.run.now.logs IsForeignChange AreTwoForms))) }
+{
+    match least_change(two_forms, alloc, two_forms.run, changes)? {
+        None => Ok(None),
+        Some(list) => Ok(Some(Places::new(list))),
+    }
+}
+
 /// Finds the least events that break 2.3.
-pub fn find(alloc: Global, run: &Run) -> Result<Option<Places>, AllocError>
+pub fn find(alloc: Global, run: &Run, changes: &Changes) -> Result<Option<Places>, AllocError>
+    requires { AreChanges run.now.logs changes.now.rows.items }
     ensures { IfOk result (Finds run.now.logs SpecNo.Configuration) }
 {
     let mut forms = Forms::new(alloc);
-    enter_run(&mut forms, alloc, run)?;
+    enter_changes(&mut forms, alloc, run, changes)?;
     let two_forms = TwoForms { run, forms };
-    least_bad(&two_forms, alloc)
+    least_form(&two_forms, alloc, changes)
 }

@@ -2,9 +2,9 @@
 ghost use Rattle.std.specs.Prelude.{◌≡◌, ◌↔◌, IsTrue};
 ghost use Rattle.totem_passes.specs.Followed.{KnowsVisit, AreFollowed};
 
+use crate::change_register::ChangeRegister;
 use crate::kinds::is_transitional;
-use crate::register::Register;
-use crate::turn::turn_at;
+use crate::turn::turn_between;
 use crate::visit::Visit;
 use std::alloc::{AllocError, Global};
 use std::collections::{BTreeMap, BTreeSet};
@@ -34,17 +34,20 @@ impl Followed {
     }
 }
 
-impl Register for Followed {
+impl ChangeRegister for Followed {
     ghost sound = { λ s. AreFollowed ⟦<Visit as Ord>⟧.cmp s.rings };
 
     ghost knows = { λ s. KnowsVisit ⟦<Visit as Ord>⟧.cmp s.visits };
 
-    fn enter(
+    fn spares(&self) {}
+
+    fn enter_change(
         &mut self,
         _alloc: Global,
         proc: Proc,
         log: &[Entry],
         at: usize,
+        next: usize,
     ) -> Result<(), AllocError> {
         let Entry::Conf(conf, _) = &log[at] else {
             return Ok(());
@@ -57,7 +60,7 @@ impl Register for Followed {
         if !self.visits.insert(Visit { proc, conf })? {
             return Ok(());
         }
-        let Some(turn) = turn_at(log, at) else {
+        let Some(turn) = turn_between(log, at, next) else {
             return Ok(());
         };
         if is_transitional(turn.next) {

@@ -2,8 +2,8 @@
 ghost use Rattle.std.specs.Prelude.{◌≡◌, ℕ, ◌<◌, List};
 ghost use Rattle.totem_passes.specs.Forms.{KnowsChange};
 
+use crate::change_register::ChangeRegister;
 use crate::met::{Met, Same};
-use crate::register::Register;
 use crate::visit::Visit;
 use std::alloc::{AllocError, Global};
 use totem_evs::{Entry, Members};
@@ -37,17 +37,20 @@ impl Forms {
     }
 }
 
-impl Register for Forms {
+impl ChangeRegister for Forms {
     ghost sound = { λ s run. Unit {0} };
 
     ghost knows = { λ s. KnowsChange ⟦<Visit as Ord>⟧.cmp ⟦<ConfId as Ord>⟧.cmp s.visits.values s.members.values };
 
-    fn enter(
+    fn spares(&self) {}
+
+    fn enter_change(
         &mut self,
         alloc: Global,
         proc: Proc,
         log: &[Entry],
         at: usize,
+        _next: usize,
     ) -> Result<(), AllocError> {
         let place = Place {
             proc,

@@ -4,17 +4,18 @@ ghost use Rattle.std.specs.Prelude.{◌≡◌, IfOk, IfSome, Some, length, slice
 ghost use Rattle.std.specs.Bool.{OnTrue};
 ghost use Rattle.totem_evs.specs.Delivery.{DeliversWhatWasSent};
 ghost use Rattle.totem_evs.specs.Events.{log_of, WasSentIn};
+ghost use Rattle.totem_table.specs.Changes.{AreChanges};
 ghost use Rattle.totem_passes.specs.Followed.{AreFollowed};
 ghost use Rattle.totem_passes.specs.Registers.{KnowsLog};
 ghost use Rattle.totem_passes.specs.Sent.{WasSentTo, IsSendIn, IsSentBy, IsSentHere, AreKnownSends};
 
+use crate::change_register::enter_changes;
 use crate::followed::Followed;
-use crate::register::enter_run;
 use crate::visit::Visit;
 use std::alloc::{AllocError, Global};
 use totem_evs::{Entry, Log, Run};
 use totem_ids::{ConfId, MsgId, Proc, RingId};
-use totem_table::{Row, Table};
+use totem_table::{Changes, Row, Table};
 
 /// A send in the regular configuration of a ring.
 #[derive(Clone, Copy)]
@@ -206,7 +207,13 @@ fn all_known(run: &Run, sends: &[Option<KnownSend>], followed: &Followed, rows: 
 }
 
 /// Whether all that a run delivers is known to be sent for it. A no is not to be trusted.
-pub fn is_met(alloc: Global, run: &Run, table: Option<&Table>) -> Result<bool, AllocError>
+pub fn is_met(
+    alloc: Global,
+    run: &Run,
+    table: Option<&Table>,
+    changes: &Changes,
+) -> Result<bool, AllocError>
+    requires { AreChanges run.now.logs changes.now.rows.items }
     ensures { IfOk result (λ met. OnTrue met (DeliversWhatWasSent run.now.logs)) }
 {
     let Some(table) = table else {
@@ -214,6 +221,6 @@ pub fn is_met(alloc: Global, run: &Run, table: Option<&Table>) -> Result<bool, A
     };
     let sends = known_sends(alloc, run, table)?;
     let mut followed = Followed::new(alloc);
-    enter_run(&mut followed, alloc, run)?;
+    enter_changes(&mut followed, alloc, run, changes)?;
     Ok(all_known(run, &sends, &followed, &table.rows))
 }

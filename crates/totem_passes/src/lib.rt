@@ -1,6 +1,8 @@
 //! The first passes of the audit. The room of each specification finds the least events that break it.
 #![tactic(auto)]
 
+mod change_register;
+mod change_search;
 mod configuration;
 mod delivery;
 mod ends;
@@ -25,6 +27,7 @@ mod twice;
 mod unsent;
 mod visit;
 
+pub use change_register::{ChangeRegister, enter_changes};
 pub use pass::{pass_a, pass_a_and_b, pass_b, with_found};
 pub use register::{Register, enter_run};
 pub use search::begin_with;

@@ -30,12 +30,12 @@ fn fits(standing: &Option<ConfId>, entry: &Entry) -> bool
     }
 }
 
-fn standing_after(standing: &Option<ConfId>, entry: &Entry) -> Option<ConfId>
-    ensures { result ≡ standing_after standing.now entry.now }
+/// Goes past an entry. Only a change is written: it alone moves the log to another configuration.
+fn go_past(standing: &mut Option<ConfId>, entry: &Entry)
+    ensures { standing.new ≡ standing_after standing.old entry.now }
 {
-    match entry {
-        Entry::Conf(conf, _) => Some(*conf),
-        _ => *standing,
+    if let Entry::Conf(conf, _) = entry {
+        *standing = Some(*conf);
     }
 }
 
@@ -52,7 +52,7 @@ fn first_in(log: &[Entry]) -> Option<usize>
         if failed || !good {
             return Some(i);
         }
-        standing = standing_after(&standing, entry);
+        go_past(&mut standing, entry);
         failed = entry.is_failure();
     }
     None

@@ -1,9 +1,9 @@
 //! From which rings logs come to each configuration.
 ghost use Rattle.totem_passes.specs.Origins.{KnowsOrigin};
 
+use crate::change_register::ChangeRegister;
 use crate::met::{Met, Same};
-use crate::register::Register;
-use crate::turn::turn_at;
+use crate::turn::turn_between;
 use std::alloc::{AllocError, Global};
 use totem_evs::Entry;
 use totem_ids::{ConfId, Proc, RingId};
@@ -33,19 +33,22 @@ impl Origins {
     }
 }
 
-impl Register for Origins {
+impl ChangeRegister for Origins {
     ghost sound = { λ s run. Unit {0} };
 
     ghost knows = { λ s. KnowsOrigin ⟦<ConfId as Ord>⟧.cmp s.rings.values };
 
-    fn enter(
+    fn spares(&self) {}
+
+    fn enter_change(
         &mut self,
         _alloc: Global,
         _proc: Proc,
         log: &[Entry],
         at: usize,
+        next: usize,
     ) -> Result<(), AllocError> {
-        let Some(turn) = turn_at(log, at) else {
+        let Some(turn) = turn_between(log, at, next) else {
             return Ok(());
         };
         let ConfId::Regular(ring) = turn.conf else {

@@ -1,11 +1,12 @@
 //! Finds the least list of one entry that is bad alone, or of two that are bad together.
-ghost use Rattle.std.specs.Prelude.{◌≡◌, ◌↔◌, ℕ, ◌<◌, List, IsTrue, IfOk, MatchOption};
+ghost use Rattle.std.specs.Prelude.{◌≡◌, ◌↔◌, ℕ, ◌<◌, ◌≤◌, List, IsTrue, IfOk, MatchOption, length};
 ghost use Rattle.std.specs.Bool.{OnFalse};
 ghost use Rattle.totem_ids.specs.declared.place.Place.{Place};
 ghost use Rattle.totem_evs.specs.declared.entry.Entry.{Entry};
 ghost use Rattle.totem_evs.specs.declared.log.Log.{Log};
+ghost use Rattle.totem_evs.specs.Events.{log_of};
 ghost use Rattle.totem_evs.specs.Answers.{IsLeast};
-ghost use Rattle.totem_passes.specs.Search.{HoldsOfNone};
+ghost use Rattle.totem_passes.specs.Search.{NoneFrom, IsLeastFrom, HoldsOfNone};
 ghost use Rattle.totem_passes.specs.Pairs.{IsOne, IsOneOrTwo};
 
 use crate::search::{Relation, least};
@@ -74,6 +75,33 @@ impl<T: Test> Relation for Partners<'_, '_, T> {
     }
 }
 
+/// Returns how the least list of one or two bad entries goes on that begins with the entry at index `at` of a process's log,
+/// or `None` if none does.
+pub fn bad_from<T: Test>(
+    test: &T,
+    alloc: Global,
+    proc: Proc,
+    log: &[Entry],
+    at: usize,
+) -> Result<Option<Vec<Place>>, AllocError>
+    requires log { log.now ≡ log_of (T.of test.now) proc }
+    requires within { at < length log.now }
+    requires few { length log.now ≤ 1000000 }
+    ensures { IfOk result (λ found. MatchOption found (NoneFrom (IsOneOrTwo (T.of test.now) (T.alone test.now) (T.pair test.now)) proc at)
+        (λ rest. IsLeastFrom (IsOneOrTwo (T.of test.now) (T.alone test.now) (T.pair test.now)) proc at rest.items)) }
+{
+    let entry = &log[at];
+    let first = Standing { proc, at, entry };
+    if test.is_alone(&first) {
+        return Ok(Some(Vec::new(alloc)));
+    }
+    if !test.may_pair(&first) {
+        return Ok(None);
+    }
+    let partners = Partners { test, first };
+    least(&partners, alloc, test.run())
+}
+
 #[derive(Clone, Copy)]
 struct OneOrTwo<'t, T> {
     test: &'t T,
@@ -91,19 +119,7 @@ impl<T: Test> Relation for OneOrTwo<'_, T> {
         log: &[Entry],
         at: usize,
     ) -> Result<Option<Vec<Place>>, AllocError> {
-        let entry = &log[at];
-        let first = Standing { proc, at, entry };
-        if self.test.is_alone(&first) {
-            return Ok(Some(Vec::new(alloc)));
-        }
-        if !self.test.may_pair(&first) {
-            return Ok(None);
-        }
-        let partners = Partners {
-            test: self.test,
-            first,
-        };
-        least(&partners, alloc, self.test.run())
+        bad_from(self.test, alloc, proc, log, at)
     }
 }
 

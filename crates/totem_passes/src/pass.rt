@@ -2,12 +2,13 @@
 ghost use Rattle.std.specs.Prelude.{◌≡◌, ◌++◌, IfOk, IfSome};
 ghost use Rattle.totem_evs.specs.Answers.{Lists, pass_a, pass_b};
 ghost use Rattle.totem_table.specs.Tables.{IsTable};
+ghost use Rattle.totem_table.specs.Changes.{AreChanges};
 ghost use Rattle.totem_passes.specs.Listed.{listed, ListsFirst};
 
 use crate::{configuration, ends, misplaced, turns, twice, unsent};
 use std::alloc::{AllocError, Global};
 use totem_evs::{Fault, Places, Run, SpecNo};
-use totem_table::Table;
+use totem_table::{Changes, Table};
 
 /// Appends a fault to the list, if one was found.
 pub fn with_found(
@@ -24,8 +25,14 @@ pub fn with_found(
 }
 
 /// Pass A, made quick by a table of the run.
-fn pass_a_over(alloc: Global, run: &Run, table: Option<&Table>) -> Result<Vec<Fault>, AllocError>
-    requires { IfSome table (λ t. IsTable run.now.logs t.now) }
+fn pass_a_over(
+    alloc: Global,
+    run: &Run,
+    table: Option<&Table>,
+    changes: &Changes,
+) -> Result<Vec<Fault>, AllocError>
+    requires table { IfSome table (λ t. IsTable run.now.logs t.now) }
+    requires changes { AreChanges run.now.logs changes.now.rows.items }
     ensures { IfOk result (λ faults. Lists run.now.logs pass_a faults.items) }
 {
     let once = twice::find(alloc, run, table)?;
@@ -35,16 +42,22 @@ fn pass_a_over(alloc: Global, run: &Run, table: Option<&Table>) -> Result<Vec<Fa
     let forms = with_found(
         places,
         SpecNo::Configuration,
-        configuration::find(alloc, run)?,
+        configuration::find(alloc, run, changes)?,
     )?;
-    with_found(forms, SpecNo::Turns, turns::find(alloc, run)?)
+    with_found(forms, SpecNo::Turns, turns::find(alloc, run, changes)?)
 }
 
 /// Pass B, made quick by a table of the run.
-fn pass_b_over(alloc: Global, run: &Run, table: Option<&Table>) -> Result<Vec<Fault>, AllocError>
+fn pass_b_over(
+    alloc: Global,
+    run: &Run,
+    table: Option<&Table>,
+    changes: &Changes,
+) -> Result<Vec<Fault>, AllocError>
+    requires { AreChanges run.now.logs changes.now.rows.items }
     ensures { IfOk result (λ faults. Lists run.now.logs pass_b faults.items) }
 {
-    let unsent = unsent::find(alloc, run, table)?;
+    let unsent = unsent::find(alloc, run, table, changes)?;
     with_found(Vec::new(alloc), SpecNo::Unsent, unsent)
 }
 
@@ -54,7 +67,8 @@ pub fn pass_a(alloc: Global, run: &Run) -> Result<Vec<Fault>, AllocError>
     ensures { IfOk result (λ faults. Lists run.now.logs pass_a faults.items) }
 {
     let table = Table::build(alloc, run)?;
-    pass_a_over(alloc, run, table.as_ref())
+    let changes = Changes::of(alloc, run)?;
+    pass_a_over(alloc, run, table.as_ref(), &changes)
 }
 
 /// Pass B: the least event that breaks 1.3, if one does. `Err` is want of memory, and says nothing of the run. The pass is made
@@ -63,21 +77,24 @@ pub fn pass_b(alloc: Global, run: &Run) -> Result<Vec<Fault>, AllocError>
     ensures { IfOk result (λ faults. Lists run.now.logs pass_b faults.items) }
 {
     let table = Table::build(alloc, run)?;
-    pass_b_over(alloc, run, table.as_ref())
+    let changes = Changes::of(alloc, run)?;
+    pass_b_over(alloc, run, table.as_ref(), &changes)
 }
 
-/// Passes A and B, made quick by a table of the run: the faults of pass A, or if it has none those of pass B.
+/// Passes A and B, made quick by a table of the run and by where its changes stand: the faults of pass A, or if it has none those of pass B.
 pub fn pass_a_and_b(
     alloc: Global,
     run: &Run,
     table: Option<&Table>,
+    changes: &Changes,
 ) -> Result<Vec<Fault>, AllocError>
-    requires { IfSome table (λ t. IsTable run.now.logs t.now) }
+    requires table { IfSome table (λ t. IsTable run.now.logs t.now) }
+    requires changes { AreChanges run.now.logs changes.now.rows.items }
     ensures { IfOk result (λ faults. ListsFirst run.now.logs faults.items) }
 {
-    let faults = pass_a_over(alloc, run, table)?;
+    let faults = pass_a_over(alloc, run, table, changes)?;
     if !faults.is_empty() {
         return Ok(faults);
     }
-    pass_b_over(alloc, run, table)
+    pass_b_over(alloc, run, table, changes)
 }

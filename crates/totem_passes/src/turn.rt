@@ -2,6 +2,7 @@
 ghost use Rattle.std.specs.Prelude.{◌≡◌, ◌↔◌, ◌<◌, All, Contains, IsTrue, IfSome, IfNone, length};
 ghost use Rattle.totem_evs.specs.Events.{IsChange};
 ghost use Rattle.totem_evs.specs.Changes.{ChangesNext};
+ghost use Rattle.totem_table.specs.Changes.{IsNextOrEnd};
 ghost use Rattle.totem_passes.specs.Turns.{HasNoTurn, IsWrongTurn};
 
 use totem_evs::{Entry, Members};
@@ -39,6 +40,31 @@ pub fn turn_at(log: &[Entry], at: usize) -> Option<Turn<'_>>
         }
     }
     None
+}
+
+/// Returns the change at this index and the one at `next_at`, or `None` unless there are both. No change stands between.
+pub fn turn_between(log: &[Entry], at: usize, next_at: usize) -> Option<Turn<'_>>
+    requires { IsNextOrEnd log.now at next_at }
+    ensures found { IfSome result (λ turn. ChangesNext log.now at turn.next_at turn.conf.now turn.next.now turn.members.now turn.next_members.now) }
+    ensures within { IfSome result (λ turn. turn.next_at < length log.now) }
+    ensures none { IfNone result (HasNoTurn log.now at) }
+{
+    let Entry::Conf(conf, members) = &log[at] else {
+        return None;
+    };
+    if next_at >= log.len() {
+        return None;
+    }
+    let Entry::Conf(next, next_members) = &log[next_at] else {
+        return None;
+    };
+    Some(Turn {
+        conf,
+        members,
+        next_at,
+        next,
+        next_members,
+    })
 }
 
 fn contains_all(members: &Members, others: &Members) -> bool

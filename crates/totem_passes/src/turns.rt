@@ -3,40 +3,31 @@ ghost use Rattle.std.specs.Prelude.{◌≡◌, ◌↔◌, ℕ, ◌<◌, IsTrue, 
 ghost use Rattle.totem_evs.specs.Events.{log_of, IsChange, IsTransitional};
 ghost use Rattle.totem_evs.specs.ChangeFaults.{BeginsTransitional};
 ghost use Rattle.totem_evs.specs.Answers.{Finds};
+ghost use Rattle.totem_table.specs.Changes.{AreChanges};
 ghost use Rattle.totem_passes.specs.Registers.{KnowsRun};
 ghost use Rattle.totem_passes.specs.Origins.{KnowsOrigin};
 ghost use Rattle.totem_passes.specs.Turns.{IsTurnFault, IsOtherOrigin, IsOfOtherRing};
 
+use crate::change_register::enter_changes;
+use crate::change_search::{ChangeRelation, least_change};
 use crate::kinds::is_transitional;
 use crate::origins::Origins;
-use crate::register::enter_run;
 use crate::search::{Relation, begin_with, least};
-use crate::turn::{is_wrong, turn_at};
+use crate::turn::{is_wrong, turn_at, turn_between};
 use std::alloc::{AllocError, Global};
 use totem_evs::{Entry, Places, Run, SpecNo};
 use totem_ids::{ConfId, Place, Proc, RingId};
+use totem_table::Changes;
 
-/// Returns whether a change stands before this index. It looks at the nearest entries first, so asking it for all
-/// changes of a log that has one takes no more than one walk along the log.
-fn has_change_before(log: &[Entry], at: usize) -> bool
-    requires { at < length log.now }
-    ensures { IsTrue result ↔ ((k : ℕ) × (k < at) × IsChange log.now k) }
-{
-    for back in 0..at {
-        if let Entry::Conf(_, _) = &log[at - 1 - back] {
-            return true;
-        }
-    }
-    false
-}
-
-/// Returns whether the change at this index is the first of its log, and to a transitional configuration.
-fn begins_transitional(log: &[Entry], at: usize) -> bool
-    requires { at < length log.now }
+/// Returns whether the change at this index is the first of its log, and to a transitional configuration. `is_later` says
+/// whether a change stands before it.
+fn begins_transitional(log: &[Entry], at: usize, is_later: bool) -> bool
+    requires within { at < length log.now }
+    requires later { IsTrue is_later ↔ ((k : ℕ) × (k < at) × IsChange log.now k) }
     ensures { IsTrue result ↔ BeginsTransitional log.now at }
 {
     match &log[at] {
-        Entry::Conf(conf, _) => is_transitional(conf) && !has_change_before(log, at),
+        Entry::Conf(conf, _) => is_transitional(conf) && !is_later,
         _ => false,
     }
 }
@@ -100,10 +91,12 @@ struct Turns<'r> {
     ghost known: { ∥ KnowsRun (KnowsOrigin ⟦<ConfId as Ord>⟧.cmp origins.rings.values) run.now.logs ∥₁ },
 }
 
-impl Relation for Turns<'_> {
+impl ChangeRelation for Turns<'_> {
     ghost of = { λ s. s.run.now.logs };
 
     ghost holds = { λ s. IsTurnFault s.run.now.logs };
+
+    fn spares(&self) {}
 
     fn rest(
         &self,
@@ -111,11 +104,13 @@ impl Relation for Turns<'_> {
         proc: Proc,
         log: &[Entry],
         at: usize,
+        next: usize,
+        is_later: bool,
     ) -> Result<Option<Vec<Place>>, AllocError> {
-        if begins_transitional(log, at) {
+        if begins_transitional(log, at, is_later) {
             return Ok(Some(Vec::new(alloc)));
         }
-        let Some(turn) = turn_at(log, at) else {
+        let Some(turn) = turn_between(log, at, next) else {
             return Ok(None);
         };
         let next = Place {
@@ -145,13 +140,14 @@ impl Relation for Turns<'_> {
 }
 
 /// Finds the least events that break 2.4.
-pub fn find(alloc: Global, run: &Run) -> Result<Option<Places>, AllocError>
+pub fn find(alloc: Global, run: &Run, changes: &Changes) -> Result<Option<Places>, AllocError>
+    requires { AreChanges run.now.logs changes.now.rows.items }
     ensures { IfOk result (Finds run.now.logs SpecNo.Turns) }
 {
     let mut origins = Origins::new(alloc);
-    enter_run(&mut origins, alloc, run)?;
+    enter_changes(&mut origins, alloc, run, changes)?;
     let turns = Turns { run, origins };
-    match least(&turns, alloc, run)? {
+    match least_change(&turns, alloc, run, changes)? {
         None => Ok(None),
         Some(list) => Ok(Some(Places::new(list))),
     }

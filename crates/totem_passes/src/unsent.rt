@@ -4,11 +4,13 @@ ghost use Rattle.std.specs.Bool.{OnTrue};
 ghost use Rattle.totem_evs.specs.Events.{log_of, WasSentIn};
 ghost use Rattle.totem_evs.specs.Answers.{Finds};
 ghost use Rattle.totem_evs.specs.DeliveryFaults.{BreaksUnsent};
+ghost use Rattle.totem_table.specs.Changes.{AreChanges};
 ghost use Rattle.totem_passes.specs.Pairs.{IsOne};
 ghost use Rattle.totem_passes.specs.Sent.{IsSendTo, WasSentTo};
 ghost use Rattle.totem_passes.specs.Sendings.{WereSent};
 ghost use Rattle.totem_passes.specs.Followed.{AreFollowed};
 
+use crate::change_register::enter_changes;
 use crate::follow::is_in;
 use crate::followed::Followed;
 use crate::known_sends::is_met;
@@ -20,7 +22,7 @@ use crate::visit::Visit;
 use std::alloc::{AllocError, Global};
 use totem_evs::{Entry, Places, Run, SpecNo};
 use totem_ids::{ConfId, MsgId, Place, Proc, RingId};
-use totem_table::Table;
+use totem_table::{Changes, Table};
 
 /// Looks for the sends for which one delivery may stand.
 #[derive(Clone, Copy)]
@@ -148,16 +150,22 @@ impl Relation for Unsent<'_> {
 }
 
 /// Finds the least events that break 1.3. A table of the run makes it quick.
-pub fn find(alloc: Global, run: &Run, table: Option<&Table>) -> Result<Option<Places>, AllocError>
+pub fn find(
+    alloc: Global,
+    run: &Run,
+    table: Option<&Table>,
+    changes: &Changes,
+) -> Result<Option<Places>, AllocError>
+    requires { AreChanges run.now.logs changes.now.rows.items }
     ensures { IfOk result (Finds run.now.logs SpecNo.Unsent) }
 {
-    if is_met(alloc, run, table)? {
+    if is_met(alloc, run, table, changes)? {
         return Ok(None);
     }
     let mut sendings = Sendings::new(alloc);
     enter_run(&mut sendings, alloc, run)?;
     let mut followed = Followed::new(alloc);
-    enter_run(&mut followed, alloc, run)?;
+    enter_changes(&mut followed, alloc, run, changes)?;
     let unsent = Unsent {
         run,
         sendings,

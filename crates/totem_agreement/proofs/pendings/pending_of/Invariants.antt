@@ -4,5 +4,5 @@ use Rattle.totem_agreement.proofs.Adding.{Between}
 use Rattle.totem_agreement.proofs.Pend.{PendingAt}
 use Rattle.totem_agreement.proofs.pendings.pending_of.Given as goal
 
-abbrev pub invariant-loop-ring : goal.invariant-loop-ring
-invariant-loop-ring l = Adds pending.cmp-value.it (Between (PendingAt l.jobs.run.now.logs l.ring-items) 0 l.ring-index) l.initial.set l.set
+abbrev pub invariant-loop-k : goal.invariant-loop-k
+invariant-loop-k l = Adds pending.cmp-value.it (Between (PendingAt l.jobs.run.now.logs l.jobs.rings.items) 0 l.k) l.initial.set l.set

@@ -20,7 +20,7 @@ returns-then-failed-clause-least c = placed _ _ _ _ c.loop-i.invariant
 pub loop-i-preserved : goal.loop-i-preserved
 loop-i-preserved c =
     let at = slice_get_read c.args.log.now _ c.loop-i.i c.index-log-i.result refl c.loop-i-test.true c.index-log-i.is in
-    rw c.standing_after-standing.ensures
+    rw c.go_past.ensures
     (goes_on c.args.log.now _ _ _ _ at (c.if-not-good.ensures.0 refl) c.is_failure-failed.ensures (rw c.if-failed.false at c.loop-i.invariant))
 
 pub returns-clause-none : goal.returns-clause-none
