@@ -5,7 +5,9 @@ use totem_audit::{Verdict, Workers, audit, early};
 use totem_evs::{Run, read_run};
 use totem_ids::FromRead;
 use totem_passes::{pass_a, pass_b};
-use totem_table::{Table, is_once, numbers_tell_confs, numbers_tell_messages};
+use totem_table::{
+    Changes, Row as Numbers, Table, is_once, numbers_tell_confs, numbers_tell_messages,
+};
 
 fn push_verdict(text: &mut String, verdict: &Verdict) -> Result<(), AllocError> {
     match verdict {
@@ -52,7 +54,11 @@ fn push_numbers(alloc: Global, text: &mut String, run: &Run) -> Result<(), Alloc
     numbers_tell_confs(run, &table);
     let once = is_once(alloc, run, &table)?;
     write!(text, "{once}")?;
-    for row in &table.rows {
+    push_rows(text, &table.rows)
+}
+
+fn push_rows(text: &mut String, rows: &[Numbers]) -> Result<(), AllocError> {
+    for row in rows {
         text.push_str(";")?;
         for number in row.as_slice() {
             write!(text, " {number}")?;
@@ -61,14 +67,15 @@ fn push_numbers(alloc: Global, text: &mut String, run: &Run) -> Result<(), Alloc
     Ok(())
 }
 
-/// Who judges a run: the audit, the audit of its first log alone, the first two passes, the first three as one call, or the table of
-/// its numbers.
+/// Who judges a run: the audit, the audit of its first log alone, the first two passes, the first three as one call, the table of
+/// its numbers, or the list of its changes.
 enum Judge {
     Audit,
     AuditOfFirst,
     Passes,
     Early,
     Numbers,
+    Changes,
 }
 
 fn push_judged(
@@ -83,6 +90,7 @@ fn push_judged(
         Judge::Passes => push_passes(alloc, text, &run),
         Judge::Early => push_faults(text, &early(alloc, &run)?),
         Judge::Numbers => push_numbers(alloc, text, &run),
+        Judge::Changes => push_rows(text, &Changes::of(alloc, &run)?.rows),
     }
 }
 
@@ -105,7 +113,14 @@ struct Row {
     told: &'static str,
 }
 
-const RUNS: [Row; 24] = [
+const RUNS: [Row; 25] = [
+    Row {
+        rule: "changes stand where the logs have them",
+        logs: "log 1\nconf r4.1 1 2\nsend r4.1 a 4.1#1\nconf t8.1/1 1\nconf r8.1 1\nfail r8.1\nfailed\n\
+        log 2\nconf r4.1 1 2\nopen\n",
+        judge: Judge::Changes,
+        told: "; 0 2 3; 0",
+    },
     Row {
         rule: "the numbers of messages and configurations are in their order",
         logs: "log 1\nconf r4.1 1 2\nsend r4.1 a 4.1#2\nsend r4.1 a 4.1#1\ndlv r4.1 4.1#2\nopen\n\
