@@ -8,3 +8,5 @@ pub mod ServiceSpelling
 pub mod RankParts
 pub mod Lives
 pub mod AtHand
+pub mod Each
+pub mod Rises

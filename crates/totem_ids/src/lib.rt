@@ -8,6 +8,8 @@ mod fault;
 mod fused;
 mod laws;
 mod life;
+mod listed;
+mod lists;
 mod message;
 mod names;
 mod pieces;
@@ -16,6 +18,7 @@ mod process;
 mod process_laws;
 mod processes;
 mod reading;
+mod refused;
 mod retry;
 mod ring;
 mod services;
@@ -35,6 +38,7 @@ pub use laws::{
     ring_spelling,
 };
 pub use life::{Proc, WrittenProc};
+pub use lists::{Keyed, Listed, are_same, bounded, copied, rising};
 pub use message::{MsgId, Service};
 pub use names::{read_conf, read_message, read_ring};
 pub use pieces::Pieces;
@@ -45,6 +49,7 @@ pub use process_laws::{
 };
 pub use processes::{read_place, read_process, read_process_to};
 pub use reading::{next, number, number_to, read_proc, word};
+pub use refused::{ListFault, Refused};
 pub use ring::RingId;
 pub use services::read_service;
 pub use sink::{Sink, ToWrite};

@@ -1,5 +1,3 @@
-pub mod Ascents
-pub mod Each
 pub mod Falling
 pub mod Steps
 pub mod Repeats

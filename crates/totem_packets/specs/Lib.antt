@@ -1,4 +1,3 @@
-pub mod Lists
 pub mod Payload
 pub mod Rising
 pub mod CommitMembers

@@ -1,12 +1,11 @@
 ghost use Rattle.std.specs.Prelude.{◌≡◌, ◌↔◌, IsTrue, ◌<◌, ◌^◌, All, IfOk, MatchResult};
-ghost use Rattle.totem_packets.specs.Lists.{Refuses};
-ghost use Rattle.totem_packets.specs.CommitMembers.{IsBelowMember, IsCommitMember, IsCommitMembers};
+ghost use Rattle.totem_ids.specs.Lists.{Refuses};
+ghost use Rattle.totem_packets.specs.CommitMembers.{IsBelowMember, IsCommitMembers};
 
 use crate::commit_member::CommitMember;
-use crate::refused::{ListFault, Refused};
-use crate::rising::first_fall;
 use std::alloc::{AllocError, Global};
 use std::marker::Model;
+use totem_ids::{Refused, are_same, copied, rising};
 
 /// How many members a commit token may have at most.
 const MOST: usize = 32;
@@ -29,32 +28,14 @@ impl Model for CommitMembers {
     ghost invariant = { λ m. IsCommitMembers m.list.items };
 }
 
-/// Each member keeps its own rule, so a list of members does.
-fn keep_their_rules(list: &[CommitMember])
-    ensures { All IsCommitMember list.now }
-{
-    for member in list {
-        member.keeps_its_rule();
-    }
-}
-
 impl CommitMembers {
     /// Makes the members from this list. A refusal gives the list back with the first rule that it breaks.
     pub fn new(list: Vec<CommitMember>) -> Result<CommitMembers, Refused<Vec<CommitMember>>>
         ensures { MatchResult result (λ m. (m ≡ list.items) × IsCommitMembers list.items)
             (λ r. (r.value.items ≡ list.items) × Refuses 1 32 IsBelowMember list.items r.fault) }
     {
-        let fault = if list.is_empty() {
-            ListFault::Empty
-        } else if list.len() > MOST {
-            ListFault::TooMany(MOST)
-        } else if let Some(at) = first_fall(&list) {
-            ListFault::NotRising(at)
-        } else {
-            keep_their_rules(&list);
-            return Ok(CommitMembers { list });
-        };
-        Err(Refused { fault, value: list })
+        let list = rising(1, MOST, list)?;
+        Ok(CommitMembers { list })
     }
 
     /// Makes the members from a list that is known to keep the rules.
@@ -84,26 +65,13 @@ impl CommitMembers {
     pub fn is(&self, other: &CommitMembers) -> bool
         ensures { IsTrue result ↔ (self.now ≡ other.now) }
     {
-        let these = self.as_slice();
-        let those = other.as_slice();
-        if these.len() != those.len() {
-            return false;
-        }
-        for i in 0..these.len() {
-            if !these[i].is(&those[i]) {
-                return false;
-            }
-        }
-        true
+        are_same(self.as_slice(), other.as_slice())
     }
 
     pub fn try_clone(&self, alloc: Global) -> Result<CommitMembers, AllocError>
         ensures { IfOk result (λ m. m ≡ self.now) }
     {
-        let mut list = Vec::with_capacity(alloc, self.list.len())?;
-        for member in &self.list {
-            list.push(member.try_clone(alloc)?)?;
-        }
+        let list = copied(alloc, &self.list)?;
         Ok(CommitMembers { list })
     }
 }

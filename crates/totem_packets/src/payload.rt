@@ -1,11 +1,11 @@
 ghost use Rattle.std.specs.Prelude.{◌≡◌, ◌↔◌, IsTrue, ◌≤◌, ◌<◌, length, IfOk, MatchResult};
-ghost use Rattle.totem_packets.specs.Lists.{Refuses, Anyhow};
+ghost use Rattle.totem_ids.specs.Lists.{Refuses, Anyhow};
 ghost use Rattle.totem_packets.specs.Payload.{IsPayload};
 
-use crate::refused::{ListFault, Refused};
 use bytes::Bytes;
 use std::alloc::AllocError;
 use std::marker::Model;
+use totem_ids::{ListFault, Refused};
 
 /// How many bytes a message may carry at most.
 const MOST: usize = 1_024;

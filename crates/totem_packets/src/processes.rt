@@ -1,12 +1,10 @@
 ghost use Rattle.std.specs.Prelude.{◌≡◌, ◌<◌, ◌^◌, All, IfOk, MatchResult};
-ghost use Rattle.totem_packets.specs.Lists.{Refuses};
+ghost use Rattle.totem_ids.specs.Lists.{Refuses};
 ghost use Rattle.totem_packets.specs.Rising.{IsBelow, IsProcesses};
 
-use crate::refused::{ListFault, Refused};
-use crate::rising::first_fall;
 use std::alloc::{AllocError, Global};
 use std::marker::Model;
-use totem_ids::ProcId;
+use totem_ids::{ProcId, Refused, rising};
 
 /// How many processes a set may have at most.
 pub const MOST: usize = 32;
@@ -34,17 +32,8 @@ impl Processes {
         ensures { MatchResult result (λ p. (p ≡ procs.items) × IsProcesses procs.items)
             (λ r. (r.value.items ≡ procs.items) × Refuses 0 32 IsBelow procs.items r.fault) }
     {
-        let fault = if procs.len() > MOST {
-            ListFault::TooMany(MOST)
-        } else if let Some(at) = first_fall(&procs) {
-            ListFault::NotRising(at)
-        } else {
-            return Ok(Processes { procs });
-        };
-        Err(Refused {
-            fault,
-            value: procs,
-        })
+        let procs = rising(0, MOST, procs)?;
+        Ok(Processes { procs })
     }
 
     /// Makes the set of processes that are known to keep the rules.

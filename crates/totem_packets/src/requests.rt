@@ -1,12 +1,11 @@
 ghost use Rattle.std.specs.Prelude.{◌≡◌, ◌↔◌, IsTrue, ◌<◌, ◌^◌, All, IfOk, MatchResult};
-ghost use Rattle.totem_packets.specs.Lists.{Refuses};
+ghost use Rattle.totem_ids.specs.Lists.{Refuses};
 ghost use Rattle.totem_packets.specs.Rising.{IsBelow, IsRequests};
 
 use crate::number::Number;
-use crate::refused::{ListFault, Refused};
-use crate::rising::first_fall;
 use std::alloc::{AllocError, Global};
 use std::marker::Model;
+use totem_ids::{Refused, are_same, rising};
 
 /// How many numbers a token may ask for at most.
 const MOST: usize = 64;
@@ -34,17 +33,8 @@ impl Requests {
         ensures { MatchResult result (λ q. (q ≡ numbers.items) × IsRequests numbers.items)
             (λ r. (r.value.items ≡ numbers.items) × Refuses 0 64 IsBelow numbers.items r.fault) }
     {
-        let fault = if numbers.len() > MOST {
-            ListFault::TooMany(MOST)
-        } else if let Some(at) = first_fall(&numbers) {
-            ListFault::NotRising(at)
-        } else {
-            return Ok(Requests { numbers });
-        };
-        Err(Refused {
-            fault,
-            value: numbers,
-        })
+        let numbers = rising(0, MOST, numbers)?;
+        Ok(Requests { numbers })
     }
 
     /// Makes the requests for numbers that are known to keep the rules.
@@ -74,7 +64,7 @@ impl Requests {
     pub fn is(&self, other: &Requests) -> bool
         ensures { IsTrue result ↔ (self.now ≡ other.now) }
     {
-        self.as_slice() == other.as_slice()
+        are_same(self.as_slice(), other.as_slice())
     }
 
     pub fn try_clone(&self, alloc: Global) -> Result<Requests, AllocError>

@@ -11,6 +11,12 @@ pub enum ListFault {
     TooMany(usize),
     #[error("the one at index {0} is not above the one before")]
     NotRising(usize),
+    /// In a list for texts of version 1: it is of another life than 1, or names one.
+    #[error("the one at index {0} has lives other than 1")]
+    Life(usize),
+    /// In a list for texts of version 1 or 2: it is quiet.
+    #[error("the one at index {0} is quiet")]
+    Silence(usize),
 }
 
 /// A value that was refused, given back with the rule that it breaks.

@@ -1,7 +1,14 @@
--- Lists that keep a rule, and what is wrong with those that don't (docs/PROTOCOL.md, "Packets").
-use Rattle.std.specs.Prelude.{◌≡◌, ℕ, ◌+◌, ◌<◌, ◌≤◌, List, [], length, take, AllPairs}
-use Rattle.totem_packets.specs.declared.refused.ListFault.{ListFault}
-use Rattle.totem_packets.specs.declared.refused.ListFault.TheVariants.{Empty, TooMany, NotRising}
+-- Lists that keep a rule, and what is wrong with those that don't.
+use Rattle.std.specs.Prelude.{◌≡◌, ℕ, ◌+◌, ◌<◌, ◌≤◌, List, [], length, take, All, AllPairs}
+use Rattle.totem_ids.specs.declared.refused.ListFault.{ListFault}
+use Rattle.totem_ids.specs.declared.refused.ListFault.TheVariants.{Empty, TooMany, NotRising, Life, Silence}
+
+-- least to greatest elements, each of which is below all behind it and keeps its rule
+pub record IsListOf {X : Type 0} (least greatest : ℕ) (Below : X → X → Type 0) (Keeps : X → Type 0) (xs : List X) : Type 0 where
+  pub some : least ≤ length xs
+  pub few : length xs ≤ greatest
+  pub rising : AllPairs Below xs
+  pub each : All Keeps xs
 
 -- the elements before `at` rise, and with the one at `at` they don't
 pub record FallsAt {X : Type 0} (Below : X → X → Type 0) (xs : List X) (at : ℕ) : Type 0 where
@@ -14,6 +21,8 @@ abbrev pub Refuses : {X : Type 0} → ℕ → ℕ → (X → X → Type 0) → L
 Refuses least greatest Below xs Empty = (0 < least) × (xs ≡ [])
 Refuses least greatest Below xs (TooMany limit) = (limit ≡ greatest) × (greatest < length xs)
 Refuses least greatest Below xs (NotRising at) = (length xs ≤ greatest) × FallsAt Below xs at
+Refuses least greatest Below xs (Life at) = ⊥
+Refuses least greatest Below xs (Silence at) = ⊥
 
 -- each element is above each other
 abbrev pub Anyhow : {X : Type 0} → X → X → Type 0
