@@ -4,10 +4,10 @@ use Rattle.totem_ids.specs.declared.version.Version.{Version}
 use Rattle.totem_ids.specs.declared.version.Version.TheVariants.{One, Two, Three}
 use Rattle.totem_ids.specs.Ranks.{life_of}
 use Rattle.totem_ids.specs.Processes.{writes_lives}
-use Rattle.totem_evs.specs.declared.refused.ListFault.{ListFault}
-use Rattle.totem_evs.specs.declared.refused.ListFault.TheVariants.{Empty, TooMany, NotRising, Life, Silence}
+use Rattle.totem_ids.specs.declared.refused.ListFault.{ListFault}
+use Rattle.totem_ids.specs.declared.refused.ListFault.TheVariants.{Empty, TooMany, NotRising, Life, Silence}
 use Rattle.totem_evs.specs.Certificates.{Numbering}
-use Rattle.totem_evs.specs.Lists.{Refuses}
+use Rattle.totem_ids.specs.Lists.{Refuses}
 use Rattle.totem_cert.specs.Keeping.{IsBelowLine, IsCertificate}
 
 -- the process of a line has life 1

@@ -1,5 +1,5 @@
 ghost use Rattle.std.specs.Prelude.{◌≡◌, ◌↔◌, IsTrue, IfOk, MatchResult};
-ghost use Rattle.totem_evs.specs.Lists.{Refuses};
+ghost use Rattle.totem_ids.specs.Lists.{Refuses};
 ghost use Rattle.totem_cert.specs.CertLives.{RefusesCertificate, IsFirstVersion};
 ghost use Rattle.totem_cert.specs.Keeping.{IsBelowLine, IsCertificate, IsCertificateIn, IsOfText};
 

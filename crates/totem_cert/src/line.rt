@@ -4,7 +4,7 @@ ghost use Rattle.totem_cert.specs.Keeping.{IsLine};
 use crate::numbers::Numbers;
 use std::alloc::{AllocError, Global};
 use std::marker::Model;
-use totem_ids::{Proc, Version, life_fits};
+use totem_ids::{Keyed, Listed, Proc, Version, life_fits};
 
 /// A line of a certificate: a process, and a number for each entry of its log.
 #[derive(Debug, Drop)]
@@ -44,5 +44,30 @@ impl Line {
             proc: self.proc,
             numbers: self.numbers.try_clone(alloc)?,
         })
+    }
+}
+
+impl Listed for Line {
+    ghost keeps = { IsLine };
+
+    fn keeps_its_rule(&self) {
+        self.keeps_its_rules();
+    }
+
+    fn is(&self, other: &Line) -> bool {
+        Line::is(self, other)
+    }
+
+    fn try_clone(&self, alloc: Global) -> Result<Line, AllocError> {
+        Line::try_clone(self, alloc)
+    }
+}
+
+/// Lines are ordered by process.
+impl Keyed for Line {
+    ghost key_of = { λ l. l.proc };
+
+    fn key(&self) -> u32 {
+        self.proc.rank()
     }
 }

@@ -1,11 +1,11 @@
-ghost use Rattle.std.specs.Prelude.{◌≡◌, ◌↔◌, IsTrue, IfSome, IfNone, IfOk, MatchResult, All, AllPairs};
-ghost use Rattle.totem_evs.specs.Lists.{FallsAt, Refuses};
-ghost use Rattle.totem_cert.specs.Keeping.{IsLine, IsBelowLine, IsCertificate};
+ghost use Rattle.std.specs.Prelude.{◌≡◌, ◌↔◌, IsTrue, IfOk, MatchResult};
+ghost use Rattle.totem_ids.specs.Lists.{Refuses};
+ghost use Rattle.totem_cert.specs.Keeping.{IsBelowLine, IsCertificate};
 
 use crate::line::Line;
 use std::alloc::{AllocError, Global};
 use std::marker::Model;
-use totem_evs::{ListFault, Refused};
+use totem_ids::{Refused, are_same, copied, rising};
 
 /// How many lines a certificate may have at most.
 const MOST: usize = 32;
@@ -28,46 +28,14 @@ impl Model for Lines {
     ghost invariant = { λ l. IsCertificate l.list.items };
 }
 
-// Where the processes of a list stop rising strictly.
-fn first_fall(list: &[Line]) -> Option<usize>
-    ensures found { IfSome result (λ at. FallsAt IsBelowLine list.now at) }
-    ensures rising { IfNone result (AllPairs IsBelowLine list.now) }
-{
-    let mut last = 0u32;
-    for (at, line) in list.iter().enumerate() {
-        let rank = line.proc.rank();
-        if rank <= last {
-            return Some(at);
-        }
-        last = rank;
-    }
-    None
-}
-
-// Each line keeps its own rules, so a list of lines does.
-fn keep_their_rules(list: &[Line])
-    ensures { All IsLine list.now }
-{
-    for line in list {
-        line.keeps_its_rules();
-    }
-}
-
 impl Lines {
     /// Makes the lines from this list. A refusal gives the list back with the first rule that it breaks.
     pub fn new(list: Vec<Line>) -> Result<Lines, Refused<Vec<Line>>>
         ensures { MatchResult result (λ l. (l ≡ list.items) × IsCertificate list.items)
             (λ r. (r.value.items ≡ list.items) × Refuses 0 32 IsBelowLine list.items r.fault) }
     {
-        let fault = if list.len() > MOST {
-            ListFault::TooMany(MOST)
-        } else if let Some(at) = first_fall(&list) {
-            ListFault::NotRising(at)
-        } else {
-            keep_their_rules(&list);
-            return Ok(Lines { list });
-        };
-        Err(Refused { fault, value: list })
+        let list = rising(0, MOST, list)?;
+        Ok(Lines { list })
     }
 
     /// Makes the lines from a list that is known to keep the rules.
@@ -97,26 +65,13 @@ impl Lines {
     pub fn is(&self, other: &Lines) -> bool
         ensures { IsTrue result ↔ (self.now ≡ other.now) }
     {
-        let these = self.as_slice();
-        let those = other.as_slice();
-        if these.len() != those.len() {
-            return false;
-        }
-        for i in 0..these.len() {
-            if !these[i].is(&those[i]) {
-                return false;
-            }
-        }
-        true
+        are_same(self.as_slice(), other.as_slice())
     }
 
     pub fn try_clone(&self, alloc: Global) -> Result<Lines, AllocError>
         ensures { IfOk result (λ l. l ≡ self.now) }
     {
-        let mut list = Vec::with_capacity(alloc, self.list.len())?;
-        for line in &self.list {
-            list.push(line.try_clone(alloc)?)?;
-        }
+        let list = copied(alloc, &self.list)?;
         Ok(Lines { list })
     }
 }

@@ -1,5 +1,3 @@
-pub mod Rises
-pub mod Each
 pub mod Standing
 pub mod Precedence
 pub mod Causal

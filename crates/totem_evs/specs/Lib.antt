@@ -1,4 +1,3 @@
-pub mod Lists
 pub mod Members
 pub mod LogRecord
 pub mod RunRecord

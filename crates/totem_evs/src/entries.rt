@@ -1,12 +1,12 @@
-ghost use Rattle.std.specs.Prelude.{◌≡◌, ◌≢◌, ◌↔◌, IsTrue, IfOk, MatchResult, All};
-ghost use Rattle.totem_evs.specs.Lists.{Refuses, Anyhow};
-ghost use Rattle.totem_evs.specs.Runs.{IsEntry, IsEntries, EndsInFail, IsClosedBy};
+ghost use Rattle.std.specs.Prelude.{◌≡◌, ◌≢◌, ◌↔◌, IsTrue, IfOk, MatchResult};
+ghost use Rattle.totem_ids.specs.Lists.{Refuses, Anyhow};
+ghost use Rattle.totem_evs.specs.Runs.{IsEntries, EndsInFail, IsClosedBy};
 
 use crate::ending::Ending;
 use crate::entry::Entry;
-use crate::refused::{ListFault, Refused};
 use std::alloc::{AllocError, Global};
 use std::marker::Model;
+use totem_ids::{Refused, are_same, bounded, copied};
 
 /// How many entries a log may have at most.
 const MOST: usize = 1_000_000;
@@ -29,15 +29,6 @@ impl Model for Entries {
     ghost invariant = { λ e. IsEntries e.list.items };
 }
 
-/// Each entry keeps its own rule, so a list of entries does.
-fn keep_their_rules(list: &[Entry])
-    ensures { All IsEntry list.now }
-{
-    for entry in list {
-        entry.keeps_its_rule();
-    }
-}
-
 fn ends_in_fail(entries: &[Entry]) -> bool
     ensures { IsTrue result ↔ EndsInFail entries.now }
 {
@@ -53,15 +44,8 @@ impl Entries {
         ensures { MatchResult result (λ e. (e ≡ list.items) × IsEntries list.items)
             (λ r. (r.value.items ≡ list.items) × Refuses 1 1000000 Anyhow list.items r.fault) }
     {
-        let fault = if list.is_empty() {
-            ListFault::Empty
-        } else if list.len() > MOST {
-            ListFault::TooMany(MOST)
-        } else {
-            keep_their_rules(&list);
-            return Ok(Entries { list });
-        };
-        Err(Refused { fault, value: list })
+        let list = bounded(1, MOST, list)?;
+        Ok(Entries { list })
     }
 
     /// Makes the entries from a list that is known to keep the rules.
@@ -111,26 +95,13 @@ impl Entries {
     pub fn is(&self, other: &Entries) -> bool
         ensures { IsTrue result ↔ (self.now ≡ other.now) }
     {
-        let these = self.as_slice();
-        let those = other.as_slice();
-        if these.len() != those.len() {
-            return false;
-        }
-        for i in 0..these.len() {
-            if !these[i].is(&those[i]) {
-                return false;
-            }
-        }
-        true
+        are_same(self.as_slice(), other.as_slice())
     }
 
     pub fn try_clone(&self, alloc: Global) -> Result<Entries, AllocError>
         ensures { IfOk result (λ e. e ≡ self.now) }
     {
-        let mut list = Vec::with_capacity(alloc, self.list.len())?;
-        for entry in &self.list {
-            list.push(entry.try_clone(alloc)?)?;
-        }
+        let list = copied(alloc, &self.list)?;
         Ok(Entries { list })
     }
 }

@@ -4,7 +4,7 @@ ghost use Rattle.totem_evs.specs.Runs.{IsEntry, IsFailure};
 
 use crate::members::Members;
 use std::alloc::{AllocError, Global};
-use totem_ids::{ConfId, MsgId, Proc, Service, conf_fits, message_fits};
+use totem_ids::{ConfId, Listed, MsgId, Proc, Service, conf_fits, message_fits};
 
 /// An entry of a log: one event of a process, as the process recorded it.
 #[derive(Debug, Drop)]
@@ -85,5 +85,21 @@ impl Entry {
             Entry::Deliver(message, conf) => Entry::Deliver(*message, *conf),
             Entry::Fail(conf) => Entry::Fail(*conf),
         })
+    }
+}
+
+impl Listed for Entry {
+    ghost keeps = { IsEntry };
+
+    fn keeps_its_rule(&self) {
+        Entry::keeps_its_rule(self);
+    }
+
+    fn is(&self, other: &Entry) -> bool {
+        Entry::is(self, other)
+    }
+
+    fn try_clone(&self, alloc: Global) -> Result<Entry, AllocError> {
+        Entry::try_clone(self, alloc)
     }
 }

@@ -3,7 +3,7 @@ ghost use Rattle.std.specs.Prelude.{◌≡◌, ◌↔◌, IsTrue, IfOk};
 use crate::spec::SpecNo;
 use std::alloc::{AllocError, Global};
 use std::marker::Model;
-use totem_ids::Place;
+use totem_ids::{Place, are_same};
 
 /// The places of the events that show a fault, in the order that docs/SPECIFICATIONS.md, "Faults", gives them.
 #[derive(Debug, Drop)]
@@ -45,17 +45,7 @@ impl Places {
     pub fn is(&self, other: &Places) -> bool
         ensures { IsTrue result ↔ (self.now ≡ other.now) }
     {
-        let these = self.as_slice();
-        let those = other.as_slice();
-        if these.len() != those.len() {
-            return false;
-        }
-        for i in 0..these.len() {
-            if these[i] != those[i] {
-                return false;
-            }
-        }
-        true
+        are_same(self.as_slice(), other.as_slice())
     }
 
     pub fn try_clone(&self, alloc: Global) -> Result<Places, AllocError>

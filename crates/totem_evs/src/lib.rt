@@ -23,8 +23,6 @@ mod part_reader;
 mod pending;
 mod read_part;
 mod reading;
-mod refused;
-mod rising;
 mod run;
 mod run_fault;
 mod run_reader;
@@ -50,7 +48,6 @@ pub use part::Part;
 pub use part_laws::{parts_make_the_run, text_is_of_parts};
 pub use pending::{Pending, Waiting};
 pub use reading::{read_end, read_run};
-pub use refused::{ListFault, Refused};
 pub use run::Run;
 pub use run_fault::RunFault;
 pub use run_reader::RunReader;
@@ -59,4 +56,5 @@ pub use text_laws::{
     a_fault_is_no_text, cut_text_goes_on, fault_byte_is_first, fault_is_first,
     no_text_begins_another, read_is_spelled, spelled_is_read,
 };
+pub use totem_ids::{ListFault, Refused};
 pub use writing::{WriteFault, write_run};

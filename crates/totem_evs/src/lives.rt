@@ -11,8 +11,7 @@ ghost use Rattle.totem_evs.specs.Lives.{AreFirst, AreLoud, HasFirstLives, IsFirs
 use crate::ending::{Ending, may_be_quiet};
 use crate::entry::Entry;
 use crate::log::Log;
-use crate::refused::ListFault;
-use totem_ids::{Proc, Version};
+use totem_ids::{ListFault, Proc, Version};
 
 fn are_first(procs: &[Proc]) -> bool
     ensures { IsTrue result ↔ AreFirst procs.now }

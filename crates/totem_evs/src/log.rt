@@ -3,10 +3,9 @@ ghost use Rattle.totem_evs.specs.Runs.{IsClosedBy, IsLog};
 
 use crate::ending::Ending;
 use crate::entries::Entries;
-use crate::rising::Keyed;
 use std::alloc::{AllocError, Global};
 use std::marker::Model;
-use totem_ids::{Proc, Version, life_fits};
+use totem_ids::{Keyed, Listed, Proc, Version, life_fits};
 
 /// A log: what one process recorded. It ends as failed exactly where its last entry is a failure; any other is open, or quiet if
 /// nothing more was to come.
@@ -44,14 +43,6 @@ impl Log {
         }
     }
 
-    /// Tells contracts the rules that the types of the log's parts keep.
-    pub(crate) fn keeps_its_rules(&self)
-        ensures { IsLog self.now }
-    {
-        life_fits(Version::Three, self.proc);
-        let _ = self.entries.as_slice();
-    }
-
     /// Returns whether the two are the same log: `==` in a form that contracts can use.
     pub fn is(&self, other: &Log) -> bool
         ensures { IsTrue result ↔ (self.now ≡ other.now) }
@@ -67,6 +58,23 @@ impl Log {
             entries: self.entries.try_clone(alloc)?,
             ending: self.ending,
         })
+    }
+}
+
+impl Listed for Log {
+    ghost keeps = { IsLog };
+
+    fn keeps_its_rule(&self) {
+        life_fits(Version::Three, self.proc);
+        let _ = self.entries.as_slice();
+    }
+
+    fn is(&self, other: &Log) -> bool {
+        Log::is(self, other)
+    }
+
+    fn try_clone(&self, alloc: Global) -> Result<Log, AllocError> {
+        Log::try_clone(self, alloc)
     }
 }
 

@@ -1,12 +1,11 @@
-ghost use Rattle.std.specs.Prelude.{◌≡◌, ◌↔◌, IsTrue, IfOk, MatchResult, All};
-ghost use Rattle.totem_evs.specs.Lists.{Refuses};
-ghost use Rattle.totem_evs.specs.Runs.{IsLog, IsRun, IsBelowLog};
+ghost use Rattle.std.specs.Prelude.{◌≡◌, ◌↔◌, IsTrue, IfOk, MatchResult};
+ghost use Rattle.totem_ids.specs.Lists.{Refuses};
+ghost use Rattle.totem_evs.specs.Runs.{IsRun, IsBelowLog};
 
 use crate::log::Log;
-use crate::refused::{ListFault, Refused};
-use crate::rising::first_fall;
 use std::alloc::{AllocError, Global};
 use std::marker::Model;
+use totem_ids::{Refused, are_same, copied, rising};
 
 /// How many logs a run may have at most.
 const MOST: usize = 32;
@@ -29,30 +28,14 @@ impl Model for Logs {
     ghost invariant = { λ l. IsRun l.list.items };
 }
 
-/// Each log keeps its own rules, so a list of logs does.
-fn keep_their_rules(list: &[Log])
-    ensures { All IsLog list.now }
-{
-    for log in list {
-        log.keeps_its_rules();
-    }
-}
-
 impl Logs {
     /// Makes the logs from this list. A refusal gives the list back with the first rule that it breaks.
     pub fn new(list: Vec<Log>) -> Result<Logs, Refused<Vec<Log>>>
         ensures { MatchResult result (λ l. (l ≡ list.items) × IsRun list.items)
             (λ r. (r.value.items ≡ list.items) × Refuses 0 32 IsBelowLog list.items r.fault) }
     {
-        let fault = if list.len() > MOST {
-            ListFault::TooMany(MOST)
-        } else if let Some(at) = first_fall(&list) {
-            ListFault::NotRising(at)
-        } else {
-            keep_their_rules(&list);
-            return Ok(Logs { list });
-        };
-        Err(Refused { fault, value: list })
+        let list = rising(0, MOST, list)?;
+        Ok(Logs { list })
     }
 
     /// Makes the logs from a list that is known to keep the rules.
@@ -82,26 +65,13 @@ impl Logs {
     pub fn is(&self, other: &Logs) -> bool
         ensures { IsTrue result ↔ (self.now ≡ other.now) }
     {
-        let these = self.as_slice();
-        let those = other.as_slice();
-        if these.len() != those.len() {
-            return false;
-        }
-        for i in 0..these.len() {
-            if !these[i].is(&those[i]) {
-                return false;
-            }
-        }
-        true
+        are_same(self.as_slice(), other.as_slice())
     }
 
     pub fn try_clone(&self, alloc: Global) -> Result<Logs, AllocError>
         ensures { IfOk result (λ l. l ≡ self.now) }
     {
-        let mut list = Vec::with_capacity(alloc, self.list.len())?;
-        for log in &self.list {
-            list.push(log.try_clone(alloc)?)?;
-        }
+        let list = copied(alloc, &self.list)?;
         Ok(Logs { list })
     }
 }

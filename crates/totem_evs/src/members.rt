@@ -1,14 +1,10 @@
-ghost use Rattle.std.specs.Prelude.{◌≡◌, ◌<◌, ◌^◌, All, ◌↔◌, IsTrue, Contains, IfOk, MatchResult};
-ghost use Rattle.totem_evs.specs.Lists.{Refuses};
+ghost use Rattle.std.specs.Prelude.{◌≡◌, ◌<◌, ◌↔◌, IsTrue, Contains, IfOk, MatchResult};
+ghost use Rattle.totem_ids.specs.Lists.{Refuses};
 ghost use Rattle.totem_evs.specs.Members.{IsMembers, IsBelow};
-ghost use Rattle.totem_ids.specs.declared.version.Version.TheVariants.{Three};
-ghost use Rattle.totem_ids.specs.Processes.{IsProcessIn};
 
-use crate::refused::{ListFault, Refused};
-use crate::rising::first_fall;
 use std::alloc::{AllocError, Global};
 use std::marker::Model;
-use totem_ids::{Proc, Version, life_fits};
+use totem_ids::{Proc, Refused, are_same, rising};
 
 /// How many members a configuration may have at most.
 const MOST: usize = 32;
@@ -30,35 +26,14 @@ impl Model for Members {
     ghost invariant = { λ m. IsMembers m.procs.items };
 }
 
-/// Each process keeps its own rules, so a list of processes does.
-fn keep_their_rules(list: &[Proc])
-    ensures { All (IsProcessIn Three) list.now }
-{
-    for proc in list {
-        life_fits(Version::Three, *proc);
-    }
-}
-
 impl Members {
     /// Makes the members from these processes. A refusal gives the list back with the first rule that it breaks.
     pub fn new(procs: Vec<Proc>) -> Result<Members, Refused<Vec<Proc>>>
         ensures { MatchResult result (λ m. (m ≡ procs.items) × IsMembers procs.items)
             (λ r. (r.value.items ≡ procs.items) × Refuses 1 32 IsBelow procs.items r.fault) }
     {
-        let fault = if procs.is_empty() {
-            ListFault::Empty
-        } else if procs.len() > MOST {
-            ListFault::TooMany(MOST)
-        } else if let Some(at) = first_fall(&procs) {
-            ListFault::NotRising(at)
-        } else {
-            keep_their_rules(&procs);
-            return Ok(Members { procs });
-        };
-        Err(Refused {
-            fault,
-            value: procs,
-        })
+        let procs = rising(1, MOST, procs)?;
+        Ok(Members { procs })
     }
 
     /// Makes the members from processes that are known to keep the rules.
@@ -94,17 +69,7 @@ impl Members {
     pub fn is(&self, other: &Members) -> bool
         ensures { IsTrue result ↔ (self.now ≡ other.now) }
     {
-        let these = self.as_slice();
-        let those = other.as_slice();
-        if these.len() != those.len() {
-            return false;
-        }
-        for i in 0..these.len() {
-            if these[i] != those[i] {
-                return false;
-            }
-        }
-        true
+        are_same(self.as_slice(), other.as_slice())
     }
 
     pub fn try_clone(&self, alloc: Global) -> Result<Members, AllocError>

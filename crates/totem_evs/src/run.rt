@@ -1,15 +1,14 @@
 ghost use Rattle.std.specs.Prelude.{◌≡◌, ◌↔◌, IsTrue, IfOk, MatchResult};
-ghost use Rattle.totem_evs.specs.Lists.{Refuses};
+ghost use Rattle.totem_ids.specs.Lists.{Refuses};
 ghost use Rattle.totem_evs.specs.Lives.{RefusesRun, IsFirstVersion};
 ghost use Rattle.totem_evs.specs.Runs.{IsRunIn, IsBelowLog};
 
 use crate::lives::{first_version, refusal};
 use crate::log::Log;
 use crate::logs::Logs;
-use crate::refused::Refused;
 use std::alloc::{AllocError, Global};
 use std::marker::Model;
-use totem_ids::Version;
+use totem_ids::{Refused, Version};
 
 /// A run: the logs that its processes recorded, and the version of its text, 1 to 3. Version 1 writes no lives, so in it
 /// each process has life 1; from version 3 on a log may be quiet.

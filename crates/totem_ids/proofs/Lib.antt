@@ -10,3 +10,4 @@ pub mod Lives
 pub mod AtHand
 pub mod Each
 pub mod Rises
+pub mod Kept

@@ -17,6 +17,8 @@ fn refusal(alloc: Global, fault: &ListFault, count: usize) -> Result<String, All
         ListFault::Empty => format!(in alloc; "{count} back, none"),
         ListFault::TooMany(most) => format!(in alloc; "{count} back, more than {most}"),
         ListFault::NotRising(at) => format!(in alloc; "{count} back, no rise at {at}"),
+        ListFault::Life(at) => format!(in alloc; "{count} back, lives at {at}"),
+        ListFault::Silence(at) => format!(in alloc; "{count} back, quiet at {at}"),
     }
 }
 

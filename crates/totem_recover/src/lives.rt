@@ -29,7 +29,7 @@ pub fn ids_of(alloc: Global, procs: &[Proc]) -> Result<Vec<ProcId>, AllocError>
 }
 
 /// Returns the members of a configuration in these lives, whose identifiers are known to be those of a ring's members.
-#[tactic(auto, using(crate::proofs::RingLives::not_refused))]
+#[tactic(auto, using(crate::proofs::RingLives::none_refuses))]
 pub fn members_with(lives: Vec<Proc>) -> Members
     requires { IsRingMembers (ids_of lives.items) }
     ensures { result ≡ lives.items }

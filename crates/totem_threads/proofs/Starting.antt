@@ -1,13 +1,13 @@
 -- The members of the first ring, and the logs of its nodes.
 use Rattle.std.proofs.Common.{◌≡◌, ◌≢◌, ℕ, ◌+◌, ◌<◌, ◌≤◌, List, [], ◌∷◌, ◌++◌, length, take, get_or, map, refl, ap, sym, subst, ◌∙◌, arith}
 use Rattle.std.specs.Prelude.{AllPairs}
-use Rattle.std.proofs.lemmas.List.{length-map, get_or-map, length-take-le, get_or-take, map-append, take_more, take_all}
+use Rattle.std.proofs.lemmas.List.{length-map, get_or-map, map-append, take_more, take_all}
 use Rattle.std.proofs.lemmas.List.FromFn.{length-range_with_len, get_or-range_with_len}
 use Rattle.std.proofs.lemmas.List.Elements.{All-push}
 use Rattle.totem_evs.specs.declared.ending.Ending.TheVariants.{Quiet}
-use Rattle.totem_evs.specs.declared.refused.ListFault.{ListFault}
-use Rattle.totem_evs.specs.declared.refused.ListFault.TheVariants.{Empty, TooMany, NotRising, Life, Silence}
-use Rattle.totem_evs.specs.Lists.{Refuses}
+use Rattle.totem_ids.specs.declared.refused.ListFault.{ListFault}
+use Rattle.totem_ids.specs.Lists.{Refuses}
+use Rattle.totem_ids.proofs.Kept.{not_refused}
 use Rattle.totem_evs.specs.LogRecord.{LogRecord}
 use Rattle.totem_evs.specs.Runs.{IsBelowLog}
 use Rattle.totem_net.specs.declared.ends.NodeEnds.{NodeEnds}
@@ -81,25 +81,13 @@ module _ (nodes : ℕ) (logs : List LogRecord) (procs : map (λ (l : LogRecord).
   rise : AllPairs IsBelowLog logs
   rise i j d less inside = rw (process_at i d (omega arith), process_at j d inside) (omega arith)
 
-front_pairs : {X : Type 0} (R : X → X → Type 0) (xs : List X) (n : ℕ) → n ≤ length xs → AllPairs R xs → AllPairs R (take n xs)
-front_pairs R xs n fits all = λ i j d less inside.
-    let many = length-take-le n xs in
-    let within : j < n = omega (arith, many) in
-    rw (get_or-take n xs i d (omega arith), get_or-take n xs j d within) (all i j d less (omega arith))
-
 -- they are refused by none of the rules
 pub logs_taken : (nodes : ℕ) (books : List Closed) (logs : List LogRecord) (fault : ListFault) → nodes ≤ 32
     → map (λ (b : Closed). b.start) books ≡ starts nodes → AreLogsOf books logs → Refuses 0 32 IsBelowLog logs fault → ⊥
-logs_taken nodes books logs Empty few begun are refused = let none = refused.0 in omega arith
-logs_taken nodes books logs (TooMany limit) few begun are refused =
-    let many = refused.1 in
-    let same = as_many nodes logs (processes nodes books logs begun are) in
-    omega arith
-logs_taken nodes books logs (NotRising at) few begun are refused =
-    let within = refused.1.within in
-    refused.1.falls (front_pairs IsBelowLog logs (at + 1) (omega (arith, within)) (rise nodes logs (processes nodes books logs begun are)))
-logs_taken nodes books logs (Life at) few begun are refused = absurd refused
-logs_taken nodes books logs (Silence at) few begun are refused = absurd refused
+logs_taken nodes books logs fault few begun are refused =
+    let procs = processes nodes books logs begun are in
+    let same = as_many nodes logs procs in
+    not_refused 0 32 IsBelowLog logs fault (omega arith) (omega (arith, same, few)) (rise nodes logs procs) refused
 
 -- ---- Books and their logs, one after another
 
