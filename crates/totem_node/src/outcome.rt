@@ -4,6 +4,7 @@ ghost use Rattle.std.specs.Prelude.{◌≡◌, [], IfOk};
 use crate::ring_step::RingStep;
 use std::alloc::{AllocError, Global};
 use totem_evs::Entry;
+use totem_ids::copied;
 use totem_packets::Packet;
 use totem_ring::To;
 
@@ -38,10 +39,7 @@ impl StepOut {
         for sending in &self.packets {
             packets.push((sending.0, sending.1.try_clone(alloc)?))?;
         }
-        let mut entries = Vec::with_capacity(alloc, self.entries.len())?;
-        for entry in &self.entries {
-            entries.push(entry.try_clone(alloc)?)?;
-        }
+        let entries = copied(alloc, &self.entries)?;
         let mut ring_steps = Vec::with_capacity(alloc, self.ring_steps.len())?;
         for step in &self.ring_steps {
             ring_steps.push(step.try_clone(alloc)?)?;
