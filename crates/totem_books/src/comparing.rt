@@ -1,7 +1,6 @@
 //! Compares values in a form that contracts can use.
 ghost use Rattle.std.specs.Prelude.{◌≡◌, ◌↔◌, IsTrue};
 
-mod events;
 mod packets;
 mod steps;
 

@@ -4,6 +4,7 @@ ghost use Rattle.std.specs.Prelude.{◌≡◌, ◌↔◌, IsTrue, IfOk};
 use crate::comparing::{Same, same_items};
 use std::alloc::{AllocError, Global};
 use totem_evs::Entry;
+use totem_ids::{are_same, copied};
 use totem_node::{NodeFault, StepOut};
 
 /// A node's answer to an input: what its step gave, or why the step was refused.
@@ -32,7 +33,7 @@ impl Reply {
         match (self, other) {
             (Reply::Done(this), Reply::Done(that)) => {
                 same_items(&this.packets, &that.packets)
-                    && same_items(&this.entries, &that.entries)
+                    && are_same(&this.entries, &that.entries)
                     && same_items(&this.ring_steps, &that.ring_steps)
             }
             (Reply::Refused(this), Reply::Refused(that)) => this.same(that),
@@ -45,18 +46,8 @@ impl Reply {
         ensures { IfOk result (λ entries. entries.items ≡ entries_of (answer_of self.now)) }
     {
         match self {
-            Reply::Done(out) => copies_of(alloc, &out.entries),
+            Reply::Done(out) => copied(alloc, &out.entries),
             Reply::Refused(_) => Ok(Vec::new(alloc)),
         }
     }
-}
-
-fn copies_of(alloc: Global, entries: &[Entry]) -> Result<Vec<Entry>, AllocError>
-    ensures { IfOk result (λ copies. copies.items ≡ entries.now) }
-{
-    let mut copies = Vec::with_capacity(alloc, entries.len())?;
-    for entry in entries {
-        copies.push(entry.try_clone(alloc)?)?;
-    }
-    Ok(copies)
 }
