@@ -12,12 +12,14 @@ use Rattle.totem_ids.proofs.Readers.{begins, called, failed, breaks_at}
 use Rattle.totem_evs.specs.Certificates.{Numbering}
 use Rattle.totem_cert.specs.CertRecord.{CertRecord}
 use Rattle.totem_cert.specs.CertText.{cert_text}
-use Rattle.totem_cert.specs.CertGrammar.{lines_at, header_at, cert_at}
+use Rattle.totem_cert.specs.CertGrammar.{cert_words, lines_at, cert_at}
+use Rattle.totem_evs.specs.Heads.{header_at}
 use Rattle.totem_cert.specs.CertFaults.{cert_fault}
 use Rattle.totem_cert.specs.Reading.{IsRead, ReadsCert}
 use Rattle.totem_cert.specs.Keeping.{IsCertificateOf}
 use Rattle.totem_cert.proofs.LinesFromLeft.{is_certificate}
-use Rattle.totem_cert.proofs.SpelledCert.{lines_is, header_is, cert_is}
+use Rattle.totem_cert.proofs.SpelledCert.{of_text, lines_is, cert_is}
+use Rattle.totem_evs.proofs.SpelledHeads.{header_is}
 use Rattle.totem_cert.proofs.OwnFaults.{own_fault}
 
 -- what was taken is the text of what was read
@@ -53,13 +55,13 @@ read_as version lines = Ok (record { version = version; lines = lines.0 }, lines
 abbrev pub lines_after : Version → List ℕ → Parsed CertRecord
 lines_after version bytes = lines_at version 33 0 bytes >>= read_as version
 
-pub header_read : (a b : Seen) (version : Version) → Comes a b header_at (λ more. Ok (version, more)) → Comes a b cert_at (lines_after version)
+pub header_read : (a b : Seen) (version : Version) → Comes a b (header_at cert_words) (λ more. Ok (version, more)) → Comes a b cert_at (lines_after version)
 unfolding cert_at
-header_read a b version h = called a a b cert_at header_at (λ v. lines_after v.0 v.1) version (begins a cert_at) h
+header_read a b version h = called a a b cert_at (header_at cert_words) (λ v. lines_after v.0 v.1) version (begins a cert_at) h
 
-pub header_failed : (a b : Seen) (e : ReadError) → Reads {Y = Version} a b (Err e) header_at → Reads {Y = CertRecord} a b (Err e) cert_at
+pub header_failed : (a b : Seen) (e : ReadError) → Reads {Y = Version} a b (Err e) (header_at cert_words) → Reads {Y = CertRecord} a b (Err e) cert_at
 unfolding cert_at
-header_failed a b e h = failed a a b cert_at header_at (λ v. lines_after v.0 v.1) e (begins a cert_at) h
+header_failed a b e h = failed a a b cert_at (header_at cert_words) (λ v. lines_after v.0 v.1) e (begins a cert_at) h
 
 pub lines_failed : (a b c : Seen) (version : Version) (e : ReadError) → Comes a b cert_at (lines_after version) → Reads {Y = List Numbering} b c (Err e) (lines_at version 33 0) → Reads {Y = CertRecord} a c (Err e) cert_at
 lines_failed a b c version e so_far h = failed a b c cert_at (lines_at version 33 0) (read_as version) e so_far h
@@ -68,8 +70,8 @@ pub lines_read : (a b c : Seen) (version : Version) (lines : List Numbering) →
 lines_read a b c version lines so_far h = called a b c cert_at (lines_at version 33 0) (read_as version) lines so_far h
 
 -- what was read is a certificate
-pub is_read : (a b c d : Seen) (version : Version) (lines : List Numbering) → Comes a b header_at (λ more. Ok (version, more)) → Comes c d (lines_at version 33 0) (λ more. Ok (lines, more)) → IsCertificateOf (record { version = version; lines = lines })
+pub is_read : (a b c d : Seen) (version : Version) (lines : List Numbering) → Comes a b (header_at cert_words) (λ more. Ok (version, more)) → Comes c d (lines_at version 33 0) (λ more. Ok (lines, more)) → IsCertificateOf (record { version = version; lines = lines })
 is_read a b c d version lines first others = record {
-  version = (header_is version (first.read ++ []) [] (first.left [])).0;
+  version = of_text version (header_is cert_words version (first.read ++ []) [] (first.left [])).0;
   lines = is_certificate version lines (lines_is version 33 0 lines (others.read ++ []) [] (others.left [])).0;
 }

@@ -15,19 +15,19 @@ use Rattle.totem_ids.specs.Ranks.{rank_of}
 use Rattle.totem_ids.proofs.Lives.{process_then_is}
 use Rattle.totem_ids.proofs.Spelled.{byte_is, word_is, number_is}
 use Rattle.totem_evs.specs.Certificates.{Numbering}
-use Rattle.totem_evs.specs.RunText.{line, version_digit}
-use Rattle.totem_evs.specs.RunGrammar.{by_head}
-use Rattle.totem_evs.proofs.GoesOn.{Cut, Splits, ok_cut, fault_cut, test_cut, bind_cut, last_cut, byte_cut, word_cut, number_cut}
-use Rattle.totem_evs.proofs.LineGoesOn.{ProcessTo, process_cut, first_process_is}
+use Rattle.totem_evs.specs.Heads.{head_at, by_head, header_at}
+use Rattle.totem_evs.proofs.GoesOn.{Cut, Splits, ok_cut, fault_cut, test_cut, bind_cut, last_cut, number_cut}
+use Rattle.totem_evs.proofs.SpelledHeads.{head_text, IsHead, head_is, header_is}
+use Rattle.totem_evs.proofs.HeadsGoOn.{IsLooseHead, HeadTo, head_cut, HeaderTo, header_cut}
 use Rattle.totem_cert.specs.CertRecord.{CertRecord}
 use Rattle.totem_cert.specs.Keeping.{IsNumber, IsOfText}
 use Rattle.totem_cert.specs.CertText.{numbers_text, header_text, cert_text}
-use Rattle.totem_cert.specs.CertGrammar.{numbers_at, line_proc_at, begin_at, end_at, head_at, lines_at, header_end, header_at, cert_at}
+use Rattle.totem_cert.specs.CertGrammar.{cert_words, numbers_at, lines_at, cert_at}
 use Rattle.totem_cert.specs.CertFronts.{IsFront, IsLooseCertificate, IsLooseFront, IsFirstWrong}
 use Rattle.totem_cert.proofs.LinesFromLeft.{NumbersFrom, LooseLinesFrom, line_loosely, is_loose_certificate}
 use Rattle.totem_cert.proofs.CertLoops.{numbering}
 use Rattle.totem_cert.proofs.SpelledNumbers.{numbers_is}
-use Rattle.totem_cert.proofs.SpelledCert.{head_text, IsHead, lines_text, lines_parts, made_line, head_is, header_is, cert_parts, no_cert}
+use Rattle.totem_cert.proofs.SpelledCert.{of_text, lines_text, lines_parts, made_line, cert_parts, no_cert}
 use Rattle.totem_cert.proofs.SteadyCert.{cert_steady, cert_first_break}
 
 -- ---- numbers
@@ -77,77 +77,6 @@ numbers_cut (suc room) bytes =
           (λ h. fault_cut faults.Word Is rest refl));
     })
 
--- ---- a line up to its numbers, or the last line
-
-abbrev ProcTo : Version → List ℕ → Type 0
-ProcTo version t = (p : ℕ) × IsProcessIn version p × (t ≡ codes "os " ++ (process_text version p ++ 32 ∷ []))
-
-proc_cut : (version : Version) (last : ℕ) (bytes : List ℕ) → Cut (line_proc_at version last bytes) (ProcTo version) bytes
-unfolding line_proc_at
-proc_cut version last bytes =
-    bind_cut (word_at faults.Word (codes "os ") bytes) (λ w. process_then version w.1 >>= λ p. cond (nat_le p.0.0 last) (Err faults.Order) (cond (p.0.1 == 32) (Ok (p.0.0, p.1)) (Err faults.Word))) (λ t. t ≡ codes "os ") (ProcTo version) bytes (word_cut faults.Word (codes "os ") bytes refl)
-    (λ t e.
-    let u = process_text version (rank_of 1 1) ++ 32 ∷ [] in
-    (u, (rank_of 1 1, first_process_is version, ap (λ (k : List ℕ). k ++ u) e)))
-    (λ w rest e. record {
-      text = codes "os ";
-      whole = word_is faults.Word (codes "os ") bytes rest w e;
-      next = bind_cut (process_then version rest) (λ p. cond (nat_le p.0.0 last) (Err faults.Order) (cond (p.0.1 == 32) (Ok (p.0.0, p.1)) (Err faults.Word))) (ProcessTo version) Is rest (process_cut version rest)
-          (λ t x. (32 ∷ [], (x.0, x.1, ap (λ (k : List ℕ). codes "os " ++ (k ++ 32 ∷ [])) x.2)))
-          (λ n rest2 e2.
-          let x = process_then_is version n.0 n.1 rest rest2 e2 in
-          let Then : List ℕ → Type 0 = λ u. Is ((process_text version n.0 ++ n.1 ∷ []) ++ u) in
-          record {
-            text = process_text version n.0 ++ n.1 ∷ [];
-            whole = x.spelled ∙ sym (append_assoc (process_text version n.0) (n.1 ∷ []) rest2);
-            next = test_cut (nat_le n.0 last) (Err faults.Order) (cond (n.1 == 32) (Ok (n.0, rest2)) (Err faults.Word)) Then rest2
-                (λ h. fault_cut faults.Order Then rest2 refl)
-                (λ h. test_cut (n.1 == 32) (Ok (n.0, rest2)) (Err faults.Word) Then rest2
-                (λ h. ok_cut (n.0, rest2) Then rest2)
-                (λ h. fault_cut faults.Word Then rest2 refl));
-          });
-    })
-  where
-    Is : List ℕ → Type 0
-    Is u = ProcTo version (codes "os " ++ u)
-
-abbrev IsLooseHead : Version → Bool → Option ℕ → Type 0
-IsLooseHead version full None = Unit {0}
-IsLooseHead version full (Some p) = (full ≡ false) × IsProcessIn version p
-
-abbrev pub HeadTo : Version → Bool → List ℕ → Type 0
-HeadTo version full t = (head : Option ℕ) × IsLooseHead version full head × (t ≡ head_text version head)
-
-begin_cut : (version : Version) (full : Bool) (last : ℕ) (bytes : List ℕ) → Cut (begin_at version full last bytes) (λ u. HeadTo version full (112 ∷ u)) bytes
-unfolding begin_at
-begin_cut version full last bytes =
-    test_cut full (Err faults.TooMany) (line_proc_at version last bytes >>= λ p. Ok (Some p.0, p.1)) Is bytes
-    (λ h. fault_cut faults.TooMany Is bytes refl)
-    (λ h. last_cut (line_proc_at version last bytes) (λ p. (Some p.0, p.1)) (ProcTo version) Is bytes (proc_cut version last bytes) (λ t x. (Some x.0, (h, x.1), ap (λ (k : List ℕ). 112 ∷ k) x.2)))
-  where
-    Is : List ℕ → Type 0
-    Is u = HeadTo version full (112 ∷ u)
-
-end_cut : (version : Version) (full : Bool) (bytes : List ℕ) → Cut (end_at bytes) (λ u. HeadTo version full (101 ∷ u)) bytes
-unfolding end_at
-end_cut version full bytes =
-    last_cut (word_at faults.Word (line (codes "nd")) bytes) (λ w. (None, w.1)) (λ t. t ≡ line (codes "nd")) (λ u. HeadTo version full (101 ∷ u)) bytes (word_cut faults.Word (line (codes "nd")) bytes refl) (λ t e. (None, tt, ap (λ (k : List ℕ). 101 ∷ k) e))
-
-head_cut : (version : Version) (full : Bool) (last : ℕ) (bytes : List ℕ) → Cut (head_at version full last bytes) (HeadTo version full) bytes
-unfolding head_at
-head_cut version full last bytes =
-    bind_cut (byte_at bytes) (λ b. cond (b.0 == 112) (begin_at version full last b.1) (cond (b.0 == 101) (end_at b.1) (Err faults.Word))) (λ t. t ≡ 101 ∷ []) (HeadTo version full) bytes (byte_cut 101 bytes)
-    (λ t e. (line (codes "nd"), (None, tt, ap (λ (k : List ℕ). k ++ line (codes "nd")) e)))
-    (λ b rest e. record {
-      text = b ∷ [];
-      whole = byte_is bytes b rest e;
-      next = test_cut (b == 112) (begin_at version full last rest) (cond (b == 101) (end_at rest) (Err faults.Word)) (λ u. HeadTo version full (b ∷ u)) rest
-          (λ h. let same : b ≡ 112 = eqb-true b 112 h in rw same (begin_cut version full last rest))
-          (λ h. test_cut (b == 101) (end_at rest) (Err faults.Word) (λ u. HeadTo version full (b ∷ u)) rest
-          (λ h. let same : b ≡ 101 = eqb-true b 101 h in rw same (end_cut version full rest))
-          (λ h. fault_cut faults.Word (λ u. HeadTo version full (b ∷ u)) rest refl));
-    })
-
 -- ---- lines
 
 abbrev pub LinesTo : Version → ℕ → ℕ → List ℕ → Type 0
@@ -156,7 +85,7 @@ LinesTo version room last t = (lines : List Numbering) × LooseLinesFrom version
 not_zero : (n : ℕ) → (n == 0) ≡ false → 0 < n
 not_zero n h = grind (arith, nat_tests)
 
-joined : (version : Version) (p : ℕ) (ns : List ℕ) (lines : List Numbering) (t u : List ℕ) → 32 ∷ t ≡ numbers_text ns ++ 10 ∷ [] → u ≡ lines_text version lines [] → head_text version (Some p) ++ (t ++ u) ≡ lines_text version (numbering p ns ∷ lines) []
+joined : (version : Version) (p : ℕ) (ns : List ℕ) (lines : List Numbering) (t u : List ℕ) → 32 ∷ t ≡ numbers_text ns ++ 10 ∷ [] → u ≡ lines_text version lines [] → head_text cert_words version (Some p) ++ (t ++ u) ≡ lines_text version (numbering p ns ∷ lines) []
 joined version p ns lines t u e f =
     sym (lines_parts version (numbering p ns) lines (t ++ u) [] (ap (λ (k : List ℕ). k ++ u) e ∙ append_assoc (numbers_text ns) (10 ∷ []) u ∙ ap (λ (k : List ℕ). numbers_text ns ++ 10 ∷ k) f))
 
@@ -164,7 +93,7 @@ one_of : NumbersFrom 1000000 (1 ∷ [])
 one_of = record { some = omega arith; few = omega arith; each = (one_number, tt) }
 
 -- the last line, or a line that came last but for its numbers
-lines_from : (version : Version) (room last : ℕ) (head : Option ℕ) (t : List ℕ) → IsLooseHead version (room == 0) head → t ≡ head_text version head → (u : List ℕ) × LinesTo version (suc room) last (t ++ u)
+lines_from : (version : Version) (room last : ℕ) (head : Option ℕ) (t : List ℕ) → IsLooseHead version (room == 0) head → t ≡ head_text cert_words version head → (u : List ℕ) × LinesTo version (suc room) last (t ++ u)
 lines_from version room last None t is e = ([], ([], record { few = omega arith; rises = tt }, ap (λ (k : List ℕ). k ++ []) e))
 lines_from version room last (Some p) t is e =
     let u = (decimal 1 ++ 10 ∷ []) ++ lines_text version [] [] in
@@ -177,14 +106,14 @@ lines_from version room last (Some p) t is e =
       ),
     )
 
-lines_step : (version : Version) (room last : ℕ) (head : Option ℕ) (bytes rest : List ℕ) → IsHead version (room == 0) last head × (bytes ≡ head_text version head ++ rest)
+lines_step : (version : Version) (room last : ℕ) (head : Option ℕ) (bytes rest : List ℕ) → IsHead version (room == 0) last head × (bytes ≡ head_text cert_words version head ++ rest)
     → ((p : ℕ) (rest2 : List ℕ) → Cut (lines_at version room p rest2) (LinesTo version room p) rest2)
     → Splits (by_head {Y = Parsed (List Numbering)} head (Ok ([], rest)) (λ p. numbers_at 1000000 rest >>= λ numbers. lines_at version room p numbers.1 >>= λ others. Ok (numbering p numbers.0 ∷ others.0, others.1))) (LinesTo version (suc room) last) bytes rest
-lines_step version room last None bytes rest found again = record { text = head_text version None; whole = found.1; next = ok_cut ([], rest) (λ u. LinesTo version (suc room) last (head_text version None ++ u)) rest }
+lines_step version room last None bytes rest found again = record { text = head_text cert_words version None; whole = found.1; next = ok_cut ([], rest) (λ u. LinesTo version (suc room) last (head_text cert_words version None ++ u)) rest }
 lines_step version room last (Some p) bytes rest found again =
     let few : 0 < room = not_zero room found.0.0 in
     record {
-      text = head_text version (Some p);
+      text = head_text cert_words version (Some p);
       whole = found.1;
       next = bind_cut (numbers_at 1000000 rest) (λ numbers. lines_at version room p numbers.1 >>= λ others. Ok (numbering p numbers.0 ∷ others.0, others.1)) (NumbersTo 1000000) Is rest (numbers_cut 1000000 rest)
           (λ t x. (lines_text version [] [], (numbering p x.0 ∷ [], record { few = omega (arith, few); rises = made_line version p x.0 found.0.2 x.1 }, joined version p x.0 [] t (lines_text version [] []) x.2 refl)))
@@ -200,7 +129,7 @@ lines_step version room last (Some p) bytes rest found again =
     }
   where
     Is : List ℕ → Type 0
-    Is u = LinesTo version (suc room) last (head_text version (Some p) ++ u)
+    Is u = LinesTo version (suc room) last (head_text cert_words version (Some p) ++ u)
 
     tails : (xs ys : List ℕ) → 32 ∷ xs ≡ 32 ∷ ys → xs ≡ ys
     tails xs ys e = cc
@@ -213,44 +142,11 @@ lines_cut : (version : Version) (room last : ℕ) (bytes : List ℕ) → Cut (li
 unfolding lines_at
 lines_cut version zero last bytes = fault_cut faults.TooMany (LinesTo version zero last) bytes refl
 lines_cut version (suc room) last bytes =
-    bind_cut (head_at version (room == 0) last bytes) (λ head. by_head head.0 (Ok ([], head.1)) (λ p. numbers_at 1000000 head.1 >>= λ numbers. lines_at version room p numbers.1 >>= λ others. Ok (numbering p numbers.0 ∷ others.0, others.1))) (HeadTo version (room == 0)) (LinesTo version (suc room) last) bytes (head_cut version (room == 0) last bytes)
+    bind_cut (head_at cert_words version (room == 0) last bytes) (λ head. by_head head.0 (Ok ([], head.1)) (λ p. numbers_at 1000000 head.1 >>= λ numbers. lines_at version room p numbers.1 >>= λ others. Ok (numbering p numbers.0 ∷ others.0, others.1))) (HeadTo cert_words version (room == 0)) (LinesTo version (suc room) last) bytes (head_cut cert_words version (room == 0) last bytes)
     (λ t x. lines_from version room last x.0 t x.1 x.2)
-    (λ head rest e. lines_step version room last head bytes rest (head_is version (room == 0) last head bytes rest e) (λ p rest2. lines_cut version room p rest2))
+    (λ head rest e. lines_step version room last head bytes rest (head_is cert_words version (room == 0) last head bytes rest e) (λ p rest2. lines_cut version room p rest2))
 
 -- ---- certificates
-
-abbrev pub HeaderTo : List ℕ → Type 0
-HeaderTo t = (version : Version) × IsOfText version × (t ≡ header_text version)
-
-header_end_cut : (version : Version) (bytes : List ℕ) → IsOfText version → Cut (header_end version bytes) (λ u. HeaderTo (codes "totem-cert " ++ version_digit version ∷ u)) bytes
-unfolding header_end
-header_end_cut version bytes is =
-    last_cut (word_at faults.Header (line []) bytes) (λ w. (version, w.1)) (λ t. t ≡ line []) (λ u. HeaderTo (codes "totem-cert " ++ version_digit version ∷ u)) bytes (word_cut faults.Header (line []) bytes refl)
-    (λ t e. (version, is, ap (λ (k : List ℕ). codes "totem-cert " ++ version_digit version ∷ k) e))
-
-header_cut : (bytes : List ℕ) → Cut (header_at bytes) HeaderTo bytes
-unfolding header_at
-header_cut bytes =
-    bind_cut (word_at faults.Header (codes "totem-cert ") bytes) (λ w. byte_at w.1 >>= λ v. cond (v.0 == 49) (header_end One v.1) (cond (v.0 == 50) (header_end Two v.1) (Err faults.Header))) (λ t. t ≡ codes "totem-cert ") HeaderTo bytes (word_cut faults.Header (codes "totem-cert ") bytes refl)
-    (λ t e. (49 ∷ 10 ∷ [], (One, tt, ap (λ (k : List ℕ). k ++ 49 ∷ 10 ∷ []) e)))
-    (λ w rest e. record {
-      text = codes "totem-cert ";
-      whole = word_is faults.Header (codes "totem-cert ") bytes rest w e;
-      next = bind_cut (byte_at rest) (λ v. cond (v.0 == 49) (header_end One v.1) (cond (v.0 == 50) (header_end Two v.1) (Err faults.Header))) (λ t. t ≡ 49 ∷ []) Is rest (byte_cut 49 rest)
-          (λ t e. (10 ∷ [], (One, tt, ap (λ (k : List ℕ). codes "totem-cert " ++ (k ++ 10 ∷ [])) e)))
-          (λ v rest2 e2. record {
-            text = v ∷ [];
-            whole = byte_is rest v rest2 e2;
-            next = test_cut (v == 49) (header_end One rest2) (cond (v == 50) (header_end Two rest2) (Err faults.Header)) (λ u. Is (v ∷ u)) rest2
-                (λ h. let same : v ≡ 49 = eqb-true v 49 h in rw same (header_end_cut One rest2 tt))
-                (λ h. test_cut (v == 50) (header_end Two rest2) (Err faults.Header) (λ u. Is (v ∷ u)) rest2
-                (λ h. let same : v ≡ 50 = eqb-true v 50 h in rw same (header_end_cut Two rest2 tt))
-                (λ h. fault_cut faults.Header (λ u. Is (v ∷ u)) rest2 refl));
-          });
-    })
-  where
-    Is : List ℕ → Type 0
-    Is u = HeaderTo (codes "totem-cert " ++ u)
 
 abbrev pub CertTo : List ℕ → Type 0
 CertTo t = (cert : CertRecord) × IsOfText cert.version × IsLooseCertificate cert.version cert.lines × (cert_text cert ≡ t)
@@ -263,14 +159,14 @@ cert_of version lines t of is e =
 cert_cut : (bytes : List ℕ) → Cut (cert_at bytes) CertTo bytes
 unfolding cert_at
 cert_cut bytes =
-    bind_cut (header_at bytes) (λ v. lines_at v.0 33 0 v.1 >>= λ lines. Ok (record { version = v.0; lines = lines.0 }, lines.1)) HeaderTo CertTo bytes (header_cut bytes)
-    (λ t x. (lines_text x.0 [] [], rw x.2 (cert_of x.0 [] (lines_text x.0 [] []) x.1 (record { few = omega arith; rises = tt }) refl)))
+    bind_cut (header_at cert_words bytes) (λ v. lines_at v.0 33 0 v.1 >>= λ lines. Ok (record { version = v.0; lines = lines.0 }, lines.1)) (HeaderTo cert_words) CertTo bytes (header_cut cert_words bytes)
+    (λ t x. (lines_text x.0 [] [], rw x.2 (cert_of x.0 [] (lines_text x.0 [] []) (of_text x.0 x.1) (record { few = omega arith; rises = tt }) refl)))
     (λ v rest e.
-    let y = header_is v bytes rest e in
+    let y = header_is cert_words v bytes rest e in
     record {
       text = header_text v;
       whole = y.1;
-      next = last_cut {B = CertRecord} (lines_at v 33 0 rest) (λ lines. (record { version = v; lines = lines.0 }, lines.1)) (LinesTo v 33 0) (λ u. CertTo (header_text v ++ u)) rest (lines_cut v 33 0 rest) (λ t x. cert_of v x.0 t y.0 x.1 x.2);
+      next = last_cut {B = CertRecord} (lines_at v 33 0 rest) (λ lines. (record { version = v; lines = lines.0 }, lines.1)) (LinesTo v 33 0) (λ u. CertTo (header_text v ++ u)) rest (lines_cut v 33 0 rest) (λ t x. cert_of v x.0 t (of_text v y.0) x.1 x.2);
     })
 
 pub cut_front : (bytes : List ℕ) → cert_at bytes ≡ Err faults.Truncated → IsLooseFront bytes

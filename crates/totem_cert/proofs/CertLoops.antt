@@ -8,12 +8,9 @@ use Rattle.totem_ids.specs.Sources.{Seen, Parsed, Comes, ◌>>=◌}
 use Rattle.totem_ids.specs.Numbers.{number_at}
 use Rattle.totem_ids.proofs.Readers.{gives, same_left}
 use Rattle.totem_evs.specs.Certificates.{Numbering}
-use Rattle.totem_evs.specs.RunGrammar.{by_head}
-use Rattle.totem_cert.specs.CertGrammar.{numbers_at, head_at, lines_at}
-
-one_more : {A : Type 0} (front : List A) (p : A) (r : Parsed (List A)) → ((r >>= λ others. gives (p ∷ others.0) others.1) >>= λ x. gives (front ++ x.0) x.1) ≡ (r >>= λ x. gives ((front ++ p ∷ []) ++ x.0) x.1)
-one_more {A = A} front p (Ok x) = ap (λ (ms : List A). Ok (ms, x.1)) (simp append_assoc)
-one_more front p (Err e) = refl
+use Rattle.totem_evs.specs.Heads.{head_at, by_head}
+use Rattle.totem_evs.proofs.RunLoops.{one_more, none_before}
+use Rattle.totem_cert.specs.CertGrammar.{cert_words, numbers_at, lines_at}
 
 -- ---- numbers
 
@@ -43,11 +40,7 @@ unfolding numbers_at
 numbers_none front room e bytes = rw e refl
 
 pub numbers_first : (room : ℕ) (bytes : List ℕ) → numbers_at room bytes ≡ with_numbers [] room bytes
-numbers_first room bytes = go (numbers_at room bytes)
-  where
-    go : (r : Parsed (List ℕ)) → r ≡ (r >>= λ x. gives ([] ++ x.0) x.1)
-    go (Ok x) = refl
-    go (Err e) = refl
+numbers_first room bytes = none_before (numbers_at room bytes)
 
 -- ---- lines
 
@@ -57,10 +50,10 @@ numbering p numbers = record { proc = p; numbers = numbers }
 abbrev pub with_lines : Version → List Numbering → ℕ → ℕ → List ℕ → Parsed (List Numbering)
 with_lines version front room last bytes = lines_at version room last bytes >>= λ x. gives (front ++ x.0) x.1
 
-pub lines_step : (version : Version) (front : List Numbering) (room room' last : ℕ) (full : Bool) → room ≡ suc room' → (room' == 0) ≡ full → (bytes : List ℕ) → with_lines version front room last bytes ≡ (head_at version full last bytes >>= λ head.
+pub lines_step : (version : Version) (front : List Numbering) (room room' last : ℕ) (full : Bool) → room ≡ suc room' → (room' == 0) ≡ full → (bytes : List ℕ) → with_lines version front room last bytes ≡ (head_at cert_words version full last bytes >>= λ head.
     by_head head.0 (gives front head.1) (λ p. numbers_at 1000000 head.1 >>= λ numbers. with_lines version (front ++ numbering p numbers.0 ∷ []) room' p numbers.1))
 unfolding lines_at
-lines_step version front room room' last full e same bytes = rw (e, same) (go (head_at version full last bytes))
+lines_step version front room room' last full e same bytes = rw (e, same) (go (head_at cert_words version full last bytes))
   where
     lined : (p : ℕ) (r : Parsed (List ℕ)) →
         ((r >>= λ numbers. lines_at version room' p numbers.1 >>= λ others. gives (numbering p numbers.0 ∷ others.0) others.1) >>= λ x. gives (front ++ x.0) x.1)
@@ -85,11 +78,7 @@ unfolding lines_at
 lines_none version front room last e bytes = rw e refl
 
 pub lines_first : (version : Version) (room last : ℕ) (bytes : List ℕ) → lines_at version room last bytes ≡ with_lines version [] room last bytes
-lines_first version room last bytes = go (lines_at version room last bytes)
-  where
-    go : (r : Parsed (List Numbering)) → r ≡ (r >>= λ x. gives ([] ++ x.0) x.1)
-    go (Ok x) = refl
-    go (Err e) = refl
+lines_first version room last bytes = none_before (lines_at version room last bytes)
 
 -- ---- the steps of the reader of lines
 

@@ -1,18 +1,17 @@
 -- Where each fault of a certificate's text stands (docs/SPECIFICATIONS.md, "Certificate text").
-use Rattle.std.specs.Prelude.{◌≡◌, ◌≢◌, ℕ, ◌<◌, ◌≤◌, ◌==◌, ◌⊎◌, List, [], ◌∷◌, ◌++◌, length, codes, All, Some, true, false, Ok, Err}
+use Rattle.std.specs.Prelude.{◌≡◌, ℕ, ◌<◌, ◌==◌, ◌⊎◌, List, [], ◌∷◌, ◌++◌, length, codes, All, Some, true, false, Ok, Err}
 use Rattle.std.specs.List.{flat_map}
 use Rattle.totem_ids.specs.declared.fault.TextFault.{TextFault}
-use Rattle.totem_ids.specs.Numbers.{is_digit}
 use Rattle.totem_ids.specs.declared.version.Version.{Version}
-use Rattle.totem_ids.specs.declared.version.Version.TheVariants.{One, Two}
 use Rattle.totem_ids.specs.Processes.{process_text, IsProcessIn}
 use Rattle.totem_evs.specs.Certificates.{Numbering}
-use Rattle.totem_evs.specs.RunText.{line, version_digit}
-use Rattle.totem_evs.specs.TextFaults.{Differs, BreaksNumber}
+use Rattle.totem_evs.specs.Heads.{head_at}
+use Rattle.totem_evs.specs.HeadFaults.{BreaksFirstLine, BeginsBelow}
+use Rattle.totem_evs.specs.TextFaults.{BreaksNumber}
 use Rattle.totem_cert.specs.CertRecord.{CertRecord}
-use Rattle.totem_cert.specs.Keeping.{IsNumber, IsCertificateOf, IsOfText}
+use Rattle.totem_cert.specs.Keeping.{IsNumber, IsCertificateOf}
 use Rattle.totem_cert.specs.CertText.{numbers_text, line_text, header_text}
-use Rattle.totem_cert.specs.CertGrammar.{numbers_at, head_at, cert_at}
+use Rattle.totem_cert.specs.CertGrammar.{cert_words, numbers_at, cert_at}
 
 -- ---- the line that has the fault
 
@@ -33,30 +32,19 @@ pub record IsBehindLines (bytes : List ℕ) (Is : Version → ℕ → ℕ → Li
 -- the line there has this fault: up to the space before its numbers, or in its numbers
 abbrev pub HasFault : TextFault → Version → ℕ → ℕ → List ℕ → Type 0
 HasFault fault version count last rest =
-    (head_at version (count == 32) last rest ≡ Err fault)
-    ⊎ ((p : ℕ) × (mid : List ℕ) × (head_at version (count == 32) last rest ≡ Ok (Some p, mid)) × (numbers_at 1000000 mid ≡ Err fault))
+    (head_at cert_words version (count == 32) last rest ≡ Err fault)
+    ⊎ ((p : ℕ) × (mid : List ℕ) × (head_at cert_words version (count == 32) last rest ≡ Ok (Some p, mid)) × (numbers_at 1000000 mid ≡ Err fault))
 
 -- ---- Header
 
--- the words of the first line differ; or the digit of its version is of none; or no line end is behind it
 abbrev pub BreaksHeader : List ℕ → Type 0
-BreaksHeader bytes =
-    Differs (codes "totem-cert ") bytes
-    ⊎ ((byte : ℕ) × (rest : List ℕ) × (bytes ≡ codes "totem-cert " ++ byte ∷ rest) × (byte ≢ version_digit One) × (byte ≢ version_digit Two))
-    ⊎ ((version : Version) × (rest : List ℕ) × IsOfText version × (bytes ≡ codes "totem-cert " ++ version_digit version ∷ rest) × Differs (line []) rest)
+BreaksHeader bytes = BreaksFirstLine cert_words bytes
 
 -- ---- Order
 
--- a line begins whose process is complete at the byte behind it and not above the last one, where a line may begin
-pub record HasOrder (version : Version) (count last : ℕ) (rest : List ℕ) : Type 0 where
-  pub proc : ℕ
-  pub byte : ℕ
-  pub more : List ℕ
-  pub room : (count == 32) ≡ false
-  pub fits : IsProcessIn version proc
-  pub below : proc ≤ last
-  pub complete : is_digit byte ≡ false
-  pub is : rest ≡ codes "pos " ++ (process_text version proc ++ byte ∷ more)
+-- a line begins, where one may, whose process is not above that of the last one
+abbrev pub HasOrder : Version → ℕ → ℕ → List ℕ → Type 0
+HasOrder version count last rest = BeginsBelow cert_words version (count == 32) last rest
 
 -- ---- TooMany
 

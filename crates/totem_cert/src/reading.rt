@@ -5,11 +5,12 @@ ghost use Rattle.totem_cert.specs.Reading.{ReadsCert};
 
 use crate::cert_fault::CertFault;
 use crate::certificate::Certificate;
-use crate::heads::{read_head, read_header};
+use crate::form::CertText;
 use crate::line::Line;
 use crate::lines::Lines;
 use crate::numbers::Numbers;
 use std::alloc::Global;
+use totem_evs::{read_head, read_header};
 use totem_ids::{ReadError, Source, TextFault, Version, number};
 
 // Numbers up to the line end.
@@ -43,7 +44,7 @@ fn read_lines<S: Source>(
     let mut lines = Vec::new(alloc);
     let mut last = 0u32;
     'lines: for count in 0..33u32 {
-        match read_head(source, version, count == 32, last)? {
+        match read_head::<CertText, S>(source, version, count == 32, last)? {
             None => return Ok(Lines::of(lines)),
             Some(proc) => {
                 let numbers = read_numbers(alloc, source)?;
@@ -62,7 +63,7 @@ fn read_text<S: Source>(alloc: Global, source: &mut S) -> Result<Certificate, Re
     ensures { Reads (seen S.remaining S.failures source.old)
         (seen S.remaining S.failures source.new) result cert_at }
 {
-    let version = read_header(source)?;
+    let version = read_header::<CertText, S>(source)?;
     let lines = read_lines(alloc, source, version)?;
     Ok(Certificate { version, lines })
 }

@@ -13,7 +13,8 @@ use Rattle.totem_evs.specs.declared.part.Part.{Part}
 use Rattle.totem_evs.specs.declared.run_fault.RunFault.{RunFault}
 use Rattle.totem_evs.specs.declared.run_fault.RunFault.TheVariants as faults
 use Rattle.totem_evs.specs.RunText.{run_text}
-use Rattle.totem_evs.specs.RunGrammar.{header_at, run_at}
+use Rattle.totem_evs.specs.RunGrammar.{run_words, run_at}
+use Rattle.totem_evs.specs.Heads.{header_at}
 use Rattle.totem_evs.proofs.SpelledRun.{run_is}
 use Rattle.totem_evs.specs.Parts.{part_at, first_stage, next_stage}
 use Rattle.totem_evs.specs.ReadState.{ReadState}
@@ -44,18 +45,18 @@ fault_on a b c parse sub k Fits Fit Lacks Lacking faults.Read empty so_far lacks
 fault_on a b c parse sub k Fits Fit Lacks Lacking faults.Memory empty so_far lacks h = h ∙ so_far.failures
 
 -- the first line, and what follows it
-opens : (a : Seen) → Comes a a run_at (λ more. header_at more >>= λ v. rest_at (first_stage v.0) none_gathered v.1)
-opens a = same_left a a run_at run_at (λ more. header_at more >>= λ v. rest_at (first_stage v.0) none_gathered v.1) (begins a run_at) first_step
+opens : (a : Seen) → Comes a a run_at (λ more. header_at run_words more >>= λ v. rest_at (first_stage v.0) none_gathered v.1)
+opens a = same_left a a run_at run_at (λ more. header_at run_words more >>= λ v. rest_at (first_stage v.0) none_gathered v.1) (begins a run_at) first_step
 
 -- the first line was not read
 pub first_fault : (a c : Seen) (e : RunFault) → BeginsRun a c (Err e) → ReadsRun a c (Err e)
-first_fault a c e h = fault_on a a c run_at header_at (λ v. rest_at (first_stage v.0) none_gathered v.1) (HasBegun a c) (FitsRun a c) (λ p. ⊥) (LacksRun a c) e run_none (opens a) (λ p lacks. absurd lacks) h
+first_fault a c e h = fault_on a a c run_at (header_at run_words) (λ v. rest_at (first_stage v.0) none_gathered v.1) (HasBegun a c) (FitsRun a c) (λ p. ⊥) (LacksRun a c) e run_none (opens a) (λ p lacks. absurd lacks) h
 
 -- the first line was read
 pub first_folded : (a c : Seen) (s : ReadState) → HasBegun a c s → (GathersIn s none_gathered) → Folded a c s none_gathered
 first_folded a c s begun gathers = record {
   so_far = same_left a c run_at (λ more. rest_at (first_stage begun.version) none_gathered more) (rest_at s.stage none_gathered)
-      (called a a c run_at header_at (λ v. rest_at (first_stage v.0) none_gathered v.1) begun.version (opens a) begun.taken)
+      (called a a c run_at (header_at run_words) (λ v. rest_at (first_stage v.0) none_gathered v.1) begun.version (opens a) begun.taken)
       (λ more. ap (λ st. rest_at st none_gathered more) (sym begun.first.stage));
   gathers = gathers;
 }

@@ -11,7 +11,8 @@ use Rattle.totem_evs.specs.declared.part.Part.{Part}
 use Rattle.totem_evs.specs.declared.part.Part.TheVariants as parts
 use Rattle.totem_evs.specs.declared.stage.Stage.{Stage}
 use Rattle.totem_evs.specs.declared.stage.OpenLog.{OpenLog}
-use Rattle.totem_evs.specs.RunGrammar.{is_failure, line_at, by_line, log_at, head_at, by_head, header_at, run_at}
+use Rattle.totem_evs.specs.RunGrammar.{is_failure, line_at, by_line, log_at, run_words, run_at}
+use Rattle.totem_evs.specs.Heads.{head_at, by_head, header_at}
 use Rattle.totem_evs.specs.Parts.{begun_at, within_at, next_at, part_at, first_stage, next_stage}
 use Rattle.totem_evs.specs.Gathered.{GatheredLogs, none_gathered, gathered}
 use Rattle.totem_evs.proofs.RunLoops.{with_logs, with_entries, logs_step, entries_step, log_first, as_run, run_first, full_is}
@@ -56,7 +57,7 @@ line_part l = Ok (Some (by_line l.0 parts.Close parts.Entry), l.1)
 step_between : (version : Version) (logs last : ℕ) (g : GatheredLogs) → logs ≤ 32 → (bytes : List ℕ) → with_logs version g.logs (33 - logs) last bytes ≡ (begun_at version logs last bytes >>= λ x. logs_behind (record { version = version; logs = logs; last = last; log = None }) g x.0 x.1)
 unfolding begun_at
 step_between version logs last g le bytes =
-    logs_step version g.logs (33 - logs) (33 - (logs + 1)) last (logs == 32) (omega arith) (full_is 32 logs (33 - (logs + 1)) (omega arith)) bytes ∙ go (head_at version (logs == 32) last bytes)
+    logs_step version g.logs (33 - logs) (33 - (logs + 1)) last (logs == 32) (omega arith) (full_is 32 logs (33 - (logs + 1)) (omega arith)) bytes ∙ go (head_at run_words version (logs == 32) last bytes)
   where
     headed : (head : Option ℕ) (rest : List ℕ) →
         by_head {Y = Parsed (List Log)} head (Ok (g.logs, rest)) (λ p. log_at version p rest >>= λ log. with_logs version (g.logs ++ log.0 ∷ []) (33 - (logs + 1)) p log.1)
@@ -125,5 +126,5 @@ version_kept stage (parts.Entry e) = refl
 version_kept stage (parts.Close ending) = refl
 
 -- the first line, and what is still read behind it
-pub first_step : (bytes : List ℕ) → run_at bytes ≡ (header_at bytes >>= λ v. rest_at (first_stage v.0) none_gathered v.1)
+pub first_step : (bytes : List ℕ) → run_at bytes ≡ (header_at run_words bytes >>= λ v. rest_at (first_stage v.0) none_gathered v.1)
 first_step bytes = run_first bytes

@@ -22,7 +22,8 @@ use Rattle.totem_evs.specs.declared.line.Line.TheVariants as lines
 use Rattle.totem_evs.specs.declared.log.Log.{Log}
 use Rattle.totem_ids.specs.Services.{service_at}
 use Rattle.totem_evs.specs.Endings.{writes_quiet}
-use Rattle.totem_evs.specs.RunGrammar.{is_failure, members_at, change_at, send_at, delivery_at, open_at, quiet_at, failed_at, fail_at, ail_at, failure_at, line_at, by_line, lines_at, log_at, log_proc_at, begin_at, end_at, head_at, by_head, logs_at, header_end, header_at, run_at}
+use Rattle.totem_evs.specs.RunGrammar.{is_failure, members_at, change_at, send_at, delivery_at, open_at, quiet_at, failed_at, fail_at, ail_at, failure_at, line_at, by_line, lines_at, log_at, run_words, logs_at, run_at}
+use Rattle.totem_evs.specs.Heads.{Words, proc_at, begin_at, end_at, head_at, by_head, header_end, header_at}
 use Rattle.totem_evs.specs.TextFaults.{IsPast, IsNoNumber, BreaksNumber}
 use Rattle.totem_evs.proofs.PartFaults.{bind_case}
 
@@ -248,12 +249,12 @@ too_many = fault_numbered faults.TooMany (λ h. absurd cc)
 end' : {A : Type 0} → Numbered {A = A} (λ bytes. Err faults.End)
 end' = fault_numbered faults.End (λ h. absurd cc)
 
-pub words : (word : List ℕ) → Numbered (word_at faults.Word word)
-words word = word_numbered faults.Word word (λ h. absurd cc)
+pub words_numbered : (word : List ℕ) → Numbered (word_at faults.Word word)
+words_numbered word = word_numbered faults.Word word (λ h. absurd cc)
 
 change_numbered : (version : Version) (full : Bool) → Numbered (change_at version full)
 unfolding change_at
-change_numbered version full = cond_numbered _ _ _ too_many (bind_numbered _ _ (words _) (λ w. bind_numbered _ _ (conf_numbered 32) (λ x. bind_numbered _ _ (members_numbered version 32 0) (λ ms. gives_numbered _))))
+change_numbered version full = cond_numbered _ _ _ too_many (bind_numbered _ _ (words_numbered _) (λ w. bind_numbered _ _ (conf_numbered 32) (λ x. bind_numbered _ _ (members_numbered version 32 0) (λ ms. gives_numbered _))))
 
 service_numbered : Numbered service_at
 unfolding service_at
@@ -261,23 +262,23 @@ service_numbered = bind_numbered _ _ byte_numbered (λ b. cond_numbered (b == 97
 
 send_numbered : (full : Bool) → Numbered (send_at full)
 unfolding send_at
-send_numbered full = cond_numbered _ _ _ too_many (bind_numbered _ _ (words _) (λ w. bind_numbered _ _ (conf_numbered 32) (λ x. bind_numbered _ _ service_numbered (λ s. bind_numbered _ _ (words _) (λ v. bind_numbered _ _ (message_numbered 10) (λ m. gives_numbered _))))))
+send_numbered full = cond_numbered _ _ _ too_many (bind_numbered _ _ (words_numbered _) (λ w. bind_numbered _ _ (conf_numbered 32) (λ x. bind_numbered _ _ service_numbered (λ s. bind_numbered _ _ (words_numbered _) (λ v. bind_numbered _ _ (message_numbered 10) (λ m. gives_numbered _))))))
 
 delivery_numbered : (full : Bool) → Numbered (delivery_at full)
 unfolding delivery_at
-delivery_numbered full = cond_numbered _ _ _ too_many (bind_numbered _ _ (words _) (λ w. bind_numbered _ _ (conf_numbered 32) (λ x. bind_numbered _ _ (message_numbered 10) (λ m. gives_numbered _))))
+delivery_numbered full = cond_numbered _ _ _ too_many (bind_numbered _ _ (words_numbered _) (λ w. bind_numbered _ _ (conf_numbered 32) (λ x. bind_numbered _ _ (message_numbered 10) (λ m. gives_numbered _))))
 
 open_numbered : (some failed : Bool) → Numbered (open_at some failed)
 unfolding open_at
-open_numbered some failed = cond_numbered _ _ _ (bind_numbered _ _ (words _) (λ w. gives_numbered _)) end'
+open_numbered some failed = cond_numbered _ _ _ (bind_numbered _ _ (words_numbered _) (λ w. gives_numbered _)) end'
 
 quiet_numbered : (written some failed : Bool) → Numbered (quiet_at written some failed)
 unfolding quiet_at
-quiet_numbered written some failed = cond_numbered _ _ _ (cond_numbered _ _ _ (bind_numbered _ _ (words _) (λ w. gives_numbered _)) end') word'
+quiet_numbered written some failed = cond_numbered _ _ _ (cond_numbered _ _ _ (bind_numbered _ _ (words_numbered _) (λ w. gives_numbered _)) end') word'
 
 failed_numbered : (failed : Bool) → Numbered (failed_at failed)
 unfolding failed_at
-failed_numbered failed = cond_numbered _ _ _ (bind_numbered _ _ (words _) (λ w. gives_numbered _)) end'
+failed_numbered failed = cond_numbered _ _ _ (bind_numbered _ _ (words_numbered _) (λ w. gives_numbered _)) end'
 
 fail_numbered : (full : Bool) → Numbered (fail_at full)
 unfolding fail_at
@@ -285,7 +286,7 @@ fail_numbered full = cond_numbered _ _ _ too_many (bind_numbered _ _ (conf_numbe
 
 ail_numbered : (full failed : Bool) → Numbered (ail_at full failed)
 unfolding ail_at
-ail_numbered full failed = bind_numbered _ _ (words _) (λ w. bind_numbered _ _ byte_numbered (λ b. cond_numbered _ _ _ (failed_numbered failed) (cond_numbered _ _ _ (fail_numbered full) word')))
+ail_numbered full failed = bind_numbered _ _ (words_numbered _) (λ w. bind_numbered _ _ byte_numbered (λ b. cond_numbered _ _ _ (failed_numbered failed) (cond_numbered _ _ _ (fail_numbered full) word')))
 
 failure_numbered : (full failed : Bool) → Numbered (failure_at full failed)
 unfolding failure_at
@@ -308,28 +309,30 @@ log_numbered : (version : Version) (p : ℕ) → Numbered (log_at version p)
 unfolding log_at
 log_numbered version p = bind_numbered _ _ (lines_numbered version 1000001 false false) (λ body. gives_numbered _)
 
--- ---- logs
+-- ---- the beginning of a record
 
-proc_numbered : (version : Version) (last : ℕ) → Numbered (log_proc_at version last)
-unfolding log_proc_at
-proc_numbered version last = bind_numbered _ _ (words _) (λ w. bind_numbered _ _ (process_numbered version) (λ p. cond_numbered _ _ _ (fault_numbered faults.Order (λ h. absurd cc)) (cond_numbered _ _ _ (gives_numbered _) word')))
+proc_numbered : (words : Words) (version : Version) (last : ℕ) → Numbered (proc_at words version last)
+unfolding proc_at
+proc_numbered words version last = bind_numbered _ _ (words_numbered _) (λ w. bind_numbered _ _ (process_numbered version) (λ p. cond_numbered _ _ _ (fault_numbered faults.Order (λ h. absurd cc)) (cond_numbered _ _ _ (gives_numbered _) word')))
 
-begin_numbered : (version : Version) (full : Bool) (last : ℕ) → Numbered (begin_at version full last)
+begin_numbered : (words : Words) (version : Version) (full : Bool) (last : ℕ) → Numbered (begin_at words version full last)
 unfolding begin_at
-begin_numbered version full last = cond_numbered _ _ _ too_many (bind_numbered _ _ (proc_numbered version last) (λ p. gives_numbered _))
+begin_numbered words version full last = cond_numbered _ _ _ too_many (bind_numbered _ _ (proc_numbered words version last) (λ p. gives_numbered _))
 
 end_numbered : Numbered end_at
 unfolding end_at
-end_numbered = bind_numbered _ _ (words _) (λ w. gives_numbered _)
+end_numbered = bind_numbered _ _ (words_numbered _) (λ w. gives_numbered _)
 
-head_numbered : (version : Version) (full : Bool) (last : ℕ) → Numbered (head_at version full last)
+pub head_numbered : (words : Words) (version : Version) (full : Bool) (last : ℕ) → Numbered (head_at words version full last)
 unfolding head_at
-head_numbered version full last = bind_numbered _ _ byte_numbered (λ b. cond_numbered _ _ _ (begin_numbered version full last) (cond_numbered _ _ _ end_numbered word'))
+head_numbered words version full last = bind_numbered _ _ byte_numbered (λ b. cond_numbered _ _ _ (begin_numbered words version full last) (cond_numbered _ _ _ end_numbered word'))
+
+-- ---- logs
 
 logs_numbered : (version : Version) (room last : ℕ) → Numbered (logs_at version room last)
 unfolding logs_at
 logs_numbered version zero last = too_many
-logs_numbered version (suc room) last = bind_numbered _ _ (head_numbered version (room == 0) last) (λ head. go head (λ p. logs_numbered version room p))
+logs_numbered version (suc room) last = bind_numbered _ _ (head_numbered run_words version (room == 0) last) (λ head. go head (λ p. logs_numbered version room p))
   where
     go : (head : Option ℕ) → ((p : ℕ) → Numbered (logs_at version room p)) → Numbered (λ bytes. by_head {Y = Parsed (List Log)} head (Ok ([], bytes)) (λ p. log_at version p bytes >>= λ log. logs_at version room p log.1 >>= λ others. Ok (log.0 ∷ others.0, others.1)))
     go None again = gives_numbered _
@@ -342,17 +345,20 @@ header_end_numbered : (version : Version) → Numbered (header_end version)
 unfolding header_end
 header_end_numbered version = bind_numbered _ _ (header_words _) (λ w. gives_numbered _)
 
-header_numbered : Numbered header_at
+pub header_numbered : (words : Words) → Numbered (header_at words)
 unfolding header_at
-header_numbered = bind_numbered _ _ (header_words _) (λ w. bind_numbered _ _ byte_numbered (λ v. cond_numbered _ _ _ (header_end_numbered One) (cond_numbered _ _ _ (header_end_numbered Two) (cond_numbered _ _ _ (header_end_numbered Three) (fault_numbered faults.Header (λ h. absurd cc))))))
+header_numbered words = bind_numbered _ _ (header_words _) (λ w. bind_numbered _ _ byte_numbered (λ v. cond_numbered _ _ _ (header_end_numbered One) (cond_numbered _ _ _ (header_end_numbered Two) (cond_numbered _ _ _ (header_end_numbered Three) (fault_numbered faults.Header (λ h. absurd cc))))))
 
 run_numbered : Numbered run_at
 unfolding run_at
-run_numbered = bind_numbered _ _ header_numbered (λ v. bind_numbered _ _ (logs_numbered v 33 0) (λ logs. gives_numbered _))
+run_numbered = bind_numbered _ _ (header_numbered run_words) (λ v. bind_numbered _ _ (logs_numbered v 33 0) (λ logs. gives_numbered _))
 
 -- Number is a number's fault, and a number's fault is Number
-pub run_number : (bytes : List ℕ) → (run_at bytes ≡ Err faults.Number) ↔ BreaksNumber run_at bytes
-run_number bytes = (
-  run_numbered.breaks bytes,
-  λ h. ap run_at h.is ∙ h.wants h.rest ∙ ap (λ (r : Parsed (ℕ × ℕ)). r >>= h.after) (none_number h.max h.rest (limits h.max h.limit).1 h.none),
+pub number_exactly : {Y : Type 0} (parse : List ℕ → Parsed Y) → Numbered parse → (bytes : List ℕ) → (parse bytes ≡ Err faults.Number) ↔ BreaksNumber parse bytes
+number_exactly parse numbered bytes = (
+  numbered.breaks bytes,
+  λ h. ap parse h.is ∙ h.wants h.rest ∙ ap (λ (r : Parsed (ℕ × ℕ)). r >>= h.after) (none_number h.max h.rest (limits h.max h.limit).1 h.none),
 )
+
+pub run_number : (bytes : List ℕ) → (run_at bytes ≡ Err faults.Number) ↔ BreaksNumber run_at bytes
+run_number = number_exactly run_at run_numbered

@@ -13,7 +13,8 @@ use Rattle.totem_ids.specs.Numbers.{is_digit, byte_at, word_at, digits_at, numbe
 use Rattle.totem_ids.specs.Parsers.{ring_at, message_at, regular_at, transitional_at, conf_at}
 use Rattle.totem_ids.specs.Services.{service_at}
 use Rattle.totem_evs.specs.Endings.{writes_quiet}
-use Rattle.totem_evs.specs.RunGrammar.{members_at, change_at, send_at, delivery_at, open_at, quiet_at, failed_at, fail_at, ail_at, failure_at, line_at, log_proc_at, begin_at, end_at, head_at, header_end, header_at}
+use Rattle.totem_evs.specs.RunGrammar.{members_at, change_at, send_at, delivery_at, open_at, quiet_at, failed_at, fail_at, ail_at, failure_at, line_at}
+use Rattle.totem_evs.specs.Heads.{Words, proc_at, begin_at, end_at, head_at, header_end, header_at}
 
 -- an answer is a value, or a fault of this kind
 pub record Only {A : Type 0} (P : TextFault → Type 0) (r : Parsed A) : Type 0 where
@@ -110,9 +111,9 @@ header_end_only : (P : TextFault → Type 0) (version : Version) (bytes : List �
 unfolding header_end
 header_end_only P version bytes is short = bind_only P _ _ (word_only P faults.Header _ bytes is short) (λ w. ok_only P _)
 
-pub header_only : (P : TextFault → Type 0) (bytes : List ℕ) → P faults.Header → P faults.Truncated → Only P (header_at bytes)
+pub header_only : (words : Words) (P : TextFault → Type 0) (bytes : List ℕ) → P faults.Header → P faults.Truncated → Only P (header_at words bytes)
 unfolding header_at
-header_only P bytes is short = bind_only P _ _ (word_only P faults.Header _ bytes is short) (λ w. bind_only P _ _ (byte_only P w.1 short) (λ v. cond_only P _ _ _ (header_end_only P One v.1 is short) (cond_only P _ _ _ (header_end_only P Two v.1 is short) (cond_only P _ _ _ (header_end_only P Three v.1 is short) (fault_only P faults.Header is)))))
+header_only words P bytes is short = bind_only P _ _ (word_only P faults.Header _ bytes is short) (λ w. bind_only P _ _ (byte_only P w.1 short) (λ v. cond_only P _ _ _ (header_end_only P One v.1 is short) (cond_only P _ _ _ (header_end_only P Two v.1 is short) (cond_only P _ _ _ (header_end_only P Three v.1 is short) (fault_only P faults.Header is)))))
 
 -- ---- lines
 
@@ -183,20 +184,20 @@ unfolding line_at
 line_only version P full some failed bytes is end = bind_only P _ _ (byte_only P bytes is.names.short) (λ b. cond_only P _ _ _ (change_only version P full b.1 is) (cond_only P _ _ _ (send_only P full b.1 is) (cond_only P _ _ _ (delivery_only P full b.1 is)
     (cond_only P _ _ _ (failure_only P full failed b.1 is end) (cond_only P _ _ _ (open_only P some failed b.1 is.names end) (cond_only P _ _ _ (quiet_only P (writes_quiet version) some failed b.1 is.names end) (fault_only P faults.Word is.names.word)))))))
 
--- ---- between logs
+-- ---- between records
 
-pub log_proc_only : (version : Version) (P : TextFault → Type 0) (last : ℕ) (bytes : List ℕ) → OfNames P → P faults.Order → Only P (log_proc_at version last bytes)
-unfolding log_proc_at
-log_proc_only version P last bytes is order = bind_only P _ _ (word_only P faults.Word _ bytes is.word is.short) (λ w. bind_only P _ _ (process_only P version w.1 is) (λ p. cond_only P _ _ _ (fault_only P faults.Order order) (cond_only P _ _ _ (ok_only P _) (fault_only P faults.Word is.word))))
+pub proc_only : (words : Words) (version : Version) (P : TextFault → Type 0) (last : ℕ) (bytes : List ℕ) → OfNames P → P faults.Order → Only P (proc_at words version last bytes)
+unfolding proc_at
+proc_only words version P last bytes is order = bind_only P _ _ (word_only P faults.Word _ bytes is.word is.short) (λ w. bind_only P _ _ (process_only P version w.1 is) (λ p. cond_only P _ _ _ (fault_only P faults.Order order) (cond_only P _ _ _ (ok_only P _) (fault_only P faults.Word is.word))))
 
 pub end_only : (P : TextFault → Type 0) (bytes : List ℕ) → OfNames P → Only P (end_at bytes)
 unfolding end_at
 end_only P bytes is = bind_only P _ _ (word_only P faults.Word _ bytes is.word is.short) (λ w. ok_only P _)
 
-begin_only : (version : Version) (P : TextFault → Type 0) (full : Bool) (last : ℕ) (bytes : List ℕ) → OfNames P → P faults.Order → P faults.TooMany → Only P (begin_at version full last bytes)
+begin_only : (words : Words) (version : Version) (P : TextFault → Type 0) (full : Bool) (last : ℕ) (bytes : List ℕ) → OfNames P → P faults.Order → P faults.TooMany → Only P (begin_at words version full last bytes)
 unfolding begin_at
-begin_only version P full last bytes is order many = cond_only P _ _ _ (fault_only P faults.TooMany many) (bind_only P _ _ (log_proc_only version P last bytes is order) (λ p. ok_only P _))
+begin_only words version P full last bytes is order many = cond_only P _ _ _ (fault_only P faults.TooMany many) (bind_only P _ _ (proc_only words version P last bytes is order) (λ p. ok_only P _))
 
-pub head_only : (version : Version) (P : TextFault → Type 0) (full : Bool) (last : ℕ) (bytes : List ℕ) → OfNames P → P faults.Order → P faults.TooMany → Only P (head_at version full last bytes)
+pub head_only : (words : Words) (version : Version) (P : TextFault → Type 0) (full : Bool) (last : ℕ) (bytes : List ℕ) → OfNames P → P faults.Order → P faults.TooMany → Only P (head_at words version full last bytes)
 unfolding head_at
-head_only version P full last bytes is order many = bind_only P _ _ (byte_only P bytes is.short) (λ b. cond_only P _ _ _ (begin_only version P full last b.1 is order many) (cond_only P _ _ _ (end_only P b.1 is) (fault_only P faults.Word is.word)))
+head_only words version P full last bytes is order many = bind_only P _ _ (byte_only P bytes is.short) (λ b. cond_only P _ _ _ (begin_only words version P full last b.1 is order many) (cond_only P _ _ _ (end_only P b.1 is) (fault_only P faults.Word is.word)))

@@ -16,9 +16,9 @@ use Rattle.totem_evs.specs.declared.line.Line.TheVariants as lines
 use Rattle.totem_evs.specs.declared.ending.Ending.TheVariants.{Standing, Failed, Quiet}
 use Rattle.totem_evs.specs.RunText.{line}
 use Rattle.totem_evs.specs.Endings.{writes_quiet}
-use Rattle.totem_evs.specs.RunGrammar.{change_at, send_at, delivery_at, open_at, quiet_at, failed_at, fail_at, ail_at, failure_at, line_at, log_proc_at, begin_at, end_at, head_at}
-use Rattle.totem_evs.specs.TextFaults.{IsLogBelow, ClosesWrong}
-use Rattle.totem_evs.proofs.OnlyFaults.{OfNames, OfEntries, fault_only, word_only, process_only, change_only, send_only, delivery_only, fail_only, end_only}
+use Rattle.totem_evs.specs.RunGrammar.{change_at, send_at, delivery_at, open_at, quiet_at, failed_at, fail_at, ail_at, failure_at, line_at}
+use Rattle.totem_evs.specs.TextFaults.{ClosesWrong}
+use Rattle.totem_evs.proofs.OnlyFaults.{OfNames, OfEntries, fault_only, word_only, change_only, send_only, delivery_only, fail_only}
 
 -- ---- steps and tests that failed
 
@@ -165,73 +165,3 @@ end_line version full some failed bytes (inr (inr (rest, is, room, ends))) = rw 
 
 pub end_exactly : (version : Version) (full some failed : Bool) (bytes : List ℕ) → (line_at version full some failed bytes ≡ Err faults.End) ↔ ClosesWrong (writes_quiet version) full some failed bytes
 end_exactly version full some failed bytes = (line_end version full some failed bytes, end_line version full some failed bytes)
-
--- ---- Order
-
-abbrev pub NotOrder : TextFault → Type 0
-NotOrder faults.Header = Unit {0}
-NotOrder faults.Word = Unit {0}
-NotOrder faults.Number = Unit {0}
-NotOrder faults.Order = ⊥
-NotOrder faults.Members = Unit {0}
-NotOrder faults.End = Unit {0}
-NotOrder faults.Truncated = Unit {0}
-NotOrder faults.TooMany = Unit {0}
-
-pub names_not_order : OfNames NotOrder
-names_not_order = record { word = tt; number = tt; short = tt }
-
-within_is : (a b : ℕ) → nat_le a b ≡ true → a ≤ b
-within_is a b h = grind (arith, nat_tests)
-
-proc_order : (version : Version) (logs last : ℕ) (bytes rest : List ℕ) → (logs == 32) ≡ false → bytes ≡ 108 ∷ rest → log_proc_at version last rest ≡ Err faults.Order → IsLogBelow version logs last bytes
-unfolding log_proc_at
-proc_order version logs last bytes rest room is e =
-    bind_case (word_at faults.Word (codes "og ") rest) (λ w. process_then version w.1 >>= λ p. cond (nat_le p.0.0 last) (Err faults.Order) (cond (p.0.1 == 10) (Ok (p.0.0, p.1)) (Err faults.Word))) faults.Order e
-    (λ k. absurd ((word_only NotOrder faults.Word (codes "og ") rest tt tt).fault faults.Order k))
-    (λ w b1 e1 k.
-    bind_case (process_then version b1) (λ p. cond (nat_le p.0.0 last) (Err faults.Order) (cond (p.0.1 == 10) (Ok (p.0.0, p.1)) (Err faults.Word))) faults.Order k
-    (λ k. absurd ((process_only NotOrder version b1 names_not_order).fault faults.Order k))
-    (λ p b2 e2 k.
-    let x = process_then_is version p.0 p.1 b1 b2 e2 in
-    elim (taken (nat_le p.0 last) (Err faults.Order) (cond (p.1 == 10) (Ok (p.0, b2)) (Err faults.Word)) (Err faults.Order) k) [
-      | inl y ↦ record {
-        proc = p.0;
-        byte = p.1;
-        rest = b2;
-        room = room;
-        fits = record { id_fits = x.id_fits; life_fits = x.life_fits; first = x.first };
-        below = within_is p.0 last y.0;
-        complete = x.behind;
-        is = is ∙ ap (λ (t : List ℕ). 108 ∷ t) (word_is faults.Word (codes "og ") rest b1 w e1) ∙ ap (λ (t : List ℕ). codes "log " ++ t) x.spelled;
-      }
-      | inr y ↦ absurd (never (p.1 == 10) (p.0, b2) y.1)
-    ]))
-  where
-    never : (t : Bool) (x : ℕ × List ℕ) → ◌≡◌ {A = Parsed ℕ} (cond t (Ok x) (Err faults.Word)) (Err faults.Order) → ⊥
-    never true x e = absurd cc
-    never false x e = (fault_only {A = ℕ} NotOrder faults.Word tt).fault faults.Order e
-
-head_order : (version : Version) (logs last : ℕ) (bytes : List ℕ) → head_at version (logs == 32) last bytes ≡ Err faults.Order → IsLogBelow version logs last bytes
-unfolding head_at begin_at
-head_order version logs last bytes e =
-    byte_case bytes (λ b. cond (b.0 == 108) (begin_at version (logs == 32) last b.1) (cond (b.0 == 101) (end_at b.1) (Err faults.Word))) faults.Order (λ h. absurd cc) e (λ b rest is k.
-    byte_pick b 108 (begin_at version (logs == 32) last rest) (cond (b == 101) (end_at rest) (Err faults.Word)) (Err faults.Order) k
-    (λ h k. elim (taken (logs == 32) (Err faults.TooMany) (log_proc_at version last rest >>= λ p. Ok (Some p.0, p.1)) (Err faults.Order) k) [
-      | inl x ↦ absurd ((fault_only {A = Option ℕ} NotOrder faults.TooMany tt).fault faults.Order x.1)
-      | inr x ↦ bind_case (log_proc_at version last rest) (λ p. Ok (Some p.0, p.1)) faults.Order x.1 (proc_order version logs last bytes rest x.0 (is ∙ ap (λ (c : ℕ). c ∷ rest) h)) (λ p mid e1 k. absurd cc)
-    ])
-    (λ k. byte_pick b 101 (end_at rest) (Err faults.Word) (Err faults.Order) k
-    (λ h k. absurd ((end_only NotOrder rest names_not_order).fault faults.Order k))
-    (λ k. absurd ((fault_only {A = Option ℕ} NotOrder faults.Word tt).fault faults.Order k))))
-
-order_head : (version : Version) (logs last : ℕ) (bytes : List ℕ) → IsLogBelow version logs last bytes → head_at version (logs == 32) last bytes ≡ Err faults.Order
-unfolding head_at begin_at log_proc_at
-order_head version logs last bytes h =
-    let test : nat_le h.proc last ≡ true = (let le = h.below in grind (arith, nat_tests)) in
-    rw (h.is, h.room) (
-    rw (word_again faults.Word (codes "og ") (process_text version h.proc ++ h.byte ∷ h.rest)) (
-    rw (process_then_again version h.proc h.byte h.rest h.complete h.fits, test) refl))
-
-pub order_exactly : (version : Version) (logs last : ℕ) (bytes : List ℕ) → (head_at version (logs == 32) last bytes ≡ Err faults.Order) ↔ IsLogBelow version logs last bytes
-order_exactly version logs last bytes = (head_order version logs last bytes, order_head version logs last bytes)

@@ -18,14 +18,15 @@ use Rattle.totem_evs.specs.declared.part.Part.TheVariants as parts
 use Rattle.totem_evs.specs.declared.stage.Stage.{Stage}
 use Rattle.totem_evs.specs.declared.stage.OpenLog.{OpenLog}
 use Rattle.totem_evs.specs.RunText.{line, entry_text, ending_text, log_text, header_text}
-use Rattle.totem_evs.specs.RunGrammar.{line_at, head_at, by_line, by_head}
+use Rattle.totem_evs.specs.RunGrammar.{line_at, by_line, run_words}
+use Rattle.totem_evs.specs.Heads.{head_at, by_head}
 use Rattle.totem_evs.specs.Parts.{begun_at, within_at, next_at, part_at, first_stage, next_stage, part_text, entry_parts, log_parts, run_parts}
 use Rattle.totem_evs.specs.Endings.{writes_quiet}
 use Rattle.totem_evs.specs.ReadState.{ComesBetween, ComesWithin, ComesIn, MayCome}
 use Rattle.totem_evs.specs.Gathered.{GatheredLogs, none_gathered, gathered}
 use Rattle.totem_evs.specs.PartLaws.{ReadsParts, PartsMakeTheRun, TextIsOfParts}
 use Rattle.totem_evs.proofs.SpelledLine.{IsLine, line_is}
-use Rattle.totem_evs.proofs.SpelledRun.{IsHead, head_is}
+use Rattle.totem_evs.proofs.SpelledHeads.{IsHead, head_is}
 use Rattle.totem_evs.proofs.Folding.{as_part, line_part, rest_at, behind, OfLast, FewEntries, step, version_kept, first_step}
 use Rattle.totem_evs.proofs.Gathers.{below_limit}
 
@@ -34,8 +35,8 @@ use Rattle.totem_evs.proofs.Gathers.{below_limit}
 between_comes : (version : Version) (logs last : ℕ) (part : Option Part) (bytes rest : List ℕ) → begun_at version logs last bytes ≡ Ok (part, rest) → ComesBetween logs last part
 unfolding begun_at
 between_comes version logs last part bytes rest e =
-    after (head_at version (logs == 32) last bytes) as_part (part, rest) e (λ head mid e1 made.
-    go head (head_is version (logs == 32) last head bytes mid e1).0 (parsed_is (by_head head None (λ p. Some (parts.Log p))) part mid rest made).0)
+    after (head_at run_words version (logs == 32) last bytes) as_part (part, rest) e (λ head mid e1 made.
+    go head (head_is run_words version (logs == 32) last head bytes mid e1).0 (parsed_is (by_head head None (λ p. Some (parts.Log p))) part mid rest made).0)
   where
     go : (head : Option ℕ) → IsHead version (logs == 32) last head → by_head {Y = Option Part} head None (λ p. Some (parts.Log p)) ≡ part → ComesBetween logs last part
     go None is same = subst (ComesBetween logs last) same tt

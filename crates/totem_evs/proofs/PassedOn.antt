@@ -11,7 +11,8 @@ use Rattle.totem_ids.proofs.Readers.{breaks_at}
 use Rattle.totem_evs.specs.declared.stage.Stage.{Stage}
 use Rattle.totem_evs.specs.declared.stage.OpenLog.{OpenLog}
 use Rattle.totem_evs.specs.Parts.{begun_at, within_at, next_at, part_at}
-use Rattle.totem_evs.specs.RunGrammar.{head_at, line_at, header_at, run_at}
+use Rattle.totem_evs.specs.RunGrammar.{line_at, run_words, run_at}
+use Rattle.totem_evs.specs.Heads.{head_at, header_at}
 use Rattle.totem_evs.specs.declared.run_fault.RunFault.{RunFault}
 use Rattle.totem_evs.specs.declared.run_fault.RunFault.TheVariants as faults
 use Rattle.totem_evs.specs.RunFaults.{run_fault}
@@ -33,7 +34,7 @@ passed_on old new parse Fits Lacks (errors.Text text.End) empty h = breaks_at ol
 passed_on old new parse Fits Lacks (errors.Text text.TooMany) empty h = breaks_at old new parse text.TooMany empty refl h
 
 -- no part is read from nothing
-header_none : header_at [] ≡ Err text.Truncated
+header_none : header_at run_words [] ≡ Err text.Truncated
 unfolding header_at word_at
 header_none = refl
 
@@ -50,8 +51,8 @@ unfolding run_at header_at word_at
 run_none = refl
 
 -- the first line was not read
-pub header_fault : (old new : Seen) (e : ReadError) → Reads {Y = Version} old new (Err e) header_at → BeginsRun old new (Err (run_fault e))
-header_fault old new e h = passed_on old new header_at (HasBegun old new) (λ p. ⊥) e header_none h
+pub header_fault : (old new : Seen) (e : ReadError) → Reads {Y = Version} old new (Err e) (header_at run_words) → BeginsRun old new (Err (run_fault e))
+header_fault old new e h = passed_on old new (header_at run_words) (HasBegun old new) (λ p. ⊥) e header_none h
 
 -- a part was not read
 pub part_fault : (old new : Seen) (s t : ReadState) (e : ReadError) → Reads {Y = Option Part} old new (Err e) (part_at s.stage) → ReadsPart old new s t (Err (run_fault e))

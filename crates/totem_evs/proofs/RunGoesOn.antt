@@ -25,14 +25,17 @@ use Rattle.totem_evs.specs.declared.line.Line.{Line}
 use Rattle.totem_evs.specs.declared.line.Line.TheVariants as lines
 use Rattle.totem_evs.specs.declared.log.Log.{Log}
 use Rattle.totem_evs.specs.RunText.{line, entry_text, ending_text, version_digit, header_text, run_text}
-use Rattle.totem_evs.specs.RunGrammar.{is_failure, line_at, by_line, lines_at, log_at, log_proc_at, begin_at, end_at, head_at, by_head, logs_at, header_end, header_at, run_at}
+use Rattle.totem_evs.specs.Heads.{head_at, by_head, header_at}
+use Rattle.totem_evs.specs.RunGrammar.{is_failure, line_at, by_line, lines_at, log_at, run_words, logs_at, run_at}
 use Rattle.totem_evs.specs.TextFronts.{IsFront, IsLooseEntry, IsLooseLog, IsLooseRun, IsLooseFront, IsFirstWrong}
 use Rattle.totem_evs.proofs.LooseFrom.{EachLoosely, entry_loosely, loose_entries, LooseLogsFrom, log_loosely, is_loose_run}
 use Rattle.totem_evs.proofs.SpelledLine.{IsLineOf, IsLine, line_text, line_is}
 use Rattle.totem_evs.proofs.SpelledLog.{entries_text, body_text, ends_in_failure, ending_if, ends_if, IsBodyOf, closing, closed_by, word_so, some_of, log_is}
-use Rattle.totem_evs.proofs.SpelledRun.{head_text, IsHead, logs_text, logs_parts, head_is, header_is, run_parts, no_run}
+use Rattle.totem_evs.proofs.SpelledHeads.{head_text, IsHead, head_is, header_is}
+use Rattle.totem_evs.proofs.SpelledRun.{logs_text, logs_parts, run_parts, no_run}
 use Rattle.totem_evs.proofs.SteadyRun.{run_steady, run_first_break}
 use Rattle.totem_evs.proofs.GoesOn.{Cut, Splits, ok_cut, fault_cut, test_cut, bind_cut, last_cut, byte_cut, word_cut, first_ring, first_ring_is}
+use Rattle.totem_evs.proofs.HeadsGoOn.{IsLooseHead, HeadTo, head_cut, HeaderTo, header_cut}
 use Rattle.totem_evs.proofs.LineGoesOn.{ProcessTo, process_cut, first_process_is, LineTo, line_cut}
 
 -- ---- the lines of a log
@@ -90,77 +93,6 @@ log_cut version p bytes process =
     last_cut {B = Log} (lines_at version 1000001 false false bytes) (λ body. (record { proc = p; entries = body.0.0; ending = body.0.1 }, body.1)) (BodyTo version 1000001 false false) (LogTo version p) bytes (lines_cut version 1000001 false false bytes (λ h. omega arith) (λ h. absurd cc))
     (λ t b. (record { proc = p; entries = b.0; ending = b.1 }, made_log version p b.0 b.1 process b.2, refl, b.3))
 
--- ---- the first line of a log, or the last line
-
-abbrev pub ProcTo : Version → List ℕ → Type 0
-ProcTo version t = (p : ℕ) × IsProcessIn version p × (t ≡ codes "og " ++ (process_text version p ++ 10 ∷ []))
-
-log_proc_cut : (version : Version) (last : ℕ) (bytes : List ℕ) → Cut (log_proc_at version last bytes) (ProcTo version) bytes
-unfolding log_proc_at
-log_proc_cut version last bytes =
-    bind_cut (word_at faults.Word (codes "og ") bytes) (λ w. process_then version w.1 >>= λ p. cond (nat_le p.0.0 last) (Err faults.Order) (cond (p.0.1 == 10) (Ok (p.0.0, p.1)) (Err faults.Word))) (λ t. t ≡ codes "og ") (ProcTo version) bytes (word_cut faults.Word (codes "og ") bytes refl)
-    (λ t e.
-    let u = process_text version (rank_of 1 1) ++ 10 ∷ [] in
-    (u, (rank_of 1 1, first_process_is version, ap (λ (k : List ℕ). k ++ u) e)))
-    (λ w rest e. record {
-      text = codes "og ";
-      whole = word_is faults.Word (codes "og ") bytes rest w e;
-      next = bind_cut (process_then version rest) (λ p. cond (nat_le p.0.0 last) (Err faults.Order) (cond (p.0.1 == 10) (Ok (p.0.0, p.1)) (Err faults.Word))) (ProcessTo version) Is rest (process_cut version rest)
-          (λ t x. (10 ∷ [], (x.0, x.1, ap (λ (k : List ℕ). codes "og " ++ (k ++ 10 ∷ [])) x.2)))
-          (λ n rest2 e2.
-          let x = process_then_is version n.0 n.1 rest rest2 e2 in
-          let Then : List ℕ → Type 0 = λ u. Is ((process_text version n.0 ++ n.1 ∷ []) ++ u) in
-          record {
-            text = process_text version n.0 ++ n.1 ∷ [];
-            whole = x.spelled ∙ sym (append_assoc (process_text version n.0) (n.1 ∷ []) rest2);
-            next = test_cut (nat_le n.0 last) (Err faults.Order) (cond (n.1 == 10) (Ok (n.0, rest2)) (Err faults.Word)) Then rest2
-                (λ h. fault_cut faults.Order Then rest2 refl)
-                (λ h. test_cut (n.1 == 10) (Ok (n.0, rest2)) (Err faults.Word) Then rest2
-                (λ h. ok_cut (n.0, rest2) Then rest2)
-                (λ h. fault_cut faults.Word Then rest2 refl));
-          });
-    })
-  where
-    Is : List ℕ → Type 0
-    Is u = ProcTo version (codes "og " ++ u)
-
-abbrev IsLooseHead : Version → Bool → Option ℕ → Type 0
-IsLooseHead version full None = Unit {0}
-IsLooseHead version full (Some p) = (full ≡ false) × IsProcessIn version p
-
-abbrev pub HeadTo : Version → Bool → List ℕ → Type 0
-HeadTo version full t = (head : Option ℕ) × IsLooseHead version full head × (t ≡ head_text version head)
-
-begin_cut : (version : Version) (full : Bool) (last : ℕ) (bytes : List ℕ) → Cut (begin_at version full last bytes) (λ u. HeadTo version full (108 ∷ u)) bytes
-unfolding begin_at
-begin_cut version full last bytes =
-    test_cut full (Err faults.TooMany) (log_proc_at version last bytes >>= λ p. Ok (Some p.0, p.1)) Is bytes
-    (λ h. fault_cut faults.TooMany Is bytes refl)
-    (λ h. last_cut (log_proc_at version last bytes) (λ p. (Some p.0, p.1)) (ProcTo version) Is bytes (log_proc_cut version last bytes) (λ t x. (Some x.0, (h, x.1), ap (λ (k : List ℕ). 108 ∷ k) x.2)))
-  where
-    Is : List ℕ → Type 0
-    Is u = HeadTo version full (108 ∷ u)
-
-end_cut : (version : Version) (full : Bool) (bytes : List ℕ) → Cut (end_at bytes) (λ u. HeadTo version full (101 ∷ u)) bytes
-unfolding end_at
-end_cut version full bytes =
-    last_cut (word_at faults.Word (line (codes "nd")) bytes) (λ w. (None, w.1)) (λ t. t ≡ line (codes "nd")) (λ u. HeadTo version full (101 ∷ u)) bytes (word_cut faults.Word (line (codes "nd")) bytes refl) (λ t e. (None, tt, ap (λ (k : List ℕ). 101 ∷ k) e))
-
-head_cut : (version : Version) (full : Bool) (last : ℕ) (bytes : List ℕ) → Cut (head_at version full last bytes) (HeadTo version full) bytes
-unfolding head_at
-head_cut version full last bytes =
-    bind_cut (byte_at bytes) (λ b. cond (b.0 == 108) (begin_at version full last b.1) (cond (b.0 == 101) (end_at b.1) (Err faults.Word))) (λ t. t ≡ 101 ∷ []) (HeadTo version full) bytes (byte_cut 101 bytes)
-    (λ t e. (line (codes "nd"), (None, tt, ap (λ (k : List ℕ). k ++ line (codes "nd")) e)))
-    (λ b rest e. record {
-      text = b ∷ [];
-      whole = byte_is bytes b rest e;
-      next = test_cut (b == 108) (begin_at version full last rest) (cond (b == 101) (end_at rest) (Err faults.Word)) (λ u. HeadTo version full (b ∷ u)) rest
-          (λ h. let same : b ≡ 108 = eqb-true b 108 h in rw same (begin_cut version full last rest))
-          (λ h. test_cut (b == 101) (end_at rest) (Err faults.Word) (λ u. HeadTo version full (b ∷ u)) rest
-          (λ h. let same : b ≡ 101 = eqb-true b 101 h in rw same (end_cut version full rest))
-          (λ h. fault_cut faults.Word (λ u. HeadTo version full (b ∷ u)) rest refl));
-    })
-
 -- ---- logs
 
 abbrev pub LogsTo : Version → ℕ → ℕ → List ℕ → Type 0
@@ -169,10 +101,10 @@ LogsTo version room last t = (logs : List Log) × LooseLogsFrom version room las
 body_more : (version : Version) (es : List Entry) (ending : Ending) (rest : List ℕ) → body_text version es ending [] ++ rest ≡ body_text version es ending rest
 body_more version es ending rest = append_assoc (entries_text version es) (line (ending_text ending) ++ []) rest ∙ ap (λ (k : List ℕ). entries_text version es ++ k) (append_assoc (line (ending_text ending)) [] rest)
 
-joined : (version : Version) (p : ℕ) (log : Log) (logs : List Log) (t : List ℕ) → log.proc ≡ p → t ≡ logs_text version logs [] → head_text version (Some p) ++ (body_text version log.entries log.ending [] ++ t) ≡ logs_text version (log ∷ logs) []
+joined : (version : Version) (p : ℕ) (log : Log) (logs : List Log) (t : List ℕ) → log.proc ≡ p → t ≡ logs_text version logs [] → head_text run_words version (Some p) ++ (body_text version log.entries log.ending [] ++ t) ≡ logs_text version (log ∷ logs) []
 joined version p log logs t same e =
-    ap (λ (k : List ℕ). head_text version (Some p) ++ k) (body_more version log.entries log.ending t ∙ ap (λ (k : List ℕ). body_text version log.entries log.ending k) e)
-    ∙ ap (λ (k : ℕ). head_text version (Some k) ++ body_text version log.entries log.ending (logs_text version logs [])) (sym same) ∙ sym (logs_parts version log logs [])
+    ap (λ (k : List ℕ). head_text run_words version (Some p) ++ k) (body_more version log.entries log.ending t ∙ ap (λ (k : List ℕ). body_text version log.entries log.ending k) e)
+    ∙ ap (λ (k : ℕ). head_text run_words version (Some k) ++ body_text version log.entries log.ending (logs_text version logs [])) (sym same) ∙ sym (logs_parts version log logs [])
 
 -- a log of one failure
 first_log : ℕ → Log
@@ -183,7 +115,7 @@ unfolding first_log
 first_log_is version p process = made_log version p (Fail (Regular first_ring) ∷ []) Failed process (record { few = omega arith; entries = first_ring_is; has = refl; ends = refl })
 
 -- the last line, or a first line that came last but for a log's others
-logs_from : (version : Version) (room last : ℕ) (head : Option ℕ) (t : List ℕ) → IsLooseHead version (room == 0) head → t ≡ head_text version head → (u : List ℕ) × LogsTo version (suc room) last (t ++ u)
+logs_from : (version : Version) (room last : ℕ) (head : Option ℕ) (t : List ℕ) → IsLooseHead version (room == 0) head → t ≡ head_text run_words version head → (u : List ℕ) × LogsTo version (suc room) last (t ++ u)
 unfolding first_log
 logs_from version room last None t is e = ([], ([], record { few = omega arith; rises = tt }, ap (λ (k : List ℕ). k ++ []) e))
 logs_from version room last (Some p) t is e =
@@ -192,17 +124,17 @@ logs_from version room last (Some p) t is e =
     let few : 0 < room = not_zero room is.0 in
     (u, (log ∷ [], record { few = omega (arith, few); rises = first_log_is version p is.1 }, ap (λ (k : List ℕ). k ++ u) e ∙ joined version p log [] (logs_text version [] []) refl refl))
 
-logs_step : (version : Version) (room last : ℕ) (head : Option ℕ) (bytes rest : List ℕ) → IsHead version (room == 0) last head × (bytes ≡ head_text version head ++ rest)
+logs_step : (version : Version) (room last : ℕ) (head : Option ℕ) (bytes rest : List ℕ) → IsHead version (room == 0) last head × (bytes ≡ head_text run_words version head ++ rest)
     → ((p : ℕ) (rest2 : List ℕ) → Cut (logs_at version room p rest2) (LogsTo version room p) rest2)
     → Splits (by_head {Y = Parsed (List Log)} head (Ok ([], rest)) (λ p. log_at version p rest >>= λ log. logs_at version room p log.1 >>= λ others. Ok (log.0 ∷ others.0, others.1))) (LogsTo version (suc room) last) bytes rest
-logs_step version room last None bytes rest found again = record { text = head_text version None; whole = found.1; next = ok_cut ([], rest) (λ u. LogsTo version (suc room) last (head_text version None ++ u)) rest }
+logs_step version room last None bytes rest found again = record { text = head_text run_words version None; whole = found.1; next = ok_cut ([], rest) (λ u. LogsTo version (suc room) last (head_text run_words version None ++ u)) rest }
 logs_step version room last (Some p) bytes rest found again =
     let few : 0 < room = not_zero room found.0.0 in
     record {
-      text = head_text version (Some p);
+      text = head_text run_words version (Some p);
       whole = found.1;
       next = bind_cut (log_at version p rest) (λ log. logs_at version room p log.1 >>= λ others. Ok (log.0 ∷ others.0, others.1)) (LogTo version p) Is rest (log_cut version p rest found.0.2)
-          (λ t x. (logs_text version [] [], (x.0 ∷ [], record { few = omega (arith, few); rises = x.1 }, ap (λ (k : List ℕ). head_text version (Some p) ++ (k ++ logs_text version [] [])) x.3 ∙ joined version p x.0 [] (logs_text version [] []) x.2 refl)))
+          (λ t x. (logs_text version [] [], (x.0 ∷ [], record { few = omega (arith, few); rises = x.1 }, ap (λ (k : List ℕ). head_text run_words version (Some p) ++ (k ++ logs_text version [] [])) x.3 ∙ joined version p x.0 [] (logs_text version [] []) x.2 refl)))
           (λ log rest2 e2.
           let one = log_is version p log rest rest2 found.0.2 e2 in
           record {
@@ -214,52 +146,17 @@ logs_step version room last (Some p) bytes rest found again =
     }
   where
     Is : List ℕ → Type 0
-    Is u = LogsTo version (suc room) last (head_text version (Some p) ++ u)
+    Is u = LogsTo version (suc room) last (head_text run_words version (Some p) ++ u)
 
 logs_cut : (version : Version) (room last : ℕ) (bytes : List ℕ) → Cut (logs_at version room last bytes) (LogsTo version room last) bytes
 unfolding logs_at
 logs_cut version zero last bytes = fault_cut faults.TooMany (LogsTo version zero last) bytes refl
 logs_cut version (suc room) last bytes =
-    bind_cut (head_at version (room == 0) last bytes) (λ head. by_head head.0 (Ok ([], head.1)) (λ p. log_at version p head.1 >>= λ log. logs_at version room p log.1 >>= λ others. Ok (log.0 ∷ others.0, others.1))) (HeadTo version (room == 0)) (LogsTo version (suc room) last) bytes (head_cut version (room == 0) last bytes)
+    bind_cut (head_at run_words version (room == 0) last bytes) (λ head. by_head head.0 (Ok ([], head.1)) (λ p. log_at version p head.1 >>= λ log. logs_at version room p log.1 >>= λ others. Ok (log.0 ∷ others.0, others.1))) (HeadTo run_words version (room == 0)) (LogsTo version (suc room) last) bytes (head_cut run_words version (room == 0) last bytes)
     (λ t x. logs_from version room last x.0 t x.1 x.2)
-    (λ head rest e. logs_step version room last head bytes rest (head_is version (room == 0) last head bytes rest e) (λ p rest2. logs_cut version room p rest2))
+    (λ head rest e. logs_step version room last head bytes rest (head_is run_words version (room == 0) last head bytes rest e) (λ p rest2. logs_cut version room p rest2))
 
 -- ---- runs
-
-abbrev pub HeaderTo : List ℕ → Type 0
-HeaderTo t = (version : Version) × (t ≡ header_text version)
-
-header_end_cut : (version : Version) (bytes : List ℕ) → Cut (header_end version bytes) (λ u. HeaderTo (codes "totem-run " ++ version_digit version ∷ u)) bytes
-unfolding header_end
-header_end_cut version bytes =
-    last_cut (word_at faults.Header (line []) bytes) (λ w. (version, w.1)) (λ t. t ≡ line []) (λ u. HeaderTo (codes "totem-run " ++ version_digit version ∷ u)) bytes (word_cut faults.Header (line []) bytes refl)
-    (λ t e. (version, ap (λ (k : List ℕ). codes "totem-run " ++ version_digit version ∷ k) e))
-
-header_cut : (bytes : List ℕ) → Cut (header_at bytes) HeaderTo bytes
-unfolding header_at
-header_cut bytes =
-    bind_cut (word_at faults.Header (codes "totem-run ") bytes) (λ w. byte_at w.1 >>= λ v. cond (v.0 == 49) (header_end One v.1) (cond (v.0 == 50) (header_end Two v.1) (cond (v.0 == 51) (header_end Three v.1) (Err faults.Header)))) (λ t. t ≡ codes "totem-run ") HeaderTo bytes (word_cut faults.Header (codes "totem-run ") bytes refl)
-    (λ t e. (49 ∷ 10 ∷ [], (One, ap (λ (k : List ℕ). k ++ 49 ∷ 10 ∷ []) e)))
-    (λ w rest e. record {
-      text = codes "totem-run ";
-      whole = word_is faults.Header (codes "totem-run ") bytes rest w e;
-      next = bind_cut (byte_at rest) (λ v. cond (v.0 == 49) (header_end One v.1) (cond (v.0 == 50) (header_end Two v.1) (cond (v.0 == 51) (header_end Three v.1) (Err faults.Header)))) (λ t. t ≡ 49 ∷ []) Is rest (byte_cut 49 rest)
-          (λ t e. (10 ∷ [], (One, ap (λ (k : List ℕ). codes "totem-run " ++ (k ++ 10 ∷ [])) e)))
-          (λ v rest2 e2. record {
-            text = v ∷ [];
-            whole = byte_is rest v rest2 e2;
-            next = test_cut (v == 49) (header_end One rest2) (cond (v == 50) (header_end Two rest2) (cond (v == 51) (header_end Three rest2) (Err faults.Header))) (λ u. Is (v ∷ u)) rest2
-                (λ h. let same : v ≡ 49 = eqb-true v 49 h in rw same (header_end_cut One rest2))
-                (λ h. test_cut (v == 50) (header_end Two rest2) (cond (v == 51) (header_end Three rest2) (Err faults.Header)) (λ u. Is (v ∷ u)) rest2
-                (λ h. let same : v ≡ 50 = eqb-true v 50 h in rw same (header_end_cut Two rest2))
-                (λ h. test_cut (v == 51) (header_end Three rest2) (Err faults.Header) (λ u. Is (v ∷ u)) rest2
-                (λ h. let same : v ≡ 51 = eqb-true v 51 h in rw same (header_end_cut Three rest2))
-                (λ h. fault_cut faults.Header (λ u. Is (v ∷ u)) rest2 refl)));
-          });
-    })
-  where
-    Is : List ℕ → Type 0
-    Is u = HeaderTo (codes "totem-run " ++ u)
 
 abbrev pub RunTo : List ℕ → Type 0
 RunTo t = (run : RunRecord) × IsLooseRun run.version run.logs × (run_text run ≡ t)
@@ -272,11 +169,11 @@ run_of version logs t is e =
 run_cut : (bytes : List ℕ) → Cut (run_at bytes) RunTo bytes
 unfolding run_at
 run_cut bytes =
-    bind_cut (header_at bytes) (λ v. logs_at v.0 33 0 v.1 >>= λ logs. Ok (record { version = v.0; logs = logs.0 }, logs.1)) HeaderTo RunTo bytes (header_cut bytes)
-    (λ t x. (logs_text x.0 [] [], rw x.1 (run_of x.0 [] (logs_text x.0 [] []) (record { few = omega arith; rises = tt }) refl)))
+    bind_cut (header_at run_words bytes) (λ v. logs_at v.0 33 0 v.1 >>= λ logs. Ok (record { version = v.0; logs = logs.0 }, logs.1)) (HeaderTo run_words) RunTo bytes (header_cut run_words bytes)
+    (λ t x. (logs_text x.0 [] [], rw x.2 (run_of x.0 [] (logs_text x.0 [] []) (record { few = omega arith; rises = tt }) refl)))
     (λ v rest e. record {
       text = header_text v;
-      whole = header_is v bytes rest e;
+      whole = (header_is run_words v bytes rest e).1;
       next = last_cut {B = RunRecord} (logs_at v 33 0 rest) (λ logs. (record { version = v; logs = logs.0 }, logs.1)) (LogsTo v 33 0) (λ u. RunTo (header_text v ++ u)) rest (logs_cut v 33 0 rest) (λ t x. run_of v x.0 t x.1 x.2);
     })
 

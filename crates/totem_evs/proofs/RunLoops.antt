@@ -16,16 +16,24 @@ use Rattle.totem_evs.specs.declared.log.Log.{Log}
 use Rattle.totem_evs.specs.declared.ending.Ending.{Ending}
 use Rattle.totem_evs.specs.declared.line.Line.{Line}
 use Rattle.totem_evs.specs.declared.line.Line.TheVariants as lines
-use Rattle.totem_evs.specs.RunGrammar.{is_failure, members_at, line_at, by_line, lines_at, log_at, head_at, by_head, logs_at, header_at, run_at}
+use Rattle.totem_evs.specs.RunGrammar.{is_failure, members_at, line_at, by_line, lines_at, log_at, run_words, logs_at, run_at}
+use Rattle.totem_evs.specs.Heads.{head_at, by_head, header_at}
+
+-- ---- lists
+
+pub one_more : {A : Type 0} (front : List A) (p : A) (r : Parsed (List A)) → ((r >>= λ others. gives (p ∷ others.0) others.1) >>= λ x. gives (front ++ x.0) x.1) ≡ (r >>= λ x. gives ((front ++ p ∷ []) ++ x.0) x.1)
+one_more {A = A} front p (Ok x) = ap (λ (ms : List A). Ok (ms, x.1)) (simp append_assoc)
+one_more front p (Err e) = refl
+
+-- nothing was read before
+pub none_before : {A : Type 0} (r : Parsed (List A)) → r ≡ (r >>= λ x. gives ([] ++ x.0) x.1)
+none_before (Ok x) = refl
+none_before (Err e) = refl
 
 -- ---- members
 
 abbrev pub with_members : Version → List ℕ → ℕ → ℕ → List ℕ → Parsed (List ℕ)
 with_members version front room last bytes = members_at version room last bytes >>= λ x. gives (front ++ x.0) x.1
-
-one_more : {A : Type 0} (front : List A) (p : A) (r : Parsed (List A)) → ((r >>= λ others. gives (p ∷ others.0) others.1) >>= λ x. gives (front ++ x.0) x.1) ≡ (r >>= λ x. gives ((front ++ p ∷ []) ++ x.0) x.1)
-one_more {A = A} front p (Ok x) = ap (λ (ms : List A). Ok (ms, x.1)) (simp append_assoc)
-one_more front p (Err e) = refl
 
 pub members_step : (version : Version) (front : List ℕ) (room room' last : ℕ) → room ≡ suc room' → (bytes : List ℕ) → with_members version front room last bytes ≡ (process_then version bytes >>= λ p.
     cond (nat_le (id_of p.0.0) last) (Err faults.Members) (cond (p.0.1 == 10) (gives (front ++ p.0.0 ∷ []) p.1) (cond (p.0.1 == 32) (with_members version (front ++ p.0.0 ∷ []) room' (id_of p.0.0) p.1) (Err faults.Word))))
@@ -51,11 +59,7 @@ unfolding members_at
 members_none version front room last e bytes = rw e refl
 
 pub members_first : (version : Version) (room last : ℕ) (bytes : List ℕ) → members_at version room last bytes ≡ with_members version [] room last bytes
-members_first version room last bytes = go (members_at version room last bytes)
-  where
-    go : (r : Parsed (List ℕ)) → r ≡ (r >>= λ x. gives ([] ++ x.0) x.1)
-    go (Ok x) = refl
-    go (Err e) = refl
+members_first version room last bytes = none_before (members_at version room last bytes)
 
 -- ---- the lines of a log
 
@@ -106,10 +110,10 @@ log_first version p bytes = go (lines_at version 1000001 false false bytes)
 abbrev pub with_logs : Version → List Log → ℕ → ℕ → List ℕ → Parsed (List Log)
 with_logs version front room last bytes = logs_at version room last bytes >>= λ x. gives (front ++ x.0) x.1
 
-pub logs_step : (version : Version) (front : List Log) (room room' last : ℕ) (full : Bool) → room ≡ suc room' → (room' == 0) ≡ full → (bytes : List ℕ) → with_logs version front room last bytes ≡ (head_at version full last bytes >>= λ head.
+pub logs_step : (version : Version) (front : List Log) (room room' last : ℕ) (full : Bool) → room ≡ suc room' → (room' == 0) ≡ full → (bytes : List ℕ) → with_logs version front room last bytes ≡ (head_at run_words version full last bytes >>= λ head.
     by_head head.0 (gives front head.1) (λ p. log_at version p head.1 >>= λ log. with_logs version (front ++ log.0 ∷ []) room' p log.1))
 unfolding logs_at
-logs_step version front room room' last full e same bytes = rw (e, same) (go (head_at version full last bytes))
+logs_step version front room room' last full e same bytes = rw (e, same) (go (head_at run_words version full last bytes))
   where
     logged : (p : ℕ) (r : Parsed Log) →
         ((r >>= λ log. logs_at version room' p log.1 >>= λ others. gives (log.0 ∷ others.0) others.1) >>= λ x. gives (front ++ x.0) x.1)
@@ -134,11 +138,7 @@ unfolding logs_at
 logs_none version front room last e bytes = rw e refl
 
 pub logs_first : (version : Version) (room last : ℕ) (bytes : List ℕ) → logs_at version room last bytes ≡ with_logs version [] room last bytes
-logs_first version room last bytes = go (logs_at version room last bytes)
-  where
-    go : (r : Parsed (List Log)) → r ≡ (r >>= λ x. gives ([] ++ x.0) x.1)
-    go (Ok x) = refl
-    go (Err e) = refl
+logs_first version room last bytes = none_before (logs_at version room last bytes)
 
 -- ---- what came
 
@@ -165,9 +165,9 @@ goes_on a b parse done begins head p so_far e = same_left a b parse (λ more. by
 abbrev pub as_run : Version → List Log × List ℕ → Parsed RunRecord
 as_run version logs = Ok (record { version = version; logs = logs.0 }, logs.1)
 
-pub run_first : (bytes : List ℕ) → run_at bytes ≡ (header_at bytes >>= λ v. with_logs v.0 [] 33 0 v.1 >>= as_run v.0)
+pub run_first : (bytes : List ℕ) → run_at bytes ≡ (header_at run_words bytes >>= λ v. with_logs v.0 [] 33 0 v.1 >>= as_run v.0)
 unfolding run_at
-run_first bytes = go (header_at bytes)
+run_first bytes = go (header_at run_words bytes)
   where
     go : (r : Parsed Version) → (r >>= λ v. logs_at v.0 33 0 v.1 >>= as_run v.0) ≡ (r >>= λ v. with_logs v.0 [] 33 0 v.1 >>= as_run v.0)
     go (Ok v) = ap (λ (r : Parsed (List Log)). r >>= as_run v.0) (logs_first v.0 33 0 v.1)

@@ -17,7 +17,8 @@ use Rattle.totem_evs.specs.declared.log.Log.{Log}
 use Rattle.totem_evs.specs.declared.line.Line.{Line}
 use Rattle.totem_evs.specs.declared.line.Line.TheVariants as lines
 use Rattle.totem_evs.specs.Endings.{writes_quiet}
-use Rattle.totem_evs.specs.RunGrammar.{is_failure, members_at, change_at, send_at, delivery_at, open_at, quiet_at, failed_at, fail_at, ail_at, failure_at, line_at, by_line, lines_at, log_at, log_proc_at, begin_at, end_at, head_at, by_head, logs_at, header_end, header_at, run_at}
+use Rattle.totem_evs.specs.Heads.{Words, proc_at, begin_at, end_at, head_at, by_head, header_end, header_at}
+use Rattle.totem_evs.specs.RunGrammar.{is_failure, members_at, change_at, send_at, delivery_at, open_at, quiet_at, failed_at, fail_at, ail_at, failure_at, line_at, by_line, lines_at, log_at, run_words, logs_at, run_at}
 
 members_steady : (version : Version) (room last : ℕ) → Steady (members_at version room last)
 unfolding members_at
@@ -77,26 +78,26 @@ log_steady : (version : Version) (p : ℕ) → Steady (log_at version p)
 unfolding log_at
 log_steady version p = bind_steady _ _ (lines_steady version 1000001 false false) (λ body. gives_steady _)
 
-proc_steady : (version : Version) (last : ℕ) → Steady (log_proc_at version last)
-unfolding log_proc_at
-proc_steady version last = bind_steady _ _ (word_steady _ _) (λ w. bind_steady _ _ (process_then_steady version) (λ p. cond_steady _ _ _ (fault_steady _) (cond_steady _ _ _ (gives_steady _) (fault_steady _))))
+proc_steady : (words : Words) (version : Version) (last : ℕ) → Steady (proc_at words version last)
+unfolding proc_at
+proc_steady words version last = bind_steady _ _ (word_steady _ _) (λ w. bind_steady _ _ (process_then_steady version) (λ p. cond_steady _ _ _ (fault_steady _) (cond_steady _ _ _ (gives_steady _) (fault_steady _))))
 
-begin_steady : (version : Version) (full : Bool) (last : ℕ) → Steady (begin_at version full last)
+begin_steady : (words : Words) (version : Version) (full : Bool) (last : ℕ) → Steady (begin_at words version full last)
 unfolding begin_at
-begin_steady version full last = cond_steady _ _ _ (fault_steady _) (bind_steady _ _ (proc_steady version last) (λ p. gives_steady _))
+begin_steady words version full last = cond_steady _ _ _ (fault_steady _) (bind_steady _ _ (proc_steady words version last) (λ p. gives_steady _))
 
 end_steady : Steady end_at
 unfolding end_at
 end_steady = bind_steady _ _ (word_steady _ _) (λ w. gives_steady _)
 
-head_steady : (version : Version) (full : Bool) (last : ℕ) → Steady (head_at version full last)
+pub head_steady : (words : Words) (version : Version) (full : Bool) (last : ℕ) → Steady (head_at words version full last)
 unfolding head_at
-head_steady version full last = bind_steady _ _ byte_steady (λ b. cond_steady _ _ _ (begin_steady version full last) (cond_steady _ _ _ end_steady (fault_steady _)))
+head_steady words version full last = bind_steady _ _ byte_steady (λ b. cond_steady _ _ _ (begin_steady words version full last) (cond_steady _ _ _ end_steady (fault_steady _)))
 
 logs_steady : (version : Version) (room last : ℕ) → Steady (logs_at version room last)
 unfolding logs_at
 logs_steady version zero last = fault_steady _
-logs_steady version (suc room) last = bind_steady _ _ (head_steady version (room == 0) last) (λ head. go head (λ p. logs_steady version room p))
+logs_steady version (suc room) last = bind_steady _ _ (head_steady run_words version (room == 0) last) (λ head. go head (λ p. logs_steady version room p))
   where
     go : (head : Option ℕ) → ((p : ℕ) → Steady (logs_at version room p)) → Steady (λ bytes. by_head {Y = Parsed (List Log)} head (Ok ([], bytes)) (λ p. log_at version p bytes >>= λ log. logs_at version room p log.1 >>= λ others. Ok (log.0 ∷ others.0, others.1)))
     go None again = gives_steady _
@@ -106,13 +107,13 @@ header_end_steady : (version : Version) → Steady (header_end version)
 unfolding header_end
 header_end_steady version = bind_steady _ _ (word_steady _ _) (λ w. gives_steady _)
 
-header_steady : Steady header_at
+pub header_steady : (words : Words) → Steady (header_at words)
 unfolding header_at
-header_steady = bind_steady _ _ (word_steady _ _) (λ w. bind_steady _ _ byte_steady (λ v. cond_steady _ _ _ (header_end_steady One) (cond_steady _ _ _ (header_end_steady Two) (cond_steady _ _ _ (header_end_steady Three) (fault_steady _)))))
+header_steady words = bind_steady _ _ (word_steady _ _) (λ w. bind_steady _ _ byte_steady (λ v. cond_steady _ _ _ (header_end_steady One) (cond_steady _ _ _ (header_end_steady Two) (cond_steady _ _ _ (header_end_steady Three) (fault_steady _)))))
 
 pub run_steady : Steady run_at
 unfolding run_at
-run_steady = bind_steady _ _ header_steady (λ v. bind_steady _ _ (logs_steady v 33 0) (λ logs. gives_steady _))
+run_steady = bind_steady _ _ (header_steady run_words) (λ v. bind_steady _ _ (logs_steady v 33 0) (λ logs. gives_steady _))
 
 run_empty : run_at [] ≡ Err faults.Truncated
 unfolding run_at header_at word_at

@@ -1,10 +1,9 @@
 -- Word is the fault where no other one has its place.
-use Rattle.totem_evs.specs.RunRecord.{RunRecord}
 use Rattle.std.specs.Prelude.{◌↔◌}
 use Rattle.std.proofs.Common.{◌≡◌, List, ℕ, Err, false, refl, sym, ap, ◌∙◌}
 use Rattle.totem_ids.specs.declared.fault.TextFault.{TextFault}
 use Rattle.totem_ids.specs.declared.fault.TextFault.TheVariants as faults
-use Rattle.totem_ids.specs.Sources.{is_short}
+use Rattle.totem_ids.specs.Sources.{Parsed, is_short}
 use Rattle.totem_evs.specs.RunGrammar.{run_at}
 use Rattle.totem_evs.specs.TextFaults.{HasNoOther}
 use Rattle.totem_evs.proofs.OnlyFaults.{fault_only}
@@ -12,7 +11,7 @@ use Rattle.totem_evs.proofs.FaultParts.{header_exactly, run_order, run_members, 
 use Rattle.totem_evs.proofs.NumberFaults.{run_number}
 
 -- the faults but Word
-abbrev NotWord : TextFault → Type 0
+abbrev pub NotWord : TextFault → Type 0
 NotWord faults.Header = Unit {0}
 NotWord faults.Word = ⊥
 NotWord faults.Number = Unit {0}
@@ -23,17 +22,17 @@ NotWord faults.Truncated = Unit {0}
 NotWord faults.TooMany = Unit {0}
 
 -- bytes have one fault
-one_fault : (bytes : List ℕ) (f : TextFault) → NotWord f → run_at bytes ≡ Err faults.Word → run_at bytes ≡ Err f → ⊥
-one_fault bytes f is e k = (fault_only {A = RunRecord} NotWord f is).fault faults.Word (sym k ∙ e)
+pub one_fault : {Y : Type 0} (parse : List ℕ → Parsed Y) (bytes : List ℕ) (f : TextFault) → NotWord f → parse bytes ≡ Err faults.Word → parse bytes ≡ Err f → ⊥
+one_fault {Y = Y} parse bytes f is e k = (fault_only {A = Y} NotWord f is).fault faults.Word (sym k ∙ e)
 
 word_alone : (bytes : List ℕ) → run_at bytes ≡ Err faults.Word → HasNoOther bytes
 word_alone bytes e = record {
-  header = λ h. one_fault bytes faults.Header tt e ((header_exactly bytes).1 h);
-  number = λ h. one_fault bytes faults.Number tt e ((run_number bytes).1 h);
-  order = λ h. one_fault bytes faults.Order tt e ((run_order bytes).1 h);
-  members = λ h. one_fault bytes faults.Members tt e ((run_members bytes).1 h);
-  end = λ h. one_fault bytes faults.End tt e ((run_end bytes).1 h);
-  many = λ h. one_fault bytes faults.TooMany tt e ((run_many bytes).1 h);
+  header = λ h. one_fault run_at bytes faults.Header tt e ((header_exactly bytes).1 h);
+  number = λ h. one_fault run_at bytes faults.Number tt e ((run_number bytes).1 h);
+  order = λ h. one_fault run_at bytes faults.Order tt e ((run_order bytes).1 h);
+  members = λ h. one_fault run_at bytes faults.Members tt e ((run_members bytes).1 h);
+  end = λ h. one_fault run_at bytes faults.End tt e ((run_end bytes).1 h);
+  many = λ h. one_fault run_at bytes faults.TooMany tt e ((run_many bytes).1 h);
 }
 
 alone_word : (bytes : List ℕ) (f : TextFault) → is_short f ≡ false → run_at bytes ≡ Err f → HasNoOther bytes → f ≡ faults.Word

@@ -29,6 +29,7 @@ pub mod WriteFaults
 pub mod Endings
 pub mod Examples
 pub mod ExampleClaims
+pub mod Heads
 pub mod RunGrammar
 pub mod TextFronts
 pub mod Missing
@@ -39,6 +40,7 @@ pub mod ReadState
 pub mod Reading
 pub mod Gathered
 pub mod PartLaws
+pub mod HeadFaults
 pub mod TextFaults
 pub mod Answers
 pub mod Meanings

@@ -8,7 +8,8 @@ use Rattle.totem_evs.specs.declared.log.Log.{Log}
 use Rattle.totem_evs.specs.declared.part.Part.{Part}
 use Rattle.totem_evs.specs.declared.stage.Stage.{Stage}
 use Rattle.totem_evs.specs.RunText.{line, header_text, run_text}
-use Rattle.totem_evs.specs.RunGrammar.{header_at, run_at}
+use Rattle.totem_evs.specs.Heads.{header_at}
+use Rattle.totem_evs.specs.RunGrammar.{run_words, run_at}
 use Rattle.totem_evs.specs.Parts.{part_at, first_stage, next_stage, part_text, run_parts}
 
 -- from a stage on the bytes are read as these parts, one after the other, and the last line; the rest is left
@@ -18,7 +19,7 @@ ReadsParts stage bytes (part ∷ parts) rest = (mid : List ℕ) × (part_at stag
 
 -- what is read part by part is a run that is read at once, and they are its parts
 abbrev pub PartsMakeTheRun : Type 0
-PartsMakeTheRun = (version : Version) (bytes mid rest : List ℕ) (parts : List Part) → header_at bytes ≡ Ok (version, mid) → ReadsParts (first_stage version) mid parts rest
+PartsMakeTheRun = (version : Version) (bytes mid rest : List ℕ) (parts : List Part) → header_at run_words bytes ≡ Ok (version, mid) → ReadsParts (first_stage version) mid parts rest
     → (logs : List Log) × (run_at bytes ≡ Ok (record { version = version; logs = logs }, rest)) × (run_parts logs ≡ parts)
 
 -- a run's text is its first line, the lines of its parts, and its last line

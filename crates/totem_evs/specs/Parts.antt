@@ -10,14 +10,15 @@ use Rattle.totem_evs.specs.declared.part.Part.TheVariants as parts
 use Rattle.totem_evs.specs.declared.stage.Stage.{Stage}
 use Rattle.totem_evs.specs.declared.stage.OpenLog.{OpenLog}
 use Rattle.totem_evs.specs.RunText.{line, entry_text, ending_text}
-use Rattle.totem_evs.specs.RunGrammar.{is_failure, line_at, head_at, by_line, by_head}
+use Rattle.totem_evs.specs.RunGrammar.{is_failure, line_at, by_line, run_words}
+use Rattle.totem_evs.specs.Heads.{head_at, by_head}
 
 -- ---- parts
 
 -- a log begins, or the last line comes, which is no part
 unfoldable pub begun_at : Version → ℕ → ℕ → List ℕ → Parsed (Option Part)
 begun_at version logs last bytes = do
-  head ← head_at version (logs == 32) last bytes
+  head ← head_at run_words version (logs == 32) last bytes
   Ok (by_head head.0 None (λ p. Some (parts.Log p)), head.1)
 
 -- the next entry of a log, or its end

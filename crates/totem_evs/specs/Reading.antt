@@ -14,7 +14,8 @@ use Rattle.totem_evs.specs.declared.next.Next.{Next}
 use Rattle.totem_evs.specs.declared.next.Next.TheVariants as next
 use Rattle.totem_evs.specs.Runs.{IsRunOf}
 use Rattle.totem_evs.specs.RunText.{run_text}
-use Rattle.totem_evs.specs.RunGrammar.{header_at, run_at}
+use Rattle.totem_evs.specs.Heads.{header_at}
+use Rattle.totem_evs.specs.RunGrammar.{run_words, run_at}
 use Rattle.totem_evs.specs.Missing.{EachHasLog, IsLeastMissing, all_members}
 use Rattle.totem_evs.specs.Parts.{part_at}
 use Rattle.totem_evs.specs.ReadState.{ReadState, IsFirst, IsPart, Goes, MayCome}
@@ -41,12 +42,12 @@ ReadsAs old new parse Fits Lacks (Err faults.Memory) = new.failures ≡ old.fail
 -- the first line was taken
 pub record HasBegun (old new : Seen) (s : ReadState) : Type 0 where
   pub version : Version
-  pub taken : Comes old new header_at (λ more. Ok (version, more))
+  pub taken : Comes old new (header_at run_words) (λ more. Ok (version, more))
   pub first : IsFirst version s
 
 -- what beginning a run answers
 abbrev pub BeginsRun : Seen → Seen → Result ReadState RunFault → Type 0
-BeginsRun old new = ReadsAs old new header_at (HasBegun old new) (λ p. ⊥)
+BeginsRun old new = ReadsAs old new (header_at run_words) (HasBegun old new) (λ p. ⊥)
 
 -- a part was taken that may come here, and it leads to that state
 pub record HasPart (old new : Seen) (s : ReadState) (part : Part) (t : ReadState) : Type 0 where

@@ -1,12 +1,11 @@
 -- The grammar of a run's text, from left to right, with the fault of the first byte that breaks a rule
 -- (docs/SPECIFICATIONS.md, "Run text").
 use Rattle.totem_evs.specs.RunRecord.{RunRecord}
-use Rattle.std.specs.Prelude.{ℕ, zero, suc, List, [], ◌∷◌, codes, Option, Some, None, Ok, Err, Bool, true, false, not, ◌&&◌, nat_le, ◌==◌, if◌then◌else◌}
+use Rattle.std.specs.Prelude.{ℕ, zero, suc, List, [], ◌∷◌, codes, Ok, Err, Bool, true, false, not, ◌&&◌, nat_le, ◌==◌, if◌then◌else◌}
 use Rattle.totem_ids.specs.declared.fault.TextFault.TheVariants as faults
 use Rattle.totem_ids.specs.Sources.{Parsed, ◌>>=◌}
 use Rattle.totem_ids.specs.Numbers.{byte_at, word_at}
 use Rattle.totem_ids.specs.declared.version.Version.{Version}
-use Rattle.totem_ids.specs.declared.version.Version.TheVariants.{One, Two, Three}
 use Rattle.totem_ids.specs.Processes.{process_then}
 use Rattle.totem_ids.specs.Ranks.{id_of}
 use Rattle.totem_ids.specs.Parsers.{message_at, conf_at}
@@ -20,6 +19,7 @@ use Rattle.totem_evs.specs.declared.line.Line.TheVariants as lines
 use Rattle.totem_evs.specs.declared.log.Log.{Log}
 use Rattle.totem_evs.specs.Endings.{writes_quiet}
 use Rattle.totem_evs.specs.RunText.{line}
+use Rattle.totem_evs.specs.Heads.{Words, head_at, by_head, header_at}
 
 -- a failure
 abbrev pub is_failure : Entry → Bool
@@ -131,62 +131,20 @@ log_at version p bytes = do
   body ← lines_at version 1000001 false false bytes
   Ok (record { proc = p; entries = body.0.0; ending = body.0.1 }, body.1)
 
--- the process of a log, above `last`
-unfoldable pub log_proc_at : Version → ℕ → List ℕ → Parsed ℕ
-log_proc_at version last bytes = do
-  w ← word_at faults.Word (codes "og ") bytes
-  p ← process_then version w.1
-  if nat_le p.0.0 last then Err faults.Order else if p.0.1 == 10 then Ok (p.0.0, p.1) else Err faults.Word
-
--- the first line of a log; full: no further log is allowed
-unfoldable pub begin_at : Version → Bool → ℕ → List ℕ → Parsed (Option ℕ)
-begin_at version full last bytes = if full then Err faults.TooMany else do
-  p ← log_proc_at version last bytes
-  Ok (Some p.0, p.1)
-
--- the last line
-unfoldable pub end_at : List ℕ → Parsed (Option ℕ)
-end_at bytes = do
-  w ← word_at faults.Word (line (codes "nd")) bytes
-  Ok (None, w.1)
-
--- the first line of the next log, or the last line
-unfoldable pub head_at : Version → Bool → ℕ → List ℕ → Parsed (Option ℕ)
-head_at version full last bytes = do
-  b ← byte_at bytes
-  if b.0 == 108 then begin_at version full last b.1 else if b.0 == 101 then end_at b.1 else Err faults.Word
-
--- one for the last line, another for a log
-abbrev pub by_head : {Y : Type 0} → Option ℕ → Y → (ℕ → Y) → Y
-by_head None ends begins = ends
-by_head (Some p) ends begins = begins p
+-- the words of a run's text; behind the process of a log its line ends
+abbrev pub run_words : Words
+run_words = record { title = codes "totem-run "; third = true; letter = 108; word = codes "og "; behind = 10 }
 
 -- the further logs, one less than room of them, and the last line
 unfoldable pub logs_at : Version → ℕ → ℕ → List ℕ → Parsed (List Log)
 logs_at version zero last bytes = Err faults.TooMany
 logs_at version (suc room) last bytes = do
-  head ← head_at version (room == 0) last bytes
+  head ← head_at run_words version (room == 0) last bytes
   by_head head.0 (Ok ([], head.1)) (λ p. log_at version p head.1 >>= λ log. logs_at version room p log.1 >>= λ others. Ok (log.0 ∷ others.0, others.1))
-
--- the end of the first line of a run of this version
-unfoldable pub header_end : Version → List ℕ → Parsed Version
-header_end version bytes = do
-  w ← word_at faults.Header (line []) bytes
-  Ok (version, w.1)
-
--- the first line
-unfoldable pub header_at : List ℕ → Parsed Version
-header_at bytes = do
-  w ← word_at faults.Header (codes "totem-run ") bytes
-  v ← byte_at w.1
-  if v.0 == 49 then header_end One v.1
-      else if v.0 == 50 then header_end Two v.1
-      else if v.0 == 51 then header_end Three v.1
-      else Err faults.Header
 
 -- the text of a run
 unfoldable pub run_at : List ℕ → Parsed RunRecord
 run_at bytes = do
-  v ← header_at bytes
+  v ← header_at run_words bytes
   logs ← logs_at v.0 33 0 v.1
   Ok (record { version = v.0; logs = logs.0 }, logs.1)

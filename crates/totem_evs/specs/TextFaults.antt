@@ -5,7 +5,6 @@ use Rattle.totem_ids.specs.declared.fault.TextFault.{TextFault}
 use Rattle.totem_ids.specs.Sources.{Parsed, ◌>>=◌}
 use Rattle.totem_ids.specs.Numbers.{is_digit, number_at}
 use Rattle.totem_ids.specs.declared.version.Version.{Version}
-use Rattle.totem_ids.specs.declared.version.Version.TheVariants.{One, Two, Three}
 use Rattle.totem_ids.specs.Processes.{process_text, IsProcessIn}
 use Rattle.totem_ids.specs.Ranks.{id_of}
 use Rattle.totem_ids.specs.Texts.{conf_text, IsUpTo, IsConf}
@@ -14,8 +13,10 @@ use Rattle.totem_evs.specs.declared.stage.Stage.{Stage}
 use Rattle.totem_evs.specs.declared.stage.OpenLog.{OpenLog}
 use Rattle.totem_evs.specs.Members.{IsMembersIn}
 use Rattle.totem_evs.specs.Endings.{writes_quiet}
-use Rattle.totem_evs.specs.RunText.{line, members_text, version_digit}
-use Rattle.totem_evs.specs.RunGrammar.{header_at, run_at}
+use Rattle.totem_evs.specs.RunText.{members_text}
+use Rattle.totem_evs.specs.Heads.{header_at}
+use Rattle.totem_evs.specs.HeadFaults.{BreaksFirstLine, BeginsBelow}
+use Rattle.totem_evs.specs.RunGrammar.{run_words, run_at}
 use Rattle.totem_evs.specs.Parts.{part_at, first_stage, next_stage}
 
 -- ---- the part that has the fault
@@ -29,7 +30,7 @@ ReadsTo stage bytes (part ∷ parts) end rest = (mid : List ℕ) × (part_at sta
 pub record IsInPart (bytes : List ℕ) (Is : Stage → List ℕ → Type 0) : Type 0 where
   pub version : Version
   pub mid : List ℕ
-  pub header : header_at bytes ≡ Ok (version, mid)
+  pub header : header_at run_words bytes ≡ Ok (version, mid)
   pub parts : List Part
   pub stage : Stage
   pub rest : List ℕ
@@ -40,25 +41,10 @@ pub record IsInPart (bytes : List ℕ) (Is : Stage → List ℕ → Type 0) : Ty
 abbrev pub HasFault : TextFault → Stage → List ℕ → Type 0
 HasFault fault stage rest = part_at stage rest ≡ Err fault
 
--- ---- the first line
+-- ---- Header
 
--- the bytes begin as this word, and then one differs
-pub record Differs (word bytes : List ℕ) : Type 0 where
-  pub front : List ℕ
-  pub wanted : ℕ
-  pub behind : List ℕ
-  pub byte : ℕ
-  pub rest : List ℕ
-  pub is_word : word ≡ front ++ wanted ∷ behind
-  pub is_bytes : bytes ≡ front ++ byte ∷ rest
-  pub differs : byte ≢ wanted
-
--- the words of the first line differ; or the digit of its version is of none; or no line end is behind it
 abbrev pub BreaksHeader : List ℕ → Type 0
-BreaksHeader bytes =
-    Differs (codes "totem-run ") bytes
-    ⊎ ((byte : ℕ) × (rest : List ℕ) × (bytes ≡ codes "totem-run " ++ byte ∷ rest) × (byte ≢ version_digit One) × (byte ≢ version_digit Two) × (byte ≢ version_digit Three))
-    ⊎ ((version : Version) × (rest : List ℕ) × (bytes ≡ codes "totem-run " ++ version_digit version ∷ rest) × Differs (line []) rest)
+BreaksHeader bytes = BreaksFirstLine run_words bytes
 
 -- ---- Number
 
@@ -89,20 +75,9 @@ pub record BreaksNumber {Y : Type 0} (parse : List ℕ → Parsed Y) (bytes : Li
 
 -- ---- Order
 
--- a log begins whose process is complete at the byte behind it and not above the last one, where a log may begin
-pub record IsLogBelow (version : Version) (logs last : ℕ) (bytes : List ℕ) : Type 0 where
-  pub proc : ℕ
-  pub byte : ℕ
-  pub rest : List ℕ
-  pub room : (logs == 32) ≡ false
-  pub fits : IsProcessIn version proc
-  pub below : proc ≤ last
-  pub complete : is_digit byte ≡ false
-  pub is : bytes ≡ codes "log " ++ (process_text version proc ++ byte ∷ rest)
-
--- where no log is open
+-- where no log is open, one begins, where it may, whose process is not above that of the last one
 abbrev pub OrderIn : Version → ℕ → ℕ → Option OpenLog → List ℕ → Type 0
-OrderIn version logs last None bytes = IsLogBelow version logs last bytes
+OrderIn version logs last None bytes = BeginsBelow run_words version (logs == 32) last bytes
 OrderIn version logs last (Some log) bytes = ⊥
 
 abbrev pub HasOrder : Stage → List ℕ → Type 0

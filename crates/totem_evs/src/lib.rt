@@ -7,6 +7,7 @@ mod entries;
 mod entry;
 pub mod examples;
 mod fault;
+mod form;
 mod gathered;
 mod heads;
 mod laws;
@@ -36,6 +37,8 @@ pub use ending::Ending;
 pub use entries::Entries;
 pub use entry::Entry;
 pub use fault::{Fault, Places};
+pub use form::Form;
+pub use heads::{read_head, read_header};
 pub use laws::{
     answers_are_sound, breaks_are_breaks, certified_is_ordered, chains_are_fine,
     each_log_is_ordered, twins_agree,

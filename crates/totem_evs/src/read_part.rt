@@ -5,6 +5,7 @@ ghost use Rattle.totem_evs.specs.Endings.{writes_quiet};
 ghost use Rattle.totem_evs.specs.Parts.{begun_at, within_at, part_at};
 ghost use Rattle.totem_evs.specs.ReadState.{ComesBetween, ComesWithin, MayCome};
 
+use crate::form::RunText;
 use crate::heads::read_head;
 use crate::line::Line;
 use crate::lines::read_line;
@@ -31,7 +32,7 @@ fn read_between<S: Source>(
         (seen S.remaining S.failures source.new) result (begun_at version logs last) }
     ensures comes { IfOk result (ComesBetween logs last) }
 {
-    let head = read_head(source, version, logs == MOST_LOGS, last)?;
+    let head = read_head::<RunText, S>(source, version, logs == MOST_LOGS, last)?;
     match head {
         None => Ok(None),
         Some(proc) => Ok(Some(Part::Log(proc))),

@@ -2,6 +2,7 @@
 ghost use Rattle.totem_ids.specs.Sources.{seen};
 ghost use Rattle.totem_evs.specs.Reading.{ReadsRun, ReadsEnd};
 
+use crate::form::RunText;
 use crate::gathered::Gathered;
 use crate::heads::read_header;
 use crate::part_reader::PartReader;
@@ -16,7 +17,7 @@ pub fn read_run<S: Source>(alloc: Global, source: &mut S) -> Result<Run, RunFaul
     ensures { ReadsRun (seen S.remaining S.failures source.old)
         (seen S.remaining S.failures source.new) result }
 {
-    let version = read_header(source)?;
+    let version = read_header::<RunText, S>(source)?;
     let mut parts = PartReader::new(alloc, version);
     let mut logs = Gathered::new(alloc);
     'parts: loop {

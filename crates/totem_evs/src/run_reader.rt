@@ -2,6 +2,7 @@
 ghost use Rattle.std.specs.Prelude.{◌≢◌, IfErr};
 ghost use Rattle.totem_ids.specs.Sources.{seen};
 
+use crate::form::RunText;
 use crate::heads::read_header;
 use crate::next::Next;
 use crate::part_reader::PartReader;
@@ -38,7 +39,7 @@ impl RunReader {
         // It takes no memory.
         ensures memory { IfErr result (λ e. e ≢ RunFault.Memory) }
     {
-        let version = read_header(source)?;
+        let version = read_header::<RunText, S>(source)?;
         let parts = PartReader::new(alloc, version);
         Ok(RunReader { alloc, parts })
     }

@@ -1,15 +1,16 @@
 use Rattle.std.proofs.Common.{refl}
-use Rattle.totem_evs.specs.RunGrammar.{head_at}
-use Rattle.totem_ids.proofs.Readers.{begins, called, handed, picks, otherwise}
+use Rattle.totem_evs.specs.Heads.{head_at}
+use Rattle.totem_ids.proofs.Readers.{begins, called, handed, picks, skips}
 use Rattle.totem_evs.proofs.heads.read_head.Goals as goal
 
-pub returns-in-108-clause-read : goal.returns-in-108-clause-read
+pub returns-then-letter-clause-read : goal.returns-then-letter-clause-read
 unfolding head_at
-returns-in-108-clause-read g c = handed _ _ _ _ _ _ (picks _ _ _ _ _ _ _ (called _ _ _ _ _ _ _ (begins _ _) c.in_ok-letter.ensures.read) c.in-108.is) c.read_begin.ensures.read
+returns-then-letter-clause-read g c = handed _ _ _ _ _ _ (picks _ _ _ _ _ _ _ (called _ _ _ _ _ _ _ (begins _ _) c.in_ok-letter.ensures.read) (rw c.letter.ensures at c.if-letter.true)) c.read_begin.ensures.read
 
-pub returns-in-101-clause-read : goal.returns-in-101-clause-read
+pub returns-then-letter-eq101-clause-read : goal.returns-then-letter-eq101-clause-read
 unfolding head_at
-returns-in-101-clause-read g c = handed _ _ _ _ _ _ (picks _ _ _ _ _ _ _ (otherwise _ _ _ _ _ _ _ _ (called _ _ _ _ _ _ _ (begins _ _) c.in_ok-letter.ensures.read) c.in-101.is refl) c.in-101.is) c.read_last.ensures.read
+returns-then-letter-eq101-clause-read g c =
+    handed _ _ _ _ _ _ (picks _ _ _ _ _ _ _ (skips _ _ _ _ _ _ _ (called _ _ _ _ _ _ _ (begins _ _) c.in_ok-letter.ensures.read) (rw c.letter.ensures at c.if-letter.false)) c.if-letter-eq101.true) c.read_last.ensures.read
 
-pub returns-in-101-clause-begins : goal.returns-in-101-clause-begins
-returns-in-101-clause-begins g c = c.read_last.ensures.begins c.args.full c.args.last
+pub returns-then-letter-eq101-clause-begins : goal.returns-then-letter-eq101-clause-begins
+returns-then-letter-eq101-clause-begins g c = c.read_last.ensures.begins c.args.full c.args.last

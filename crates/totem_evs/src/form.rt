@@ -1,0 +1,57 @@
+//! What a text of records is made of: a first line with its version, records that rise by their processes, and a last line.
+ghost use Rattle.std.specs.Prelude.{◌≡◌};
+ghost use Rattle.totem_evs.specs.Heads.{Words};
+ghost use Rattle.totem_evs.specs.RunGrammar.{run_words};
+
+/// A kind of text that is made of records, by the words of its lines.
+pub trait Form {
+    /// Its words.
+    ghost words: { Words };
+
+    /// Returns what its first line begins with, up to its version.
+    fn title() -> &'static [u8]
+        ensures { result.now ≡ words.title };
+
+    /// Returns whether it has a third version.
+    fn third() -> bool
+        ensures { result ≡ words.third };
+
+    /// Returns the first letter of a record.
+    fn letter() -> u8
+        ensures { result ≡ words.letter };
+
+    /// Returns what stands between that letter and the process of a record.
+    fn word() -> &'static [u8]
+        ensures { result.now ≡ words.word };
+
+    /// Returns the byte behind the process of a record.
+    fn behind() -> u8
+        ensures { result ≡ words.behind };
+}
+
+/// The text of runs, whose records are logs.
+pub struct RunText;
+
+impl Form for RunText {
+    ghost words = { run_words };
+
+    fn title() -> &'static [u8] {
+        b"totem-run "
+    }
+
+    fn third() -> bool {
+        true
+    }
+
+    fn letter() -> u8 {
+        b'l'
+    }
+
+    fn word() -> &'static [u8] {
+        b"og "
+    }
+
+    fn behind() -> u8 {
+        b'\n'
+    }
+}
