@@ -4,13 +4,14 @@ ghost use Rattle.std.specs.List.{flat_map};
 ghost use Rattle.totem_ids.specs.Processes.{process_text};
 ghost use Rattle.totem_ids.specs.Writing.{Writes, held};
 ghost use Rattle.totem_evs.specs.WriteRun.{WritesText};
-ghost use Rattle.totem_cert.specs.CertText.{numbers_text, line_text, header_text, cert_text};
+ghost use Rattle.totem_cert.specs.CertText.{numbers_text, line_text, cert_text};
 
 use crate::certificate::Certificate;
+use crate::form::CertText;
 use crate::line::Line;
 use crate::numbers::Numbers;
 use std::alloc::Global;
-use totem_evs::WriteFault;
+use totem_evs::{WriteFault, put_header};
 use totem_ids::{Failed, Pieces, Sink, Version};
 
 fn put_numbers<S: Sink>(pieces: &mut Pieces, sink: &mut S, numbers: &Numbers) -> Result<(), Failed>
@@ -55,17 +56,6 @@ fn put_lines<S: Sink>(
     Ok(())
 }
 
-fn put_header<S: Sink>(pieces: &mut Pieces, sink: &mut S, version: Version) -> Result<(), Failed>
-    ensures { Writes (held S.contents S.failures pieces.old sink.old)
-        (held S.contents S.failures pieces.new sink.new) result (header_text version) }
-{
-    match version {
-        Version::One => pieces.put(sink, b"totem-cert 1\n"),
-        Version::Two => pieces.put(sink, b"totem-cert 2\n"),
-        Version::Three => pieces.put(sink, b"totem-cert 3\n"),
-    }
-}
-
 /// Gathers the text of a certificate.
 #[tactic(auto, using(totem_ids::proofs::Writers::wrote_then, totem_ids::proofs::Writers::wrote_failed))]
 pub fn put_cert<S: Sink>(
@@ -76,7 +66,7 @@ pub fn put_cert<S: Sink>(
     ensures { Writes (held S.contents S.failures pieces.old sink.old)
         (held S.contents S.failures pieces.new sink.new) result (cert_text certificate.now) }
 {
-    put_header(pieces, sink, certificate.version)?;
+    put_header::<CertText, S>(pieces, sink, certificate.version)?;
     put_lines(
         pieces,
         sink,

@@ -9,12 +9,8 @@ use Rattle.totem_ids.specs.Processes.{IsProcessIn}
 use Rattle.totem_ids.specs.Ranks.{id_of}
 use Rattle.totem_evs.specs.declared.log.Log.{Log}
 use Rattle.totem_evs.specs.Members.{IsMembersIn, IsBelow}
-use Rattle.totem_evs.specs.Runs.{IsLogIn, IsRunIn, IsBelowLog}
-
--- ---- pairs
-
-pairs_tail : {X : Type 0} (R : X → X → Type 0) (x : X) (xs : List X) → AllPairs R (x ∷ xs) → AllPairs R xs
-pairs_tail R x xs h i j d lt within = h (suc i) (suc j) d (omega arith) (omega arith)
+use Rattle.totem_evs.specs.Runs.{IsLogIn, IsRunIn}
+use Rattle.totem_evs.proofs.RisingRecords.{RecordsFrom, pairs_tail, rise_each, rise_pairs, rise_from_none}
 
 -- ---- members
 
@@ -69,44 +65,26 @@ members_from version ms is = record {
 
 -- ---- logs
 
+abbrev pub proc_of : Log → ℕ
+proc_of log = log.proc
+
 -- above `last`, rising, and each of this kind
-abbrev pub LogsRise : (Log → Type 0) → ℕ → List Log → Type 0
-LogsRise L last [] = Unit {0}
-LogsRise L last (log ∷ logs) = (last < log.proc) × L log × LogsRise L log.proc logs
-
-pub record LogsFrom (L : Log → Type 0) (room last : ℕ) (logs : List Log) : Type 0 where
-  pub few : length logs < room
-  pub rises : LogsRise L last logs
-
-logs_above : (L : Log → Type 0) (last low : ℕ) (logs : List Log) → low ≤ last → LogsRise L last logs → AllByRecursion (λ l. low < l.proc) logs
-logs_above L last low [] le h = tt
-logs_above L last low (l ∷ ls) le h = (omega (arith, h.0), logs_above L l.proc low ls (omega (arith, h.0)) h.2)
-
-logs_each : (L : Log → Type 0) (last : ℕ) (logs : List Log) → LogsRise L last logs → AllByRecursion L logs
-logs_each L last [] h = tt
-logs_each L last (l ∷ ls) h = (h.1, logs_each L l.proc ls h.2)
-
-logs_pairs : (L : Log → Type 0) (last : ℕ) (logs : List Log) → LogsRise L last logs → AllPairs IsBelowLog logs
-logs_pairs L last [] h = λ i j d lt within. absurd (omega arith)
-logs_pairs L last (l ∷ ls) h = AllPairs-cons IsBelowLog l ls (All-from_recursion (λ b. l.proc < b.proc) ls (logs_above L l.proc l.proc ls (omega arith) h.2)) (logs_pairs L l.proc ls h.2)
+abbrev pub LogsFrom : (Log → Type 0) → ℕ → ℕ → List Log → Type 0
+LogsFrom L room last logs = RecordsFrom proc_of L room last logs
 
 pub is_run : (version : Version) (logs : List Log) → LogsFrom (IsLogIn version) 33 0 logs → IsRunIn version logs
-is_run version logs h = record { few = omega (arith, h.few); rising = logs_pairs (IsLogIn version) 0 logs h.rises; each = All-from_recursion (IsLogIn version) logs (logs_each (IsLogIn version) 0 logs h.rises) }
-
-logs_from : (L : Log → Type 0) (last : ℕ) (logs : List Log) → AllByRecursion (λ l. last < l.proc) logs → AllByRecursion L logs → AllPairs IsBelowLog logs → LogsRise L last logs
-logs_from L last [] above each pairs = tt
-logs_from L last (l ∷ ls) above each pairs = (above.0, each.0, logs_from L l.proc ls (firsts l ls pairs) each.1 (pairs_tail IsBelowLog l ls pairs))
-  where
-    firsts : (l : Log) (ls : List Log) → AllPairs IsBelowLog (l ∷ ls) → AllByRecursion (λ b. l.proc < b.proc) ls
-    firsts l ls pairs = recursion_from_All (λ b. l.proc < b.proc) ls (λ j d within. pairs 0 (suc j) d (omega arith) (omega arith))
+is_run version logs h = record {
+  few = omega (arith, h.few);
+  rising = rise_pairs proc_of (IsLogIn version) 0 logs h.rises;
+  each = All-from_recursion (IsLogIn version) logs (rise_each proc_of (IsLogIn version) 0 logs h.rises);
+}
 
 -- an identifier above 0 makes a rank above 0
 pub rank_above : (p : ℕ) → 0 < id_of p → 0 < p
 rank_above p h = omega (arith, h)
 
-positive : (version : Version) (logs : List Log) → AllByRecursion (IsLogIn version) logs → AllByRecursion (λ l. 0 < l.proc) logs
-positive version [] each = tt
-positive version (l ∷ ls) each = (rank_above l.proc each.0.process.id_fits.positive, positive version ls each.1)
-
 pub run_from : (version : Version) (logs : List Log) → IsRunIn version logs → LogsFrom (IsLogIn version) 33 0 logs
-run_from version logs is = record { few = omega (arith, is.few); rises = (let each = recursion_from_All (IsLogIn version) logs is.each in logs_from (IsLogIn version) 0 logs (positive version logs each) each is.rising) }
+run_from version logs is = record {
+  few = omega (arith, is.few);
+  rises = rise_from_none proc_of (IsLogIn version) logs (λ log h. rank_above log.proc h.process.id_fits.positive) (recursion_from_All (IsLogIn version) logs is.each) is.rising;
+}

@@ -17,6 +17,7 @@ pub mod ExampleGood
 pub mod ExampleRuns
 pub mod ExampleTravel
 pub mod ExampleTravelGood
+pub mod RisingRecords
 pub mod FromLeft
 pub mod LooseFrom
 pub mod Weaker

@@ -13,7 +13,8 @@ use Rattle.totem_evs.specs.declared.log.Log.{Log}
 use Rattle.totem_evs.specs.Members.{IsMembersIn, IsBelow}
 use Rattle.totem_evs.specs.Runs.{IsEntryIn, IsLogIn, IsBelowLog}
 use Rattle.totem_evs.specs.TextFronts.{but_last, IsLooseMembers, IsLooseEntry, IsLooseEntries, IsLooseLog, IsLooseRun}
-use Rattle.totem_evs.proofs.FromLeft.{Rises, members_from}
+use Rattle.totem_evs.proofs.FromLeft.{Rises, members_from, proc_of}
+use Rattle.totem_evs.proofs.RisingRecords.{RiseLoosely, LooselyFrom, rise_loosely, loosely_pairs, loosely_before, loosely_each}
 
 -- ---- all but the last
 
@@ -121,44 +122,16 @@ loose_log version log is = record {
 }
 
 -- logs of which the last is such a one and need not rise
-abbrev pub LogsLoosely : Version → ℕ → List Log → Type 0
-LogsLoosely version last [] = Unit {0}
-LogsLoosely version last (log ∷ []) = IsLooseLog version log
-LogsLoosely version last (log ∷ other ∷ logs) = (last < log.proc) × IsLogIn version log × LogsLoosely version log.proc (other ∷ logs)
+abbrev pub LooseLogsFrom : Version → ℕ → ℕ → List Log → Type 0
+LooseLogsFrom version room last logs = LooselyFrom proc_of (IsLogIn version) (IsLooseLog version) room last logs
 
-pub record LooseLogsFrom (version : Version) (room last : ℕ) (logs : List Log) : Type 0 where
-  pub few : length logs < room
-  pub rises : LogsLoosely version last logs
-
-pub log_loosely : (version : Version) (last : ℕ) (log : Log) (logs : List Log) → last < log.proc → IsLogIn version log → LogsLoosely version log.proc logs → LogsLoosely version last (log ∷ logs)
-log_loosely version last log [] above is h = loose_log version log is
-log_loosely version last log (other ∷ logs) above is h = (above, is, h)
-
-logs_above : (version : Version) (last low : ℕ) (logs : List Log) → low ≤ last → LogsLoosely version last logs → AllByRecursion (λ l. low < l.proc) (but_last logs)
-logs_above version last low [] le h = tt
-logs_above version last low (l ∷ []) le h = tt
-logs_above version last low (l ∷ k ∷ ls) le h = (omega (arith, h.0), logs_above version l.proc low (k ∷ ls) (omega (arith, h.0)) h.2)
-
-logs_pairs : (version : Version) (last : ℕ) (logs : List Log) → LogsLoosely version last logs → AllPairs IsBelowLog (but_last logs)
-logs_pairs version last [] h = λ i j d lt within. absurd (omega arith)
-logs_pairs version last (l ∷ []) h = λ i j d lt within. absurd (omega arith)
-logs_pairs version last (l ∷ k ∷ ls) h =
-    AllPairs-cons IsBelowLog l (but_last (k ∷ ls)) (All-from_recursion (λ b. l.proc < b.proc) (but_last (k ∷ ls)) (logs_above version l.proc l.proc (k ∷ ls) (omega arith) h.2)) (logs_pairs version l.proc (k ∷ ls) h.2)
-
-logs_before : (version : Version) (last : ℕ) (logs : List Log) → LogsLoosely version last logs → AllByRecursion (IsLogIn version) (but_last logs)
-logs_before version last [] h = tt
-logs_before version last (l ∷ []) h = tt
-logs_before version last (l ∷ k ∷ ls) h = (h.1, logs_before version l.proc (k ∷ ls) h.2)
-
-logs_each : (version : Version) (last : ℕ) (logs : List Log) → LogsLoosely version last logs → AllByRecursion (IsLooseLog version) logs
-logs_each version last [] h = tt
-logs_each version last (l ∷ []) h = (h, tt)
-logs_each version last (l ∷ k ∷ ls) h = (loose_log version l h.1, logs_each version l.proc (k ∷ ls) h.2)
+pub log_loosely : (version : Version) (last : ℕ) (log : Log) (logs : List Log) → last < log.proc → IsLogIn version log → RiseLoosely proc_of (IsLogIn version) (IsLooseLog version) log.proc logs → RiseLoosely proc_of (IsLogIn version) (IsLooseLog version) last (log ∷ logs)
+log_loosely version last log logs above is h = rise_loosely proc_of (IsLogIn version) (IsLooseLog version) last log logs above is (loose_log version log is) h
 
 pub is_loose_run : (version : Version) (logs : List Log) → LooseLogsFrom version 33 0 logs → IsLooseRun version logs
 is_loose_run version logs h = record {
   few = omega (arith, h.few);
-  rising = logs_pairs version 0 logs h.rises;
-  before = All-from_recursion (IsLogIn version) (but_last logs) (logs_before version 0 logs h.rises);
-  each = All-from_recursion (IsLooseLog version) logs (logs_each version 0 logs h.rises);
+  rising = loosely_pairs proc_of (IsLogIn version) (IsLooseLog version) 0 logs h.rises;
+  before = All-from_recursion (IsLogIn version) (but_last logs) (loosely_before proc_of (IsLogIn version) (IsLooseLog version) 0 logs h.rises);
+  each = All-from_recursion (IsLooseLog version) logs (loosely_each proc_of (IsLogIn version) (IsLooseLog version) 0 logs (loose_log version) h.rises);
 }

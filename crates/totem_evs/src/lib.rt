@@ -60,4 +60,4 @@ pub use text_laws::{
     no_text_begins_another, read_is_spelled, spelled_is_read,
 };
 pub use totem_ids::{ListFault, Refused};
-pub use writing::{WriteFault, write_run};
+pub use writing::{WriteFault, put_header, write_run};

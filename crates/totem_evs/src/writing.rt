@@ -3,11 +3,13 @@ ghost use Rattle.std.specs.Prelude.{◌≡◌, [], ◌∷◌, ◌++◌, codes};
 ghost use Rattle.std.specs.List.{flat_map};
 ghost use Rattle.totem_ids.specs.Writing.{Writes, held};
 ghost use Rattle.totem_ids.specs.Processes.{process_text};
-ghost use Rattle.totem_evs.specs.RunText.{line, members_text, entry_text, ending_text, log_text, header_text, run_text};
+ghost use Rattle.totem_evs.specs.RunText.{line, members_text, entry_text, ending_text, log_text, version_digit, run_text};
+ghost use Rattle.totem_evs.specs.Heads.{first_line};
 ghost use Rattle.totem_evs.specs.WriteRun.{WritesText};
 
 use crate::ending::Ending;
 use crate::entry::Entry;
+use crate::form::{Form, RunText};
 use crate::log::Log;
 use crate::members::Members;
 use crate::run::Run;
@@ -163,15 +165,29 @@ fn put_logs<S: Sink>(
     Ok(())
 }
 
-fn put_header<S: Sink>(pieces: &mut Pieces, sink: &mut S, version: Version) -> Result<(), Failed>
+fn put_version<S: Sink>(pieces: &mut Pieces, sink: &mut S, version: Version) -> Result<(), Failed>
     ensures { Writes (held S.contents S.failures pieces.old sink.old)
-        (held S.contents S.failures pieces.new sink.new) result (header_text version) }
+        (held S.contents S.failures pieces.new sink.new) result (line (version_digit version ∷ [])) }
 {
     match version {
-        Version::One => pieces.put(sink, b"totem-run 1\n"),
-        Version::Two => pieces.put(sink, b"totem-run 2\n"),
-        Version::Three => pieces.put(sink, b"totem-run 3\n"),
+        Version::One => pieces.put(sink, b"1\n"),
+        Version::Two => pieces.put(sink, b"2\n"),
+        Version::Three => pieces.put(sink, b"3\n"),
     }
+}
+
+/// Gathers the first line of a text.
+#[tactic(auto, using(totem_ids::proofs::Writers::wrote_then, totem_ids::proofs::Writers::wrote_failed))]
+pub fn put_header<F: Form, S: Sink>(
+    pieces: &mut Pieces,
+    sink: &mut S,
+    version: Version,
+) -> Result<(), Failed>
+    ensures { Writes (held S.contents S.failures pieces.old sink.old)
+        (held S.contents S.failures pieces.new sink.new) result (first_line F.words version) }
+{
+    pieces.put(sink, F::title())?;
+    put_version(pieces, sink, version)
 }
 
 #[tactic(auto, using(totem_ids::proofs::Writers::wrote_then, totem_ids::proofs::Writers::wrote_failed))]
@@ -179,7 +195,7 @@ fn put_run<S: Sink>(pieces: &mut Pieces, sink: &mut S, run: &Run) -> Result<(), 
     ensures { Writes (held S.contents S.failures pieces.old sink.old)
         (held S.contents S.failures pieces.new sink.new) result (run_text run.now) }
 {
-    put_header(pieces, sink, run.version)?;
+    put_header::<RunText, S>(pieces, sink, run.version)?;
     put_logs(pieces, sink, run.version, run.logs.as_slice())?;
     pieces.put(sink, b"end\n")
 }

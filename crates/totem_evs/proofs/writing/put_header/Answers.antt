@@ -1,10 +1,8 @@
+use Rattle.std.proofs.Common.{[], ◌∷◌, append_assoc}
+use Rattle.totem_ids.proofs.Writers.{wrote_then}
+use Rattle.totem_evs.specs.RunText.{version_digit}
 use Rattle.totem_evs.proofs.writing.put_header.Goals as goal
 
-pub returns-in-One : goal.returns-in-One
-returns-in-One g c = rw c.in-One.is c.put.ensures
-
-pub returns-in-Two : goal.returns-in-Two
-returns-in-Two g c = rw c.in-Two.is c.put-in-Two.ensures
-
-pub returns-in-Three : goal.returns-in-Three
-returns-in-Three g c = rw c.in-Three.is c.put-in-Three.ensures
+pub returns : goal.returns
+returns g c =
+    rw (append_assoc g.F.Form.words.title (version_digit c.args.version ∷ []) (10 ∷ [])) (wrote_then _ _ _ _ _ _ (rw c.title.ensures at c.in_ok-put.ensures) c.put_version.ensures)

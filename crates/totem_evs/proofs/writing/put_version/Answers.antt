@@ -1,4 +1,4 @@
-use Rattle.totem_cert.proofs.writing.put_header.Goals as goal
+use Rattle.totem_evs.proofs.writing.put_version.Goals as goal
 
 pub returns-in-One : goal.returns-in-One
 returns-in-One g c = rw c.in-One.is c.put.ensures
