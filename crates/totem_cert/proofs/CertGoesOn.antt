@@ -15,7 +15,7 @@ use Rattle.totem_ids.specs.Ranks.{rank_of}
 use Rattle.totem_ids.proofs.Lives.{process_then_is}
 use Rattle.totem_ids.proofs.Spelled.{byte_is, word_is, number_is}
 use Rattle.totem_evs.specs.Certificates.{Numbering}
-use Rattle.totem_evs.specs.Heads.{head_at, by_head, header_at}
+use Rattle.totem_evs.specs.Heads.{records_at, head_at, by_head, header_at}
 use Rattle.totem_evs.proofs.GoesOn.{Cut, Splits, ok_cut, fault_cut, test_cut, bind_cut, last_cut, number_cut}
 use Rattle.totem_evs.proofs.SpelledHeads.{head_text, IsHead, head_is, header_is}
 use Rattle.totem_evs.proofs.HeadsGoOn.{IsLooseHead, HeadTo, head_cut, HeaderTo, header_cut}
@@ -25,7 +25,7 @@ use Rattle.totem_cert.specs.CertText.{numbers_text, header_text, cert_text}
 use Rattle.totem_cert.specs.CertGrammar.{cert_words, numbers_at, lines_at, cert_at}
 use Rattle.totem_cert.specs.CertFronts.{IsFront, IsLooseCertificate, IsLooseFront, IsFirstWrong}
 use Rattle.totem_cert.proofs.LinesFromLeft.{NumbersFrom, LooseLinesFrom, line_loosely, is_loose_certificate}
-use Rattle.totem_cert.proofs.CertLoops.{numbering}
+use Rattle.totem_cert.specs.CertGrammar.{numbering}
 use Rattle.totem_cert.proofs.SpelledNumbers.{numbers_is}
 use Rattle.totem_cert.proofs.SpelledCert.{of_text, lines_text, lines_parts, made_line, cert_parts, no_cert}
 use Rattle.totem_cert.proofs.SteadyCert.{cert_steady, cert_first_break}
@@ -139,7 +139,7 @@ lines_step version room last (Some p) bytes rest found again =
     tail_of (n ∷ ns) h = ((decimal n ++ numbers_text ns) ++ 10 ∷ [], refl)
 
 lines_cut : (version : Version) (room last : ℕ) (bytes : List ℕ) → Cut (lines_at version room last bytes) (LinesTo version room last) bytes
-unfolding lines_at
+unfolding records_at
 lines_cut version zero last bytes = fault_cut faults.TooMany (LinesTo version zero last) bytes refl
 lines_cut version (suc room) last bytes =
     bind_cut (head_at cert_words version (room == 0) last bytes) (λ head. by_head head.0 (Ok ([], head.1)) (λ p. numbers_at 1000000 head.1 >>= λ numbers. lines_at version room p numbers.1 >>= λ others. Ok (numbering p numbers.0 ∷ others.0, others.1))) (HeadTo cert_words version (room == 0)) (LinesTo version (suc room) last) bytes (head_cut cert_words version (room == 0) last bytes)

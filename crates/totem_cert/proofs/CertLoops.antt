@@ -9,8 +9,8 @@ use Rattle.totem_ids.specs.Numbers.{number_at}
 use Rattle.totem_ids.proofs.Readers.{gives, same_left}
 use Rattle.totem_evs.specs.Certificates.{Numbering}
 use Rattle.totem_evs.specs.Heads.{head_at, by_head}
-use Rattle.totem_evs.proofs.RunLoops.{one_more, none_before}
-use Rattle.totem_cert.specs.CertGrammar.{cert_words, numbers_at, lines_at}
+use Rattle.totem_evs.proofs.RunLoops.{one_more, none_before, with_records, records_step, records_none}
+use Rattle.totem_cert.specs.CertGrammar.{cert_words, numbers_at, numbering, lines_at}
 
 -- ---- numbers
 
@@ -44,38 +44,15 @@ numbers_first room bytes = none_before (numbers_at room bytes)
 
 -- ---- lines
 
-abbrev pub numbering : ℕ → List ℕ → Numbering
-numbering p numbers = record { proc = p; numbers = numbers }
-
 abbrev pub with_lines : Version → List Numbering → ℕ → ℕ → List ℕ → Parsed (List Numbering)
-with_lines version front room last bytes = lines_at version room last bytes >>= λ x. gives (front ++ x.0) x.1
+with_lines version front room last bytes = with_records cert_words (λ version p. numbers_at 1000000) numbering version front room last bytes
 
 pub lines_step : (version : Version) (front : List Numbering) (room room' last : ℕ) (full : Bool) → room ≡ suc room' → (room' == 0) ≡ full → (bytes : List ℕ) → with_lines version front room last bytes ≡ (head_at cert_words version full last bytes >>= λ head.
     by_head head.0 (gives front head.1) (λ p. numbers_at 1000000 head.1 >>= λ numbers. with_lines version (front ++ numbering p numbers.0 ∷ []) room' p numbers.1))
-unfolding lines_at
-lines_step version front room room' last full e same bytes = rw (e, same) (go (head_at cert_words version full last bytes))
-  where
-    lined : (p : ℕ) (r : Parsed (List ℕ)) →
-        ((r >>= λ numbers. lines_at version room' p numbers.1 >>= λ others. gives (numbering p numbers.0 ∷ others.0) others.1) >>= λ x. gives (front ++ x.0) x.1)
-        ≡ (r >>= λ numbers. with_lines version (front ++ numbering p numbers.0 ∷ []) room' p numbers.1)
-    lined p (Ok numbers) = one_more front (numbering p numbers.0) (lines_at version room' p numbers.1)
-    lined p (Err f) = refl
-
-    headed : (head : Option ℕ) (rest : List ℕ) →
-        (by_head head (gives [] rest) (λ p. numbers_at 1000000 rest >>= λ numbers. lines_at version room' p numbers.1 >>= λ others. gives (numbering p numbers.0 ∷ others.0) others.1) >>= λ x. gives (front ++ x.0) x.1)
-        ≡ by_head head (gives front rest) (λ p. numbers_at 1000000 rest >>= λ numbers. with_lines version (front ++ numbering p numbers.0 ∷ []) room' p numbers.1)
-    headed None rest = ap (λ (ls : List Numbering). gives ls rest) (append-nil front)
-    headed (Some p) rest = lined p (numbers_at 1000000 rest)
-
-    go : (r : Parsed (Option ℕ)) →
-        ((r >>= λ head. by_head head.0 (gives [] head.1) (λ p. numbers_at 1000000 head.1 >>= λ numbers. lines_at version room' p numbers.1 >>= λ others. gives (numbering p numbers.0 ∷ others.0) others.1)) >>= λ x. gives (front ++ x.0) x.1)
-        ≡ (r >>= λ head. by_head head.0 (gives front head.1) (λ p. numbers_at 1000000 head.1 >>= λ numbers. with_lines version (front ++ numbering p numbers.0 ∷ []) room' p numbers.1))
-    go (Ok head) = headed head.0 head.1
-    go (Err f) = refl
+lines_step version front room room' last full e same bytes = records_step cert_words (λ version p. numbers_at 1000000) numbering version front room room' last full e same bytes
 
 pub lines_none : (version : Version) (front : List Numbering) (room last : ℕ) → room ≡ 0 → (bytes : List ℕ) → with_lines version front room last bytes ≡ Err faults.TooMany
-unfolding lines_at
-lines_none version front room last e bytes = rw e refl
+lines_none version front room last e bytes = records_none cert_words (λ version p. numbers_at 1000000) numbering version front room last e bytes
 
 pub lines_first : (version : Version) (room last : ℕ) (bytes : List ℕ) → lines_at version room last bytes ≡ with_lines version [] room last bytes
 lines_first version room last bytes = none_before (lines_at version room last bytes)

@@ -14,7 +14,7 @@ use Rattle.totem_ids.specs.Numbers.{byte_at, word_at, number_at}
 use Rattle.totem_ids.specs.Processes.{process_text, process_then}
 use Rattle.totem_ids.proofs.Spelled.{taken, word_is, word_again, number_is, number_again}
 use Rattle.totem_evs.specs.Certificates.{Numbering}
-use Rattle.totem_evs.specs.Heads.{head_at, by_head, header_at}
+use Rattle.totem_evs.specs.Heads.{records_at, head_at, by_head, header_at}
 use Rattle.totem_evs.proofs.RunLoops.{full_is}
 use Rattle.totem_evs.proofs.OnlyFaults.{ok_only, fault_only, number_only, head_only, header_only}
 use Rattle.totem_evs.proofs.PartFaults.{bind_case, byte_pick}
@@ -25,7 +25,7 @@ use Rattle.totem_cert.specs.Keeping.{IsNumber}
 use Rattle.totem_cert.specs.CertText.{numbers_text, line_text, header_text}
 use Rattle.totem_cert.specs.CertGrammar.{cert_words, numbers_at, lines_at, cert_at}
 use Rattle.totem_cert.specs.CertPlaces.{last_proc, IsBehindLines, BreaksHeader, HasFault, HasOrder, HasTooMany}
-use Rattle.totem_cert.proofs.CertLoops.{numbering}
+use Rattle.totem_cert.specs.CertGrammar.{numbering}
 use Rattle.totem_cert.proofs.LinesFromLeft.{numbers_from, LinesRise, is_certificate, certificate_from}
 use Rattle.totem_cert.proofs.SpelledNumbers.{numbers_is, numbers_tail}
 use Rattle.totem_cert.proofs.SpelledCert.{cert_clear, of_text, has_version, line_parts, made_line}
@@ -51,7 +51,7 @@ one_line version l lines bytes mid b2 rest head numbers tail =
     head ∙ sym (line_parts version l mid b2 numbers) ∙ ap (λ (t : List ℕ). line_text (process_text version) l ++ t) tail ∙ sym (append_assoc (line_text (process_text version) l) (flat_map (line_text (process_text version)) lines) rest)
 
 lines_break : (f : TextFault) (version : Version) (room last : ℕ) (bytes : List ℕ) → 0 < room → lines_at version room last bytes ≡ Err f → To f version room last bytes
-unfolding lines_at
+unfolding records_at
 lines_break f version zero last bytes pos e = absurd (omega arith)
 lines_break f version (suc room) last bytes pos e =
     bind_case (head_at cert_words version (room == 0) last bytes) (λ head. by_head head.0 (Ok ([], head.1)) (λ p. numbers_at 1000000 head.1 >>= λ numbers. lines_at version room p numbers.1 >>= λ others. Ok (numbering p numbers.0 ∷ others.0, others.1))) f e
@@ -83,7 +83,7 @@ lines_break f version (suc room) last bytes pos e =
         (λ others left e3 k. absurd cc))
 
 breaks_lines : (f : TextFault) (version : Version) (room last : ℕ) (lines : List Numbering) (left : ℕ) (rest : List ℕ) → room ≡ suc (length lines + left) → LinesRise version last lines → Here f version (left == 0) (last_proc last lines) rest → lines_at version room last (flat_map (line_text (process_text version)) lines ++ rest) ≡ Err f
-unfolding lines_at
+unfolding records_at
 breaks_lines f version zero last lines left rest count rises here = absurd (omega arith)
 breaks_lines f version (suc room) last [] left rest count rises (inl k) =
     let same : left ≡ room = omega arith in

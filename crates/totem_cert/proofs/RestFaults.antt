@@ -10,13 +10,11 @@ use Rattle.totem_ids.specs.declared.fault.TextFault.TheVariants as faults
 use Rattle.totem_ids.specs.Sources.{Parsed, is_short, ◌>>=◌}
 use Rattle.totem_evs.specs.Certificates.{Numbering}
 use Rattle.totem_cert.specs.CertRecord.{CertRecord}
-use Rattle.totem_evs.specs.Heads.{by_head}
 use Rattle.totem_evs.specs.TextFaults.{BreaksNumber}
-use Rattle.totem_evs.proofs.NumberFaults.{Numbered, gives_numbered, cond_numbered, bind_numbered, number_numbered, word', too_many, head_numbered, header_numbered, number_exactly}
+use Rattle.totem_evs.proofs.NumberFaults.{Numbered, gives_numbered, cond_numbered, bind_numbered, number_numbered, word', too_many, records_numbered, header_numbered, number_exactly}
 use Rattle.totem_evs.proofs.WordFaults.{one_fault}
-use Rattle.totem_cert.specs.CertGrammar.{cert_words, numbers_at, lines_at, cert_at}
+use Rattle.totem_cert.specs.CertGrammar.{cert_words, numbers_at, numbering, cert_at}
 use Rattle.totem_cert.specs.CertPlaces.{HasNoOther}
-use Rattle.totem_cert.proofs.CertLoops.{numbering}
 use Rattle.totem_cert.proofs.OwnFaults.{own_fault}
 use Rattle.totem_cert.proofs.CertParts.{header_exactly, cert_order, cert_many}
 
@@ -27,18 +25,9 @@ unfolding numbers_at
 numbers_numbered zero = too_many
 numbers_numbered (suc room) = bind_numbered _ _ (number_numbered 4294967295 (inr refl)) (λ n. cond_numbered _ _ _ (gives_numbered _) (cond_numbered _ _ _ (bind_numbered _ _ (numbers_numbered room) (λ others. gives_numbered _)) word'))
 
-lines_numbered : (version : Version) (room last : ℕ) → Numbered (lines_at version room last)
-unfolding lines_at
-lines_numbered version zero last = too_many
-lines_numbered version (suc room) last = bind_numbered _ _ (head_numbered cert_words version (room == 0) last) (λ head. go head (λ p. lines_numbered version room p))
-  where
-    go : (head : Option ℕ) → ((p : ℕ) → Numbered (lines_at version room p)) → Numbered (λ bytes. by_head {Y = Parsed (List Numbering)} head (Ok ([], bytes)) (λ p. numbers_at 1000000 bytes >>= λ numbers. lines_at version room p numbers.1 >>= λ others. Ok (numbering p numbers.0 ∷ others.0, others.1)))
-    go None again = gives_numbered _
-    go (Some p) again = bind_numbered _ _ (numbers_numbered 1000000) (λ numbers. bind_numbered _ _ (again p) (λ others. gives_numbered _))
-
 cert_numbered : Numbered cert_at
 unfolding cert_at
-cert_numbered = bind_numbered _ _ (header_numbered cert_words) (λ v. bind_numbered _ _ (lines_numbered v 33 0) (λ lines. gives_numbered _))
+cert_numbered = bind_numbered _ _ (header_numbered cert_words) (λ v. bind_numbered _ _ (records_numbered cert_words (λ version p. numbers_at 1000000) numbering (λ version p. numbers_numbered 1000000) v 33 0) (λ lines. gives_numbered _))
 
 pub cert_number : (bytes : List ℕ) → (cert_at bytes ≡ Err faults.Number) ↔ BreaksNumber cert_at bytes
 cert_number = number_exactly cert_at cert_numbered

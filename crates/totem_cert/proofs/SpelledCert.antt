@@ -15,14 +15,14 @@ use Rattle.totem_ids.proofs.Lives.{process_then_is, process_then_again}
 use Rattle.totem_ids.proofs.Spelled.{after, taken, guard_then, guard_else, parsed_is, byte_is, word_is, word_again}
 use Rattle.totem_evs.specs.Certificates.{Numbering}
 use Rattle.totem_evs.specs.RunText.{line}
-use Rattle.totem_evs.specs.Heads.{HasVersion, head_at, by_head, header_at}
+use Rattle.totem_evs.specs.Heads.{records_at, HasVersion, head_at, by_head, header_at}
 use Rattle.totem_evs.proofs.SpelledHeads.{IsClear, head_text, IsHead, begin_parts, head_is, head_again, header_is, header_again}
 use Rattle.totem_cert.specs.CertRecord.{CertRecord}
 use Rattle.totem_cert.specs.Keeping.{IsLineIn, IsCertificateOf, IsOfText}
 use Rattle.totem_cert.specs.CertText.{numbers_text, line_text, header_text, cert_text}
 use Rattle.totem_cert.specs.CertGrammar.{cert_words, numbers_at, lines_at, cert_at}
 use Rattle.totem_cert.proofs.LinesFromLeft.{NumbersFrom, are_numbers, numbers_from, LinesFrom, is_certificate, certificate_from}
-use Rattle.totem_cert.proofs.CertLoops.{numbering}
+use Rattle.totem_cert.specs.CertGrammar.{numbering}
 use Rattle.totem_cert.proofs.SpelledNumbers.{numbers_is, numbers_tail}
 
 -- ---- the words of a certificate's text
@@ -59,7 +59,7 @@ pub made_line : (version : Version) (p : ℕ) (ns : List ℕ) → IsProcessIn ve
 made_line version p ns fits h = record { process = fits; numbers = are_numbers ns h }
 
 pub lines_is : (version : Version) (room last : ℕ) (lines : List Numbering) (bytes rest : List ℕ) → lines_at version room last bytes ≡ Ok (lines, rest) → LinesFrom version room last lines × (bytes ≡ lines_text version lines rest)
-unfolding lines_at
+unfolding records_at
 lines_is version zero last lines bytes rest e = absurd cc
 lines_is version (suc room) last lines bytes rest e =
     after (head_at cert_words version (room == 0) last bytes) (λ head. by_head head.0 (Ok ([], head.1)) (λ p. numbers_at 1000000 head.1 >>= λ numbers. lines_at version room p numbers.1 >>= λ others. Ok (numbering p numbers.0 ∷ others.0, others.1))) (lines, rest) e (λ head mid e1 more.
@@ -90,7 +90,7 @@ lines_is version (suc room) last lines bytes rest e =
         rw (← q.0, ← q.1) (is, text)))
 
 pub lines_again : (version : Version) (room last : ℕ) (lines : List Numbering) (rest : List ℕ) → LinesFrom version room last lines → lines_at version room last (lines_text version lines rest) ≡ Ok (lines, rest)
-unfolding lines_at
+unfolding records_at
 lines_again version zero last lines rest is = absurd (omega (arith, is.few))
 lines_again version (suc room) last [] rest is = rw (head_again cert_words version (room == 0) last None rest cert_clear tt) refl
 lines_again version (suc room) last (l ∷ lines) rest is =

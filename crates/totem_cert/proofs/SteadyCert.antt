@@ -10,28 +10,18 @@ use Rattle.totem_ids.specs.Numbers.{word_at}
 use Rattle.totem_ids.proofs.Steady.{gives_steady, fault_steady, bind_steady, cond_steady, byte_steady, word_steady, number_steady, first_break}
 use Rattle.totem_ids.proofs.Lives.{process_then_steady}
 use Rattle.totem_evs.specs.Certificates.{Numbering}
-use Rattle.totem_evs.specs.Heads.{by_head, header_at}
-use Rattle.totem_evs.proofs.SteadyRun.{head_steady, header_steady}
-use Rattle.totem_cert.specs.CertGrammar.{cert_words, numbers_at, lines_at, cert_at}
-use Rattle.totem_cert.proofs.CertLoops.{numbering}
+use Rattle.totem_evs.specs.Heads.{header_at}
+use Rattle.totem_evs.proofs.SteadyRun.{records_steady, header_steady}
+use Rattle.totem_cert.specs.CertGrammar.{cert_words, numbers_at, numbering, cert_at}
 
 numbers_steady : (room : ℕ) → Steady (numbers_at room)
 unfolding numbers_at
 numbers_steady zero = fault_steady _
 numbers_steady (suc room) = bind_steady _ _ (number_steady 4294967295) (λ n. cond_steady _ _ _ (gives_steady _) (cond_steady _ _ _ (bind_steady _ _ (numbers_steady room) (λ others. gives_steady _)) (fault_steady _)))
 
-lines_steady : (version : Version) (room last : ℕ) → Steady (lines_at version room last)
-unfolding lines_at
-lines_steady version zero last = fault_steady _
-lines_steady version (suc room) last = bind_steady _ _ (head_steady cert_words version (room == 0) last) (λ head. go head (λ p. lines_steady version room p))
-  where
-    go : (head : Option ℕ) → ((p : ℕ) → Steady (lines_at version room p)) → Steady (λ bytes. by_head {Y = Parsed (List Numbering)} head (Ok ([], bytes)) (λ p. numbers_at 1000000 bytes >>= λ numbers. lines_at version room p numbers.1 >>= λ others. Ok (numbering p numbers.0 ∷ others.0, others.1)))
-    go None again = gives_steady _
-    go (Some p) again = bind_steady _ _ (numbers_steady 1000000) (λ numbers. bind_steady _ _ (again p) (λ others. gives_steady _))
-
 pub cert_steady : Steady cert_at
 unfolding cert_at
-cert_steady = bind_steady _ _ (header_steady cert_words) (λ v. bind_steady _ _ (lines_steady v 33 0) (λ lines. gives_steady _))
+cert_steady = bind_steady _ _ (header_steady cert_words) (λ v. bind_steady _ _ (records_steady cert_words (λ version p. numbers_at 1000000) numbering (λ version p. numbers_steady 1000000) v 33 0) (λ lines. gives_steady _))
 
 cert_empty : cert_at [] ≡ Err faults.Truncated
 unfolding cert_at header_at word_at

@@ -6,7 +6,7 @@ use Rattle.totem_ids.specs.Sources.{Parsed, ◌>>=◌}
 use Rattle.totem_ids.specs.Numbers.{number_at}
 use Rattle.totem_ids.specs.declared.version.Version.{Version}
 use Rattle.totem_evs.specs.Certificates.{Numbering}
-use Rattle.totem_evs.specs.Heads.{Words, head_at, by_head, header_at}
+use Rattle.totem_evs.specs.Heads.{Words, records_at, header_at}
 use Rattle.totem_cert.specs.CertRecord.{CertRecord}
 
 -- numbers, and the line end behind them; at most room of them
@@ -22,12 +22,13 @@ numbers_at (suc room) bytes = do
 abbrev pub cert_words : Words
 cert_words = record { title = codes "totem-cert "; third = false; letter = 112; word = codes "os "; behind = 32 }
 
+-- a line of this process
+abbrev pub numbering : ℕ → List ℕ → Numbering
+numbering p numbers = record { proc = p; numbers = numbers }
+
 -- the further lines, one less than room of them, and the last line
-unfoldable pub lines_at : Version → ℕ → ℕ → List ℕ → Parsed (List Numbering)
-lines_at version zero last bytes = Err faults.TooMany
-lines_at version (suc room) last bytes = do
-  head ← head_at cert_words version (room == 0) last bytes
-  by_head head.0 (Ok ([], head.1)) (λ p. numbers_at 1000000 head.1 >>= λ numbers. lines_at version room p numbers.1 >>= λ others. Ok (record { proc = p; numbers = numbers.0 } ∷ others.0, others.1))
+abbrev pub lines_at : Version → ℕ → ℕ → List ℕ → Parsed (List Numbering)
+lines_at version room last bytes = records_at cert_words (λ version p. numbers_at 1000000) numbering version room last bytes
 
 -- the text of a certificate
 unfoldable pub cert_at : List ℕ → Parsed CertRecord

@@ -1,5 +1,5 @@
 -- The small runs with quiet logs.
-use Rattle.std.proofs.Common.{◌≡◌, ℕ, ◌<◌, ◌⊎◌, inl, inr, List, slice_get, Some, [], ◌∷◌, refl, lit<, arith}
+use Rattle.std.proofs.Common.{◌≡◌, ℕ, ◌⊎◌, inl, inr, List, slice_get, Some, [], ◌∷◌, refl, lit<, arith}
 use Rattle.std.specs.Prelude.{Contains}
 use Rattle.totem_ids.specs.declared.conf.ConfId.{ConfId}
 use Rattle.totem_ids.specs.declared.message.Service.TheVariants.{Agreed}

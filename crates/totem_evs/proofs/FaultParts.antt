@@ -1,14 +1,10 @@
 -- A fault of a run's text is that of its first line or of one of its parts.
 use Rattle.totem_ids.specs.declared.version.Version.{Version}
-use Rattle.totem_ids.specs.declared.version.Version.TheVariants.{One, Two, Three}
-use Rattle.std.specs.Prelude.{◌==◌, nat_lt, codes, ◌↔◌}
-use Rattle.std.proofs.Common.{◌≡◌, ◌≢◌, ℕ, zero, suc, ◌<◌, ◌≤◌, inl, inr, List, [], ◌∷◌, ◌++◌, length, length-append, Bool, true, false, cond, Option, Some, None, Ok, Err, refl, sym, ap, ◌∙◌, arith, rules}
-use Rattle.std.proofs.lemmas.Bool.{eqb-true}
+use Rattle.std.specs.Prelude.{◌==◌, nat_lt, ◌↔◌}
+use Rattle.std.proofs.Common.{◌≡◌, ◌≢◌, ℕ, zero, suc, ◌<◌, ◌≤◌, List, [], ◌∷◌, ◌++◌, length, length-append, Bool, Option, Some, None, Ok, Err, refl, sym, ap, ◌∙◌, arith}
 use Rattle.totem_ids.specs.declared.fault.TextFault.{TextFault}
 use Rattle.totem_ids.specs.declared.fault.TextFault.TheVariants as faults
 use Rattle.totem_ids.specs.Sources.{Parsed, ◌>>=◌}
-use Rattle.totem_ids.specs.Numbers.{byte_at, word_at}
-use Rattle.totem_ids.proofs.Spelled.{taken, word_is, word_again}
 use Rattle.totem_evs.specs.declared.entry.Entry.TheVariants.{Conf, Send, Deliver, Fail}
 use Rattle.totem_evs.specs.declared.ending.Ending.TheVariants.{Standing, Failed, Quiet}
 use Rattle.totem_evs.specs.declared.line.Line.{Line}
@@ -17,7 +13,6 @@ use Rattle.totem_evs.specs.declared.part.Part.{Part}
 use Rattle.totem_evs.specs.declared.part.Part.TheVariants as parts
 use Rattle.totem_evs.specs.declared.stage.Stage.{Stage}
 use Rattle.totem_evs.specs.declared.stage.OpenLog.{OpenLog}
-use Rattle.totem_evs.specs.RunText.{line}
 use Rattle.totem_evs.specs.Heads.{head_at, by_head, header_at}
 use Rattle.totem_evs.specs.RunGrammar.{line_at, by_line, run_words, run_at}
 use Rattle.totem_evs.specs.Parts.{begun_at, within_at, next_at, part_at, first_stage, next_stage}
@@ -30,7 +25,7 @@ use Rattle.totem_evs.proofs.PartRuns.{Stands, comes, stands_next, of_placed, sta
 use Rattle.totem_evs.proofs.OnlyFaults.{header_only, line_only, head_only}
 use Rattle.totem_evs.proofs.PartFaults.{bind_case, NotEnd, names_not_end, end_exactly}
 use Rattle.totem_evs.proofs.HeadPlaces.{NotHeader, names_not_header, header_exactly as first_exactly, NotOrder, names_not_order, order_exactly, many_exactly as begun_many}
-use Rattle.totem_evs.proofs.MembersFaults.{NotMany, names_not_many, NotMembers, names_not_members, members_exactly, many_exactly}
+use Rattle.totem_evs.proofs.MembersFaults.{NotMembers, names_not_members, members_exactly, many_exactly}
 
 -- ---- each part takes bytes
 

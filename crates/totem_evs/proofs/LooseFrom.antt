@@ -11,7 +11,7 @@ use Rattle.totem_evs.specs.declared.entry.Entry.{Entry}
 use Rattle.totem_evs.specs.declared.entry.Entry.TheVariants.{Conf, Send, Deliver, Fail}
 use Rattle.totem_evs.specs.declared.log.Log.{Log}
 use Rattle.totem_evs.specs.Members.{IsMembersIn, IsBelow}
-use Rattle.totem_evs.specs.Runs.{IsEntryIn, IsLogIn, IsBelowLog}
+use Rattle.totem_evs.specs.Runs.{IsEntryIn, IsLogIn}
 use Rattle.totem_evs.specs.TextFronts.{but_last, IsLooseMembers, IsLooseEntry, IsLooseEntries, IsLooseLog, IsLooseRun}
 use Rattle.totem_evs.proofs.FromLeft.{Rises, members_from, proc_of}
 use Rattle.totem_evs.proofs.RisingRecords.{RiseLoosely, LooselyFrom, rise_loosely, loosely_pairs, loosely_before, loosely_each}

@@ -19,11 +19,10 @@ use Rattle.totem_evs.specs.declared.entry.Entry.{Entry}
 use Rattle.totem_evs.specs.declared.ending.Ending.{Ending}
 use Rattle.totem_evs.specs.declared.line.Line.{Line}
 use Rattle.totem_evs.specs.declared.line.Line.TheVariants as lines
-use Rattle.totem_evs.specs.declared.log.Log.{Log}
 use Rattle.totem_ids.specs.Services.{service_at}
 use Rattle.totem_evs.specs.Endings.{writes_quiet}
-use Rattle.totem_evs.specs.RunGrammar.{is_failure, members_at, change_at, send_at, delivery_at, open_at, quiet_at, failed_at, fail_at, ail_at, failure_at, line_at, by_line, lines_at, log_at, run_words, logs_at, run_at}
-use Rattle.totem_evs.specs.Heads.{Words, proc_at, begin_at, end_at, head_at, by_head, header_end, header_at}
+use Rattle.totem_evs.specs.RunGrammar.{is_failure, members_at, change_at, send_at, delivery_at, open_at, quiet_at, failed_at, fail_at, ail_at, failure_at, line_at, by_line, lines_at, log_at, run_words, run_at}
+use Rattle.totem_evs.specs.Heads.{records_at, Words, proc_at, begin_at, end_at, head_at, by_head, header_end, header_at}
 use Rattle.totem_evs.specs.TextFaults.{IsPast, IsNoNumber, BreaksNumber}
 use Rattle.totem_evs.proofs.PartFaults.{bind_case}
 
@@ -327,16 +326,14 @@ pub head_numbered : (words : Words) (version : Version) (full : Bool) (last : �
 unfolding head_at
 head_numbered words version full last = bind_numbered _ _ byte_numbered (λ b. cond_numbered _ _ _ (begin_numbered words version full last) (cond_numbered _ _ _ end_numbered word'))
 
--- ---- logs
-
-logs_numbered : (version : Version) (room last : ℕ) → Numbered (logs_at version room last)
-unfolding logs_at
-logs_numbered version zero last = too_many
-logs_numbered version (suc room) last = bind_numbered _ _ (head_numbered run_words version (room == 0) last) (λ head. go head (λ p. logs_numbered version room p))
+pub records_numbered : {X R : Type 0} (words : Words) (rest_at : Version → ℕ → List ℕ → Parsed X) (made : ℕ → X → R) → ((version : Version) (p : ℕ) → Numbered (rest_at version p)) → (version : Version) (room last : ℕ) → Numbered (records_at words rest_at made version room last)
+unfolding records_at
+records_numbered words rest_at made numbered version zero last = too_many
+records_numbered {X = X} {R = R} words rest_at made numbered version (suc room) last = bind_numbered _ _ (head_numbered words version (room == 0) last) (λ head. go head (λ p. records_numbered words rest_at made numbered version room p))
   where
-    go : (head : Option ℕ) → ((p : ℕ) → Numbered (logs_at version room p)) → Numbered (λ bytes. by_head {Y = Parsed (List Log)} head (Ok ([], bytes)) (λ p. log_at version p bytes >>= λ log. logs_at version room p log.1 >>= λ others. Ok (log.0 ∷ others.0, others.1)))
+    go : (head : Option ℕ) → ((p : ℕ) → Numbered (records_at words rest_at made version room p)) → Numbered (λ bytes. by_head {Y = Parsed (List R)} head (Ok ([], bytes)) (λ p. rest_at version p bytes >>= λ x. records_at words rest_at made version room p x.1 >>= λ others. Ok (made p x.0 ∷ others.0, others.1)))
     go None again = gives_numbered _
-    go (Some p) again = bind_numbered _ _ (log_numbered version p) (λ log. bind_numbered _ _ (again p) (λ others. gives_numbered _))
+    go (Some p) again = bind_numbered _ _ (numbered version p) (λ x. bind_numbered _ _ (again p) (λ others. gives_numbered _))
 
 header_words : (word : List ℕ) → Numbered (word_at faults.Header word)
 header_words word = word_numbered faults.Header word (λ h. absurd cc)
@@ -351,7 +348,7 @@ header_numbered words = bind_numbered _ _ (header_words _) (λ w. bind_numbered 
 
 run_numbered : Numbered run_at
 unfolding run_at
-run_numbered = bind_numbered _ _ (header_numbered run_words) (λ v. bind_numbered _ _ (logs_numbered v 33 0) (λ logs. gives_numbered _))
+run_numbered = bind_numbered _ _ (header_numbered run_words) (λ v. bind_numbered _ _ (records_numbered run_words log_at (λ p log. log) log_numbered v 33 0) (λ logs. gives_numbered _))
 
 -- Number is a number's fault, and a number's fault is Number
 pub number_exactly : {Y : Type 0} (parse : List ℕ → Parsed Y) → Numbered parse → (bytes : List ℕ) → (parse bytes ≡ Err faults.Number) ↔ BreaksNumber parse bytes

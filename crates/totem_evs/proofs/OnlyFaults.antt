@@ -4,7 +4,7 @@ use Rattle.totem_ids.specs.declared.version.Version.{Version}
 use Rattle.totem_ids.specs.Ranks.{id_of}
 use Rattle.totem_ids.specs.Processes.{writes_lives, first_life_then, life_then, process_then}
 use Rattle.std.specs.Prelude.{◌==◌, nat_le}
-use Rattle.std.proofs.Common.{◌≡◌, ℕ, ◌+◌, ◌-◌, ◌*◌, zero, suc, List, [], ◌∷◌, Bool, true, false, cond, Ok, Err, refl}
+use Rattle.std.proofs.Common.{◌≡◌, ℕ, ◌+◌, ◌-◌, ◌*◌, zero, suc, List, [], ◌∷◌, Bool, true, false, cond, Option, Some, None, Ok, Err, refl}
 use Rattle.totem_ids.specs.declared.fault.TextFault.{TextFault}
 use Rattle.totem_ids.specs.declared.fault.TextFault.TheVariants as faults
 use Rattle.totem_ids.specs.declared.message.Service.TheVariants.{Agreed, Safe}
@@ -14,7 +14,7 @@ use Rattle.totem_ids.specs.Parsers.{ring_at, message_at, regular_at, transitiona
 use Rattle.totem_ids.specs.Services.{service_at}
 use Rattle.totem_evs.specs.Endings.{writes_quiet}
 use Rattle.totem_evs.specs.RunGrammar.{members_at, change_at, send_at, delivery_at, open_at, quiet_at, failed_at, fail_at, ail_at, failure_at, line_at}
-use Rattle.totem_evs.specs.Heads.{Words, proc_at, begin_at, end_at, head_at, header_end, header_at}
+use Rattle.totem_evs.specs.Heads.{Words, proc_at, begin_at, end_at, head_at, by_head, records_at, header_end, header_at}
 
 -- an answer is a value, or a fault of this kind
 pub record Only {A : Type 0} (P : TextFault → Type 0) (r : Parsed A) : Type 0 where
@@ -201,3 +201,12 @@ begin_only words version P full last bytes is order many = cond_only P _ _ _ (fa
 pub head_only : (words : Words) (version : Version) (P : TextFault → Type 0) (full : Bool) (last : ℕ) (bytes : List ℕ) → OfNames P → P faults.Order → P faults.TooMany → Only P (head_at words version full last bytes)
 unfolding head_at
 head_only words version P full last bytes is order many = bind_only P _ _ (byte_only P bytes is.short) (λ b. cond_only P _ _ _ (begin_only words version P full last b.1 is order many) (cond_only P _ _ _ (end_only P b.1 is) (fault_only P faults.Word is.word)))
+
+pub records_only : {X R : Type 0} (words : Words) (rest_at : Version → ℕ → List ℕ → Parsed X) (made : ℕ → X → R) (P : TextFault → Type 0) → OfNames P → P faults.Order → P faults.TooMany → ((version : Version) (p : ℕ) (bytes : List ℕ) → Only P (rest_at version p bytes)) → (version : Version) (room last : ℕ) (bytes : List ℕ) → Only P (records_at words rest_at made version room last bytes)
+unfolding records_at
+records_only words rest_at made P is order many rests version zero last bytes = fault_only P faults.TooMany many
+records_only {X = X} {R = R} words rest_at made P is order many rests version (suc room) last bytes = bind_only P _ _ (head_only words version P (room == 0) last bytes is order many) (λ head. go head.0 head.1 (λ p rest. records_only words rest_at made P is order many rests version room p rest))
+  where
+    go : (head : Option ℕ) (rest : List ℕ) → ((p : ℕ) (rest : List ℕ) → Only P (records_at words rest_at made version room p rest)) → Only P (by_head {Y = Parsed (List R)} head (Ok ([], rest)) (λ p. rest_at version p rest >>= λ x. records_at words rest_at made version room p x.1 >>= λ others. Ok (made p x.0 ∷ others.0, others.1)))
+    go None rest again = ok_only P _
+    go (Some p) rest again = bind_only P _ _ (rests version p rest) (λ x. bind_only P _ _ (again p x.1) (λ others. ok_only P _))

@@ -2,21 +2,15 @@
 use Rattle.totem_evs.specs.RunRecord.{RunRecord}
 use Rattle.totem_evs.specs.Endings.{writes_quiet}
 use Rattle.totem_ids.specs.declared.version.Version.{Version}
-use Rattle.totem_ids.specs.declared.version.Version.TheVariants.{One, Two, Three}
-use Rattle.totem_ids.specs.Ranks.{rank_of}
-use Rattle.totem_ids.specs.Processes.{process_text, process_then, IsProcessIn}
-use Rattle.totem_ids.proofs.Lives.{process_then_is}
-use Rattle.std.specs.Prelude.{nat_le, ◌==◌, codes}
-use Rattle.std.proofs.Common.{◌≡◌, ℕ, zero, suc, ◌<◌, List, [], ◌∷◌, ◌++◌, Option, Some, None, Ok, Err, Bool, true, false, cond, refl, sym, ◌∙◌, ap, append_assoc, arith}
-use Rattle.std.proofs.lemmas.Bool.{eqb-true}
+use Rattle.totem_ids.specs.Processes.{process_text, IsProcessIn}
+use Rattle.std.specs.Prelude.{◌==◌}
+use Rattle.std.proofs.Common.{◌≡◌, ℕ, zero, suc, ◌<◌, List, [], ◌∷◌, ◌++◌, Option, Some, None, Ok, Err, Bool, true, false, refl, sym, ◌∙◌, ap, append_assoc, arith}
 use Rattle.std.proofs.lemmas.Bool.Decides.{nat_tests}
 use Rattle.std.proofs.lemmas.List.{append-nil}
 use Rattle.totem_ids.specs.declared.conf.ConfId.TheVariants.{Regular}
 use Rattle.totem_ids.specs.declared.fault.TextFault.{TextFault}
 use Rattle.totem_ids.specs.declared.fault.TextFault.TheVariants as faults
 use Rattle.totem_ids.specs.Sources.{Parsed, Follows, FirstBreak, is_short, ◌>>=◌}
-use Rattle.totem_ids.specs.Numbers.{byte_at, word_at}
-use Rattle.totem_ids.proofs.Spelled.{byte_is, word_is}
 use Rattle.totem_evs.specs.declared.entry.Entry.{Entry}
 use Rattle.totem_evs.specs.declared.entry.Entry.TheVariants.{Fail}
 use Rattle.totem_evs.specs.declared.ending.Ending.{Ending}
@@ -24,8 +18,8 @@ use Rattle.totem_evs.specs.declared.ending.Ending.TheVariants.{Failed}
 use Rattle.totem_evs.specs.declared.line.Line.{Line}
 use Rattle.totem_evs.specs.declared.line.Line.TheVariants as lines
 use Rattle.totem_evs.specs.declared.log.Log.{Log}
-use Rattle.totem_evs.specs.RunText.{line, entry_text, ending_text, version_digit, header_text, run_text}
-use Rattle.totem_evs.specs.Heads.{head_at, by_head, header_at}
+use Rattle.totem_evs.specs.RunText.{line, entry_text, ending_text, header_text, run_text}
+use Rattle.totem_evs.specs.Heads.{records_at, head_at, by_head, header_at}
 use Rattle.totem_evs.specs.RunGrammar.{is_failure, line_at, by_line, lines_at, log_at, run_words, logs_at, run_at}
 use Rattle.totem_evs.specs.TextFronts.{IsFront, IsLooseEntry, IsLooseLog, IsLooseRun, IsLooseFront, IsFirstWrong}
 use Rattle.totem_evs.proofs.LooseFrom.{EachLoosely, entry_loosely, loose_entries, LooseLogsFrom, log_loosely, is_loose_run}
@@ -34,9 +28,9 @@ use Rattle.totem_evs.proofs.SpelledLog.{entries_text, body_text, ends_in_failure
 use Rattle.totem_evs.proofs.SpelledHeads.{head_text, IsHead, head_is, header_is}
 use Rattle.totem_evs.proofs.SpelledRun.{logs_text, logs_parts, run_parts, no_run}
 use Rattle.totem_evs.proofs.SteadyRun.{run_steady, run_first_break}
-use Rattle.totem_evs.proofs.GoesOn.{Cut, Splits, ok_cut, fault_cut, test_cut, bind_cut, last_cut, byte_cut, word_cut, first_ring, first_ring_is}
+use Rattle.totem_evs.proofs.GoesOn.{Cut, Splits, ok_cut, fault_cut, bind_cut, last_cut, first_ring, first_ring_is}
 use Rattle.totem_evs.proofs.HeadsGoOn.{IsLooseHead, HeadTo, head_cut, HeaderTo, header_cut}
-use Rattle.totem_evs.proofs.LineGoesOn.{ProcessTo, process_cut, first_process_is, LineTo, line_cut}
+use Rattle.totem_evs.proofs.LineGoesOn.{LineTo, line_cut}
 
 -- ---- the lines of a log
 
@@ -149,7 +143,7 @@ logs_step version room last (Some p) bytes rest found again =
     Is u = LogsTo version (suc room) last (head_text run_words version (Some p) ++ u)
 
 logs_cut : (version : Version) (room last : ℕ) (bytes : List ℕ) → Cut (logs_at version room last bytes) (LogsTo version room last) bytes
-unfolding logs_at
+unfolding records_at
 logs_cut version zero last bytes = fault_cut faults.TooMany (LogsTo version zero last) bytes refl
 logs_cut version (suc room) last bytes =
     bind_cut (head_at run_words version (room == 0) last bytes) (λ head. by_head head.0 (Ok ([], head.1)) (λ p. log_at version p head.1 >>= λ log. logs_at version room p log.1 >>= λ others. Ok (log.0 ∷ others.0, others.1))) (HeadTo run_words version (room == 0)) (LogsTo version (suc room) last) bytes (head_cut run_words version (room == 0) last bytes)

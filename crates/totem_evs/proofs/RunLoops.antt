@@ -17,7 +17,7 @@ use Rattle.totem_evs.specs.declared.ending.Ending.{Ending}
 use Rattle.totem_evs.specs.declared.line.Line.{Line}
 use Rattle.totem_evs.specs.declared.line.Line.TheVariants as lines
 use Rattle.totem_evs.specs.RunGrammar.{is_failure, members_at, line_at, by_line, lines_at, log_at, run_words, logs_at, run_at}
-use Rattle.totem_evs.specs.Heads.{head_at, by_head, header_at}
+use Rattle.totem_evs.specs.Heads.{Words, records_at, head_at, by_head, header_at}
 
 -- ---- lists
 
@@ -105,37 +105,49 @@ log_first version p bytes = go (lines_at version 1000001 false false bytes)
     go (Ok x) = refl
     go (Err e) = refl
 
--- ---- logs
+-- ---- records
 
-abbrev pub with_logs : Version → List Log → ℕ → ℕ → List ℕ → Parsed (List Log)
-with_logs version front room last bytes = logs_at version room last bytes >>= λ x. gives (front ++ x.0) x.1
+abbrev pub with_records : {X R : Type 0} → Words → (Version → ℕ → List ℕ → Parsed X) → (ℕ → X → R) → Version → List R → ℕ → ℕ → List ℕ → Parsed (List R)
+with_records words rest_at made version front room last bytes = records_at words rest_at made version room last bytes >>= λ x. gives (front ++ x.0) x.1
 
-pub logs_step : (version : Version) (front : List Log) (room room' last : ℕ) (full : Bool) → room ≡ suc room' → (room' == 0) ≡ full → (bytes : List ℕ) → with_logs version front room last bytes ≡ (head_at run_words version full last bytes >>= λ head.
-    by_head head.0 (gives front head.1) (λ p. log_at version p head.1 >>= λ log. with_logs version (front ++ log.0 ∷ []) room' p log.1))
-unfolding logs_at
-logs_step version front room room' last full e same bytes = rw (e, same) (go (head_at run_words version full last bytes))
+pub records_step : {X R : Type 0} (words : Words) (rest_at : Version → ℕ → List ℕ → Parsed X) (made : ℕ → X → R) (version : Version) (front : List R) (room room' last : ℕ) (full : Bool) → room ≡ suc room' → (room' == 0) ≡ full → (bytes : List ℕ) → with_records words rest_at made version front room last bytes ≡ (head_at words version full last bytes >>= λ head.
+    by_head head.0 (gives front head.1) (λ p. rest_at version p head.1 >>= λ x. with_records words rest_at made version (front ++ made p x.0 ∷ []) room' p x.1))
+unfolding records_at
+records_step {X = X} {R = R} words rest_at made version front room room' last full e same bytes = rw (e, same) (go (head_at words version full last bytes))
   where
-    logged : (p : ℕ) (r : Parsed Log) →
-        ((r >>= λ log. logs_at version room' p log.1 >>= λ others. gives (log.0 ∷ others.0) others.1) >>= λ x. gives (front ++ x.0) x.1)
-        ≡ (r >>= λ log. with_logs version (front ++ log.0 ∷ []) room' p log.1)
-    logged p (Ok log) = one_more front log.0 (logs_at version room' p log.1)
-    logged p (Err f) = refl
+    recorded : (p : ℕ) (r : Parsed X) →
+        ((r >>= λ x. records_at words rest_at made version room' p x.1 >>= λ others. gives (made p x.0 ∷ others.0) others.1) >>= λ x. gives (front ++ x.0) x.1)
+        ≡ (r >>= λ x. with_records words rest_at made version (front ++ made p x.0 ∷ []) room' p x.1)
+    recorded p (Ok x) = one_more front (made p x.0) (records_at words rest_at made version room' p x.1)
+    recorded p (Err f) = refl
 
     headed : (head : Option ℕ) (rest : List ℕ) →
-        (by_head head (gives [] rest) (λ p. log_at version p rest >>= λ log. logs_at version room' p log.1 >>= λ others. gives (log.0 ∷ others.0) others.1) >>= λ x. gives (front ++ x.0) x.1)
-        ≡ by_head head (gives front rest) (λ p. log_at version p rest >>= λ log. with_logs version (front ++ log.0 ∷ []) room' p log.1)
-    headed None rest = ap (λ (ls : List Log). gives ls rest) (append-nil front)
-    headed (Some p) rest = logged p (log_at version p rest)
+        (by_head head (gives [] rest) (λ p. rest_at version p rest >>= λ x. records_at words rest_at made version room' p x.1 >>= λ others. gives (made p x.0 ∷ others.0) others.1) >>= λ x. gives (front ++ x.0) x.1)
+        ≡ by_head head (gives front rest) (λ p. rest_at version p rest >>= λ x. with_records words rest_at made version (front ++ made p x.0 ∷ []) room' p x.1)
+    headed None rest = ap (λ (rs : List R). gives rs rest) (append-nil front)
+    headed (Some p) rest = recorded p (rest_at version p rest)
 
     go : (r : Parsed (Option ℕ)) →
-        ((r >>= λ head. by_head head.0 (gives [] head.1) (λ p. log_at version p head.1 >>= λ log. logs_at version room' p log.1 >>= λ others. gives (log.0 ∷ others.0) others.1)) >>= λ x. gives (front ++ x.0) x.1)
-        ≡ (r >>= λ head. by_head head.0 (gives front head.1) (λ p. log_at version p head.1 >>= λ log. with_logs version (front ++ log.0 ∷ []) room' p log.1))
+        ((r >>= λ head. by_head head.0 (gives [] head.1) (λ p. rest_at version p head.1 >>= λ x. records_at words rest_at made version room' p x.1 >>= λ others. gives (made p x.0 ∷ others.0) others.1)) >>= λ x. gives (front ++ x.0) x.1)
+        ≡ (r >>= λ head. by_head head.0 (gives front head.1) (λ p. rest_at version p head.1 >>= λ x. with_records words rest_at made version (front ++ made p x.0 ∷ []) room' p x.1))
     go (Ok head) = headed head.0 head.1
     go (Err f) = refl
 
+pub records_none : {X R : Type 0} (words : Words) (rest_at : Version → ℕ → List ℕ → Parsed X) (made : ℕ → X → R) (version : Version) (front : List R) (room last : ℕ) → room ≡ 0 → (bytes : List ℕ) → with_records words rest_at made version front room last bytes ≡ Err faults.TooMany
+unfolding records_at
+records_none words rest_at made version front room last e bytes = rw e refl
+
+-- ---- logs
+
+abbrev pub with_logs : Version → List Log → ℕ → ℕ → List ℕ → Parsed (List Log)
+with_logs version front room last bytes = with_records run_words log_at (λ p log. log) version front room last bytes
+
+pub logs_step : (version : Version) (front : List Log) (room room' last : ℕ) (full : Bool) → room ≡ suc room' → (room' == 0) ≡ full → (bytes : List ℕ) → with_logs version front room last bytes ≡ (head_at run_words version full last bytes >>= λ head.
+    by_head head.0 (gives front head.1) (λ p. log_at version p head.1 >>= λ log. with_logs version (front ++ log.0 ∷ []) room' p log.1))
+logs_step version front room room' last full e same bytes = records_step run_words log_at (λ p log. log) version front room room' last full e same bytes
+
 pub logs_none : (version : Version) (front : List Log) (room last : ℕ) → room ≡ 0 → (bytes : List ℕ) → with_logs version front room last bytes ≡ Err faults.TooMany
-unfolding logs_at
-logs_none version front room last e bytes = rw e refl
+logs_none version front room last e bytes = records_none run_words log_at (λ p log. log) version front room last e bytes
 
 pub logs_first : (version : Version) (room last : ℕ) (bytes : List ℕ) → logs_at version room last bytes ≡ with_logs version [] room last bytes
 logs_first version room last bytes = none_before (logs_at version room last bytes)

@@ -2,22 +2,18 @@
 use Rattle.totem_evs.specs.RunRecord.{RunRecord}
 use Rattle.totem_ids.specs.declared.version.Version.{Version}
 use Rattle.totem_ids.specs.declared.version.Version.TheVariants.{One, Two, Three}
-use Rattle.totem_ids.specs.Processes.{process_text, process_then, IsProcessIn}
-use Rattle.totem_ids.proofs.Lives.{process_then_is, process_then_again}
-use Rattle.std.specs.Prelude.{nat_le, ◌==◌, codes}
+use Rattle.totem_ids.specs.Processes.{process_text}
+use Rattle.std.specs.Prelude.{◌==◌, codes}
 use Rattle.std.specs.List.{flat_map}
-use Rattle.std.proofs.Common.{◌≡◌, ℕ, zero, suc, ◌<◌, inl, inr, List, [], ◌∷◌, ◌++◌, Option, Some, None, Ok, Err, Bool, true, false, cond, refl, sym, ◌∙◌, ap, subst, append_assoc, arith}
-use Rattle.std.proofs.lemmas.Bool.{eqb-true}
+use Rattle.std.proofs.Common.{◌≡◌, ℕ, zero, suc, ◌<◌, List, [], ◌∷◌, ◌++◌, Option, Some, None, Ok, Err, false, refl, sym, ◌∙◌, ap, subst, append_assoc, arith}
 use Rattle.std.proofs.lemmas.Bool.Decides.{nat_tests}
 use Rattle.totem_ids.specs.declared.fault.TextFault.{TextFault}
-use Rattle.totem_ids.specs.declared.fault.TextFault.TheVariants as faults
 use Rattle.totem_ids.specs.Sources.{Parsed, ◌>>=◌}
-use Rattle.totem_ids.specs.Numbers.{byte_at, word_at}
-use Rattle.totem_ids.proofs.Spelled.{after, taken, guard_then, guard_else, parsed_is, byte_is, word_is, word_again}
+use Rattle.totem_ids.proofs.Spelled.{after, parsed_is}
 use Rattle.totem_evs.specs.declared.log.Log.{Log}
 use Rattle.totem_evs.specs.Runs.{IsLogIn, IsRunOf}
-use Rattle.totem_evs.specs.RunText.{line, ending_text, log_text, version_digit, header_text, run_text}
-use Rattle.totem_evs.specs.Heads.{HasVersion, head_at, by_head, header_at}
+use Rattle.totem_evs.specs.RunText.{line, ending_text, log_text, header_text, run_text}
+use Rattle.totem_evs.specs.Heads.{records_at, HasVersion, head_at, by_head, header_at}
 use Rattle.totem_evs.specs.RunGrammar.{run_words, log_at, logs_at, run_at}
 use Rattle.totem_evs.proofs.FromLeft.{LogsFrom, is_run, run_from}
 use Rattle.totem_evs.proofs.SpelledHeads.{IsClear, head_text, IsHead, head_is, head_again, header_is, header_again}
@@ -38,7 +34,7 @@ pub logs_parts : (version : Version) (log : Log) (logs : List Log) (rest : List 
 logs_parts version log logs rest = append_assoc (log_text (process_text version) log) (flat_map (log_text (process_text version)) logs) (line (codes "end") ++ rest) ∙ log_parts version log (logs_text version logs rest)
 
 pub logs_is : (version : Version) (room last : ℕ) (logs : List Log) (bytes rest : List ℕ) → logs_at version room last bytes ≡ Ok (logs, rest) → LogsFrom (IsLogIn version) room last logs × (bytes ≡ logs_text version logs rest)
-unfolding logs_at
+unfolding records_at
 logs_is version zero last logs bytes rest e = absurd cc
 logs_is version (suc room) last logs bytes rest e =
     after (head_at run_words version (room == 0) last bytes) (λ head. by_head head.0 (Ok ([], head.1)) (λ p. log_at version p head.1 >>= λ log. logs_at version room p log.1 >>= λ others. Ok (log.0 ∷ others.0, others.1))) (logs, rest) e (λ head mid e1 more.
@@ -70,7 +66,7 @@ logs_is version (suc room) last logs bytes rest e =
         rw (← q.0, ← q.1) (is, text)))
 
 pub logs_again : (version : Version) (room last : ℕ) (logs : List Log) (rest : List ℕ) → LogsFrom (IsLogIn version) room last logs → logs_at version room last (logs_text version logs rest) ≡ Ok (logs, rest)
-unfolding logs_at
+unfolding records_at
 logs_again version zero last logs rest is = absurd (omega (arith, is.few))
 logs_again version (suc room) last [] rest is = rw (head_again run_words version (room == 0) last None rest run_clear tt) refl
 logs_again version (suc room) last (log ∷ logs) rest is =

@@ -13,12 +13,11 @@ use Rattle.totem_ids.proofs.ServiceSpelling.{service_steady}
 use Rattle.totem_ids.proofs.Steady.{gives_steady, fault_steady, bind_steady, cond_steady, byte_steady, word_steady, conf_steady, message_steady, first_break}
 use Rattle.totem_evs.specs.declared.entry.Entry.{Entry}
 use Rattle.totem_evs.specs.declared.ending.Ending.{Ending}
-use Rattle.totem_evs.specs.declared.log.Log.{Log}
 use Rattle.totem_evs.specs.declared.line.Line.{Line}
 use Rattle.totem_evs.specs.declared.line.Line.TheVariants as lines
 use Rattle.totem_evs.specs.Endings.{writes_quiet}
-use Rattle.totem_evs.specs.Heads.{Words, proc_at, begin_at, end_at, head_at, by_head, header_end, header_at}
-use Rattle.totem_evs.specs.RunGrammar.{is_failure, members_at, change_at, send_at, delivery_at, open_at, quiet_at, failed_at, fail_at, ail_at, failure_at, line_at, by_line, lines_at, log_at, run_words, logs_at, run_at}
+use Rattle.totem_evs.specs.Heads.{records_at, Words, proc_at, begin_at, end_at, head_at, by_head, header_end, header_at}
+use Rattle.totem_evs.specs.RunGrammar.{is_failure, members_at, change_at, send_at, delivery_at, open_at, quiet_at, failed_at, fail_at, ail_at, failure_at, line_at, by_line, lines_at, log_at, run_words, run_at}
 
 members_steady : (version : Version) (room last : ℕ) → Steady (members_at version room last)
 unfolding members_at
@@ -94,14 +93,14 @@ pub head_steady : (words : Words) (version : Version) (full : Bool) (last : ℕ)
 unfolding head_at
 head_steady words version full last = bind_steady _ _ byte_steady (λ b. cond_steady _ _ _ (begin_steady words version full last) (cond_steady _ _ _ end_steady (fault_steady _)))
 
-logs_steady : (version : Version) (room last : ℕ) → Steady (logs_at version room last)
-unfolding logs_at
-logs_steady version zero last = fault_steady _
-logs_steady version (suc room) last = bind_steady _ _ (head_steady run_words version (room == 0) last) (λ head. go head (λ p. logs_steady version room p))
+pub records_steady : {X R : Type 0} (words : Words) (rest_at : Version → ℕ → List ℕ → Parsed X) (made : ℕ → X → R) → ((version : Version) (p : ℕ) → Steady (rest_at version p)) → (version : Version) (room last : ℕ) → Steady (records_at words rest_at made version room last)
+unfolding records_at
+records_steady words rest_at made steady version zero last = fault_steady _
+records_steady {X = X} {R = R} words rest_at made steady version (suc room) last = bind_steady _ _ (head_steady words version (room == 0) last) (λ head. go head (λ p. records_steady words rest_at made steady version room p))
   where
-    go : (head : Option ℕ) → ((p : ℕ) → Steady (logs_at version room p)) → Steady (λ bytes. by_head {Y = Parsed (List Log)} head (Ok ([], bytes)) (λ p. log_at version p bytes >>= λ log. logs_at version room p log.1 >>= λ others. Ok (log.0 ∷ others.0, others.1)))
+    go : (head : Option ℕ) → ((p : ℕ) → Steady (records_at words rest_at made version room p)) → Steady (λ bytes. by_head {Y = Parsed (List R)} head (Ok ([], bytes)) (λ p. rest_at version p bytes >>= λ x. records_at words rest_at made version room p x.1 >>= λ others. Ok (made p x.0 ∷ others.0, others.1)))
     go None again = gives_steady _
-    go (Some p) again = bind_steady _ _ (log_steady version p) (λ log. bind_steady _ _ (again p) (λ others. gives_steady _))
+    go (Some p) again = bind_steady _ _ (steady version p) (λ x. bind_steady _ _ (again p) (λ others. gives_steady _))
 
 header_end_steady : (version : Version) → Steady (header_end version)
 unfolding header_end
@@ -113,7 +112,7 @@ header_steady words = bind_steady _ _ (word_steady _ _) (λ w. bind_steady _ _ b
 
 pub run_steady : Steady run_at
 unfolding run_at
-run_steady = bind_steady _ _ (header_steady run_words) (λ v. bind_steady _ _ (logs_steady v 33 0) (λ logs. gives_steady _))
+run_steady = bind_steady _ _ (header_steady run_words) (λ v. bind_steady _ _ (records_steady run_words log_at (λ p log. log) log_steady v 33 0) (λ logs. gives_steady _))
 
 run_empty : run_at [] ≡ Err faults.Truncated
 unfolding run_at header_at word_at

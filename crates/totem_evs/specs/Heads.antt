@@ -1,7 +1,7 @@
 -- What the texts of runs and of certificates have in common: a first line with the version of the text, records that
 -- rise by their processes, each begun by a word and its process, and a last line (docs/SPECIFICATIONS.md, "Run text" and
 -- "Certificate text").
-use Rattle.std.specs.Prelude.{◌≡◌, ℕ, List, [], ◌∷◌, ◌++◌, codes, Option, Some, None, Ok, Err, Bool, true, ◌&&◌, nat_le, ◌==◌, if◌then◌else◌}
+use Rattle.std.specs.Prelude.{◌≡◌, ℕ, zero, suc, List, [], ◌∷◌, ◌++◌, codes, Option, Some, None, Ok, Err, Bool, true, ◌&&◌, nat_le, ◌==◌, if◌then◌else◌}
 use Rattle.totem_ids.specs.declared.fault.TextFault.TheVariants as faults
 use Rattle.totem_ids.specs.Sources.{Parsed, ◌>>=◌}
 use Rattle.totem_ids.specs.Numbers.{byte_at, word_at}
@@ -58,6 +58,14 @@ head_at words version full last bytes = do
 abbrev pub by_head : {Y : Type 0} → Option ℕ → Y → (ℕ → Y) → Y
 by_head None ends begins = ends
 by_head (Some p) ends begins = begins p
+
+-- the further records, one less than room of them, and the last line; rest_at reads what is behind the process of a record,
+-- which is made of both
+unfoldable pub records_at : {X R : Type 0} → Words → (Version → ℕ → List ℕ → Parsed X) → (ℕ → X → R) → Version → ℕ → ℕ → List ℕ → Parsed (List R)
+records_at words rest_at made version zero last bytes = Err faults.TooMany
+records_at words rest_at made version (suc room) last bytes = do
+  head ← head_at words version (room == 0) last bytes
+  by_head head.0 (Ok ([], head.1)) (λ p. rest_at version p head.1 >>= λ x. records_at words rest_at made version room p x.1 >>= λ others. Ok (made p x.0 ∷ others.0, others.1))
 
 -- the end of the first line of a text of this version
 unfoldable pub header_end : Version → List ℕ → Parsed Version

@@ -19,7 +19,7 @@ use Rattle.totem_evs.specs.declared.line.Line.TheVariants as lines
 use Rattle.totem_evs.specs.declared.log.Log.{Log}
 use Rattle.totem_evs.specs.Endings.{writes_quiet}
 use Rattle.totem_evs.specs.RunText.{line}
-use Rattle.totem_evs.specs.Heads.{Words, head_at, by_head, header_at}
+use Rattle.totem_evs.specs.Heads.{Words, records_at, header_at}
 
 -- a failure
 abbrev pub is_failure : Entry → Bool
@@ -136,11 +136,8 @@ abbrev pub run_words : Words
 run_words = record { title = codes "totem-run "; third = true; letter = 108; word = codes "og "; behind = 10 }
 
 -- the further logs, one less than room of them, and the last line
-unfoldable pub logs_at : Version → ℕ → ℕ → List ℕ → Parsed (List Log)
-logs_at version zero last bytes = Err faults.TooMany
-logs_at version (suc room) last bytes = do
-  head ← head_at run_words version (room == 0) last bytes
-  by_head head.0 (Ok ([], head.1)) (λ p. log_at version p head.1 >>= λ log. logs_at version room p log.1 >>= λ others. Ok (log.0 ∷ others.0, others.1))
+abbrev pub logs_at : Version → ℕ → ℕ → List ℕ → Parsed (List Log)
+logs_at version room last bytes = records_at run_words log_at (λ p log. log) version room last bytes
 
 -- the text of a run
 unfoldable pub run_at : List ℕ → Parsed RunRecord

@@ -4,7 +4,8 @@ use Rattle.std.proofs.lemmas.Result.{err_from_is_err_and}
 use Rattle.totem_ids.proofs.Readers.{called, failed, same_left, stops}
 use Rattle.totem_ids.specs.declared.version.Version.TheVariants.{Two}
 use Rattle.totem_evs.proofs.RunLoops.{full_is}
-use Rattle.totem_cert.proofs.CertLoops.{numbering, lines_step, lines_none, ended, begun}
+use Rattle.totem_cert.specs.CertGrammar.{numbering}
+use Rattle.totem_cert.proofs.CertLoops.{lines_step, lines_none, ended, begun}
 use Rattle.totem_cert.proofs.GrownLines.{rising_more}
 use Rattle.totem_cert.proofs.reading.read_lines.Goals as goal
 

@@ -1,4 +1,3 @@
-use Rattle.std.proofs.Common.{refl}
 use Rattle.totem_evs.specs.Heads.{head_at}
 use Rattle.totem_ids.proofs.Readers.{begins, called, handed, picks, skips}
 use Rattle.totem_evs.proofs.heads.read_head.Goals as goal
