@@ -1,19 +1,15 @@
 -- Where the text of a certificate is too short, it goes on.
-use Rattle.std.specs.Prelude.{decimal, nat_le, ◌==◌, codes}
-use Rattle.std.proofs.Common.{◌≡◌, ℕ, zero, suc, ◌<◌, inl, inr, List, [], ◌∷◌, ◌++◌, Option, Some, None, Ok, Err, Bool, false, cond, refl, sym, ◌∙◌, ap, append_assoc, arith}
+use Rattle.std.specs.Prelude.{decimal, ◌==◌}
+use Rattle.std.proofs.Common.{◌≡◌, ℕ, zero, suc, ◌<◌, inl, inr, List, [], ◌∷◌, ◌++◌, Option, Some, None, Ok, Err, false, cond, refl, sym, ◌∙◌, ap, append_assoc, arith}
 use Rattle.std.proofs.lemmas.Bool.{eqb-true}
 use Rattle.std.proofs.lemmas.Bool.Decides.{nat_tests}
 use Rattle.std.proofs.lemmas.List.{append-nil}
 use Rattle.totem_ids.specs.declared.version.Version.{Version}
-use Rattle.totem_ids.specs.declared.version.Version.TheVariants.{One, Two}
 use Rattle.totem_ids.specs.declared.fault.TextFault.{TextFault}
 use Rattle.totem_ids.specs.declared.fault.TextFault.TheVariants as faults
 use Rattle.totem_ids.specs.Sources.{Parsed, Follows, FirstBreak, is_short, ◌>>=◌}
-use Rattle.totem_ids.specs.Numbers.{byte_at, word_at, number_at}
-use Rattle.totem_ids.specs.Processes.{process_text, process_then, IsProcessIn}
-use Rattle.totem_ids.specs.Ranks.{rank_of}
-use Rattle.totem_ids.proofs.Lives.{process_then_is}
-use Rattle.totem_ids.proofs.Spelled.{byte_is, word_is, number_is}
+use Rattle.totem_ids.specs.Numbers.{number_at}
+use Rattle.totem_ids.proofs.Spelled.{number_is}
 use Rattle.totem_evs.specs.Certificates.{Numbering}
 use Rattle.totem_evs.specs.Heads.{records_at, head_at, by_head, header_at}
 use Rattle.totem_evs.proofs.GoesOn.{Cut, Splits, ok_cut, fault_cut, test_cut, bind_cut, last_cut, number_cut}

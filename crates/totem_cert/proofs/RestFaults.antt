@@ -1,15 +1,9 @@
 -- Number is the fault of a number that the grammar of certificates reads, and Word is the rest.
-use Rattle.std.specs.Prelude.{◌==◌, ◌↔◌}
-use Rattle.std.proofs.Common.{◌≡◌, ◌≢◌, ℕ, zero, suc, inl, inr, List, [], ◌∷◌, Bool, false, Option, Some, None, Ok, Err, refl, sym, ap, ◌∙◌}
-use Rattle.totem_ids.specs.declared.version.Version.{Version}
-use Rattle.totem_ids.specs.declared.version.Version.TheVariants.{One, Two}
-use Rattle.totem_ids.specs.Numbers.{number_to}
-use Rattle.totem_ids.specs.Processes.{writes_lives, first_life_then, life_then, process_then}
+use Rattle.std.specs.Prelude.{◌↔◌}
+use Rattle.std.proofs.Common.{◌≡◌, ℕ, zero, suc, inr, List, false, Err, refl, ap, ◌∙◌}
 use Rattle.totem_ids.specs.declared.fault.TextFault.{TextFault}
 use Rattle.totem_ids.specs.declared.fault.TextFault.TheVariants as faults
-use Rattle.totem_ids.specs.Sources.{Parsed, is_short, ◌>>=◌}
-use Rattle.totem_evs.specs.Certificates.{Numbering}
-use Rattle.totem_cert.specs.CertRecord.{CertRecord}
+use Rattle.totem_ids.specs.Sources.{is_short}
 use Rattle.totem_evs.specs.TextFaults.{BreaksNumber}
 use Rattle.totem_evs.proofs.NumberFaults.{Numbered, gives_numbered, cond_numbered, bind_numbered, number_numbered, word', too_many, records_numbered, header_numbered, number_exactly}
 use Rattle.totem_evs.proofs.WordFaults.{one_fault}

@@ -1,15 +1,10 @@
 -- What a certificate's grammar answers doesn't change by what follows.
-use Rattle.std.specs.Prelude.{◌==◌}
-use Rattle.std.proofs.Common.{◌≡◌, ℕ, zero, suc, List, [], ◌∷◌, Bool, false, Option, Some, None, Ok, Err, refl}
-use Rattle.totem_ids.specs.declared.version.Version.{Version}
-use Rattle.totem_ids.specs.declared.version.Version.TheVariants.{One, Two}
+use Rattle.std.proofs.Common.{◌≡◌, ℕ, zero, suc, List, [], false, Err, refl}
 use Rattle.totem_ids.specs.declared.fault.TextFault.{TextFault}
 use Rattle.totem_ids.specs.declared.fault.TextFault.TheVariants as faults
-use Rattle.totem_ids.specs.Sources.{Parsed, Steady, FirstBreak, is_short, ◌>>=◌}
+use Rattle.totem_ids.specs.Sources.{Steady, FirstBreak, is_short}
 use Rattle.totem_ids.specs.Numbers.{word_at}
-use Rattle.totem_ids.proofs.Steady.{gives_steady, fault_steady, bind_steady, cond_steady, byte_steady, word_steady, number_steady, first_break}
-use Rattle.totem_ids.proofs.Lives.{process_then_steady}
-use Rattle.totem_evs.specs.Certificates.{Numbering}
+use Rattle.totem_ids.proofs.Steady.{gives_steady, fault_steady, bind_steady, cond_steady, number_steady, first_break}
 use Rattle.totem_evs.specs.Heads.{header_at}
 use Rattle.totem_evs.proofs.SteadyRun.{records_steady, header_steady}
 use Rattle.totem_cert.specs.CertGrammar.{cert_words, numbers_at, numbering, cert_at}

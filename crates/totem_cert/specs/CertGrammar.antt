@@ -18,7 +18,8 @@ numbers_at (suc room) bytes = do
       else if n.0.1 == 32 then (numbers_at room n.1 >>= λ others. Ok (n.0.0 ∷ others.0, others.1))
       else Err faults.Word
 
--- the words of a certificate's text: behind the process of a line stands the space before its numbers
+-- the words of a certificate's text: `totem-cert`, in two versions, and `pos`, behind whose process stands the space before
+-- the numbers of the line
 abbrev pub cert_words : Words
 cert_words = record { title = codes "totem-cert "; third = false; letter = 112; word = codes "os "; behind = 32 }
 

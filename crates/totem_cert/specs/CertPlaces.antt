@@ -37,6 +37,7 @@ HasFault fault version count last rest =
 
 -- ---- Header
 
+-- the first line is none of a certificate
 abbrev pub BreaksHeader : List ℕ → Type 0
 BreaksHeader bytes = BreaksFirstLine cert_words bytes
 

@@ -1,8 +1,6 @@
 -- Lists that rise but for their last, from left to right.
-use Rattle.std.specs.Prelude.{AllPairs}
 use Rattle.std.specs.List.{AllByRecursion}
 use Rattle.std.proofs.Common.{ℕ, ◌<◌, ◌≤◌, List, [], ◌∷◌, length, arith}
-use Rattle.std.proofs.lemmas.List.Kept.{AllPairs-cons}
 use Rattle.std.proofs.lemmas.List.Elements.{All-from_recursion, recursion_from_All}
 use Rattle.totem_ids.specs.declared.version.Version.{Version}
 use Rattle.totem_ids.specs.Processes.{IsProcessIn}
@@ -10,26 +8,17 @@ use Rattle.totem_ids.specs.Ranks.{id_of}
 use Rattle.totem_evs.specs.declared.entry.Entry.{Entry}
 use Rattle.totem_evs.specs.declared.entry.Entry.TheVariants.{Conf, Send, Deliver, Fail}
 use Rattle.totem_evs.specs.declared.log.Log.{Log}
-use Rattle.totem_evs.specs.Members.{IsMembersIn, IsBelow}
+use Rattle.totem_evs.specs.Members.{IsMembersIn}
 use Rattle.totem_evs.specs.Runs.{IsEntryIn, IsLogIn}
 use Rattle.totem_evs.specs.TextFronts.{but_last, IsLooseMembers, IsLooseEntry, IsLooseEntries, IsLooseLog, IsLooseRun}
-use Rattle.totem_evs.proofs.FromLeft.{Rises, members_from, proc_of}
-use Rattle.totem_evs.proofs.RisingRecords.{RiseLoosely, LooselyFrom, rise_loosely, loosely_pairs, loosely_before, loosely_each}
-
--- ---- all but the last
-
-but_last_of : {X : Type 0} (P : X → Type 0) (xs : List X) → AllByRecursion P xs → AllByRecursion P (but_last xs)
-but_last_of P [] h = tt
-but_last_of P (x ∷ []) h = tt
-but_last_of P (x ∷ y ∷ xs) h = (h.0, but_last_of P (y ∷ xs) h.1)
+use Rattle.totem_evs.proofs.FromLeft.{members_from, proc_of}
+use Rattle.totem_evs.proofs.RisingRecords.{RiseLoosely, LooselyFrom, rise_loosely, rises_loosely, loosely_pairs, loosely_before, loosely_each}
 
 -- ---- members
 
 -- processes that texts of this version can write, whose identifiers are above `last` and rise, but for the last
 abbrev pub RisesLoosely : Version → ℕ → List ℕ → Type 0
-RisesLoosely version last [] = Unit {0}
-RisesLoosely version last (p ∷ []) = IsProcessIn version p
-RisesLoosely version last (p ∷ q ∷ ps) = (last < id_of p) × IsProcessIn version p × RisesLoosely version (id_of p) (q ∷ ps)
+RisesLoosely version last ms = RiseLoosely id_of (IsProcessIn version) (IsProcessIn version) last ms
 
 pub record LooseMembersFrom (version : Version) (room last : ℕ) (ms : List ℕ) : Type 0 where
   pub some : 0 < length ms
@@ -37,39 +26,18 @@ pub record LooseMembersFrom (version : Version) (room last : ℕ) (ms : List ℕ
   pub rises : RisesLoosely version last ms
 
 pub loose_member : (version : Version) (last p : ℕ) (ps : List ℕ) → last < id_of p → IsProcessIn version p → RisesLoosely version (id_of p) ps → RisesLoosely version last (p ∷ ps)
-loose_member version last p [] above is h = is
-loose_member version last p (q ∷ ps) above is h = (above, is, h)
-
-loosely : (version : Version) (last : ℕ) (ms : List ℕ) → Rises version last ms → RisesLoosely version last ms
-loosely version last [] h = tt
-loosely version last (p ∷ ps) h = loose_member version last p ps h.0 h.1 (loosely version (id_of p) ps h.2)
-
-members_above : (version : Version) (last low : ℕ) (ms : List ℕ) → low ≤ last → RisesLoosely version last ms → AllByRecursion (λ p. low < id_of p) (but_last ms)
-members_above version last low [] le h = tt
-members_above version last low (p ∷ []) le h = tt
-members_above version last low (p ∷ q ∷ ps) le h = (omega (arith, h.0), members_above version (id_of p) low (q ∷ ps) (omega (arith, h.0)) h.2)
-
-members_within : (version : Version) (last : ℕ) (ms : List ℕ) → RisesLoosely version last ms → AllByRecursion (IsProcessIn version) ms
-members_within version last [] h = tt
-members_within version last (p ∷ []) h = (h, tt)
-members_within version last (p ∷ q ∷ ps) h = (h.1, members_within version (id_of p) (q ∷ ps) h.2)
-
-members_pairs : (version : Version) (last : ℕ) (ms : List ℕ) → RisesLoosely version last ms → AllPairs IsBelow (but_last ms)
-members_pairs version last [] h = λ i j d lt within. absurd (omega arith)
-members_pairs version last (p ∷ []) h = λ i j d lt within. absurd (omega arith)
-members_pairs version last (p ∷ q ∷ ps) h =
-    AllPairs-cons IsBelow p (but_last (q ∷ ps)) (All-from_recursion (λ r. id_of p < id_of r) (but_last (q ∷ ps)) (members_above version (id_of p) (id_of p) (q ∷ ps) (omega arith) h.2)) (members_pairs version (id_of p) (q ∷ ps) h.2)
+loose_member version last p ps above is h = rise_loosely id_of (IsProcessIn version) (IsProcessIn version) last p ps above is is h
 
 pub are_loose_members : (version : Version) (ms : List ℕ) → LooseMembersFrom version 32 0 ms → IsLooseMembers version ms
 are_loose_members version ms h = record {
   some = h.some;
   few = h.few;
-  rising = members_pairs version 0 ms h.rises;
-  processes = All-from_recursion (IsProcessIn version) ms (members_within version 0 ms h.rises);
+  rising = loosely_pairs id_of (IsProcessIn version) (IsProcessIn version) 0 ms h.rises;
+  processes = All-from_recursion (IsProcessIn version) ms (loosely_each id_of (IsProcessIn version) (IsProcessIn version) 0 ms (λ p is. is) h.rises);
 }
 
 members_loosely : (version : Version) (ms : List ℕ) → IsMembersIn version ms → IsLooseMembers version ms
-members_loosely version ms is = are_loose_members version ms (record { some = is.some; few = is.few; rises = loosely version 0 ms (members_from version ms is).rises })
+members_loosely version ms is = are_loose_members version ms (record { some = is.some; few = is.few; rises = rises_loosely id_of (IsProcessIn version) (IsProcessIn version) 0 ms (λ p is. is) (members_from version ms is).rises })
 
 -- ---- entries
 

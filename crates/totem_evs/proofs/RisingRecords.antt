@@ -1,4 +1,4 @@
--- Records that rise by their processes, from left to right.
+-- Lists that rise, from left to right: records by their processes, members by their identifiers.
 use Rattle.std.specs.Prelude.{AllPairs}
 use Rattle.std.specs.List.{AllByRecursion}
 use Rattle.std.proofs.Common.{ℕ, suc, ◌<◌, ◌≤◌, List, [], ◌∷◌, length, arith}
@@ -31,7 +31,7 @@ rise_pairs proc Is last [] h = λ i j d lt within. absurd (omega arith)
 rise_pairs proc Is last (r ∷ rs) h =
     AllPairs-cons (IsBelowBy proc) r rs (All-from_recursion (λ b. proc r < proc b) rs (rise_above proc Is (proc r) (proc r) rs (omega arith) h.2)) (rise_pairs proc Is (proc r) rs h.2)
 
-pub pairs_tail : {X : Type 0} (R : X → X → Type 0) (x : X) (xs : List X) → AllPairs R (x ∷ xs) → AllPairs R xs
+pairs_tail : {X : Type 0} (R : X → X → Type 0) (x : X) (xs : List X) → AllPairs R (x ∷ xs) → AllPairs R xs
 pairs_tail R x xs h i j d lt within = h (suc i) (suc j) d (omega arith) (omega arith)
 
 rise_from : {R : Type 0} (proc : R → ℕ) (Is : R → Type 0) (last : ℕ) (rs : List R) → AllByRecursion (λ r. last < proc r) rs → AllByRecursion Is rs → AllPairs (IsBelowBy proc) rs → RecordsRise proc Is last rs
@@ -63,6 +63,10 @@ pub record LooselyFrom {R : Type 0} (proc : R → ℕ) (Is Last : R → Type 0) 
 pub rise_loosely : {R : Type 0} (proc : R → ℕ) (Is Last : R → Type 0) (last : ℕ) (r : R) (rs : List R) → last < proc r → Is r → Last r → RiseLoosely proc Is Last (proc r) rs → RiseLoosely proc Is Last last (r ∷ rs)
 rise_loosely proc Is Last last r [] above is ends h = ends
 rise_loosely proc Is Last last r (s ∷ rs) above is ends h = (above, is, h)
+
+pub rises_loosely : {R : Type 0} (proc : R → ℕ) (Is Last : R → Type 0) (last : ℕ) (rs : List R) → ((r : R) → Is r → Last r) → RecordsRise proc Is last rs → RiseLoosely proc Is Last last rs
+rises_loosely proc Is Last last [] weaker h = tt
+rises_loosely proc Is Last last (r ∷ rs) weaker h = rise_loosely proc Is Last last r rs h.0 h.1 (weaker r h.1) (rises_loosely proc Is Last (proc r) rs weaker h.2)
 
 loosely_above : {R : Type 0} (proc : R → ℕ) (Is Last : R → Type 0) (last low : ℕ) (rs : List R) → low ≤ last → RiseLoosely proc Is Last last rs → AllByRecursion (λ r. low < proc r) (but_last rs)
 loosely_above proc Is Last last low [] le h = tt

@@ -131,7 +131,7 @@ log_at version p bytes = do
   body ← lines_at version 1000001 false false bytes
   Ok (record { proc = p; entries = body.0.0; ending = body.0.1 }, body.1)
 
--- the words of a run's text; behind the process of a log its line ends
+-- the words of a run's text: `totem-run`, in three versions, and `log`, behind whose process the line ends
 abbrev pub run_words : Words
 run_words = record { title = codes "totem-run "; third = true; letter = 108; word = codes "og "; behind = 10 }
 

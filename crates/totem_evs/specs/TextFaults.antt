@@ -43,6 +43,7 @@ HasFault fault stage rest = part_at stage rest ≡ Err fault
 
 -- ---- Header
 
+-- the first line is none of a run
 abbrev pub BreaksHeader : List ℕ → Type 0
 BreaksHeader bytes = BreaksFirstLine run_words bytes
 
