@@ -17,17 +17,10 @@ use Rattle.totem_passes.proofs.SentOrNot.{one_next}
 use Rattle.totem_agreement.specs.declared.stay.Stay.{Stay}
 use Rattle.totem_agreement.specs.Stays.{IsStay, IsStayOf, HasStay, AreStays}
 use Rattle.totem_agreement.specs.Acts.{IsAmong, DeliversHere}
-use Rattle.totem_agreement.specs.Search.{IsInside}
+use Rattle.totem_agreement.specs.Search.{IsInside, StandsInside}
 use Rattle.totem_agreement.proofs.Staying.{names_no_change, same_change}
 use Rattle.totem_agreement.proofs.Known.{meets, stays}
 use Rattle.totem_agreement.proofs.Searching.{stay_of}
-
--- p's stay, and the index stands in it
-pub record StandsInside (stays : List Stay) (p i : ℕ) : Type 0 where
-  pub stay : Stay
-  pub among : IsAmong stays stay
-  pub proc : stay.proc ≡ p
-  pub inside : IsInside stay i
 
 -- what is known of a stay
 pub record StayFacts (run : List Log) (c : RingId) (stay : Stay) : Type 0 where
@@ -55,10 +48,11 @@ not_both : (x : ConfId) → IsRegular x → IsTransitional x → ⊥
 not_both (Regular c) r t = t
 not_both (Transitional n l) r t = r
 
-at_turn_no_name : (log : List Entry) (c : RingId) (from turn end i : ℕ) (x : ConfId) → IsStay log c from turn end → turn < end → i ≡ turn → Names log i x → ⊥
+-- what stands where a stay turns names no configuration
+pub at_turn_no_name : (log : List Entry) (c : RingId) (from turn end i : ℕ) (x : ConfId) → IsStay log c from turn end → turn < end → i ≡ turn → Names log i x → ⊥
 at_turn_no_name log c from turn end i x is lt same names = let t = is.turns lt in names_no_change log turn x (rw same at names) (t.conf, t.change)
 
-com_of : (log : List Entry) (c : RingId) (from turn end i : ℕ) (x : ConfId) → IsStay log c from turn end → from < i → i < end → Names log i x → Com log c x
+pub com_of : (log : List Entry) (c : RingId) (from turn end i : ℕ) (x : ConfId) → IsStay log c from turn end → from < i → i < end → Names log i x → Com log c x
 com_of log c from turn end i x is after until names = elim (less_or_not i turn) [
   | inl lt ↦ inl (is.regular i x after lt names)
   | inr more ↦ elim more [

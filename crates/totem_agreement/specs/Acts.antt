@@ -17,6 +17,10 @@ pub record IsAmong (stays : List Stay) (stay : Stay) : Type 0 where
   pub at : ℕ
   pub stands : slice_get stays at ≡ Some stay
 
+-- p's log changes to c
+abbrev pub HasCome : List Log → RingId → ℕ → Type 0
+HasCome run c p = (i : ℕ) × ChangesTo (log_of run p) i (Regular c)
+
 -- p's log never changes to c
 pub record NeverComes (run : List Log) (c : RingId) (p : ℕ) : Type 0 where
   pub never : (i : ℕ) → ChangesTo (log_of run p) i (Regular c) → ⊥

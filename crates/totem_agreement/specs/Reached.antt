@@ -9,7 +9,6 @@ use Rattle.totem_evs.specs.declared.entry.Entry.{Entry}
 use Rattle.totem_evs.specs.declared.entry.Entry.TheVariants.{Send}
 use Rattle.totem_evs.specs.declared.log.Log.{Log}
 use Rattle.totem_evs.specs.Events.{ChangesWith, log_of}
-use Rattle.totem_evs.specs.Following.{DeliversOrEnds}
 use Rattle.totem_evs.specs.Changes.{Names}
 
 -- m was sent in c as a safe message
@@ -25,10 +24,8 @@ pub record AreMembersAt (log : List Entry) (i : ℕ) (members : List ℕ) : Type
   pub with : ChangesWith log change conf members
   pub named : (d : ConfId) → Names log i d → d ≡ conf
 
--- q ought to deliver m in c, or in what follows it, and does not
-pub record IsMissed (run : List Log) (c : RingId) (m : MsgId) (q : ℕ) : Type 0 where
-  pub never : DeliversOrEnds run q c m → ⊥
-
--- none of the members is one of which it holds
-pub record HoldsOfNo (members : List ℕ) (P : ℕ → Type 0) : Type 0 where
-  pub none : (q : ℕ) → Contains members q → P q → ⊥
+-- one of the members is none of which it holds
+pub record HoldsNotOfAll (P : ℕ → Type 0) (members : List ℕ) : Type 0 where
+  pub member : ℕ
+  pub among : Contains members member
+  pub never : P member → ⊥

@@ -1,6 +1,7 @@
 -- Lists of events that begin in the stay of a process (docs/SPECIFICATIONS.md, "Faults").
-use Rattle.std.specs.Prelude.{◌≡◌, ℕ, ◌<◌, ◌≤◌, List, ◌∷◌}
+use Rattle.std.specs.Prelude.{◌≡◌, ℕ, ◌<◌, ◌≤◌, List, [], ◌∷◌}
 use Rattle.totem_ids.specs.declared.place.Place.{Place}
+use Rattle.totem_evs.specs.Places.{At}
 use Rattle.totem_passes.specs.Search.{place, IsLeastFrom}
 use Rattle.totem_agreement.specs.declared.stay.Stay.{Stay}
 use Rattle.totem_agreement.specs.Acts.{IsAmong}
@@ -9,6 +10,22 @@ use Rattle.totem_agreement.specs.Acts.{IsAmong}
 pub record IsInside (stay : Stay) (i : ℕ) : Type 0 where
   pub after : stay.from < i
   pub until : i < stay.end
+
+-- the index stands in p's stay
+pub record StandsInside (stays : List Stay) (p i : ℕ) : Type 0 where
+  pub stay : Stay
+  pub among : IsAmong stays stay
+  pub proc : stay.proc ≡ p
+  pub inside : IsInside stay i
+
+-- each event that has the fact stands in a stay
+pub record EachStandsInside (stays : List Stay) (Fact : ℕ → ℕ → Type 0) : Type 0 where
+  pub each : (p i : ℕ) → Fact p i → StandsInside stays p i
+
+-- one event, which has the fact
+abbrev pub IsOneEvent : (ℕ → ℕ → Type 0) → List Place → Type 0
+IsOneEvent Fact (e ∷ []) = At e Fact
+IsOneEvent Fact _ = ⊥
 
 -- the list begins inside one of the stays
 pub record BeginsInside (stays : List Stay) (places : List Place) : Type 0 where

@@ -1,17 +1,18 @@
 //! 7.2: where a safe message is delivered in the regular configuration, each of its members changes to it
 //! (docs/SPECIFICATIONS.md, "7 Safe delivery").
-ghost use Rattle.std.specs.Prelude.{IfSome, IfNone, IfOk, Contains};
+ghost use Rattle.std.specs.Prelude.{◌↔◌, IsTrue, IfOk, All};
+ghost use Rattle.std.specs.Bool.{OnTrue, OnFalse};
 ghost use Rattle.totem_evs.specs.Answers.{FindsIn};
-ghost use Rattle.totem_evs.specs.RingFaults.{BreaksInstalledIn};
-ghost use Rattle.totem_agreement.specs.Acts.{NeverComes};
-ghost use Rattle.totem_agreement.specs.Reached.{HoldsOfNo};
+ghost use Rattle.totem_evs.specs.AgreementFaults.{IsNotInstalled};
+ghost use Rattle.totem_agreement.specs.Acts.{HasCome};
+ghost use Rattle.totem_agreement.specs.Reached.{HoldsNotOfAll};
 
-use crate::search::{Relation, least};
+use crate::events::{EventTest, least_event};
 use crate::stay::Stay;
 use crate::stays::Stays;
 use std::alloc::{AllocError, Global};
 use totem_evs::{Entry, Places, SpecNo};
-use totem_ids::{Place, Proc};
+use totem_ids::Proc;
 
 /// The deliveries of safe messages in the regular configuration, to which a member never changes.
 #[derive(Clone, Copy)]
@@ -20,45 +21,41 @@ struct Uninstalled<'s, 'r> {
 }
 
 impl Uninstalled<'_, '_> {
-    /// The first of these members whose log never changes to the regular configuration.
-    fn first_absent(&self, members: &[Proc]) -> Option<Proc>
-        ensures member { IfSome result (λ q. Contains members.now q) }
-        ensures absent { IfSome result (λ q. NeverComes self.now.stays.now.run.now.logs self.now.stays.now.ring q) }
-        ensures none { IfNone result (HoldsOfNo members.now (NeverComes self.now.stays.now.run.now.logs self.now.stays.now.ring)) }
+    /// Whether the log of this process changes to the regular configuration.
+    fn has_come(&self, proc: Proc) -> bool
+        ensures { IsTrue result ↔ HasCome self.now.stays.now.run.now.logs self.now.stays.now.ring proc }
     {
-        for member in members {
-            if let None = self.stays.stay_of(*member) {
-                return Some(*member);
-            }
+        match self.stays.stay_of(proc) {
+            Some(_) => true,
+            None => false,
         }
-        None
+    }
+
+    /// Whether the log of each of these members changes to it.
+    fn have_come(&self, members: &[Proc]) -> bool
+        ensures all { OnTrue result (All (HasCome self.now.stays.now.run.now.logs self.now.stays.now.ring) members.now) }
+        ensures not_all { OnFalse result (HoldsNotOfAll (HasCome self.now.stays.now.run.now.logs self.now.stays.now.ring) members.now) }
+    {
+        members.iter().all(|member| self.has_come(*member))
     }
 }
 
-impl Relation for Uninstalled<'_, '_> {
+impl EventTest for Uninstalled<'_, '_> {
     ghost among = { λ s. s.stays.now.list.items };
 
-    ghost holds = { λ s. BreaksInstalledIn s.stays.now.run.now.logs s.stays.now.ring };
+    ghost breaks = { λ s. IsNotInstalled s.stays.now.run.now.logs s.stays.now.ring };
 
-    fn rest(
-        &self,
-        alloc: Global,
-        stay: &Stay,
-        at: usize,
-    ) -> Result<Option<Vec<Place>>, AllocError> {
-        let Entry::Deliver(message, _) = &stay.log[at] else {
-            return Ok(None);
+    fn breaks_at(&self, stay: &Stay, at: usize) -> bool {
+        let Entry::Deliver(message, _) = self.stays.entry_in(stay, at) else {
+            return false;
         };
         if at >= stay.turn {
-            return Ok(None);
+            return false;
         }
         if !self.stays.is_safe(message) {
-            return Ok(None);
+            return false;
         }
-        match self.first_absent(self.stays.members_at(stay, at)) {
-            None => Ok(None),
-            Some(_) => Ok(Some(Vec::new(alloc))),
-        }
+        !self.have_come(self.stays.members_at(stay, at))
     }
 }
 
@@ -66,5 +63,5 @@ impl Relation for Uninstalled<'_, '_> {
 pub fn find(alloc: Global, stays: &Stays) -> Result<Option<Places>, AllocError>
     ensures { IfOk result (FindsIn stays.now.run.now.logs stays.now.ring SpecNo.Installed) }
 {
-    least(&Uninstalled { stays }, alloc, stays)
+    least_event(&Uninstalled { stays }, alloc, stays)
 }

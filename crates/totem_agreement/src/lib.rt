@@ -9,6 +9,7 @@ mod causality;
 mod closed;
 mod comings;
 mod entries;
+mod events;
 mod findings;
 mod gap;
 mod hints;

@@ -1,16 +1,18 @@
 //! 7.1: a safe message that is delivered reaches each member of the configuration in which it is delivered
 //! (docs/SPECIFICATIONS.md, "7 Safe delivery").
-ghost use Rattle.std.specs.Prelude.{◌↔◌, IsTrue, IfSome, IfNone, IfOk, Contains};
+ghost use Rattle.std.specs.Prelude.{◌↔◌, IsTrue, IfOk, All};
+ghost use Rattle.std.specs.Bool.{OnTrue, OnFalse};
 ghost use Rattle.totem_evs.specs.Answers.{FindsIn};
-ghost use Rattle.totem_evs.specs.RingFaults.{BreaksSafetyIn};
-ghost use Rattle.totem_agreement.specs.Reached.{IsMissed, HoldsOfNo};
+ghost use Rattle.totem_evs.specs.AgreementFaults.{IsNotReached};
+ghost use Rattle.totem_evs.specs.Following.{DeliversOrEnds};
+ghost use Rattle.totem_agreement.specs.Reached.{HoldsNotOfAll};
 
-use crate::search::{Relation, least};
+use crate::events::{EventTest, least_event};
 use crate::stay::Stay;
 use crate::stays::Stays;
 use std::alloc::{AllocError, Global};
 use totem_evs::{Entry, Places, SpecNo};
-use totem_ids::{MsgId, Place, Proc};
+use totem_ids::{MsgId, Proc};
 
 /// The deliveries of safe messages that a member neither delivers nor is excused from.
 #[derive(Clone, Copy)]
@@ -19,58 +21,46 @@ struct Unreached<'s, 'r> {
 }
 
 impl Unreached<'_, '_> {
-    /// Whether this process ought to deliver the message and does not.
-    fn is_missed(&self, proc: Proc, message: &MsgId) -> bool
-        ensures { IsTrue result ↔ IsMissed self.now.stays.now.run.now.logs self.now.stays.now.ring message.now proc }
+    /// Whether this process delivers the message, or is excused from it.
+    fn is_reached(&self, proc: Proc, message: &MsgId) -> bool
+        ensures { IsTrue result ↔ DeliversOrEnds self.now.stays.now.run.now.logs proc self.now.stays.now.ring message.now }
     {
         let Some(stay) = self.stays.stay_of(proc) else {
-            return true;
+            return false;
         };
         if stay.is_excused() {
-            return false;
+            return true;
         }
         match self.stays.delivery_of(stay, message) {
-            Some(_) => false,
-            None => true,
+            Some(_) => true,
+            None => false,
         }
     }
 
-    /// The first of these members that ought to deliver the message and does not.
-    fn first_missed(&self, members: &[Proc], message: &MsgId) -> Option<Proc>
-        ensures member { IfSome result (λ q. Contains members.now q) }
-        ensures missed { IfSome result (λ q. IsMissed self.now.stays.now.run.now.logs self.now.stays.now.ring message.now q) }
-        ensures none { IfNone result (HoldsOfNo members.now (IsMissed self.now.stays.now.run.now.logs self.now.stays.now.ring message.now)) }
+    /// Whether each of these members delivers the message, or is excused from it.
+    fn are_reached(&self, members: &[Proc], message: &MsgId) -> bool
+        ensures all { OnTrue result (All (λ q. DeliversOrEnds self.now.stays.now.run.now.logs q self.now.stays.now.ring message.now) members.now) }
+        ensures not_all { OnFalse result (HoldsNotOfAll (λ q. DeliversOrEnds self.now.stays.now.run.now.logs q self.now.stays.now.ring message.now) members.now) }
     {
-        for member in members {
-            if self.is_missed(*member, message) {
-                return Some(*member);
-            }
-        }
-        None
+        members
+            .iter()
+            .all(|member| self.is_reached(*member, message))
     }
 }
 
-impl Relation for Unreached<'_, '_> {
+impl EventTest for Unreached<'_, '_> {
     ghost among = { λ s. s.stays.now.list.items };
 
-    ghost holds = { λ s. BreaksSafetyIn s.stays.now.run.now.logs s.stays.now.ring };
+    ghost breaks = { λ s. IsNotReached s.stays.now.run.now.logs s.stays.now.ring };
 
-    fn rest(
-        &self,
-        alloc: Global,
-        stay: &Stay,
-        at: usize,
-    ) -> Result<Option<Vec<Place>>, AllocError> {
-        let Entry::Deliver(message, _) = &stay.log[at] else {
-            return Ok(None);
+    fn breaks_at(&self, stay: &Stay, at: usize) -> bool {
+        let Entry::Deliver(message, _) = self.stays.entry_in(stay, at) else {
+            return false;
         };
         if !self.stays.is_safe(message) {
-            return Ok(None);
+            return false;
         }
-        match self.first_missed(self.stays.members_at(stay, at), message) {
-            None => Ok(None),
-            Some(_) => Ok(Some(Vec::new(alloc))),
-        }
+        !self.are_reached(self.stays.members_at(stay, at), message)
     }
 }
 
@@ -78,5 +68,5 @@ impl Relation for Unreached<'_, '_> {
 pub fn find(alloc: Global, stays: &Stays) -> Result<Option<Places>, AllocError>
     ensures { IfOk result (FindsIn stays.now.run.now.logs stays.now.ring SpecNo.Safety) }
 {
-    least(&Unreached { stays }, alloc, stays)
+    least_event(&Unreached { stays }, alloc, stays)
 }
