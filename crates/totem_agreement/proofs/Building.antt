@@ -15,7 +15,9 @@ use Rattle.totem_agreement.specs.declared.stay.Stay.{Stay}
 use Rattle.totem_agreement.specs.Arrivals.{IsArrival, AreArrivals}
 use Rattle.totem_agreement.specs.Stays.{AreNextTwo, IsStay, IsStayOf, HasStay, AreStays}
 use Rattle.totem_agreement.proofs.Staying.{is_stay}
-use Rattle.totem_agreement.proofs.Excusing.{ending_of_at, quiet_never_fails}
+use Rattle.totem_table.proofs.Pushing.{nothing, before_push}
+use Rattle.totem_passes.proofs.LogEnds.{ending_of_at}
+use Rattle.totem_agreement.proofs.Excusing.{quiet_never_fails}
 use Rattle.totem_agreement.proofs.Known.{keeps_rules}
 
 -- the stay is the one that begins at this change
@@ -36,17 +38,8 @@ pub record Gathered (run : List Log) (c : RingId) (arrivals : List Arrival) (sta
   pub count : length stays ≡ n
   pub each : (k : ℕ) (stay : Stay) → slice_get stays k ≡ Some stay → IsStayOfNth run c arrivals k stay
 
-nothing : (k : ℕ) (s : Stay) → slice_get [] k ≡ Some s → ⊥
-nothing k s at = cc
-
 pub none_gathered : (run : List Log) (c : RingId) (arrivals : List Arrival) → Gathered run c arrivals [] 0
 none_gathered run c arrivals = record { count = refl; each = λ k stay at. absurd (nothing k stay at) }
-
-pub before_push : (xs : List Stay) (x : Stay) (k : ℕ) (y : Stay) → slice_get (xs ++ (x ∷ [])) k ≡ Some y → (slice_get xs k ≡ Some y) ⊎ ((k ≡ length xs) × (x ≡ y))
-before_push [] x zero y at = inr (refl, cc)
-before_push [] x (suc k) y at = absurd (nothing k y at)
-before_push (z ∷ xs) x zero y at = inl at
-before_push (z ∷ xs) x (suc k) y at = elim (before_push xs x k y at) [ inl h ↦ inl h | inr (same, is) ↦ inr (omega (arith, same), is) ]
 
 pub one_more_stay : (run : List Log) (c : RingId) (arrivals : List Arrival) (stays : List Stay) (n : ℕ) (a : Arrival) (s : Stay) → slice_get arrivals n ≡ Some a → IsStayAt run c a s → Gathered run c arrivals stays n
     → Gathered run c arrivals (stays ++ (s ∷ [])) (n + 1)

@@ -18,18 +18,6 @@ use Rattle.totem_agreement.specs.declared.stay.Stay.{Stay}
 use Rattle.totem_agreement.specs.Stays.{IsExcused, IsStayOf}
 use Rattle.totem_agreement.proofs.Deciding.{both_or_not}
 
--- in a run each log ends as that of its process
-pub ending_of_at : (run : List Log) (k : ℕ) (log : Log) → Rising run → slice_get run k ≡ Some log → ending_of run log.proc ≡ log.ending
-ending_of_at [] k log rising at = absurd cc
-ending_of_at (x ∷ xs) zero log rising at =
-    let same : x ≡ log = cc in
-    let test : (x.proc == log.proc) ≡ true = rw same (search rules) in
-    rw test (ap (λ (l : Log). l.ending) same)
-ending_of_at (x ∷ xs) (suc k) log rising at =
-    let lt : x.proc < log.proc = in_order (x ∷ xs) 0 (suc k) x log rising refl at (omega arith) in
-    let test : (x.proc == log.proc) ≡ false = search rules in
-    rw test (ending_of_at xs k log (Rising-tail x xs rising) at)
-
 -- a quiet log has no failure: that would be its last entry
 pub quiet_never_fails : (entries : List Entry) (ending : Ending) → StaysInPlace entries → IsClosedBy entries ending → ending ≡ Quiet → NeverFails entries
 quiet_never_fails entries ending placed closed quiet i x fails = (let failed : ending ≡ Failed = closed.1 (i, Fail x, whole, fails, tt) in cc)

@@ -25,7 +25,8 @@ use Rattle.totem_evs.proofs.Originating.{sent_in}
 use Rattle.totem_agreement.specs.declared.stay.Stay.{Stay}
 use Rattle.totem_agreement.specs.Stays.{TurnsAt, IsExcused, IsStayOf, HasStay, AreStays}
 use Rattle.totem_agreement.specs.Acts.{IsAmong, DeliversHere, DeliversNot}
-use Rattle.totem_agreement.specs.Endings.{HasFailed, GoesOn}
+use Rattle.totem_passes.specs.Ends.{GoesOn}
+use Rattle.totem_agreement.specs.Endings.{HasFailed}
 use Rattle.totem_agreement.specs.Pendings.{Adds, MissesAt, MissesNothingAt, MissesFrom, Misses, IsPendingIn}
 use Rattle.totem_agreement.proofs.Excusing.{excused, not_excused}
 use Rattle.totem_agreement.proofs.Adding.{Between, adds_nothing, adds_alike}

@@ -8,6 +8,7 @@ use Rattle.totem_evs.specs.declared.entry.Entry.{Entry}
 use Rattle.totem_evs.specs.declared.entry.Entry.TheVariants.{Send, Deliver}
 use Rattle.totem_evs.specs.Events.{Delivers}
 use Rattle.totem_evs.proofs.LogOf.{less_or_not}
+use Rattle.totem_table.proofs.Pushing.{nothing, before_push, stands_before, stands_last}
 use Rattle.totem_agreement.specs.declared.stay.Stay.{Stay}
 use Rattle.totem_agreement.specs.declared.replay.Sent.{Sent}
 use Rattle.totem_agreement.specs.declared.replay.Replay.{Replay}
@@ -24,9 +25,6 @@ pub record Replayed (messages : List MsgId) (stay : Stay) (n next regular : ℕ)
   pub are : AreSends stay n sends
   pub early : n ≤ stay.turn → regular ≡ rank stay n
   pub late : stay.turn ≤ n → regular ≡ rank stay stay.turn
-
-nothing : {X : Type 0} (k : ℕ) (x : X) → slice_get [] k ≡ Some x → ⊥
-nothing k x at = cc
 
 pub nothing_replayed : (messages : List MsgId) (stay : Stay) → IsShortStay stay → stay.from < stay.turn → Replayed messages stay (stay.from + 1) 0 0 [] []
 nothing_replayed messages stay short turn = record {
@@ -46,22 +44,6 @@ nothing_replayed messages stay short turn = record {
   early = λ le. sym (rank_start stay);
   late = λ le. (let same : stay.from + 1 ≡ stay.turn = omega (arith, turn, le) in sym (rank_start stay) ∙ ap (λ i. rank stay i) same);
 }
-
--- the element that is put behind the others, or one of these
-pub before_push : {X : Type 0} (xs : List X) (x : X) (k : ℕ) (y : X) → slice_get (xs ++ (x ∷ [])) k ≡ Some y → (slice_get xs k ≡ Some y) ⊎ ((k ≡ length xs) × (x ≡ y))
-before_push [] x zero y at = inr (refl, cc)
-before_push [] x (suc k) y at = absurd (nothing k y at)
-before_push (z ∷ xs) x zero y at = inl at
-before_push (z ∷ xs) x (suc k) y at = elim (before_push xs x k y at) [ inl h ↦ inl h | inr (same, is) ↦ inr (omega (arith, same), is) ]
-
-pub stands_before : {X : Type 0} (xs : List X) (x : X) (k : ℕ) (y : X) → slice_get xs k ≡ Some y → slice_get (xs ++ (x ∷ [])) k ≡ Some y
-stands_before [] x k y at = absurd (nothing k y at)
-stands_before (z ∷ xs) x zero y at = at
-stands_before (z ∷ xs) x (suc k) y at = stands_before xs x k y at
-
-pub stands_last : {X : Type 0} (xs : List X) (x : X) → slice_get (xs ++ (x ∷ [])) (length xs) ≡ Some x
-stands_last [] x = refl
-stands_last (z ∷ xs) x = stands_last xs x
 
 -- an entry at n that is no delivery
 places_same : (messages : List MsgId) (stay : Stay) (n : ℕ) (places : List ℕ) → rank stay (n + 1) ≡ rank stay n → ((m : MsgId) (x : ConfId) → Delivers stay.log.now n m x → ⊥) → PlacesUpTo messages stay n places → PlacesUpTo messages stay (n + 1) places

@@ -2,14 +2,10 @@
 use Rattle.std.proofs.Common.{◌≡◌, ◌⊎◌, ◌↔◌, ◌+◌, ◌<◌, ◌≤◌, ℕ, inl, inr, List, [], ◌∷◌, ◌++◌, length, slice_get, Some, Bool, true, false, ◌&&◌, IsTrue, refl, sym, ap, ◌∙◌, arith}
 use Rattle.std.specs.Prelude.{AllPairs, Contains}
 use Rattle.std.proofs.lemmas.Option.{slice_get_within, slice_get_read, get_or_from_slice_get}
-use Rattle.std.proofs.Math.Dec.{eqb}
-use Rattle.std.proofs.lemmas.Bool.{eq-eqb, eqb-true}
 use Rattle.std.proofs.lemmas.List.Quantifiers.{all_pairs_push}
 use Rattle.std.proofs.lemmas.List.Elements.{Contains-append_left, Contains-get_or, Contains-push, Contains-push_cases}
 use Rattle.totem_ids.specs.declared.conf.ConfId.{ConfId}
-use Rattle.totem_ids.specs.Ranks.{rank_of, id_of, life_of}
 use Rattle.totem_ids.proofs.Lives.{below_is_less}
-use Rattle.totem_ids.proofs.RankParts.{rank_of_parts}
 use Rattle.totem_evs.specs.Members.{IsBelow}
 use Rattle.totem_evs.specs.declared.entry.Entry.{Entry}
 use Rattle.totem_evs.specs.declared.entry.Entry.TheVariants.{Conf}
@@ -23,31 +19,6 @@ use Rattle.totem_agreement.specs.Endings.{StandsAtEnd, EndsNowhere, AreWaitingAt
 use Rattle.totem_agreement.proofs.Gathering.{HasLogBefore, Gathered, none_gathered, gathered_more, all_gathered}
 
 -- ---- whether a process ends in a configuration
-
--- comparing processes
-both_true : (s t : Bool) → true ≡ (s && t) → (s ≡ true) × (t ≡ true)
-both_true true t e = (refl, sym e)
-both_true false t e = absurd cc
-
-same_parts : (a b : ℕ) → true ≡ (eqb (id_of a) (id_of b) && eqb (life_of a) (life_of b)) → a ≡ b
-same_parts a b e =
-    let h = both_true (eqb (id_of a) (id_of b)) (eqb (life_of a) (life_of b)) e in
-    sym (rank_of_parts a)
-    ∙ ap (λ (x : ℕ). rank_of x (life_of a)) (eqb-true (id_of a) (id_of b) h.0)
-    ∙ ap (λ (x : ℕ). rank_of (id_of b) x) (eqb-true (life_of a) (life_of b) h.1)
-    ∙ rank_of_parts b
-
-pub other_parts : (a b : ℕ) → a ≡ b → false ≡ (eqb (id_of a) (id_of b) && eqb (life_of a) (life_of b)) → ⊥
-other_parts a b same e =
-    let ids = eq-eqb (id_of a) (id_of b) (ap (λ (x : ℕ). id_of x) same) in
-    let lives = eq-eqb (life_of a) (life_of b) (ap (λ (x : ℕ). life_of x) same) in
-    absurd (let h : false ≡ true = rw (ids, lives) at e in cc)
-
-pub not_same : (a b c : ℕ) → a ≡ b → false ≡ (eqb (id_of a) (id_of c) && eqb (life_of a) (life_of c)) → b ≡ c → ⊥
-not_same a b c is e same = other_parts a c (is ∙ same) e
-
-pub same : (a b c : ℕ) → a ≡ b → true ≡ (eqb (id_of a) (id_of c) && eqb (life_of a) (life_of c)) → b ≡ c
-same a b c is e = sym is ∙ same_parts a c e
 
 -- none of the first k logs is p's
 pub record NotBefore (run : List Log) (k p : ℕ) : Type 0 where

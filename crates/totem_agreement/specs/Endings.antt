@@ -14,10 +14,6 @@ pub record HasFailed (log : List Entry) : Type 0 where
   pub conf : ConfId
   pub fails : Fails log index conf
 
--- the log has none
-pub record GoesOn (log : List Entry) : Type 0 where
-  pub never : NeverFails log
-
 -- the log has no failure, and its last change stands at i
 pub record StandsAtEnd (log : List Entry) (i : ℕ) : Type 0 where
   pub goes_on : NeverFails log

@@ -3,8 +3,8 @@ ghost use Rattle.std.specs.Prelude.{◌↔◌, IsTrue};
 ghost use Rattle.std.specs.Bool.{OnTrue, OnFalse};
 ghost use Rattle.totem_evs.specs.Changes.{StaysInPlace};
 ghost use Rattle.totem_evs.specs.Unsettled.{EndsIn};
-ghost use Rattle.totem_passes.specs.Sent.{IsChangeTo};
-ghost use Rattle.totem_agreement.specs.Endings.{HasFailed, GoesOn, IsEnd};
+ghost use Rattle.totem_passes.specs.Ends.{GoesOn};
+ghost use Rattle.totem_agreement.specs.Endings.{HasFailed, IsEnd};
 
 use totem_evs::Entry;
 use totem_ids::ConfId;
@@ -29,22 +29,7 @@ pub fn last_change(log: &[Entry]) -> Option<usize>
     if has_failed(log) {
         return None;
     }
-    for back in 0..log.len() {
-        let at = log.len() - 1 - back;
-        if let Entry::Conf(_, _) = &log[at] {
-            return Some(at);
-        }
-    }
-    None
-}
-
-fn is_change_to(entry: &Entry, conf: &ConfId) -> bool
-    ensures { IsTrue result ↔ IsChangeTo entry.now conf.now }
-{
-    match entry {
-        Entry::Conf(other, _) => other.is(conf),
-        _ => false,
-    }
+    totem_passes::last_change(log)
 }
 
 /// Whether the log ends in the configuration: it has no failure, and its last change, at index `last`, is to it.
@@ -53,7 +38,7 @@ pub fn ends_in(log: &[Entry], last: Option<usize>, conf: &ConfId) -> bool
     ensures { IsTrue result ↔ EndsIn log.now conf.now }
 {
     match last {
-        Some(at) => is_change_to(&log[at], conf),
+        Some(_) => totem_passes::ends_in(log, last, conf),
         None => false,
     }
 }

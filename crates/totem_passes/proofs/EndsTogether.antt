@@ -1,12 +1,8 @@
 -- Whether the members of a quiet log's last configuration end there too.
 use Rattle.std.proofs.Common.{◌≡◌, ◌↔◌, ◌⊎◌, ◌+◌, ◌<◌, ◌≤◌, ℕ, zero, suc, inl, inr, List, [], ◌∷◌, ◌++◌, length, get_or, slice_get, Some, Bool, true, false, ◌&&◌, IsTrue, refl, sym, ◌∙◌, ap, arith, rules}
 use Rattle.std.specs.Prelude.{◌==◌}
-use Rattle.std.proofs.Math.Dec.{eqb}
-use Rattle.std.proofs.lemmas.Bool.{eq-eqb, eqb-true}
 use Rattle.std.proofs.lemmas.List.{length_push}
 use Rattle.std.proofs.lemmas.Option.{slice_get_read, slice_get_within, get_or_from_slice_get, slice_get-get_or}
-use Rattle.totem_ids.specs.Ranks.{rank_of, id_of, life_of}
-use Rattle.totem_ids.proofs.RankParts.{rank_of_parts}
 use Rattle.totem_ids.specs.declared.conf.ConfId.{ConfId}
 use Rattle.totem_ids.specs.declared.place.Place.{Place}
 use Rattle.totem_evs.specs.declared.entry.Entry.{Entry}
@@ -22,15 +18,11 @@ use Rattle.totem_evs.specs.Answers.{ComesFirst, IsLeastBreak}
 use Rattle.totem_evs.proofs.LogOf.{Rising, Rising-tail, log_of_cases, log_of_at, in_order, less_or_not}
 use Rattle.totem_passes.specs.declared.ends.LogEnd.{LogEnd}
 use Rattle.totem_passes.specs.Ends.{GoesOn, HasNoChange, StandsLast, IsLast, IsLogEnd, AreLogEnds, LogShares, IsLogOf, HasNoLog, AllShare, SomeStrays, StraysAt, EndsWithAll}
+use Rattle.totem_table.proofs.Pushing.{before_push}
 use Rattle.totem_passes.proofs.Placed.{same_place}
+use Rattle.totem_passes.proofs.LogEnds.{ending_of_at}
 
 -- ---- the ends of all logs
-
-push_cases : {X : Type 0} (xs : List X) (y : X) (k : ℕ) (x : X) → slice_get (xs ++ y ∷ []) k ≡ Some x → (slice_get xs k ≡ Some x) ⊎ ((k ≡ length xs) × (y ≡ x))
-push_cases [] y zero x h = inr (refl, cc)
-push_cases [] y (suc k) x h = absurd cc
-push_cases (z ∷ xs) y zero x h = inl h
-push_cases (z ∷ xs) y (suc k) x h = elim (push_cases xs y k x h) [ inl in_xs ↦ inl in_xs | inr (place, same) ↦ inr (ap (λ n. suc n) place, same) ]
 
 -- those of the first n logs
 pub record EndsBefore (run : List Log) (n : ℕ) (ends : List LogEnd) : Type 0 where
@@ -43,7 +35,7 @@ no_ends run = record { many = refl; each = λ k log end at here. absurd cc }
 pub ends_more : (run : List Log) (n : ℕ) (log : Log) (end : LogEnd) (ends : List LogEnd) → slice_get run n ≡ Some log → IsTrue end.goes_on ↔ GoesOn log.entries → IsLast log.entries end.last → EndsBefore run n ends → EndsBefore run (n + 1) (ends ++ end ∷ [])
 ends_more run n log end ends at goes last before = record {
   many = length_push ends end ∙ ap (λ m. m + 1) before.many;
-  each = λ k l e at_k end_k. elim (push_cases ends end k e end_k) [
+  each = λ k l e at_k end_k. elim (before_push ends end k e end_k) [
     | inl old ↦ before.each k l e at_k old
     | inr new ↦ (let here : k ≡ n = new.0 ∙ before.many in let there : slice_get run n ≡ Some l = rw here at at_k in let one : l ≡ log = cc in rw (one, ← new.1) (record { goes_on = goes; last = last }))
   ];
@@ -53,27 +45,6 @@ pub all_ends : (run : List Log) (n : ℕ) (ends : List LogEnd) → n ≡ length 
 all_ends run n ends all before = record { many = before.many ∙ all; each = before.each }
 
 -- ---- finding the log of a process
-
-both_true : (s t : Bool) → true ≡ (s && t) → (s ≡ true) × (t ≡ true)
-both_true true t e = (refl, sym e)
-both_true false t e = absurd cc
-
-same_parts : (a b : ℕ) → true ≡ (eqb (id_of a) (id_of b) && eqb (life_of a) (life_of b)) → a ≡ b
-same_parts a b e =
-    let h = both_true (eqb (id_of a) (id_of b)) (eqb (life_of a) (life_of b)) e in
-    sym (rank_of_parts a)
-    ∙ ap (λ (x : ℕ). rank_of x (life_of a)) (eqb-true (id_of a) (id_of b) h.0)
-    ∙ ap (λ (x : ℕ). rank_of (id_of b) x) (eqb-true (life_of a) (life_of b) h.1)
-    ∙ rank_of_parts b
-
-pub is_other : (a b p : ℕ) → a ≡ b → false ≡ (eqb (id_of a) (id_of p) && eqb (life_of a) (life_of p)) → b ≡ p → ⊥
-is_other a b p is e same =
-    let ids = eq-eqb (id_of a) (id_of p) (ap (λ (x : ℕ). id_of x) (is ∙ same)) in
-    let lives = eq-eqb (life_of a) (life_of p) (ap (λ (x : ℕ). life_of x) (is ∙ same)) in
-    absurd (let h : false ≡ true = rw (ids, lives) at e in cc)
-
-pub is_same : (a b p : ℕ) → a ≡ b → true ≡ (eqb (id_of a) (id_of p) && eqb (life_of a) (life_of p)) → b ≡ p
-is_same a b p is e = sym is ∙ same_parts a p e
 
 -- none of the first n logs is p's
 pub record NoLogBefore (run : List Log) (p n : ℕ) : Type 0 where
@@ -108,17 +79,6 @@ read_there run logs p k log same found is =
     (there, rw one at found.proc)
 
 -- ---- whether a member shares an end
-
-pub ending_of_at : (run : List Log) (k : ℕ) (log : Log) → Rising run → slice_get run k ≡ Some log → ending_of run log.proc ≡ log.ending
-ending_of_at [] k log rising at = absurd cc
-ending_of_at (x ∷ xs) zero log rising at =
-    let same : x ≡ log = cc in
-    let test : (x.proc == log.proc) ≡ true = rw same (search rules) in
-    rw test (ap (λ (l : Log). l.ending) same)
-ending_of_at (x ∷ xs) (suc k) log rising at =
-    let lt : x.proc < log.proc = in_order (x ∷ xs) 0 (suc k) x log rising refl at (omega arith) in
-    let test : (x.proc == log.proc) ≡ false = search rules in
-    rw test (ending_of_at xs k log (Rising-tail x xs rising) at)
 
 -- the log of a member shares an end exactly where the member does
 pub shared : (run : List Log) (k : ℕ) (log : Log) (x : ConfId) (p : ℕ) (b : Bool) → Rising run → slice_get run k ≡ Some log → log.proc ≡ p → IsTrue b ↔ LogShares log x → IsTrue b ↔ SharesEnd run x p

@@ -1,15 +1,30 @@
 -- Where one log ends.
-use Rattle.std.proofs.Common.{◌≡◌, ◌↔◌, ◌-◌, ◌+◌, ◌<◌, ◌≤◌, ℕ, inl, inr, List, length, slice_get, Option, None, Some, Bool, false, IsTrue, refl, arith, below_more}
+use Rattle.std.proofs.Common.{◌≡◌, ◌↔◌, ◌-◌, ◌+◌, ◌<◌, ◌≤◌, ℕ, zero, suc, inl, inr, List, [], ◌∷◌, length, slice_get, Option, None, Some, Bool, true, false, IsTrue, refl, ap, arith, rules, below_more}
+use Rattle.std.specs.Prelude.{◌==◌}
 use Rattle.std.proofs.lemmas.Option.{slice_get_within}
 use Rattle.totem_ids.specs.declared.conf.ConfId.{ConfId}
 use Rattle.totem_evs.specs.declared.entry.Entry.{Entry}
 use Rattle.totem_evs.specs.declared.entry.Entry.TheVariants.{Conf, Send, Deliver, Fail}
+use Rattle.totem_evs.specs.declared.log.Log.{Log}
 use Rattle.totem_evs.specs.Runs.{IsFailure}
-use Rattle.totem_evs.specs.Events.{ChangesTo, IsChange, Fails}
+use Rattle.totem_evs.specs.Events.{ChangesTo, IsChange, Fails, ending_of}
 use Rattle.totem_evs.specs.Following.{LastChange}
-use Rattle.totem_evs.proofs.LogOf.{less_or_not}
+use Rattle.totem_evs.proofs.LogOf.{Rising, Rising-tail, in_order, less_or_not}
 use Rattle.totem_passes.specs.Sent.{IsChangeTo, NeverChangesTo}
 use Rattle.totem_passes.specs.Ends.{GoesOn, HasNoChange, StandsLast, IsLast}
+
+-- ---- how the log of a process ends
+
+pub ending_of_at : (run : List Log) (k : ℕ) (log : Log) → Rising run → slice_get run k ≡ Some log → ending_of run log.proc ≡ log.ending
+ending_of_at [] k log rising at = absurd cc
+ending_of_at (x ∷ xs) zero log rising at =
+    let same : x ≡ log = cc in
+    let test : (x.proc == log.proc) ≡ true = rw same (search rules) in
+    rw test (ap (λ (l : Log). l.ending) same)
+ending_of_at (x ∷ xs) (suc k) log rising at =
+    let lt : x.proc < log.proc = in_order (x ∷ xs) 0 (suc k) x log rising refl at (omega arith) in
+    let test : (x.proc == log.proc) ≡ false = search rules in
+    rw test (ending_of_at xs k log (Rising-tail x xs rising) at)
 
 -- ---- whether a log has a failure
 

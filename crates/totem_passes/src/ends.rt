@@ -53,7 +53,7 @@ fn goes_on(log: &[Entry]) -> bool
 }
 
 /// Returns the index of the last change of a log.
-fn last_change(log: &[Entry]) -> Option<usize>
+pub fn last_change(log: &[Entry]) -> Option<usize>
     ensures { IsLast log.now result }
 {
     for back in 0..log.len() {
@@ -101,7 +101,7 @@ fn never_changes_to(log: &[Entry], conf: &ConfId) -> bool
 }
 
 /// Whether the last change of a log is to the configuration.
-fn ends_in(log: &[Entry], last: Option<usize>, conf: &ConfId) -> bool
+pub fn ends_in(log: &[Entry], last: Option<usize>, conf: &ConfId) -> bool
     requires { IsLast log.now last }
     ensures { IsTrue result ↔ LastChange log.now conf.now }
 {

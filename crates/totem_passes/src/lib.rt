@@ -28,7 +28,7 @@ mod unsent;
 mod visit;
 
 pub use change_register::{ChangeRegister, enter_changes};
+pub use ends::{ends_in, last_change};
 pub use pass::{pass_a, pass_a_and_b, pass_b, with_found};
-pub use register::{Register, enter_run};
 pub use search::begin_with;
 pub use visit::Visit;

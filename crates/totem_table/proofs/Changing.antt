@@ -1,5 +1,6 @@
 -- The changes of a log, in a list of their indices.
 use Rattle.std.proofs.Common.{◌≡◌, ℕ, zero, suc, ◌+◌, ◌<◌, ◌≤◌, ◌⊎◌, inl, inr, List, [], ◌∷◌, ◌++◌, length, slice_get, Option, Some, None, refl, sym, arith}
+use Rattle.std.proofs.lemmas.List.{length_push}
 use Rattle.std.proofs.lemmas.Option.{slice_get_within}
 use Rattle.totem_evs.specs.declared.entry.Entry.{Entry}
 use Rattle.totem_evs.specs.declared.entry.Entry.TheVariants.{Conf, Send, Deliver, Fail}
@@ -7,6 +8,7 @@ use Rattle.totem_evs.specs.declared.log.Log.{Log}
 use Rattle.totem_evs.specs.Events.{IsChange}
 use Rattle.totem_evs.proofs.LogOf.{less_or_not}
 use Rattle.totem_table.specs.Changes.{IsListed, ListsChanges, AreChanges, IsNextOrEnd}
+use Rattle.totem_table.proofs.Pushing.{nothing, before_push, stands_before, stands_last}
 
 -- an index is that of a change, or not
 pub change_or_not : (log : List Entry) (i : ℕ) → IsChange log i ⊎ (IsChange log i → ⊥)
@@ -19,31 +21,12 @@ change_or_not log i = go (slice_get log i) refl
     go (Some (Deliver m x)) at = inr (λ (y, (ms, h)). cc)
     go (Some (Fail x)) at = inr (λ (y, (ms, h)). cc)
 
-nothing_listed : (k i : ℕ) → slice_get {X = ℕ} [] k ≡ Some i → ⊥
-nothing_listed k i at = cc
-
 pub none_listed : (log : List Entry) → ListsChanges log 0 []
 none_listed log = record {
-  each = λ k i at. absurd (nothing_listed k i at);
-  rising = λ k l i j at_i at_j lt. absurd (nothing_listed k i at_i);
+  each = λ k i at. absurd (nothing k i at);
+  rising = λ k l i j at_i at_j lt. absurd (nothing k i at_i);
   whole = λ i lt change. absurd (omega arith);
 }
-
--- an element behind a push is an old one, or the new one
-behind_push : (xs : List ℕ) (x k y : ℕ) → slice_get (xs ++ (x ∷ [])) k ≡ Some y → (slice_get xs k ≡ Some y) ⊎ ((k ≡ length xs) × (x ≡ y))
-behind_push [] x zero y at = inr (refl, cc)
-behind_push [] x (suc k) y at = absurd (nothing_listed k y at)
-behind_push (z ∷ xs) x zero y at = inl at
-behind_push (z ∷ xs) x (suc k) y at = elim (behind_push xs x k y at) [ inl h ↦ inl h | inr (same, is) ↦ inr (omega (arith, same), is) ]
-
-stays_listed : (xs : List ℕ) (x k y : ℕ) → slice_get xs k ≡ Some y → slice_get (xs ++ (x ∷ [])) k ≡ Some y
-stays_listed [] x k y at = absurd (nothing_listed k y at)
-stays_listed (z ∷ xs) x zero y at = at
-stays_listed (z ∷ xs) x (suc k) y at = stays_listed xs x k y at
-
-is_last : (xs : List ℕ) (x : ℕ) → slice_get (xs ++ (x ∷ [])) (length xs) ≡ Some x
-is_last [] x = refl
-is_last (z ∷ xs) x = is_last xs x
 
 same_entry : (log : List Entry) (i j : ℕ) (e f : Entry) → i ≡ j → slice_get log i ≡ Some e → slice_get log j ≡ Some f → e ≡ f
 same_entry log i j e f same at_i at_j = let at : slice_get log j ≡ Some e = rw same at at_i in cc
@@ -65,22 +48,22 @@ no_more log n e list at other before = record {
 -- the entry at n is a change
 pub one_more : (log : List Entry) (n : ℕ) (list : List ℕ) → IsChange log n → ListsChanges log n list → ListsChanges log (n + 1) (list ++ (n ∷ []))
 one_more log n list here before = record {
-  each = λ k i listed. elim (behind_push list n k i listed) [
+  each = λ k i listed. elim (before_push list n k i listed) [
     | inl h ↦ (let old = before.each k i h in (omega (arith, old.0), old.1))
     | inr (same, is) ↦ (omega (arith, is), rw is at here)
   ];
-  rising = λ k l i j at_i at_j lt. elim (behind_push list n l j at_j) [
-    | inl h ↦ before.rising k l i j (elim (behind_push list n k i at_i) [ inl g ↦ g | inr (same, is) ↦ absurd (omega (arith, same, slice_get_within list l j h)) ]) h lt
-    | inr (same, is) ↦ elim (behind_push list n k i at_i) [ inl g ↦ (let old = before.each k i g in omega (arith, old.0, is)) | inr (same_k, is_k) ↦ absurd (omega (arith, same, same_k)) ]
+  rising = λ k l i j at_i at_j lt. elim (before_push list n l j at_j) [
+    | inl h ↦ before.rising k l i j (elim (before_push list n k i at_i) [ inl g ↦ g | inr (same, is) ↦ absurd (omega (arith, same, slice_get_within list l j h)) ]) h lt
+    | inr (same, is) ↦ elim (before_push list n k i at_i) [ inl g ↦ (let old = before.each k i g in omega (arith, old.0, is)) | inr (same_k, is_k) ↦ absurd (omega (arith, same, same_k)) ]
   ];
   whole = λ i lt change. elim (less_or_not i n) [
-    | inl under ↦ (let old = before.whole i under change in record { number = old.number; is = stays_listed list n old.number i old.is })
+    | inl under ↦ (let old = before.whole i under change in record { number = old.number; is = stands_before list n old.number i old.is })
     | inr rest ↦ elim rest [ inl over ↦ absurd (omega arith) | inr same ↦ here_listed i same ]
   ];
 }
   where
     here_listed : (i : ℕ) → i ≡ n → IsListed (list ++ (n ∷ [])) i
-    here_listed i same = rw same (record { number = length list; is = is_last list n })
+    here_listed i same = rw same (record { number = length list; is = stands_last list n })
 
 pub all_listed : (log : List Entry) (n : ℕ) (list : List ℕ) → n ≡ length log → ListsChanges log n list → ListsChanges log (length log) list
 all_listed log n list same h = rw same at h
@@ -151,27 +134,14 @@ pub record ChangesTo (run : List Log) (rows : List (List ℕ)) (n : ℕ) : Type 
   pub long : length rows ≡ n
   pub each : (k : ℕ) (log : Log) (row : List ℕ) → slice_get run k ≡ Some log → slice_get rows k ≡ Some row → ListsChanges log.entries (length log.entries) row
 
-no_row : (k : ℕ) (row : List ℕ) → slice_get {X = List ℕ} [] k ≡ Some row → ⊥
-no_row k row at = cc
-
 pub no_rows : (run : List Log) → ChangesTo run [] 0
-no_rows run = record { long = refl; each = λ k log row at listed. absurd (no_row k row listed) }
-
-row_behind_push : (rows : List (List ℕ)) (row : List ℕ) (k : ℕ) (other : List ℕ) → slice_get (rows ++ (row ∷ [])) k ≡ Some other → (slice_get rows k ≡ Some other) ⊎ ((k ≡ length rows) × (row ≡ other))
-row_behind_push [] row zero other at = inr (refl, cc)
-row_behind_push [] row (suc k) other at = absurd (no_row k other at)
-row_behind_push (x ∷ rows) row zero other at = inl at
-row_behind_push (x ∷ rows) row (suc k) other at = elim (row_behind_push rows row k other at) [ inl h ↦ inl h | inr (same, is) ↦ inr (omega (arith, same), is) ]
-
-length_push : (rows : List (List ℕ)) (row : List ℕ) → length (rows ++ (row ∷ [])) ≡ length rows + 1
-length_push [] row = refl
-length_push (x ∷ rows) row = omega (arith, length_push rows row)
+no_rows run = record { long = refl; each = λ k log row at listed. absurd (nothing k row listed) }
 
 pub one_more_row : (run : List Log) (rows : List (List ℕ)) (n : ℕ) (log : Log) (row : List ℕ) → slice_get run n ≡ Some log → ListsChanges log.entries (length log.entries) row → ChangesTo run rows n
     → ChangesTo run (rows ++ (row ∷ [])) (n + 1)
 one_more_row run rows n log row at lists before = record {
   long = omega (arith, length_push rows row, before.long);
-  each = λ k l r at_k listed. elim (row_behind_push rows row k r listed) [
+  each = λ k l r at_k listed. elim (before_push rows row k r listed) [
     | inl h ↦ before.each k l r at_k h
     | inr (same, is) ↦ here k l r (omega (arith, same, before.long)) is at_k
   ];

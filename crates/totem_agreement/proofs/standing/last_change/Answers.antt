@@ -1,14 +1,5 @@
-use Rattle.std.proofs.Common.{refl, arith}
-use Rattle.std.proofs.lemmas.Option.{slice_get_read}
-use Rattle.totem_agreement.proofs.Ending.{none_more, stands_here}
+use Rattle.totem_agreement.proofs.Ending.{is_end}
 use Rattle.totem_agreement.proofs.standing.last_change.Goals as goal
 
-pub returns-in-Conf : goal.returns-in-Conf
-returns-in-Conf c =
-    let at = slice_get_read c.args.log.now _ _ c.index-log-at.result refl (omega (arith, c.loop-back-test.true)) c.index-log-at.is in
-    stands_here _ _ _ _ _ c.loop-back-test.true at c.in-Conf.is c.if-has_failed.ensures.goes_on c.loop-back.invariant
-
-pub loop-back-preserved : goal.loop-back-preserved
-loop-back-preserved c =
-    let at = slice_get_read c.args.log.now _ _ c.index-log-at.result refl (omega (arith, c.loop-back-test.true)) c.index-log-at.is in
-    none_more _ _ _ c.loop-back-test.true at c.in_default.not-Conf c.loop-back.invariant
+pub returns : goal.returns
+returns c = is_end _ _ c.if-has_failed.ensures.goes_on c.last_change.ensures

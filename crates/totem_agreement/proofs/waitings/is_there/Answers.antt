@@ -4,14 +4,15 @@ use Rattle.totem_evs.specs.LogRecord.{LogRecord}
 use Rattle.totem_evs.specs.RunRecord.{RunRecord}
 use Rattle.totem_evs.specs.Events.{log_of}
 use Rattle.totem_evs.proofs.LogOf.{log_of_at}
-use Rattle.totem_agreement.proofs.Waits.{not_same, same, not_more, no_log}
+use Rattle.totem_table.proofs.Comparing.{is_other, is_same}
+use Rattle.totem_agreement.proofs.Waits.{not_more, no_log}
 use Rattle.totem_agreement.proofs.waitings.is_there.Goals as goal
 
 pub loop-k-preserved : goal.loop-k-preserved
 loop-k-preserved c =
     let at = slice_get_read c.as_slice-log-items.result.now _ _ c.log-item.result refl c.loop-k-test.true c.log-item.is in
     let procs = ap (λ (l : LogRecord). l.proc) c.log.view_is in
-    not_more _ _ _ _ at (not_same _ _ _ procs c.if-eq.ensures) c.loop-k.invariant
+    not_more _ _ _ _ at (is_other _ _ _ procs c.if-eq.ensures) c.loop-k.invariant
 
 pub returns : goal.returns
 returns c =
@@ -44,5 +45,5 @@ returns-then-eq c =
     let entries = ap (λ (l : LogRecord). l.entries) c.log.view_is in
     let procs = ap (λ (l : LogRecord). l.proc) c.log.view_is in
     let here = c.as_slice.ensures.value ∙ entries ∙ sym (log_of_at c.args.run.now.logs _ _ (rw runs at c.as_slice-log-items.ensures.run.rising) (rw (c.as_slice-log-items.ensures.value ∙ runs) at at)) in
-    let proc = same _ _ _ procs c.if-eq.ensures in
+    let proc = is_same _ _ _ procs c.if-eq.ensures in
     rw (here ∙ ap (λ p. log_of c.args.run.now.logs p) proc) at c.ends_in.ensures

@@ -2,7 +2,8 @@ use Rattle.std.proofs.Common.{refl, ◌∙◌, ap}
 use Rattle.std.proofs.lemmas.Option.{slice_get_read}
 use Rattle.totem_evs.specs.LogRecord.{LogRecord}
 use Rattle.totem_evs.specs.RunRecord.{RunRecord}
-use Rattle.totem_passes.proofs.EndsTogether.{is_other, no_log_more, no_log}
+use Rattle.totem_table.proofs.Comparing.{is_other}
+use Rattle.totem_passes.proofs.EndsTogether.{no_log_more, no_log}
 use Rattle.totem_passes.proofs.ends.index_of.Goals as goal
 
 pub loop-k-preserved : goal.loop-k-preserved

@@ -1,6 +1,6 @@
 use Rattle.std.proofs.Common.{arith}
+use Rattle.totem_table.proofs.Comparing.{other_parts}
 use Rattle.totem_agreement.proofs.Facts.{facts}
-use Rattle.totem_agreement.proofs.Waits.{other_parts}
 use Rattle.totem_agreement.proofs.Causing.{no_hop, hop_by_delivery, lt_decided}
 use Rattle.totem_agreement.proofs.causality.Effects.is_hop.Goals as goal
 use Rattle.totem_agreement.proofs.causality.Effects.is_hop.Goals.{else-eq-via-then-eq+else-self-at, else-eq-via-else-eq}
