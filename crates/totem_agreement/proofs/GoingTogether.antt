@@ -27,16 +27,16 @@ tail_more first has n u at there before = record {
 pub whole_tail : (first : Replay) (has : List Bool) (n : ℕ) → length first.places.items ≤ n → TailTo first has n → TellsTail first has
 whole_tail first has n end h = record { each = λ k u above at. h.each k u above (let within = slice_get_within first.places.items k u at in omega (arith, within, end)) at }
 
--- the first n stays
-pub record AlikeTo (stays : List Stay) (replays : List Replay) (other : Stay) (another : Replay) (has : List Bool) (n : ℕ) : Type 0 where
-  pub each : (k : ℕ) (s : Stay) (r : Replay) → k < n → slice_get stays k ≡ Some s → slice_get replays k ≡ Some r → GoAlikeBy s other r another has
+-- it holds of the first n stays and their replays
+pub record HoldsTo (stays : List Stay) (replays : List Replay) (P : Stay → Replay → Type 0) (n : ℕ) : Type 0 where
+  pub each : (k : ℕ) (s : Stay) (r : Replay) → k < n → slice_get stays k ≡ Some s → slice_get replays k ≡ Some r → P s r
 
-pub none_alike : (stays : List Stay) (replays : List Replay) (other : Stay) (another : Replay) (has : List Bool) → AlikeTo stays replays other another has 0
-none_alike stays replays other another has = record { each = λ k s r lt at_s at_r. absurd (omega arith) }
+pub holds_of_none : (stays : List Stay) (replays : List Replay) (P : Stay → Replay → Type 0) → HoldsTo stays replays P 0
+holds_of_none stays replays P = record { each = λ k s r lt at_s at_r. absurd (omega arith) }
 
-pub one_alike : (stays : List Stay) (replays : List Replay) (other : Stay) (another : Replay) (has : List Bool) (n : ℕ) (stay : Stay) (replay : Replay) → slice_get stays n ≡ Some stay → slice_get replays n ≡ Some replay → GoAlikeBy stay other replay another has
-    → AlikeTo stays replays other another has n → AlikeTo stays replays other another has (n + 1)
-one_alike stays replays other another has n stay replay at_stay at_replay alike before = record {
+pub holds_of_one : (stays : List Stay) (replays : List Replay) (P : Stay → Replay → Type 0) (n : ℕ) (stay : Stay) (replay : Replay) → slice_get stays n ≡ Some stay → slice_get replays n ≡ Some replay → P stay replay → HoldsTo stays replays P n
+    → HoldsTo stays replays P (n + 1)
+holds_of_one stays replays P n stay replay at_stay at_replay holds before = record {
   each = λ k s r lt at_s at_r. elim (less_or_not k n) [
     | inl under ↦ before.each k s r under at_s at_r
     | inr rest ↦ elim rest [
@@ -45,38 +45,19 @@ one_alike stays replays other another has n stay replay at_stay at_replay alike 
           let also : slice_get replays n ≡ Some r = rw here at at_r in
           let one : stay ≡ s = cc in
           let two : replay ≡ r = cc in
-          rw (← one, ← two) alike)
+          rw (← one, ← two) holds)
     ]
   ];
 }
 
-pub all_alike : (stays : List Stay) (replays : List Replay) (other : Stay) (another : Replay) (has : List Bool) (n : ℕ) → length stays ≤ n → AlikeTo stays replays other another has n → AllGoAlikeTo stays replays other another has
-all_alike stays replays other another has n end h = record { each = λ k s r at_s at_r. h.each k s r (let within = slice_get_within stays k s at_s in omega (arith, within, end)) at_s at_r }
+holds_of_all : (stays : List Stay) (replays : List Replay) (P : Stay → Replay → Type 0) (n : ℕ) → length stays ≤ n → HoldsTo stays replays P n → (k : ℕ) (s : Stay) (r : Replay) → slice_get stays k ≡ Some s → slice_get replays k ≡ Some r → P s r
+holds_of_all stays replays P n end h k s r at_s at_r = h.each k s r (let within = slice_get_within stays k s at_s in omega (arith, within, end)) at_s at_r
 
-pub record JoinedTo (stays : List Stay) (replays : List Replay) (other : Stay) (has : List Bool) (n : ℕ) : Type 0 where
-  pub each : (k : ℕ) (s : Stay) (r : Replay) → k < n → slice_get stays k ≡ Some s → slice_get replays k ≡ Some r → IsJoinedBy s r other has
+pub all_alike : (stays : List Stay) (replays : List Replay) (other : Stay) (another : Replay) (has : List Bool) (n : ℕ) → length stays ≤ n → HoldsTo stays replays (λ s r. GoAlikeBy s other r another has) n → AllGoAlikeTo stays replays other another has
+all_alike stays replays other another has n end h = record { each = holds_of_all stays replays (λ s r. GoAlikeBy s other r another has) n end h }
 
-pub none_joined : (stays : List Stay) (replays : List Replay) (other : Stay) (has : List Bool) → JoinedTo stays replays other has 0
-none_joined stays replays other has = record { each = λ k s r lt at_s at_r. absurd (omega arith) }
-
-pub one_joined : (stays : List Stay) (replays : List Replay) (other : Stay) (has : List Bool) (n : ℕ) (stay : Stay) (replay : Replay) → slice_get stays n ≡ Some stay → slice_get replays n ≡ Some replay → IsJoinedBy stay replay other has
-    → JoinedTo stays replays other has n → JoinedTo stays replays other has (n + 1)
-one_joined stays replays other has n stay replay at_stay at_replay joined before = record {
-  each = λ k s r lt at_s at_r. elim (less_or_not k n) [
-    | inl under ↦ before.each k s r under at_s at_r
-    | inr rest ↦ elim rest [
-      | inl over ↦ absurd (omega arith)
-      | inr here ↦ (let there : slice_get stays n ≡ Some s = rw here at at_s in
-          let also : slice_get replays n ≡ Some r = rw here at at_r in
-          let one : stay ≡ s = cc in
-          let two : replay ≡ r = cc in
-          rw (← one, ← two) joined)
-    ]
-  ];
-}
-
-pub all_joined : (stays : List Stay) (replays : List Replay) (other : Stay) (has : List Bool) (n : ℕ) → length stays ≤ n → JoinedTo stays replays other has n → JoinsBy stays replays other has
-all_joined stays replays other has n end h = record { each = λ k s r at_s at_r. h.each k s r (let within = slice_get_within stays k s at_s in omega (arith, within, end)) at_s at_r }
+pub all_joined : (stays : List Stay) (replays : List Replay) (other : Stay) (has : List Bool) (n : ℕ) → length stays ≤ n → HoldsTo stays replays (λ s r. IsJoinedBy s r other has) n → JoinsBy stays replays other has
+all_joined stays replays other has n end h = record { each = holds_of_all stays replays (λ s r. IsJoinedBy s r other has) n end h }
 
 pub parted_at_once : (stay other : Stay) (replay another : Replay) (has : List Bool) → DiffersAt stay stay.turn other other.turn → GoAlikeBy stay other replay another has
 parted_at_once stay other replay another has differs = record {

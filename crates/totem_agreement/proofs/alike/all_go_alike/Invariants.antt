@@ -1,5 +1,6 @@
-use Rattle.totem_agreement.proofs.GoingTogether.{AlikeTo}
+use Rattle.totem_agreement.specs.Owed.{GoAlikeBy}
+use Rattle.totem_agreement.proofs.GoingTogether.{HoldsTo}
 use Rattle.totem_agreement.proofs.alike.all_go_alike.Given as goal
 
 abbrev pub invariant-loop-index : goal.invariant-loop-index
-invariant-loop-index l = AlikeTo l.stays l.replays l.other l.another l.has l.index
+invariant-loop-index l = HoldsTo l.stays l.replays (λ s r. GoAlikeBy s l.other r l.another l.has) l.index
