@@ -18,10 +18,9 @@ use Rattle.totem_evs.specs.Answers.{IsLeast}
 use Rattle.totem_passes.specs.Search.{place, NoneFrom, IsLeastFrom, HoldsOfNone}
 use Rattle.totem_agreement.specs.declared.stay.Stay.{Stay}
 use Rattle.totem_agreement.specs.Acts.{IsAmong, DeliversHere, DeliversNot}
-use Rattle.totem_agreement.specs.Search.{IsInside, BeginsInside, EachBeginsInside, EachBeginsWithin, NoneWithin, IsLeastWithin}
+use Rattle.totem_agreement.specs.Search.{IsInside, EachBeginsWithin, NoneWithin, IsLeastWithin, BeginsWithin}
 use Rattle.totem_agreement.specs.Causality.{IsSurprise, IsOneSurprise, IsEffect}
 use Rattle.totem_agreement.proofs.Deciding.{delivered_before_or_not}
-use Rattle.totem_agreement.proofs.Searching.{within_inside}
 use Rattle.totem_agreement.proofs.Facts.{Facts, StayFacts, here_delivers}
 use Rattle.totem_agreement.proofs.Rests.{none_rest, least_rest, nothing_here, only_here, sends_there, there_sends, index_of, begins_at}
 
@@ -63,9 +62,9 @@ not_before run c stays stay m k l facts among cause le i lt delivers =
     let same = one_in run c stays stay.proc i l m facts delivers (here_delivers run c stay m l (facts.each stay among) cause) in omega arith
 
 pub surprises_begin : (run : List Log) (c : RingId) (stays : List Stay) (m n : MsgId) → Facts run c stays → EachBeginsWithin stays IsInside (IsOneSurprise run c m n)
-surprises_begin run c stays m n facts = within_inside stays (IsOneSurprise run c m n) (record { each = λ places h. go places h })
+surprises_begin run c stays m n facts = record { each = λ places h. go places h }
   where
-    go : (places : List Place) → IsOneSurprise run c m n places → BeginsInside stays places
+    go : (places : List Place) → IsOneSurprise run c m n places → BeginsWithin stays IsInside places
     go [] h = absurd h
     go (g ∷ []) (k, is, ((x, at, belongs), none)) = begins_at run c stays g k x [] facts (rw (← is) refl) (Deliver n x, at, refl) belongs
     go (g ∷ h ∷ rest) b = absurd b
@@ -137,10 +136,10 @@ least_surprised run c m n x s e q j rest at is hop least =
     (λ others h. (n, there_sends run q j n (Regular c) (s, rw is at at), hop, h))
     (λ others h. (effect_at run c m n x s e q j others at h).1) least
 
-pub effects_begin : (run : List Log) (c : RingId) (stays : List Stay) (m : MsgId) (e : Place) → Facts run c stays → EachBeginsInside stays (IsEffect run c m e)
+pub effects_begin : (run : List Log) (c : RingId) (stays : List Stay) (m : MsgId) (e : Place) → Facts run c stays → EachBeginsWithin stays IsInside (IsEffect run c m e)
 effects_begin run c stays m e facts = record { each = λ places h. go places h }
   where
-    go : (places : List Place) → IsEffect run c m e places → BeginsInside stays places
+    go : (places : List Place) → IsEffect run c m e places → BeginsWithin stays IsInside places
     go [] h = absurd h
     go (f ∷ rest) (n, (s, at), hop, one) = let there = index_of run f (Send n (Regular c) s) at in begins_at run c stays f there.0 (Regular c) rest facts there.1 (Send n (Regular c) s, there.2, refl) (inl refl)
 
@@ -179,10 +178,10 @@ pub least_effect : (run : List Log) (c : RingId) (m : MsgId) (x : ConfId) (s : S
 least_effect run c m x s p i rest at is least =
     least_rest (IsEffect run c m (place p i)) (BreaksCausalityIn run c) p i rest (λ others h. caused run c m s p i others (rw is at at) h) (λ others h. cause_at run c m x s p i others at h) least
 
-pub causes_begin : (run : List Log) (c : RingId) (stays : List Stay) → Facts run c stays → EachBeginsInside stays (BreaksCausalityIn run c)
+pub causes_begin : (run : List Log) (c : RingId) (stays : List Stay) → Facts run c stays → EachBeginsWithin stays IsInside (BreaksCausalityIn run c)
 causes_begin run c stays facts = record { each = λ places h. go places h }
   where
-    go : (places : List Place) → BreaksCausalityIn run c places → BeginsInside stays places
+    go : (places : List Place) → BreaksCausalityIn run c places → BeginsWithin stays IsInside places
     go [] h = absurd h
     go (e ∷ rest) h =
         let first = sent_first run c e rest h in

@@ -23,11 +23,10 @@ use Rattle.totem_passes.specs.Search.{place, NoneFrom, IsLeastFrom, HoldsOfNone}
 use Rattle.totem_agreement.specs.declared.stay.Stay.{Stay}
 use Rattle.totem_agreement.specs.declared.stays.Sending.{Sending}
 use Rattle.totem_agreement.specs.Acts.{IsAmong, DeliversHere, DeliversNot, IsSendingOf, NobodySent}
-use Rattle.totem_agreement.specs.Search.{IsInside, BeginsInside, EachBeginsInside, EachBeginsWithin, NoneWithin, IsLeastWithin}
+use Rattle.totem_agreement.specs.Search.{IsInside, EachBeginsWithin, NoneWithin, IsLeastWithin, BeginsWithin}
 use Rattle.totem_agreement.specs.Gaps.{IsLack, IsOneLack, IsLater, IsEverywhere, TellsMember}
 use Rattle.totem_agreement.proofs.Deciding.{has_delivered_or_not}
 use Rattle.totem_agreement.proofs.Staying.{same_change}
-use Rattle.totem_agreement.proofs.Searching.{within_inside}
 use Rattle.totem_agreement.proofs.Facts.{Facts, StayFacts, here_delivers}
 use Rattle.totem_agreement.proofs.Rests.{none_rest, least_rest, nothing_here, only_here, begins_at}
 use Rattle.totem_agreement.proofs.Causing.{one_in, not_in}
@@ -136,9 +135,9 @@ lack_here run c stays stay s k m n b places facts among here never tells is_memb
         (λ i rest h. one (d, at, belongs) i (lack_at run c s m n stay.proc i rest h)) is
 
 pub lacks_begin : (run : List Log) (c : RingId) (stays : List Stay) (s : ℕ) (m n : MsgId) → Facts run c stays → EachBeginsWithin stays IsInside (IsOneLack run c s m n)
-lacks_begin run c stays s m n facts = within_inside stays (IsOneLack run c s m n) (record { each = λ places h. go places h })
+lacks_begin run c stays s m n facts = record { each = λ places h. go places h }
   where
-    go : (places : List Place) → IsOneLack run c s m n places → BeginsInside stays places
+    go : (places : List Place) → IsOneLack run c s m n places → BeginsWithin stays IsInside places
     go [] h = absurd h
     go (g ∷ []) (k, is, (d, at, belongs, member, lacks)) = begins_at run c stays g k d [] facts (rw (← is) refl) (Deliver n d, at, refl) belongs
     go (g ∷ h ∷ rest) b = absurd b
@@ -283,10 +282,10 @@ least_after run c stays stay m d i sending list facts among inside at of least =
     first : (others : List Place) → ((j q k : ℕ) × (others ≡ place stay.proc j ∷ place q k ∷ []) × IsGap run c stay.proc i j q k) → ComesFirst list others
     first others (j, q, k, is, gap) = rw (least.is, is) (compare j q k gap)
 
-pub gaps_begin : (run : List Log) (c : RingId) (stays : List Stay) → Facts run c stays → EachBeginsInside stays (BreaksGapIn run c)
+pub gaps_begin : (run : List Log) (c : RingId) (stays : List Stay) → Facts run c stays → EachBeginsWithin stays IsInside (BreaksGapIn run c)
 gaps_begin run c stays facts = record { each = λ places h. go places h }
   where
-    go : (places : List Place) → BreaksGapIn run c places → BeginsInside stays places
+    go : (places : List Place) → BreaksGapIn run c places → BeginsWithin stays IsInside places
     go [] h = absurd h
     go (e ∷ []) h = absurd h
     go (e ∷ f ∷ []) h = absurd h

@@ -9,7 +9,7 @@ use Rattle.totem_evs.specs.Answers.{IsLeast, FindsIn}
 use Rattle.totem_evs.specs.RingFaults.{BreaksIn, MeetsIn}
 use Rattle.totem_passes.specs.Search.{place, NoneFrom, IsLeastFrom, HoldsOfNone}
 use Rattle.totem_agreement.specs.declared.stay.Stay.{Stay}
-use Rattle.totem_agreement.specs.Search.{IsOneEvent, EachStandsInside, BeginsInside, EachBeginsInside}
+use Rattle.totem_agreement.specs.Search.{IsOneEvent, EachStandsInside, IsInside, BeginsWithin, EachBeginsWithin}
 
 pub none_here : (Fact : ℕ → ℕ → Type 0) (p i : ℕ) → (Fact p i → ⊥) → NoneFrom (IsOneEvent Fact) p i
 none_here Fact p i never = record { none = λ rest h. go rest h }
@@ -24,14 +24,14 @@ is_here Fact p i fact = record { least = record { holds = (i, refl, fact); first
 place_is : (e : Place) (p i : ℕ) → p ≡ e.proc → e.at ≡ i + 1 → e ≡ place p i
 place_is e p i proc at = rw (proc, ← at) refl
 
-pub begins_inside : (Fact : ℕ → ℕ → Type 0) (stays : List Stay) → EachStandsInside stays Fact → EachBeginsInside stays (IsOneEvent Fact)
+pub begins_inside : (Fact : ℕ → ℕ → Type 0) (stays : List Stay) → EachStandsInside stays Fact → EachBeginsWithin stays IsInside (IsOneEvent Fact)
 begins_inside Fact stays stand = record { each = λ places h. go places h }
   where
-    go : (places : List Place) → IsOneEvent Fact places → BeginsInside stays places
+    go : (places : List Place) → IsOneEvent Fact places → BeginsWithin stays IsInside places
     go [] h = absurd h
     go (e ∷ []) at =
         let s = stand.each e.proc at.0 at.2 in
-        record { stay = s.stay; among = s.among; index = at.0; inside = s.inside; rest = []; is = ap (λ (f : Place). f ∷ []) (place_is e s.stay.proc at.0 s.proc at.1) }
+        record { stay = s.stay; among = s.among; index = at.0; reached = s.inside; rest = []; is = ap (λ (f : Place). f ∷ []) (place_is e s.stay.proc at.0 s.proc at.1) }
     go (e ∷ f ∷ more) h = absurd h
 
 -- it holds of lists of one event alone, of those that have the fact

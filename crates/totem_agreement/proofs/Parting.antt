@@ -22,7 +22,7 @@ use Rattle.totem_passes.proofs.SentOrNot.{one_next}
 use Rattle.totem_agreement.specs.declared.stay.Stay.{Stay}
 use Rattle.totem_agreement.specs.Stays.{IsStay}
 use Rattle.totem_agreement.specs.Acts.{IsAmong, DeliversHere, DeliversNot}
-use Rattle.totem_agreement.specs.Search.{IsInside, BeginsInside, EachBeginsInside, EachBeginsWithin, BeginsWithin, NoneWithin, IsLeastWithin}
+use Rattle.totem_agreement.specs.Search.{IsInside, EachBeginsWithin, BeginsWithin, NoneWithin, IsLeastWithin}
 use Rattle.totem_agreement.specs.Partings.{IsAnywhere, IsSpan, IsNoChange, NeverDelivers, IsPartner, IsOnePartner}
 use Rattle.totem_agreement.proofs.Deciding.{below_or_not, delivers_or_not}
 use Rattle.totem_agreement.proofs.Known.{any_change_at_or_not}
@@ -385,10 +385,10 @@ least_along run c stays stay m x d ch nx i list facts among span inside at to le
         let same = same_change (log_of run stay.proc) nx nx by.to d refl by.change there in
         rw by.is (inr (refl, least.first (place by.other by.along ∷ []) (by.along, refl, rw same at by.partner)))
 
-pub deliveries_begin : (run : List Log) (c : RingId) (stays : List Stay) → Facts run c stays → EachBeginsInside stays (BreaksAtomicityIn run c)
+pub deliveries_begin : (run : List Log) (c : RingId) (stays : List Stay) → Facts run c stays → EachBeginsWithin stays IsInside (BreaksAtomicityIn run c)
 deliveries_begin run c stays facts = record { each = λ places h. go places h }
   where
-    go : (places : List Place) → BreaksAtomicityIn run c places → BeginsInside stays places
+    go : (places : List Place) → BreaksAtomicityIn run c places → BeginsWithin stays IsInside places
     go [] h = absurd h
     go (e ∷ []) h = absurd h
     go (e ∷ f ∷ []) h = absurd h

@@ -16,7 +16,7 @@ use Rattle.totem_evs.specs.RingFaults.{BreaksIn, MeetsIn}
 use Rattle.totem_evs.specs.Answers.{IsLeast, FindsIn}
 use Rattle.totem_passes.specs.Search.{place, NoneFrom, IsLeastFrom, HoldsOfNone}
 use Rattle.totem_agreement.specs.declared.stay.Stay.{Stay}
-use Rattle.totem_agreement.specs.Search.{BeginsInside, IsLeastWithin}
+use Rattle.totem_agreement.specs.Search.{IsLeastWithin, IsInside, BeginsWithin}
 use Rattle.totem_agreement.proofs.Facts.{Facts}
 
 -- what holds of a list and what holds of the rest behind a place
@@ -69,7 +69,7 @@ index_of run e x at = go e.at refl at
     go (suc i) h k = (i, rw add-one (named (suc i) h), k)
 
 -- a list begins at an entry that names c or what follows it
-pub begins_at : (run : List Log) (c : RingId) (stays : List Stay) (e : Place) (i : ℕ) (x : ConfId) (rest : List Place) → Facts run c stays → e ≡ place e.proc i → Names (log_of run e.proc) i x → Com (log_of run e.proc) c x → BeginsInside stays (e ∷ rest)
+pub begins_at : (run : List Log) (c : RingId) (stays : List Stay) (e : Place) (i : ℕ) (x : ConfId) (rest : List Place) → Facts run c stays → e ≡ place e.proc i → Names (log_of run e.proc) i x → Com (log_of run e.proc) c x → BeginsWithin stays IsInside (e ∷ rest)
 begins_at run c stays e i x rest facts is names belongs =
     let s = facts.inside e.proc i x names belongs in
-    record { stay = s.stay; among = s.among; index = i; inside = s.inside; rest = rest; is = rw s.proc (ap (λ (f : Place). f ∷ rest) is) }
+    record { stay = s.stay; among = s.among; index = i; reached = s.inside; rest = rest; is = rw s.proc (ap (λ (f : Place). f ∷ rest) is) }

@@ -11,7 +11,7 @@ use Rattle.totem_agreement.specs.declared.stay.Stay.{Stay}
 use Rattle.totem_agreement.specs.Stays.{AreStays, IsStayOf}
 use Rattle.totem_agreement.specs.Acts.{IsAmong}
 use Rattle.totem_agreement.proofs.Known.{meets, stays}
-use Rattle.totem_agreement.specs.Search.{IsInside, EachBeginsInside, EachBeginsWithin, NoneBelow, NoneWithin, IsLeastWithin, IsShort}
+use Rattle.totem_agreement.specs.Search.{IsInside, EachBeginsWithin, NoneBelow, NoneWithin, IsLeastWithin, IsShort}
 
 -- index by index
 pub none_inside_yet : (H : List Place → Type 0) (stay : Stay) → NoneBelow IsInside H stay (stay.from + 1)
@@ -30,11 +30,6 @@ none_inside H stay n end before = record { none = λ i rest inside h. let until 
 
 pub least_inside : (H : List Place → Type 0) (stay : Stay) (n : ℕ) (rest places : List Place) → places ≡ place stay.proc n ∷ rest → IsLeastFrom H stay.proc n rest → NoneBelow IsInside H stay n → IsLeastWithin IsInside H stay places
 least_inside H stay n rest places is least before = record { at = n; rest = rest; is = is; least = least; none_before = before }
-
-pub within_inside : (stays : List Stay) (H : List Place → Type 0) → EachBeginsInside stays H → EachBeginsWithin stays IsInside H
-within_inside stays H begins = record {
-  each = λ places h. let b = begins.each places h in record { stay = b.stay; among = b.among; index = b.index; reached = b.inside; rest = b.rest; is = b.is };
-}
 
 -- stay by stay: it holds of no list that begins in a stay before the k-th
 pub record NoneBefore (stays : List Stay) (Reaches : Stay → ℕ → Type 0) (H : List Place → Type 0) (k : ℕ) : Type 0 where

@@ -27,19 +27,6 @@ abbrev pub IsOneEvent : (ℕ → ℕ → Type 0) → List Place → Type 0
 IsOneEvent Fact (e ∷ []) = At e Fact
 IsOneEvent Fact _ = ⊥
 
--- the list begins inside one of the stays
-pub record BeginsInside (stays : List Stay) (places : List Place) : Type 0 where
-  pub stay : Stay
-  pub among : IsAmong stays stay
-  pub index : ℕ
-  pub inside : IsInside stay index
-  pub rest : List Place
-  pub is : places ≡ place stay.proc index ∷ rest
-
--- each list of which it holds begins so
-pub record EachBeginsInside (stays : List Stay) (Holds : List Place → Type 0) : Type 0 where
-  pub each : (places : List Place) → Holds places → BeginsInside stays places
-
 -- the list begins in one of the stays, at an index that is reached
 pub record BeginsWithin (stays : List Stay) (Reaches : Stay → ℕ → Type 0) (places : List Place) : Type 0 where
   pub stay : Stay

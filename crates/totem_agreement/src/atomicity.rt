@@ -8,13 +8,13 @@ ghost use Rattle.totem_evs.specs.Answers.{FindsIn};
 ghost use Rattle.totem_agreement.specs.Acts.{IsAmong};
 ghost use Rattle.totem_agreement.specs.Partings.{IsAnywhere, IsSpan, IsNoChange, NeverDelivers, IsOnePartner};
 
-use crate::search::{Finder, Relation, first_found, least, only, place_at};
+use crate::search::{Finder, Relation, first_found, least, only};
 use crate::stay::Stay;
 use crate::stays::Stays;
 use std::alloc::{AllocError, Global};
 use totem_evs::{Entry, Places, SpecNo};
 use totem_ids::{ConfId, MsgId, Place};
-use totem_passes::begin_with;
+use totem_passes::begin_at;
 
 /// Where a stay changes to one of its two configurations, and where to the next one: there its log may have ended.
 #[derive(Clone, Copy)]
@@ -140,7 +140,7 @@ impl Relation for Deliveries<'_, '_> {
         let Some(list) = first_found(&partings, alloc, self.stays)? else {
             return Ok(None);
         };
-        Ok(Some(begin_with(place_at(stay.proc, span.next), list)?))
+        Ok(Some(begin_at(stay.proc, span.next, list)?))
     }
 }
 

@@ -11,13 +11,13 @@ ghost use Rattle.totem_agreement.specs.Acts.{IsAmong};
 ghost use Rattle.totem_agreement.specs.Search.{IsInside};
 ghost use Rattle.totem_agreement.specs.Gaps.{IsOneLack, IsLater, IsEverywhere, TellsMember, IsApart, IsBeyond, AreLasts, IsSettled};
 
-use crate::search::{Finder, Relation, first_found, least_found, least_in, only, place_at};
+use crate::search::{Finder, Relation, first_found, least_found, least_in, only};
 use crate::stay::Stay;
 use crate::stays::Stays;
 use std::alloc::{AllocError, Global};
 use totem_evs::{Entry, Places, SpecNo};
 use totem_ids::{MsgId, Place, Proc};
-use totem_passes::begin_with;
+use totem_passes::begin_at;
 
 /// The deliveries of a later message by processes that do not deliver the earlier one, where its sender is a member.
 #[derive(Clone, Copy)]
@@ -265,7 +265,7 @@ impl Finder for EachLeader<'_, '_> {
         let lasts = lasts_of(alloc, self.gaps.stays, stay)?;
         for at in stay.from + 1..stay.end {
             if let Some(rest) = self.rest_at(alloc, stay, &lasts, at)? {
-                return Ok(Some(begin_with(place_at(stay.proc, at), rest)?));
+                return Ok(Some(begin_at(stay.proc, at, rest)?));
             }
         }
         Ok(None)

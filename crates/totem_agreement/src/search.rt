@@ -5,14 +5,14 @@ ghost use Rattle.totem_passes.specs.Search.{place, NoneFrom, IsLeastFrom, HoldsO
 ghost use Rattle.totem_evs.specs.Answers.{IsLeast};
 ghost use Rattle.totem_agreement.specs.declared.stay.Stay.{Stay};
 ghost use Rattle.totem_agreement.specs.Acts.{IsAmong};
-ghost use Rattle.totem_agreement.specs.Search.{IsInside, EachBeginsInside, EachBeginsWithin, NoneWithin, IsLeastWithin, IsShort};
+ghost use Rattle.totem_agreement.specs.Search.{IsInside, EachBeginsWithin, NoneWithin, IsLeastWithin, IsShort};
 
 use crate::stay::Stay;
 use crate::stays::Stays;
 use std::alloc::{AllocError, Global};
 use totem_evs::Places;
 use totem_ids::{Place, Proc};
-use totem_passes::begin_with;
+use totem_passes::begin_at;
 
 /// A relation on lists of events that begin in one of the stays.
 pub trait Relation {
@@ -47,23 +47,12 @@ pub trait Finder {
         ensures { IfOk result (λ found. MatchOption found (NoneWithin (reaches self.now) (holds self.now) stay.now) (λ list. IsLeastWithin (reaches self.now) (holds self.now) stay.now list.items)) };
 }
 
-/// The place of the entry at this index of a process's log.
-pub fn place_at(proc: Proc, at: usize) -> Place
-    requires { at < 1000000 }
-    ensures { result ≡ place proc at }
-{
-    Place {
-        proc,
-        at: (at + 1) as u32,
-    }
-}
-
 /// The list of the one event at this index of a process's log.
 pub fn only(alloc: Global, proc: Proc, at: usize) -> Result<Vec<Place>, AllocError>
     requires { at < 1000000 }
     ensures { IfOk result (λ list. list.items ≡ place proc at ∷ []) }
 {
-    begin_with(place_at(proc, at), Vec::new(alloc))
+    begin_at(proc, at, Vec::new(alloc))
 }
 
 /// Asks a relation at each index of a stay.
@@ -82,7 +71,7 @@ impl<R: Relation> Finder for EachIndex<'_, R> {
     fn find_in(&self, alloc: Global, stay: &Stay) -> Result<Option<Vec<Place>>, AllocError> {
         for at in stay.from + 1..stay.end {
             if let Some(rest) = self.relation.rest(alloc, stay, at)? {
-                return Ok(Some(begin_with(place_at(stay.proc, at), rest)?));
+                return Ok(Some(begin_at(stay.proc, at, rest)?));
             }
         }
         Ok(None)
@@ -127,7 +116,7 @@ pub fn least_list<R: Relation>(
     stays: &Stays,
 ) -> Result<Option<Vec<Place>>, AllocError>
     requires among { R.among relation.now ≡ stays.now.list.items }
-    requires begins { EachBeginsInside stays.now.list.items (R.holds relation.now) }
+    requires begins { EachBeginsWithin stays.now.list.items IsInside (R.holds relation.now) }
     ensures { IfOk result (λ found. MatchOption found (HoldsOfNone (R.holds relation.now)) (λ list. IsLeast (R.holds relation.now) list.items)) }
 {
     first_found(&EachIndex { relation }, alloc, stays)
@@ -140,7 +129,7 @@ pub fn least<R: Relation>(
     stays: &Stays,
 ) -> Result<Option<Places>, AllocError>
     requires among { R.among relation.now ≡ stays.now.list.items }
-    requires begins { EachBeginsInside stays.now.list.items (R.holds relation.now) }
+    requires begins { EachBeginsWithin stays.now.list.items IsInside (R.holds relation.now) }
     ensures { IfOk result (λ found. MatchOption found (HoldsOfNone (R.holds relation.now)) (IsLeast (R.holds relation.now))) }
 {
     least_found(&EachIndex { relation }, alloc, stays)

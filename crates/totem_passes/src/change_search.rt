@@ -6,7 +6,7 @@ ghost use Rattle.totem_evs.specs.Events.{log_of, IsChange};
 ghost use Rattle.totem_table.specs.Changes.{ListsChanges, AreChanges, IsNextOrEnd};
 ghost use Rattle.totem_passes.specs.Search.{NoneFrom, IsLeastFrom, NoneInLog, IsLeastInLog, NoneOf, IsLeastOf};
 
-use crate::search::begin_with;
+use crate::search::begin_at;
 use std::alloc::{AllocError, Global};
 use totem_evs::{Entry, Run};
 use totem_ids::{Place, Proc};
@@ -75,11 +75,7 @@ fn least_in<R: ChangeRelation>(
         let next = next_change(log, changes, number);
         let is_later = comes_later(log, changes, number);
         if let Some(rest) = relation.rest(alloc, proc, log, at, next, is_later)? {
-            let first = Place {
-                proc,
-                at: (at + 1) as u32,
-            };
-            return Ok(Some(begin_with(first, rest)?));
+            return Ok(Some(begin_at(proc, at, rest)?));
         }
     }
     Ok(None)

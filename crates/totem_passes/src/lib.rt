@@ -30,5 +30,5 @@ mod visit;
 pub use change_register::{ChangeRegister, enter_changes};
 pub use ends::{ends_in, last_change};
 pub use pass::{pass_a, pass_a_and_b, pass_b, with_found};
-pub use search::begin_with;
+pub use search::begin_at;
 pub use visit::Visit;

@@ -3,7 +3,7 @@ ghost use Rattle.std.specs.Prelude.{◌≡◌, ◌<◌, ◌≤◌, IfOk, MatchOp
 ghost use Rattle.totem_ids.specs.declared.place.Place.{Place};
 ghost use Rattle.totem_evs.specs.declared.log.Log.{Log};
 ghost use Rattle.totem_evs.specs.Events.{log_of};
-ghost use Rattle.totem_passes.specs.Search.{NoneFrom, IsLeastFrom, NoneInLog, IsLeastInLog, NoneOf, IsLeastOf};
+ghost use Rattle.totem_passes.specs.Search.{place, NoneFrom, IsLeastFrom, NoneInLog, IsLeastInLog, NoneOf, IsLeastOf};
 
 use std::alloc::{AllocError, Global};
 use totem_evs::{Entry, Run};
@@ -31,10 +31,15 @@ pub trait Relation {
         ensures { IfOk result (λ found. MatchOption found (NoneFrom (holds self.now) proc at) (λ rest. IsLeastFrom (holds self.now) proc at rest.items)) };
 }
 
-/// Returns the list with this place in front.
-pub fn begin_with(first: Place, mut rest: Vec<Place>) -> Result<Vec<Place>, AllocError>
-    ensures { IfOk result (λ list. list.items ≡ first ∷ rest.items) }
+/// Returns the list with the place of the entry at this index of a process's log in front.
+pub fn begin_at(proc: Proc, at: usize, mut rest: Vec<Place>) -> Result<Vec<Place>, AllocError>
+    requires { at < 1000000 }
+    ensures { IfOk result (λ list. list.items ≡ place proc at ∷ rest.items) }
 {
+    let first = Place {
+        proc,
+        at: (at + 1) as u32,
+    };
     rest.insert(0, first)?;
     Ok(rest)
 }
@@ -53,11 +58,7 @@ fn least_in<R: Relation>(
 {
     for at in 0..log.len() {
         if let Some(rest) = relation.rest(alloc, proc, log, at)? {
-            let first = Place {
-                proc,
-                at: (at + 1) as u32,
-            };
-            return Ok(Some(begin_with(first, rest)?));
+            return Ok(Some(begin_at(proc, at, rest)?));
         }
     }
     Ok(None)

@@ -12,7 +12,7 @@ use crate::change_register::enter_changes;
 use crate::change_search::{ChangeRelation, least_change};
 use crate::kinds::is_transitional;
 use crate::origins::Origins;
-use crate::search::{Relation, begin_with, least};
+use crate::search::{Relation, begin_at, least};
 use crate::turn::{is_wrong, turn_at, turn_between};
 use std::alloc::{AllocError, Global};
 use totem_evs::{Entry, Places, Run, SpecNo};
@@ -75,11 +75,7 @@ impl Relation for OtherOrigins<'_, '_> {
         if !turn.next.is(self.conf) {
             return Ok(None);
         }
-        let next = Place {
-            proc,
-            at: (turn.next_at + 1) as u32,
-        };
-        Ok(Some(begin_with(next, Vec::new(alloc))?))
+        Ok(Some(begin_at(proc, turn.next_at, Vec::new(alloc))?))
     }
 }
 
@@ -113,12 +109,8 @@ impl ChangeRelation for Turns<'_> {
         let Some(turn) = turn_between(log, at, next) else {
             return Ok(None);
         };
-        let next = Place {
-            proc,
-            at: (turn.next_at + 1) as u32,
-        };
         if is_wrong(turn.conf, turn.members, turn.next, turn.next_members) {
-            return Ok(Some(begin_with(next, Vec::new(alloc))?));
+            return Ok(Some(begin_at(proc, turn.next_at, Vec::new(alloc))?));
         }
         let ConfId::Regular(ring) = turn.conf else {
             return Ok(None);
@@ -134,7 +126,7 @@ impl ChangeRelation for Turns<'_> {
         };
         match least(&others, alloc, self.run)? {
             None => Ok(None),
-            Some(rest) => Ok(Some(begin_with(next, rest)?)),
+            Some(rest) => Ok(Some(begin_at(proc, turn.next_at, rest)?)),
         }
     }
 }

@@ -11,7 +11,7 @@ returns-in-Some g c =
     let log = c.args.log.now in
     let spares : (i : ℕ) → i < length log → (IsChange log i → ⊥) → NoneFrom H c.args.proc i = λ i within never. c.spares.ensures c.args.proc i (rw c.requires.log at within) (rw c.requires.log at never) in
     let at = slice_get-get_or c.args.changes.now c.loop-number.number 0 c.loop-number-test.true in
-    least_at_change H c.args.proc log c.args.changes.now c.loop-number.number _ _ c.in_ok-begin_with.field-0.items spares c.requires.lists at c.in_ok-begin_with.ensures (rw c.in-Some.is at c.in_ok-rest.ensures) c.loop-number.invariant
+    least_at_change H c.args.proc log c.args.changes.now c.loop-number.number _ _ c.in_ok-begin_at.field-0.items spares c.requires.lists at c.in_ok-begin_at.ensures (rw c.in-Some.is at c.in_ok-rest.ensures) c.loop-number.invariant
 
 pub loop-number-preserved : goal.loop-number-preserved
 loop-number-preserved g c =

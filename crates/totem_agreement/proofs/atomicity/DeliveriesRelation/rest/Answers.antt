@@ -14,11 +14,11 @@ returns-in_default-2 c =
     none_along _ _ _ c.args.stay.now _ c.in-Deliver.conf _ _ _ _ (facts _ _ _ c.args.self.now.stays.now.meets c.args.self.now.stays.now.are) c.requires.among c.span_of-span.ensures (rw c.in-Deliver.is at c.entry_in.ensures) c.in-Some.ensures.found
     (rw c.in_default-2.is at c.in_ok-list.ensures)
 
-pub place_at-requires : goal.place_at-requires
-place_at-requires c = next_is_short _ _ _ c.args.stay.now _ _ (facts _ _ _ c.args.self.now.stays.now.meets c.args.self.now.stays.now.are) c.requires.among c.in-Some.ensures.found
+pub begin_at-requires : goal.begin_at-requires
+begin_at-requires c = next_is_short _ _ _ c.args.stay.now _ _ (facts _ _ _ c.args.self.now.stays.now.meets c.args.self.now.stays.now.are) c.requires.among c.in-Some.ensures.found
 
 pub returns : goal.returns
 returns c =
-    rw (c.in_ok-begin_with.ensures, c.place_at.ensures)
+    rw c.in_ok-begin_at.ensures
     (least_along _ _ _ c.args.stay.now _ c.in-Deliver.conf _ _ _ _ c.in-Some-2.list.items (facts _ _ _ c.args.self.now.stays.now.meets c.args.self.now.stays.now.are) c.requires.among c.span_of-span.ensures c.requires.inside (rw c.in-Deliver.is at c.entry_in.ensures) c.in-Some.ensures.found
     (rw c.in-Some-2.is at c.in_ok-list.ensures))

@@ -8,5 +8,5 @@ returns-then-not-is c =
 
 pub returns : goal.returns
 returns c =
-    rw (c.in_ok-begin_with.ensures, c.new.ensures.items)
+    rw (c.in_ok-begin_at.ensures, c.new.ensures.items)
     (other_here c.args.self.now.run.now.logs _ _ _ _ _ _ _ _ _ _ (let above = c.if-rank.false in let a = c.rank.ensures.value in let b = c.rank-2.ensures.value in omega arith) (rw c.requires.log at c.in-Some.ensures.found) (c.if-not-is_of_other_ring.ensures.0 refl) (c.if-not-is.ensures.0 refl))
