@@ -15,35 +15,18 @@ use Rattle.totem_evs.specs.Events.{log_of, IsChange, IsMember}
 use Rattle.totem_evs.specs.Unsettled.{EndsIn, IsWaiting, WaitingBelow, AreWaiting}
 use Rattle.totem_evs.specs.Answers.{MeetsPasses}
 use Rattle.totem_evs.proofs.LogOf.{Rising, log_of_cases, less_or_not}
+use Rattle.totem_passes.specs.Ends.{HasNoLog}
 use Rattle.totem_agreement.specs.Endings.{StandsAtEnd, EndsNowhere, AreWaitingAt}
 use Rattle.totem_agreement.proofs.Gathering.{HasLogBefore, Gathered, none_gathered, gathered_more, all_gathered}
 
 -- ---- whether a process ends in a configuration
 
--- none of the first k logs is p's
-pub record NotBefore (run : List Log) (k p : ℕ) : Type 0 where
-  pub none : (j : ℕ) (l : Log) → j < k → slice_get run j ≡ Some l → l.proc ≡ p → ⊥
-
-pub not_yet : (run : List Log) (p : ℕ) → NotBefore run 0 p
-not_yet run p = record { none = λ j l lt at same. omega arith }
-
-pub not_more : (run : List Log) (k p : ℕ) (log : Log) → slice_get run k ≡ Some log → (log.proc ≡ p → ⊥) → NotBefore run k p → NotBefore run (k + 1) p
-not_more run k p log at other before = record {
-  none = λ j l lt at_j same. elim (less_or_not j k) [
-    | inl under ↦ before.none j l under at_j same
-    | inr rest ↦ elim rest [
-      | inl over ↦ omega arith
-      | inr is ↦ (let there : slice_get run k ≡ Some l = rw is at at_j in let logs : l ≡ log = cc in other (rw logs at same))
-    ]
-  ];
-}
-
-pub no_log : (run : List Log) (k p : ℕ) (x : ConfId) → length run ≤ k → NotBefore run k p → IsTrue false ↔ EndsIn (log_of run p) x
-no_log run k p x end before = (λ t. absurd cc, λ h. go (log_of_cases run p) h)
+pub no_log : (run : List Log) (p : ℕ) (x : ConfId) → HasNoLog run p → IsTrue false ↔ EndsIn (log_of run p) x
+no_log run p x none = (λ t. absurd cc, λ h. go (log_of_cases run p) h)
   where
     go : (log_of run p ≡ []) ⊎ ((j : ℕ) × (log : Log) × (slice_get run j ≡ Some log) × (log.proc ≡ p) × (log_of run p ≡ log.entries)) → EndsIn (log_of run p) x → IsTrue false
-    go (inl none) h = absurd (let at : slice_get {X = Entry} [] h.last.index ≡ Some (Conf x h.last.change.0) = rw none at h.last.change.1 in cc)
-    go (inr (j, log, at, same, is)) h = absurd (before.none j log (let lt = slice_get_within run j log at in omega arith) at same)
+    go (inl empty) h = absurd (let at : slice_get {X = Entry} [] h.last.index ≡ Some (Conf x h.last.change.0) = rw empty at h.last.change.1 in cc)
+    go (inr (j, log, at, same, is)) h = absurd (none.none (j, log, slice_get_within run j log at, get_or_from_slice_get run j log log at, same))
 
 -- ---- for whom one process waits
 

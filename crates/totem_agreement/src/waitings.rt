@@ -9,6 +9,7 @@ use crate::standing::{ends_in, last_change};
 use std::alloc::{AllocError, Global};
 use totem_evs::{Entry, Run, Waiting};
 use totem_ids::{ConfId, Proc};
+use totem_passes::index_of;
 
 /// The index of the last change of each log, but for those that have a failure.
 fn last_changes(alloc: Global, run: &Run) -> Result<Vec<Option<usize>>, AllocError>
@@ -28,13 +29,11 @@ fn is_there(run: &Run, ends: &[Option<usize>], proc: Proc, conf: &ConfId) -> boo
     requires { AreEnds run.now.logs ends.now }
     ensures { IsTrue result ↔ EndsIn (log_of run.now.logs proc) conf.now }
 {
-    for (k, log) in run.logs.as_slice().iter().enumerate() {
-        if log.proc == proc {
-            let last = ends[k];
-            return ends_in(log.entries.as_slice(), last, conf);
-        }
-    }
-    false
+    let Some(k) = index_of(run, proc) else {
+        return false;
+    };
+    let log = &run.logs.as_slice()[k];
+    ends_in(log.entries.as_slice(), ends[k], conf)
 }
 
 /// For whom this process waits, whose entries these are.

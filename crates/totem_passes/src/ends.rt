@@ -127,7 +127,7 @@ fn shares(log: &Log, end: &LogEnd, conf: &ConfId) -> bool
 }
 
 /// Returns the index of the log of this process.
-fn index_of(run: &Run, proc: Proc) -> Option<usize>
+pub fn index_of(run: &Run, proc: Proc) -> Option<usize>
     ensures found { IfSome result (IsLogOf run.now.logs proc) }
     ensures none { IfNone result (HasNoLog run.now.logs proc) }
 {

@@ -28,7 +28,7 @@ mod unsent;
 mod visit;
 
 pub use change_register::{ChangeRegister, enter_changes};
-pub use ends::{ends_in, last_change};
+pub use ends::{ends_in, index_of, last_change};
 pub use pass::{pass_a, pass_a_and_b, pass_b, with_found};
 pub use search::begin_at;
 pub use visit::Visit;
