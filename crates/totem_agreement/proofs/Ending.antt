@@ -1,6 +1,5 @@
 -- Where a log ends.
 use Rattle.std.proofs.Common.{◌≡◌, ◌↔◌, ◌-◌, ◌+◌, ◌<◌, ℕ, inl, inr, List, [], ◌∷◌, ◌++◌, length, slice_get, Option, None, Some, Bool, false, IsTrue, refl, ◌∙◌, ap, arith}
-use Rattle.std.proofs.lemmas.List.{length_push}
 use Rattle.std.proofs.lemmas.Option.{slice_get_within}
 use Rattle.totem_ids.specs.declared.conf.ConfId.{ConfId}
 use Rattle.totem_evs.specs.declared.entry.Entry.{Entry}
@@ -10,7 +9,7 @@ use Rattle.totem_evs.specs.Changes.{StaysInPlace}
 use Rattle.totem_evs.specs.Following.{LastChange}
 use Rattle.totem_evs.specs.Unsettled.{EndsIn}
 use Rattle.totem_evs.proofs.LogOf.{less_or_not}
-use Rattle.totem_table.proofs.Pushing.{before_push}
+use Rattle.totem_table.proofs.Pushing.{Along, along_none, along_more}
 use Rattle.totem_passes.specs.Ends.{GoesOn, IsLast}
 use Rattle.totem_agreement.specs.Endings.{StandsAtEnd, EndsNowhere, IsEnd, AreEnds}
 
@@ -63,21 +62,14 @@ end_nowhere_but log None end not = end
 end_nowhere_but log (Some i) end not = absurd (not i refl)
 
 -- those of the first n logs
-pub record EndsBefore (run : List Log) (n : ℕ) (ends : List (Option ℕ)) : Type 0 where
-  pub many : length ends ≡ n
-  pub each : (k : ℕ) (log : Log) (last : Option ℕ) → slice_get run k ≡ Some log → slice_get ends k ≡ Some last → IsEnd log.entries last
+abbrev pub EndsBefore : List Log → ℕ → List (Option ℕ) → Type 0
+EndsBefore run n ends = Along (λ (l : Log) (last : Option ℕ). IsEnd l.entries last) run ends n
 
 pub no_ends : (run : List Log) → EndsBefore run 0 []
-no_ends run = record { many = refl; each = λ k log last at end. absurd cc }
+no_ends run = along_none (λ (l : Log) (last : Option ℕ). IsEnd l.entries last) run
 
 pub ends_more : (run : List Log) (n : ℕ) (log : Log) (last : Option ℕ) (ends : List (Option ℕ)) → slice_get run n ≡ Some log → IsEnd log.entries last → EndsBefore run n ends → EndsBefore run (n + 1) (ends ++ last ∷ [])
-ends_more run n log last ends at end before = record {
-  many = length_push ends last ∙ ap (λ m. m + 1) before.many;
-  each = λ k l e at_k end_k. elim (before_push ends last k e end_k) [
-    | inl old ↦ before.each k l e at_k old
-    | inr new ↦ (let here : k ≡ n = new.0 ∙ before.many in let there : slice_get run n ≡ Some l = rw here at at_k in let one : l ≡ log = cc in rw (one, ← new.1) end)
-  ];
-}
+ends_more run n log last ends at end before = along_more (λ (l : Log) (e : Option ℕ). IsEnd l.entries e) run ends n log last at end before
 
 pub all_ends : (run : List Log) (n : ℕ) (ends : List (Option ℕ)) → n ≡ length run → EndsBefore run n ends → AreEnds run ends
-all_ends run n ends all before = record { many = before.many ∙ all; each = before.each }
+all_ends run n ends all before = record { many = before.long ∙ all; each = before.each }

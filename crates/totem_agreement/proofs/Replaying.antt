@@ -8,7 +8,7 @@ use Rattle.totem_evs.specs.declared.entry.Entry.{Entry}
 use Rattle.totem_evs.specs.declared.entry.Entry.TheVariants.{Send, Deliver}
 use Rattle.totem_evs.specs.Events.{Delivers}
 use Rattle.totem_evs.proofs.LogOf.{less_or_not}
-use Rattle.totem_table.proofs.Pushing.{nothing, before_push, stands_before, stands_last}
+use Rattle.totem_table.proofs.Pushing.{nothing, before_push, stands_before, stands_last, Along, along_none, along_more}
 use Rattle.totem_agreement.specs.declared.stay.Stay.{Stay}
 use Rattle.totem_agreement.specs.declared.replay.Sent.{Sent}
 use Rattle.totem_agreement.specs.declared.replay.Replay.{Replay}
@@ -203,22 +203,15 @@ is_replay messages stay n next regular places sends turn end h =
     (rw same at h.places_are, h.late (omega (arith, turn, same)), rw same at h.are)
 
 -- the first n stays are replayed
-pub record ReplaysTo (messages : List MsgId) (stays : List Stay) (replays : List Replay) (n : ℕ) : Type 0 where
-  pub long : length replays ≡ n
-  pub each : (k : ℕ) (stay : Stay) (replay : Replay) → slice_get stays k ≡ Some stay → slice_get replays k ≡ Some replay → IsReplay messages stay replay
+abbrev pub ReplaysTo : List MsgId → List Stay → List Replay → ℕ → Type 0
+ReplaysTo messages stays replays n = Along (IsReplay messages) stays replays n
 
 pub no_replays : (messages : List MsgId) (stays : List Stay) → ReplaysTo messages stays [] 0
-no_replays messages stays = record { long = refl; each = λ k stay replay at_stay at. absurd (nothing k replay at) }
+no_replays messages stays = along_none (IsReplay messages) stays
 
 pub one_more_replay : (messages : List MsgId) (stays : List Stay) (replays : List Replay) (n : ℕ) (stay : Stay) (replay : Replay) → slice_get stays n ≡ Some stay → IsReplay messages stay replay
     → ReplaysTo messages stays replays n → ReplaysTo messages stays (replays ++ (replay ∷ [])) (n + 1)
-one_more_replay messages stays replays n stay replay stands is before = record {
-  long = length-append replays (replay ∷ []) ∙ ap (λ k. k + 1) before.long;
-  each = λ k s r at_stay at. elim (before_push replays replay k r at) [
-    | inl old ↦ before.each k s r at_stay old
-    | inr (last, same) ↦ (let here : slice_get stays n ≡ Some s = rw (last, before.long) at at_stay in let one : stay ≡ s = cc in rw (← one, ← same) is)
-  ];
-}
+one_more_replay messages stays replays n stay replay stands is before = along_more (IsReplay messages) stays replays n stay replay stands is before
 
 pub are_replays : (messages : List MsgId) (stays : List Stay) (replays : List Replay) (n : ℕ) → length stays ≡ n → ReplaysTo messages stays replays n → AreReplays messages stays replays
 are_replays messages stays replays n all h = record { long = all ∙ sym h.long; each = h.each }

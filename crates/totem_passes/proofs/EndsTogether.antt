@@ -1,7 +1,6 @@
 -- Whether the members of a quiet log's last configuration end there too.
 use Rattle.std.proofs.Common.{◌≡◌, ◌↔◌, ◌⊎◌, ◌+◌, ◌<◌, ◌≤◌, ℕ, zero, suc, inl, inr, List, [], ◌∷◌, ◌++◌, length, get_or, slice_get, Some, Bool, true, false, ◌&&◌, IsTrue, refl, sym, ◌∙◌, ap, arith, rules}
 use Rattle.std.specs.Prelude.{◌==◌}
-use Rattle.std.proofs.lemmas.List.{length_push}
 use Rattle.std.proofs.lemmas.Option.{slice_get_read, slice_get_within, get_or_from_slice_get, slice_get-get_or}
 use Rattle.totem_ids.specs.declared.conf.ConfId.{ConfId}
 use Rattle.totem_ids.specs.declared.place.Place.{Place}
@@ -18,31 +17,24 @@ use Rattle.totem_evs.specs.Answers.{ComesFirst, IsLeastBreak}
 use Rattle.totem_evs.proofs.LogOf.{Rising, Rising-tail, log_of_cases, log_of_at, in_order, less_or_not}
 use Rattle.totem_passes.specs.declared.ends.LogEnd.{LogEnd}
 use Rattle.totem_passes.specs.Ends.{GoesOn, HasNoChange, StandsLast, IsLast, IsLogEnd, AreLogEnds, LogShares, IsLogOf, HasNoLog, AllShare, SomeStrays, StraysAt, EndsWithAll}
-use Rattle.totem_table.proofs.Pushing.{before_push}
+use Rattle.totem_table.proofs.Pushing.{Along, along_none, along_more}
 use Rattle.totem_passes.proofs.Placed.{same_place}
 use Rattle.totem_passes.proofs.LogEnds.{ending_of_at}
 
 -- ---- the ends of all logs
 
 -- those of the first n logs
-pub record EndsBefore (run : List Log) (n : ℕ) (ends : List LogEnd) : Type 0 where
-  pub many : length ends ≡ n
-  pub each : (k : ℕ) (log : Log) (end : LogEnd) → slice_get run k ≡ Some log → slice_get ends k ≡ Some end → IsLogEnd log.entries end
+abbrev pub EndsBefore : List Log → ℕ → List LogEnd → Type 0
+EndsBefore run n ends = Along (λ (l : Log) (end : LogEnd). IsLogEnd l.entries end) run ends n
 
 pub no_ends : (run : List Log) → EndsBefore run 0 []
-no_ends run = record { many = refl; each = λ k log end at here. absurd cc }
+no_ends run = along_none (λ (l : Log) (end : LogEnd). IsLogEnd l.entries end) run
 
 pub ends_more : (run : List Log) (n : ℕ) (log : Log) (end : LogEnd) (ends : List LogEnd) → slice_get run n ≡ Some log → IsTrue end.goes_on ↔ GoesOn log.entries → IsLast log.entries end.last → EndsBefore run n ends → EndsBefore run (n + 1) (ends ++ end ∷ [])
-ends_more run n log end ends at goes last before = record {
-  many = length_push ends end ∙ ap (λ m. m + 1) before.many;
-  each = λ k l e at_k end_k. elim (before_push ends end k e end_k) [
-    | inl old ↦ before.each k l e at_k old
-    | inr new ↦ (let here : k ≡ n = new.0 ∙ before.many in let there : slice_get run n ≡ Some l = rw here at at_k in let one : l ≡ log = cc in rw (one, ← new.1) (record { goes_on = goes; last = last }))
-  ];
-}
+ends_more run n log end ends at goes last before = along_more (λ (l : Log) (e : LogEnd). IsLogEnd l.entries e) run ends n log end at (record { goes_on = goes; last = last }) before
 
 pub all_ends : (run : List Log) (n : ℕ) (ends : List LogEnd) → n ≡ length run → EndsBefore run n ends → AreLogEnds run ends
-all_ends run n ends all before = record { many = before.many ∙ all; each = before.each }
+all_ends run n ends all before = record { many = before.long ∙ all; each = before.each }
 
 -- ---- finding the log of a process
 

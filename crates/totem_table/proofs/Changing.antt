@@ -1,6 +1,5 @@
 -- The changes of a log, in a list of their indices.
 use Rattle.std.proofs.Common.{◌≡◌, ℕ, zero, suc, ◌+◌, ◌<◌, ◌≤◌, ◌⊎◌, inl, inr, List, [], ◌∷◌, ◌++◌, length, slice_get, Option, Some, None, refl, sym, arith}
-use Rattle.std.proofs.lemmas.List.{length_push}
 use Rattle.std.proofs.lemmas.Option.{slice_get_within}
 use Rattle.totem_evs.specs.declared.entry.Entry.{Entry}
 use Rattle.totem_evs.specs.declared.entry.Entry.TheVariants.{Conf, Send, Deliver, Fail}
@@ -8,7 +7,7 @@ use Rattle.totem_evs.specs.declared.log.Log.{Log}
 use Rattle.totem_evs.specs.Events.{IsChange}
 use Rattle.totem_evs.proofs.LogOf.{less_or_not}
 use Rattle.totem_table.specs.Changes.{IsListed, ListsChanges, AreChanges, IsNextOrEnd}
-use Rattle.totem_table.proofs.Pushing.{nothing, before_push, stands_before, stands_last}
+use Rattle.totem_table.proofs.Pushing.{nothing, before_push, stands_before, stands_last, Along, along_none, along_more}
 
 -- an index is that of a change, or not
 pub change_or_not : (log : List Entry) (i : ℕ) → IsChange log i ⊎ (IsChange log i → ⊥)
@@ -130,25 +129,15 @@ none_follows log list j a lists at_a end = record {
     ]
 
 -- the changes of the first n logs
-pub record ChangesTo (run : List Log) (rows : List (List ℕ)) (n : ℕ) : Type 0 where
-  pub long : length rows ≡ n
-  pub each : (k : ℕ) (log : Log) (row : List ℕ) → slice_get run k ≡ Some log → slice_get rows k ≡ Some row → ListsChanges log.entries (length log.entries) row
+abbrev pub ChangesTo : List Log → List (List ℕ) → ℕ → Type 0
+ChangesTo run rows n = Along (λ (l : Log) (row : List ℕ). ListsChanges l.entries (length l.entries) row) run rows n
 
 pub no_rows : (run : List Log) → ChangesTo run [] 0
-no_rows run = record { long = refl; each = λ k log row at listed. absurd (nothing k row listed) }
+no_rows run = along_none (λ (l : Log) (row : List ℕ). ListsChanges l.entries (length l.entries) row) run
 
 pub one_more_row : (run : List Log) (rows : List (List ℕ)) (n : ℕ) (log : Log) (row : List ℕ) → slice_get run n ≡ Some log → ListsChanges log.entries (length log.entries) row → ChangesTo run rows n
     → ChangesTo run (rows ++ (row ∷ [])) (n + 1)
-one_more_row run rows n log row at lists before = record {
-  long = omega (arith, length_push rows row, before.long);
-  each = λ k l r at_k listed. elim (before_push rows row k r listed) [
-    | inl h ↦ before.each k l r at_k h
-    | inr (same, is) ↦ here k l r (omega (arith, same, before.long)) is at_k
-  ];
-}
-  where
-    here : (k : ℕ) (l : Log) (r : List ℕ) → k ≡ n → row ≡ r → slice_get run k ≡ Some l → ListsChanges l.entries (length l.entries) r
-    here k l r same is at_k = let e : log ≡ l = (let there : slice_get run n ≡ Some l = rw same at at_k in cc) in rw (e, is) at lists
+one_more_row run rows n log row at lists before = along_more (λ (l : Log) (r : List ℕ). ListsChanges l.entries (length l.entries) r) run rows n log row at lists before
 
 pub all_rows : (run : List Log) (rows : List (List ℕ)) (n : ℕ) → length run ≡ n → ChangesTo run rows n → AreChanges run rows
 all_rows run rows n end h = record { long = omega (arith, h.long, end); each = h.each }
