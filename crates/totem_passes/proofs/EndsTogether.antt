@@ -1,6 +1,5 @@
 -- Whether the members of a quiet log's last configuration end there too.
-use Rattle.std.proofs.Common.{◌≡◌, ◌↔◌, ◌⊎◌, ◌+◌, ◌<◌, ◌≤◌, ℕ, zero, suc, inl, inr, List, [], ◌∷◌, ◌++◌, length, get_or, slice_get, Some, Bool, true, false, ◌&&◌, IsTrue, refl, sym, ◌∙◌, ap, arith, rules}
-use Rattle.std.specs.Prelude.{◌==◌}
+use Rattle.std.proofs.Common.{◌≡◌, ◌↔◌, ◌+◌, ◌<◌, ◌≤◌, ℕ, inl, inr, List, [], ◌∷◌, ◌++◌, length, get_or, slice_get, Some, Bool, false, IsTrue, refl, sym, ◌∙◌, ap, arith}
 use Rattle.std.proofs.lemmas.Option.{slice_get_read, slice_get_within, get_or_from_slice_get, slice_get-get_or}
 use Rattle.totem_ids.specs.declared.conf.ConfId.{ConfId}
 use Rattle.totem_ids.specs.declared.place.Place.{Place}
@@ -14,7 +13,7 @@ use Rattle.totem_evs.specs.Following.{IsLastChange}
 use Rattle.totem_evs.specs.Changes.{SharesEnd, EndsTogether}
 use Rattle.totem_evs.specs.ChangeFaults.{EndsAlone, BreaksEnd}
 use Rattle.totem_evs.specs.Answers.{ComesFirst, IsLeastBreak}
-use Rattle.totem_evs.proofs.LogOf.{Rising, Rising-tail, log_of_cases, log_of_at, in_order, less_or_not}
+use Rattle.totem_evs.proofs.LogOf.{Rising, log_of_cases, log_of_at, in_order, less_or_not}
 use Rattle.totem_passes.specs.declared.ends.LogEnd.{LogEnd}
 use Rattle.totem_passes.specs.Ends.{GoesOn, HasNoChange, StandsLast, IsLast, IsLogEnd, AreLogEnds, LogShares, IsLogOf, HasNoLog, AllShare, SomeStrays, StraysAt, EndsWithAll}
 use Rattle.totem_table.proofs.Pushing.{Along, along_none, along_more}
