@@ -1,5 +1,5 @@
 -- Where all is delivered that is sent, nothing is pending.
-use Rattle.std.proofs.Common.{◌≡◌, ℕ, zero, suc, ◌+◌, ◌-◌, ◌<◌, ◌≤◌, inl, inr, List, length, slice_get, Some, refl, ap, ◌∙◌, arith}
+use Rattle.std.proofs.Common.{◌≡◌, ℕ, zero, suc, ◌+◌, ◌-◌, ◌<◌, ◌≤◌, inl, inr, List, length, slice_get, Some, refl, sym, ap, ◌∙◌, arith}
 use Rattle.std.proofs.lemmas.Option.{slice_get_within, slice_get_cases}
 use Rattle.totem_ids.specs.declared.ring.RingId.{RingId}
 use Rattle.totem_ids.specs.declared.conf.ConfId.TheVariants.{Regular}
@@ -11,15 +11,18 @@ use Rattle.totem_evs.specs.Events.{WasSentIn, log_of}
 use Rattle.totem_evs.specs.Following.{HasDelivered}
 use Rattle.totem_agreement.specs.declared.stay.Stay.{Stay}
 use Rattle.totem_agreement.specs.declared.replay.Replay.{Replay}
-use Rattle.totem_agreement.specs.Stays.{HasStay}
 use Rattle.totem_agreement.specs.Acts.{IsAmong}
 use Rattle.totem_agreement.specs.Search.{IsInside}
 use Rattle.totem_agreement.specs.Uniform.{HasPlace, IsReplay, IsComplete}
 use Rattle.totem_agreement.proofs.Facts.{Facts, StayFacts}
 use Rattle.totem_agreement.specs.Pendings.{IsPendingIn}
+use Rattle.totem_agreement.specs.declared.complete.Complete.{Complete}
+use Rattle.totem_agreement.specs.declared.complete.Complete.TheVariants as complete
+use Rattle.totem_agreement.specs.Completeness.{AllTaken, IsFullOf, IsCompleteOf, AreCompleteOf, AreCompleteIn}
 use Rattle.totem_agreement.proofs.Pend.{came_to}
 use Rattle.totem_agreement.proofs.Placing.{has_delivered, place_within, sends_at}
-use Rattle.totem_agreement.specs.Uniform.{AreReplays}
+use Rattle.totem_agreement.specs.declared.origins.Origin.{Origin}
+use Rattle.totem_agreement.specs.Uniform.{AreReplays, AreOrigins}
 
 -- the places of a list that rises are no less than their indices
 at_least : (places : List ℕ) → ((k l u v : ℕ) → slice_get places k ≡ Some u → slice_get places l ≡ Some v → k < l → u < v) → (k u : ℕ) → slice_get places k ≡ Some u → k ≤ u
@@ -65,40 +68,73 @@ record IsOfSequence (messages : List MsgId) (m : MsgId) : Type 0 where
   pub place : ℕ
   pub is : slice_get messages place ≡ Some m
 
--- what is sent in c is of the sequence
-sent_there : (run : List Log) (c : RingId) (stays : List Stay) (m : MsgId) → Facts run c stays → (complete : IsComplete stays) → WasSentIn run m (Regular c) → IsOfSequence complete.messages m
-sent_there run c stays m facts complete (p, i, (service, at)) =
+-- what is sent in c is of the sequence where all sends are taken
+sent_there : (run : List Log) (c : RingId) (stays : List Stay) (messages : List MsgId) (replays : List Replay) (origins : List Origin) (taken : List ℕ) (m : MsgId) → Facts run c stays → AreReplays messages stays replays → AreOrigins replays messages origins taken
+    → AllTaken replays taken → WasSentIn run m (Regular c) → IsOfSequence messages m
+sent_there run c stays messages replays origins taken m facts are order all (p, i, (service, at)) =
     let around = facts.inside p i (Regular c) (Send m (Regular c) service, at, refl) (inl refl) in
     of_stay around.stay around.among around.inside (rw ((facts.each around.stay around.among).log, around.proc) at)
   where
-    of_stay : (stay : Stay) → IsAmong stays stay → IsInside stay i → slice_get stay.log.now i ≡ Some (Send m (Regular c) service) → IsOfSequence complete.messages m
+    of_stay : (stay : Stay) → IsAmong stays stay → IsInside stay i → slice_get stay.log.now i ≡ Some (Send m (Regular c) service) → IsOfSequence messages m
     of_stay stay among inside here =
-        let (replay, stands, is) = replay_of complete.messages stays complete.replays among.at stay complete.are among.stands in
+        let (replay, stands, is) = replay_of messages stays replays among.at stay are among.stands in
         let listed = is.sends.whole i m inside.after inside.until (Regular c, service, here) in
         let within = slice_get_within replay.sends.items listed.at listed.sent listed.stands in
-        let all = (complete.complete.each among.at replay stands).1 in
-        let found = complete.order.all among.at replay listed.at listed.sent stands (omega (arith, within, all)) listed.stands in
+        let each = all.each among.at replay stands in
+        let found = order.all among.at replay listed.at listed.sent stands (omega (arith, within, each)) listed.stands in
         let send = is.sends.each listed.at listed.sent listed.stands in
         let there = sends_at stay.log.now listed.sent.at i listed.sent.message send.conf listed.sent.service listed.is send.sends in
         let same : listed.sent.message ≡ m = cc in
         record { place = found.place; is = rw same at found.is }
 
-pub none_pending : (run : List Log) (c : RingId) (stays : List Stay) (x : Pending) → Facts run c stays → IsComplete stays → IsPendingIn run c x → ⊥
-none_pending run c stays x facts complete pending = pending.missing (rw has.proc at delivered)
+-- nothing is pending for who delivers all of the sequence
+pub none_pending_of : (run : List Log) (c : RingId) (stays : List Stay) (p : ℕ) (x : Pending) → Facts run c stays → IsCompleteOf stays p → IsPendingIn run c x → x.proc ≡ p → ⊥
+none_pending_of run c stays p x facts complete pending same = pending.missing (rw (sym same) at delivered)
   where
+    full : IsFullOf stays complete.replays (length complete.messages) complete.taken p
+    full = complete.full
+
     sent : IsOfSequence complete.messages x.msg
-    sent = sent_there run c stays x.msg facts complete pending.sent
+    sent = sent_there run c stays complete.messages complete.replays complete.origins complete.taken x.msg facts complete.are complete.order full.all pending.sent
 
-    has : HasStay stays x.proc
-    has = let came = came_to (log_of run x.proc) c pending.still_open.1 in facts.whole x.proc came.0 came.1
+    known : StayFacts run c full.stay
+    known = facts.each full.stay (record { at = full.at; stands = full.stands })
 
-    known : StayFacts run c has.stay
-    known = facts.each has.stay (record { at = has.at; stands = has.stands })
-
-    delivered : HasDelivered (log_of run has.stay.proc) c x.msg
+    delivered : HasDelivered (log_of run p) c x.msg
     delivered =
-        let (replay, stands, is) = replay_of complete.messages stays complete.replays has.at has.stay complete.are has.stands in
-        let all = (complete.complete.each has.at replay stands).0 in
-        let place = has_each replay.places.items (length complete.messages) sent.place is.places.rising (λ k u at. place_within run c complete.messages has.stay replay u known is (record { at = k; is = at }))
-        all (slice_get_within complete.messages sent.place x.msg sent.is) in
-        has_delivered run c complete.messages has.stay replay sent.place x.msg known is place sent.is
+        let is = complete.are.each full.at full.stay full.replay full.stands full.replayed in
+        let place = has_each full.replay.places.items (length complete.messages) sent.place is.places.rising (λ k u at. place_within run c complete.messages full.stay full.replay u known is (record { at = k; is = at }))
+        full.count (slice_get_within complete.messages sent.place x.msg sent.is) in
+        rw full.proc at (has_delivered run c complete.messages full.stay full.replay sent.place x.msg known is place sent.is)
+
+-- where all do, each does
+complete_of : (stays : List Stay) (k : ℕ) (stay : Stay) → slice_get stays k ≡ Some stay → IsComplete stays → IsCompleteOf stays stay.proc
+complete_of stays k stay at complete = (let (replay, stands, is) = replay_of complete.messages stays complete.replays k stay complete.are at in record {
+  messages = complete.messages;
+  replays = complete.replays;
+  origins = complete.origins;
+  taken = complete.taken;
+  are = complete.are;
+  order = complete.order;
+  full = record {
+    at = k;
+    stay = stay;
+    replay = replay;
+    stands = at;
+    replayed = stands;
+    proc = refl;
+    count = (complete.complete.each k replay stands).0;
+    all = record { each = λ l other there. (complete.complete.each l other there).1 };
+  };
+})
+
+pub none_pending : (run : List Log) (c : RingId) (stays : List Stay) (x : Pending) → Facts run c stays → IsComplete stays → IsPendingIn run c x → ⊥
+none_pending run c stays x facts complete pending =
+    let came = came_to (log_of run x.proc) c pending.still_open.1 in
+    let has = facts.whole x.proc came.0 came.1 in
+    none_pending_of run c stays has.stay.proc x facts (complete_of stays has.at has.stay has.stands complete) pending (sym has.proc)
+
+-- nothing is pending for those that are complete
+pub none_pending_in : (run : List Log) (c : RingId) (stays : List Stay) (those : Complete) → Facts run c stays → AreCompleteOf stays those → AreCompleteIn run c those
+none_pending_in run c stays complete.All facts all = record { none = λ x pending. none_pending run c stays x facts all pending }
+none_pending_in run c stays (complete.Only procs) facts each = λ k p lt. record { none = λ x pending same. none_pending_of run c stays _ x facts (each k p lt) pending same }

@@ -7,10 +7,9 @@ pub mod Looking
 pub mod Reaching
 pub mod OnePlace
 pub mod Rooms
-pub mod Keeping
+pub mod Indexing
 pub mod Answering
 pub mod Searching
-mod Seeing
 pub mod Facts
 pub mod Rests
 pub mod Causing

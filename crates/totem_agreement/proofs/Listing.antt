@@ -1,7 +1,6 @@
 -- From what each job finds to the faults of the pass.
 use Rattle.std.proofs.Common.{◌≡◌, ◌<◌, ◌+◌, ℕ, inl, inr, List, [], ◌∷◌, ◌++◌, length, take, slice_get, Option, Some, None, refl, ap, arith}
-use Rattle.std.proofs.Common.{◌≤◌, zero, suc, Bool, true, false, Result, Ok, Err, IfOk}
-use Rattle.std.specs.Bool.{OnTrue}
+use Rattle.std.proofs.Common.{◌≤◌, zero, suc, Result, Ok, Err, IfOk}
 use Rattle.std.specs.Prelude.{slice_index_or}
 use Rattle.std.proofs.lemmas.List.{take_more, take_all, length-append}
 use Rattle.std.proofs.lemmas.Option.{slice_get_cases, slice_get_read}
@@ -16,7 +15,8 @@ use Rattle.totem_passes.specs.Listed.{listed}
 use Rattle.totem_agreement.specs.declared.findings.Findings.{Findings}
 use Rattle.totem_agreement.specs.declared.pass.Found.{Found}
 use Rattle.totem_agreement.specs.declared.pass.Judged.{Judged}
-use Rattle.totem_agreement.specs.Pendings.{HasNonePending}
+use Rattle.totem_agreement.specs.declared.complete.Complete.{Complete}
+use Rattle.totem_agreement.specs.Completeness.{AreCompleteIn}
 use Rattle.totem_agreement.specs.Findings.{AreFindings, IsNothing, GrowsBy, AreComplete, AreFound, all_found}
 use Rattle.totem_agreement.specs.Jobs.{AreFindingsAt}
 
@@ -26,19 +26,18 @@ one_more run k [] c fs (Some places) is least = rw is (inr (places, [], refl, le
 one_more run k (b ∷ cs) c fs found (inl (meets, more)) h = inl (meets, one_more run k cs c fs found more h)
 one_more run k (b ∷ cs) c fs found (inr (places, rest, is, least, more)) h = inr (places, rest ++ listed k found, rw is refl, least, one_more run k cs c rest found more h)
 
--- the flags of one more configuration
-more_complete : (run : List Log) (cs : List RingId) (c : RingId) (flags : List Bool) (b : Bool) → length flags ≡ length cs → OnTrue b (HasNonePending run c) → AreComplete run cs flags
-    → (k : ℕ) (d : RingId) → slice_get (cs ++ c ∷ []) k ≡ Some d → slice_get (flags ++ b ∷ []) k ≡ Some true → HasNonePending run d
-more_complete run [] c [] true long is h zero d at set = (let same : c ≡ d = cc in rw same at is)
-more_complete run [] c [] false long is h zero d at set = absurd cc
-more_complete run [] c [] b long is h (suc k) d at set = absurd cc
-more_complete run [] c (y ∷ flags) b long is h k d at set = absurd (omega (arith, long))
-more_complete run (x ∷ cs) c [] b long is h k d at set = absurd (omega (arith, long))
-more_complete run (x ∷ cs) c (y ∷ flags) b long is h zero d at set = h.each zero d at set
-more_complete run (x ∷ cs) c (y ∷ flags) b long is h (suc k) d at set = more_complete run cs c flags b (omega (arith, long)) is (record { each = λ j e at_e set_e. h.each (suc j) e at_e set_e }) k d at set
+-- who is complete in one more configuration
+more_complete : (run : List Log) (cs : List RingId) (c : RingId) (those : List Complete) (of : Complete) → length those ≡ length cs → AreCompleteIn run c of → AreComplete run cs those
+    → (k : ℕ) (d : RingId) (here : Complete) → slice_get (cs ++ c ∷ []) k ≡ Some d → slice_get (those ++ of ∷ []) k ≡ Some here → AreCompleteIn run d here
+more_complete run [] c [] of long is h zero d here at told = (let same : c ≡ d = cc in let alike : of ≡ here = cc in rw (same, alike) at is)
+more_complete run [] c [] of long is h (suc k) d here at told = absurd cc
+more_complete run [] c (y ∷ those) of long is h k d here at told = absurd (omega (arith, long))
+more_complete run (x ∷ cs) c [] of long is h k d here at told = absurd (omega (arith, long))
+more_complete run (x ∷ cs) c (y ∷ those) of long is h zero d here at told = h.each zero d here at told
+more_complete run (x ∷ cs) c (y ∷ those) of long is h (suc k) d here at told = more_complete run cs c those of (omega (arith, long)) is (record { each = λ j e other at_e told_e. h.each (suc j) e other at_e told_e }) k d here at told
 
-one_longer : (cs : List RingId) (c : RingId) (flags : List Bool) (b : Bool) → length flags ≡ length cs → length (flags ++ b ∷ []) ≡ length (cs ++ c ∷ [])
-one_longer cs c flags b long = omega (arith, length-append flags (b ∷ []), length-append cs (c ∷ []), long)
+one_longer : (cs : List RingId) (c : RingId) (those : List Complete) (of : Complete) → length those ≡ length cs → length (those ++ of ∷ []) ≡ length (cs ++ c ∷ [])
+one_longer cs c those of long = omega (arith, length-append those (of ∷ []), length-append cs (c ∷ []), long)
 
 pub nothing_found : (run : List Log) (found : Found) → IsNothing found → AreFound run [] found
 nothing_found run found h = record {
@@ -49,7 +48,7 @@ nothing_found run found h = record {
   safety = h.safety;
   installed = h.installed;
   long = rw h.complete refl;
-  complete = record { each = λ k c at set. absurd cc };
+  complete = record { each = λ k c those at told. absurd cc };
 }
 
 pub found_more : (run : List Log) (cs : List RingId) (c : RingId) (old new : Found) (findings : Findings) → AreFindings run c findings → GrowsBy old findings new → AreFound run cs old → AreFound run (cs ++ c ∷ []) new

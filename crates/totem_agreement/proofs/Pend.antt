@@ -1,11 +1,8 @@
 -- What is pending, from send to send, from stay to stay and from ring to ring.
-use Rattle.std.proofs.Common.{◌≡◌, ◌⊎◌, ◌↔◌, ℕ, ◌+◌, ◌<◌, ◌≤◌, inl, inr, List, length, slice_get, Some, Bool, true, false, not, IsTrue, refl, sym, ◌∙◌, ap, arith}
-use Rattle.std.specs.Prelude.{Contains}
-use Rattle.std.specs.BTreeSet as sorted
+use Rattle.std.proofs.Common.{◌≡◌, ◌⊎◌, ◌↔◌, ℕ, ◌+◌, ◌<◌, ◌≤◌, inl, inr, List, length, slice_get, Some, Bool, true, false, not, IsTrue, Result, Ok, Err, refl, sym, ◌∙◌, ap, arith}
+use Rattle.std.specs.Prelude.{All, Contains, OnOk}
 use Rattle.std.specs.Bool.{OnTrue, OnFalse}
 use Rattle.std.proofs.lemmas.Option.{slice_get_within, slice_get_read}
-use Rattle.std.specs.declared.cmp.Ordering.{Ordering}
-use Rattle.std.specs.BTreeSet.{BTreeSet}
 use Rattle.totem_ids.specs.declared.ring.RingId.{RingId}
 use Rattle.totem_ids.specs.declared.conf.ConfId.{ConfId}
 use Rattle.totem_ids.specs.declared.conf.ConfId.TheVariants.{Regular}
@@ -27,7 +24,8 @@ use Rattle.totem_agreement.specs.Stays.{TurnsAt, IsExcused, IsStayOf, HasStay, A
 use Rattle.totem_agreement.specs.Acts.{IsAmong, DeliversHere, DeliversNot}
 use Rattle.totem_passes.specs.Ends.{GoesOn}
 use Rattle.totem_agreement.specs.Endings.{HasFailed}
-use Rattle.totem_agreement.specs.Pendings.{Adds, MissesAt, MissesNothingAt, MissesFrom, Misses, IsPendingIn}
+use Rattle.totem_agreement.specs.Pendings.{Adds, MissesAt, MissesNothingAt, MissesFrom, Misses, IsPendingIn, IsPendingFor}
+use Rattle.totem_agreement.specs.Completeness.{HasNonePendingOf}
 use Rattle.totem_agreement.proofs.Excusing.{excused, not_excused}
 use Rattle.totem_agreement.proofs.Adding.{Between, adds_nothing, adds_alike}
 
@@ -84,14 +82,14 @@ pub record MissesBy (c : RingId) (stay sender : Stay) (i : ℕ) (x : Pending) : 
   pub misses : MissesAt c stay sender.log.now i x.msg
   pub proc : x.proc ≡ stay.proc
 
-pub nothing_here : (cmp : Pending → Pending → Ordering) (c : RingId) (stay sender : Stay) (i : ℕ) (s : BTreeSet Pending) → MissesNothingAt c stay sender.log.now i → Adds cmp (MissesBy c stay sender i) s s
-nothing_here cmp c stay sender i s never = adds_nothing cmp (MissesBy c stay sender i) s (λ x h. never.never x.msg h.misses)
+pub nothing_here : (c : RingId) (stay sender : Stay) (i : ℕ) (s : List Pending) → MissesNothingAt c stay sender.log.now i → Adds (MissesBy c stay sender i) s s
+nothing_here c stay sender i s never = adds_nothing (MissesBy c stay sender i) s (λ x h. never.never x.msg h.misses)
 
 pub same_pending : (x : Pending) (p : ℕ) (m : MsgId) → x.proc ≡ p → x.msg ≡ m → (let y : Pending = record { proc = p; msg = m } in x ≡ y)
 same_pending x p m procs msgs = (let of : ℕ → MsgId → Pending = λ q n. record { proc = q; msg = n } in ap (λ (q : ℕ). of q x.msg) procs ∙ ap (λ (n : MsgId). of p n) msgs)
 
-pub all_of_sender : (cmp : Pending → Pending → Ordering) (c : RingId) (stay sender : Stay) (n : ℕ) (s t : BTreeSet Pending) → sender.turn ≤ n → n ≤ sender.turn → Adds cmp (Between (MissesBy c stay sender) (sender.from + 1) n) s t → Adds cmp (MissesFrom c stay sender) s t
-all_of_sender cmp c stay sender n s t up down h = adds_alike cmp (Between (MissesBy c stay sender) (sender.from + 1) n) (MissesFrom c stay sender) s t
+pub all_of_sender : (c : RingId) (stay sender : Stay) (n : ℕ) (s t : List Pending) → sender.turn ≤ n → n ≤ sender.turn → Adds (Between (MissesBy c stay sender) (sender.from + 1) n) s t → Adds (MissesFrom c stay sender) s t
+all_of_sender c stay sender n s t up down h = adds_alike (Between (MissesBy c stay sender) (sender.from + 1) n) (MissesFrom c stay sender) s t
     (λ x b. record { index = b.index; after = (let a = b.from in omega arith); until = (let u = b.below in omega arith); misses = b.holds.misses; proc = b.holds.proc })
     (λ x m. record { index = m.index; from = (let a = m.after in omega arith); below = (let u = m.until in omega arith); holds = record { misses = m.misses; proc = m.proc } }) h
 
@@ -103,8 +101,8 @@ pub record MissesOf (c : RingId) (stays : List Stay) (stay : Stay) (k : ℕ) (x 
   pub stands : slice_get stays k ≡ Some sender
   pub misses : MissesFrom c stay sender x
 
-pub of_one_sender : (cmp : Pending → Pending → Ordering) (c : RingId) (stays : List Stay) (stay sender : Stay) (k : ℕ) (s t : BTreeSet Pending) → slice_get stays k ≡ Some sender → Adds cmp (MissesFrom c stay sender) s t → Adds cmp (MissesOf c stays stay k) s t
-of_one_sender cmp c stays stay sender k s t at h = adds_alike cmp (MissesFrom c stay sender) (MissesOf c stays stay k) s t
+pub of_one_sender : (c : RingId) (stays : List Stay) (stay sender : Stay) (k : ℕ) (s t : List Pending) → slice_get stays k ≡ Some sender → Adds (MissesFrom c stay sender) s t → Adds (MissesOf c stays stay k) s t
+of_one_sender c stays stay sender k s t at h = adds_alike (MissesFrom c stay sender) (MissesOf c stays stay k) s t
     (λ x m. record { sender = sender; stands = at; misses = m }) (λ x m. other x m) h
   where
     other : (x : Pending) → MissesOf c stays stay k x → MissesFrom c stay sender x
@@ -156,62 +154,73 @@ one_sent run c stays stay n meets are is end x m = from x m m.sent
     from : (x : Pending) → Misses run c stay x → WasSentIn run x.msg (Regular c) → Between (MissesOf c stays stay) 0 n x
     from x m (p, i, (v, at)) = (let standing = sent_in run p i x.msg (Regular c) meets (v, at) in from_stay x p i v m at (are.whole p standing.from standing.change))
 
-pub all_senders : (cmp : Pending → Pending → Ordering) (run : List Log) (c : RingId) (stays : List Stay) (stay : Stay) (n : ℕ) (s t : BTreeSet Pending) → MeetsPasses run → AreStays run c stays → ((sender : Stay) → IsAmong stays sender → IsStayOf run c sender) → length stays ≤ n
-    → Adds cmp (Between (MissesOf c stays stay) 0 n) s t → Adds cmp (Misses run c stay) s t
-all_senders cmp run c stays stay n s t meets are is end h = adds_alike cmp (Between (MissesOf c stays stay) 0 n) (Misses run c stay) s t (λ x b. to x b.index b.holds) (one_sent run c stays stay n meets are is end) h
+pub all_senders : (run : List Log) (c : RingId) (stays : List Stay) (stay : Stay) (n : ℕ) (s t : List Pending) → MeetsPasses run → AreStays run c stays → ((sender : Stay) → IsAmong stays sender → IsStayOf run c sender) → length stays ≤ n
+    → Adds (Between (MissesOf c stays stay) 0 n) s t → Adds (Misses run c stay) s t
+all_senders run c stays stay n s t meets are is end h = adds_alike (Between (MissesOf c stays stay) 0 n) (Misses run c stay) s t (λ x b. to x b.index b.holds) (one_sent run c stays stay n meets are is end) h
   where
     to : (x : Pending) (k : ℕ) → MissesOf c stays stay k x → Misses run c stay x
     to x k m = record { sent = was_sent run c stay m.sender x meets (is m.sender (record { at = k; stands = m.stands })) m.misses; missing = m.misses.misses.missing; proc = m.misses.proc }
 
+-- ---- one who is open
+
+-- what its process misses is pending, and the other way round
+pub of_open : (run : List Log) (c : RingId) (stay : Stay) (s t : List Pending) → IsStayOf run c stay → OpenIn run stay.proc c → Adds (Misses run c stay) s t → Adds (IsPendingFor run c stay.proc) s t
+of_open run c stay s t of still_open h = adds_alike (Misses run c stay) (IsPendingFor run c stay.proc) s t to from h
+  where
+    to : (x : Pending) → Misses run c stay x → IsPendingFor run c stay.proc x
+    to x m =
+        let logs : stay.log.now ≡ log_of run x.proc = of.log ∙ ap (λ (p : ℕ). log_of run p) (sym m.proc) in
+        record { is = record { sent = m.sent; still_open = rw m.proc still_open; missing = rw logs at m.missing }; proc = m.proc }
+
+    from : (x : Pending) → IsPendingFor run c stay.proc x → Misses run c stay x
+    from x p =
+        let logs : log_of run x.proc ≡ stay.log.now = sym (of.log ∙ ap (λ (p : ℕ). log_of run p) (sym p.proc)) in
+        record { sent = p.is.sent; missing = rw logs at p.is.missing; proc = p.proc }
+
+pub of_open_if_ok : {E : Type 0} → (run : List Log) (c : RingId) (stay : Stay) (b : Bool) (s t : List Pending) (r : Result (Unit {0}) E) → IsStayOf run c stay → b ≡ true → IsTrue b ↔ OpenIn run stay.proc c
+    → OnOk r (Adds (Misses run c stay) s t) → OnOk r (Adds (IsPendingFor run c stay.proc) s t)
+of_open_if_ok run c stay true s t (Ok u) of is decides h = of_open run c stay s t of (decides.0 refl) h
+of_open_if_ok run c stay false s t (Ok u) of is decides h = absurd cc
+of_open_if_ok run c stay b s t (Err e) of is decides h = tt
+
+pub not_open : (run : List Log) (c : RingId) (p : ℕ) (s : List Pending) → (OpenIn run p c → ⊥) → Adds (IsPendingFor run c p) s s
+not_open run c p s closed = adds_nothing (IsPendingFor run c p) s (λ x m. closed (rw m.proc at m.is.still_open))
+
+-- nothing is for one of those that are complete
+pub not_complete : (run : List Log) (c : RingId) (procs : List ℕ) (p : ℕ) (s : List Pending) → All (HasNonePendingOf run c) procs → Contains procs p → Adds (IsPendingFor run c p) s s
+not_complete run c procs p s none (k, lt, same) = (let here : HasNonePendingOf run c p = rw same at (none k p lt) in adds_nothing (IsPendingFor run c p) s (λ x m. here.none x m.is m.proc))
+
 -- ---- all who are open
 
--- the k-th of the stays is open, and x is missing there
-pub record MissesIn (run : List Log) (c : RingId) (stays : List Stay) (k : ℕ) (x : Pending) : Type 0 where
+-- x is pending for the process of the k-th stay
+pub record PendingOf (run : List Log) (c : RingId) (stays : List Stay) (k : ℕ) (x : Pending) : Type 0 where
   pub stay : Stay
   pub stands : slice_get stays k ≡ Some stay
-  pub still_open : OpenIn run stay.proc c
-  pub misses : Misses run c stay x
+  pub pending : IsPendingFor run c stay.proc x
 
-pub of_one_stay : (cmp : Pending → Pending → Ordering) (run : List Log) (c : RingId) (stays : List Stay) (stay : Stay) (k : ℕ) (s t : BTreeSet Pending) → slice_get stays k ≡ Some stay → OpenIn run stay.proc c → Adds cmp (Misses run c stay) s t → Adds cmp (MissesIn run c stays k) s t
-of_one_stay cmp run c stays stay k s t at is_open h = adds_alike cmp (Misses run c stay) (MissesIn run c stays k) s t
-    (λ x m. record { stay = stay; stands = at; still_open = is_open; misses = m }) (λ x m. other x m) h
+pub of_one_stay : (run : List Log) (c : RingId) (stays : List Stay) (stay : Stay) (k : ℕ) (s t : List Pending) → slice_get stays k ≡ Some stay → Adds (IsPendingFor run c stay.proc) s t → Adds (PendingOf run c stays k) s t
+of_one_stay run c stays stay k s t at h = adds_alike (IsPendingFor run c stay.proc) (PendingOf run c stays k) s t (λ x m. record { stay = stay; stands = at; pending = m }) (λ x m. other x m) h
   where
-    other : (x : Pending) → MissesIn run c stays k x → Misses run c stay x
-    other x m = (let same : m.stay ≡ stay = (let e : Some m.stay ≡ Some stay = sym m.stands ∙ at in cc) in rw same at m.misses)
-
-pub not_open : (cmp : Pending → Pending → Ordering) (run : List Log) (c : RingId) (stays : List Stay) (stay : Stay) (k : ℕ) (s : BTreeSet Pending) → slice_get stays k ≡ Some stay → (OpenIn run stay.proc c → ⊥) → Adds cmp (MissesIn run c stays k) s s
-not_open cmp run c stays stay k s at closed = adds_nothing cmp (MissesIn run c stays k) s (λ x m. closed (other x m))
-  where
-    other : (x : Pending) → MissesIn run c stays k x → OpenIn run stay.proc c
-    other x m = (let same : m.stay ≡ stay = (let e : Some m.stay ≡ Some stay = sym m.stands ∙ at in cc) in rw same at m.still_open)
+    other : (x : Pending) → PendingOf run c stays k x → IsPendingFor run c stay.proc x
+    other x m = (let same : m.stay ≡ stay = (let e : Some m.stay ≡ Some stay = sym m.stands ∙ at in cc) in rw same at m.pending)
 
 -- a log that stays in c has changed to it
 pub came_to : (log : List Entry) (c : RingId) → StaysIn log c → (i : ℕ) × ChangesTo log i (Regular c)
 came_to log c (d, never, last, inl is) = (last.index, rw is at last.change)
 came_to log c (d, never, last, inr follows) = (follows.from, follows.first.change)
 
-pub all_stays : (cmp : Pending → Pending → Ordering) (run : List Log) (c : RingId) (stays : List Stay) (n : ℕ) (s t : BTreeSet Pending) → AreStays run c stays → ((stay : Stay) → IsAmong stays stay → IsStayOf run c stay) → length stays ≤ n
-    → Adds cmp (Between (MissesIn run c stays) 0 n) s t → Adds cmp (IsPendingIn run c) s t
-all_stays cmp run c stays n s t are is end h = adds_alike cmp (Between (MissesIn run c stays) 0 n) (IsPendingIn run c) s t (λ x b. to x b.index b.holds) (λ x m. from x m) h
+pub all_stays : (run : List Log) (c : RingId) (stays : List Stay) (n : ℕ) (s t : List Pending) → AreStays run c stays → length stays ≤ n → Adds (Between (PendingOf run c stays) 0 n) s t → Adds (IsPendingIn run c) s t
+all_stays run c stays n s t are end h = adds_alike (Between (PendingOf run c stays) 0 n) (IsPendingIn run c) s t (λ x b. b.holds.pending.is) (λ x m. from x m) h
   where
-    to : (x : Pending) (k : ℕ) → MissesIn run c stays k x → IsPendingIn run c x
-    to x k m =
-        let of = is m.stay (record { at = k; stands = m.stands }) in
-        let logs : m.stay.log.now ≡ log_of run x.proc = of.log ∙ ap (λ (p : ℕ). log_of run p) (sym m.misses.proc) in
-        record { sent = m.misses.sent; still_open = rw m.misses.proc m.still_open; missing = rw logs at m.misses.missing }
+    from_stay : (x : Pending) → IsPendingIn run c x → HasStay stays x.proc → Between (PendingOf run c stays) 0 n x
+    from_stay x m has = record {
+      index = has.at;
+      from = omega arith;
+      below = (let lt = slice_get_within stays has.at has.stay has.stands in omega arith);
+      holds = record { stay = has.stay; stands = has.stands; pending = record { is = m; proc = sym has.proc } };
+    }
 
-    from_stay : (x : Pending) → IsPendingIn run c x → HasStay stays x.proc → Between (MissesIn run c stays) 0 n x
-    from_stay x m has =
-        let of = is has.stay (record { at = has.at; stands = has.stands }) in
-        let logs : log_of run x.proc ≡ has.stay.log.now = sym (of.log ∙ ap (λ (p : ℕ). log_of run p) has.proc) in
-        record {
-          index = has.at;
-          from = omega arith;
-          below = (let lt = slice_get_within stays has.at has.stay has.stands in omega arith);
-          holds = record { stay = has.stay; stands = has.stands; still_open = rw has.proc m.still_open; misses = record { sent = m.sent; missing = rw logs at m.missing; proc = sym has.proc } };
-        }
-
-    from : (x : Pending) → IsPendingIn run c x → Between (MissesIn run c stays) 0 n x
+    from : (x : Pending) → IsPendingIn run c x → Between (PendingOf run c stays) 0 n x
     from x m = (let came = came_to (log_of run x.proc) c m.still_open.1 in from_stay x m (are.whole x.proc came.0 came.1))
 
 -- ---- all rings
@@ -222,21 +231,21 @@ pub record PendingAt (run : List Log) (rings : List RingId) (k : ℕ) (x : Pendi
   pub stands : slice_get rings k ≡ Some ring
   pub pending : IsPendingIn run ring x
 
-pub of_one_ring : (cmp : Pending → Pending → Ordering) (run logs : List Log) (rings : List RingId) (c ring : RingId) (k : ℕ) (s t : BTreeSet Pending) → slice_get rings k ≡ Some ring → logs ≡ run → c ≡ ring → Adds cmp (IsPendingIn logs c) s t
-    → Adds cmp (PendingAt run rings k) s t
-of_one_ring cmp run logs rings c ring k s t at same is h = adds_alike cmp (IsPendingIn run ring) (PendingAt run rings k) s t
+pub of_one_ring : (run logs : List Log) (rings : List RingId) (c ring : RingId) (k : ℕ) (s t : List Pending) → slice_get rings k ≡ Some ring → logs ≡ run → c ≡ ring → Adds (IsPendingIn logs c) s t
+    → Adds (PendingAt run rings k) s t
+of_one_ring run logs rings c ring k s t at same is h = adds_alike (IsPendingIn run ring) (PendingAt run rings k) s t
     (λ x m. record { ring = ring; stands = at; pending = m }) (λ x m. other x m) (rw (same, is) at h)
   where
     other : (x : Pending) → PendingAt run rings k x → IsPendingIn run ring x
     other x m = (let rings_are : m.ring ≡ ring = (let e : Some m.ring ≡ Some ring = sym m.stands ∙ at in cc) in rw rings_are at m.pending)
 
--- all that is pending is in the set
-pub record HoldsPending (cmp : Pending → Pending → Ordering) (run : List Log) (set : BTreeSet Pending) : Type 0 where
-  pub each : (x : Pending) → IsTrue (sorted.contains cmp set x) ↔ IsPending run x.proc x.msg
+-- all that is pending is in the list
+pub record HoldsPending (run : List Log) (list : List Pending) : Type 0 where
+  pub each : (x : Pending) → Contains list x ↔ IsPending run x.proc x.msg
 
-pub all_rings : (cmp : Pending → Pending → Ordering) (run : List Log) (rings : List RingId) (n : ℕ) (s t : BTreeSet Pending) → AreRings run rings → length rings ≤ n → ((x : Pending) → IsTrue (sorted.contains cmp s x) → ⊥)
-    → Adds cmp (Between (PendingAt run rings) 0 n) s t → HoldsPending cmp run t
-all_rings cmp run rings n s t are end empty h = record { each = λ x. (λ has. elim ((h.each x).0 has) [ inl old ↦ absurd (empty x old) | inr b ↦ to x b.index b.holds ], λ p. (h.each x).1 (inr (from x p))) }
+pub all_rings : (run : List Log) (rings : List RingId) (n : ℕ) (s t : List Pending) → AreRings run rings → length rings ≤ n → ((x : Pending) → Contains s x → ⊥)
+    → Adds (Between (PendingAt run rings) 0 n) s t → HoldsPending run t
+all_rings run rings n s t are end empty h = record { each = λ x. (λ has. elim ((h.each x).0 has) [ inl old ↦ absurd (empty x old) | inr b ↦ to x b.index b.holds ], λ p. (h.each x).1 (inr (from x p))) }
   where
     to : (x : Pending) (k : ℕ) → PendingAt run rings k x → IsPending run x.proc x.msg
     to x k m = record { ring = m.ring; sent = m.pending.sent; still_open = m.pending.still_open; missing = m.pending.missing }
@@ -251,6 +260,3 @@ all_rings cmp run rings n s t are end empty h = record { each = λ x. (λ has. e
 
     from : (x : Pending) → IsPending run x.proc x.msg → Between (PendingAt run rings) 0 n x
     from x p = (let came = came_to (log_of run x.proc) p.ring p.still_open.1 in at_index x p ((are.exact p.ring).1 (record { proc = x.proc; index = came.0; change = came.1 })))
-
-pub none_of_ring : (cmp : Pending → Pending → Ordering) (run : List Log) (rings : List RingId) (c ring : RingId) (k : ℕ) (s : BTreeSet Pending) → slice_get rings k ≡ Some ring → c ≡ ring → ((x : Pending) → IsPendingIn run c x → ⊥) → Adds cmp (PendingAt run rings k) s s
-none_of_ring cmp run rings c ring k s at is never = of_one_ring cmp run run rings c ring k s s at refl is (adds_nothing cmp (IsPendingIn run c) s never)

@@ -1,14 +1,19 @@
 -- The order of what is pending.
-use Rattle.std.proofs.Common.{◌≡◌, ◌<◌, ℕ, inl, inr, List, sym, IsTrue}
-use Rattle.std.specs.declared.cmp.Ordering.TheVariants.{Less, Equal}
-use Rattle.std.specs.Ordering.{nat_cmp}
+use Rattle.std.proofs.Common.{◌≡◌, ◌<◌, ℕ, inl, inr, List, Bool, true, refl, sym, ◌∙◌, arith}
+use Rattle.std.specs.declared.cmp.Ordering.{Ordering}
+use Rattle.std.specs.declared.cmp.Ordering.TheVariants.{Less, Equal, Greater}
+use Rattle.std.specs.Cmp.{IsEquivalence}
+use Rattle.std.specs.Ordering.{nat_cmp, is_eq, eq_by_cmp}
 use Rattle.std.proofs.Common.{Result, Ok, Err, IfOk, Vec, Global, []}
 use Rattle.std.specs.declared.alloc.AllocError.{AllocError}
-use Rattle.std.specs.BTreeSet.{BTreeSet, IsOrdered, IsEmpty}
-use Rattle.std.specs.BTreeSet as sorted
+use Rattle.std.specs.Prelude.{Contains}
+use Rattle.std.specs.List.Retain.{IsFiltered, DiffersFromLast}
+use Rattle.std.specs.List.Sorted.{IsPermutation, IsSorted}
 use Rattle.std.proofs.lemmas.Map.Lookups.{CmpEqualImpliesEq}
 use Rattle.std.proofs.lemmas.Map.Keys.{Less-from_sorted}
-use Rattle.std.proofs.lemmas.Map.Views.{btree_set_contains_iff}
+use Rattle.std.proofs.lemmas.List.Filters.{dedup_is}
+use Rattle.std.proofs.lemmas.List.Kept.{IsStrictlySortedBy-dedup, Contains-dedup, Contains-from_dedup}
+use Rattle.std.proofs.lemmas.List.Sorted.{Contains-permutation, IsPermutation-sym}
 use Rattle.totem_ids.specs.Orders.{MessageBelow}
 use Rattle.totem_ids.specs.Ranks.{id_of, life_of}
 use Rattle.totem_ids.proofs.Lives.{below_is_less}
@@ -24,6 +29,7 @@ use Rattle.totem_evs.specs.Unsettled.{PendingBelow, ArePending}
 use Rattle.totem_evs.proofs.ProcOrder.{exact_proc}
 use Rattle.totem_passes.proofs.Exact.{both_equal, exact_ring, exact_message}
 use Rattle.totem_agreement.proofs.Ringing.{less_first, compared, below_from_less}
+use Rattle.totem_agreement.specs.Pendings.{IsInOrder}
 use Rattle.totem_agreement.proofs.Pend.{HoldsPending, same_pending}
 
 pub exact_pending : CmpEqualImpliesEq pending.cmp-value.it
@@ -48,17 +54,31 @@ pending_below a b e = elim (less_first (life.cmp-value.it a.proc b.proc) (messag
   | inr (same, lt) ↦ inr (exact_proc a.proc b.proc same, message_below a.msg b.msg lt)
 ]
 
-pub are_pending : (run : List Log) (set : BTreeSet Pending) → HoldsPending pending.cmp-value.it run set → IsOrdered pending.cmp-value.it set → ArePending run set.keys
-are_pending run set holds ordered = record {
-  rising = λ i j d lt within. pending_below _ _ (Less-from_sorted pending.cmp-value.it set.keys i j d ordered lt within);
-  exact = λ q m. (let x : Pending = record { proc = q; msg = m } in
-      (λ has. (holds.each x).0 ((btree_set_contains_iff total-law exact_pending set x).1 has), λ p. (btree_set_contains_iff total-law exact_pending set x).0 ((holds.each x).1 p)));
+equal_is : (o : Ordering) → is_eq o ≡ true → o ≡ Equal
+equal_is Less e = absurd cc
+equal_is Equal e = refl
+equal_is Greater e = absurd cc
+
+-- a list that is sorted and then holds nothing twice
+pub ordered_once : (E : Pending → Pending → Bool) → IsEquivalence E → ((x y : Pending) → E x y ≡ eq_by_cmp pending.cmp-value.it x y) → (list sorted ordered : List Pending) → IsPermutation list sorted → IsSorted pending.cmp-value.it sorted → IsFiltered (DiffersFromLast E) [] sorted ordered
+    → IsInOrder list ordered
+ordered_once E equivalent ties list sorted ordered moved rises filtered = rw (dedup_is E sorted ordered filtered) (record {
+  rising = λ i j d lt within. pending_below _ _ (Less-from_sorted pending.cmp-value.it _ i j d (IsStrictlySortedBy-dedup total-law ties sorted rises) lt within);
+  same = λ x. (
+    λ has. Contains-permutation sorted list x (IsPermutation-sym list sorted moved) (Contains-from_dedup E sorted x has),
+    λ has. Contains-dedup equivalent (λ y z e. exact_pending y z (equal_is (pending.cmp-value.it y z) (sym (ties y z) ∙ e))) sorted x (Contains-permutation list sorted x moved has),
+  );
+})
+
+pub are_pending : (run : List Log) (list ordered : List Pending) → HoldsPending run list → IsInOrder list ordered → ArePending run ordered
+are_pending run list ordered holds is = record {
+  rising = is.rising;
+  exact = λ q m. (let x : Pending = record { proc = q; msg = m } in (λ has. (holds.each x).0 ((is.same x).0 has), λ p. (is.same x).1 ((holds.each x).1 p)));
 }
 
-pub are_pending_if_ok : (run : List Log) (set : BTreeSet Pending) (r : Result (Vec Pending Global) AllocError) → HoldsPending pending.cmp-value.it run set → IfOk r (λ list. list.items ≡ set.keys) → IfOk r (λ list. IsOrdered pending.cmp-value.it set)
-    → IfOk r (λ list. ArePending run list.items)
-are_pending_if_ok run set (Err e) holds is ordered = tt
-are_pending_if_ok run set (Ok list) holds is ordered = rw is (are_pending run set holds ordered)
+pub are_pending_if_ok : (run : List Log) (list : List Pending) (r : Result (Vec Pending Global) AllocError) → HoldsPending run list → IfOk r (λ ordered. IsInOrder list ordered.items) → IfOk r (λ ordered. ArePending run ordered.items)
+are_pending_if_ok run list (Err e) holds is = tt
+are_pending_if_ok run list (Ok ordered) holds is = are_pending run list ordered.items holds is
 
-pub empty_has_none : (set : BTreeSet Pending) → IsEmpty set → (x : Pending) → IsTrue (sorted.contains pending.cmp-value.it set x) → ⊥
-empty_has_none set empty x has = (let none : IsTrue (sorted.contains pending.cmp-value.it (record { keys = [] }) x) = rw empty at has in cc)
+pub empty_has_none : (list : List Pending) → list ≡ [] → (x : Pending) → Contains list x → ⊥
+empty_has_none list empty x has = (let (k, lt, same) = rw empty at has in omega arith)

@@ -1,6 +1,5 @@
 -- In a uniform configuration 3 to 7 are met.
 use Rattle.std.proofs.Common.{◌≡◌, ℕ, ◌+◌, ◌<◌, ◌≤◌, ◌⊎◌, inl, inr, List, slice_get, Some, true, refl, sym, ap, ◌∙◌, arith}
-use Rattle.std.specs.Bool.{OnTrue}
 use Rattle.std.proofs.lemmas.Option.{slice_get_within, get_or_from_slice_get}
 use Rattle.totem_ids.specs.declared.ring.RingId.{RingId}
 use Rattle.totem_ids.specs.declared.conf.ConfId.{ConfId}
@@ -20,7 +19,7 @@ use Rattle.totem_agreement.specs.declared.findings.Findings.{Findings}
 use Rattle.totem_agreement.specs.Stays.{HasStay, AreStays}
 use Rattle.totem_agreement.specs.Acts.{IsAmong}
 use Rattle.totem_agreement.specs.Search.{IsInside}
-use Rattle.totem_agreement.specs.Pendings.{HasNonePending}
+use Rattle.totem_agreement.specs.Completeness.{AreCompleteIn}
 use Rattle.totem_agreement.specs.Findings.{AreNone, AreFindings}
 use Rattle.totem_agreement.specs.Uniform.{rank, HasPlace, HasAll, IsTurnMember, IsBeyond}
 use Rattle.totem_agreement.specs.Owed.{JoinsBy, IsUniform}
@@ -354,7 +353,7 @@ reached run c stays facts uniform = record { each = λ m p i d q safe at belongs
         ]
 
 -- all of them
-pub all_met : (run : List Log) (c : RingId) (stays : List Stay) (findings : Findings) → Facts run c stays → AreStays run c stays → IsUniform stays → AreNone findings → OnTrue findings.complete (HasNonePending run c) → AreFindings run c findings
+pub all_met : (run : List Log) (c : RingId) (stays : List Stay) (findings : Findings) → Facts run c stays → AreStays run c stays → IsUniform stays → AreNone findings → AreCompleteIn run c findings.complete → AreFindings run c findings
 all_met run c stays findings facts are uniform none complete = record {
   own = rw none.own (own run c stays facts uniform);
   atomicity = rw none.atomicity (joint run c stays facts uniform);

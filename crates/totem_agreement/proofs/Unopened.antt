@@ -1,6 +1,5 @@
 -- Where no process is open in its stay, nothing is pending.
-use Rattle.std.proofs.Common.{◌≡◌, inr, ℕ, List, All, slice_get, Some, Bool, true, false}
-use Rattle.std.specs.Bool.{OnTrue}
+use Rattle.std.proofs.Common.{◌≡◌, inr, ℕ, List, All, slice_get, Some}
 use Rattle.std.proofs.lemmas.Option.{slice_get_within, get_or_from_slice_get}
 use Rattle.totem_ids.specs.declared.ring.RingId.{RingId}
 use Rattle.totem_evs.specs.declared.entry.Entry.{Entry}
@@ -13,8 +12,6 @@ use Rattle.totem_agreement.specs.declared.stay.Stay.{Stay}
 use Rattle.totem_agreement.specs.Stays.{IsStayOf}
 use Rattle.totem_agreement.specs.Endings.{HasFailed}
 use Rattle.totem_agreement.specs.Pendings.{IsPendingIn, IsPlacedStay, EndsClosed, HasNonePending}
-use Rattle.totem_agreement.specs.Uniform.{IsComplete}
-use Rattle.totem_agreement.proofs.Completing.{none_pending}
 use Rattle.totem_agreement.proofs.Excusing.{not_excused}
 use Rattle.totem_agreement.proofs.Facts.{Facts, StayFacts}
 use Rattle.totem_agreement.proofs.Pend.{came_to}
@@ -27,7 +24,7 @@ no_failure : (log here : List Entry) → here ≡ log → HasFailed here → Nev
 no_failure log here same failed never = never failed.index failed.conf (rw same at failed.fails)
 
 -- who is open in c has a stay whose end excuses it, and has not failed
-none_open : (run : List Log) (c : RingId) (stays : List Stay) → Facts run c stays → All EndsClosed stays → HasNonePending run c
+pub none_open : (run : List Log) (c : RingId) (stays : List Stay) → Facts run c stays → All EndsClosed stays → HasNonePending run c
 none_open run c stays facts closed = record { none = never }
   where
     closed_at : (stay : Stay) (k : ℕ) → slice_get stays k ≡ Some stay → EndsClosed stay
@@ -42,10 +39,3 @@ none_open run c stays facts closed = record { none = never }
         let came = came_to (log_of run x.proc) c pending.still_open.1 in
         let has = facts.whole x.proc came.0 came.1 in
         not_open has.stay has.at has.stands (facts.each has.stay (record { at = has.at; stands = has.stands })) (rw has.proc pending.still_open)
-
-pub complete_none : (run : List Log) (c : RingId) (stays : List Stay) → Facts run c stays → IsComplete stays → HasNonePending run c
-complete_none run c stays facts complete = record { none = λ x pending. none_pending run c stays x facts complete pending }
-
-pub open_or_none : (run : List Log) (c : RingId) (stays : List Stay) → Facts run c stays → (b : Bool) → OnTrue b (All EndsClosed stays) → OnTrue b (HasNonePending run c)
-open_or_none run c stays facts true closed = none_open run c stays facts closed
-open_or_none run c stays facts false closed = tt

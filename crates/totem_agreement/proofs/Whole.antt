@@ -1,14 +1,16 @@
 -- Whether all stays went as far as they ought to, stay by stay and member by member.
-use Rattle.std.proofs.Common.{◌≡◌, ℕ, ◌+◌, ◌<◌, ◌≤◌, ◌||◌, inl, inr, Bool, true, false, List, length, slice_get, slice_index_or, Some, ap, ◌∙◌, arith}
-use Rattle.std.specs.Bool.{OnTrue}
+use Rattle.std.proofs.Common.{◌≡◌, ℕ, ◌+◌, ◌<◌, ◌≤◌, inl, inr, List, length, slice_get, slice_index_or, Some, ap, ◌∙◌, arith}
 use Rattle.std.proofs.lemmas.Option.{slice_get-get_or, slice_get_within}
 use Rattle.totem_evs.proofs.LogOf.{less_or_not}
 use Rattle.totem_agreement.specs.declared.stay.Stay.{Stay}
 use Rattle.totem_agreement.specs.declared.replay.Replay.{Replay}
 use Rattle.totem_agreement.specs.Stays.{HasStay}
-use Rattle.totem_agreement.specs.declared.uniform.Uniformity.{Uniformity}
-use Rattle.totem_agreement.specs.Uniform.{HasAll, EachComplete, IsComplete}
-use Rattle.totem_agreement.specs.Owed.{IsUniform, IsSeenOf}
+use Rattle.totem_agreement.specs.declared.uniform.Alignment.{Alignment}
+use Rattle.totem_agreement.specs.declared.complete.Complete.{Complete}
+use Rattle.totem_agreement.specs.declared.complete.Complete.TheVariants as complete
+use Rattle.totem_agreement.specs.Uniform.{HasAll, EachComplete}
+use Rattle.totem_agreement.specs.Owed.{IsAlignment}
+use Rattle.totem_agreement.specs.Completeness.{AllTaken, HaveAll, AreCompleteOf}
 
 -- there are stays of the first n members
 pub record HaveUpTo (stays : List Stay) (members : List ℕ) (n : ℕ) : Type 0 where
@@ -49,13 +51,41 @@ one_more_complete replays messages taken n replay at count sends before = record
 pub all_complete : (replays : List Replay) (messages : ℕ) (taken : List ℕ) (n : ℕ) → length replays ≤ n → CompleteUpTo replays messages taken n → EachComplete replays messages taken
 all_complete replays messages taken n end h = record { each = λ k replay at. h.each k replay (let within = slice_get_within replays k replay at in omega (arith, within)) at }
 
--- what is seen with one sequence or another
-true_or : (P : Type 0) (x y : Bool) → OnTrue x P → OnTrue y P → OnTrue (x || y) P
-true_or P true y first second = first
-true_or P false y first second = second
+-- all sends of the first n replays are taken
+pub record TakenUpTo (replays : List Replay) (taken : List ℕ) (n : ℕ) : Type 0 where
+  pub each : (k : ℕ) (replay : Replay) → k < n → slice_get replays k ≡ Some replay → length replay.sends.items ≤ slice_index_or taken k 0
 
-pub either_seen : (stays : List Stay) (a b c : Uniformity) → IsSeenOf stays a → IsSeenOf stays b → c.uniform ≡ (a.uniform || b.uniform) → c.complete ≡ (a.complete || b.complete) → IsSeenOf stays c
-either_seen stays a b c first second uniform complete = record {
-  uniform = rw uniform (true_or (IsUniform stays) a.uniform b.uniform first.uniform second.uniform);
-  complete = rw complete (true_or (IsComplete stays) a.complete b.complete first.complete second.complete);
+pub one_more_taken : (replays : List Replay) (taken : List ℕ) (n : ℕ) (replay : Replay) → slice_get replays n ≡ Some replay → length replay.sends.items ≤ slice_index_or taken n 0 → TakenUpTo replays taken n → TakenUpTo replays taken (n + 1)
+one_more_taken replays taken n replay at sends before = record {
+  each = λ k r lt at_r. elim (less_or_not k n) [
+    | inl under ↦ before.each k r under at_r
+    | inr rest ↦ elim rest [
+      | inl over ↦ absurd (omega arith)
+      | inr here ↦ (let also : slice_get replays n ≡ Some r = rw here at at_r in let same : replay ≡ r = cc in rw (here, ← same) sends)
+    ]
+  ];
+}
+
+pub all_taken : (replays : List Replay) (taken : List ℕ) (n : ℕ) → length replays ≤ n → TakenUpTo replays taken n → AllTaken replays taken
+all_taken replays taken n end h = record { each = λ k replay at. h.each k replay (let within = slice_get_within replays k replay at in omega (arith, within)) at }
+
+-- who has all of a sequence beside which the stays are laid is complete
+pub complete_of_all : (stays : List Stay) (found : Alignment) (those : Complete) → IsAlignment stays found → HaveAll stays found.replays.items (length found.messages.items) found.origins.taken.items those → AreCompleteOf stays those
+complete_of_all stays found complete.All is all = record {
+  messages = found.messages.items;
+  replays = found.replays.items;
+  origins = found.origins.list.items;
+  taken = found.origins.taken.items;
+  are = is.are;
+  order = is.order;
+  complete = all;
+}
+complete_of_all stays found (complete.Only procs) is each = λ k p lt. record {
+  messages = found.messages.items;
+  replays = found.replays.items;
+  origins = found.origins.list.items;
+  taken = found.origins.taken.items;
+  are = is.are;
+  order = is.order;
+  full = each k p lt;
 }

@@ -1,7 +1,6 @@
 -- What one job finds: for each specification of the last pass the least events that break it in one regular configuration,
 -- or that the run meets it there (docs/SPECIFICATIONS.md, "Passes").
-use Rattle.std.specs.Prelude.{◌≡◌, ◌++◌, ℕ, Bool, true, List, [], ◌∷◌, length, slice_get, Some, None}
-use Rattle.std.specs.Bool.{OnTrue}
+use Rattle.std.specs.Prelude.{◌≡◌, ◌++◌, ℕ, List, [], ◌∷◌, length, slice_get, Some, None}
 use Rattle.totem_ids.specs.declared.ring.RingId.{RingId}
 use Rattle.totem_evs.specs.declared.log.Log.{Log}
 use Rattle.totem_evs.specs.declared.spec.SpecNo.TheVariants as spec
@@ -9,8 +8,9 @@ use Rattle.totem_evs.specs.declared.fault.Fault.{Fault}
 use Rattle.totem_evs.specs.Answers.{FindsIn, ListsRings}
 use Rattle.totem_passes.specs.Listed.{listed}
 use Rattle.totem_agreement.specs.declared.findings.Findings.{Findings}
+use Rattle.totem_agreement.specs.declared.complete.Complete.{Complete}
 use Rattle.totem_agreement.specs.declared.pass.Found.{Found}
-use Rattle.totem_agreement.specs.Pendings.{HasNonePending}
+use Rattle.totem_agreement.specs.Completeness.{AreCompleteIn}
 
 pub record AreFindings (run : List Log) (c : RingId) (findings : Findings) : Type 0 where
   pub own : FindsIn run c spec.OwnDelivery findings.own
@@ -19,7 +19,7 @@ pub record AreFindings (run : List Log) (c : RingId) (findings : Findings) : Typ
   pub gap : FindsIn run c spec.Gap findings.gap
   pub safety : FindsIn run c spec.Safety findings.safety
   pub installed : FindsIn run c spec.Installed findings.installed
-  pub complete : OnTrue findings.complete (HasNonePending run c)
+  pub complete : AreCompleteIn run c findings.complete
 
 -- nothing is broken
 pub record AreNone (findings : Findings) : Type 0 where
@@ -40,7 +40,7 @@ pub record IsNothing (found : Found) : Type 0 where
   pub installed : found.installed.items ≡ []
   pub complete : found.complete.items ≡ []
 
--- each list has what was found for its specification behind what it had, and the flags have one more
+-- each list has what was found for its specification behind what it had, and who is complete stands behind the others
 pub record GrowsBy (old : Found) (findings : Findings) (new : Found) : Type 0 where
   pub own : new.own.items ≡ old.own.items ++ listed spec.OwnDelivery findings.own
   pub atomicity : new.atomicity.items ≡ old.atomicity.items ++ listed spec.Atomicity findings.atomicity
@@ -54,11 +54,11 @@ pub record GrowsBy (old : Found) (findings : Findings) (new : Found) : Type 0 wh
 abbrev pub all_found : Found → List Fault
 all_found found = found.own.items ++ (found.atomicity.items ++ (found.causality.items ++ (found.gap.items ++ (found.safety.items ++ found.installed.items))))
 
--- nothing is pending in a configuration whose flag is set
-pub record AreComplete (run : List Log) (cs : List RingId) (complete : List Bool) : Type 0 where
-  pub each : (k : ℕ) (c : RingId) → slice_get cs k ≡ Some c → slice_get complete k ≡ Some true → HasNonePending run c
+-- nothing is pending in these configurations for those that are complete there
+pub record AreComplete (run : List Log) (cs : List RingId) (complete : List Complete) : Type 0 where
+  pub each : (k : ℕ) (c : RingId) (those : Complete) → slice_get cs k ≡ Some c → slice_get complete k ≡ Some those → AreCompleteIn run c those
 
--- the faults of each specification in these configurations, and a flag for each of these
+-- the faults of each specification in these configurations, and who is complete in each of these
 pub record AreFound (run : List Log) (cs : List RingId) (found : Found) : Type 0 where
   pub own : ListsRings run spec.OwnDelivery cs found.own.items
   pub atomicity : ListsRings run spec.Atomicity cs found.atomicity.items

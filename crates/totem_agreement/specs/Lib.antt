@@ -4,7 +4,7 @@ pub mod Endings
 pub mod Pendings
 pub mod Stays
 pub mod Acts
-pub mod Kept
+pub mod Indexes
 pub mod Reached
 pub mod Search
 pub mod Causality
@@ -15,3 +15,4 @@ pub mod Suspects
 pub mod Findings
 pub mod Uniform
 pub mod Owed
+pub mod Completeness

@@ -11,7 +11,8 @@ use Rattle.totem_agreement.specs.declared.origins.Origin.{Origin}
 use Rattle.totem_agreement.specs.declared.uniform.Alignment.{Alignment}
 use Rattle.totem_agreement.specs.declared.uniform.Uniformity.{Uniformity}
 use Rattle.totem_agreement.specs.Stays.{IsExcused}
-use Rattle.totem_agreement.specs.Uniform.{HasPlace, HasMembers, IsTurnMember, IsBeyond, IsComplete, AreReplays, AreOrigins}
+use Rattle.totem_agreement.specs.Uniform.{HasPlace, HasMembers, IsTurnMember, IsBeyond, AreReplays, AreOrigins}
+use Rattle.totem_agreement.specs.Completeness.{AreCompleteOf}
 
 -- the list tells of each number below n whether it is one of the places
 pub record TellsPlaces (places : List ℕ) (n : ℕ) (has : List Bool) : Type 0 where
@@ -119,4 +120,4 @@ pub record IsUniform (stays : List Stay) : Type 0 where
 -- what is seen of a configuration is so
 pub record IsSeenOf (stays : List Stay) (seen : Uniformity) : Type 0 where
   pub uniform : OnTrue seen.uniform (IsUniform stays)
-  pub complete : OnTrue seen.complete (IsComplete stays)
+  pub complete : AreCompleteOf stays seen.complete

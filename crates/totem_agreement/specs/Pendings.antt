@@ -1,8 +1,5 @@
 -- What is pending, gathered configuration by configuration (docs/SPECIFICATIONS.md, "Pending and waiting").
-use Rattle.std.specs.Prelude.{◌≡◌, ◌↔◌, ◌⊎◌, ℕ, ◌<◌, IsTrue, List, slice_get, Some}
-use Rattle.std.specs.declared.cmp.Ordering.{Ordering}
-use Rattle.std.specs.BTreeSet.{BTreeSet}
-use Rattle.std.specs.BTreeSet as sorted
+use Rattle.std.specs.Prelude.{◌≡◌, ◌↔◌, ◌⊎◌, ℕ, ◌<◌, List, AllPairs, Contains, slice_get, Some}
 use Rattle.totem_ids.specs.declared.ring.RingId.{RingId}
 use Rattle.totem_ids.specs.declared.conf.ConfId.{ConfId}
 use Rattle.totem_ids.specs.declared.conf.ConfId.TheVariants.{Regular}
@@ -14,14 +11,15 @@ use Rattle.totem_evs.specs.declared.log.Log.{Log}
 use Rattle.totem_evs.specs.declared.pending.Pending.{Pending}
 use Rattle.totem_evs.specs.Events.{WasSentIn, log_of}
 use Rattle.totem_evs.specs.Following.{HasDelivered, OpenIn}
+use Rattle.totem_evs.specs.Unsettled.{PendingBelow}
 use Rattle.totem_evs.specs.Changes.{StaysInPlace}
 use Rattle.totem_agreement.specs.declared.stay.Stay.{Stay}
 use Rattle.totem_agreement.specs.Stays.{IsExcused}
 use Rattle.totem_agreement.specs.Endings.{HasFailed}
 
--- the new set has what the old one had and all of which this holds
-pub record Adds (by_pending : Pending → Pending → Ordering) (P : Pending → Type 0) (old new : BTreeSet Pending) : Type 0 where
-  pub each : (x : Pending) → IsTrue (sorted.contains by_pending new x) ↔ (IsTrue (sorted.contains by_pending old x) ⊎ P x)
+-- the new list has what the old one had and all of which this holds
+pub record Adds (P : Pending → Type 0) (old new : List Pending) : Type 0 where
+  pub each : (x : Pending) → Contains new x ↔ (Contains old x ⊎ P x)
 
 -- the entry at i sends m
 pub record SendsHere (log : List Entry) (i : ℕ) (m : MsgId) : Type 0 where
@@ -52,15 +50,16 @@ pub record Misses (run : List Log) (c : RingId) (stay : Stay) (x : Pending) : Ty
   pub missing : HasDelivered stay.log.now c x.msg → ⊥
   pub proc : x.proc ≡ stay.proc
 
--- there is no such message
-pub record MissesNone (P : Pending → Type 0) : Type 0 where
-  pub none : (x : Pending) → P x → ⊥
-
 -- x is pending in c
 pub record IsPendingIn (run : List Log) (c : RingId) (x : Pending) : Type 0 where
   pub sent : WasSentIn run x.msg (Regular c)
   pub still_open : OpenIn run x.proc c
   pub missing : HasDelivered (log_of run x.proc) c x.msg → ⊥
+
+-- and its process is p
+pub record IsPendingFor (run : List Log) (c : RingId) (p : ℕ) (x : Pending) : Type 0 where
+  pub is : IsPendingIn run c x
+  pub proc : x.proc ≡ p
 
 -- nothing is pending in c
 pub record HasNonePending (run : List Log) (c : RingId) : Type 0 where
@@ -73,3 +72,8 @@ IsPlacedStay stay = StaysInPlace stay.log.now
 -- where the end of a stay excuses its process, that has failed
 abbrev pub EndsClosed : Stay → Type 0
 EndsClosed stay = IsExcused stay → HasFailed stay.log.now
+
+-- the elements of a list, each once, in rising order
+pub record IsInOrder (list ordered : List Pending) : Type 0 where
+  pub rising : AllPairs PendingBelow ordered
+  pub same : (x : Pending) → Contains ordered x ↔ Contains list x

@@ -1,8 +1,8 @@
 ghost use Rattle.std.specs.Prelude.{IfOk};
-ghost use Rattle.std.specs.Bool.{OnTrue};
-ghost use Rattle.totem_agreement.specs.Pendings.{HasNonePending};
+ghost use Rattle.totem_agreement.specs.Completeness.{AreCompleteIn};
 ghost use Rattle.totem_agreement.specs.Findings.{AreFindings};
 
+use crate::complete::Complete;
 use crate::stays::Stays;
 use crate::{atomicity, causality, gap, installed, own, safety};
 use std::alloc::{AllocError, Global};
@@ -24,16 +24,16 @@ pub struct Findings {
     pub safety: Option<Places>,
     /// What breaks specification 7.2.
     pub installed: Option<Places>,
-    /// Whether nothing is pending in the configuration, as far as is known: `false` says nothing.
-    pub complete: bool,
+    /// For whom nothing is pending in the configuration, as far as is known.
+    pub complete: Complete,
 }
 
 impl Findings {
     ghost use Rattle.std.specs.Prelude.{◌≡◌};
     ghost use Rattle.totem_agreement.specs.Findings.{AreNone};
 
-    /// Returns the findings of a configuration in which nothing is broken, and nothing is pending if it is known to be complete.
-    pub fn none(complete: bool) -> Findings
+    /// Returns the findings of a configuration in which nothing is broken, and nothing is pending for those that are complete.
+    pub fn none(complete: Complete) -> Findings
         ensures none { AreNone result }
         ensures complete { result.complete ≡ complete }
     {
@@ -49,9 +49,9 @@ impl Findings {
     }
 }
 
-/// Does the job of one regular configuration. If it is known to be complete, nothing is pending in it.
-pub fn findings_in(alloc: Global, stays: &Stays, complete: bool) -> Result<Findings, AllocError>
-    requires { OnTrue complete (HasNonePending stays.now.run.now.logs stays.now.ring) }
+/// Does the job of one regular configuration, in which nothing is pending for those that are complete.
+pub fn findings_in(alloc: Global, stays: &Stays, complete: Complete) -> Result<Findings, AllocError>
+    requires { AreCompleteIn stays.now.run.now.logs stays.now.ring complete }
     ensures { IfOk result (AreFindings stays.now.run.now.logs stays.now.ring) }
 {
     Ok(Findings {

@@ -4,8 +4,8 @@ ghost use Rattle.totem_evs.specs.Answers.{MeetsPasses};
 ghost use Rattle.totem_table.specs.Changes.{AreChanges};
 ghost use Rattle.totem_agreement.specs.Jobs.{AreJobs, AreFindingsAt};
 
-use crate::closed::is_closed;
 use crate::comings::Comings;
+use crate::complete::complete_in;
 use crate::findings::{Findings, findings_in};
 use crate::stays::Stays;
 use crate::uniform::uniformity_of;
@@ -60,11 +60,11 @@ impl<'r> Jobs<'r> {
         let ring = self.rings[index];
         let list = self.comings.stays(alloc, self.run, &self.changes, ring)?;
         let seen = uniformity_of(alloc, &list)?;
-        let closed = is_closed(self.run, ring, &list, seen.complete);
+        let complete = complete_in(self.run, ring, &list, seen.complete);
         if seen.uniform {
-            return Ok(Findings::none(closed));
+            return Ok(Findings::none(complete));
         }
         let stays = Stays::build(alloc, self.run, ring, list)?;
-        findings_in(alloc, &stays, closed)
+        findings_in(alloc, &stays, complete)
     }
 }

@@ -2,20 +2,20 @@
 //! follows it; and what a run leaves open (docs/SPECIFICATIONS.md, "Passes", "Pending and waiting").
 #![tactic(auto)]
 
+mod act;
 mod alike;
 mod arrival;
 mod atomicity;
 mod causality;
-mod closed;
 mod comings;
+mod complete;
 mod entries;
 mod events;
 mod findings;
 mod gap;
-mod hints;
+mod indexes;
 mod installed;
 mod jobs;
-mod kept;
 mod origins;
 mod owed;
 mod own;
@@ -23,6 +23,7 @@ mod pass;
 mod pendings;
 mod replay;
 mod ring_stays;
+mod row;
 mod safety;
 mod search;
 mod sequence;
@@ -33,6 +34,7 @@ mod suspects;
 mod uniform;
 mod waitings;
 
+pub use complete::Complete;
 pub use findings::Findings;
 pub use jobs::Jobs;
 pub use pass::{Found, Judged, pass_d, pass_d_of};

@@ -4,6 +4,7 @@ ghost use Rattle.totem_evs.specs.Answers.{MeetsPasses, ListsConfigurations};
 ghost use Rattle.totem_agreement.specs.Findings.{AreComplete};
 ghost use Rattle.totem_agreement.specs.Jobs.{AreJobs};
 
+use crate::complete::Complete;
 use crate::findings::Findings;
 use crate::jobs::Jobs;
 use std::alloc::{AllocError, Global};
@@ -14,8 +15,8 @@ use totem_passes::with_found;
 #[derive(Drop)]
 pub struct Judged {
     pub faults: Vec<Fault>,
-    /// For each job in their order whether nothing is pending in its configuration, as far as is known: `false` says nothing.
-    pub complete: Vec<bool>,
+    /// For each job in their order, for whom nothing is pending in its configuration, as far as is known.
+    pub complete: Vec<Complete>,
 }
 
 /// The faults of each specification: one for each configuration in which it is broken, in their order.
@@ -27,8 +28,8 @@ pub struct Found {
     pub gap: Vec<Fault>,
     pub safety: Vec<Fault>,
     pub installed: Vec<Fault>,
-    /// For each configuration whether it is known that nothing is pending in it.
-    pub complete: Vec<bool>,
+    /// For each configuration, for whom it is known that nothing is pending in it.
+    pub complete: Vec<Complete>,
 }
 
 /// Returns the list with the other behind it.
@@ -77,7 +78,7 @@ impl Found {
         })
     }
 
-    /// Returns all faults, specification by specification, and where nothing is known to be pending.
+    /// Returns all faults, specification by specification, and for whom nothing is known to be pending.
     pub fn into_judged(self) -> Result<Judged, AllocError>
         ensures faults { IfOk result (λ judged. judged.faults.items ≡ all_found self) }
         ensures complete { IfOk result (λ judged. judged.complete.items ≡ self.complete.items) }
@@ -93,7 +94,7 @@ impl Found {
 }
 
 /// Does these jobs in their order, on the thread that asks. Returns, for each of 3, 4, 5, 6.3, 7.1 and 7.2 and for each regular
-/// configuration in which the run breaks it, the least events that do, and in which configurations nothing is known to be pending.
+/// configuration in which the run breaks it, the least events that do, and for whom nothing is known to be pending.
 pub fn pass_d_of(alloc: Global, jobs: &Jobs<'_>) -> Result<Judged, AllocError>
     requires { AreJobs jobs.now.run.now.logs jobs.now }
     ensures faults { IfOk result (λ judged. ListsConfigurations jobs.now.run.now.logs judged.faults.items) }

@@ -1,12 +1,12 @@
 //! The part of a log that stands in a regular configuration and in what follows it.
 ghost use Rattle.std.specs.Prelude.{◌≡◌, ◌↔◌, ◌<◌, IsTrue, length};
-ghost use Rattle.std.specs.Bool.{OnTrue};
 ghost use Rattle.totem_table.specs.Changes.{ListsChanges, IsNextOrEnd};
 ghost use Rattle.totem_agreement.specs.Stays.{AreNextTwo, IsExcused};
-ghost use Rattle.totem_agreement.specs.Acts.{DeliversHere};
+ghost use Rattle.totem_agreement.specs.Acts.{IsActAt, message_at, service_at};
 
+use crate::act::{Act, service_of};
 use totem_evs::{Ending, Entry, Log};
-use totem_ids::{MsgId, Proc};
+use totem_ids::{MsgId, Proc, Service};
 use totem_table::next_change;
 
 /// The stay of a process: its log changes to the regular configuration at `from` and to what follows that at `turn`, and
@@ -30,17 +30,31 @@ impl Stay<'_> {
         self.end == self.log.len() && !self.quiet
     }
 
-    /// Whether the entry at this index stands in the stay and delivers the message.
-    pub fn delivers_at(&self, at: usize, message: &MsgId) -> bool
-        ensures { OnTrue result (DeliversHere self.now message.now at) }
+    /// The message with which the entry at this index of the log does this.
+    pub fn message_at(&self, act: Act, at: usize) -> Option<MsgId>
+        ensures { result ≡ message_at self.now.log.now act at }
     {
-        if at <= self.from || at >= self.end {
-            return false;
-        }
         match self.log.get(at) {
-            Some(Entry::Deliver(found, _)) => *found == *message,
-            _ => false,
+            Some(entry) => act.message_of(entry),
+            None => None,
         }
+    }
+
+    /// The service for which the entry at this index of the log sends.
+    pub fn service_at(&self, at: usize) -> Option<Service>
+        ensures { result ≡ service_at self.now.log.now at }
+    {
+        match self.log.get(at) {
+            Some(entry) => service_of(entry),
+            None => None,
+        }
+    }
+
+    /// Whether the entry at this index stands in the stay and does this with the message.
+    pub fn does_at(&self, act: Act, at: usize, message: &MsgId) -> bool
+        ensures { IsTrue result ↔ IsActAt self.now act message.now at }
+    {
+        self.from < at && at < self.end && self.message_at(act, at) == Some(*message)
     }
 }
 

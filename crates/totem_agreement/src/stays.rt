@@ -1,15 +1,17 @@
 //! The stays of all processes in one regular configuration, and what they sent and delivered there.
-ghost use Rattle.std.specs.Prelude.{◌≡◌, ◌↔◌, IsTrue, IfSome, IfNone, IfOk};
+ghost use Rattle.std.specs.Prelude.{◌≡◌, ◌↔◌, ◌<◌, IsTrue, IfSome, IfNone, IfOk, Some, length, slice_get};
 ghost use Rattle.totem_evs.specs.Answers.{MeetsPasses};
 ghost use Rattle.totem_evs.specs.Missing.{members_of};
+ghost use Rattle.totem_agreement.specs.declared.act.Act.{Act};
 ghost use Rattle.totem_agreement.specs.Stays.{AreStays};
-ghost use Rattle.totem_agreement.specs.Kept.{AreKept};
+ghost use Rattle.totem_agreement.specs.Indexes.{AllTell, SendsNoneIn};
 ghost use Rattle.totem_agreement.specs.Search.{IsInside};
 ghost use Rattle.totem_agreement.specs.Reached.{IsSafeIn, AreMembersAt};
 ghost use Rattle.totem_agreement.specs.Acts.{IsAmong, NeverComes, DeliversHere, DeliversNot, IsSendingOf, NobodySent};
 
-use crate::hints::Hints;
-use crate::kept::{Delivery, Kept};
+use crate::act::Act;
+use crate::indexes::{Indexes, indexes_of};
+use crate::row::Row;
 use crate::stay::Stay;
 use std::alloc::{AllocError, Global};
 use totem_evs::{Entry, Run};
@@ -29,11 +31,13 @@ pub struct Stays<'r> {
     pub run: &'r Run,
     pub ring: RingId,
     pub list: Vec<Stay<'r>>,
-    hints: Hints,
-    kept: Kept,
+    deliveries: Vec<Indexes>,
+    sends: Vec<Indexes>,
+    senders: Row,
     ghost meets: { ∥ MeetsPasses run.now.logs ∥₁ },
     ghost are: { ∥ AreStays run.now.logs ring list.items ∥₁ },
-    ghost keeps: { ∥ AreKept ⟦<Delivery as Ord>⟧.cmp ⟦<MsgId as Ord>⟧.cmp kept.deliveries kept.sends list.items ∥₁ },
+    ghost delivered: { ∥ AllTell ⟦<MsgId as Ord>⟧.cmp Act.Deliver list.items deliveries.items ∥₁ },
+    ghost sent: { ∥ AllTell ⟦<MsgId as Ord>⟧.cmp Act.Send list.items sends.items ∥₁ },
 }
 
 fn is_safe_service(service: Service) -> bool
@@ -65,14 +69,16 @@ impl<'r> Stays<'r> {
         ensures logs { IfOk result (λ stays. stays.run.now.logs ≡ run.now.logs) }
         ensures ring { IfOk result (λ stays. stays.ring ≡ ring) }
     {
-        let kept = Kept::of(alloc, &list)?;
-        let hints = Hints::of(alloc, &list)?;
+        let deliveries = indexes_of(alloc, &list, Act::Deliver)?;
+        let sends = indexes_of(alloc, &list, Act::Send)?;
+        let senders = Row::of_senders(alloc, &list)?;
         Ok(Stays {
             run,
             ring,
             list,
-            hints,
-            kept,
+            deliveries,
+            sends,
+            senders,
         })
     }
 
@@ -96,23 +102,46 @@ impl<'r> Stays<'r> {
         ensures found { IfSome result (DeliversHere stay.now message.now) }
         ensures none { IfNone result (DeliversNot stay.now.log.now self.now.ring message.now) }
     {
-        let hint = self.hints.hint(stay, message);
-        if stay.delivers_at(hint, message) {
-            return Some(hint);
-        }
-        self.kept_delivery(stay, message)
+        let number = self.position(stay);
+        self.deliveries[number].index_of(stay, Act::Deliver, message)
     }
 
-    /// Answers as `delivery_of` does, by what is kept of all deliveries.
-    fn kept_delivery(&self, stay: &Stay, message: &MsgId) -> Option<usize>
+    /// The position of this stay in the list.
+    fn position(&self, stay: &Stay) -> usize
         requires { IsAmong self.now.list.items stay.now }
-        ensures found { IfSome result (DeliversHere stay.now message.now) }
-        ensures none { IfNone result (DeliversNot stay.now.log.now self.now.ring message.now) }
+        ensures { slice_get self.now.list.items result ≡ Some stay.now }
     {
+        for (number, other) in self.list.iter().enumerate() {
+            if other.proc == stay.proc {
+                return number;
+            }
+        }
+        0
+    }
+
+    /// Returns the send of the message by the stay of this number, if there is one.
+    fn sending_in(&self, number: usize, message: &MsgId) -> Option<Sending>
+        requires { number < length self.now.list.items }
+        ensures found { IfSome result (IsSendingOf self.now.run.now.logs self.now.ring message.now) }
+        ensures none { IfNone result (SendsNoneIn self.now.list.items number message.now) }
+    {
+        let stay = &self.list[number];
+        let at = self.sends[number].index_of(stay, Act::Send, message)?;
+        let service = stay.service_at(at)?;
         let proc = stay.proc;
-        let message = *message;
-        let at = self.kept.deliveries.get(&Delivery { proc, message });
-        at.copied()
+        Some(Sending { proc, at, service })
+    }
+
+    /// Returns the send of the message by the stay that is likely to send it, if it does.
+    fn likely_sending(&self, message: &MsgId) -> Option<Sending>
+        ensures { IfSome result (IsSendingOf self.now.run.now.logs self.now.ring message.now) }
+    {
+        let number = self.senders.get(message)? as usize;
+        if number < self.list.len() {
+            self.sending_in(number, message)
+        } else {
+            None
+        }
     }
 
     /// Returns the send of the message in the regular configuration, if it was sent there.
@@ -120,7 +149,15 @@ impl<'r> Stays<'r> {
         ensures found { IfSome result (IsSendingOf self.now.run.now.logs self.now.ring message.now) }
         ensures none { IfNone result (NobodySent self.now.run.now.logs self.now.ring message.now) }
     {
-        self.kept.sends.get(message).copied()
+        if let Some(sending) = self.likely_sending(message) {
+            return Some(sending);
+        }
+        for number in 0..self.list.len() {
+            if let Some(sending) = self.sending_in(number, message) {
+                return Some(sending);
+            }
+        }
+        None
     }
 
     /// Whether the message was sent in the regular configuration as a safe one.

@@ -1,12 +1,14 @@
 //! A quick test of 3 to 7 in one regular configuration: it is uniform where all processes deliver messages of one sequence in its order,
 //! and who lacks one of them is excused (docs/DECISIONS.md, "The audit"). It takes a few walks through each stay, and no map.
-ghost use Rattle.std.specs.Prelude.{◌≡◌, ◌<◌, ◌||◌, IfOk, IfSome, All, length, slice_index_or};
+ghost use Rattle.std.specs.Prelude.{◌≡◌, ◌<◌, IfOk, IfSome, All, length, slice_index_or};
 ghost use Rattle.std.specs.Bool.{OnTrue};
 ghost use Rattle.totem_agreement.specs.Stays.{IsShortStay, HasStay};
 ghost use Rattle.totem_agreement.specs.Uniform.{HasAll, HasMembers, EachComplete};
+ghost use Rattle.totem_agreement.specs.Completeness.{AllTaken, IsFullOf, HaveAll};
 ghost use Rattle.totem_agreement.specs.Owed.{IsAlignment, PaysBy, SettledAt, AllSettled, IsSeenOf};
 
 use crate::alike::{all_go_alike, joins};
+use crate::complete::Complete;
 use crate::origins::{Origins, origins_of};
 use crate::owed::{has_own, has_safe, is_full, is_orderly, last_place, tell_places};
 use crate::replay::{Replay, replay_all};
@@ -147,6 +149,19 @@ fn all_settled(
     Ok(true)
 }
 
+/// Whether all sends of each replay are taken.
+fn are_taken(replays: &[Replay], taken: &[usize]) -> bool
+    requires { length replays.now ≡ length taken.now }
+    ensures { OnTrue result (AllTaken replays.now taken.now) }
+{
+    for (k, replay) in replays.iter().enumerate() {
+        if taken[k] < replay.sends.len() {
+            return false;
+        }
+    }
+    true
+}
+
 /// Whether each replay has all of the messages, and all of its sends are taken.
 fn are_complete(replays: &[Replay], messages: usize, taken: &[usize]) -> bool
     requires { length replays.now ≡ length taken.now }
@@ -160,24 +175,72 @@ fn are_complete(replays: &[Replay], messages: usize, taken: &[usize]) -> bool
     true
 }
 
+/// The processes that deliver all of the messages, if all that is sent is among these.
+fn full_of(
+    alloc: Global,
+    stays: &[Stay],
+    replays: &[Replay],
+    messages: usize,
+    taken: &[usize],
+) -> Result<Vec<Proc>, AllocError>
+    requires stays { length stays.now ≡ length replays.now }
+    requires taken { length replays.now ≡ length taken.now }
+    ensures { IfOk result (λ procs. All (IsFullOf stays.now replays.now messages taken.now) procs.items) }
+{
+    let mut procs = Vec::new(alloc);
+    if !are_taken(replays, taken) {
+        return Ok(procs);
+    }
+    for (k, replay) in replays.iter().enumerate() {
+        if replay.places.len() >= messages {
+            procs.push(stays[k].proc)?;
+        }
+    }
+    Ok(procs)
+}
+
+/// Who delivers all of the messages, if all that is sent is among these.
+fn complete_along(
+    alloc: Global,
+    stays: &[Stay],
+    replays: &[Replay],
+    messages: usize,
+    taken: &[usize],
+) -> Result<Complete, AllocError>
+    requires stays { length stays.now ≡ length replays.now }
+    requires taken { length replays.now ≡ length taken.now }
+    ensures { IfOk result (HaveAll stays.now replays.now messages taken.now) }
+{
+    if are_complete(replays, messages, taken) {
+        return Ok(Complete::All);
+    }
+    Ok(Complete::Only(full_of(alloc, stays, replays, messages, taken)?))
+}
+
 /// What is seen of a configuration by laying its stays beside a sequence. A no is not to be trusted.
-#[derive(Clone, Copy)]
+#[derive(Drop)]
 pub struct Uniformity {
     /// Whether the configuration is uniform.
     pub uniform: bool,
-    /// Whether all that was sent in the configuration is delivered by all who came to it.
-    pub complete: bool,
+    /// Who delivers all that was sent in the configuration.
+    pub complete: Complete,
 }
 
-/// What is seen in either way.
-fn either(first: Uniformity, second: Uniformity) -> Uniformity
-    ensures uniform { result.uniform ≡ (first.uniform || second.uniform) }
-    ensures complete { result.complete ≡ (first.complete || second.complete) }
-{
-    Uniformity {
-        uniform: first.uniform || second.uniform,
-        complete: first.complete || second.complete,
+impl Uniformity {
+    /// Whether nothing is seen.
+    fn is_blank(&self) -> bool {
+        !self.uniform && matches!(&self.complete, Complete::Only(procs) if procs.is_empty())
     }
+}
+
+/// What is seen in the second way, or in the first one if nothing is seen in the second.
+fn either(stays: &[Stay], first: Uniformity, second: Uniformity) -> Uniformity
+    requires first { IsSeenOf stays.now first }
+    requires second { IsSeenOf stays.now second }
+    ensures { IsSeenOf stays.now result }
+{
+    let _ = stays;
+    if second.is_blank() { first } else { second }
 }
 
 /// What is seen with this sequence.
@@ -192,15 +255,21 @@ fn uniformity_along(
     let Some(found) = aligned(alloc, stays, messages)? else {
         return Ok(Uniformity {
             uniform: false,
-            complete: false,
+            complete: Complete::Only(Vec::new(alloc)),
         });
     };
     let uniform = all_settled(alloc, stays, &found.replays, &found.origins)?;
-    let complete = are_complete(&found.replays, found.messages.len(), &found.origins.taken);
+    let complete = complete_along(
+        alloc,
+        stays,
+        &found.replays,
+        found.messages.len(),
+        &found.origins.taken,
+    )?;
     Ok(Uniformity { uniform, complete })
 }
 
-/// What is seen with the sequence of the stay that delivers most besides what is seen with that of the stay over the most entries.
+/// What is seen with the sequence of the stay that delivers most, or with that of the stay over the most entries.
 fn uniformity_of_fullest(
     alloc: Global,
     stays: &[Stay],
@@ -217,7 +286,7 @@ fn uniformity_of_fullest(
         return Ok(first);
     };
     let second = uniformity_along(alloc, stays, messages)?;
-    Ok(either(first, second))
+    Ok(either(stays, first, second))
 }
 
 /// What is seen with the sequences that the stays suggest, up to one with which the configuration is uniform.
@@ -233,5 +302,5 @@ pub fn uniformity_of(alloc: Global, stays: &[Stay]) -> Result<Uniformity, AllocE
     }
     let ordered = ordered_sequence(alloc, stays)?;
     let last = uniformity_along(alloc, stays, ordered)?;
-    Ok(either(second, last))
+    Ok(either(stays, second, last))
 }

@@ -1,9 +1,8 @@
 use Rattle.std.proofs.Common.{◌+◌}
-use Rattle.totem_evs.specs.contracts.pending.PendingOrd.TheImpl as pending
 use Rattle.totem_agreement.specs.Pendings.{Adds}
 use Rattle.totem_agreement.proofs.Adding.{Between}
 use Rattle.totem_agreement.proofs.Pend.{MissesBy}
 use Rattle.totem_agreement.proofs.pendings.add_missing_from.Given as goal
 
 abbrev pub invariant-loop-at : goal.invariant-loop-at
-invariant-loop-at l = Adds pending.cmp-value.it (Between (MissesBy l.stays.ring l.stay l.sender) (l.sender.from + 1) l.at) l.fn.set l.set
+invariant-loop-at l = Adds (Between (MissesBy l.stays.ring l.stay l.sender) (l.sender.from + 1) l.at) l.fn.list.items l.list.items

@@ -1,9 +1,8 @@
 use Rattle.std.proofs.Common.{◌≡◌, ◌∙◌}
 use Rattle.std.proofs.lemmas.Option.{get_or_from_slice_get}
-use Rattle.std.specs.Bool.{OnTrue}
 use Rattle.totem_agreement.specs.Findings.{AreFindings}
 use Rattle.totem_agreement.specs.Owed.{IsUniform, IsSeenOf}
-use Rattle.totem_agreement.specs.Pendings.{HasNonePending}
+use Rattle.totem_agreement.specs.Completeness.{AreCompleteIn}
 use Rattle.totem_agreement.proofs.Facts.{facts}
 use Rattle.totem_agreement.proofs.Uniformity.{all_met}
 use Rattle.totem_agreement.proofs.jobs.Jobs.findings.Goals as goal
@@ -15,6 +14,6 @@ returns-then-seen c =
     let stays = c.in_ok-list.list.items in
     let seen : IsSeenOf stays c.in_ok-seen.seen = rw c.deref.ensures.value at c.in_ok-seen.ensures in
     let uniform : IsUniform stays = rw c.if-seen.true at seen.uniform in
-    let closed : OnTrue c.none.result.complete (HasNonePending run ring) = rw c.none.ensures.complete c.is_closed-closed.ensures in
-    let met : AreFindings run ring c.none.result = all_met run ring stays c.none.result (facts run ring stays ∣ c.requires.jobs.meets ∣₁ ∣ c.in_ok-list.ensures ∣₁) c.in_ok-list.ensures uniform c.none.ensures.none closed in
+    let complete : AreCompleteIn run ring c.none.result.complete = rw c.none.ensures.complete c.complete_in-complete.ensures in
+    let met : AreFindings run ring c.none.result = all_met run ring stays c.none.result (facts run ring stays ∣ c.requires.jobs.meets ∣₁ ∣ c.in_ok-list.ensures ∣₁) c.in_ok-list.ensures uniform c.none.ensures.none complete in
     record { at = λ d stands. (let same : ring ≡ d = c.index-ring.ensures ∙ get_or_from_slice_get c.args.self.now.rings.items c.args.index d ring stands in rw same at met) }

@@ -1,8 +1,0 @@
-use Rattle.totem_evs.specs.contracts.pending.PendingOrd.TheImpl as pending
-use Rattle.totem_agreement.specs.Pendings.{Adds}
-use Rattle.totem_agreement.proofs.Adding.{Between}
-use Rattle.totem_agreement.proofs.Pend.{MissesOf}
-use Rattle.totem_agreement.proofs.pendings.add_kept.Given as goal
-
-abbrev pub invariant-loop-sender : goal.invariant-loop-sender
-invariant-loop-sender l = Adds pending.cmp-value.it (Between (MissesOf l.stays.ring l.stays.list.items l.stay) 0 l.sender-index) l.fn.set l.set

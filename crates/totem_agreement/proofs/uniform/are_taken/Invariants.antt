@@ -1,0 +1,5 @@
+use Rattle.totem_agreement.proofs.Whole.{TakenUpTo}
+use Rattle.totem_agreement.proofs.uniform.are_taken.Given as goal
+
+abbrev pub invariant-loop-k : goal.invariant-loop-k
+invariant-loop-k l = TakenUpTo l.replays l.taken l.k
