@@ -14,9 +14,9 @@ use Rattle.totem_evs.specs.declared.log.Log.{Log}
 use Rattle.totem_evs.specs.Events.{log_of, ChangesTo}
 use Rattle.totem_evs.specs.Answers.{MeetsPasses}
 use Rattle.totem_evs.proofs.LogOf.{Rising, log_of_at, less_or_not}
-use Rattle.totem_passes.specs.declared.visit.Visit.{Visit}
+use Rattle.totem_passes.specs.declared.keys.Visit.{Visit}
 use Rattle.totem_passes.proofs.QuickSends.{visit}
-use Rattle.totem_agreement.specs.declared.arrival.Arrival.{Arrival}
+use Rattle.totem_agreement.specs.declared.comings.Arrival.{Arrival}
 use Rattle.totem_agreement.specs.Arrivals.{IsArrival, IsBelowArrival, AreArrivals}
 use Rattle.totem_agreement.specs.Comings.{HoldsComings}
 

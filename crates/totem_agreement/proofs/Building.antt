@@ -10,7 +10,7 @@ use Rattle.totem_evs.specs.Events.{ChangesTo, IsQuiet, log_of, ending_of}
 use Rattle.totem_evs.specs.Following.{NeverFails}
 use Rattle.totem_evs.specs.Answers.{MeetsPasses}
 use Rattle.totem_evs.proofs.LogOf.{log_of_at, log_of_cases, in_order}
-use Rattle.totem_agreement.specs.declared.arrival.Arrival.{Arrival}
+use Rattle.totem_agreement.specs.declared.comings.Arrival.{Arrival}
 use Rattle.totem_agreement.specs.declared.stay.Stay.{Stay}
 use Rattle.totem_agreement.specs.Arrivals.{IsArrival, AreArrivals}
 use Rattle.totem_agreement.specs.Stays.{AreNextTwo, IsStay, IsStayOf, HasStay, AreStays}

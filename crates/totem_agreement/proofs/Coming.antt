@@ -14,7 +14,7 @@ use Rattle.totem_evs.specs.declared.entry.Entry.TheVariants.{Conf}
 use Rattle.totem_evs.specs.declared.log.Log.{Log}
 use Rattle.totem_evs.specs.Events.{log_of, ChangesTo, IsChange}
 use Rattle.totem_evs.specs.Answers.{IsRing}
-use Rattle.totem_passes.specs.declared.visit.Visit.{Visit}
+use Rattle.totem_passes.specs.declared.keys.Visit.{Visit}
 use Rattle.totem_passes.specs.Registers.{Keeps, StaysSound}
 use Rattle.totem_passes.proofs.Knowing.{equal_at, apart_or_at}
 use Rattle.totem_passes.proofs.QuickSends.{visit}

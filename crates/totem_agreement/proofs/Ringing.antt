@@ -18,7 +18,7 @@ use Rattle.totem_evs.specs.declared.log.Log.{Log}
 use Rattle.totem_evs.specs.Events.{log_of}
 use Rattle.totem_evs.specs.Answers.{IsRing, AreRings}
 use Rattle.totem_evs.proofs.LogOf.{less_or_not}
-use Rattle.totem_passes.specs.declared.visit.Visit.{Visit}
+use Rattle.totem_passes.specs.declared.keys.Visit.{Visit}
 use Rattle.totem_passes.proofs.Exact.{exact_ring}
 use Rattle.totem_agreement.specs.Comings.{HoldsComings}
 

@@ -4,7 +4,7 @@ use Rattle.totem_ids.specs.declared.ring.RingId.{RingId}
 use Rattle.totem_ids.specs.declared.conf.ConfId.TheVariants.{Regular}
 use Rattle.totem_evs.specs.declared.log.Log.{Log}
 use Rattle.totem_evs.specs.Events.{ChangesTo}
-use Rattle.totem_agreement.specs.declared.arrival.Arrival.{Arrival}
+use Rattle.totem_agreement.specs.declared.comings.Arrival.{Arrival}
 
 -- its log changes to c there
 pub record IsArrival (run : List Log) (c : RingId) (arrival : Arrival) : Type 0 where

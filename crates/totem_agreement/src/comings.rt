@@ -1,7 +1,6 @@
 //! The changes to regular configurations: the rings, and where each process comes to each.
 ghost use Rattle.std.specs.Prelude.{◌≡◌, ◌<◌, ◌≤◌, List, length};
 
-use crate::arrival::Arrival;
 use crate::stay::{Stay, stay_from};
 use std::alloc::{AllocError, Global};
 use std::collections::{BTreeMap, BTreeSet};
@@ -9,6 +8,13 @@ use totem_evs::{Entry, Run};
 use totem_ids::{ConfId, Proc, RingId};
 use totem_passes::{ChangeRegister, Visit, enter_changes};
 use totem_table::Changes;
+
+/// A change to a regular configuration: in which log of the run, counted from 0, and at which index of that log.
+#[derive(Clone, Copy, PartialEq, Eq, PartialOrd, Ord)]
+pub struct Arrival {
+    pub log: usize,
+    pub at: usize,
+}
 
 /// The rings of the regular configurations, and the index at which each process changes to each of these.
 #[derive(Drop)]

@@ -4,12 +4,10 @@
 
 mod act;
 mod alike;
-mod arrival;
 mod atomicity;
 mod causality;
 mod comings;
 mod complete;
-mod entries;
 mod events;
 mod findings;
 mod gap;

@@ -1,5 +1,6 @@
 //! The stays of all processes in one regular configuration, and what they sent and delivered there.
 ghost use Rattle.std.specs.Prelude.{◌≡◌, ◌↔◌, ◌<◌, IsTrue, IfSome, IfNone, IfOk, Some, length, slice_get};
+ghost use Rattle.totem_evs.specs.Events.{log_of};
 ghost use Rattle.totem_evs.specs.Answers.{MeetsPasses};
 ghost use Rattle.totem_evs.specs.Missing.{members_of};
 ghost use Rattle.totem_agreement.specs.declared.act.Act.{Act};
@@ -178,5 +179,14 @@ impl<'r> Stays<'r> {
     {
         let change = if at < stay.turn { stay.from } else { stay.turn };
         members_of(&stay.log[change])
+    }
+
+    /// The entry at this index of a stay.
+    pub fn entry_in<'l>(&self, stay: &Stay<'l>, at: usize) -> &'l Entry
+        requires among { IsAmong self.now.list.items stay.now }
+        requires inside { IsInside stay.now at }
+        ensures { slice_get (log_of self.now.run.now.logs stay.now.proc) at ≡ Some result.now }
+    {
+        &stay.log[at]
     }
 }

@@ -23,8 +23,8 @@ use Rattle.totem_ids.proofs.ServiceSpelling.{service_is}
 use Rattle.totem_ids.proofs.Spelled.{byte_is, word_is, number_to_is, conf_is}
 use Rattle.totem_evs.specs.declared.entry.Entry.TheVariants.{Conf, Send, Deliver, Fail}
 use Rattle.totem_evs.specs.declared.ending.Ending.TheVariants.{Standing, Failed, Quiet}
-use Rattle.totem_evs.specs.declared.line.Line.{Line}
-use Rattle.totem_evs.specs.declared.line.Line.TheVariants as lines
+use Rattle.totem_evs.specs.declared.lines.Line.{Line}
+use Rattle.totem_evs.specs.declared.lines.Line.TheVariants as lines
 use Rattle.totem_evs.specs.RunText.{line, members_text}
 use Rattle.totem_evs.specs.Endings.{writes_quiet}
 use Rattle.totem_evs.specs.RunGrammar.{members_at, change_at, send_at, delivery_at, open_at, quiet_at, failed_at, fail_at, ail_at, failure_at, line_at}

@@ -15,8 +15,8 @@ use Rattle.totem_ids.specs.Parsers.{conf_at}
 use Rattle.totem_ids.specs.Texts.{conf_text, IsConf}
 use Rattle.totem_ids.proofs.Readers.{last_of}
 use Rattle.totem_ids.proofs.Spelled.{taken, word_is, word_again, conf_is, conf_again}
-use Rattle.totem_evs.specs.declared.line.Line.{Line}
-use Rattle.totem_evs.specs.declared.line.Line.TheVariants as lines
+use Rattle.totem_evs.specs.declared.lines.Line.{Line}
+use Rattle.totem_evs.specs.declared.lines.Line.TheVariants as lines
 use Rattle.totem_evs.specs.declared.entry.Entry.TheVariants.{Conf}
 use Rattle.totem_evs.specs.Members.{IsMembersIn}
 use Rattle.totem_evs.specs.RunText.{members_text}

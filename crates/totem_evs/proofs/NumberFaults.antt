@@ -17,8 +17,8 @@ use Rattle.totem_ids.proofs.Readers.{first_other, next_digit, next_over, next_ot
 use Rattle.totem_ids.proofs.Spelled.{byte_is, decimal_push, reads_decimal, number_is, number_again}
 use Rattle.totem_evs.specs.declared.entry.Entry.{Entry}
 use Rattle.totem_evs.specs.declared.ending.Ending.{Ending}
-use Rattle.totem_evs.specs.declared.line.Line.{Line}
-use Rattle.totem_evs.specs.declared.line.Line.TheVariants as lines
+use Rattle.totem_evs.specs.declared.lines.Line.{Line}
+use Rattle.totem_evs.specs.declared.lines.Line.TheVariants as lines
 use Rattle.totem_ids.specs.Services.{service_at}
 use Rattle.totem_evs.specs.Endings.{writes_quiet}
 use Rattle.totem_evs.specs.RunGrammar.{is_failure, members_at, change_at, send_at, delivery_at, open_at, quiet_at, failed_at, fail_at, ail_at, failure_at, line_at, by_line, lines_at, log_at, run_words, run_at}

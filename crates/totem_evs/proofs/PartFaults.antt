@@ -8,8 +8,8 @@ use Rattle.totem_ids.specs.declared.fault.TextFault.TheVariants as faults
 use Rattle.totem_ids.specs.Sources.{Parsed, ◌>>=◌}
 use Rattle.totem_ids.specs.Numbers.{byte_at, word_at}
 use Rattle.totem_ids.proofs.Spelled.{taken, word_is}
-use Rattle.totem_evs.specs.declared.line.Line.{Line}
-use Rattle.totem_evs.specs.declared.line.Line.TheVariants as lines
+use Rattle.totem_evs.specs.declared.lines.Line.{Line}
+use Rattle.totem_evs.specs.declared.lines.Line.TheVariants as lines
 use Rattle.totem_evs.specs.declared.ending.Ending.TheVariants.{Standing, Failed, Quiet}
 use Rattle.totem_evs.specs.RunText.{line}
 use Rattle.totem_evs.specs.Endings.{writes_quiet}

@@ -14,8 +14,8 @@ use Rattle.std.proofs.lemmas.Bool.Decides.{nat_tests}
 use Rattle.totem_evs.specs.declared.entry.Entry.{Entry}
 use Rattle.totem_evs.specs.declared.log.Log.{Log}
 use Rattle.totem_evs.specs.declared.ending.Ending.{Ending}
-use Rattle.totem_evs.specs.declared.line.Line.{Line}
-use Rattle.totem_evs.specs.declared.line.Line.TheVariants as lines
+use Rattle.totem_evs.specs.declared.lines.Line.{Line}
+use Rattle.totem_evs.specs.declared.lines.Line.TheVariants as lines
 use Rattle.totem_evs.specs.RunGrammar.{is_failure, members_at, line_at, by_line, lines_at, log_at, run_words, logs_at, run_at}
 use Rattle.totem_evs.specs.Heads.{Words, records_at, head_at, by_head, header_at}
 

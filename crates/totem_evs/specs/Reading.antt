@@ -10,8 +10,8 @@ use Rattle.totem_evs.specs.declared.run.Run.{Run}
 use Rattle.totem_evs.specs.declared.run_fault.RunFault.{RunFault}
 use Rattle.totem_evs.specs.declared.run_fault.RunFault.TheVariants as faults
 use Rattle.totem_evs.specs.declared.part.Part.{Part}
-use Rattle.totem_evs.specs.declared.next.Next.{Next}
-use Rattle.totem_evs.specs.declared.next.Next.TheVariants as next
+use Rattle.totem_evs.specs.declared.run_reader.Next.{Next}
+use Rattle.totem_evs.specs.declared.run_reader.Next.TheVariants as next
 use Rattle.totem_evs.specs.Runs.{IsRunOf}
 use Rattle.totem_evs.specs.RunText.{run_text}
 use Rattle.totem_evs.specs.Heads.{header_at}

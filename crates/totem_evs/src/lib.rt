@@ -11,13 +11,11 @@ mod form;
 mod gathered;
 mod heads;
 mod laws;
-mod line;
 mod lines;
 mod lives;
 mod log;
 mod logs;
 mod members;
-mod next;
 mod part;
 mod part_laws;
 mod part_reader;
@@ -46,14 +44,13 @@ pub use laws::{
 pub use log::Log;
 pub use logs::Logs;
 pub use members::Members;
-pub use next::Next;
 pub use part::Part;
 pub use part_laws::{parts_make_the_run, text_is_of_parts};
 pub use pending::{Pending, Waiting};
 pub use reading::{read_end, read_run};
 pub use run::Run;
 pub use run_fault::RunFault;
-pub use run_reader::RunReader;
+pub use run_reader::{Next, RunReader};
 pub use spec::SpecNo;
 pub use text_laws::{
     a_fault_is_no_text, cut_text_goes_on, fault_byte_is_first, fault_is_first,

@@ -7,13 +7,19 @@ ghost use Rattle.totem_evs.specs.RunGrammar.{members_at, change_at, send_at, del
 
 use crate::ending::{Ending, may_be_quiet};
 use crate::entry::Entry;
-use crate::line::Line;
 use crate::members::Members;
 use std::alloc::Global;
 use totem_ids::{
     ReadError, Source, TextFault, Version, life_fits, next, read_conf, read_message, read_process,
     read_service, word,
 };
+
+/// A line of a log after the first: an entry, or the word that closes the log.
+#[derive(Drop)]
+pub enum Line {
+    Entry(Entry),
+    Close(Ending),
+}
 
 // Members up to the line end.
 fn read_members<S: Source>(

@@ -7,8 +7,7 @@ ghost use Rattle.totem_evs.specs.ReadState.{ComesBetween, ComesWithin, MayCome};
 
 use crate::form::RunText;
 use crate::heads::read_head;
-use crate::line::Line;
-use crate::lines::read_line;
+use crate::lines::{Line, read_line};
 use crate::part::Part;
 use crate::stage::{OpenLog, Stage};
 use std::alloc::Global;

@@ -4,13 +4,22 @@ ghost use Rattle.totem_ids.specs.Sources.{seen};
 
 use crate::form::RunText;
 use crate::heads::read_header;
-use crate::next::Next;
+use crate::part::Part;
 use crate::part_reader::PartReader;
 use crate::run_fault::RunFault;
 use std::alloc::Global;
 use std::fmt;
 use std::marker::Model;
 use totem_ids::Source;
+
+/// What `RunReader::next` gives.
+#[derive(Debug, Drop)]
+pub enum Next {
+    /// The next part, and the reader of what follows it.
+    Part(Part, RunReader),
+    /// The run has ended.
+    End,
+}
 
 /// Reads a run part by part. It holds what the rules need, and none of the text.
 #[derive(Drop)]

@@ -8,15 +8,15 @@ use Rattle.totem_ids.specs.declared.ring.RingId.{RingId}
 use Rattle.totem_ids.specs.declared.conf.ConfId.{ConfId}
 use Rattle.totem_ids.specs.declared.conf.ConfId.TheVariants.{Regular, Transitional}
 use Rattle.totem_ids.specs.declared.message.MsgId.{MsgId}
-use Rattle.totem_passes.specs.declared.sending.Sending.{Sending}
-use Rattle.totem_passes.specs.declared.visit.Visit.{Visit}
+use Rattle.totem_passes.specs.declared.keys.Sending.{Sending}
+use Rattle.totem_passes.specs.declared.keys.Visit.{Visit}
 use Rattle.totem_evs.proofs.ProcOrder.{exact_proc}
 use Rattle.totem_ids.specs.contracts.life.ProcOrd.TheImpl as life
 use Rattle.totem_ids.specs.contracts.ring.RingIdOrd.TheImpl as ring
 use Rattle.totem_ids.specs.contracts.conf.ConfIdOrd.TheImpl as conf
 use Rattle.totem_ids.specs.contracts.message.MsgIdOrd.TheImpl as message
-use Rattle.totem_passes.specs.contracts.sending.SendingOrd.TheImpl as sending
-use Rattle.totem_passes.specs.contracts.visit.VisitOrd.TheImpl as visit
+use Rattle.totem_passes.specs.contracts.keys.SendingOrd.TheImpl as sending
+use Rattle.totem_passes.specs.contracts.keys.VisitOrd.TheImpl as visit
 
 pub both_equal : (a b : Ordering) → ordering_then a b ≡ Equal → (a ≡ Equal) × (b ≡ Equal)
 both_equal Less b e = absurd cc

@@ -11,7 +11,7 @@ use Rattle.totem_evs.specs.declared.entry.Entry.{Entry}
 use Rattle.totem_evs.specs.declared.entry.Entry.TheVariants.{Conf, Send, Deliver, Fail}
 use Rattle.totem_evs.specs.declared.log.Log.{Log}
 use Rattle.totem_evs.specs.Events.{log_of, IsChange}
-use Rattle.totem_passes.specs.declared.visit.Visit.{Visit}
+use Rattle.totem_passes.specs.declared.keys.Visit.{Visit}
 use Rattle.totem_passes.specs.Met.{IsMet}
 use Rattle.totem_passes.specs.Registers.{Keeps, KnowsRun}
 use Rattle.totem_passes.specs.Forms.{KnowsChange}

@@ -17,8 +17,8 @@ use Rattle.totem_evs.specs.declared.log.Log.{Log}
 use Rattle.totem_evs.specs.Events.{log_of, IsChange, IsTransitional, WasSentIn}
 use Rattle.totem_evs.specs.Following.{IsFirstChange, Follows}
 use Rattle.totem_evs.specs.Changes.{ChangesNext}
-use Rattle.totem_passes.specs.declared.sending.Sending.{Sending}
-use Rattle.totem_passes.specs.declared.visit.Visit.{Visit}
+use Rattle.totem_passes.specs.declared.keys.Sending.{Sending}
+use Rattle.totem_passes.specs.declared.keys.Visit.{Visit}
 use Rattle.totem_passes.specs.Registers.{StaysSound, KnowsLog}
 use Rattle.totem_passes.specs.Sendings.{WereSent}
 use Rattle.totem_passes.specs.Followed.{KnowsVisit, AreFollowed}

@@ -14,8 +14,8 @@ use Rattle.totem_ids.specs.declared.message.MsgId.{MsgId}
 use Rattle.totem_evs.specs.declared.entry.Entry.{Entry}
 use Rattle.totem_evs.specs.declared.log.Log.{Log}
 use Rattle.totem_evs.specs.Events.{log_of, WasSentIn}
-use Rattle.totem_passes.specs.declared.sending.Sending.{Sending}
-use Rattle.totem_passes.specs.declared.visit.Visit.{Visit}
+use Rattle.totem_passes.specs.declared.keys.Sending.{Sending}
+use Rattle.totem_passes.specs.declared.keys.Visit.{Visit}
 use Rattle.totem_passes.specs.Sent.{WasSentTo}
 use Rattle.totem_passes.specs.Sendings.{WereSent}
 use Rattle.totem_passes.specs.Followed.{AreFollowed}

@@ -13,7 +13,7 @@ use Rattle.totem_evs.specs.declared.entry.Entry.{Entry}
 use Rattle.totem_evs.specs.declared.entry.Entry.TheVariants.{Conf, Send, Deliver, Fail}
 use Rattle.totem_evs.specs.declared.log.Log.{Log}
 use Rattle.totem_evs.specs.Events.{log_of}
-use Rattle.totem_passes.specs.declared.delivery.Delivery.{Delivery}
+use Rattle.totem_passes.specs.declared.keys.Delivery.{Delivery}
 use Rattle.totem_passes.specs.Met.{IsMet, Knows}
 use Rattle.totem_passes.specs.Registers.{Keeps, KnowsRun}
 use Rattle.totem_passes.specs.Repeats.{KnowsAct}

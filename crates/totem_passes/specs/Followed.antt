@@ -11,7 +11,7 @@ use Rattle.totem_evs.specs.declared.entry.Entry.{Entry}
 use Rattle.totem_evs.specs.declared.log.Log.{Log}
 use Rattle.totem_evs.specs.Events.{log_of, ChangesTo}
 use Rattle.totem_evs.specs.Following.{Follows}
-use Rattle.totem_passes.specs.declared.visit.Visit.{Visit}
+use Rattle.totem_passes.specs.declared.keys.Visit.{Visit}
 
 -- p's change at i to a regular configuration is among the visits
 pub record KnowsVisit (by_visit : Visit → Visit → Ordering) (visits : BTreeSet Visit) (p : ℕ) (log : List Entry) (i : ℕ) : Type 0 where

@@ -7,7 +7,7 @@ use Rattle.totem_ids.specs.declared.conf.ConfId.{ConfId}
 use Rattle.totem_ids.specs.declared.place.Place.{Place}
 use Rattle.totem_evs.specs.declared.entry.Entry.{Entry}
 use Rattle.totem_evs.specs.Events.{Sends, Delivers}
-use Rattle.totem_passes.specs.declared.delivery.Delivery.{Delivery}
+use Rattle.totem_passes.specs.declared.keys.Delivery.{Delivery}
 use Rattle.totem_passes.specs.Met.{Knows}
 use Rattle.totem_passes.specs.Search.{place}
 

@@ -9,7 +9,7 @@ use Rattle.totem_ids.specs.declared.ring.RingId.{RingId}
 use Rattle.totem_evs.specs.declared.entry.Entry.{Entry}
 use Rattle.totem_evs.specs.declared.log.Log.{Log}
 use Rattle.totem_evs.specs.Events.{Sends, WasSentIn}
-use Rattle.totem_passes.specs.declared.sending.Sending.{Sending}
+use Rattle.totem_passes.specs.declared.keys.Sending.{Sending}
 
 -- the send at i in a regular configuration is among them
 pub record KnowsSend (by_sending : Sending → Sending → Ordering) (sends : BTreeSet Sending) (log : List Entry) (i : ℕ) : Type 0 where

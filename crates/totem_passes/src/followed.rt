@@ -3,9 +3,9 @@ ghost use Rattle.std.specs.Prelude.{◌≡◌, ◌↔◌, IsTrue};
 ghost use Rattle.totem_passes.specs.Followed.{KnowsVisit, AreFollowed};
 
 use crate::change_register::ChangeRegister;
+use crate::keys::Visit;
 use crate::kinds::is_transitional;
 use crate::turn::turn_between;
-use crate::visit::Visit;
 use std::alloc::{AllocError, Global};
 use std::collections::{BTreeMap, BTreeSet};
 use totem_evs::Entry;

@@ -3,8 +3,8 @@ ghost use Rattle.std.specs.Prelude.{◌≡◌, ℕ, ◌<◌, List};
 ghost use Rattle.totem_passes.specs.Forms.{KnowsChange};
 
 use crate::change_register::ChangeRegister;
+use crate::keys::Visit;
 use crate::met::{Met, Same};
-use crate::visit::Visit;
 use std::alloc::{AllocError, Global};
 use totem_evs::{Entry, Members};
 use totem_ids::{ConfId, Place, Proc};

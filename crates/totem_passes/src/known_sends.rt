@@ -11,7 +11,7 @@ ghost use Rattle.totem_passes.specs.Sent.{WasSentTo, IsSendIn, IsSentBy, IsSentH
 
 use crate::change_register::enter_changes;
 use crate::followed::Followed;
-use crate::visit::Visit;
+use crate::keys::Visit;
 use std::alloc::{AllocError, Global};
 use totem_evs::{Entry, Log, Run};
 use totem_ids::{ConfId, MsgId, Proc, RingId};

@@ -2,7 +2,7 @@
 ghost use Rattle.std.specs.Prelude.{◌≡◌, ℕ, ◌<◌, List};
 ghost use Rattle.totem_passes.specs.Repeats.{KnowsAct};
 
-use crate::delivery::Delivery;
+use crate::keys::Delivery;
 use crate::met::{Met, Same};
 use crate::register::Register;
 use std::alloc::{AllocError, Global};

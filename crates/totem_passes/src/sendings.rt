@@ -3,8 +3,8 @@ ghost use Rattle.std.specs.Prelude.{◌≡◌, ◌↔◌, IsTrue};
 ghost use Rattle.std.specs.BTreeSet.{contains};
 ghost use Rattle.totem_passes.specs.Sendings.{KnowsSend, WereSent};
 
+use crate::keys::Sending;
 use crate::register::Register;
-use crate::sending::Sending;
 use std::alloc::{AllocError, Global};
 use std::collections::BTreeSet;
 use totem_evs::Entry;

@@ -9,7 +9,7 @@ ghost use Rattle.totem_passes.specs.Bad.{IsSendBetween, AreTwice};
 ghost use Rattle.totem_passes.specs.Registers.{KnowsRun};
 ghost use Rattle.totem_passes.specs.Repeats.{KnowsAct};
 
-use crate::delivery::Delivery;
+use crate::keys::Delivery;
 use crate::kinds::is_transitional;
 use crate::pairs::{Standing, Test, least_bad};
 use crate::register::enter_run;

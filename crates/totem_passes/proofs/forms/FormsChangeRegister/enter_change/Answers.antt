@@ -1,5 +1,5 @@
 use Rattle.totem_ids.specs.contracts.conf.ConfIdOrd.TheImpl.Laws as conf
-use Rattle.totem_passes.specs.contracts.visit.VisitOrd.TheImpl.Laws as visit
+use Rattle.totem_passes.specs.contracts.keys.VisitOrd.TheImpl.Laws as visit
 use Rattle.totem_passes.proofs.Forming.{keeps_changes}
 use Rattle.totem_passes.proofs.forms.FormsChangeRegister.enter_change.Goals as goal
 

@@ -1,7 +1,7 @@
 use Rattle.std.proofs.Common.{refl}
 use Rattle.std.proofs.lemmas.Option.{slice_get_read}
 use Rattle.totem_ids.specs.contracts.message.MsgIdOrd.TheImpl.Laws as message
-use Rattle.totem_passes.specs.contracts.delivery.DeliveryOrd.TheImpl.Laws as delivery
+use Rattle.totem_passes.specs.contracts.keys.DeliveryOrd.TheImpl.Laws as delivery
 use Rattle.std.proofs.lemmas.Result.{on_ok_weaker}
 use Rattle.totem_passes.proofs.Repeating.{keeps_sends, keeps_deliveries, enters_delivery, enters_nothing}
 use Rattle.totem_passes.proofs.repeats.RepeatsRegister.enter.Goals as goal

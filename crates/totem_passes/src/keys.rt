@@ -1,0 +1,23 @@
+//! What the maps and sets of the passes are kept by.
+use totem_ids::{ConfId, MsgId, Proc, RingId};
+
+/// A message, and a process that delivers it.
+#[derive(Clone, Copy, PartialEq, Eq, PartialOrd, Ord)]
+pub struct Delivery {
+    pub proc: Proc,
+    pub message: MsgId,
+}
+
+/// A message, and the ring in whose regular configuration it is sent.
+#[derive(Clone, Copy, PartialEq, Eq, PartialOrd, Ord)]
+pub struct Sending {
+    pub message: MsgId,
+    pub ring: RingId,
+}
+
+/// A configuration, and a process that changes to it.
+#[derive(Clone, Copy, Debug, PartialEq, Eq, PartialOrd, Ord)]
+pub struct Visit {
+    pub proc: Proc,
+    pub conf: ConfId,
+}
