@@ -1,11 +1,11 @@
 -- Lines that a text of one version can write, and lines of any lives.
-use Rattle.std.proofs.Common.{◌≡◌, ℕ, List, slice_get, Some, true, false}
+use Rattle.std.proofs.Common.{◌≡◌, List, true, false}
 use Rattle.std.specs.Prelude.{All}
 use Rattle.totem_ids.specs.declared.version.Version.{Version}
 use Rattle.totem_ids.specs.declared.version.Version.TheVariants.{One, Two, Three}
 use Rattle.totem_ids.specs.Processes.{writes_lives}
 use Rattle.totem_evs.specs.Certificates.{Numbering}
-use Rattle.totem_cert.specs.CertLives.{HasFirstLife, IsFirstVersion, IsUnwritten}
+use Rattle.totem_cert.specs.CertLives.{HasFirstLife, IsFirstVersion}
 use Rattle.totem_cert.specs.CertRecord.{CertRecord}
 use Rattle.totem_cert.specs.Keeping.{IsLineIn, IsCertificateIn, IsCertificateOf}
 
@@ -38,7 +38,3 @@ pub first_certificate : (version : Version) (lines : List Numbering) → IsFirst
 first_certificate One lines first is = record { version = tt; lines = all_first One lines first is }
 first_certificate Two lines first is = record { version = tt; lines = is }
 first_certificate Three lines first is = absurd first
-
--- or else it can't write this line
-pub unwritten : (version : Version) (lines : List Numbering) (at : ℕ) (line : Numbering) → writes_lives version ≡ false → slice_get lines at ≡ Some line → (HasFirstLife line → ⊥) → IsUnwritten version lines at
-unwritten version lines at line lives there other = record { lives = lives; line = line; there = there; other = other }

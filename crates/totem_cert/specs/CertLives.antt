@@ -1,5 +1,5 @@
 -- Which lines a text without lives can write (docs/SPECIFICATIONS.md, "Certificates").
-use Rattle.std.specs.Prelude.{◌≡◌, ℕ, List, All, slice_get, Some, false}
+use Rattle.std.specs.Prelude.{◌≡◌, ℕ, List, All, slice_get, take, Some, false}
 use Rattle.totem_ids.specs.declared.version.Version.{Version}
 use Rattle.totem_ids.specs.declared.version.Version.TheVariants.{One, Two, Three}
 use Rattle.totem_ids.specs.Ranks.{life_of}
@@ -20,12 +20,13 @@ IsFirstVersion One lines = All HasFirstLife lines
 IsFirstVersion Two lines = All HasFirstLife lines → ⊥
 IsFirstVersion Three lines = ⊥
 
--- a text of this version writes no lives, and the line at this index is of another than 1
+-- a text of this version writes no lives, and the line at this index is the first of another than 1
 pub record IsUnwritten (version : Version) (lines : List Numbering) (at : ℕ) : Type 0 where
   pub lives : writes_lives version ≡ false
   pub line : Numbering
   pub there : slice_get lines at ≡ Some line
   pub other : HasFirstLife line → ⊥
+  pub before : All HasFirstLife (take at lines)
 
 -- the first rule of a certificate of this version that these lines break
 abbrev pub RefusesCertificate : Version → List Numbering → ListFault → Type 0

@@ -23,7 +23,7 @@ fn put_spec<S: Sink>(pieces: &mut Pieces, sink: &mut S, spec: SpecNo) -> Result<
     ensures { Writes (held S.contents S.failures pieces.old sink.old)
         (held S.contents S.failures pieces.new sink.new) result (spec_text spec) }
 {
-    pieces.put(sink, spec.number().as_bytes())
+    pieces.put(sink, spec.as_str().as_bytes())
 }
 
 fn put_places<S: Sink>(

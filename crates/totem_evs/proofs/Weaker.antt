@@ -1,5 +1,5 @@
 -- A run that a text of one version can write, and one with any lives and endings.
-use Rattle.std.proofs.Common.{◌≡◌, ℕ, List, slice_get, Some, false, refl}
+use Rattle.std.proofs.Common.{◌≡◌, ℕ, List, false, refl}
 use Rattle.std.specs.Prelude.{◌≢◌, All}
 use Rattle.totem_ids.specs.declared.version.Version.{Version}
 use Rattle.totem_ids.specs.declared.version.Version.TheVariants.{One, Two, Three}
@@ -15,7 +15,7 @@ use Rattle.totem_evs.specs.Members.{IsMembersIn}
 use Rattle.totem_evs.specs.Missing.{members_of}
 use Rattle.totem_evs.specs.Runs.{IsEntryIn, IsLogIn, IsRunIn, IsRunOf}
 use Rattle.totem_evs.specs.RunRecord.{RunRecord}
-use Rattle.totem_evs.specs.Lives.{AreFirst, AreLoud, HasFirstLives, IsFirstVersion, IsUnwritten}
+use Rattle.totem_evs.specs.Lives.{AreFirst, AreLoud, HasFirstLives, IsFirstVersion}
 
 -- ---- any lives, any endings
 
@@ -86,7 +86,3 @@ pub first_run : (version : Version) (logs : List Log) → IsFirstVersion version
 first_run One logs first is = in_version One logs (λ h. first.1) (λ h. first.0) is
 first_run Two logs first is = in_version Two logs (λ h. absurd cc) (λ h. first.0) is
 first_run Three logs first is = is
-
--- or else it can't write this log
-pub unwritten : (version : Version) (logs : List Log) (at : ℕ) (log : Log) → writes_lives version ≡ false → slice_get logs at ≡ Some log → (HasFirstLives log → ⊥) → IsUnwritten version logs at
-unwritten version logs at log lives there other = record { lives = lives; log = log; there = there; other = other }

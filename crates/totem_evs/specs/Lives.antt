@@ -1,5 +1,5 @@
 -- Which logs the texts of a version can write (docs/SPECIFICATIONS.md, "Runs").
-use Rattle.std.specs.Prelude.{◌≡◌, ◌≢◌, ℕ, List, All, slice_get, Some, false}
+use Rattle.std.specs.Prelude.{◌≡◌, ◌≢◌, ℕ, List, All, slice_get, take, Some, false}
 use Rattle.totem_ids.specs.declared.version.Version.{Version}
 use Rattle.totem_ids.specs.declared.version.Version.TheVariants.{One, Two, Three}
 use Rattle.totem_ids.specs.Ranks.{life_of}
@@ -31,19 +31,21 @@ IsFirstVersion One logs = AreLoud logs × All HasFirstLives logs
 IsFirstVersion Two logs = AreLoud logs × (All HasFirstLives logs → ⊥)
 IsFirstVersion Three logs = AreLoud logs → ⊥
 
--- a text of this version writes no lives, and the log at this index has others than 1
+-- a text of this version writes no lives, and the log at this index is the first that has others than 1
 pub record IsUnwritten (version : Version) (logs : List LogRecord) (at : ℕ) : Type 0 where
   pub lives : writes_lives version ≡ false
   pub log : LogRecord
   pub there : slice_get logs at ≡ Some log
   pub other : HasFirstLives log → ⊥
+  pub before : All HasFirstLives (take at logs)
 
--- a text of this version has no word for it, and the log at this index is quiet
+-- a text of this version has no word for it, and the log at this index is the first that is quiet
 pub record IsUnsaid (version : Version) (logs : List LogRecord) (at : ℕ) : Type 0 where
   pub unwritten : writes_quiet version ≡ false
   pub log : LogRecord
   pub there : slice_get logs at ≡ Some log
   pub quiet : log.ending ≡ Quiet
+  pub before : AreLoud (take at logs)
 
 -- the first rule of a run of this version that these logs break: lives that are not written come before a word that is not
 abbrev pub RefusesRun : Version → List LogRecord → ListFault → Type 0

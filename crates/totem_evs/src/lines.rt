@@ -1,13 +1,14 @@
 //! Readers of the lines of a log. Each leaves unread what follows the line.
-ghost use Rattle.std.specs.Prelude.{IfOk, Bool};
+ghost use Rattle.std.specs.Prelude.{IfOk, Bool, ◌==◌, nat_lt};
 ghost use Rattle.totem_ids.specs.Sources.{Reads, seen};
 ghost use Rattle.totem_evs.specs.Endings.{writes_quiet};
-ghost use Rattle.totem_evs.specs.NextLines.{MayFollow};
+ghost use Rattle.totem_evs.specs.NextLines.{FollowsIn};
 ghost use Rattle.totem_evs.specs.RunGrammar.{members_at, change_at, send_at, delivery_at, open_at, quiet_at, failed_at, fail_at, ail_at, failure_at, line_at};
 
 use crate::ending::{Ending, may_be_quiet};
 use crate::entry::Entry;
 use crate::members::Members;
+use crate::stage::OpenLog;
 use std::alloc::Global;
 use totem_ids::{
     ReadError, Source, TextFault, Version, life_fits, next, read_conf, read_message, read_process,
@@ -56,13 +57,13 @@ fn read_change<S: Source>(
     alloc: Global,
     source: &mut S,
     version: Version,
-    full: bool,
+    log: OpenLog,
 ) -> Result<Line, ReadError>
     ensures read { Reads (seen S.remaining S.failures source.old)
-        (seen S.remaining S.failures source.new) result (change_at version full) }
-    ensures follows { (written some failed : Bool) → IfOk result (MayFollow written full some failed) }
+        (seen S.remaining S.failures source.new) result (change_at version (log.entries == 1000000)) }
+    ensures follows { (written : Bool) → IfOk result (FollowsIn written log) }
 {
-    if full {
+    if log.is_full() {
         return Err(ReadError::Text(TextFault::TooMany));
     }
     word(source, b"onf ", TextFault::Word)?;
@@ -72,12 +73,12 @@ fn read_change<S: Source>(
 }
 
 #[tactic(auto, using(crate::proofs::ReaderSteps::reader_steps), unfolding(crate::specs::RunGrammar::send_at))]
-fn read_send<S: Source>(source: &mut S, full: bool) -> Result<Line, ReadError>
+fn read_send<S: Source>(source: &mut S, log: OpenLog) -> Result<Line, ReadError>
     ensures read { Reads (seen S.remaining S.failures source.old)
-        (seen S.remaining S.failures source.new) result (send_at full) }
-    ensures follows { (written some failed : Bool) → IfOk result (MayFollow written full some failed) }
+        (seen S.remaining S.failures source.new) result (send_at (log.entries == 1000000)) }
+    ensures follows { (written : Bool) → IfOk result (FollowsIn written log) }
 {
-    if full {
+    if log.is_full() {
         return Err(ReadError::Text(TextFault::TooMany));
     }
     word(source, b"end ", TextFault::Word)?;
@@ -89,12 +90,12 @@ fn read_send<S: Source>(source: &mut S, full: bool) -> Result<Line, ReadError>
 }
 
 #[tactic(auto, using(crate::proofs::ReaderSteps::reader_steps), unfolding(crate::specs::RunGrammar::delivery_at))]
-fn read_delivery<S: Source>(source: &mut S, full: bool) -> Result<Line, ReadError>
+fn read_delivery<S: Source>(source: &mut S, log: OpenLog) -> Result<Line, ReadError>
     ensures read { Reads (seen S.remaining S.failures source.old)
-        (seen S.remaining S.failures source.new) result (delivery_at full) }
-    ensures follows { (written some failed : Bool) → IfOk result (MayFollow written full some failed) }
+        (seen S.remaining S.failures source.new) result (delivery_at (log.entries == 1000000)) }
+    ensures follows { (written : Bool) → IfOk result (FollowsIn written log) }
 {
-    if full {
+    if log.is_full() {
         return Err(ReadError::Text(TextFault::TooMany));
     }
     word(source, b"lv ", TextFault::Word)?;
@@ -104,34 +105,28 @@ fn read_delivery<S: Source>(source: &mut S, full: bool) -> Result<Line, ReadErro
 }
 
 #[tactic(auto, using(crate::proofs::ReaderSteps::reader_steps), unfolding(crate::specs::RunGrammar::open_at))]
-fn read_open<S: Source>(source: &mut S, some: bool, failed: bool) -> Result<Line, ReadError>
+fn read_open<S: Source>(source: &mut S, log: OpenLog) -> Result<Line, ReadError>
     ensures read { Reads (seen S.remaining S.failures source.old)
-        (seen S.remaining S.failures source.new) result (open_at some failed) }
-    ensures follows { (written full : Bool) → IfOk result (MayFollow written full some failed) }
+        (seen S.remaining S.failures source.new) result (open_at (nat_lt 0 log.entries) log.failed) }
+    ensures follows { (written : Bool) → IfOk result (FollowsIn written log) }
 {
-    if !some || failed {
+    if log.is_empty() || log.failed {
         return Err(ReadError::Text(TextFault::End));
     }
     word(source, b"pen\n", TextFault::Word)?;
     Ok(Line::Close(Ending::Standing))
 }
 
-// `written` says that texts have a closing word for quiet logs.
 #[tactic(auto, using(crate::proofs::ReaderSteps::reader_steps), unfolding(crate::specs::RunGrammar::quiet_at))]
-fn read_quiet<S: Source>(
-    source: &mut S,
-    written: bool,
-    some: bool,
-    failed: bool,
-) -> Result<Line, ReadError>
+fn read_quiet<S: Source>(source: &mut S, version: Version, log: OpenLog) -> Result<Line, ReadError>
     ensures read { Reads (seen S.remaining S.failures source.old)
-        (seen S.remaining S.failures source.new) result (quiet_at written some failed) }
-    ensures follows { (full : Bool) → IfOk result (MayFollow written full some failed) }
+        (seen S.remaining S.failures source.new) result (quiet_at (writes_quiet version) (nat_lt 0 log.entries) log.failed) }
+    ensures follows { IfOk result (FollowsIn (writes_quiet version) log) }
 {
-    if !written {
+    if !may_be_quiet(version) {
         return Err(ReadError::Text(TextFault::Word));
     }
-    if failed || !some {
+    if log.is_empty() || log.failed {
         return Err(ReadError::Text(TextFault::End));
     }
     word(source, b"uiet\n", TextFault::Word)?;
@@ -139,12 +134,12 @@ fn read_quiet<S: Source>(
 }
 
 #[tactic(auto, using(crate::proofs::ReaderSteps::reader_steps), unfolding(crate::specs::RunGrammar::failed_at))]
-fn read_failed<S: Source>(source: &mut S, failed: bool) -> Result<Line, ReadError>
+fn read_failed<S: Source>(source: &mut S, log: OpenLog) -> Result<Line, ReadError>
     ensures read { Reads (seen S.remaining S.failures source.old)
-        (seen S.remaining S.failures source.new) result (failed_at failed) }
-    ensures follows { (written full some : Bool) → IfOk result (MayFollow written full some failed) }
+        (seen S.remaining S.failures source.new) result (failed_at log.failed) }
+    ensures follows { (written : Bool) → IfOk result (FollowsIn written log) }
 {
-    if !failed {
+    if !log.failed {
         return Err(ReadError::Text(TextFault::End));
     }
     word(source, b"d\n", TextFault::Word)?;
@@ -152,12 +147,12 @@ fn read_failed<S: Source>(source: &mut S, failed: bool) -> Result<Line, ReadErro
 }
 
 #[tactic(auto, using(crate::proofs::ReaderSteps::reader_steps), unfolding(crate::specs::RunGrammar::fail_at))]
-fn read_fail<S: Source>(source: &mut S, full: bool) -> Result<Line, ReadError>
+fn read_fail<S: Source>(source: &mut S, log: OpenLog) -> Result<Line, ReadError>
     ensures read { Reads (seen S.remaining S.failures source.old)
-        (seen S.remaining S.failures source.new) result (fail_at full) }
-    ensures follows { (written some failed : Bool) → IfOk result (MayFollow written full some failed) }
+        (seen S.remaining S.failures source.new) result (fail_at (log.entries == 1000000)) }
+    ensures follows { (written : Bool) → IfOk result (FollowsIn written log) }
 {
-    if full {
+    if log.is_full() {
         return Err(ReadError::Text(TextFault::TooMany));
     }
     let conf = read_conf(source, b'\n')?;
@@ -165,57 +160,54 @@ fn read_fail<S: Source>(source: &mut S, full: bool) -> Result<Line, ReadError>
 }
 
 #[tactic(auto, using(crate::proofs::ReaderSteps::reader_steps), unfolding(crate::specs::RunGrammar::ail_at))]
-fn read_ail<S: Source>(source: &mut S, full: bool, failed: bool) -> Result<Line, ReadError>
+fn read_ail<S: Source>(source: &mut S, log: OpenLog) -> Result<Line, ReadError>
     ensures read { Reads (seen S.remaining S.failures source.old)
-        (seen S.remaining S.failures source.new) result (ail_at full failed) }
-    ensures follows { (written some : Bool) → IfOk result (MayFollow written full some failed) }
+        (seen S.remaining S.failures source.new) result (ail_at (log.entries == 1000000) log.failed) }
+    ensures follows { (written : Bool) → IfOk result (FollowsIn written log) }
 {
     word(source, b"ail", TextFault::Word)?;
     let letter = next(source)?;
     if letter == b'e' {
-        return read_failed(source, failed);
+        return read_failed(source, log);
     }
     if letter == b' ' {
-        return read_fail(source, full);
+        return read_fail(source, log);
     }
     Err(ReadError::Text(TextFault::Word))
 }
 
 #[tactic(auto, using(crate::proofs::ReaderSteps::reader_steps), unfolding(crate::specs::RunGrammar::failure_at))]
-fn read_failure<S: Source>(source: &mut S, full: bool, failed: bool) -> Result<Line, ReadError>
+fn read_failure<S: Source>(source: &mut S, log: OpenLog) -> Result<Line, ReadError>
     ensures read { Reads (seen S.remaining S.failures source.old)
-        (seen S.remaining S.failures source.new) result (failure_at full failed) }
-    ensures follows { (written some : Bool) → IfOk result (MayFollow written full some failed) }
+        (seen S.remaining S.failures source.new) result (failure_at (log.entries == 1000000) log.failed) }
+    ensures follows { (written : Bool) → IfOk result (FollowsIn written log) }
 {
-    if full && !failed {
+    if log.is_full() && !log.failed {
         return Err(ReadError::Text(TextFault::TooMany));
     }
-    read_ail(source, full, failed)
+    read_ail(source, log)
 }
 
-/// Reads the next line of a log. `some` says that the log has an entry already, `failed` that the last one is a
-/// failure, and `full` that no further entry may come.
+/// Reads the next line of a log that has not ended.
 #[tactic(auto, using(crate::proofs::ReaderSteps::reader_steps), unfolding(crate::specs::RunGrammar::line_at))]
 pub fn read_line<S: Source>(
     alloc: Global,
     source: &mut S,
     version: Version,
-    full: bool,
-    some: bool,
-    failed: bool,
+    log: OpenLog,
 ) -> Result<Line, ReadError>
     ensures read { Reads (seen S.remaining S.failures source.old)
-        (seen S.remaining S.failures source.new) result (line_at version full some failed) }
-    ensures follows { IfOk result (MayFollow (writes_quiet version) full some failed) }
+        (seen S.remaining S.failures source.new) result (line_at version (log.entries == 1000000) (nat_lt 0 log.entries) log.failed) }
+    ensures follows { IfOk result (FollowsIn (writes_quiet version) log) }
 {
     let letter = next(source)?;
     match letter {
-        b'c' => read_change(alloc, source, version, full),
-        b's' => read_send(source, full),
-        b'd' => read_delivery(source, full),
-        b'f' => read_failure(source, full, failed),
-        b'o' => read_open(source, some, failed),
-        b'q' => read_quiet(source, may_be_quiet(version), some, failed),
+        b'c' => read_change(alloc, source, version, log),
+        b's' => read_send(source, log),
+        b'd' => read_delivery(source, log),
+        b'f' => read_failure(source, log),
+        b'o' => read_open(source, log),
+        b'q' => read_quiet(source, version, log),
         _ => Err(ReadError::Text(TextFault::Word)),
     }
 }

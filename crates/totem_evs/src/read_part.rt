@@ -16,9 +16,6 @@ use totem_ids::{ReadError, Source, Version};
 /// How many logs a run may have at most.
 const MOST_LOGS: u32 = 32;
 
-/// How many entries a log may have at most.
-const MOST_ENTRIES: u32 = 1_000_000;
-
 // Where no log is open: a log begins, or the run ends.
 #[tactic(auto, using(crate::proofs::ReaderSteps::reader_steps), unfolding(crate::specs::Parts::begun_at))]
 fn read_between<S: Source>(
@@ -50,8 +47,7 @@ fn read_within<S: Source>(
         (seen S.remaining S.failures source.new) result (within_at version log.entries log.failed) }
     ensures comes { IfOk result (ComesWithin (writes_quiet version) log.entries log.failed) }
 {
-    let full = log.entries == MOST_ENTRIES;
-    let line = read_line(alloc, source, version, full, log.entries > 0, log.failed)?;
+    let line = read_line(alloc, source, version, log)?;
     match line {
         Line::Close(ending) => Ok(Some(Part::Close(ending))),
         Line::Entry(entry) => Ok(Some(Part::Entry(entry))),

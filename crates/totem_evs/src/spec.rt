@@ -37,8 +37,8 @@ pub enum SpecNo {
 }
 
 impl SpecNo {
-    /// Returns the number of the specification, as in `1.4`.
-    pub fn number(self) -> &'static str
+    /// Returns the number of the specification as text, such as `1.4`.
+    pub fn as_str(self) -> &'static str
         ensures { result.now ≡ spec_text self }
     {
         match self {
@@ -66,6 +66,6 @@ impl fmt::Display for SpecNo {
     ghost output = { λ s. Some (spec_text s) };
 
     fn fmt<W: fmt::Write>(&self, f: &mut fmt::Formatter<W>) -> fmt::Result {
-        f.write_str(self.number())
+        f.write_str(self.as_str())
     }
 }

@@ -1,8 +1,11 @@
 //! How far the reading of a run has come.
-ghost use Rattle.std.specs.Prelude.{◌≡◌, ◌≤◌};
+ghost use Rattle.std.specs.Prelude.{◌≡◌, ◌==◌, ◌≤◌, nat_lt, not};
 
 use crate::entry::Entry;
 use totem_ids::{Proc, Version};
+
+/// How many entries a log may have at most.
+const MOST_ENTRIES: u32 = 1_000_000;
 
 /// How far the reading of a run has come: as much of it as the rules for the text that follows need.
 #[derive(Clone, Copy, Debug, PartialEq, Eq)]
@@ -24,6 +27,22 @@ pub struct OpenLog {
     pub entries: u32,
     /// Whether the last of them is a failure.
     pub failed: bool,
+}
+
+impl OpenLog {
+    /// Returns whether it has no entry yet.
+    pub(crate) fn is_empty(self) -> bool
+        ensures { result ≡ not (nat_lt 0 self.entries) }
+    {
+        self.entries == 0
+    }
+
+    /// Returns whether no further entry may come.
+    pub(crate) fn is_full(self) -> bool
+        ensures { result ≡ (self.entries == 1000000) }
+    {
+        self.entries == MOST_ENTRIES
+    }
 }
 
 impl Stage {

@@ -3,14 +3,18 @@ use Rattle.std.proofs.lemmas.Option.{slice_get-get_or}
 use Rattle.totem_evs.specs.Certificates.{Numbering}
 use Rattle.totem_ids.proofs.Each.{each_more, each_whole}
 use Rattle.totem_cert.specs.CertLives.{HasFirstLife}
-use Rattle.totem_cert.proofs.WrittenLives.{unwritten, all_first}
+use Rattle.totem_cert.proofs.WrittenLives.{all_first}
 use Rattle.totem_cert.proofs.lives.first_unwritten.Goals as goal
 
 pub returns-then-not-has_first_life-clause-some : goal.returns-then-not-has_first_life-clause-some
 returns-then-not-has_first_life-clause-some c =
-    unwritten c.args.version c.args.lines.now c.loop-at.at c.index-lines-at.result (sym c.lives.ensures ∙ c.if-lives.false)
-    (slice_get-get_or c.args.lines.now c.loop-at.at c.index-lines-at.result c.loop-at-test.true ∙ ap (λ (x : Numbering). Some x) (sym c.index-lines-at.is))
-    (λ h. let t = c.has_first_life.ensures.1 h in let f = c.if-not-has_first_life.true in cc)
+    record {
+      lives = sym c.lives.ensures ∙ c.if-lives.false;
+      line = c.index-lines-at.result;
+      there = slice_get-get_or c.args.lines.now c.loop-at.at c.index-lines-at.result c.loop-at-test.true ∙ ap (λ (x : Numbering). Some x) (sym c.index-lines-at.is);
+      other = λ h. let t = c.has_first_life.ensures.1 h in let f = c.if-not-has_first_life.true in cc;
+      before = c.loop-at.invariant;
+    }
 
 pub loop-at-preserved : goal.loop-at-preserved
 loop-at-preserved c = each_more HasFirstLife _ _ _ c.loop-at-test.true c.index-lines-at.is (c.has_first_life.ensures.0 c.if-not-has_first_life.false) c.loop-at.invariant

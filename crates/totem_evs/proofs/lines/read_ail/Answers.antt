@@ -23,7 +23,7 @@ unfolding ail_at
 returns-clause-read g c = stops _ _ _ _ (skips _ _ _ _ _ _ _ (skips _ _ _ _ _ _ _ (called _ _ _ _ _ _ _ (called _ _ _ _ _ _ _ (begins _ _) c.in_ok-word.ensures.read) c.in_ok-letter.ensures.read) c.if-letter-eq101.false) c.if-letter-eq32.false) refl
 
 pub returns-then-letter-eq32-clause-follows : goal.returns-then-letter-eq32-clause-follows
-returns-then-letter-eq32-clause-follows g c = λ written some. c.read_fail.ensures.follows written some c.args.failed
+returns-then-letter-eq32-clause-follows g c = λ written. c.read_fail.ensures.follows written
 
 pub returns-then-letter-eq101-clause-follows : goal.returns-then-letter-eq101-clause-follows
-returns-then-letter-eq101-clause-follows g c = λ written some. c.read_failed.ensures.follows written c.args.full some
+returns-then-letter-eq101-clause-follows g c = λ written. c.read_failed.ensures.follows written

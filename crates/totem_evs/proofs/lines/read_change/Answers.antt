@@ -1,3 +1,4 @@
+use Rattle.std.proofs.Common.{sym, ◌∙◌}
 use Rattle.std.proofs.lemmas.Result.{err_from_is_err_and}
 use Rattle.totem_evs.specs.RunGrammar.{change_at}
 use Rattle.totem_ids.proofs.Readers.{begins, called, failed, passed}
@@ -7,14 +8,14 @@ pub returns-in_err-conf-clause-read : goal.returns-in_err-conf-clause-read
 unfolding change_at
 returns-in_err-conf-clause-read g c =
     let p = err_from_is_err_and c.from_residual-in_err-conf.result c.from_residual-in_err-conf.ensures.1 in
-    rw (p.1, p.2) (failed _ _ _ _ _ _ _ (called _ _ _ _ _ _ _ (passed _ _ _ _ _ _ (begins _ _) c.if-full.false) c.in_ok-word.ensures.read) c.in_err-conf.ensures.read)
+    rw (p.1, p.2) (failed _ _ _ _ _ _ _ (called _ _ _ _ _ _ _ (passed _ _ _ _ _ _ (begins _ _) (sym c.is_full.ensures ∙ c.if-is_full.false)) c.in_ok-word.ensures.read) c.in_err-conf.ensures.read)
 
 pub returns-in_err-members-clause-read : goal.returns-in_err-members-clause-read
 unfolding change_at
 returns-in_err-members-clause-read g c =
     let p = err_from_is_err_and c.from_residual-in_err-members.result c.from_residual-in_err-members.ensures.1 in
-    rw (p.1, p.2) (failed _ _ _ _ _ _ _ (called _ _ _ _ _ _ _ (called _ _ _ _ _ _ _ (passed _ _ _ _ _ _ (begins _ _) c.if-full.false) c.in_ok-word.ensures.read) c.in_ok-conf.ensures.read) c.in_err-members.ensures)
+    rw (p.1, p.2) (failed _ _ _ _ _ _ _ (called _ _ _ _ _ _ _ (called _ _ _ _ _ _ _ (passed _ _ _ _ _ _ (begins _ _) (sym c.is_full.ensures ∙ c.if-is_full.false)) c.in_ok-word.ensures.read) c.in_ok-conf.ensures.read) c.in_err-members.ensures)
 
 pub returns-clause-read : goal.returns-clause-read
 unfolding change_at
-returns-clause-read g c = called _ _ _ _ _ _ _ (called _ _ _ _ _ _ _ (called _ _ _ _ _ _ _ (passed _ _ _ _ _ _ (begins _ _) c.if-full.false) c.in_ok-word.ensures.read) c.in_ok-conf.ensures.read) c.in_ok-members.ensures
+returns-clause-read g c = called _ _ _ _ _ _ _ (called _ _ _ _ _ _ _ (called _ _ _ _ _ _ _ (passed _ _ _ _ _ _ (begins _ _) (sym c.is_full.ensures ∙ c.if-is_full.false)) c.in_ok-word.ensures.read) c.in_ok-conf.ensures.read) c.in_ok-members.ensures

@@ -26,22 +26,22 @@ returns-in-111-clause-read g c = handed _ _ _ _ _ _ (picks _ _ _ _ _ _ _ (otherw
 
 pub returns-in-113-clause-read : goal.returns-in-113-clause-read
 unfolding line_at
-returns-in-113-clause-read g c = handed _ _ _ _ _ _ (picks _ _ _ _ _ _ _ (otherwise _ _ _ _ _ _ _ _ (otherwise _ _ _ _ _ _ _ _ (otherwise _ _ _ _ _ _ _ _ (otherwise _ _ _ _ _ _ _ _ (otherwise _ _ _ _ _ _ _ _ (called _ _ _ _ _ _ _ (begins _ _) c.in_ok-letter.ensures.read) c.in-113.is refl) c.in-113.is refl) c.in-113.is refl) c.in-113.is refl) c.in-113.is refl) c.in-113.is) (rw (← c.may_be_quiet.ensures) c.read_quiet.ensures.read)
+returns-in-113-clause-read g c = handed _ _ _ _ _ _ (picks _ _ _ _ _ _ _ (otherwise _ _ _ _ _ _ _ _ (otherwise _ _ _ _ _ _ _ _ (otherwise _ _ _ _ _ _ _ _ (otherwise _ _ _ _ _ _ _ _ (otherwise _ _ _ _ _ _ _ _ (called _ _ _ _ _ _ _ (begins _ _) c.in_ok-letter.ensures.read) c.in-113.is refl) c.in-113.is refl) c.in-113.is refl) c.in-113.is refl) c.in-113.is refl) c.in-113.is) c.read_quiet.ensures.read
 
 pub returns-in-99-clause-follows : goal.returns-in-99-clause-follows
-returns-in-99-clause-follows g c = c.read_change.ensures.follows (writes_quiet c.args.version) c.args.some c.args.failed
+returns-in-99-clause-follows g c = c.read_change.ensures.follows (writes_quiet c.args.version)
 
 pub returns-in-115-clause-follows : goal.returns-in-115-clause-follows
-returns-in-115-clause-follows g c = c.read_send.ensures.follows (writes_quiet c.args.version) c.args.some c.args.failed
+returns-in-115-clause-follows g c = c.read_send.ensures.follows (writes_quiet c.args.version)
 
 pub returns-in-100-clause-follows : goal.returns-in-100-clause-follows
-returns-in-100-clause-follows g c = c.read_delivery.ensures.follows (writes_quiet c.args.version) c.args.some c.args.failed
+returns-in-100-clause-follows g c = c.read_delivery.ensures.follows (writes_quiet c.args.version)
 
 pub returns-in-102-clause-follows : goal.returns-in-102-clause-follows
-returns-in-102-clause-follows g c = c.read_failure.ensures.follows (writes_quiet c.args.version) c.args.some
+returns-in-102-clause-follows g c = c.read_failure.ensures.follows (writes_quiet c.args.version)
 
 pub returns-in-111-clause-follows : goal.returns-in-111-clause-follows
-returns-in-111-clause-follows g c = c.read_open.ensures.follows (writes_quiet c.args.version) c.args.full
+returns-in-111-clause-follows g c = c.read_open.ensures.follows (writes_quiet c.args.version)
 
 pub returns-in-113-clause-follows : goal.returns-in-113-clause-follows
-returns-in-113-clause-follows g c = rw (← c.may_be_quiet.ensures) (c.read_quiet.ensures.follows c.args.full)
+returns-in-113-clause-follows g c = c.read_quiet.ensures.follows

@@ -1,3 +1,4 @@
+use Rattle.std.proofs.Common.{sym, ◌∙◌}
 use Rattle.std.proofs.lemmas.Result.{err_from_is_err_and}
 use Rattle.totem_evs.specs.RunGrammar.{send_at}
 use Rattle.totem_ids.proofs.Readers.{begins, called, failed, passed}
@@ -7,26 +8,26 @@ pub returns-in_err-conf-clause-read : goal.returns-in_err-conf-clause-read
 unfolding send_at
 returns-in_err-conf-clause-read g c =
     let p = err_from_is_err_and c.from_residual-in_err-conf.result c.from_residual-in_err-conf.ensures.1 in
-    rw (p.1, p.2) (failed _ _ _ _ _ _ _ (called _ _ _ _ _ _ _ (passed _ _ _ _ _ _ (begins _ _) c.if-full.false) c.in_ok-word.ensures.read) c.in_err-conf.ensures.read)
+    rw (p.1, p.2) (failed _ _ _ _ _ _ _ (called _ _ _ _ _ _ _ (passed _ _ _ _ _ _ (begins _ _) (sym c.is_full.ensures ∙ c.if-is_full.false)) c.in_ok-word.ensures.read) c.in_err-conf.ensures.read)
 
 pub returns-in_err-service-clause-read : goal.returns-in_err-service-clause-read
 unfolding send_at
 returns-in_err-service-clause-read g c =
     let p = err_from_is_err_and c.from_residual-in_err-service.result c.from_residual-in_err-service.ensures.1 in
-    rw (p.1, p.2) (failed _ _ _ _ _ _ _ (called _ _ _ _ _ _ _ (called _ _ _ _ _ _ _ (passed _ _ _ _ _ _ (begins _ _) c.if-full.false) c.in_ok-word.ensures.read) c.in_ok-conf.ensures.read) c.in_err-service.ensures.read)
+    rw (p.1, p.2) (failed _ _ _ _ _ _ _ (called _ _ _ _ _ _ _ (called _ _ _ _ _ _ _ (passed _ _ _ _ _ _ (begins _ _) (sym c.is_full.ensures ∙ c.if-is_full.false)) c.in_ok-word.ensures.read) c.in_ok-conf.ensures.read) c.in_err-service.ensures.read)
 
 pub returns-in_err-word-2-clause-read : goal.returns-in_err-word-2-clause-read
 unfolding send_at
 returns-in_err-word-2-clause-read g c =
     let p = err_from_is_err_and c.from_residual-in_err-word-2.result c.from_residual-in_err-word-2.ensures.1 in
-    rw (p.1, p.2) (failed _ _ _ _ _ _ _ (called _ _ _ _ _ _ _ (called _ _ _ _ _ _ _ (called _ _ _ _ _ _ _ (passed _ _ _ _ _ _ (begins _ _) c.if-full.false) c.in_ok-word.ensures.read) c.in_ok-conf.ensures.read) c.in_ok-service.ensures.read) c.in_err-word-2.ensures.read)
+    rw (p.1, p.2) (failed _ _ _ _ _ _ _ (called _ _ _ _ _ _ _ (called _ _ _ _ _ _ _ (called _ _ _ _ _ _ _ (passed _ _ _ _ _ _ (begins _ _) (sym c.is_full.ensures ∙ c.if-is_full.false)) c.in_ok-word.ensures.read) c.in_ok-conf.ensures.read) c.in_ok-service.ensures.read) c.in_err-word-2.ensures.read)
 
 pub returns-in_err-message-clause-read : goal.returns-in_err-message-clause-read
 unfolding send_at
 returns-in_err-message-clause-read g c =
     let p = err_from_is_err_and c.from_residual-in_err-message.result c.from_residual-in_err-message.ensures.1 in
-    rw (p.1, p.2) (failed _ _ _ _ _ _ _ (called _ _ _ _ _ _ _ (called _ _ _ _ _ _ _ (called _ _ _ _ _ _ _ (called _ _ _ _ _ _ _ (passed _ _ _ _ _ _ (begins _ _) c.if-full.false) c.in_ok-word.ensures.read) c.in_ok-conf.ensures.read) c.in_ok-service.ensures.read) c.in_ok-word-2.ensures.read) c.in_err-message.ensures.read)
+    rw (p.1, p.2) (failed _ _ _ _ _ _ _ (called _ _ _ _ _ _ _ (called _ _ _ _ _ _ _ (called _ _ _ _ _ _ _ (called _ _ _ _ _ _ _ (passed _ _ _ _ _ _ (begins _ _) (sym c.is_full.ensures ∙ c.if-is_full.false)) c.in_ok-word.ensures.read) c.in_ok-conf.ensures.read) c.in_ok-service.ensures.read) c.in_ok-word-2.ensures.read) c.in_err-message.ensures.read)
 
 pub returns-clause-read : goal.returns-clause-read
 unfolding send_at
-returns-clause-read g c = called _ _ _ _ _ _ _ (called _ _ _ _ _ _ _ (called _ _ _ _ _ _ _ (called _ _ _ _ _ _ _ (called _ _ _ _ _ _ _ (passed _ _ _ _ _ _ (begins _ _) c.if-full.false) c.in_ok-word.ensures.read) c.in_ok-conf.ensures.read) c.in_ok-service.ensures.read) c.in_ok-word-2.ensures.read) c.in_ok-message.ensures.read
+returns-clause-read g c = called _ _ _ _ _ _ _ (called _ _ _ _ _ _ _ (called _ _ _ _ _ _ _ (called _ _ _ _ _ _ _ (called _ _ _ _ _ _ _ (passed _ _ _ _ _ _ (begins _ _) (sym c.is_full.ensures ∙ c.if-is_full.false)) c.in_ok-word.ensures.read) c.in_ok-conf.ensures.read) c.in_ok-service.ensures.read) c.in_ok-word-2.ensures.read) c.in_ok-message.ensures.read
