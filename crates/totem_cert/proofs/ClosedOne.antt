@@ -4,7 +4,7 @@ use Rattle.std.proofs.lemmas.Option.{slice_get_within, slice_get-get_or}
 use Rattle.totem_ids.specs.declared.place.Place.{Place}
 use Rattle.totem_evs.specs.declared.log.Log.{Log}
 use Rattle.totem_evs.specs.declared.spec.SpecNo.{SpecNo}
-use Rattle.totem_evs.specs.ClosedLists.{Visit, HoldsUp, IsStepOf, IsWalk, ComesBack, IsTurned, forward, IsBrokenBy, IsClosedList}
+use Rattle.totem_evs.specs.ClosedLists.{Step, HoldsUp, IsStepOf, IsWalk, ComesBack, IsTurned, forward, IsBrokenBy, IsClosedList}
 use Rattle.totem_cert.specs.Laws.{ClosedListsAreOne}
 use Rattle.totem_evs.proofs.LogOf.{less_or_not}
 use Rattle.totem_cert.proofs.Classmates.{class_sym, class_trans, one_message}
@@ -23,26 +23,26 @@ one_holder run f g e (inr (_, a)) (inr (_, b)) =
     let same : a.message ≡ b.message = one_message run e a.message b.message a.delivers b.delivers in
     antisym f g (a.least g (rw same b.send)) (b.least f (rw (← same) a.send))
 
-visit_same : (v w : Visit) → v.from ≡ w.from → v.to ≡ w.to → v ≡ w
-visit_same v w f t = ap (λ (e : Place). let x : Visit = record { from = e; to = v.to } in x) f ∙ ap (λ (e : Place). let x : Visit = record { from = w.from; to = e } in x) t
+visit_same : (v w : Step) → v.from ≡ w.from → v.to ≡ w.to → v ≡ w
+visit_same v w f t = ap (λ (e : Place). let x : Step = record { from = e; to = v.to } in x) f ∙ ap (λ (e : Place). let x : Step = record { from = w.from; to = e } in x) t
 
 -- one step is that of a class
-pub one_step_of : (run : List Log) (k : Place) (v w : Visit) → IsStepOf run k v → IsStepOf run k w → v ≡ w
+pub one_step_of : (run : List Log) (k : Place) (v w : Step) → IsStepOf run k v → IsStepOf run k w → v ≡ w
 one_step_of run k v w a b =
     let to : v.to ≡ w.to = antisym v.to w.to (a.least w.from w.to b.shares b.holds) (b.least v.from v.to a.shares a.holds) in
     visit_same v w (one_holder run v.from w.from w.to (rw to at a.holds) b.holds) to
 
-same_head : (xs : List Visit) (v w : Visit) (i : ℕ) → slice_get xs i ≡ Some v → slice_get xs i ≡ Some w → v ≡ w
+same_head : (xs : List Step) (v w : Step) (i : ℕ) → slice_get xs i ≡ Some v → slice_get xs i ≡ Some w → v ≡ w
 same_head xs v w i a b = cc
 
 -- two walks from one event take the same steps
-module _ (run : List Log) (start : Place) (xs ys : List Visit) (a : IsWalk run start xs) (b : IsWalk run start ys) where
-  before : (zs : List Visit) (i : ℕ) (y : Visit) → slice_get zs (suc i) ≡ Some y → (x : Visit) × (slice_get zs i ≡ Some x)
+module _ (run : List Log) (start : Place) (xs ys : List Step) (a : IsWalk run start xs) (b : IsWalk run start ys) where
+  before : (zs : List Step) (i : ℕ) (y : Step) → slice_get zs (suc i) ≡ Some y → (x : Step) × (slice_get zs i ≡ Some x)
   before [] i y h = absurd cc
   before (x ∷ zs) zero y h = (x, refl)
   before (x ∷ zs) (suc i) y h = before zs i y h
 
-  pub same_steps : (i : ℕ) (v w : Visit) → slice_get xs i ≡ Some v → slice_get ys i ≡ Some w → v ≡ w
+  pub same_steps : (i : ℕ) (v w : Step) → slice_get xs i ≡ Some v → slice_get ys i ≡ Some w → v ≡ w
   same_steps zero v w at_v at_w = one_step_of run start v w (a.first v at_v) (b.first w at_w)
   same_steps (suc i) v w at_v at_w =
       let u = before xs i v at_v in
@@ -52,7 +52,7 @@ module _ (run : List Log) (start : Place) (xs ys : List Visit) (a : IsWalk run s
       one_step_of run u.0.from v w (a.next i u.0 v u.1 (rw e at_v)) (rw same (b.next i t.0 w t.1 (rw e at_w)))
 
   -- a walk that came back is no shorter
-  pub not_shorter : (again : ℕ) (last : Visit) → ComesBack run start xs again last → length xs < length ys → ⊥
+  pub not_shorter : (again : ℕ) (last : Step) → ComesBack run start xs again last → length xs < length ys → ⊥
   not_shorter again last back lt = go (length xs) refl back.at_end
     where
       go : (n : ℕ) → length xs ≡ n → slice_get xs (length xs - 1) ≡ Some last → ⊥
@@ -60,19 +60,19 @@ module _ (run : List Log) (start : Place) (xs ys : List Visit) (a : IsWalk run s
       go (suc n) more at =
           let n_is : length xs - 1 ≡ n = omega arith in
           let at_n : slice_get xs n ≡ Some last = rw n_is at at in
-          let t : Visit = get_or ys n last in
+          let t : Step = get_or ys n last in
           let at_t : slice_get ys n ≡ Some t = slice_get-get_or ys n last (omega arith) in
-          let w : Visit = get_or ys (n + 1) last in
+          let w : Step = get_or ys (n + 1) last in
           let at_w : slice_get ys (n + 1) ≡ Some w = slice_get-get_or ys (n + 1) last (omega arith) in
           let one : last ≡ t = same_steps n last t at_n at_t in
-          let step : IsStepOf run last.from w = subst (λ (u : Visit). IsStepOf run u.from w) (sym one) (b.next n t w at_t at_w) in
-          let r : Visit = get_or ys again last in
-          let within = slice_get_within xs again back.visit back.at_again in
+          let step : IsStepOf run last.from w = subst (λ (u : Step). IsStepOf run u.from w) (sym one) (b.next n t w at_t at_w) in
+          let r : Step = get_or ys again last in
+          let within = slice_get_within xs again back.step back.at_again in
           let at_r : slice_get ys again ≡ Some r = slice_get-get_or ys again last (omega arith) in
-          let two : back.visit ≡ r = same_steps again back.visit r back.at_again at_r in
-          b.new again (n + 1) r w at_r at_w (omega arith) (rw (← two) (class_trans run back.visit.to last.from w.to back.comes_back step.shares))
+          let two : back.step ≡ r = same_steps again back.step r back.at_again at_r in
+          b.new again (n + 1) r w at_r at_w (omega arith) (rw (← two) (class_trans run back.step.to last.from w.to back.comes_back step.shares))
 
-same_list : (xs ys : List Visit) → length xs ≡ length ys → ((i : ℕ) (v w : Visit) → slice_get xs i ≡ Some v → slice_get ys i ≡ Some w → v ≡ w) → xs ≡ ys
+same_list : (xs ys : List Step) → length xs ≡ length ys → ((i : ℕ) (v w : Step) → slice_get xs i ≡ Some v → slice_get ys i ≡ Some w → v ≡ w) → xs ≡ ys
 same_list [] [] e h = refl
 same_list [] (y ∷ ys) e h = absurd (omega arith)
 same_list (x ∷ xs) [] e h = absurd (omega arith)
@@ -82,7 +82,7 @@ same_list (x ∷ xs) (y ∷ ys) e h =
     ap (λ z. z ∷ xs) one ∙ ap (λ zs. y ∷ zs) rest
 
 -- two walks from one event that come back are one
-pub one_walk : (run : List Log) (start : Place) (xs ys : List Visit) (i j : ℕ) (v w : Visit) → ComesBack run start xs i v → ComesBack run start ys j w → xs ≡ ys
+pub one_walk : (run : List Log) (start : Place) (xs ys : List Step) (i j : ℕ) (v w : Step) → ComesBack run start xs i v → ComesBack run start ys j w → xs ≡ ys
 one_walk run start xs ys i j v w a b = elim (less_or_not (length xs) (length ys)) [
   | inl under ↦ absurd (not_shorter run start xs ys a.walk b.walk i v a under)
   | inr rest ↦ elim rest [
@@ -92,14 +92,14 @@ one_walk run start xs ys i j v w a b = elim (less_or_not (length xs) (length ys)
 ]
 
 -- and come back to one class, from one step
-pub one_return : (run : List Log) (start : Place) (xs : List Visit) (i j : ℕ) (v w : Visit) → ComesBack run start xs i v → ComesBack run start xs j w → (i ≡ j) × (v ≡ w)
+pub one_return : (run : List Log) (start : Place) (xs : List Step) (i j : ℕ) (v w : Step) → ComesBack run start xs i v → ComesBack run start xs j w → (i ≡ j) × (v ≡ w)
 one_return run start xs i j v w a b =
     let last : v ≡ w = same_head xs v w (length xs - 1) a.at_end b.at_end in
     (go last (less_or_not i j), last)
   where
     go : v ≡ w → (i < j) ⊎ ((j < i) ⊎ (i ≡ j)) → i ≡ j
-    go last (inl lt) = absurd (a.walk.new i j a.visit b.visit a.at_again b.at_again lt (class_trans run a.visit.to v.from b.visit.to a.comes_back (class_sym run b.visit.to v.from (rw last b.comes_back))))
-    go last (inr (inl lt)) = absurd (a.walk.new j i b.visit a.visit b.at_again a.at_again lt (class_trans run b.visit.to v.from a.visit.to (rw last b.comes_back) (class_sym run a.visit.to v.from a.comes_back)))
+    go last (inl lt) = absurd (a.walk.new i j a.step b.step a.at_again b.at_again lt (class_trans run a.step.to v.from b.step.to a.comes_back (class_sym run b.step.to v.from (rw last b.comes_back))))
+    go last (inr (inl lt)) = absurd (a.walk.new j i b.step a.step b.at_again a.at_again lt (class_trans run b.step.to v.from a.step.to (rw last b.comes_back) (class_sym run a.step.to v.from a.comes_back)))
     go last (inr (inr e)) = e
 
 one_spec : (run : List Log) (k l : SpecNo) (a : List Place) → IsBrokenBy run k a → IsBrokenBy run l a → k ≡ l
@@ -111,11 +111,11 @@ one_spec run k l a (inr (x, _)) (inr (y, _)) = x ∙ sym y
 -- two closed lists that begin their walks at one event
 from_one : (run : List Log) (start : Place) (k l : SpecNo) (a b : List Place) (x : IsClosedList run k a) (y : IsClosedList run l b) → x.start ≡ start → y.start ≡ start → (k ≡ l) × (a ≡ b)
 from_one run start k l a b x y at_x at_y =
-    let back_x : ComesBack run start x.visits x.again x.last = rw at_x at x.back in
-    let back_y : ComesBack run start y.visits y.again y.last = rw at_y at y.back in
-    one_list x.visits y.visits x.again y.again x.last y.last back_x back_y (one_walk run start x.visits y.visits x.again y.again x.last y.last back_x back_y) x.written y.written
+    let back_x : ComesBack run start x.steps x.again x.last = rw at_x at x.back in
+    let back_y : ComesBack run start y.steps y.again y.last = rw at_y at y.back in
+    one_list x.steps y.steps x.again y.again x.last y.last back_x back_y (one_walk run start x.steps y.steps x.again y.again x.last y.last back_x back_y) x.written y.written
   where
-    one_list : (xs ys : List Visit) (i j : ℕ) (v w : Visit) → ComesBack run start xs i v → ComesBack run start ys j w → xs ≡ ys → IsTurned (forward v.from (drop i xs)) a → IsTurned (forward w.from (drop j ys)) b → (k ≡ l) × (a ≡ b)
+    one_list : (xs ys : List Step) (i j : ℕ) (v w : Step) → ComesBack run start xs i v → ComesBack run start ys j w → xs ≡ ys → IsTurned (forward v.from (drop i xs)) a → IsTurned (forward w.from (drop j ys)) b → (k ≡ l) × (a ≡ b)
     one_list xs ys i j v w back_x back_y same written_x written_y =
         let back : ComesBack run start xs j w = rw same back_y in
         let r = one_return run start xs i j v w back_x back in

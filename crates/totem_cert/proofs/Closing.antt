@@ -8,7 +8,7 @@ use Rattle.totem_evs.specs.Events.{IsEvent}
 use Rattle.totem_evs.specs.Steps.{Strict}
 use Rattle.totem_evs.specs.Places.{Chain, Somewhere, IsClosed, IsStep, IsOrderStep}
 use Rattle.totem_evs.specs.Faults.{Breaks}
-use Rattle.totem_evs.specs.ClosedLists.{Visit}
+use Rattle.totem_evs.specs.ClosedLists.{Step}
 use Rattle.totem_evs.specs.Classes.{InClass}
 use Rattle.totem_evs.specs.ClosedLists.{HoldsUp, same_place, unless, forward, AreTwinDeliveries, IsBrokenBy, IsClosedList}
 use Rattle.totem_cert.proofs.Classmates.{class_sym, event_of}
@@ -16,47 +16,47 @@ use Rattle.totem_cert.proofs.Walking.{step_in}
 
 -- steps along a list, and from its last to z
 abbrev Path : (Place → Place → Type 0) → List Place → Place → Type 0
-Path Step [] z = Unit {0}
-Path Step (x ∷ xs) z = Chain Step x xs z
+Path Leads [] z = Unit {0}
+Path Leads (x ∷ xs) z = Chain Leads x xs z
 
-path_append : (Step : Place → Place → Type 0) (xs ys : List Place) (y z : Place) → Path Step xs y → Chain Step y ys z → Path Step (xs ++ (y ∷ ys)) z
-path_append Step [] ys y z a b = b
-path_append Step (x ∷ []) ys y z a b = (a, b)
-path_append Step (x ∷ w ∷ xs) ys y z a b = (a.0, path_append Step (w ∷ xs) ys y z a.1 b)
+path_append : (Leads : Place → Place → Type 0) (xs ys : List Place) (y z : Place) → Path Leads xs y → Chain Leads y ys z → Path Leads (xs ++ (y ∷ ys)) z
+path_append Leads [] ys y z a b = b
+path_append Leads (x ∷ []) ys y z a b = (a, b)
+path_append Leads (x ∷ w ∷ xs) ys y z a b = (a.0, path_append Leads (w ∷ xs) ys y z a.1 b)
 
-chain_split : (Step : Place → Place → Type 0) (x : Place) (xs ys : List Place) (y z : Place) → Chain Step x (xs ++ (y ∷ ys)) z → Chain Step x xs y × Chain Step y ys z
-chain_split Step x [] ys y z h = h
-chain_split Step x (w ∷ xs) ys y z h = let rest = chain_split Step w xs ys y z h.1 in ((h.0, rest.0), rest.1)
+chain_split : (Leads : Place → Place → Type 0) (x : Place) (xs ys : List Place) (y z : Place) → Chain Leads x (xs ++ (y ∷ ys)) z → Chain Leads x xs y × Chain Leads y ys z
+chain_split Leads x [] ys y z h = h
+chain_split Leads x (w ∷ xs) ys y z h = let rest = chain_split Leads w xs ys y z h.1 in ((h.0, rest.0), rest.1)
 
-some_split : (Step : Place → Place → Type 0) (x : Place) (xs ys : List Place) (y z : Place) → Somewhere Step x (xs ++ (y ∷ ys)) z → Somewhere Step x xs y ⊎ Somewhere Step y ys z
-some_split Step x [] ys y z (inl h) = inl h
-some_split Step x [] ys y z (inr h) = inr h
-some_split Step x (w ∷ xs) ys y z (inl h) = inl (inl h)
-some_split Step x (w ∷ xs) ys y z (inr h) = elim (some_split Step w xs ys y z h) [ inl a ↦ inl (inr a) | inr b ↦ inr b ]
+some_split : (Leads : Place → Place → Type 0) (x : Place) (xs ys : List Place) (y z : Place) → Somewhere Leads x (xs ++ (y ∷ ys)) z → Somewhere Leads x xs y ⊎ Somewhere Leads y ys z
+some_split Leads x [] ys y z (inl h) = inl h
+some_split Leads x [] ys y z (inr h) = inr h
+some_split Leads x (w ∷ xs) ys y z (inl h) = inl (inl h)
+some_split Leads x (w ∷ xs) ys y z (inr h) = elim (some_split Leads w xs ys y z h) [ inl a ↦ inl (inr a) | inr b ↦ inr b ]
 
-some_left : (Step : Place → Place → Type 0) (x : Place) (xs ys : List Place) (y z : Place) → Somewhere Step x xs y → Somewhere Step x (xs ++ (y ∷ ys)) z
-some_left Step x [] ys y z h = inl h
-some_left Step x (w ∷ xs) ys y z (inl h) = inl h
-some_left Step x (w ∷ xs) ys y z (inr h) = inr (some_left Step w xs ys y z h)
+some_left : (Leads : Place → Place → Type 0) (x : Place) (xs ys : List Place) (y z : Place) → Somewhere Leads x xs y → Somewhere Leads x (xs ++ (y ∷ ys)) z
+some_left Leads x [] ys y z h = inl h
+some_left Leads x (w ∷ xs) ys y z (inl h) = inl h
+some_left Leads x (w ∷ xs) ys y z (inr h) = inr (some_left Leads w xs ys y z h)
 
-some_right : (Step : Place → Place → Type 0) (x : Place) (xs ys : List Place) (y z : Place) → Somewhere Step y ys z → Somewhere Step x (xs ++ (y ∷ ys)) z
-some_right Step x [] ys y z h = inr h
-some_right Step x (w ∷ xs) ys y z h = inr (some_right Step w xs ys y z h)
+some_right : (Leads : Place → Place → Type 0) (x : Place) (xs ys : List Place) (y z : Place) → Somewhere Leads y ys z → Somewhere Leads x (xs ++ (y ∷ ys)) z
+some_right Leads x [] ys y z h = inr h
+some_right Leads x (w ∷ xs) ys y z h = inr (some_right Leads w xs ys y z h)
 
 append_nil : (xs : List Place) → xs ++ [] ≡ xs
 append_nil [] = refl
 append_nil (x ∷ xs) = ap (λ (ys : List Place). x ∷ ys) (append_nil xs)
 
-closed_same : (run : List Log) (Step : Place → Place → Type 0) (xs ys : List Place) → xs ≡ ys → IsClosed run Step xs → IsClosed run Step ys
-closed_same run Step xs ys same h = rw same at h
+closed_same : (run : List Log) (Leads : Place → Place → Type 0) (xs ys : List Place) → xs ≡ ys → IsClosed run Leads xs → IsClosed run Leads ys
+closed_same run Leads xs ys same h = rw same at h
 
 -- a closed list may begin elsewhere
-turn : (run : List Log) (Step : Place → Place → Type 0) (front back : List Place) → IsClosed run Step (front ++ back) → IsClosed run Step (back ++ front)
-turn run Step [] back h = rw append_nil h
-turn run Step (a ∷ as') [] h = closed_same run Step ((a ∷ as') ++ []) (a ∷ as') (append_nil (a ∷ as')) h
-turn run Step (a ∷ as') (b ∷ bs) (chain, strict) =
-    let parts = chain_split Step a as' bs b a chain in (
-      path_append Step (b ∷ bs) as' a b parts.1 parts.0,
+turn : (run : List Log) (Leads : Place → Place → Type 0) (front back : List Place) → IsClosed run Leads (front ++ back) → IsClosed run Leads (back ++ front)
+turn run Leads [] back h = rw append_nil h
+turn run Leads (a ∷ as') [] h = closed_same run Leads ((a ∷ as') ++ []) (a ∷ as') (append_nil (a ∷ as')) h
+turn run Leads (a ∷ as') (b ∷ bs) (chain, strict) =
+    let parts = chain_split Leads a as' bs b a chain in (
+      path_append Leads (b ∷ bs) as' a b parts.1 parts.0,
       elim (some_split (Strict run) a as' bs b a strict) [
         | inl h ↦ some_right (Strict run) b bs as' a b h
         | inr h ↦ some_left (Strict run) b bs as' a b h
@@ -64,7 +64,7 @@ turn run Step (a ∷ as') (b ∷ bs) (chain, strict) =
     )
 
 -- each step is strict, and leads to the class of the one before; the first one's event is of p's class
-abbrev Linked : List Log → Place → List Visit → Type 0
+abbrev Linked : List Log → Place → List Step → Type 0
 Linked run p [] = Unit {0}
 Linked run p (v ∷ vs) = Strict run v.from v.to × InClass run v.to p × Linked run v.from vs
 
@@ -85,18 +85,18 @@ not_same e f h same =
     let a : e.at ≡ f.at = ap (λ (g : Place). g.at) same in
     grind arith
 
-last_part : (run : List Log) (v : Visit) (p : Place) → Strict run v.from v.to → InClass run v.to p → Chain (IsOrderStep run) v.from (unless v.to p) p × Somewhere (Strict run) v.from (unless v.to p) p
+last_part : (run : List Log) (v : Step) (p : Place) → Strict run v.from v.to → InClass run v.to p → Chain (IsOrderStep run) v.from (unless v.to p) p × Somewhere (Strict run) v.from (unless v.to p) p
 last_part run v p strict shares = go (same_place v.to p) refl
   where
     go : (b : Bool) → same_place v.to p ≡ b → Chain (IsOrderStep run) v.from (unless v.to p) p × Somewhere (Strict run) v.from (unless v.to p) p
     go true e = let s : Strict run v.from p = rw (same_is v.to p e) at strict in rw e (inl (inl s), s)
     go false e = rw e ((inl (inl strict), class_step run v.to p shares (not_same v.to p e)), inl strict)
 
-forward_path : (run : List Log) (p : Place) (vs : List Visit) → Linked run p vs → Path (IsOrderStep run) (forward p vs) p
+forward_path : (run : List Log) (p : Place) (vs : List Step) → Linked run p vs → Path (IsOrderStep run) (forward p vs) p
 forward_path run p [] h = tt
 forward_path run p (v ∷ vs) h = path_append (IsOrderStep run) (forward v.from vs) (unless v.to p) v.from p (forward_path run v.from vs h.2) (last_part run v p h.0 h.1).0
 
-forward_strict : (run : List Log) (p : Place) (v : Visit) (vs : List Visit) (e : Place) (es : List Place) → Linked run p (v ∷ vs) → forward p (v ∷ vs) ≡ e ∷ es → Somewhere (Strict run) e es p
+forward_strict : (run : List Log) (p : Place) (v : Step) (vs : List Step) (e : Place) (es : List Place) → Linked run p (v ∷ vs) → forward p (v ∷ vs) ≡ e ∷ es → Somewhere (Strict run) e es p
 forward_strict run p v vs e es h is = go (forward v.from vs) is
   where
     go : (xs : List Place) → xs ++ (v.from ∷ unless v.to p) ≡ e ∷ es → Somewhere (Strict run) e es p
@@ -110,11 +110,11 @@ forward_strict run p v vs e es h is = go (forward v.from vs) is
         rw (← a, ← b) (some_right (Strict run) x xs (unless v.to p) v.from p (last_part run v p h.0 h.1).1)
 
 -- it begins with what its last step comes from
-forward_head : (p : Place) (v : Visit) (vs : List Visit) (l : Visit) → slice_get (v ∷ vs) (length vs) ≡ Some l → (es : List Place) × (forward p (v ∷ vs) ≡ l.from ∷ es)
-forward_head p v [] l at = (unless v.to p, (let same : v ≡ l = cc in ap (λ (u : Visit). u.from ∷ unless v.to p) same))
+forward_head : (p : Place) (v : Step) (vs : List Step) (l : Step) → slice_get (v ∷ vs) (length vs) ≡ Some l → (es : List Place) × (forward p (v ∷ vs) ≡ l.from ∷ es)
+forward_head p v [] l at = (unless v.to p, (let same : v ≡ l = cc in ap (λ (u : Step). u.from ∷ unless v.to p) same))
 forward_head p v (w ∷ ws) l at = let rest = forward_head v.from w ws l at in (rest.0 ++ (v.from ∷ unless v.to p), rw rest.1 refl)
 
-round_closed : (run : List Log) (v : Visit) (vs : List Visit) (l : Visit) → slice_get (v ∷ vs) (length vs) ≡ Some l → Linked run l.from (v ∷ vs) → IsClosed run (IsOrderStep run) (forward l.from (v ∷ vs))
+round_closed : (run : List Log) (v : Step) (vs : List Step) (l : Step) → slice_get (v ∷ vs) (length vs) ≡ Some l → Linked run l.from (v ∷ vs) → IsClosed run (IsOrderStep run) (forward l.from (v ∷ vs))
 round_closed run v vs l at linked =
     let head = forward_head l.from v vs l at in
     let path : Path (IsOrderStep run) (l.from ∷ head.0) l.from = rw head.1 at (forward_path run l.from (v ∷ vs) linked) in
@@ -128,8 +128,8 @@ get_drop [] (suc k) i = refl
 get_drop (x ∷ xs) zero i = let h : 0 + i ≡ i = omega arith in rw h refl
 get_drop (x ∷ xs) (suc k) i = let h : suc k + i ≡ suc (k + i) = omega arith in rw h (get_drop xs k i)
 
-linked_of : (run : List Log) (vs : List Visit) (p : Place) → ((v : Visit) → slice_get vs 0 ≡ Some v → InClass run v.to p) → ((i : ℕ) (v w : Visit) → slice_get vs i ≡ Some v → slice_get vs (suc i) ≡ Some w → InClass run w.to v.from)
-    → ((i : ℕ) (v : Visit) → slice_get vs i ≡ Some v → Strict run v.from v.to) → Linked run p vs
+linked_of : (run : List Log) (vs : List Step) (p : Place) → ((v : Step) → slice_get vs 0 ≡ Some v → InClass run v.to p) → ((i : ℕ) (v w : Step) → slice_get vs i ≡ Some v → slice_get vs (suc i) ≡ Some w → InClass run w.to v.from)
+    → ((i : ℕ) (v : Step) → slice_get vs i ≡ Some v → Strict run v.from v.to) → Linked run p vs
 linked_of run [] p first next strict = tt
 linked_of run (v ∷ vs) p first next strict = (strict 0 v refl, first v refl, linked_of run vs v.from (λ w at. next 0 v w refl at) (λ i w u at_w at_u. next (suc i) w u at_w at_u) (λ i w at. strict (suc i) w at))
 
@@ -151,27 +151,27 @@ broken run k (e ∷ es) closed (inr (is, never)) = let h : Breaks run spec.Cycle
 
 pub closed_breaks : (run : List Log) (k : SpecNo) (places : List Place) → IsClosedList run k places → Breaks run k places
 closed_breaks run k places h =
-    let whole : IsClosed run (IsOrderStep run) (forward h.last.from (drop h.again h.visits)) = closed (drop h.again h.visits) refl in
+    let whole : IsClosed run (IsOrderStep run) (forward h.last.from (drop h.again h.steps)) = closed (drop h.again h.steps) refl in
     let w : IsClosed run (IsOrderStep run) (h.written.front ++ h.written.back) = rw h.written.was at whole in
     let t : IsClosed run (IsOrderStep run) places = rw h.written.is (turn run (IsOrderStep run) h.written.front h.written.back w) in
     broken run k places t h.broken
   where
-    at : (i : ℕ) (v : Visit) → slice_get (drop h.again h.visits) i ≡ Some v → slice_get h.visits (h.again + i) ≡ Some v
-    at i v g = sym (get_drop h.visits h.again i) ∙ g
+    at : (i : ℕ) (v : Step) → slice_get (drop h.again h.steps) i ≡ Some v → slice_get h.steps (h.again + i) ≡ Some v
+    at i v g = sym (get_drop h.steps h.again i) ∙ g
 
-    linked : Linked run h.last.from (drop h.again h.visits)
-    linked = linked_of run (drop h.again h.visits) h.last.from
-        (λ v g. (let e : h.again + 0 ≡ h.again = omega arith in let g' : slice_get h.visits h.again ≡ Some v = rw e at (at 0 v g) in let same : h.back.visit ≡ v = (let b = h.back.at_again in cc) in rw same at h.back.comes_back))
+    linked : Linked run h.last.from (drop h.again h.steps)
+    linked = linked_of run (drop h.again h.steps) h.last.from
+        (λ v g. (let e : h.again + 0 ≡ h.again = omega arith in let g' : slice_get h.steps h.again ≡ Some v = rw e at (at 0 v g) in let same : h.back.step ≡ v = (let b = h.back.at_again in cc) in rw same at h.back.comes_back))
         (λ i v w g g'. (let e : h.again + suc i ≡ h.again + i + 1 = omega arith in class_sym run v.from w.to (h.back.walk.next (h.again + i) v w (at i v g) (rw e at (at (suc i) w g'))).shares))
-        (λ i v g. (let s = step_in run h.start h.visits (h.again + i) v h.back.walk (at i v g) in holds_strict run v.from v.to (event_of run s.0 v.to s.1.shares) s.1.holds))
+        (λ i v g. (let s = step_in run h.start h.steps (h.again + i) v h.back.walk (at i v g) in holds_strict run v.from v.to (event_of run s.0 v.to s.1.shares) s.1.holds))
 
-    end : (v : Visit) (vs : List Visit) → drop h.again h.visits ≡ v ∷ vs → slice_get (v ∷ vs) (length vs) ≡ Some h.last
+    end : (v : Step) (vs : List Step) → drop h.again h.steps ≡ v ∷ vs → slice_get (v ∷ vs) (length vs) ≡ Some h.last
     end v vs is =
-        let len : length h.visits - h.again ≡ suc (length vs) = sym (length-drop h.again h.visits) ∙ ap length is in
-        let e : h.again + length vs ≡ length h.visits - 1 = omega arith in
-        let g : slice_get (drop h.again h.visits) (length vs) ≡ Some h.last = get_drop h.visits h.again (length vs) ∙ (rw e h.back.at_end) in
+        let len : length h.steps - h.again ≡ suc (length vs) = sym (length-drop h.again h.steps) ∙ ap length is in
+        let e : h.again + length vs ≡ length h.steps - 1 = omega arith in
+        let g : slice_get (drop h.again h.steps) (length vs) ≡ Some h.last = get_drop h.steps h.again (length vs) ∙ (rw e h.back.at_end) in
         rw is at g
 
-    closed : (vs : List Visit) → drop h.again h.visits ≡ vs → IsClosed run (IsOrderStep run) (forward h.last.from vs)
-    closed [] is = absurd (let e : h.again + 0 ≡ h.again = omega arith in let g : slice_get (drop h.again h.visits) 0 ≡ Some h.back.visit = get_drop h.visits h.again 0 ∙ (rw e h.back.at_again) in let g' : slice_get {X = Visit} [] 0 ≡ Some h.back.visit = rw is at g in cc)
+    closed : (vs : List Step) → drop h.again h.steps ≡ vs → IsClosed run (IsOrderStep run) (forward h.last.from vs)
+    closed [] is = absurd (let e : h.again + 0 ≡ h.again = omega arith in let g : slice_get (drop h.again h.steps) 0 ≡ Some h.back.step = get_drop h.steps h.again 0 ∙ (rw e h.back.at_again) in let g' : slice_get {X = Step} [] 0 ≡ Some h.back.step = rw is at g in cc)
     closed (v ∷ vs) is = round_closed run v vs h.last (end v vs is) (rw is at linked)

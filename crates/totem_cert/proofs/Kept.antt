@@ -1,4 +1,4 @@
--- Which classes are ready, by the members with their key.
+-- Which classes are ready, by the keyed with their key.
 use Rattle.std.proofs.Common.{◌≡◌, ℕ, ◌<◌, ◌≤◌, ◌⊎◌, inl, inr, List, [], length, get_or, slice_get, Some, None, Bool, true, false, IsTrue, ◌↔◌, refl, sym, ◌∙◌, ap, arith}
 use Rattle.std.proofs.lemmas.Option.{slice_get_within, slice_get_cases, slice_get_read}
 use Rattle.totem_evs.specs.declared.entry.Entry.{Entry}
@@ -7,8 +7,8 @@ use Rattle.totem_evs.specs.declared.log.Log.{Log}
 use Rattle.totem_evs.specs.Events.{log_of}
 use Rattle.totem_evs.specs.Certificates.{Numbering, numbers_of}
 use Rattle.totem_cert.specs.declared.key.Key.{Key}
-use Rattle.totem_cert.specs.declared.key.Member.{Member}
-use Rattle.totem_cert.specs.Keys.{key_of, class_key, shares, IsMemberOf, IsIndex}
+use Rattle.totem_cert.specs.declared.key.KeyedEntry.{KeyedEntry}
+use Rattle.totem_cert.specs.Keys.{key_of, class_key, shares, IsKeyedOf, IsIndex}
 use Rattle.totem_cert.specs.Keepers.{given_at, count_of, KeepsAt, NoneKeepsFrom}
 use Rattle.totem_cert.specs.Search.{place, NoneOf}
 use Rattle.totem_cert.specs.Progress.{Fits, IsReady, AreAlike, Feeds, IsMate, KeepsBack}
@@ -81,8 +81,8 @@ key_feeds (Fail c) x key h k f = absurd cc
 pub given_is : (run : List Log) (lines : List Numbering) (k q : ℕ) (log : Log) (line : Numbering) → Stands run lines q k log line → given_at lines k ≡ length (numbers_of lines q)
 given_is run lines k q log line s = ap count_of s.line_at ∙ ap length (sym s.line_is)
 
--- where a member stands
-pub member_stands : (run : List Log) (lines : List Numbering) (m : Member) (log : Log) (entry : Entry) → Rising run → Fits run lines → IsMemberOf run m log entry
+-- where a keyed entry stands
+pub member_stands : (run : List Log) (lines : List Numbering) (m : KeyedEntry) (log : Log) (entry : Entry) → Rising run → Fits run lines → IsKeyedOf run m log entry
     → (line : Numbering) × Stands run lines log.proc m.log log line × (slice_get (log_of run log.proc) m.at ≡ Some entry)
 member_stands run lines m log entry rising fits of = go (slice_get_cases lines m.log).1
   where
@@ -91,25 +91,25 @@ member_stands run lines m log entry rising fits of = go (slice_get_cases lines m
     go (inl (line, within, at, _)) = (line, stands_at run lines m.log log line rising fits of.log_at at, rw (log_of_at run m.log log rising of.log_at) of.entry_at)
     go (inr (le, _)) = absurd (let lt = slice_get_within run m.log log of.log_at in let c = fits.count in omega arith)
 
-module _ (run : List Log) (lines : List Numbering) (members : List Member) (rising : Rising run) (fits : Fits run lines) (index : IsIndex run members) (p j : ℕ) (x : Entry)
+module _ (run : List Log) (lines : List Numbering) (keyed : List KeyedEntry) (rising : Rising run) (fits : Fits run lines) (index : IsIndex run keyed) (p j : ℕ) (x : Entry)
     (at : slice_get (log_of run p) j ≡ Some x) (head : length (numbers_of lines p) ≡ j) where
   not_itself : (q i : ℕ) → p ≡ q → j ≡ i → length (numbers_of lines q) < i → ⊥
   not_itself q i same also lt = let h : length (numbers_of lines p) ≡ length (numbers_of lines q) = ap (λ (r : ℕ). length (numbers_of lines r)) same in omega arith
 
-  -- it is among the members with its key
+  -- it is among the keyed with its key
   among : (q i : ℕ) (y : Entry) (key : Key) (shared : Bool) → slice_get (log_of run q) i ≡ Some y → key_of y ≡ Some key → shares y ≡ shared
-      → (k : ℕ) × (s : ℕ) × (slice_get members s ≡ Some (record { key = key; shares = shared; log = k; at = i })) × (given_at lines k ≡ length (numbers_of lines q))
+      → (k : ℕ) × (s : ℕ) × (slice_get keyed s ≡ Some (record { key = key; shares = shared; log = k; at = i })) × (given_at lines k ≡ length (numbers_of lines q))
   among q i y key shared at_y is_key is_shared = go (where_is run lines q fits)
     where
       go : ((log_of run q ≡ []) × (numbers_of lines q ≡ [])) ⊎ ((k : ℕ) × (log : Log) × (line : Numbering) × Stands run lines q k log line)
-          → (k : ℕ) × (s : ℕ) × (slice_get members s ≡ Some (record { key = key; shares = shared; log = k; at = i })) × (given_at lines k ≡ length (numbers_of lines q))
+          → (k : ℕ) × (s : ℕ) × (slice_get keyed s ≡ Some (record { key = key; shares = shared; log = k; at = i })) × (given_at lines k ≡ length (numbers_of lines q))
       go (inl (none, nothing)) = absurd (let h : slice_get {X = Entry} [] i ≡ Some y = rw none at at_y in cc)
       go (inr (k, log, line, s)) =
-          let m : Member = record { key = key; shares = shared; log = k; at = i } in
+          let m : KeyedEntry = record { key = key; shares = shared; log = k; at = i } in
           let w = index.whole m log y (record { log_at = s.log_at; entry_at = rw s.log_is at at_y; key = is_key; shared = is_shared }) in
           (k, w.0, w.1, given_is run lines k q log line s)
 
-  none_back : (key : Key) → class_key x ≡ Some key → NoneKeepsFrom lines members key 0 → NoneOf run (KeepsBack run lines p j x)
+  none_back : (key : Key) → class_key x ≡ Some key → NoneKeepsFrom lines keyed key 0 → NoneOf run (KeepsBack run lines p j x)
   none_back key has none = record { none = λ q i within (y, at_y, k). go q i y at_y k }
     where
       mate : (q i : ℕ) (y : Entry) → slice_get (log_of run q) i ≡ Some y → AreAlike x y → length (numbers_of lines q) < i → ⊥
@@ -137,13 +137,13 @@ module _ (run : List Log) (lines : List Numbering) (members : List Member) (risi
       go q i y (inl (inr alike, lt)) = alone_alike x y alone alike
       go q i y (inr (feeds, le)) = alone_fed y x alone feeds
 
-  pub ready_with_key : (key : Key) → class_key x ≡ Some key → NoneKeepsFrom lines members key 0 → IsTrue true ↔ IsReady run lines (place p j)
+  pub ready_with_key : (key : Key) → class_key x ≡ Some key → NoneKeepsFrom lines keyed key 0 → IsTrue true ↔ IsReady run lines (place p j)
   ready_with_key key has none = (λ _. nothing_keeps run lines p j x at (omega arith) (none_back key has none), λ _. refl)
 
   pub ready_alone : class_key x ≡ None → IsTrue true ↔ IsReady run lines (place p j)
   ready_alone alone = (λ _. nothing_keeps run lines p j x at (omega arith) (none_alone alone), λ _. refl)
 
-  pub kept : (key : Key) (s : ℕ) → class_key x ≡ Some key → KeepsAt lines members key s → IsTrue false ↔ IsReady run lines (place p j)
+  pub kept : (key : Key) (s : ℕ) → class_key x ≡ Some key → KeepsAt lines keyed key s → IsTrue false ↔ IsReady run lines (place p j)
   kept key s has keeps = (λ h. absurd cc, λ ready. absurd (go ready (index.sound s keeps.member keeps.at)))
     where
       back : (y : Entry) (q i given : ℕ) → key_of y ≡ Some key → (shared : Bool) → shares y ≡ shared → given ≡ length (numbers_of lines q) → slice_get (log_of run q) i ≡ Some y
@@ -151,7 +151,7 @@ module _ (run : List Log) (lines : List Numbering) (members : List Member) (risi
       back y q i given is_key shared is_shared same at_y (inl (yes_shared, lt)) = (y, at_y, inl (inr (key_alike x y key has is_key (is_shared ∙ yes_shared)), rw same at lt))
       back y q i given is_key shared is_shared same at_y (inr (no_shared, le)) = (y, at_y, inr (key_feeds y x key has is_key (is_shared ∙ no_shared), rw same at le))
 
-      go : IsReady run lines (place p j) → (log : Log) × (entry : Entry) × IsMemberOf run keeps.member log entry → ⊥
+      go : IsReady run lines (place p j) → (log : Log) × (entry : Entry) × IsKeyedOf run keeps.member log entry → ⊥
       go ready (log, y, of) =
           let s = member_stands run lines keeps.member log y rising fits of in
           something_keeps run lines p j x at log.proc keeps.member.at

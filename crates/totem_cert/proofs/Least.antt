@@ -11,7 +11,7 @@ use Rattle.totem_evs.specs.Classes.{IsAtMost}
 use Rattle.totem_evs.specs.Certificates.{Numbering, numbers_of}
 use Rattle.totem_evs.proofs.LogOf.{Rising, in_order}
 use Rattle.totem_evs.proofs.LogOf.{less_or_not}
-use Rattle.totem_evs.specs.ClosedLists.{Visit}
+use Rattle.totem_evs.specs.ClosedLists.{Step}
 use Rattle.totem_cert.specs.Search.{place}
 use Rattle.totem_evs.specs.ClosedLists.{IsLeft, IsLeastLeft, IsTurned, BeginsLeast, IsBrokenBy, IsClosedList, forward, unless}
 use Rattle.totem_cert.specs.Progress.{IsSound, NoneReady, IsFirstLeft, IsRound, IsForwardFrom}
@@ -78,12 +78,12 @@ least_left_is run items lines k n log line numbers is_run sound none first same 
     rw e at h
 
 -- what was written of the round is the closed list
-pub cycle : (run : List Log) (start : Place) (visits : List Visit) (again : ℕ) (written places : List Place) (k : SpecNo) → IsLeastLeft run start → IsRound run start visits again → IsForwardFrom visits again again written
+pub cycle : (run : List Log) (start : Place) (steps : List Step) (again : ℕ) (written places : List Place) (k : SpecNo) → IsLeastLeft run start → IsRound run start steps again → IsForwardFrom steps again again written
     → IsTurned written places → BeginsLeast places → IsBrokenBy run k places → IsClosedList run k places
-cycle run start visits again written places k begins round from turned least broken = record {
+cycle run start steps again written places k begins round from turned least broken = record {
   start = start;
   begins = begins;
-  visits = visits;
+  steps = steps;
   again = again;
   last = round.last;
   back = round.back;
@@ -92,12 +92,12 @@ cycle run start visits again written places k begins round from turned least bro
   broken = broken;
 }
 
-pub written_some : (run : List Log) (start : Place) (visits : List Visit) (again : ℕ) (written : List Place) → IsRound run start visits again → IsForwardFrom visits again again written → 0 < length written
-written_some run start visits again written round from =
+pub written_some : (run : List Log) (start : Place) (steps : List Step) (again : ℕ) (written : List Place) → IsRound run start steps again → IsForwardFrom steps again again written → 0 < length written
+written_some run start steps again written round from =
     let e = from.each round.last.from (inr (refl, round.last, round.back.at_end, refl)) in
-    let d = drop_here visits again round.back.visit round.back.at_again in
-    let whole : written ≡ forward round.last.from (round.back.visit ∷ drop (suc again) visits) = e ∙ ap (λ (vs : List Visit). forward round.last.from vs) d in
-    some written (forward round.back.visit.from (drop (suc again) visits)) round.back.visit.from (unless round.back.visit.to round.last.from) whole
+    let d = drop_here steps again round.back.step round.back.at_again in
+    let whole : written ≡ forward round.last.from (round.back.step ∷ drop (suc again) steps) = e ∙ ap (λ (vs : List Step). forward round.last.from vs) d in
+    some written (forward round.back.step.from (drop (suc again) steps)) round.back.step.from (unless round.back.step.to round.last.from) whole
   where
     some : (ws xs : List Place) (y : Place) (ys : List Place) → ws ≡ xs ++ (y ∷ ys) → 0 < length ws
     some ws xs y ys is = let l : length ws ≡ length xs + length (y ∷ ys) = rw is (length-append xs (y ∷ ys)) in omega arith

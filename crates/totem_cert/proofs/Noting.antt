@@ -8,7 +8,7 @@ use Rattle.std.proofs.lemmas.Cmp.{ranked}
 use Rattle.std.proofs.lemmas.Option.{slice_get_within}
 use Rattle.totem_ids.specs.declared.place.Place.{Place}
 use Rattle.totem_ids.specs.contracts.life.ProcOrd.TheImpl as processes
-use Rattle.totem_evs.specs.ClosedLists.{Visit}
+use Rattle.totem_evs.specs.ClosedLists.{Step}
 use Rattle.totem_evs.proofs.ProcOrder.{exact_proc}
 use Rattle.totem_cert.specs.Progress.{IsVisitedAt, IsNotVisited}
 use Rattle.totem_cert.specs.Visited.{place_order, IsNoted}
@@ -40,33 +40,33 @@ bool_cases false = inr refl
 apart_or_same : (e f : Place) → (e ≡ f) ⊎ (is_eq (place_order e f) ≡ false)
 apart_or_same e f = elim (bool_cases (is_eq (place_order e f))) [ inl h ↦ inl (same_place e f (equal_if (place_order e f) h)) | inr h ↦ inr h ]
 
-pub noted_yet : (seen : BTreeMap Place ℕ) (visits : List Visit) → seen.entries ≡ [] → visits ≡ [] → IsNoted seen visits
-noted_yet seen visits empty is = record {
-  each = λ i v at. absurd (let h : slice_get {X = Visit} [] i ≡ Some v = rw is at at in cc);
+pub noted_yet : (seen : BTreeMap Place ℕ) (steps : List Step) → seen.entries ≡ [] → steps ≡ [] → IsNoted seen steps
+noted_yet seen steps empty is = record {
+  each = λ i v at. absurd (let h : slice_get {X = Step} [] i ≡ Some v = rw is at at in cc);
   only = λ e i at. absurd (let h : get place_order seen e ≡ None = rw empty refl in cc);
 }
 
-pub not_visited : (seen : BTreeMap Place ℕ) (visits : List Visit) (e : Place) → IsNoted seen visits → None ≡ get place_order seen e → IsNotVisited visits e (length visits)
-not_visited seen visits e noted none = record { none = λ j v lt at same. (let h = noted.each j v at in let k : get place_order seen e ≡ Some j = rw same at h in cc) }
+pub not_visited : (seen : BTreeMap Place ℕ) (steps : List Step) (e : Place) → IsNoted seen steps → None ≡ get place_order seen e → IsNotVisited steps e (length steps)
+not_visited seen steps e noted none = record { none = λ j v lt at same. (let h = noted.each j v at in let k : get place_order seen e ≡ Some j = rw same at h in cc) }
 
-pub noted_more : (seen new : BTreeMap Place ℕ) (visits : List Visit) (next : Visit) → IsNoted seen visits → IsNotVisited visits next.to (length visits) → Updates place_order seen new next.to (Some (length visits)) → IsNoted new (visits ++ next ∷ [])
-noted_more seen new visits next noted fresh updates = record {
-  each = λ i v at. elim (push_cases visits next v i at) [
+pub noted_more : (seen new : BTreeMap Place ℕ) (steps : List Step) (next : Step) → IsNoted seen steps → IsNotVisited steps next.to (length steps) → Updates place_order seen new next.to (Some (length steps)) → IsNoted new (steps ++ next ∷ [])
+noted_more seen new steps next noted fresh updates = record {
+  each = λ i v at. elim (push_cases steps next v i at) [
     | inl (lt, h) ↦ kept i v lt h (apart_or_same next.to v.to)
     | inr (e, same) ↦ rw (e, ← same) updates.1
   ];
   only = λ e i at. found e i at (apart_or_same next.to e);
 }
   where
-    kept : (i : ℕ) (v : Visit) → i < length visits → slice_get visits i ≡ Some v → (next.to ≡ v.to) ⊎ (is_eq (place_order next.to v.to) ≡ false) → get place_order new v.to ≡ Some i
+    kept : (i : ℕ) (v : Step) → i < length steps → slice_get steps i ≡ Some v → (next.to ≡ v.to) ⊎ (is_eq (place_order next.to v.to) ≡ false) → get place_order new v.to ≡ Some i
     kept i v lt at (inl same) = absurd (fresh.none i v lt at (sym same))
     kept i v lt at (inr apart) = updates.2 v.to apart ∙ noted.each i v at
 
-    found : (e : Place) (i : ℕ) → get place_order new e ≡ Some i → (next.to ≡ e) ⊎ (is_eq (place_order next.to e) ≡ false) → IsVisitedAt (visits ++ next ∷ []) e i
+    found : (e : Place) (i : ℕ) → get place_order new e ≡ Some i → (next.to ≡ e) ⊎ (is_eq (place_order next.to e) ≡ false) → IsVisitedAt (steps ++ next ∷ []) e i
     found e i at (inl same) =
-        let there : get place_order new e ≡ Some (length visits) = rw same at updates.1 in
-        let is : i ≡ length visits = cc in
-        record { visit = next; at = push_at visits next i is; same = same }
+        let there : get place_order new e ≡ Some (length steps) = rw same at updates.1 in
+        let is : i ≡ length steps = cc in
+        record { step = next; at = push_at steps next i is; same = same }
     found e i at (inr apart) =
         let h = noted.only e i (sym (updates.2 e apart) ∙ at) in
-        record { visit = h.visit; at = push_below visits next i (slice_get_within visits i h.visit h.at) ∙ h.at; same = h.same }
+        record { step = h.step; at = push_below steps next i (slice_get_within steps i h.step h.at) ∙ h.at; same = h.same }

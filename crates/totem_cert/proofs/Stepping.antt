@@ -15,7 +15,7 @@ use Rattle.totem_cert.specs.Search.{IsLeast, NoneOf}
 use Rattle.totem_evs.specs.Certificates.{Numbering, numbers_of, number_at}
 use Rattle.totem_evs.proofs.LogOf.{Rising, log_of_cases, log_of_at}
 use Rattle.totem_evs.proofs.LogOf.{less_or_not}
-use Rattle.totem_evs.specs.ClosedLists.{Visit}
+use Rattle.totem_evs.specs.ClosedLists.{Step}
 use Rattle.totem_cert.specs.Search.{place}
 use Rattle.totem_evs.specs.Classes.{InClass}
 use Rattle.totem_evs.specs.ClosedLists.{Placed, placed, IsLeft, IsPrevious, IsLeftSend, IsLeastSend, HoldsUp, IsStepOf}
@@ -116,15 +116,15 @@ module _ (run : List Log) (lines : List Numbering) (sound : IsSound run lines) (
       ];
     }))
 
-    pub held_step : (v : Visit) (to : Place) → IsLeast run (IsHeldMate run lines p j x waits) to → v.to ≡ to → IsHeldBy lines send to v.from → IsStepOf run (place p j) v
+    pub held_step : (v : Step) (to : Place) → IsLeast run (IsHeldMate run lines p j x waits) to → v.to ≡ to → IsHeldBy lines send to v.from → IsStepOf run (place p j) v
     held_step v to least to_is by = rw (same_visit v to to_is) (record {
       shares = shares;
       holds = holds by;
       least = λ f e sh h. least.least e (held_of f e sh h);
     })
       where
-        same_visit : (v : Visit) (to : Place) → v.to ≡ to → v ≡ record { from = v.from; to = to }
-        same_visit v to h = ap (λ (t : Place). let u : Visit = record { from = v.from; to = t } in u) h
+        same_visit : (v : Step) (to : Place) → v.to ≡ to → v ≡ record { from = v.from; to = to }
+        same_visit v to h = ap (λ (t : Place). let u : Step = record { from = v.from; to = t } in u) h
 
         i : ℕ
         i = least.holds.0
@@ -173,7 +173,7 @@ module _ (run : List Log) (lines : List Numbering) (sound : IsSound run lines) (
                   least = λ g is_send. some.least g (open_of sends.0 g is_send sends.3);
                 })
 
-pub step_found : (run : List Log) (lines : List Numbering) → IsSound run lines → NoneReady run lines → (left : Place) (j : ℕ) (x : Entry) (waits : Bool) (send : Option Place) (v : Visit) (to : Place)
+pub step_found : (run : List Log) (lines : List Numbering) → IsSound run lines → NoneReady run lines → (left : Place) (j : ℕ) (x : Entry) (waits : Bool) (send : Option Place) (v : Step) (to : Place)
     → IsLeft run left → left.at ≡ j + 1 → slice_get (log_of run left.proc) j ≡ Some x → waits ≡ is_some send
     → IfSome send (λ e. IsLeast run (IsOpenSend run lines x) e) → IfNone send (NoneOf run (IsOpenSend run lines x))
     → IsLeast run (IsHeldMate run lines left.proc j x waits) to → v.to ≡ to → IsHeldBy lines send to v.from → IsStepOf run left v

@@ -7,7 +7,7 @@ use Rattle.totem_ids.specs.declared.place.Place.{Place}
 use Rattle.totem_evs.specs.declared.log.Log.{Log}
 use Rattle.totem_evs.specs.Events.{IsEvent}
 use Rattle.totem_evs.specs.Classes.{IsAtMost, InClass}
-use Rattle.totem_evs.specs.ClosedLists.{Visit, ComesBack, same_place, unless, forward, IsTurned, BeginsLeast}
+use Rattle.totem_evs.specs.ClosedLists.{Step, ComesBack, same_place, unless, forward, IsTurned, BeginsLeast}
 use Rattle.totem_cert.specs.Progress.{StandsBefore}
 use Rattle.totem_evs.proofs.LogOf.{less_or_not}
 use Rattle.totem_cert.proofs.Classmates.{class_sym, class_trans, event_of}
@@ -114,82 +114,82 @@ one_turn whole a b distinct turned_a turned_b least_a least_b =
     let r = one_split s.front t.front s.back t.back s.first d e in
     s.is ∙ ap (λ (x : Place). x ∷ (s.back ++ s.front)) one ∙ ap (λ (xs : List Place). t.first ∷ (xs ++ s.front)) r.1 ∙ ap (λ (xs : List Place). t.first ∷ (t.back ++ xs)) r.0 ∙ sym t.is
 
-module _ (run : List Log) (start : Place) (xs : List Visit) (again : ℕ) (last : Visit) (back : ComesBack run start xs again last) where
+module _ (run : List Log) (start : Place) (xs : List Step) (again : ℕ) (last : Step) (back : ComesBack run start xs again last) where
   -- e is where the step at i came from
   record IsFrom (i : ℕ) (e : Place) : Type 0 where
-    visit : Visit
-    at : slice_get xs i ≡ Some visit
-    is : e ≡ visit.from
+    step : Step
+    at : slice_get xs i ≡ Some step
+    is : e ≡ step.from
 
   -- e is where the step at i led, and not what stands behind it
   record IsTo (i : ℕ) (e : Place) : Type 0 where
-    visit : Visit
-    at : slice_get xs i ≡ Some visit
-    is : e ≡ visit.to
+    step : Step
+    at : slice_get xs i ≡ Some step
+    is : e ≡ step.to
     behind : Place
     stands : StandsBefore xs again i behind
     apart : e ≡ behind → ⊥
 
-  is_event : (i : ℕ) (v : Visit) → slice_get xs i ≡ Some v → IsEvent run v.to
+  is_event : (i : ℕ) (v : Step) → slice_get xs i ≡ Some v → IsEvent run v.to
   is_event i v at = let s = step_in run start xs i v back.walk at in event_of run s.0 v.to s.1.shares
 
   -- steps into one class are one step
-  new : (i j : ℕ) (v w : Visit) → slice_get xs i ≡ Some v → slice_get xs j ≡ Some w → InClass run v.to w.to → i ≡ j
+  new : (i j : ℕ) (v w : Step) → slice_get xs i ≡ Some v → slice_get xs j ≡ Some w → InClass run v.to w.to → i ≡ j
   new i j v w at_v at_w shares = elim (less_or_not i j) [
     | inl lt ↦ absurd (back.walk.new i j v w at_v at_w lt shares)
     | inr rest ↦ elim rest [ inl gt ↦ absurd (back.walk.new j i w v at_w at_v gt (class_sym run v.to w.to shares)) | inr e ↦ e ]
   ]
 
   -- the class of what a step came from is that of the next step, or of the step at `again`
-  follows : (i : ℕ) (e : Place) → IsFrom i e → ((w : Visit) × (slice_get xs (suc i) ≡ Some w) × InClass run e w.to) ⊎ ((suc i ≡ length xs) × (e ≡ last.from) × InClass run e back.visit.to)
+  follows : (i : ℕ) (e : Place) → IsFrom i e → ((w : Step) × (slice_get xs (suc i) ≡ Some w) × InClass run e w.to) ⊎ ((suc i ≡ length xs) × (e ≡ last.from) × InClass run e back.step.to)
   follows i e from = go (less_or_not (suc i) (length xs))
     where
       within : i < length xs
-      within = slice_get_within xs i from.visit from.at
+      within = slice_get_within xs i from.step from.at
 
-      go : (suc i < length xs) ⊎ ((length xs < suc i) ⊎ (suc i ≡ length xs)) → ((w : Visit) × (slice_get xs (suc i) ≡ Some w) × InClass run e w.to) ⊎ ((suc i ≡ length xs) × (e ≡ last.from) × InClass run e back.visit.to)
+      go : (suc i < length xs) ⊎ ((length xs < suc i) ⊎ (suc i ≡ length xs)) → ((w : Step) × (slice_get xs (suc i) ≡ Some w) × InClass run e w.to) ⊎ ((suc i ≡ length xs) × (e ≡ last.from) × InClass run e back.step.to)
       go (inl lt) =
-          let w : Visit = get_or xs (suc i) from.visit in
-          let at_w : slice_get xs (suc i) ≡ Some w = slice_get-get_or xs (suc i) from.visit lt in
+          let w : Step = get_or xs (suc i) from.step in
+          let at_w : slice_get xs (suc i) ≡ Some w = slice_get-get_or xs (suc i) from.step lt in
           let one : i + 1 ≡ suc i = omega arith in
-          let step = back.walk.next i from.visit w from.at (rw one at_w) in
+          let step = back.walk.next i from.step w from.at (rw one at_w) in
           inl (w, at_w, rw from.is step.shares)
       go (inr (inl gt)) = absurd (omega (arith, within))
       go (inr (inr end)) =
           let one : length xs - 1 ≡ i = omega arith in
-          let same : from.visit ≡ last = (let a = from.at in let b : slice_get xs i ≡ Some last = rw one at back.at_end in cc) in
-          let is : e ≡ last.from = from.is ∙ ap (λ (v : Visit). v.from) same in
-          inr (end, is, rw is (class_sym run back.visit.to last.from back.comes_back))
+          let same : from.step ≡ last = (let a = from.at in let b : slice_get xs i ≡ Some last = rw one at back.at_end in cc) in
+          let is : e ≡ last.from = from.is ∙ ap (λ (v : Step). v.from) same in
+          inr (end, is, rw is (class_sym run back.step.to last.from back.comes_back))
 
   from_from : (i j : ℕ) (e : Place) → again ≤ i → i < j → IsFrom i e → IsFrom j e → ⊥
   from_from i j e le lt a b = go (follows i e a) (follows j e b)
     where
       within : j < length xs
-      within = slice_get_within xs j b.visit b.at
+      within = slice_get_within xs j b.step b.at
 
-      go : ((w : Visit) × (slice_get xs (suc i) ≡ Some w) × InClass run e w.to) ⊎ ((suc i ≡ length xs) × (e ≡ last.from) × InClass run e back.visit.to)
-          → ((w : Visit) × (slice_get xs (suc j) ≡ Some w) × InClass run e w.to) ⊎ ((suc j ≡ length xs) × (e ≡ last.from) × InClass run e back.visit.to) → ⊥
+      go : ((w : Step) × (slice_get xs (suc i) ≡ Some w) × InClass run e w.to) ⊎ ((suc i ≡ length xs) × (e ≡ last.from) × InClass run e back.step.to)
+          → ((w : Step) × (slice_get xs (suc j) ≡ Some w) × InClass run e w.to) ⊎ ((suc j ≡ length xs) × (e ≡ last.from) × InClass run e back.step.to) → ⊥
       go (inl (v, at_v, in_v)) (inl (w, at_w, in_w)) = let h = new (suc i) (suc j) v w at_v at_w (class_trans run v.to e w.to (class_sym run e v.to in_v) in_w) in omega arith
-      go (inl (v, at_v, in_v)) (inr (end, _, in_w)) = let h = new (suc i) again v back.visit at_v back.at_again (class_trans run v.to e back.visit.to (class_sym run e v.to in_v) in_w) in omega arith
+      go (inl (v, at_v, in_v)) (inr (end, _, in_w)) = let h = new (suc i) again v back.step at_v back.at_again (class_trans run v.to e back.step.to (class_sym run e v.to in_v) in_w) in omega arith
       go (inr (end, _, _)) h = omega (arith, within)
 
   to_to : (i j : ℕ) (e : Place) → i < j → IsTo i e → IsTo j e → ⊥
   to_to i j e lt a b =
-      let same : a.visit.to ≡ b.visit.to = sym a.is ∙ b.is in
-      let h = new i j a.visit b.visit a.at b.at (inl (is_event i a.visit a.at, same)) in
+      let same : a.step.to ≡ b.step.to = sym a.is ∙ b.is in
+      let h = new i j a.step b.step a.at b.at (inl (is_event i a.step a.at, same)) in
       omega arith
 
   from_to : (i j : ℕ) (e : Place) → again ≤ i → again ≤ j → IsFrom i e → IsTo j e → ⊥
   from_to i j e le le' a b = go (follows i e a)
     where
-      go : ((w : Visit) × (slice_get xs (suc i) ≡ Some w) × InClass run e w.to) ⊎ ((suc i ≡ length xs) × (e ≡ last.from) × InClass run e back.visit.to) → ⊥
+      go : ((w : Step) × (slice_get xs (suc i) ≡ Some w) × InClass run e w.to) ⊎ ((suc i ≡ length xs) × (e ≡ last.from) × InClass run e back.step.to) → ⊥
       go (inl (w, at_w, in_w)) =
-          let same : suc i ≡ j = new (suc i) j w b.visit at_w b.at (class_sym run b.visit.to w.to (rw b.is at in_w)) in
+          let same : suc i ≡ j = new (suc i) j w b.step at_w b.at (class_sym run b.step.to w.to (rw b.is at in_w)) in
           let one : j - 1 ≡ i = omega arith in
-          let stands : StandsBefore xs again j e = inl (omega arith, a.visit, rw one a.at, a.is) in
+          let stands : StandsBefore xs again j e = inl (omega arith, a.step, rw one a.at, a.is) in
           b.apart (one_before xs again j e b.behind stands b.stands)
       go (inr (end, is, in_v)) =
-          let same : again ≡ j = new again j back.visit b.visit back.at_again b.at (class_sym run b.visit.to back.visit.to (rw b.is at in_v)) in
+          let same : again ≡ j = new again j back.step b.step back.at_again b.at (class_sym run b.step.to back.step.to (rw b.is at in_v)) in
           let stands : StandsBefore xs again j e = inr (sym same, last, back.at_end, is) in
           b.apart (one_before xs again j e b.behind stands b.stands)
 
@@ -208,7 +208,7 @@ module _ (run : List Log) (start : Place) (xs : List Visit) (again : ℕ) (last 
     | inr c ↦ to_to t a.index e (let h = a.from_t in omega arith) b c
   ]
 
-  split : (ys : List Visit) (t : ℕ) (v : Visit) (vs : List Visit) → v ∷ vs ≡ drop t ys → (slice_get ys t ≡ Some v) × (vs ≡ drop (suc t) ys)
+  split : (ys : List Step) (t : ℕ) (v : Step) (vs : List Step) → v ∷ vs ≡ drop t ys → (slice_get ys t ≡ Some v) × (vs ≡ drop (suc t) ys)
   split [] zero v vs h = absurd cc
   split [] (suc t) v vs h = absurd cc
   split (y ∷ ys) zero v vs h = (let e : v ≡ y = cc in ap Some (sym e), cc)
@@ -222,9 +222,9 @@ module _ (run : List Log) (start : Place) (xs : List Visit) (again : ℕ) (last 
       go false h = inr (not_same e p h, rw h refl)
 
   -- what a step writes
-  step_tag : (t : ℕ) (v : Visit) (p e : Place) → slice_get xs t ≡ Some v → StandsBefore xs again t p → Contains (v.from ∷ unless v.to p) e → IsFrom t e ⊎ IsTo t e
+  step_tag : (t : ℕ) (v : Step) (p e : Place) → slice_get xs t ≡ Some v → StandsBefore xs again t p → Contains (v.from ∷ unless v.to p) e → IsFrom t e ⊎ IsTo t e
   step_tag t v p e at stands h = elim (in_cases v.from e (unless v.to p) h) [
-    | inl same ↦ inl (record { visit = v; at = at; is = sym same })
+    | inl same ↦ inl (record { step = v; at = at; is = sym same })
     | inr there ↦ elim (unless_cases v.to p) [
       | inl (_, none) ↦ absurd (in_none e (rw none at there))
       | inr (other, one) ↦ second other (in_cases v.to e [] (rw one at there))
@@ -232,10 +232,10 @@ module _ (run : List Log) (start : Place) (xs : List Visit) (again : ℕ) (last 
   ]
     where
       second : (v.to ≡ p → ⊥) → (v.to ≡ e) ⊎ Contains [] e → IsFrom t e ⊎ IsTo t e
-      second other (inl same) = inr (record { visit = v; at = at; is = sym same; behind = p; stands = stands; apart = λ h. other (same ∙ h) })
+      second other (inl same) = inr (record { step = v; at = at; is = sym same; behind = p; stands = stands; apart = λ h. other (same ∙ h) })
       second other (inr none) = absurd (in_none e none)
 
-  tagged : (t : ℕ) (vs : List Visit) (p e : Place) → vs ≡ drop t xs → again ≤ t → StandsBefore xs again t p → Contains (forward p vs) e → Tagged t e
+  tagged : (t : ℕ) (vs : List Step) (p e : Place) → vs ≡ drop t xs → again ≤ t → StandsBefore xs again t p → Contains (forward p vs) e → Tagged t e
   tagged t [] p e is le stands h = absurd (in_none e h)
   tagged t (v ∷ vs) p e is le stands h =
       let s = split xs t v vs is in
@@ -245,19 +245,19 @@ module _ (run : List Log) (start : Place) (xs : List Visit) (again : ℕ) (last 
         | inr here ↦ record { index = t; from_t = omega arith; tag = step_tag t v p e s.0 stands here }
       ]
 
-  two_distinct : (t : ℕ) (v : Visit) (p : Place) → slice_get xs t ≡ Some v → again ≤ t → StandsBefore xs again t p → IsDistinct (v.from ∷ unless v.to p)
+  two_distinct : (t : ℕ) (v : Step) (p : Place) → slice_get xs t ≡ Some v → again ≤ t → StandsBefore xs again t p → IsDistinct (v.from ∷ unless v.to p)
   two_distinct t v p at le stands = elim (unless_cases v.to p) [
     | inl (_, none) ↦ rw none ((λ h. in_none v.from h), tt)
     | inr (other, one) ↦ rw one (
       (λ h. elim (in_cases v.to v.from [] h) [
-        | inl same ↦ from_to t t v.from le le (record { visit = v; at = at; is = refl }) (record { visit = v; at = at; is = sym same; behind = p; stands = stands; apart = λ k. other (same ∙ k) })
+        | inl same ↦ from_to t t v.from le le (record { step = v; at = at; is = refl }) (record { step = v; at = at; is = sym same; behind = p; stands = stands; apart = λ k. other (same ∙ k) })
         | inr none ↦ in_none v.from none
       ]),
       ((λ h. in_none v.to h), tt),
     )
   ]
 
-  distinct : (t : ℕ) (vs : List Visit) (p : Place) → vs ≡ drop t xs → again ≤ t → StandsBefore xs again t p → IsDistinct (forward p vs)
+  distinct : (t : ℕ) (vs : List Step) (p : Place) → vs ≡ drop t xs → again ≤ t → StandsBefore xs again t p → IsDistinct (forward p vs)
   distinct t [] p is le stands = tt
   distinct t (v ∷ vs) p is le stands =
       let s = split xs t v vs is in

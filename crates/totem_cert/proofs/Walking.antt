@@ -11,7 +11,7 @@ use Rattle.totem_evs.specs.Runs.{IsRun, IsLog}
 use Rattle.totem_evs.specs.Events.{log_of, IsEvent}
 use Rattle.totem_evs.specs.Classes.{IsAtMost}
 use Rattle.totem_evs.proofs.LogOf.{log_of_cases}
-use Rattle.totem_evs.specs.ClosedLists.{Visit}
+use Rattle.totem_evs.specs.ClosedLists.{Step}
 use Rattle.totem_cert.specs.Search.{place}
 use Rattle.totem_evs.specs.Classes.{InClass}
 use Rattle.totem_evs.specs.ClosedLists.{IsLeft, HoldsUp, IsStepOf, IsWalk}
@@ -45,7 +45,7 @@ antisym e f (inr (p, a)) (inr (q, b)) =
     let at : e.at ≡ f.at = omega arith in
     ap (λ (r : ℕ). let g : Place = record { proc = r; at = e.at } in g) p ∙ ap (λ (i : ℕ). let g : Place = record { proc = f.proc; at = i } in g) at
 
-pub left_from : (run : List Log) (k : Place) (v : Visit) → IsStepOf run k v → IsLeft run v.from
+pub left_from : (run : List Log) (k : Place) (v : Step) → IsStepOf run k v → IsLeft run v.from
 left_from run k v step = go step.holds
   where
     go : HoldsUp run v.from v.to → IsLeft run v.from
@@ -53,33 +53,33 @@ left_from run k v step = go step.holds
     go (inr (_, least)) = least.send.left
 
 -- two steps into one class lead to one event
-pub one_step : (run : List Log) (k l : Place) (v w : Visit) → IsStepOf run k v → IsStepOf run l w → InClass run v.to w.to → v.to ≡ w.to
+pub one_step : (run : List Log) (k l : Place) (v w : Step) → IsStepOf run k v → IsStepOf run l w → InClass run v.to w.to → v.to ≡ w.to
 one_step run k l v w a b same =
     antisym v.to w.to
     (a.least w.from w.to (class_trans run k v.to w.to a.shares same) b.holds)
     (b.least v.from v.to (class_trans run l w.to v.to b.shares (class_sym run v.to w.to same)) a.holds)
 
 -- each step of a walk is the step of some class
-pub step_in : (run : List Log) (start : Place) (visits : List Visit) (i : ℕ) (v : Visit) → IsWalk run start visits → slice_get visits i ≡ Some v → (k : Place) × IsStepOf run k v
-step_in run start visits zero v walk at = (start, walk.first v at)
-step_in run start visits (suc i) v walk at =
-    let u = before visits i v at in (u.0.from, walk.next i u.0 v u.1 (let h : i + 1 ≡ suc i = omega arith in rw h at))
+pub step_in : (run : List Log) (start : Place) (steps : List Step) (i : ℕ) (v : Step) → IsWalk run start steps → slice_get steps i ≡ Some v → (k : Place) × IsStepOf run k v
+step_in run start steps zero v walk at = (start, walk.first v at)
+step_in run start steps (suc i) v walk at =
+    let u = before steps i v at in (u.0.from, walk.next i u.0 v u.1 (let h : i + 1 ≡ suc i = omega arith in rw h at))
   where
-    before : (xs : List Visit) (i : ℕ) (y : Visit) → slice_get xs (suc i) ≡ Some y → (x : Visit) × (slice_get xs i ≡ Some x)
+    before : (xs : List Step) (i : ℕ) (y : Step) → slice_get xs (suc i) ≡ Some y → (x : Step) × (slice_get xs i ≡ Some x)
     before [] i y h = absurd cc
     before (x ∷ xs) zero y h = (x, refl)
     before (x ∷ xs) (suc i) y h = before xs i y h
 
-next_step : (run : List Log) (start : Place) (visits : List Visit) (next : Visit) → IsWalking run start visits next → (k : Place) × IsStepOf run k next
+next_step : (run : List Log) (start : Place) (steps : List Step) (next : Step) → IsWalking run start steps next → (k : Place) × IsStepOf run k next
 next_step run start [] next walking = (start, walking.first refl)
 next_step run start (x ∷ xs) next walking = let l = last x xs in (l.0.from, walking.later (length xs) l.0 l.1 (omega arith))
   where
-    last : (x : Visit) (xs : List Visit) → (v : Visit) × (slice_get (x ∷ xs) (length xs) ≡ Some v)
+    last : (x : Step) (xs : List Step) → (v : Step) × (slice_get (x ∷ xs) (length xs) ≡ Some v)
     last x [] = (x, refl)
     last x (y ∷ ys) = last y ys
 
-pub walking_yet : (run : List Log) (start : Place) (visits : List Visit) (next : Visit) → visits ≡ [] → IsStepOf run start next → IsWalking run start visits next
-walking_yet run start visits next is step = rw is (record {
+pub walking_yet : (run : List Log) (start : Place) (steps : List Step) (next : Step) → steps ≡ [] → IsStepOf run start next → IsWalking run start steps next
+walking_yet run start steps next is step = rw is (record {
   walk = record {
     first = λ v at. absurd cc;
     next = λ i v w at_v at_w. absurd cc;
@@ -90,48 +90,48 @@ walking_yet run start visits next is step = rw is (record {
 })
 
 -- one step more
-module _ (run : List Log) (start : Place) (visits : List Visit) (next : Visit) (walking : IsWalking run start visits next) (new : IsNotVisited visits next.to (length visits)) where
-  pub walk_more : IsWalk run start (visits ++ next ∷ [])
+module _ (run : List Log) (start : Place) (steps : List Step) (next : Step) (walking : IsWalking run start steps next) (new : IsNotVisited steps next.to (length steps)) where
+  pub walk_more : IsWalk run start (steps ++ next ∷ [])
   walk_more = record {
-    first = λ v at. elim (push_cases visits next v 0 at) [
+    first = λ v at. elim (push_cases steps next v 0 at) [
       | inl (lt, h) ↦ walking.walk.first v h
       | inr (e, same) ↦ rw (← same) (walking.first (sym e))
     ];
-    next = λ i v w at_v at_w. after i v w (push_cases visits next v i at_v) (push_cases visits next w (i + 1) at_w);
-    new = λ i j v w at_v at_w lt. fresh i j v w lt (push_cases visits next v i at_v) (push_cases visits next w j at_w);
+    next = λ i v w at_v at_w. after i v w (push_cases steps next v i at_v) (push_cases steps next w (i + 1) at_w);
+    new = λ i j v w at_v at_w lt. fresh i j v w lt (push_cases steps next v i at_v) (push_cases steps next w j at_w);
   }
     where
-      after : (i : ℕ) (v w : Visit) → ((i < length visits) × (slice_get visits i ≡ Some v)) ⊎ ((i ≡ length visits) × (next ≡ v)) → ((i + 1 < length visits) × (slice_get visits (i + 1) ≡ Some w)) ⊎ ((i + 1 ≡ length visits) × (next ≡ w)) → IsStepOf run v.from w
+      after : (i : ℕ) (v w : Step) → ((i < length steps) × (slice_get steps i ≡ Some v)) ⊎ ((i ≡ length steps) × (next ≡ v)) → ((i + 1 < length steps) × (slice_get steps (i + 1) ≡ Some w)) ⊎ ((i + 1 ≡ length steps) × (next ≡ w)) → IsStepOf run v.from w
       after i v w (inl (lt, at_v)) (inl (lt', at_w)) = walking.walk.next i v w at_v at_w
       after i v w (inl (lt, at_v)) (inr (e, same)) = rw (← same) (walking.later i v at_v (sym e))
       after i v w (inr (e, same)) (inl (lt, at_w)) = absurd (omega arith)
       after i v w (inr (e, same)) (inr (e', same')) = absurd (omega arith)
 
-      fresh : (i j : ℕ) (v w : Visit) → i < j → ((i < length visits) × (slice_get visits i ≡ Some v)) ⊎ ((i ≡ length visits) × (next ≡ v)) → ((j < length visits) × (slice_get visits j ≡ Some w)) ⊎ ((j ≡ length visits) × (next ≡ w)) → InClass run v.to w.to → ⊥
+      fresh : (i j : ℕ) (v w : Step) → i < j → ((i < length steps) × (slice_get steps i ≡ Some v)) ⊎ ((i ≡ length steps) × (next ≡ v)) → ((j < length steps) × (slice_get steps j ≡ Some w)) ⊎ ((j ≡ length steps) × (next ≡ w)) → InClass run v.to w.to → ⊥
       fresh i j v w lt (inl (a, at_v)) (inl (b, at_w)) shares = walking.walk.new i j v w at_v at_w lt shares
       fresh i j v w lt (inl (a, at_v)) (inr (e, same)) shares =
-          let s = step_in run start visits i v walking.walk at_v in
-          let t = next_step run start visits next walking in
+          let s = step_in run start steps i v walking.walk at_v in
+          let t = next_step run start steps next walking in
           let one = one_step run s.0 t.0 v next s.1 t.1 (rw (← same) at shares) in
           new.none i v a at_v one
       fresh i j v w lt (inr (e, same)) (inl (b, at_w)) shares = omega arith
       fresh i j v w lt (inr (e, same)) (inr (e', same')) shares = omega arith
 
-  pub walking_more : (then : Visit) → IsStepOf run next.from then → IsWalking run start (visits ++ next ∷ []) then
+  pub walking_more : (then : Step) → IsStepOf run next.from then → IsWalking run start (steps ++ next ∷ []) then
   walking_more then step = record {
     walk = walk_more;
-    first = λ h. absurd (let l : length (visits ++ next ∷ []) ≡ length visits + 1 = simp length-append (omega arith) in omega arith);
-    later = λ i v at len. elim (push_cases visits next v i at) [
-      | inl (lt, h) ↦ absurd (let l : length (visits ++ next ∷ []) ≡ length visits + 1 = simp length-append (omega arith) in omega arith)
+    first = λ h. absurd (let l : length (steps ++ next ∷ []) ≡ length steps + 1 = simp length-append (omega arith) in omega arith);
+    later = λ i v at len. elim (push_cases steps next v i at) [
+      | inl (lt, h) ↦ absurd (let l : length (steps ++ next ∷ []) ≡ length steps + 1 = simp length-append (omega arith) in omega arith)
       | inr (e, same) ↦ rw (← same) step
     ];
   }
 
   pub left_next : IsLeft run next.from
-  left_next = let t = next_step run start visits next walking in left_from run t.0 next t.1
+  left_next = let t = next_step run start steps next walking in left_from run t.0 next t.1
 
 -- a walk that came to a class again
-pub round : (run : List Log) (start : Place) (visits : List Visit) (next : Visit) (again : ℕ) → IsWalking run start visits next → IsVisitedAt visits next.to again → IsRound run start visits again
+pub round : (run : List Log) (start : Place) (steps : List Step) (next : Step) (again : ℕ) → IsWalking run start steps next → IsVisitedAt steps next.to again → IsRound run start steps again
 round run start [] next again walking at = absurd (let h = at.at in cc)
 round run start (x ∷ xs) next again walking at =
     let l = last x xs in
@@ -141,22 +141,22 @@ round run start (x ∷ xs) next again walking at =
       last = l.0;
       back = record {
         walk = walking.walk;
-        visit = at.visit;
+        step = at.step;
         at_again = at.at;
         at_end = rw e l.1;
         comes_back = rw at.same (class_sym run l.0.from next.to step.shares);
       };
     }
   where
-    last : (x : Visit) (xs : List Visit) → (v : Visit) × (slice_get (x ∷ xs) (length xs) ≡ Some v)
+    last : (x : Step) (xs : List Step) → (v : Step) × (slice_get (x ∷ xs) (length xs) ≡ Some v)
     last x [] = (x, refl)
     last x (y ∷ ys) = last y ys
 
 -- the steps are no more than there can be events
-code : Visit → ℕ
+code : Step → ℕ
 code v = v.to.proc * 1048576 + v.to.at
 
-code_few : (run : List Log) (v : Visit) → IsRun run → IsEvent run v.to → (v.to.at < 1048576) × (v.to.proc < 4294967296)
+code_few : (run : List Log) (v : Step) → IsRun run → IsEvent run v.to → (v.to.at < 1048576) × (v.to.proc < 4294967296)
 code_few run v is_run (x, at) = go (index_of run v.to x at) (log_of_cases run v.to.proc)
   where
     go : (i : ℕ) × (v.to ≡ place v.to.proc i) × (slice_get (log_of run v.to.proc) i ≡ Some x)
@@ -172,17 +172,17 @@ code_few run v is_run (x, at) = go (index_of run v.to x at) (log_of_cases run v.
         (omega arith, omega arith)
 
 -- steps to different events
-record AreApart (visits : List Visit) : Type 0 where
-  few : (i : ℕ) (v : Visit) → slice_get visits i ≡ Some v → (v.to.at < 1048576) × (v.to.proc < 4294967296)
-  apart : (i j : ℕ) (v w : Visit) → slice_get visits i ≡ Some v → slice_get visits j ≡ Some w → i < j → v.to ≡ w.to → ⊥
+record AreApart (steps : List Step) : Type 0 where
+  few : (i : ℕ) (v : Step) → slice_get steps i ≡ Some v → (v.to.at < 1048576) × (v.to.proc < 4294967296)
+  apart : (i j : ℕ) (v w : Step) → slice_get steps i ≡ Some v → slice_get steps j ≡ Some w → i < j → v.to ≡ w.to → ⊥
 
-apart_tail : (v : Visit) (vs : List Visit) → AreApart (v ∷ vs) → AreApart vs
+apart_tail : (v : Step) (vs : List Step) → AreApart (v ∷ vs) → AreApart vs
 apart_tail v vs h = record { few = λ i w at. h.few (suc i) w at; apart = λ i j w u at_w at_u lt. h.apart (suc i) (suc j) w u at_w at_u (omega arith) }
 
 parts : (a b p q : ℕ) → a < 1048576 → b < 1048576 → p * 1048576 + a ≡ q * 1048576 + b → (p ≡ q) × (a ≡ b)
 parts a b p q x y e = (omega arith, omega arith)
 
-same_code : (v w : Visit) → v.to.at < 1048576 → w.to.at < 1048576 → code v ≡ code w → v.to ≡ w.to
+same_code : (v w : Step) → v.to.at < 1048576 → w.to.at < 1048576 → code v ≡ code w → v.to ≡ w.to
 unfolding code
 same_code v w a b e =
     let h = parts v.to.at w.to.at v.to.proc w.to.proc a b e in
@@ -191,16 +191,16 @@ same_code v w a b e =
 not_eqb : (a b : ℕ) → (a ≡ b → ⊥) → eqb a b ≡ false
 not_eqb a b other = grind arith
 
-others : (v : Visit) (vs : List Visit) → ((i : ℕ) (w : Visit) → slice_get vs i ≡ Some w → code v ≡ code w → ⊥) → AllByRecursion (λ y. eqb (code v) y ≡ false) (map code vs)
+others : (v : Step) (vs : List Step) → ((i : ℕ) (w : Step) → slice_get vs i ≡ Some w → code v ≡ code w → ⊥) → AllByRecursion (λ y. eqb (code v) y ≡ false) (map code vs)
 others v [] h = tt
 others v (w ∷ ws) h = (not_eqb (code v) (code w) (h 0 w refl), others v ws (λ i u at. h (suc i) u at))
 
-distinct : (vs : List Visit) → AreApart vs → IsDistinct eqb (map code vs)
+distinct : (vs : List Step) → AreApart vs → IsDistinct eqb (map code vs)
 unfolding IsDistinct
 distinct [] h = tt
 distinct (v ∷ vs) h = (others v vs (λ i w at same. h.apart 0 (suc i) v w refl at (omega arith) (same_code v w (h.few 0 v refl).0 (h.few (suc i) w at).0 same)), distinct vs (apart_tail v vs h))
 
-below : (vs : List Visit) (q : ℕ) → AreApart vs → list_any (eqb q) (map code vs) ≡ true → q < 4503599627370496
+below : (vs : List Step) (q : ℕ) → AreApart vs → list_any (eqb q) (map code vs) ≡ true → q < 4503599627370496
 unfolding code
 below [] q h any = absurd cc
 below (v ∷ vs) q h any = go (eqb q (code v)) refl any (below vs q (apart_tail v vs h))
@@ -212,17 +212,17 @@ below (v ∷ vs) q h any = go (eqb q (code v)) refl any (below vs q (apart_tail 
     go true e any rest = let same = is_eqb q (code v) e in let few = h.few 0 v refl in let a = few.0 in let p = few.1 in omega arith
     go false e any rest = rest (rw e at any)
 
-same_count : (vs : List Visit) → length (map code vs) ≡ length vs
+same_count : (vs : List Step) → length (map code vs) ≡ length vs
 same_count [] = refl
 same_count (v ∷ vs) = let h = same_count vs in omega arith
 
-pub walk_short : (run : List Log) (start : Place) (visits : List Visit) → IsRun run → IsWalk run start visits → length visits ≤ 4503599627370496
-walk_short run start visits is_run walk =
-    let h = length-le_from_distinct_below (map code visits) 4503599627370496 (distinct visits apart) (λ q any. below visits q apart any) in
-    rw (same_count visits) at h
+pub walk_short : (run : List Log) (start : Place) (steps : List Step) → IsRun run → IsWalk run start steps → length steps ≤ 4503599627370496
+walk_short run start steps is_run walk =
+    let h = length-le_from_distinct_below (map code steps) 4503599627370496 (distinct steps apart) (λ q any. below steps q apart any) in
+    rw (same_count steps) at h
   where
-    apart : AreApart visits
+    apart : AreApart steps
     apart = record {
-      few = λ i v at. (let s = step_in run start visits i v walk at in code_few run v is_run (event_of run s.0 v.to s.1.shares));
-      apart = λ i j v w at_v at_w lt same. (let s = step_in run start visits i v walk at_v in walk.new i j v w at_v at_w lt (inl (event_of run s.0 v.to s.1.shares, same)));
+      few = λ i v at. (let s = step_in run start steps i v walk at in code_few run v is_run (event_of run s.0 v.to s.1.shares));
+      apart = λ i j v w at_v at_w lt same. (let s = step_in run start steps i v walk at_v in walk.new i j v w at_v at_w lt (inl (event_of run s.0 v.to s.1.shares, same)));
     }

@@ -3,33 +3,33 @@ use Rattle.std.proofs.Common.{◌≡◌, ℕ, zero, suc, ◌+◌, ◌-◌, ◌<�
 use Rattle.std.proofs.lemmas.Option.{slice_get_within, slice_get_read}
 use Rattle.totem_ids.specs.declared.place.Place.{Place}
 use Rattle.totem_evs.specs.Classes.{IsAtMost}
-use Rattle.totem_evs.specs.ClosedLists.{Visit}
+use Rattle.totem_evs.specs.ClosedLists.{Step}
 use Rattle.totem_evs.specs.ClosedLists.{unless, forward, BeginsLeast}
 use Rattle.totem_cert.specs.Progress.{StandsBefore, IsForwardFrom, IsLeastUpTo}
 use Rattle.totem_cert.proofs.Closing.{get_drop}
 
-pub drop_here : (xs : List Visit) (i : ℕ) (v : Visit) → slice_get xs i ≡ Some v → drop i xs ≡ v ∷ drop (suc i) xs
+pub drop_here : (xs : List Step) (i : ℕ) (v : Step) → slice_get xs i ≡ Some v → drop i xs ≡ v ∷ drop (suc i) xs
 drop_here [] i v at = absurd cc
-drop_here (x ∷ xs) zero v at = let same : x ≡ v = cc in ap (λ (u : Visit). u ∷ xs) same
+drop_here (x ∷ xs) zero v at = let same : x ≡ v = cc in ap (λ (u : Step). u ∷ xs) same
 drop_here (x ∷ xs) (suc i) v at = drop_here xs i v at
 
-pub one_before : (visits : List Visit) (again i : ℕ) (p q : Place) → StandsBefore visits again i p → StandsBefore visits again i q → p ≡ q
-one_before visits again i p q (inl (lt, v, at, is)) (inl (lt', w, at', is')) = let same : v ≡ w = cc in is ∙ ap (λ (u : Visit). u.from) same ∙ sym is'
-one_before visits again i p q (inl (lt, v, at, is)) (inr (e, w, at', is')) = absurd (omega arith)
-one_before visits again i p q (inr (e, v, at, is)) (inl (lt, w, at', is')) = absurd (omega arith)
-one_before visits again i p q (inr (e, v, at, is)) (inr (e', w, at', is')) = let same : v ≡ w = cc in is ∙ ap (λ (u : Visit). u.from) same ∙ sym is'
+pub one_before : (steps : List Step) (again i : ℕ) (p q : Place) → StandsBefore steps again i p → StandsBefore steps again i q → p ≡ q
+one_before steps again i p q (inl (lt, v, at, is)) (inl (lt', w, at', is')) = let same : v ≡ w = cc in is ∙ ap (λ (u : Step). u.from) same ∙ sym is'
+one_before steps again i p q (inl (lt, v, at, is)) (inr (e, w, at', is')) = absurd (omega arith)
+one_before steps again i p q (inr (e, v, at, is)) (inl (lt, w, at', is')) = absurd (omega arith)
+one_before steps again i p q (inr (e, v, at, is)) (inr (e', w, at', is')) = let same : v ≡ w = cc in is ∙ ap (λ (u : Step). u.from) same ∙ sym is'
 
-pub forward_more : (visits : List Visit) (again n i : ℕ) (places next : List Place) (p : Place) (v : Visit) → IsForwardFrom visits again n places → i ≡ n - 1 → again < n → i < length visits → StandsBefore visits again i p
-    → v ≡ get_or visits i v → next ≡ places ++ (v.from ∷ unless v.to p) → IsForwardFrom visits again i next
-forward_more visits again n i places next p v from i_is lt within stands read is = record {
+pub forward_more : (steps : List Step) (again n i : ℕ) (places next : List Place) (p : Place) (v : Step) → IsForwardFrom steps again n places → i ≡ n - 1 → again < n → i < length steps → StandsBefore steps again i p
+    → v ≡ get_or steps i v → next ≡ places ++ (v.from ∷ unless v.to p) → IsForwardFrom steps again i next
+forward_more steps again n i places next p v from i_is lt within stands read is = record {
   each = λ q also. (
-      let at = slice_get_read visits _ i v refl within read in
-      let here : slice_get visits (n - 1) ≡ Some v = rw i_is at at in
+      let at = slice_get_read steps _ i v refl within read in
+      let here : slice_get steps (n - 1) ≡ Some v = rw i_is at at in
       let rest = from.each v.from (inl (lt, v, here, refl)) in
       let n_is : n ≡ suc i = omega arith in
-      let rest' : places ≡ forward v.from (drop (suc i) visits) = rw n_is at rest in
-      let same : p ≡ q = one_before visits again i p q stands also in
-      let whole : forward q (drop i visits) ≡ forward v.from (drop (suc i) visits) ++ (v.from ∷ unless v.to q) = ap (λ (vs : List Visit). forward q vs) (drop_here visits i v at) in
+      let rest' : places ≡ forward v.from (drop (suc i) steps) = rw n_is at rest in
+      let same : p ≡ q = one_before steps again i p q stands also in
+      let whole : forward q (drop i steps) ≡ forward v.from (drop (suc i) steps) ++ (v.from ∷ unless v.to q) = ap (λ (vs : List Step). forward q vs) (drop_here steps i v at) in
       is ∙ (rw (rest', same) (sym whole))
       );
 }

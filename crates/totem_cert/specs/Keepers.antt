@@ -7,7 +7,7 @@ use Rattle.totem_cert.specs.declared.wanted.Wanted.{Wanted}
 use Rattle.totem_cert.specs.declared.wanted.Wanted.TheVariants.{Sends, Mates}
 use Rattle.totem_cert.specs.Search.{place}
 use Rattle.totem_cert.specs.declared.key.Key.{Key}
-use Rattle.totem_cert.specs.declared.key.Member.{Member}
+use Rattle.totem_cert.specs.declared.key.KeyedEntry.{KeyedEntry}
 
 abbrev pub count_of : Option Numbering → ℕ
 count_of (Some line) = length line.numbers
@@ -21,70 +21,70 @@ given_at lines k = count_of (slice_get lines k)
 abbrev pub StandsBehind : Bool → ℕ → ℕ → Type 0
 StandsBehind shares given at = (IsTrue shares × (given < at)) ⊎ ((shares ≡ false) × (given ≤ at))
 
--- the member keeps the class of a key from being ready
-abbrev pub MemberKeeps : List Numbering → Key → Member → Type 0
-MemberKeeps lines key m = (m.key ≡ key) × StandsBehind m.shares (given_at lines m.log) m.at
+-- the entry keeps the class of a key from being ready
+abbrev pub EntryKeeps : List Numbering → Key → KeyedEntry → Type 0
+EntryKeeps lines key m = (m.key ≡ key) × StandsBehind m.shares (given_at lines m.log) m.at
 
-pub record KeepsAt (lines : List Numbering) (members : List Member) (key : Key) (s : ℕ) : Type 0 where
-  pub member : Member
-  pub at : slice_get members s ≡ Some member
-  pub keeps : MemberKeeps lines key member
+pub record KeepsAt (lines : List Numbering) (keyed : List KeyedEntry) (key : Key) (s : ℕ) : Type 0 where
+  pub member : KeyedEntry
+  pub at : slice_get keyed s ≡ Some member
+  pub keeps : EntryKeeps lines key member
 
--- no member from s on keeps it
-pub record NoneKeepsFrom (lines : List Numbering) (members : List Member) (key : Key) (s : ℕ) : Type 0 where
-  pub none : (t : ℕ) (member : Member) → s ≤ t → slice_get members t ≡ Some member → MemberKeeps lines key member → ⊥
+-- no entry from s on keeps it
+pub record NoneKeepsFrom (lines : List Numbering) (keyed : List KeyedEntry) (key : Key) (s : ℕ) : Type 0 where
+  pub none : (t : ℕ) (member : KeyedEntry) → s ≤ t → slice_get keyed t ≡ Some member → EntryKeeps lines key member → ⊥
 
--- no member from s on has the key
-pub record IsEnd (members : List Member) (key : Key) (s : ℕ) : Type 0 where
-  pub within : s ≤ length members
-  pub after : (t : ℕ) (member : Member) → s ≤ t → slice_get members t ≡ Some member → member.key ≡ key → ⊥
+-- no entry from s on has the key
+pub record IsEnd (keyed : List KeyedEntry) (key : Key) (s : ℕ) : Type 0 where
+  pub within : s ≤ length keyed
+  pub after : (t : ℕ) (member : KeyedEntry) → s ≤ t → slice_get keyed t ≡ Some member → member.key ≡ key → ⊥
 
--- what is sought among the members with a key: sends without a number, or entries of the class that are held up, `waits`
+-- what is sought among the entries with a key: sends without a number, or entries of the class that are held up, `waits`
 -- saying whether a send of their message has no number
-abbrev pub IsWanted : Wanted → ℕ → Member → Type 0
+abbrev pub IsWanted : Wanted → ℕ → KeyedEntry → Type 0
 IsWanted Sends given m = (m.shares ≡ false) × (given ≤ m.at)
 IsWanted (Mates waits) given m = IsTrue m.shares × (IsTrue waits ⊎ (given < m.at))
 
-abbrev pub Wants : List Numbering → Key → Wanted → Member → Type 0
+abbrev pub Wants : List Numbering → Key → Wanted → KeyedEntry → Type 0
 Wants lines key wanted m = (m.key ≡ key) × IsWanted wanted (given_at lines m.log) m
 
 -- m stands at n's place or before it
-abbrev pub IsNoLater : Member → Member → Type 0
+abbrev pub IsNoLater : KeyedEntry → KeyedEntry → Type 0
 IsNoLater m n = (m.log < n.log) ⊎ ((m.log ≡ n.log) × (m.at ≤ n.at))
 
--- no member from s on is wanted
-pub record NoneWantedFrom (lines : List Numbering) (members : List Member) (key : Key) (wanted : Wanted) (s : ℕ) : Type 0 where
-  pub none : (t : ℕ) (n : Member) → s ≤ t → slice_get members t ≡ Some n → Wants lines key wanted n → ⊥
+-- no entry from s on is wanted
+pub record NoneWantedFrom (lines : List Numbering) (keyed : List KeyedEntry) (key : Key) (wanted : Wanted) (s : ℕ) : Type 0 where
+  pub none : (t : ℕ) (n : KeyedEntry) → s ≤ t → slice_get keyed t ≡ Some n → Wants lines key wanted n → ⊥
 
--- of the wanted members from s on, m is the first by its place
-pub record IsFirstWantedFrom (lines : List Numbering) (members : List Member) (key : Key) (wanted : Wanted) (s : ℕ) (m : Member) : Type 0 where
+-- of the wanted ones from s on, m is the first by its place
+pub record IsFirstWantedFrom (lines : List Numbering) (keyed : List KeyedEntry) (key : Key) (wanted : Wanted) (s : ℕ) (m : KeyedEntry) : Type 0 where
   pub index : ℕ
-  pub at : slice_get members index ≡ Some m
+  pub at : slice_get keyed index ≡ Some m
   pub wants : Wants lines key wanted m
-  pub first : (t : ℕ) (n : Member) → s ≤ t → slice_get members t ≡ Some n → Wants lines key wanted n → IsNoLater m n
+  pub first : (t : ℕ) (n : KeyedEntry) → s ≤ t → slice_get keyed t ≡ Some n → Wants lines key wanted n → IsNoLater m n
 
-abbrev pub IsBestFrom : List Numbering → List Member → Key → Wanted → ℕ → Option Member → Type 0
-IsBestFrom lines members key wanted s None = NoneWantedFrom lines members key wanted s
-IsBestFrom lines members key wanted s (Some m) = IsFirstWantedFrom lines members key wanted s m
+abbrev pub IsBestFrom : List Numbering → List KeyedEntry → Key → Wanted → ℕ → Option KeyedEntry → Type 0
+IsBestFrom lines keyed key wanted s None = NoneWantedFrom lines keyed key wanted s
+IsBestFrom lines keyed key wanted s (Some m) = IsFirstWantedFrom lines keyed key wanted s m
 
 -- the earlier of what was found so far and m
-abbrev pub IsEarlier : Option Member → Member → Member → Type 0
+abbrev pub IsEarlier : Option KeyedEntry → KeyedEntry → KeyedEntry → Type 0
 IsEarlier None m r = r ≡ m
 IsEarlier (Some best) m r = ((r ≡ best) × IsNoLater best m) ⊎ ((r ≡ m) × IsNoLater m best)
 
 -- what was found so far, with m
-abbrev pub IsBestWith : List Numbering → Key → Wanted → Option Member → Member → Option Member → Type 0
+abbrev pub IsBestWith : List Numbering → Key → Wanted → Option KeyedEntry → KeyedEntry → Option KeyedEntry → Type 0
 IsBestWith lines key wanted best m found =
-    (Wants lines key wanted m × (r : Member) × (found ≡ Some r) × IsEarlier best m r)
+    (Wants lines key wanted m × (r : KeyedEntry) × (found ≡ Some r) × IsEarlier best m r)
     ⊎ ((Wants lines key wanted m → ⊥) × (found ≡ best))
 
--- e is the member's place
-pub record IsPlaceOf (run : List Log) (m : Member) (e : Place) : Type 0 where
+-- e is its place
+pub record IsPlaceOf (run : List Log) (m : KeyedEntry) (e : Place) : Type 0 where
   pub log : Log
   pub log_at : slice_get run m.log ≡ Some log
   pub is : e ≡ place log.proc m.at
 
--- the place of the first wanted member, if there is one
-abbrev pub IsFirstPlace : List Log → List Numbering → List Member → Key → Wanted → Option Place → Type 0
-IsFirstPlace run lines members key wanted None = NoneWantedFrom lines members key wanted 0
-IsFirstPlace run lines members key wanted (Some e) = (m : Member) × IsFirstWantedFrom lines members key wanted 0 m × IsPlaceOf run m e
+-- the place of the first wanted one, if there is one
+abbrev pub IsFirstPlace : List Log → List Numbering → List KeyedEntry → Key → Wanted → Option Place → Type 0
+IsFirstPlace run lines keyed key wanted None = NoneWantedFrom lines keyed key wanted 0
+IsFirstPlace run lines keyed key wanted (Some e) = (m : KeyedEntry) × IsFirstWantedFrom lines keyed key wanted 0 m × IsPlaceOf run m e

@@ -12,7 +12,7 @@ use Rattle.totem_evs.specs.Certificates.{Numbering, number_at, numbers_of}
 use Rattle.totem_cert.specs.Search.{place}
 use Rattle.totem_evs.specs.Classes.{InClass, WaitsFor, ClassAtMost}
 use Rattle.totem_evs.specs.Positions.{IsReadyAt}
-use Rattle.totem_evs.specs.ClosedLists.{Visit}
+use Rattle.totem_evs.specs.ClosedLists.{Step}
 use Rattle.totem_evs.specs.ClosedLists.{Placed, IsStepOf, IsWalk, ComesBack, forward, AreTwinDeliveries}
 
 -- e has a number
@@ -163,35 +163,35 @@ IsHeldBy lines send to from =
     ⊎ ((to.at ≤ length (numbers_of lines to.proc) + 1) × (from ≡ unwrap_or send to))
 
 -- the step at i leads to that event
-pub record IsVisitedAt (visits : List Visit) (to : Place) (i : ℕ) : Type 0 where
-  pub visit : Visit
-  pub at : slice_get visits i ≡ Some visit
-  pub same : visit.to ≡ to
+pub record IsVisitedAt (steps : List Step) (to : Place) (i : ℕ) : Type 0 where
+  pub step : Step
+  pub at : slice_get steps i ≡ Some step
+  pub same : step.to ≡ to
 
 -- no step before the i-th leads to that event
-pub record IsNotVisited (visits : List Visit) (to : Place) (i : ℕ) : Type 0 where
-  pub none : (j : ℕ) (visit : Visit) → j < i → slice_get visits j ≡ Some visit → visit.to ≡ to → ⊥
+pub record IsNotVisited (steps : List Step) (to : Place) (i : ℕ) : Type 0 where
+  pub none : (j : ℕ) (step : Step) → j < i → slice_get steps j ≡ Some step → step.to ≡ to → ⊥
 
 -- a walk, and the step that comes next
-pub record IsWalking (run : List Log) (start : Place) (visits : List Visit) (next : Visit) : Type 0 where
-  pub walk : IsWalk run start visits
-  pub first : length visits ≡ 0 → IsStepOf run start next
-  pub later : (i : ℕ) (visit : Visit) → slice_get visits i ≡ Some visit → length visits ≡ i + 1 → IsStepOf run visit.from next
+pub record IsWalking (run : List Log) (start : Place) (steps : List Step) (next : Step) : Type 0 where
+  pub walk : IsWalk run start steps
+  pub first : length steps ≡ 0 → IsStepOf run start next
+  pub later : (i : ℕ) (step : Step) → slice_get steps i ≡ Some step → length steps ≡ i + 1 → IsStepOf run step.from next
 
 -- the walk of these steps came back to the class of the step at `again`
-pub record IsRound (run : List Log) (start : Place) (visits : List Visit) (again : ℕ) : Type 0 where
-  pub last : Visit
-  pub back : ComesBack run start visits again last
+pub record IsRound (run : List Log) (start : Place) (steps : List Step) (again : ℕ) : Type 0 where
+  pub last : Step
+  pub back : ComesBack run start steps again last
 
 -- p is what the step at i comes after in forward order's end: the event from which the step before it leads, or the last step's for the first
-abbrev pub StandsBefore : List Visit → ℕ → ℕ → Place → Type 0
-StandsBefore visits again i p =
-    ((again < i) × (v : Visit) × (slice_get visits (i - 1) ≡ Some v) × (p ≡ v.from))
-    ⊎ ((i ≡ again) × (v : Visit) × (slice_get visits (length visits - 1) ≡ Some v) × (p ≡ v.from))
+abbrev pub StandsBefore : List Step → ℕ → ℕ → Place → Type 0
+StandsBefore steps again i p =
+    ((again < i) × (v : Step) × (slice_get steps (i - 1) ≡ Some v) × (p ≡ v.from))
+    ⊎ ((i ≡ again) × (v : Step) × (slice_get steps (length steps - 1) ≡ Some v) × (p ≡ v.from))
 
 -- the steps from the i-th on, in forward order
-pub record IsForwardFrom (visits : List Visit) (again i : ℕ) (places : List Place) : Type 0 where
-  pub each : (p : Place) → StandsBefore visits again i p → places ≡ forward p (drop i visits)
+pub record IsForwardFrom (steps : List Step) (again i : ℕ) (places : List Place) : Type 0 where
+  pub each : (p : Place) → StandsBefore steps again i p → places ≡ forward p (drop i steps)
 
 -- no event before the i-th is below that at k
 pub record IsLeastUpTo (places : List Place) (k i : ℕ) : Type 0 where

@@ -3,7 +3,7 @@ use Rattle.std.specs.Prelude.{◌≡◌, ℕ, List, slice_get, Some}
 use Rattle.std.specs.BTreeMap.{BTreeMap, get}
 use Rattle.std.specs.declared.cmp.Ordering.{Ordering}
 use Rattle.totem_ids.specs.declared.place.Place.{Place}
-use Rattle.totem_evs.specs.ClosedLists.{Visit}
+use Rattle.totem_evs.specs.ClosedLists.{Step}
 use Rattle.totem_cert.specs.Progress.{IsVisitedAt}
 
 -- the order of places
@@ -11,6 +11,6 @@ abbrev pub place_order : Place → Place → Ordering
 place_order = (Rattle.totem_ids.specs.contracts.place.PlaceOrd.TheImpl.cmp-value).it
 
 -- the map has for each event to which a step led the number of that step
-pub record IsNoted (seen : BTreeMap Place ℕ) (visits : List Visit) : Type 0 where
-  pub each : (i : ℕ) (v : Visit) → slice_get visits i ≡ Some v → get place_order seen v.to ≡ Some i
-  pub only : (e : Place) (i : ℕ) → get place_order seen e ≡ Some i → IsVisitedAt visits e i
+pub record IsNoted (seen : BTreeMap Place ℕ) (steps : List Step) : Type 0 where
+  pub each : (i : ℕ) (v : Step) → slice_get steps i ≡ Some v → get place_order seen v.to ≡ Some i
+  pub only : (e : Place) (i : ℕ) → get place_order seen e ≡ Some i → IsVisitedAt steps e i

@@ -3,43 +3,43 @@ ghost use Rattle.totem_evs.specs.Classes.{IsAtMost};
 ghost use Rattle.totem_evs.specs.ClosedLists.{unless, IsTurned, BeginsLeast};
 ghost use Rattle.totem_cert.specs.Progress.{StandsBefore, IsForwardFrom, IsLeastUpTo};
 
-use crate::visit::Visit;
+use crate::step::Step;
 use std::alloc::{AllocError, Global};
 use totem_ids::Place;
 
 /// Returns the event from which the step comes that is next to step `i` in forward order.
-fn before(visits: &[Visit], again: usize, i: usize) -> Place
+fn before(steps: &[Step], again: usize, i: usize) -> Place
     requires from { again ≤ i }
-    requires within { i < length visits.now }
-    ensures { StandsBefore visits.now again i result }
+    requires within { i < length steps.now }
+    ensures { StandsBefore steps.now again i result }
 {
-    let behind = if i == again { visits.len() } else { i };
-    let visit = visits[behind - 1];
-    visit.from
+    let behind = if i == again { steps.len() } else { i };
+    let step = steps[behind - 1];
+    step.from
 }
 
 /// Appends the two events of a step. The second is left out where the next step comes from it.
-fn write_step(places: &mut Vec<Place>, visit: &Visit, before: &Place) -> Result<(), AllocError>
-    ensures { OnOk result (places.new.items ≡ places.old.items ++ (visit.now.from ∷ unless visit.now.to before.now)) }
+fn write_step(places: &mut Vec<Place>, step: &Step, before: &Place) -> Result<(), AllocError>
+    ensures { OnOk result (places.new.items ≡ places.old.items ++ (step.now.from ∷ unless step.now.to before.now)) }
 {
-    places.push(visit.from)?;
-    if visit.to != *before {
-        places.push(visit.to)?;
+    places.push(step.from)?;
+    if step.to != *before {
+        places.push(step.to)?;
     }
     Ok(())
 }
 
 /// Returns the events of a round's steps in forward order.
-pub fn forward(alloc: Global, visits: &[Visit], again: usize) -> Result<Vec<Place>, AllocError>
-    requires { again < length visits.now }
-    ensures { IfOk result (λ places. IsForwardFrom visits.now again again places.items) }
+pub fn forward(alloc: Global, steps: &[Step], again: usize) -> Result<Vec<Place>, AllocError>
+    requires { again < length steps.now }
+    ensures { IfOk result (λ places. IsForwardFrom steps.now again again places.items) }
 {
     let mut places = Vec::new(alloc);
-    let mut i = visits.len();
+    let mut i = steps.len();
     while again < i {
         i -= 1;
-        let before = before(visits, again, i);
-        write_step(&mut places, &visits[i], &before)?;
+        let before = before(steps, again, i);
+        write_step(&mut places, &steps[i], &before)?;
     }
     Ok(places)
 }

@@ -56,7 +56,7 @@ pub fn closed_list(
 {
     let start = least_left(run, lines, k);
     let round = walk_round(alloc, run, index, lines, &start)?;
-    let written = forward(alloc, &round.visits, round.again)?;
+    let written = forward(alloc, &round.steps, round.again)?;
     let places = turned(alloc, &written)?;
     Ok(Fault {
         spec: broken_by(run, &places),

@@ -1,10 +1,10 @@
 //! Finds what keeps a class from being ready, among the entries with its key.
 ghost use Rattle.std.specs.Prelude.{◌≡◌, ◌↔◌, IsTrue, IfSome, IfNone};
 ghost use Rattle.totem_cert.specs.Keys.{KeysRise};
-ghost use Rattle.totem_cert.specs.Keepers.{given_at, StandsBehind, MemberKeeps, KeepsAt, NoneKeepsFrom, IsEnd};
+ghost use Rattle.totem_cert.specs.Keepers.{given_at, StandsBehind, EntryKeeps, KeepsAt, NoneKeepsFrom, IsEnd};
 
 use crate::index::Index;
-use crate::key::{Key, Member};
+use crate::key::{Key, KeyedEntry};
 use crate::open_line::OpenLine;
 
 /// Returns how many entries of the log at this index have a number.
@@ -24,28 +24,28 @@ fn stands_behind(shares: bool, given: usize, at: usize) -> bool
 }
 
 /// Returns whether an entry keeps the class of a key from being ready.
-fn keeps(lines: &[OpenLine], key: &Key, member: &Member) -> bool
-    ensures { IsTrue result ↔ MemberKeeps lines.now key.now member.now }
+fn keeps(lines: &[OpenLine], key: &Key, entry: &KeyedEntry) -> bool
+    ensures { IsTrue result ↔ EntryKeeps lines.now key.now entry.now }
 {
-    let given = given_at(lines, member.log as usize);
-    member.key.is(key) && stands_behind(member.shares, given, member.at as usize)
+    let given = given_at(lines, entry.log as usize);
+    entry.key.is(key) && stands_behind(entry.shares, given, entry.at as usize)
 }
 
-/// Returns where the members with a key end. The entry at index `at` of this log has the key.
+/// Returns where the entries with a key end. The entry at index `at` of this log has the key.
 #[tactic(auto, using(crate::proofs::Scanning::end_here, crate::proofs::Scanning::end_of_all))]
 pub fn end_of(index: &Index<'_>, key: &Key, log: usize, at: usize) -> usize
     requires { KeysRise index.now }
     ensures { IsEnd index.now key.now result }
 {
     let end = index.noted_end(log, at);
-    if end < index.len() && key.is_below(&index.member(end).key) {
+    if end < index.len() && key.is_below(&index.entry(end).key) {
         end
     } else {
         index.len()
     }
 }
 
-/// Returns the index of a member that keeps the class of a key from being ready, if one does. Asks first the one that
+/// Returns the index of a entry that keeps the class of a key from being ready, if one does. Asks first the one that
 /// did so `last`.
 #[tactic(auto, using(crate::proofs::Scanning::keeps_here, crate::proofs::Scanning::none_yet, crate::proofs::Scanning::none_more, crate::proofs::Scanning::none_below))]
 pub fn keeper(
@@ -60,17 +60,17 @@ pub fn keeper(
     ensures found { IfSome result (KeepsAt lines.now index.now key.now) }
     ensures none { IfNone result (NoneKeepsFrom lines.now index.now key.now 0) }
 {
-    if last < index.len() && keeps(lines, key, &index.member(last)) {
+    if last < index.len() && keeps(lines, key, &index.entry(last)) {
         return Some(last);
     }
     let mut s = end_of(index, key, log, at);
     while 0 < s {
         s -= 1;
-        let member = index.member(s);
-        if keeps(lines, key, &member) {
+        let entry = index.entry(s);
+        if keeps(lines, key, &entry) {
             return Some(s);
         }
-        if member.key.is_below(key) {
+        if entry.key.is_below(key) {
             return None;
         }
     }

@@ -55,7 +55,7 @@ impl Key {
 
 /// An entry that has a key, with its log and its index there.
 #[derive(Clone, Copy)]
-pub struct Member {
+pub struct KeyedEntry {
     pub key: Key,
     /// Whether the entry is in the class of its key. Otherwise it sends the message.
     pub shares: bool,

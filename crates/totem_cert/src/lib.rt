@@ -28,7 +28,6 @@ mod spot;
 mod step;
 mod text_laws;
 mod twins;
-mod visit;
 mod walk;
 mod wanted;
 mod writing;

@@ -1,8 +1,8 @@
 //! Where the entries stand that have a key.
 ghost use Rattle.std.specs.Prelude.{◌≡◌};
-ghost use Rattle.totem_cert.specs.Keys.{key_at, no_key, member_at};
+ghost use Rattle.totem_cert.specs.Keys.{key_at, no_key, keyed_at};
 
-use crate::key::{Key, Member, shares};
+use crate::key::{Key, KeyedEntry, shares};
 use totem_evs::Run;
 use totem_ids::{ConfId, ProcId, RingId};
 
@@ -21,12 +21,12 @@ fn no_key() -> Key
     Key::Conf(ConfId::Regular(RingId { seq: 1, rep }))
 }
 
-/// Returns the entry at a spot as a member. At the spots of an index one stands, and has a key.
-pub fn member_at(run: &Run, spot: &Spot) -> Member
-    ensures { result ≡ member_at run.now.logs spot.now }
+/// Returns the keyed entry at a spot. At the spots of an index one stands, and has a key.
+pub fn keyed_at(run: &Run, spot: &Spot) -> KeyedEntry
+    ensures { result ≡ keyed_at run.now.logs spot.now }
 {
     let logs = run.logs.as_slice();
-    let mut member = Member {
+    let mut keyed = KeyedEntry {
         key: no_key(),
         shares: false,
         log: spot.log,
@@ -37,16 +37,16 @@ pub fn member_at(run: &Run, spot: &Spot) -> Member
         let entries = log.entries.as_slice();
         if (spot.at as usize) < entries.len() {
             let entry = &entries[spot.at as usize];
-            member.key = Key::of(entry).unwrap_or(member.key);
-            member.shares = shares(entry);
+            keyed.key = Key::of(entry).unwrap_or(keyed.key);
+            keyed.shares = shares(entry);
         }
     }
-    member
+    keyed
 }
 
 /// Returns the key of the entry at a spot.
 pub fn key_at(run: &Run, spot: &Spot) -> Key
     ensures { result ≡ key_at run.now.logs spot.now }
 {
-    member_at(run, spot).key
+    keyed_at(run, spot).key
 }

@@ -11,10 +11,27 @@ ghost use Rattle.totem_cert.specs.Progress.{Fits, IsSound, NoneReady, IsOpenSend
 use crate::index::Index;
 use crate::key::Key;
 use crate::open_line::OpenLine;
-use crate::visit::Visit;
 use crate::wanted::{Wanted, first_place};
+use std::marker::Model;
 use totem_evs::{Entry, Run};
 use totem_ids::{Place, Proc};
+
+/// A step to an entry from the one that holds it up.
+#[derive(Clone, Copy)]
+pub struct Step {
+    pub from: Place,
+    pub to: Place,
+}
+
+impl Model for Step {
+    ghost use Rattle.totem_evs.specs.ClosedLists as lists;
+
+    ghost Value = { lists.Step };
+
+    ghost view = { λ v. record { from = v.from; to = v.to } };
+
+    ghost inverse = { λ v. record { from = v.from; to = v.to } };
+}
 
 /// An entry, with the process and the index at which it stands.
 #[derive(Clone, Copy)]
@@ -126,14 +143,14 @@ fn held_mate(
 }
 
 /// Returns the step to the least event of its class that is held up, from what holds it up.
-fn step_to(lines: &[OpenLine], send: Option<Place>, to: &Place) -> Visit
+fn step_to(lines: &[OpenLine], send: Option<Place>, to: &Place) -> Step
     requires { 0 < to.now.at }
     ensures to { result.to ≡ to.now }
     ensures from { IsHeldBy lines.now send to.now result.from }
 {
     let before = to.at - 1;
     if given(lines, to.proc) < before as usize {
-        Visit {
+        Step {
             from: Place {
                 proc: to.proc,
                 at: before,
@@ -141,7 +158,7 @@ fn step_to(lines: &[OpenLine], send: Option<Place>, to: &Place) -> Visit
             to: *to,
         }
     } else {
-        Visit {
+        Step {
             from: send.unwrap_or(*to),
             to: *to,
         }
@@ -155,7 +172,7 @@ fn step_at(
     lines: &[OpenLine],
     left: &Place,
     standing: &Standing,
-) -> Visit
+) -> Step
     requires run { IsRun run.now.logs }
     requires index { IsIndex run.now.logs index.now }
     requires sound { IsSound run.now.logs lines.now }
@@ -170,7 +187,7 @@ fn step_at(
     let k = log_index(run, standing.proc);
     let send = open_send(run, index, lines, k, standing.at, standing.entry);
     match held_mate(run, index, lines, k, standing, send.is_some()) {
-        None => Visit {
+        None => Step {
             from: *left,
             to: *left,
         },
@@ -179,7 +196,7 @@ fn step_at(
 }
 
 /// Returns the step to the class of an event that has no number.
-pub fn step_of(run: &Run, index: &Index<'_>, lines: &[OpenLine], left: &Place) -> Visit
+pub fn step_of(run: &Run, index: &Index<'_>, lines: &[OpenLine], left: &Place) -> Step
     requires run { IsRun run.now.logs }
     requires index { IsIndex run.now.logs index.now }
     requires sound { IsSound run.now.logs lines.now }
@@ -191,7 +208,7 @@ pub fn step_of(run: &Run, index: &Index<'_>, lines: &[OpenLine], left: &Place) -
     let proc = left.proc;
     match entry_at(run, proc, at) {
         Some(entry) => step_at(run, index, lines, left, &Standing { proc, at, entry }),
-        None => Visit {
+        None => Step {
             from: *left,
             to: *left,
         },

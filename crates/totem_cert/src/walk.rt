@@ -8,8 +8,7 @@ ghost use Rattle.totem_cert.specs.Visited.{place_order};
 
 use crate::index::Index;
 use crate::open_line::OpenLine;
-use crate::step::step_of;
-use crate::visit::Visit;
+use crate::step::{Step, step_of};
 use std::alloc::{AllocError, Global};
 use std::collections::BTreeMap;
 use totem_evs::Run;
@@ -18,7 +17,7 @@ use totem_ids::Place;
 /// Steps from class to class, until they came back to the class of step `again`.
 #[derive(Drop)]
 pub struct Round {
-    pub visits: Vec<Visit>,
+    pub steps: Vec<Step>,
     pub again: usize,
 }
 
@@ -49,17 +48,17 @@ pub fn walk_round(
     requires sound { IsSound run.now.logs lines.now }
     requires none { NoneReady run.now.logs lines.now }
     requires left { IsLeft run.now.logs start.now }
-    ensures { IfOk result (λ w. IsRound run.now.logs start.now w.visits.items w.again) }
+    ensures { IfOk result (λ w. IsRound run.now.logs start.now w.steps.items w.again) }
 {
-    let mut visits = Vec::new(alloc);
+    let mut steps = Vec::new(alloc);
     let mut seen = BTreeMap::new(alloc);
     let mut next = step_of(run, index, lines, start);
     'steps: loop {
         if let Some(again) = visited(&seen, &next.to) {
-            return Ok(Round { visits, again });
+            return Ok(Round { steps, again });
         }
-        note(&mut seen, next.to, visits.len())?;
-        visits.push(next)?;
+        note(&mut seen, next.to, steps.len())?;
+        steps.push(next)?;
         next = step_of(run, index, lines, &next.from);
     }
 }

@@ -6,7 +6,7 @@ ghost use Rattle.totem_cert.specs.Keepers.{IsWanted, Wants, IsNoLater, IsEarlier
 
 use crate::index::Index;
 use crate::keeper::{end_of, given_at};
-use crate::key::{Key, Member};
+use crate::key::{Key, KeyedEntry};
 use crate::open_line::OpenLine;
 use totem_evs::Run;
 use totem_ids::Place;
@@ -21,38 +21,38 @@ pub enum Wanted {
     Mates { waits: bool },
 }
 
-fn is_wanted(wanted: Wanted, given: usize, member: &Member) -> bool
-    ensures { IsTrue result ↔ IsWanted wanted given member.now }
+fn is_wanted(wanted: Wanted, given: usize, entry: &KeyedEntry) -> bool
+    ensures { IsTrue result ↔ IsWanted wanted given entry.now }
 {
     match wanted {
-        Wanted::Sends => !member.shares && given <= member.at as usize,
-        Wanted::Mates { waits } => member.shares && (waits || given < member.at as usize),
+        Wanted::Sends => !entry.shares && given <= entry.at as usize,
+        Wanted::Mates { waits } => entry.shares && (waits || given < entry.at as usize),
     }
 }
 
-fn wants(lines: &[OpenLine], key: &Key, wanted: Wanted, member: &Member) -> bool
-    ensures { IsTrue result ↔ Wants lines.now key.now wanted member.now }
+fn wants(lines: &[OpenLine], key: &Key, wanted: Wanted, entry: &KeyedEntry) -> bool
+    ensures { IsTrue result ↔ Wants lines.now key.now wanted entry.now }
 {
-    let given = given_at(lines, member.log as usize);
-    member.key.is(key) && is_wanted(wanted, given, member)
+    let given = given_at(lines, entry.log as usize);
+    entry.key.is(key) && is_wanted(wanted, given, entry)
 }
 
-fn is_no_later(first: &Member, second: &Member) -> bool
+fn is_no_later(first: &KeyedEntry, second: &KeyedEntry) -> bool
     ensures { IsTrue result ↔ IsNoLater first.now second.now }
 {
     first.log < second.log || (first.log == second.log && first.at <= second.at)
 }
 
-fn earlier(best: Option<Member>, member: &Member) -> Member
-    ensures { IsEarlier best member.now result }
+fn earlier(best: Option<KeyedEntry>, entry: &KeyedEntry) -> KeyedEntry
+    ensures { IsEarlier best entry.now result }
 {
     match best {
-        None => *member,
+        None => *entry,
         Some(best) => {
-            if is_no_later(&best, member) {
+            if is_no_later(&best, entry) {
                 best
             } else {
-                *member
+                *entry
             }
         }
     }
@@ -62,13 +62,13 @@ fn best_with(
     lines: &[OpenLine],
     key: &Key,
     wanted: Wanted,
-    best: Option<Member>,
-    member: &Member,
-) -> Option<Member>
-    ensures { IsBestWith lines.now key.now wanted best member.now result }
+    best: Option<KeyedEntry>,
+    entry: &KeyedEntry,
+) -> Option<KeyedEntry>
+    ensures { IsBestWith lines.now key.now wanted best entry.now result }
 {
-    if wants(lines, key, wanted, member) {
-        Some(earlier(best, member))
+    if wants(lines, key, wanted, entry) {
+        Some(earlier(best, entry))
     } else {
         best
     }
@@ -83,7 +83,7 @@ fn first_wanted(
     wanted: Wanted,
     log: usize,
     at: usize,
-) -> Option<Member>
+) -> Option<KeyedEntry>
     requires { KeysRise index.now }
     ensures { IsBestFrom lines.now index.now key.now wanted 0 result }
 {
@@ -91,25 +91,25 @@ fn first_wanted(
     let mut s = end_of(index, key, log, at);
     while 0 < s {
         s -= 1;
-        let member = index.member(s);
-        if member.key.is_below(key) {
+        let entry = index.entry(s);
+        if entry.key.is_below(key) {
             return best;
         }
-        best = best_with(lines, key, wanted, best, &member);
+        best = best_with(lines, key, wanted, best, &entry);
     }
     best
 }
 
 /// Returns the place of an entry of the run.
-fn place_of(run: &Run, member: &Member) -> Place
-    requires log { member.now.log < length run.now.logs }
-    requires few { member.now.at < 1000000 }
-    ensures { IsPlaceOf run.now.logs member.now result }
+fn place_of(run: &Run, entry: &KeyedEntry) -> Place
+    requires log { entry.now.log < length run.now.logs }
+    requires few { entry.now.at < 1000000 }
+    ensures { IsPlaceOf run.now.logs entry.now result }
 {
-    let log = &run.logs.as_slice()[member.log as usize];
+    let log = &run.logs.as_slice()[entry.log as usize];
     Place {
         proc: log.proc,
-        at: member.at + 1,
+        at: entry.at + 1,
     }
 }
 
@@ -129,6 +129,6 @@ pub fn first_place(
 {
     match first_wanted(index, lines, key, wanted, log, at) {
         None => None,
-        Some(member) => Some(place_of(run, &member)),
+        Some(entry) => Some(place_of(run, &entry)),
     }
 }

@@ -51,30 +51,30 @@ abbrev pub HoldsUp : List Log → Place → Place → Type 0
 HoldsUp run f e = IsPrevious run f e ⊎ (((g : Place) → IsPrevious run g e → ⊥) × IsLeastSend run f e)
 
 -- a step to the entry `to` from the one that holds it up
-pub record Visit : Type 0 where
+pub record Step : Type 0 where
   pub from : Place
   pub to : Place
 
 -- the step at k's class: to the least entry of the class that something holds up
-pub record IsStepOf (run : List Log) (k : Place) (visit : Visit) : Type 0 where
-  pub shares : InClass run k visit.to
-  pub holds : HoldsUp run visit.from visit.to
-  pub least : (f e : Place) → InClass run k e → HoldsUp run f e → IsAtMost visit.to e
+pub record IsStepOf (run : List Log) (k : Place) (step : Step) : Type 0 where
+  pub shares : InClass run k step.to
+  pub holds : HoldsUp run step.from step.to
+  pub least : (f e : Place) → InClass run k e → HoldsUp run f e → IsAtMost step.to e
 
 -- the steps of a walk: the first at the class of `start`, each further one at the class of what the step before came from
-pub record IsWalk (run : List Log) (start : Place) (visits : List Visit) : Type 0 where
-  pub first : (v : Visit) → slice_get visits 0 ≡ Some v → IsStepOf run start v
-  pub next : (i : ℕ) (v w : Visit) → slice_get visits i ≡ Some v → slice_get visits (i + 1) ≡ Some w → IsStepOf run v.from w
+pub record IsWalk (run : List Log) (start : Place) (steps : List Step) : Type 0 where
+  pub first : (v : Step) → slice_get steps 0 ≡ Some v → IsStepOf run start v
+  pub next : (i : ℕ) (v w : Step) → slice_get steps i ≡ Some v → slice_get steps (i + 1) ≡ Some w → IsStepOf run v.from w
   -- no class comes twice
-  pub new : (i j : ℕ) (v w : Visit) → slice_get visits i ≡ Some v → slice_get visits j ≡ Some w → i < j → InClass run v.to w.to → ⊥
+  pub new : (i j : ℕ) (v w : Step) → slice_get steps i ≡ Some v → slice_get steps j ≡ Some w → i < j → InClass run v.to w.to → ⊥
 
 -- the last step of the walk came from the class at which the one at `again` was
-pub record ComesBack (run : List Log) (start : Place) (visits : List Visit) (again : ℕ) (last : Visit) : Type 0 where
-  pub walk : IsWalk run start visits
-  pub visit : Visit
-  pub at_again : slice_get visits again ≡ Some visit
-  pub at_end : slice_get visits (length visits - 1) ≡ Some last
-  pub comes_back : InClass run visit.to last.from
+pub record ComesBack (run : List Log) (start : Place) (steps : List Step) (again : ℕ) (last : Step) : Type 0 where
+  pub walk : IsWalk run start steps
+  pub step : Step
+  pub at_again : slice_get steps again ≡ Some step
+  pub at_end : slice_get steps (length steps - 1) ≡ Some last
+  pub comes_back : InClass run step.to last.from
 
 -- e and f are one place
 abbrev pub same_place : Place → Place → Bool
@@ -86,7 +86,7 @@ unless e f = if same_place e f then [] else e ∷ []
 
 -- the steps of a walk in forward order, the last one first: of each what it came from and where it led. An entry that
 -- equals what is written behind it is left out; p stands behind the whole
-abbrev pub forward : Place → List Visit → List Place
+abbrev pub forward : Place → List Step → List Place
 forward p [] = []
 forward p (v ∷ vs) = forward v.from vs ++ (v.from ∷ unless v.to p)
 
@@ -120,11 +120,11 @@ IsBrokenBy run k places = ((k ≡ spec.Order) × HasTwinDeliveries run places) �
 pub record IsClosedList (run : List Log) (k : SpecNo) (places : List Place) : Type 0 where
   pub start : Place
   pub begins : IsLeastLeft run start
-  pub visits : List Visit
+  pub steps : List Step
   pub again : ℕ
-  pub last : Visit
-  pub back : ComesBack run start visits again last
-  pub written : IsTurned (forward last.from (drop again visits)) places
+  pub last : Step
+  pub back : ComesBack run start steps again last
+  pub written : IsTurned (forward last.from (drop again steps)) places
   pub least : BeginsLeast places
   pub broken : IsBrokenBy run k places
 

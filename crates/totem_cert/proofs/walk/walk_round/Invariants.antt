@@ -5,9 +5,9 @@ use Rattle.totem_cert.proofs.walk.walk_round.Given as goal
 
 abbrev pub invariant-steps : goal.invariant-steps
 invariant-steps l = record {
-  walking : IsWalking l.run.logs l.start l.visits.items l.next;
-  noted : IsNoted l.seen l.visits.items;
+  walking : IsWalking l.run.logs l.start l.steps.items l.next;
+  noted : IsNoted l.seen l.steps.items;
 }
 
 abbrev pub decreases-steps : goal.decreases-steps
-decreases-steps l = 4503599627370496 - length l.visits.items
+decreases-steps l = 4503599627370496 - length l.steps.items
