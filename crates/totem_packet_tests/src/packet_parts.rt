@@ -6,9 +6,9 @@ use std::alloc::{AllocError, Global};
 use totem_ids::ProcId;
 use totem_packets::{
     CommitMember, CommitMembers, Life, ListFault, Number, PacketFault, Payload, Processes,
-    Requests, TokenSeq, a_cut_packet_is_short, kind_is_the_first_byte, memory_is_no_fault_of_bytes,
-    no_packet_begins_another, range_is_known_at_once, read_is_spelled, short_has_nothing_wrong,
-    spelled_is_read, trailing_is_behind_a_packet,
+    Requests, TokenSeq, a_cut_packet_is_short, kind_5_tells_later_lives, kind_is_the_first_byte,
+    memory_is_no_fault_of_bytes, no_packet_begins_another, range_is_known_at_once, read_is_spelled,
+    short_has_nothing_wrong, spelled_is_read, trailing_is_behind_a_packet,
 };
 
 /// Tells how many elements come back, and why they were refused.
@@ -241,6 +241,7 @@ fn laws_cost_nothing() {
     a_cut_packet_is_short();
     short_has_nothing_wrong();
     kind_is_the_first_byte();
+    kind_5_tells_later_lives();
     range_is_known_at_once();
     trailing_is_behind_a_packet();
     memory_is_no_fault_of_bytes();

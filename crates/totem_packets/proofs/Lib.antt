@@ -2,6 +2,7 @@ pub mod Falling
 pub mod Steps
 pub mod Repeats
 pub mod Chains
+pub mod KindOfLives
 pub mod Lists
 pub mod Members
 pub mod Following

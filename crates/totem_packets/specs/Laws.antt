@@ -1,8 +1,11 @@
 -- What holds of the bytes of packets (docs/PROTOCOL.md, "Packets").
-use Rattle.std.specs.Prelude.{◌≡◌, ℕ, ◌<◌, ◌≤◌, List, [], ◌∷◌, ◌++◌, Err, ◌⊎◌}
+use Rattle.std.specs.Prelude.{◌≡◌, ℕ, ◌<◌, ◌≤◌, List, [], ◌∷◌, ◌++◌, slice_get, Some, Err, ◌⊎◌}
+use Rattle.totem_packets.specs.declared.commit_member.CommitMember.{CommitMember}
 use Rattle.totem_packets.specs.declared.fault.PacketFault.TheVariants.{Short, Range}
 use Rattle.totem_packets.specs.declared.packet.Packet as packet
+use Rattle.totem_packets.specs.declared.packet.Packet.TheVariants as packets
 use Rattle.totem_packets.specs.Grammar.{decode_packet}
+use Rattle.totem_packets.specs.Lives.{reported_life}
 use Rattle.totem_packets.specs.Ranges.{IsPacket}
 use Rattle.totem_packets.specs.Spelling.{packet_bytes}
 
@@ -15,6 +18,13 @@ IsOfNoKind (kind ∷ rest) = (kind ≡ 0) ⊎ (5 < kind)
 abbrev pub IsOfKind : List ℕ → Type 0
 IsOfKind [] = ⊥
 IsOfKind (kind ∷ rest) = (0 < kind) × (kind ≤ 5)
+
+-- a commit token of which a member reports from a life above the first
+abbrev pub TellsLaterLife : packet.Packet → Type 0
+TellsLaterLife (packets.Commit token) = (at : ℕ) × (member : CommitMember) × (slice_get token.members at ≡ Some member) × (1 < reported_life member.report)
+TellsLaterLife (packets.Message m) = ⊥
+TellsLaterLife (packets.Token t) = ⊥
+TellsLaterLife (packets.Join j) = ⊥
 
 -- a packet's spelling, and one byte or more behind it
 pub record HasMore (bytes : List ℕ) : Type 0 where

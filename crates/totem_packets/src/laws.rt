@@ -3,7 +3,7 @@ ghost use Rattle.std.specs.Prelude.{◌≡◌, ◌≢◌, ℕ, ◌↔◌, List, 
 ghost use Rattle.totem_packets.specs.declared.fault.PacketFault.TheVariants.{Short, Kind, Range, Trailing, Memory};
 ghost use Rattle.totem_packets.specs.declared.packet.Packet.{Packet};
 ghost use Rattle.totem_packets.specs.Grammar.{decode_packet};
-ghost use Rattle.totem_packets.specs.Laws.{IsOfNoKind, HasMore, IsFirstWrong};
+ghost use Rattle.totem_packets.specs.Laws.{IsOfNoKind, HasMore, IsFirstWrong, TellsLaterLife};
 ghost use Rattle.totem_packets.specs.Parsing.{AreBytes};
 ghost use Rattle.totem_packets.specs.Ranges.{IsPacket};
 ghost use Rattle.totem_packets.specs.Spelling.{packet_bytes};
@@ -18,6 +18,12 @@ pub fn read_is_spelled()
 #[tactic(auto, using(crate::proofs::Decided::spelled_read))]
 pub fn spelled_is_read()
     ensures { (packet : Packet) → IsPacket packet → decode_packet (packet_bytes packet) ≡ Ok packet }
+{}
+
+/// The first byte of a packet is 5 exactly where it is a commit token of which a member reports from a life above the first.
+#[tactic(auto, using(crate::proofs::KindOfLives::told_by_kind))]
+pub fn kind_5_tells_later_lives()
+    ensures { (packet : Packet) (kind : ℕ) (rest : List ℕ) → packet_bytes packet ≡ kind ∷ rest → (kind ≡ 5) ↔ TellsLaterLife packet }
 {}
 
 /// No spelling of a packet is the beginning of another.

@@ -38,9 +38,9 @@ pub use commit_members::CommitMembers;
 pub use fault::PacketFault;
 pub use join::Join;
 pub use laws::{
-    a_cut_packet_is_short, kind_is_the_first_byte, memory_is_no_fault_of_bytes,
-    no_packet_begins_another, range_is_known_at_once, read_is_spelled, short_has_nothing_wrong,
-    spelled_is_read, trailing_is_behind_a_packet,
+    a_cut_packet_is_short, kind_5_tells_later_lives, kind_is_the_first_byte,
+    memory_is_no_fault_of_bytes, no_packet_begins_another, range_is_known_at_once, read_is_spelled,
+    short_has_nothing_wrong, spelled_is_read, trailing_is_behind_a_packet,
 };
 pub use life::Life;
 pub use message::{Body, Message};
