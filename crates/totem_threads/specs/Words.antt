@@ -10,23 +10,23 @@ use Rattle.totem_node.specs.declared.input.Input.TheVariants as inputs
 use Rattle.totem_packets.specs.declared.packet.Packet.{Packet}
 use Rattle.totem_packets.specs.declared.fault.PacketFault.{PacketFault}
 use Rattle.totem_packets.specs.Grammar.{decode_packet}
-use Rattle.totem_threads.specs.declared.asked.Asked.{Asked}
-use Rattle.totem_threads.specs.declared.asked.Asked.TheVariants as asked
+use Rattle.totem_threads.specs.declared.task.Task.{Task}
+use Rattle.totem_threads.specs.declared.task.Task.TheVariants as tasks
 
 -- a packet is given to the node; bytes that are none ask nothing
-abbrev pub decoded_asks : Result Packet PacketFault → Asked
-decoded_asks (Ok packet) = asked.Input (inputs.Packet packet)
-decoded_asks (Err fault) = asked.Nothing
+abbrev pub decoded_task : Result Packet PacketFault → Task
+decoded_task (Ok packet) = tasks.Input (inputs.Packet packet)
+decoded_task (Err fault) = tasks.Nothing
 
-abbrev pub packet_asks : PacketWord → Asked
-packet_asks (packet_words.Packet bytes) = decoded_asks (decode_packet bytes)
-packet_asks packet_words.Stop = asked.Stop
+abbrev pub packet_task : PacketWord → Task
+packet_task (packet_words.Packet bytes) = decoded_task (decode_packet bytes)
+packet_task packet_words.Stop = tasks.Stop
 
-abbrev pub timer_asks : TimerWord → Asked
-timer_asks timer_words.Timer = asked.Input inputs.Timer
-timer_asks timer_words.Stop = asked.Stop
+abbrev pub timer_task : TimerWord → Task
+timer_task timer_words.Timer = tasks.Input inputs.Timer
+timer_task timer_words.Stop = tasks.Stop
 
 -- a client submits the letter x
-abbrev pub client_asks : ClientWord → Asked
-client_asks (client_words.Submit service) = asked.Input (inputs.Submit service (codes "x"))
-client_asks client_words.Stop = asked.Stop
+abbrev pub client_task : ClientWord → Task
+client_task (client_words.Submit service) = tasks.Input (inputs.Submit service (codes "x"))
+client_task client_words.Stop = tasks.Stop

@@ -1,8 +1,6 @@
 //! Runs in threads: nodes whose threads share a book each, over a network of channels.
 #![tactic(auto)]
 
-mod ask_words;
-mod asked;
 mod fault;
 mod firsts;
 mod logged;
@@ -13,6 +11,8 @@ mod room;
 mod run;
 mod sending;
 mod serving;
+mod task;
+mod word;
 
 pub use fault::{BookTrouble, ThreadsFault};
 pub use plan::RunPlan;

@@ -7,17 +7,8 @@ ghost use Rattle.totem_threads.specs.Books.{AreLogsOf, IsReplayed};
 use crate::fault::{BookTrouble, ThreadsFault};
 use std::alloc::{AllocError, Global};
 use totem_books::{BookFault, ClosedBook};
-use totem_evs::{Ending, Entries, Entry, Log, Run};
-
-fn copy_of(alloc: Global, entries: &[Entry]) -> Result<Vec<Entry>, AllocError>
-    ensures { IfOk result (λ copy. copy.items ≡ entries.now) }
-{
-    let mut copy = Vec::with_capacity(alloc, entries.len())?;
-    for entry in entries {
-        copy.push(entry.try_clone(alloc)?)?;
-    }
-    Ok(copy)
-}
+use totem_evs::{Ending, Entries, Log, Run};
+use totem_ids::copied;
 
 /// Returns the log of a book. If it is longer than a log may be, it is refused as a call of the book is.
 fn log_of(alloc: Global, book: &ClosedBook) -> Result<Log, ThreadsFault>
@@ -25,7 +16,7 @@ fn log_of(alloc: Global, book: &ClosedBook) -> Result<Log, ThreadsFault>
     ensures entries { IfOk result (λ log. log.entries ≡ book.now.log) }
     ensures loud { IfOk result (λ log. log.ending ≢ Ending.Quiet) }
 {
-    match Entries::new(copy_of(alloc, book.log())?) {
+    match Entries::new(copied(alloc, book.log())?) {
         Ok(entries) => {
             let ending = entries.ending();
             Ok(Log::new(book.me(), entries, ending))

@@ -1,6 +1,6 @@
 //! What each thread of a node does.
-use crate::ask_words::Word;
-use crate::asked::Asked;
+use crate::word::Word;
+use crate::task::Task;
 use crate::logged::logged_at;
 use crate::sending::send;
 use std::alloc::Global;
@@ -22,14 +22,14 @@ fn deal<L: BookName, W: Word, R: Wait>(
         let Ok(word) = end.words.recv(rt) else {
             break;
         };
-        let logged = match word.asked(alloc)? {
-            Asked::Input(input) => {
+        let logged = match word.task(alloc)? {
+            Task::Input(input) => {
                 let reply = book.call(rt, alloc, seat, input)?;
                 send(rt, alloc, &end.outlet, &reply)?;
                 logged_at(&reply)
             }
-            Asked::Nothing => Logged::nothing(),
-            Asked::Stop => break,
+            Task::Nothing => Logged::nothing(),
+            Task::Stop => break,
         };
         end.outlet.tell_done(rt, logged)?;
     }

@@ -1,8 +1,8 @@
 //! What the words of a node's three threads ask.
 ghost use Rattle.std.specs.Prelude.{◌≡◌, IfOk};
-ghost use Rattle.totem_threads.specs.Words.{packet_asks, timer_asks, client_asks};
+ghost use Rattle.totem_threads.specs.Words.{packet_task, timer_task, client_task};
 
-use crate::asked::Asked;
+use crate::task::Task;
 use bytes::Bytes;
 use std::alloc::{AllocError, Global};
 use totem_net::{ClientWord, PacketWord, TimerWord};
@@ -14,52 +14,52 @@ const PAYLOAD: &[u8] = b"x";
 
 /// A word that a thread of a node is given.
 pub trait Word: Drop + Send {
-    ghost use Rattle.totem_threads.specs.declared.asked.Asked.{Asked};
+    ghost use Rattle.totem_threads.specs.declared.task.Task.{Task};
 
-    ghost asks: { Self → Asked };
+    ghost task_of: { Self → Task };
 
     /// Returns what the word asks. The only fault is want of memory.
-    fn asked(self, alloc: Global) -> Result<Asked, AllocError>
-        ensures { IfOk result (λ asked. asked ≡ asks self) };
+    fn task(self, alloc: Global) -> Result<Task, AllocError>
+        ensures { IfOk result (λ task. task ≡ task_of self) };
 }
 
 impl Word for PacketWord {
-    ghost asks = { packet_asks };
+    ghost task_of = { packet_task };
 
     /// Decodes the packet. Bytes that are no packet ask for nothing.
-    fn asked(self, alloc: Global) -> Result<Asked, AllocError> {
+    fn task(self, alloc: Global) -> Result<Task, AllocError> {
         let PacketWord::Packet(bytes) = self else {
-            return Ok(Asked::Stop);
+            return Ok(Task::Stop);
         };
         match Packet::decode(alloc, bytes.as_slice()) {
-            Ok(packet) => Ok(Asked::Input(Input::Packet(packet))),
+            Ok(packet) => Ok(Task::Input(Input::Packet(packet))),
             Err(PacketFault::Memory) => Err(AllocError),
-            Err(_) => Ok(Asked::Nothing),
+            Err(_) => Ok(Task::Nothing),
         }
     }
 }
 
 impl Word for TimerWord {
-    ghost asks = { timer_asks };
+    ghost task_of = { timer_task };
 
-    fn asked(self, _alloc: Global) -> Result<Asked, AllocError> {
+    fn task(self, _alloc: Global) -> Result<Task, AllocError> {
         Ok(match self {
-            TimerWord::Timer => Asked::Input(Input::Timer),
-            TimerWord::Stop => Asked::Stop,
+            TimerWord::Timer => Task::Input(Input::Timer),
+            TimerWord::Stop => Task::Stop,
         })
     }
 }
 
 impl Word for ClientWord {
-    ghost asks = { client_asks };
+    ghost task_of = { client_task };
 
-    fn asked(self, _alloc: Global) -> Result<Asked, AllocError> {
+    fn task(self, _alloc: Global) -> Result<Task, AllocError> {
         Ok(match self {
-            ClientWord::Submit(service) => Asked::Input(Input::Submit {
+            ClientWord::Submit(service) => Task::Input(Input::Submit {
                 service,
                 payload: Bytes::from_static(PAYLOAD),
             }),
-            ClientWord::Stop => Asked::Stop,
+            ClientWord::Stop => Task::Stop,
         })
     }
 }

@@ -1,9 +1,9 @@
-//! What a word asks of a node.
+//! What a thread of a node has to do.
 use totem_node::Input;
 
 /// What a word asks of the thread that is given it.
 #[derive(Drop)]
-pub enum Asked {
+pub enum Task {
     /// To give its node this input.
     Input(Input),
     /// To do nothing.
