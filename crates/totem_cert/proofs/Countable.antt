@@ -15,7 +15,8 @@ use Rattle.totem_table.specs.declared.table.Table.{Table}
 use Rattle.totem_table.specs.Tables.{IsTable, IsEntryAt, NamedBy, number_at}
 use Rattle.totem_cert.specs.Search.{place, NoneOf}
 use Rattle.totem_cert.specs.Keepers.{given_at}
-use Rattle.totem_cert.specs.Progress.{Fits, IsReady, AreAlike, Feeds, IsMate, KeepsBack}
+use Rattle.totem_evs.specs.Classes.{AreOfOneClass, AreSendAndDelivery}
+use Rattle.totem_cert.specs.Progress.{Fits, IsReady, IsMate, KeepsBack}
 use Rattle.totem_cert.specs.Counts.{class_in, class_fed, one, from, keeping_at, kept_in, kept_at, kept_by, Counts, Tells}
 use Rattle.totem_cert.proofs.LineFacts.{Stands, where_is, stands_at}
 use Rattle.totem_cert.proofs.LogHeads.{nothing_keeps, something_keeps}
@@ -60,7 +61,7 @@ module _ (run : List Log) (table : Table) (is : IsTable run table) (tells : Tell
       let named : NamedBy table.messages.items table.confs.items (Conf x ms) (number_at table k i) = (is.rows.each k a.log a.is_log).each i (Conf x ms) a.is_entry in
       slice_get_within table.confs.items (number_at table k i) x named
 
-  alike_same : (k i l j : ℕ) (x y : Entry) → IsEntryAt run k i x → IsEntryAt run l j y → AreAlike x y → class_in (length table.messages.items) x (number_at table k i) ≡ class_in (length table.messages.items) y (number_at table l j)
+  alike_same : (k i l j : ℕ) (x y : Entry) → IsEntryAt run k i x → IsEntryAt run l j y → AreOfOneClass x y → class_in (length table.messages.items) x (number_at table k i) ≡ class_in (length table.messages.items) y (number_at table l j)
   alike_same k i l j (Conf x ms) (Conf y ns) a b same = ap (λ (n : ℕ). Some (length table.messages.items + n)) ((tells.confs k i l j (Conf x ms) (Conf y ns) x y a b refl refl).1 same)
   alike_same k i l j (Conf x ms) (Send m y t) a b same = absurd same
   alike_same k i l j (Conf x ms) (Deliver m y) a b same = absurd same
@@ -72,7 +73,7 @@ module _ (run : List Log) (table : Table) (is : IsTable run table) (tells : Tell
   alike_same k i l j (Send m x t) y a b same = absurd same
   alike_same k i l j (Fail x) y a b same = absurd same
 
-  class_alike : (k i l j c : ℕ) (x y : Entry) → IsEntryAt run k i x → IsEntryAt run l j y → class_in (length table.messages.items) x (number_at table k i) ≡ Some c → class_in (length table.messages.items) y (number_at table l j) ≡ Some c → AreAlike x y
+  class_alike : (k i l j c : ℕ) (x y : Entry) → IsEntryAt run k i x → IsEntryAt run l j y → class_in (length table.messages.items) x (number_at table k i) ≡ Some c → class_in (length table.messages.items) y (number_at table l j) ≡ Some c → AreOfOneClass x y
   class_alike k i l j c (Conf x ms) (Conf y ns) a b h g =
       let p : length table.messages.items + number_at table k i ≡ c = cc in
       let q : length table.messages.items + number_at table l j ≡ c = cc in
@@ -96,7 +97,7 @@ module _ (run : List Log) (table : Table) (is : IsTable run table) (tells : Tell
   class_alike k i l j c (Send m x t) y a b h g = absurd cc
   class_alike k i l j c (Fail x) y a b h g = absurd cc
 
-  fed_same : (k i l j c : ℕ) (x y : Entry) → IsEntryAt run k i x → IsEntryAt run l j y → class_in (length table.messages.items) x (number_at table k i) ≡ Some c → Feeds y x → class_fed y (number_at table l j) ≡ Some c
+  fed_same : (k i l j c : ℕ) (x y : Entry) → IsEntryAt run k i x → IsEntryAt run l j y → class_in (length table.messages.items) x (number_at table k i) ≡ Some c → AreSendAndDelivery y x → class_fed y (number_at table l j) ≡ Some c
   fed_same k i l j c (Deliver n d) (Send m e s) a b h same = ap Some ((tells.messages l j k i (Send m e s) (Deliver n d) m n b a refl refl).1 same) ∙ h
   fed_same k i l j c (Conf d ms) (Send m e s) a b h same = absurd same
   fed_same k i l j c (Send n d t) (Send m e s) a b h same = absurd same
@@ -105,7 +106,7 @@ module _ (run : List Log) (table : Table) (is : IsTable run table) (tells : Tell
   fed_same k i l j c x (Deliver m e) a b h same = absurd same
   fed_same k i l j c x (Fail e) a b h same = absurd same
 
-  fed_feeds : (k i l j c : ℕ) (x y : Entry) → IsEntryAt run k i x → IsEntryAt run l j y → class_in (length table.messages.items) x (number_at table k i) ≡ Some c → class_fed y (number_at table l j) ≡ Some c → Feeds y x
+  fed_feeds : (k i l j c : ℕ) (x y : Entry) → IsEntryAt run k i x → IsEntryAt run l j y → class_in (length table.messages.items) x (number_at table k i) ≡ Some c → class_fed y (number_at table l j) ≡ Some c → AreSendAndDelivery y x
   fed_feeds k i l j c (Deliver n d) (Send m e s) a b h g =
       let p : number_at table k i ≡ c = cc in
       let q : number_at table l j ≡ c = cc in
@@ -154,7 +155,7 @@ module _ (run : List Log) (table : Table) (is : IsTable run table) (tells : Tell
     none_back : kept_by run table lines c ≡ 0 → NoneOf run (KeepsBack run lines p j x)
     none_back none = record { none = λ q i within (y, at_y, k). go q i y at_y k (where_is run lines q fits) }
       where
-        mate : (q i k : ℕ) (log : Log) (line : Numbering) (y : Entry) → Stands run lines q k log line → slice_get (log_of run q) i ≡ Some y → AreAlike x y → length (numbers_of lines q) < i → ⊥
+        mate : (q i k : ℕ) (log : Log) (line : Numbering) (y : Entry) → Stands run lines q k log line → slice_get (log_of run q) i ≡ Some y → AreOfOneClass x y → length (numbers_of lines q) < i → ⊥
         mate q i k log line y s at_y alike lt =
             let y_at : slice_get log.entries i ≡ Some y = rw s.log_is at at_y in
             let is_c : class_in (length table.messages.items) y (number_at table k i) ≡ Some c = sym (alike_same kp j k i x y here (record { log = log; is_log = s.log_at; is_entry = y_at }) alike) ∙ has in
@@ -164,7 +165,7 @@ module _ (run : List Log) (table : Table) (is : IsTable run table) (tells : Tell
             let f = from_yes (suc (given_at lines k)) i (one (class_in (length table.messages.items) y (number_at table k i)) c) (omega arith) in
             omega arith
 
-        send : (q i k : ℕ) (log : Log) (line : Numbering) (y : Entry) → Stands run lines q k log line → slice_get (log_of run q) i ≡ Some y → Feeds y x → length (numbers_of lines q) ≤ i → ⊥
+        send : (q i k : ℕ) (log : Log) (line : Numbering) (y : Entry) → Stands run lines q k log line → slice_get (log_of run q) i ≡ Some y → AreSendAndDelivery y x → length (numbers_of lines q) ≤ i → ⊥
         send q i k log line y s at_y feeds le =
             let y_at : slice_get log.entries i ≡ Some y = rw s.log_is at at_y in
             let is_c : class_fed y (number_at table k i) ≡ Some c = fed_same kp j k i c x y here (record { log = log; is_log = s.log_at; is_entry = y_at }) has feeds in
@@ -174,7 +175,7 @@ module _ (run : List Log) (table : Table) (is : IsTable run table) (tells : Tell
             let f = from_yes (given_at lines k) i (one (class_fed y (number_at table k i)) c) (omega arith) in
             omega arith
 
-        go : (q i : ℕ) (y : Entry) → slice_get (log_of run q) i ≡ Some y → (IsMate p j x q i y × (length (numbers_of lines q) < i)) ⊎ (Feeds y x × (length (numbers_of lines q) ≤ i))
+        go : (q i : ℕ) (y : Entry) → slice_get (log_of run q) i ≡ Some y → (IsMate p j x q i y × (length (numbers_of lines q) < i)) ⊎ (AreSendAndDelivery y x × (length (numbers_of lines q) ≤ i))
             → ((log_of run q ≡ []) × (numbers_of lines q ≡ [])) ⊎ ((k : ℕ) × (log : Log) × (line : Numbering) × Stands run lines q k log line) → ⊥
         go q i y at_y k (inl (nothing, _)) = (let h : slice_get {X = Entry} [] i ≡ Some y = rw nothing at at_y in cc)
         go q i y at_y (inl (inl (same, also), lt)) (inr (k, log, line, s)) = not_itself q i same also lt
@@ -238,7 +239,7 @@ alone_counted run lines p j m n x at head alone = (λ _. nothing_keeps run lines
     itself : (q i : ℕ) → p ≡ q → j ≡ i → length (numbers_of lines q) < i → ⊥
     itself q i same also lt = let h : length (numbers_of lines p) ≡ length (numbers_of lines q) = ap (λ (r : ℕ). length (numbers_of lines r)) same in omega arith
 
-    go : (q i : ℕ) (y : Entry) → (IsMate p j x q i y × (length (numbers_of lines q) < i)) ⊎ (Feeds y x × (length (numbers_of lines q) ≤ i)) → ⊥
+    go : (q i : ℕ) (y : Entry) → (IsMate p j x q i y × (length (numbers_of lines q) < i)) ⊎ (AreSendAndDelivery y x × (length (numbers_of lines q) ≤ i)) → ⊥
     go q i y (inl (inl (same, also), lt)) = itself q i same also lt
     go q i y (inl (inr alike, lt)) = alone_alike x y (no_key m n x alone) alike
     go q i y (inr (feeds, le)) = alone_fed y x (no_key m n x alone) feeds

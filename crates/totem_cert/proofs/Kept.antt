@@ -11,13 +11,14 @@ use Rattle.totem_cert.specs.declared.key.KeyedEntry.{KeyedEntry}
 use Rattle.totem_cert.specs.Keys.{key_of, class_key, shares, IsKeyedOf, IsIndex}
 use Rattle.totem_cert.specs.Keepers.{given_at, count_of, KeepsAt, NoneKeepsFrom}
 use Rattle.totem_cert.specs.Search.{place, NoneOf}
-use Rattle.totem_cert.specs.Progress.{Fits, IsReady, AreAlike, Feeds, IsMate, KeepsBack}
+use Rattle.totem_evs.specs.Classes.{AreOfOneClass, AreSendAndDelivery}
+use Rattle.totem_cert.specs.Progress.{Fits, IsReady, IsMate, KeepsBack}
 use Rattle.totem_evs.proofs.LogOf.{Rising, log_of_at}
 use Rattle.totem_cert.proofs.LineFacts.{Stands, where_is, stands_at}
 use Rattle.totem_cert.proofs.LogHeads.{nothing_keeps, something_keeps}
 
 -- an entry of one class with x has x's key
-pub mate_key : (x y : Entry) (key : Key) → class_key x ≡ Some key → AreAlike x y → (key_of y ≡ Some key) × (shares y ≡ true)
+pub mate_key : (x y : Entry) (key : Key) → class_key x ≡ Some key → AreOfOneClass x y → (key_of y ≡ Some key) × (shares y ≡ true)
 mate_key (Conf x ms) (Conf y ns) key h same = (rw same at h, refl)
 mate_key (Conf x ms) (Send m y s) key h same = absurd same
 mate_key (Conf x ms) (Deliver m y) key h same = absurd same
@@ -30,7 +31,7 @@ mate_key (Send m x s) y key h same = absurd same
 mate_key (Fail x) y key h same = absurd same
 
 -- a send of what x delivers has x's key
-pub send_key : (y x : Entry) (key : Key) → class_key x ≡ Some key → Feeds y x → (key_of y ≡ Some key) × (shares y ≡ false)
+pub send_key : (y x : Entry) (key : Key) → class_key x ≡ Some key → AreSendAndDelivery y x → (key_of y ≡ Some key) × (shares y ≡ false)
 send_key (Send m c s) (Deliver n d) key h same = (rw (← same) at h, refl)
 send_key (Send m c s) (Conf d ms) key h same = absurd same
 send_key (Send m c s) (Send n d t) key h same = absurd same
@@ -40,13 +41,13 @@ send_key (Deliver m c) x key h same = absurd same
 send_key (Fail c) x key h same = absurd same
 
 -- an entry without such a key is alone, and waits for no send
-pub alone_alike : (x y : Entry) → class_key x ≡ None → AreAlike x y → ⊥
+pub alone_alike : (x y : Entry) → class_key x ≡ None → AreOfOneClass x y → ⊥
 alone_alike (Conf x ms) y h same = cc
 alone_alike (Deliver m x) y h same = cc
 alone_alike (Send m x s) y h same = same
 alone_alike (Fail x) y h same = same
 
-pub alone_fed : (y x : Entry) → class_key x ≡ None → Feeds y x → ⊥
+pub alone_fed : (y x : Entry) → class_key x ≡ None → AreSendAndDelivery y x → ⊥
 alone_fed (Send m c s) (Deliver n d) h same = cc
 alone_fed (Send m c s) (Conf d ms) h same = same
 alone_fed (Send m c s) (Send n d t) h same = same
@@ -56,7 +57,7 @@ alone_fed (Deliver m c) x h same = same
 alone_fed (Fail c) x h same = same
 
 -- an entry with x's key is in its class, or sends what it delivers
-pub key_alike : (x y : Entry) (key : Key) → class_key x ≡ Some key → key_of y ≡ Some key → shares y ≡ true → AreAlike x y
+pub key_alike : (x y : Entry) (key : Key) → class_key x ≡ Some key → key_of y ≡ Some key → shares y ≡ true → AreOfOneClass x y
 key_alike (Conf x ms) (Conf y ns) key h k s = cc
 key_alike (Conf x ms) (Send m y t) key h k s = cc
 key_alike (Conf x ms) (Deliver m y) key h k s = cc
@@ -68,7 +69,7 @@ key_alike (Deliver m x) (Fail y) key h k s = cc
 key_alike (Send m x t) y key h k s = absurd cc
 key_alike (Fail x) y key h k s = absurd cc
 
-pub key_feeds : (y x : Entry) (key : Key) → class_key x ≡ Some key → key_of y ≡ Some key → shares y ≡ false → Feeds y x
+pub key_feeds : (y x : Entry) (key : Key) → class_key x ≡ Some key → key_of y ≡ Some key → shares y ≡ false → AreSendAndDelivery y x
 key_feeds (Send m c s) (Deliver n d) key h k f = cc
 key_feeds (Send m c s) (Conf d ms) key h k f = cc
 key_feeds (Send m c s) (Send n d t) key h k f = cc
@@ -112,19 +113,19 @@ module _ (run : List Log) (lines : List Numbering) (keyed : List KeyedEntry) (ri
   none_back : (key : Key) → class_key x ≡ Some key → NoneKeepsFrom lines keyed key 0 → NoneOf run (KeepsBack run lines p j x)
   none_back key has none = record { none = λ q i within (y, at_y, k). go q i y at_y k }
     where
-      mate : (q i : ℕ) (y : Entry) → slice_get (log_of run q) i ≡ Some y → AreAlike x y → length (numbers_of lines q) < i → ⊥
+      mate : (q i : ℕ) (y : Entry) → slice_get (log_of run q) i ≡ Some y → AreOfOneClass x y → length (numbers_of lines q) < i → ⊥
       mate q i y at_y alike lt =
           let k = mate_key x y key has alike in
           let a = among q i y key true at_y k.0 k.1 in
           none.none a.1 _ (omega arith) a.2 (refl, inl (refl, rw a.3 lt))
 
-      send : (q i : ℕ) (y : Entry) → slice_get (log_of run q) i ≡ Some y → Feeds y x → length (numbers_of lines q) ≤ i → ⊥
+      send : (q i : ℕ) (y : Entry) → slice_get (log_of run q) i ≡ Some y → AreSendAndDelivery y x → length (numbers_of lines q) ≤ i → ⊥
       send q i y at_y feeds le =
           let k = send_key y x key has feeds in
           let a = among q i y key false at_y k.0 k.1 in
           none.none a.1 _ (omega arith) a.2 (refl, inr (refl, rw a.3 le))
 
-      go : (q i : ℕ) (y : Entry) → slice_get (log_of run q) i ≡ Some y → (IsMate p j x q i y × (length (numbers_of lines q) < i)) ⊎ (Feeds y x × (length (numbers_of lines q) ≤ i)) → ⊥
+      go : (q i : ℕ) (y : Entry) → slice_get (log_of run q) i ≡ Some y → (IsMate p j x q i y × (length (numbers_of lines q) < i)) ⊎ (AreSendAndDelivery y x × (length (numbers_of lines q) ≤ i)) → ⊥
       go q i y at_y (inl (inl (same, also), lt)) = not_itself q i same also lt
       go q i y at_y (inl (inr alike, lt)) = mate q i y at_y alike lt
       go q i y at_y (inr (feeds, le)) = send q i y at_y feeds le
@@ -132,7 +133,7 @@ module _ (run : List Log) (lines : List Numbering) (keyed : List KeyedEntry) (ri
   none_alone : class_key x ≡ None → NoneOf run (KeepsBack run lines p j x)
   none_alone alone = record { none = λ q i within (y, at_y, k). go q i y k }
     where
-      go : (q i : ℕ) (y : Entry) → (IsMate p j x q i y × (length (numbers_of lines q) < i)) ⊎ (Feeds y x × (length (numbers_of lines q) ≤ i)) → ⊥
+      go : (q i : ℕ) (y : Entry) → (IsMate p j x q i y × (length (numbers_of lines q) < i)) ⊎ (AreSendAndDelivery y x × (length (numbers_of lines q) ≤ i)) → ⊥
       go q i y (inl (inl (same, also), lt)) = not_itself q i same also lt
       go q i y (inl (inr alike, lt)) = alone_alike x y alone alike
       go q i y (inr (feeds, le)) = alone_fed y x alone feeds

@@ -13,13 +13,13 @@ use Rattle.totem_evs.specs.Certificates.{Numbering, numbers_of, number_at}
 use Rattle.totem_cert.specs.Search.{NoneOf}
 use Rattle.totem_evs.proofs.LogOf.{less_or_not}
 use Rattle.totem_cert.specs.Search.{place}
-use Rattle.totem_evs.specs.Classes.{InClass, WaitsFor}
-use Rattle.totem_cert.specs.Progress.{IsNumbered, Sound, IsReady, AreAlike, Feeds, IsMate, KeepsBack}
+use Rattle.totem_evs.specs.Classes.{InClass, WaitsFor, AreOfOneClass, AreSendAndDelivery}
+use Rattle.totem_cert.specs.Progress.{IsNumbered, Sound, IsReady, IsMate, KeepsBack}
 use Rattle.totem_cert.proofs.Classmates.{class_sym, event_of, one_message, waits_same}
 use Rattle.totem_cert.proofs.LineFacts.{index_of, numbered_within, within_numbered, unnumbered_past, past_unnumbered}
 
 -- entries of one class are alike
-alike_class : (x y : Entry) (run : List Log) (e f : Place) → AreAlike x y → entry_at run e ≡ Some x → entry_at run f ≡ Some y → SameClass run e f
+alike_class : (x y : Entry) (run : List Log) (e f : Place) → AreOfOneClass x y → entry_at run e ≡ Some x → entry_at run f ≡ Some y → SameClass run e f
 alike_class (Conf x ms) (Conf y ns) run e f h at_e at_f = inl (x, (ms, at_e), (ns, rw h at_f))
 alike_class (Conf x ms) (Send m y s) run e f h at_e at_f = absurd h
 alike_class (Conf x ms) (Deliver m y) run e f h at_e at_f = absurd h
@@ -31,7 +31,7 @@ alike_class (Deliver m x) (Fail y) run e f h at_e at_f = absurd h
 alike_class (Send m x s) y run e f h at_e at_f = absurd h
 alike_class (Fail x) y run e f h at_e at_f = absurd h
 
-class_alike : (run : List Log) (e f : Place) (x y : Entry) → SameClass run e f → entry_at run e ≡ Some x → entry_at run f ≡ Some y → AreAlike x y
+class_alike : (run : List Log) (e f : Place) (x y : Entry) → SameClass run e f → entry_at run e ≡ Some x → entry_at run f ≡ Some y → AreOfOneClass x y
 class_alike run e f x y (inl (c, (ms, a), (ns, b))) at_e at_f =
     let x_is : x ≡ Conf c ms = cc in let y_is : y ≡ Conf c ns = cc in rw (x_is, y_is) refl
 class_alike run e f x y (inr (m, (c, a), (d, b))) at_e at_f =
@@ -47,7 +47,7 @@ class_mate run p j q i x y at_x at_y (inl (event, same)) = inl (ap (λ (e : Plac
 class_mate run p j q i x y at_x at_y (inr same) = inr (class_alike run (place p j) (place q i) x y same at_x at_y)
 
 -- a send of what an event delivers
-pub feeds_send : (y x : Entry) (run : List Log) (g e : Place) → Feeds y x → entry_at run g ≡ Some y → entry_at run e ≡ Some x → (m : MsgId) × (c : ConfId) × SendsAt run g m c × DeliversAt run e m
+pub feeds_send : (y x : Entry) (run : List Log) (g e : Place) → AreSendAndDelivery y x → entry_at run g ≡ Some y → entry_at run e ≡ Some x → (m : MsgId) × (c : ConfId) × SendsAt run g m c × DeliversAt run e m
 feeds_send (Send m c s) (Deliver n d) run g e h at_g at_e = (m, c, (s, at_g), (d, rw h at_e))
 feeds_send (Send m c s) (Conf d ms) run g e h at_g at_e = absurd h
 feeds_send (Send m c s) (Send n d t) run g e h at_g at_e = absurd h
@@ -56,7 +56,7 @@ feeds_send (Conf c ms) x run g e h at_g at_e = absurd h
 feeds_send (Deliver m c) x run g e h at_g at_e = absurd h
 feeds_send (Fail c) x run g e h at_g at_e = absurd h
 
-pub send_feeds : (y x : Entry) (run : List Log) (g e : Place) (m : MsgId) (c : ConfId) → SendsAt run g m c → DeliversAt run e m → entry_at run g ≡ Some y → entry_at run e ≡ Some x → Feeds y x
+pub send_feeds : (y x : Entry) (run : List Log) (g e : Place) (m : MsgId) (c : ConfId) → SendsAt run g m c → DeliversAt run e m → entry_at run g ≡ Some y → entry_at run e ≡ Some x → AreSendAndDelivery y x
 send_feeds y x run g e m c (s, a) (d, b) at_g at_e = let y_is : y ≡ Send m c s = cc in let x_is : x ≡ Deliver m d = cc in rw (y_is, x_is) refl
 
 -- all events of the class of a delivery deliver its message
@@ -89,7 +89,7 @@ module _ (run : List Log) (lines : List Numbering) (p j : ℕ) (x : Entry) (at :
         | inr rest ↦ within_numbered lines q a (elim rest [ inl h ↦ omega arith | inr h ↦ omega arith ])
       ]
 
-      by_send : (q a : ℕ) (z : Entry) → Feeds z x → slice_get (log_of run q) a ≡ Some z → IsNumbered lines (place q a)
+      by_send : (q a : ℕ) (z : Entry) → AreSendAndDelivery z x → slice_get (log_of run q) a ≡ Some z → IsNumbered lines (place q a)
       by_send q a z feeds at_z = elim (less_or_not a (length (numbers_of lines q))) [
         | inl lt ↦ within_numbered lines q a lt
         | inr rest ↦ absurd (none.none q a (slice_get_within _ a z at_z) (z, at_z, inr (feeds, elim rest [ inl h ↦ omega arith | inr h ↦ omega arith ])))

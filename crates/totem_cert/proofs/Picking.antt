@@ -8,7 +8,7 @@ use Rattle.totem_evs.specs.declared.entry.Entry.TheVariants.{Conf, Send, Deliver
 use Rattle.totem_evs.specs.declared.log.Log.{Log}
 use Rattle.totem_evs.specs.Runs.{IsRun, IsLog}
 use Rattle.totem_evs.specs.Events.{log_of}
-use Rattle.totem_evs.specs.Classes.{IsAtMost}
+use Rattle.totem_evs.specs.Classes.{IsAtMost, AreSendAndDelivery}
 use Rattle.totem_evs.specs.Certificates.{Numbering, numbers_of}
 use Rattle.totem_cert.specs.declared.key.Key.{Key}
 use Rattle.totem_cert.specs.declared.key.KeyedEntry.{KeyedEntry}
@@ -16,7 +16,7 @@ use Rattle.totem_cert.specs.declared.wanted.Wanted.TheVariants.{Sends, Mates}
 use Rattle.totem_cert.specs.Keys.{key_of, class_key, shares, IsKeyedOf, IsIndex}
 use Rattle.totem_cert.specs.Keepers.{given_at, IsNoLater, NoneWantedFrom, IsFirstWantedFrom, IsPlaceOf, IsFirstPlace}
 use Rattle.totem_cert.specs.Search.{place, IsLeast, NoneOf}
-use Rattle.totem_cert.specs.Progress.{Fits, Feeds, IsMate, IsOpenSend, IsHeldMate}
+use Rattle.totem_cert.specs.Progress.{Fits, IsMate, IsOpenSend, IsHeldMate}
 use Rattle.totem_evs.proofs.LogOf.{Rising, in_order, log_of_cases}
 use Rattle.totem_cert.proofs.LineFacts.{Stands, where_is}
 use Rattle.totem_cert.proofs.Kept.{mate_key, send_key, key_alike, key_feeds, given_is, member_stands}
@@ -88,7 +88,7 @@ module _ (run : List Log) (lines : List Numbering) (keyed : List KeyedEntry) (ri
     pub open_none : NoneWantedFrom lines keyed key Sends 0 → NoneOf run (IsOpenSend run lines x)
     open_none none = record { none = λ q i within (y, at_y, feeds, le). go q i y at_y feeds le }
       where
-        go : (q i : ℕ) (y : Entry) → slice_get (log_of run q) i ≡ Some y → Feeds y x → length (numbers_of lines q) ≤ i → ⊥
+        go : (q i : ℕ) (y : Entry) → slice_get (log_of run q) i ≡ Some y → AreSendAndDelivery y x → length (numbers_of lines q) ≤ i → ⊥
         go q i y at_y feeds le =
             let k = send_key y x key has feeds in
             let f = found q i y key false at_y k.0 k.1 in
@@ -103,7 +103,7 @@ module _ (run : List Log) (lines : List Numbering) (keyed : List KeyedEntry) (ri
           least = λ f (i, at_f, (within, (y, at_y, feeds, le))). rw p.is (least f i y at_f at_y feeds le);
         }
           where
-            least : (f : Place) (i : ℕ) (y : Entry) → f.at ≡ i + 1 → slice_get (log_of run f.proc) i ≡ Some y → Feeds y x → length (numbers_of lines f.proc) ≤ i → IsAtMost (place p.log.proc m.at) f
+            least : (f : Place) (i : ℕ) (y : Entry) → f.at ≡ i + 1 → slice_get (log_of run f.proc) i ≡ Some y → AreSendAndDelivery y x → length (numbers_of lines f.proc) ≤ i → IsAtMost (place p.log.proc m.at) f
             least f i y at_f at_y feeds le =
                 let k = send_key y x key has feeds in
                 let o = found f.proc i y key false at_y k.0 k.1 in

@@ -7,13 +7,11 @@ use Rattle.totem_evs.specs.declared.log.Log.{Log}
 use Rattle.totem_evs.specs.Events.{IsEvent, log_of}
 use Rattle.totem_ids.specs.declared.message.MsgId.{MsgId}
 use Rattle.totem_evs.specs.Steps.{DeliversAt}
-use Rattle.totem_evs.specs.Classes.{IsAtMost}
 use Rattle.totem_evs.specs.Certificates.{Numbering, number_at, numbers_of}
 use Rattle.totem_cert.specs.Search.{place}
-use Rattle.totem_evs.specs.Classes.{InClass, WaitsFor, ClassAtMost}
+use Rattle.totem_evs.specs.Classes.{IsAtMost, InClass, WaitsFor, ClassAtMost, AreOfOneClass, AreSendAndDelivery}
 use Rattle.totem_evs.specs.Positions.{IsReadyAt}
-use Rattle.totem_evs.specs.ClosedLists.{Step}
-use Rattle.totem_evs.specs.ClosedLists.{Placed, IsStepOf, IsWalk, ComesBack, forward, AreTwinDeliveries}
+use Rattle.totem_evs.specs.ClosedLists.{Placed, Step, IsStepOf, IsWalk, ComesBack, forward, AreTwinDeliveries}
 
 -- e has a number
 pub record IsNumbered (lines : List Numbering) (e : Place) : Type 0 where
@@ -63,25 +61,14 @@ entries_left [] lines = 0
 entries_left (log ∷ logs) [] = 0
 entries_left (log ∷ logs) (line ∷ lines) = (length log.entries - length line.numbers) + entries_left logs lines
 
--- two entries of one class, wherever they stand
-abbrev pub AreAlike : Entry → Entry → Type 0
-AreAlike (Conf x ms) (Conf y ns) = x ≡ y
-AreAlike (Deliver m x) (Deliver n y) = m ≡ n
-AreAlike _ _ = ⊥
-
--- the first sends the message that the second delivers
-abbrev pub Feeds : Entry → Entry → Type 0
-Feeds (Send m x s) (Deliver n y) = m ≡ n
-Feeds _ _ = ⊥
-
 -- the event at i of q's log is in the class of the entry at j of p's
 abbrev pub IsMate : ℕ → ℕ → Entry → ℕ → ℕ → Entry → Type 0
-IsMate p j x q i y = ((p ≡ q) × (j ≡ i)) ⊎ AreAlike x y
+IsMate p j x q i y = ((p ≡ q) × (j ≡ i)) ⊎ AreOfOneClass x y
 
 -- the event at i of q's log keeps the class of the entry x at j of p's log from being ready
 abbrev pub KeepsBack : List Log → List Numbering → ℕ → ℕ → Entry → ℕ → ℕ → Type 0
 KeepsBack run lines p j x q i = (y : Entry) × (slice_get (log_of run q) i ≡ Some y)
-    × ((IsMate p j x q i y × (length (numbers_of lines q) < i)) ⊎ (Feeds y x × (length (numbers_of lines q) ≤ i)))
+    × ((IsMate p j x q i y × (length (numbers_of lines q) < i)) ⊎ (AreSendAndDelivery y x × (length (numbers_of lines q) ≤ i)))
 
 -- the head of the k-th log is the next event to be numbered
 pub record IsNextHead (run : List Log) (lines : List Numbering) (k : ℕ) : Type 0 where
@@ -150,7 +137,7 @@ pub record IsFirstLeft (run : List Log) (lines : List Numbering) (k : ℕ) : Typ
 
 -- the event at i of q's log sends the message that the entry x delivers, and has no number
 abbrev pub IsOpenSend : List Log → List Numbering → Entry → ℕ → ℕ → Type 0
-IsOpenSend run lines x q i = (y : Entry) × (slice_get (log_of run q) i ≡ Some y) × Feeds y x × (length (numbers_of lines q) ≤ i)
+IsOpenSend run lines x q i = (y : Entry) × (slice_get (log_of run q) i ≡ Some y) × AreSendAndDelivery y x × (length (numbers_of lines q) ≤ i)
 
 -- the event at i of q's log is in the class of the entry x at j of p's log, and that class waits for a send, or the entry before has no number
 abbrev pub IsHeldMate : List Log → List Numbering → ℕ → ℕ → Entry → Bool → ℕ → ℕ → Type 0

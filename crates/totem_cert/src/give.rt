@@ -1,13 +1,26 @@
 ghost use Rattle.std.specs.Prelude.{◌≡◌, ◌+◌, ◌<◌, ◌≤◌, ◌↔◌, IsTrue, Some, OnOk, slice_get};
 ghost use Rattle.totem_evs.specs.Events.{log_of};
 ghost use Rattle.totem_cert.specs.Search.{place};
-ghost use Rattle.totem_cert.specs.Progress.{IsSound, Sound, IsNext, IsNextHead, Fits, Gives, HeadIsMate, entries_left};
+ghost use Rattle.totem_cert.specs.Progress.{IsSound, Sound, IsNext, IsNextHead, Fits, Gives, HeadIsMate, IsMate, entries_left};
 
-use crate::class::is_mate;
 use crate::open_line::OpenLine;
 use std::alloc::AllocError;
 use totem_evs::{Entry, Log, Run};
 use totem_ids::Proc;
+
+/// Returns whether the entry at index `at` of a process's log is in the class of the other one.
+fn is_mate(
+    proc: Proc,
+    at: usize,
+    entry: &Entry,
+    other_proc: Proc,
+    other_at: usize,
+    other: &Entry,
+) -> bool
+    ensures { IsTrue result ↔ IsMate proc at entry.now other_proc other_at other.now }
+{
+    (proc == other_proc && at == other_at) || entry.is_of_class_of(other)
+}
 
 /// Returns whether the head of a log is in the class of the entry at index `at` of the process's log.
 pub fn is_head_mate(proc: Proc, at: usize, entry: &Entry, log: &Log, line: &OpenLine) -> bool

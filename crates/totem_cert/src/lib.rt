@@ -3,7 +3,6 @@
 
 mod cert_fault;
 mod certificate;
-mod class;
 mod closed;
 mod closed_list;
 mod counted;

@@ -11,7 +11,8 @@ use Rattle.totem_evs.specs.Certificates.{Numbering, numbers_of, IsBelow, Matches
 use Rattle.totem_cert.specs.Keeping.{IsCertificate}
 use Rattle.totem_check.specs.Numbered.{Stands, place}
 use Rattle.totem_check.specs.Each.{EachPair, SomePair}
-use Rattle.totem_check.specs.Kinds.{AreOfOneClass, AreSendAndDelivery, SendIsBelow, SendIsNotBelow, ClassIsOne, ClassIsSplit, NumberIsOwn, NumberIsShared}
+use Rattle.totem_evs.specs.Classes.{AreOfOneClass, AreSendAndDelivery}
+use Rattle.totem_check.specs.Kinds.{SendIsBelow, SendIsNotBelow, ClassIsOne, ClassIsSplit, NumberIsOwn, NumberIsShared}
 use Rattle.totem_check.specs.Rising.{LinesRise, LineFalls}
 use Rattle.totem_check.specs.Certifying.{Rise, DoesNotRise, SendsAreBelow, SendIsLate, ClassesAreOne, TwinsAreApart, OthersAreApart, OthersShare}
 use Rattle.totem_evs.proofs.LogOf.{Rising}

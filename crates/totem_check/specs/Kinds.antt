@@ -2,18 +2,7 @@
 use Rattle.std.specs.Prelude.{◌≡◌, ◌≢◌, ◌⊎◌, ℕ, ◌<◌}
 use Rattle.totem_ids.specs.declared.place.Place.{Place}
 use Rattle.totem_evs.specs.declared.entry.Entry.{Entry}
-use Rattle.totem_evs.specs.declared.entry.Entry.TheVariants.{Conf, Send, Deliver}
-
--- changes to one configuration, or deliveries of one message
-abbrev pub AreOfOneClass : Entry → Entry → Type 0
-AreOfOneClass (Conf x ms) (Conf y ns) = x ≡ y
-AreOfOneClass (Deliver m x) (Deliver n y) = m ≡ n
-AreOfOneClass _ _ = ⊥
-
--- a send and a delivery of its message
-abbrev pub AreSendAndDelivery : Entry → Entry → Type 0
-AreSendAndDelivery (Send m x service) (Deliver n y) = m ≡ n
-AreSendAndDelivery _ _ = ⊥
+use Rattle.totem_evs.specs.Classes.{AreOfOneClass, AreSendAndDelivery}
 
 -- a send is numbered below a delivery of its message
 abbrev pub SendIsBelow : Place → Entry → ℕ → Place → Entry → ℕ → Type 0

@@ -2,7 +2,6 @@
 ghost use Rattle.totem_check.specs.Kinds.{ClassIsOne, ClassIsSplit};
 
 use crate::each::Numbered;
-use crate::kinds::are_of_one_class;
 use crate::pairs::Pair;
 use totem_evs::Entry;
 
@@ -22,7 +21,7 @@ impl Pair for Classes {
         if first.number == second.number {
             true
         } else {
-            !are_of_one_class(first.entry, second.entry)
+            !first.entry.is_of_class_of(second.entry)
         }
     }
 }

@@ -9,7 +9,6 @@ mod checker;
 mod classes;
 mod counts;
 mod each;
-mod kinds;
 mod pairs;
 mod rising;
 mod sends;

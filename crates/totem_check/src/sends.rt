@@ -1,10 +1,21 @@
 //! Tests whether each send has a number below those of the deliveries of its message.
+ghost use Rattle.std.specs.Prelude.{◌↔◌, IsTrue};
+ghost use Rattle.totem_evs.specs.Classes.{AreSendAndDelivery};
 ghost use Rattle.totem_check.specs.Kinds.{SendIsBelow, SendIsNotBelow};
 
 use crate::each::Numbered;
-use crate::kinds::are_send_and_delivery;
 use crate::pairs::Pair;
 use totem_evs::Entry;
+
+/// Returns whether the two are a send and a delivery of its message.
+fn are_send_and_delivery(one: &Entry, other: &Entry) -> bool
+    ensures { IsTrue result ↔ AreSendAndDelivery one.now other.now }
+{
+    match (one, other) {
+        (Entry::Send(message, _, _), Entry::Deliver(same, _)) => *message == *same,
+        _ => false,
+    }
+}
 
 #[derive(Clone, Copy)]
 pub struct Sends;

@@ -2,7 +2,6 @@
 ghost use Rattle.totem_check.specs.Kinds.{NumberIsOwn, NumberIsShared};
 
 use crate::each::Numbered;
-use crate::kinds::are_of_one_class;
 use crate::pairs::Pair;
 
 #[derive(Clone, Copy)]
@@ -21,7 +20,7 @@ impl Pair for Shares {
         if first.number != second.number || first.place == second.place {
             true
         } else {
-            are_of_one_class(first.entry, second.entry)
+            first.entry.is_of_class_of(second.entry)
         }
     }
 }

@@ -1,9 +1,22 @@
 -- Classes of entries, and what a class waits for (docs/SPECIFICATIONS.md, "Positions").
 use Rattle.std.specs.Prelude.{◌≡◌, ◌⊎◌, ◌<◌, ◌≤◌, List}
 use Rattle.totem_ids.specs.declared.place.Place.{Place}
+use Rattle.totem_evs.specs.declared.entry.Entry.{Entry}
+use Rattle.totem_evs.specs.declared.entry.Entry.TheVariants.{Conf, Send, Deliver}
 use Rattle.totem_evs.specs.declared.log.Log.{Log}
 use Rattle.totem_evs.specs.Events.{IsEvent}
 use Rattle.totem_evs.specs.Steps.{Strict, SameClass}
+
+-- changes to one configuration, or deliveries of one message
+abbrev pub AreOfOneClass : Entry → Entry → Type 0
+AreOfOneClass (Conf x ms) (Conf y ns) = x ≡ y
+AreOfOneClass (Deliver m x) (Deliver n y) = m ≡ n
+AreOfOneClass _ _ = ⊥
+
+-- a send and a delivery of its message
+abbrev pub AreSendAndDelivery : Entry → Entry → Type 0
+AreSendAndDelivery (Send m x service) (Deliver n y) = m ≡ n
+AreSendAndDelivery _ _ = ⊥
 
 -- e is f or comes before it: by process, then by entry
 abbrev pub IsAtMost : Place → Place → Type 0

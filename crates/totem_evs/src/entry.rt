@@ -1,4 +1,5 @@
 ghost use Rattle.std.specs.Prelude.{◌≡◌, ◌↔◌, IsTrue, IfOk};
+ghost use Rattle.totem_evs.specs.Classes.{AreOfOneClass};
 ghost use Rattle.totem_evs.specs.Missing.{members_of};
 ghost use Rattle.totem_evs.specs.Runs.{IsEntry, IsFailure};
 
@@ -72,6 +73,17 @@ impl Entry {
                 *message == *id && conf.is(same)
             }
             (Entry::Fail(conf), Entry::Fail(same)) => conf.is(same),
+            _ => false,
+        }
+    }
+
+    /// Returns whether this entry is of the class of the other: both change to one configuration, or both deliver one message.
+    pub fn is_of_class_of(&self, other: &Entry) -> bool
+        ensures { IsTrue result ↔ AreOfOneClass self.now other.now }
+    {
+        match (self, other) {
+            (Entry::Conf(conf, _), Entry::Conf(same, _)) => conf.is(same),
+            (Entry::Deliver(message, _), Entry::Deliver(same, _)) => *message == *same,
             _ => false,
         }
     }

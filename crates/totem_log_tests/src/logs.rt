@@ -127,12 +127,13 @@ pub fn entries_told(alloc: Global, count: usize) -> Result<String, AllocError> {
     }
 }
 
-/// Tells of a change and of a failure whether each is its copy, and whether it is a failure.
+/// Tells of a change and of a failure whether each is its copy, whether it is a failure, and whether it is of the class of itself.
 pub fn copied_entries_told(alloc: Global) -> Result<String, AllocError> {
     let mut text = String::new(alloc);
     for entry in &entries(alloc, "change fail")? {
         let is_copy = entry.is(&entry.try_clone(alloc)?);
-        write!(text, "{is_copy} {}; ", entry.is_failure())?;
+        let is_of_own = entry.is_of_class_of(entry);
+        write!(text, "{is_copy} {} {is_of_own}; ", entry.is_failure())?;
     }
     Ok(text)
 }

@@ -243,7 +243,7 @@ const ROWS: [Row; 28] = [
         what: What::CopiedEntries,
         list: &[],
         times: 1,
-        told: "true false; true true; ",
+        told: "true false true; true true false; ",
     },
     Row {
         about: "the beginning of a log, an entry, and the end",

@@ -50,6 +50,7 @@ pub use payload::Payload;
 pub use processes::Processes;
 pub use requests::Requests;
 pub use set_fault::SetFault;
+pub use sets::is_among;
 pub use token::Token;
 pub use token_seq::TokenSeq;
 pub use totem_ids::{ListFault, Refused};

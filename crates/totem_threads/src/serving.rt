@@ -1,8 +1,8 @@
 //! What each thread of a node does.
-use crate::word::Word;
-use crate::task::Task;
 use crate::logged::logged_at;
 use crate::sending::send;
+use crate::task::Task;
+use crate::word::Word;
 use std::alloc::Global;
 use std::sync::Wait;
 use totem_books::{BookFault, BookName, Seat, SharedBook};
