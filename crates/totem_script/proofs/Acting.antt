@@ -19,7 +19,7 @@ use Rattle.totem_node.specs.Outcomes.{IsRefused}
 use Rattle.totem_node.specs.Replay.{first_change}
 use Rattle.totem_node.specs.Table.{step}
 use Rattle.totem_script.specs.declared.script_fault.ScriptFaultKind.TheVariants.{TooMany}
-use Rattle.totem_script.specs.Actors.{Actor, new_actor, acted, takes, is_failure, ends_in_failure, log_with}
+use Rattle.totem_script.specs.Actors.{Actor, new_actor, after_step, actor_step, is_failure, ends_in_failure, log_with}
 
 pub starts : (p : ℕ) (ring : RingName) (members : List ℕ) (n : Node) (earlier : List LogRecord) (entries : List Entry) → n ≡ new_node p ring members
     → earlier ≡ [] → entries ≡ first_change ring members ∷ []
@@ -30,24 +30,24 @@ starts p ring members n earlier entries node none is = rw (is, node, none)
 -- the node takes a step
 module _ (a : Actor) (i : Input) (n : Node) where
   pub passed_over : (fault : NodeFault) → IsRefused fault a.node n (step a.node i) → fault ≢ node.Memory → (packets : List Sending) → packets ≡ []
-      → takes a i ≡ Ok (record { actor = record { proc = a.proc; earlier = a.earlier; node = n; entries = a.entries }; packets = packets })
-  unfolding takes
-  passed_over fault refused other packets none = ap (acted a) (refused.fault_is other) ∙ rw (refused.unchanged, none)
+      → actor_step a i ≡ Ok (record { actor = record { proc = a.proc; earlier = a.earlier; node = n; entries = a.entries }; packets = packets })
+  unfolding actor_step
+  passed_over fault refused other packets none = ap (after_step a) (refused.fault_is other) ∙ rw (refused.unchanged, none)
 
   module _ (packets : List Sending) (entries : List Entry) (ring_steps : List RingStep)
       (done : step a.node i ≡ Ok (record { node = n; packets = packets; entries = entries; ring_steps = ring_steps })) where
-    pub too_many : 1000000 < length a.entries + length entries → takes a i ≡ Err TooMany
-    unfolding takes
+    pub too_many : 1000000 < length a.entries + length entries → actor_step a i ≡ Err TooMany
+    unfolding actor_step
     too_many more =
         let test : nat_lt 1000000 (length a.entries + length entries) ≡ true = grind (arith, nat_tests) in
-        ap (acted a) done ∙ rw test
+        ap (after_step a) done ∙ rw test
 
     pub goes_on : length a.entries + length entries ≤ 1000000 → (after : List Entry) → after ≡ a.entries ++ entries
-        → takes a i ≡ Ok (record { actor = record { proc = a.proc; earlier = a.earlier; node = n; entries = after }; packets = packets })
-    unfolding takes
+        → actor_step a i ≡ Ok (record { actor = record { proc = a.proc; earlier = a.earlier; node = n; entries = after }; packets = packets })
+    unfolding actor_step
     goes_on fits after is =
         let test : nat_lt 1000000 (length a.entries + length entries) ≡ false = grind (arith, nat_tests) in
-        ap (acted a) done ∙ rw (test, is)
+        ap (after_step a) done ∙ rw (test, is)
 
 failure_seen : (e : Entry) → IsFailure e → is_failure e ≡ true
 failure_seen (Conf x members) h = absurd h

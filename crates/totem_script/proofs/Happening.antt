@@ -10,21 +10,21 @@ use Rattle.totem_node.specs.declared.input.Input.TheVariants as input
 use Rattle.totem_script.specs.declared.script_fault.ScriptFaultKind.{ScriptFaultKind}
 use Rattle.totem_script.specs.Judged.{Judged, Fails, ◌>>=◌}
 use Rattle.totem_script.specs.Actors.{Actor}
-use Rattle.totem_script.specs.Casts.{plays}
-use Rattle.totem_script.specs.Scenes.{Queue, Scene, posted_all, takes_in, run_one, run_times}
+use Rattle.totem_script.specs.Casts.{cast_step}
+use Rattle.totem_script.specs.Scenes.{Queue, Scene, posted_all, scene_step, run_one, run_times}
 
 -- ---- A step
 
 module _ (s : Scene) (p : ℕ) (i : Input) where
-  pub not_taken : (fault : ScriptFaultKind) → Fails fault (plays s.actors p i) → Fails fault (takes_in s p i)
-  unfolding takes_in
-  not_taken fault fails = record { is = λ other. rw (fails.is other) }
+  pub not_stepped : (fault : ScriptFaultKind) → Fails fault (cast_step s.actors p i) → Fails fault (scene_step s p i)
+  unfolding scene_step
+  not_stepped fault fails = record { is = λ other. rw (fails.is other) }
 
-  pub taken : (actors shown : List Actor) (packets : List Sending) (queue : Queue) → plays s.actors p i ≡ Ok (record { actors = actors; packets = packets })
+  pub stepped : (actors shown : List Actor) (packets : List Sending) (queue : Queue) → cast_step s.actors p i ≡ Ok (record { actors = actors; packets = packets })
       → shown ≡ actors → queue ≡ s.queue ++ posted_all s.cut shown p packets
-      → takes_in s p i ≡ Ok (record { version = s.version; actors = actors; queue = queue; cut = s.cut; under_way = s.under_way })
-  unfolding takes_in
-  taken actors shown packets queue played same posted = rw (played, posted, same)
+      → scene_step s p i ≡ Ok (record { version = s.version; actors = actors; queue = queue; cut = s.cut; under_way = s.under_way })
+  unfolding scene_step
+  stepped actors shown packets queue is same posted = rw (is, posted, same)
 
 -- ---- Step after step
 
@@ -45,7 +45,7 @@ no_time zero s none = refl
 no_time (suc left) s none = absurd (omega arith)
 
 module _ (s : Scene) (p : ℕ) (packet : Packet) (queue : Queue) (is : s.queue ≡ (p, packet) ∷ queue) where
-  pub one_went : (left : ℕ) (next : Scene) → 0 < left → takes_in (record s { queue = queue }) p (input.Packet packet) ≡ Ok next
+  pub one_went : (left : ℕ) (next : Scene) → 0 < left → scene_step (record s { queue = queue }) p (input.Packet packet) ≡ Ok next
       → run_times left s ≡ run_times (left - 1) next
   unfolding run_times
   one_went zero next some done = absurd (omega arith)
@@ -53,7 +53,7 @@ module _ (s : Scene) (p : ℕ) (packet : Packet) (queue : Queue) (is : s.queue �
       let less : suc left - 1 ≡ left = omega arith in
       rw (less, is, done)
 
-  pub one_failed : (left : ℕ) (fault : ScriptFaultKind) → 0 < left → Fails fault (takes_in (record s { queue = queue }) p (input.Packet packet))
+  pub one_failed : (left : ℕ) (fault : ScriptFaultKind) → 0 < left → Fails fault (scene_step (record s { queue = queue }) p (input.Packet packet))
       → Fails fault (run_times left s)
   unfolding run_times
   one_failed zero fault some fails = absurd (omega arith)

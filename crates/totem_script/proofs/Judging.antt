@@ -14,48 +14,41 @@ use Rattle.totem_script.specs.Judged.{Fails}
 use Rattle.totem_script.specs.Parsed as parsed
 use Rattle.totem_script.specs.ScriptFaults.{of_line}
 use Rattle.totem_script.specs.Casts.{logs_in}
-use Rattle.totem_script.specs.Scenes.{Scene, empty_scene, done}
+use Rattle.totem_script.specs.Scenes.{Scene, empty_scene, carried_out}
 use Rattle.totem_script.specs.Versions.{run_of}
-use Rattle.totem_script.specs.Simulation.{Texts, Told, ends, followed, judged, closing, play, all_played, simulate, FailsAt, first_judged, first_headed}
+use Rattle.totem_script.specs.Simulation.{Texts, Told, is_end, line_played, closing, play, all_played, simulate, FailsAt, first_line_played, first_headed}
 
 -- ---- A line
 
-module _ (s : Scene) (text : List ℕ) where
-  pub not_command : (fault : LineFault) → parsed.Fails fault (command_of s.version text) → Fails (of_line fault) (followed s text)
-  unfolding followed
-  not_command fault fails = record { is = λ other. let err = fails.is (λ e. other (ap of_line e)) in rw err }
-
-  module _ (c : Command) (read : command_of s.version text ≡ Ok c) where
-    pub not_done : (fault : ScriptFaultKind) → Fails fault (done s c) → Fails fault (followed s text)
-    unfolding followed
-    not_done fault fails = record { is = λ other. rw (read, fails.is other) }
-
-    pub is_done : (next : Scene) (b : Bool) → done s c ≡ Ok next → b ≡ ends c → followed s text ≡ Ok (record { scene = next; ended = b })
-    unfolding followed
-    is_done next b did last = rw (last, read, did)
-
 module _ (s : Scene) (lines : Texts) where
-  pub unfit_text : (fault : ScriptFaultKind) → lines ≡ Err fault ∷ [] → Fails fault (first_judged s lines)
-  unfolding judged
-  unfit_text fault is = record { is = λ other. ap (first_judged s) is }
+  pub unfit_text : (fault : ScriptFaultKind) → lines ≡ Err fault ∷ [] → Fails fault (first_line_played s lines)
+  unfolding line_played
+  unfit_text fault is = record { is = λ other. ap (first_line_played s) is }
 
-  pub no_text : lines ≡ [] → Fails Truncated (first_judged s lines)
-  no_text is = record { is = λ other. ap (first_judged s) is }
+  module _ (text : List ℕ) (rest : Texts) (is : lines ≡ Ok text ∷ rest) where
+    pub no_command : (fault : LineFault) → parsed.Fails fault (command_of s.version text) → Fails (of_line fault) (first_line_played s lines)
+    unfolding line_played
+    no_command fault fails = record { is = λ other. let err = fails.is (λ e. other (ap of_line e)) in rw (is, err) }
 
-  pub a_text : (text : List ℕ) (rest : Texts) → lines ≡ Ok text ∷ rest → first_judged s lines ≡ followed s text
-  unfolding judged
-  a_text text rest is = ap (first_judged s) is
+    module _ (c : Command) (read : command_of s.version text ≡ Ok c) where
+      pub not_carried_out : (fault : ScriptFaultKind) → Fails fault (carried_out s c) → Fails fault (first_line_played s lines)
+      unfolding line_played
+      not_carried_out fault fails = record { is = λ other. rw (is, read, fails.is other) }
+
+      pub was_carried_out : (next : Scene) (b : Bool) → carried_out s c ≡ Ok next → b ≡ is_end c → first_line_played s lines ≡ Ok (record { scene = next; ended = b })
+      unfolding line_played
+      was_carried_out next b did last = rw (is, last, read, did)
 
 -- ---- Line after line
 
-pub stops : (whole : Told Scene) (n : ℕ) (s : Scene) (lines : Texts) (kind : ScriptFaultKind) → whole ≡ play n s lines → Fails kind (first_judged s lines)
+pub stops : (whole : Told Scene) (n : ℕ) (s : Scene) (lines : Texts) (kind : ScriptFaultKind) → whole ≡ play n s lines → Fails kind (first_line_played s lines)
     → FailsAt (record { kind = kind; line = n }) whole
 unfolding play
 stops whole n s [] kind so_far fails = record { is = λ other. let same : Truncated ≡ kind = (let e = fails.is other in cc) in so_far ∙ rw same }
 stops whole n s (l ∷ lines) kind so_far fails = record { is = λ other. so_far ∙ rw (fails.is other) }
 
 pub goes_on : (whole : Told Scene) (n : ℕ) (s : Scene) (lines rest : Texts) (next : Scene) (b : Bool) → whole ≡ play n s lines
-    → first_judged s lines ≡ Ok (record { scene = next; ended = b }) → rest ≡ drop 1 lines → b ≡ false
+    → first_line_played s lines ≡ Ok (record { scene = next; ended = b }) → rest ≡ drop 1 lines → b ≡ false
     → (whole ≡ play (n + 1) next rest) × (length lines ≡ length rest + 1)
 unfolding play
 goes_on whole n s [] rest next b so_far did is more = absurd (cc)
@@ -65,7 +58,7 @@ goes_on whole n s (l ∷ lines) rest next b so_far did is more =
     (so_far ∙ rw (did, more, same), many)
 
 pub ends_here : (whole : Told Scene) (n : ℕ) (s : Scene) (lines rest : Texts) (next : Scene) (b : Bool) → whole ≡ play n s lines
-    → first_judged s lines ≡ Ok (record { scene = next; ended = b }) → rest ≡ drop 1 lines → b ≡ true
+    → first_line_played s lines ≡ Ok (record { scene = next; ended = b }) → rest ≡ drop 1 lines → b ≡ true
     → whole ≡ closing (n + 1) next rest
 unfolding play
 ends_here whole n s [] rest next b so_far did is last = absurd (cc)

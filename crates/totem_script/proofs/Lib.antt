@@ -3,7 +3,7 @@ pub mod Digits
 pub mod Steps
 pub mod LineEnds
 pub mod Acting
-pub mod ComingBack
+pub mod NextLife
 pub mod Casting
 pub mod Rings
 pub mod Logged

@@ -28,20 +28,20 @@ new_actor p ring members =
     record { proc = p; earlier = []; node = new_node p ring members; entries = first_change ring members ∷ [] }
 
 -- what an input comes to: the process after it, and what its node sent
-pub record Acted : Type 0 where
+pub record ActorStepped : Type 0 where
   pub actor : Actor
   pub packets : List Sending
 
 -- a refused step is passed over; a log has 1,000,000 entries at most
-abbrev pub acted : Actor → Outcome Stepped → Judged Acted
-acted a (Err fault) = Ok (record { actor = a; packets = [] })
-acted a (Ok done) =
+abbrev pub after_step : Actor → Outcome Stepped → Judged ActorStepped
+after_step a (Err fault) = Ok (record { actor = a; packets = [] })
+after_step a (Ok done) =
     if nat_lt 1000000 (length a.entries + length done.entries) then Err TooMany
     else Ok (record { actor = record a { node = done.node; entries = a.entries ++ done.entries }; packets = done.packets })
 
 -- the process takes this input
-unfoldable pub takes : Actor → Input → Judged Acted
-takes a i = acted a (step a.node i)
+unfoldable pub actor_step : Actor → Input → Judged ActorStepped
+actor_step a i = after_step a (step a.node i)
 
 abbrev pub is_failure : Entry → Bool
 is_failure (Conf x members) = false
@@ -114,6 +114,6 @@ pub record IsHistory (p : ℕ) (earlier : List LogRecord) : Type 0 where
 -- ---- Answers
 
 -- the answer of a call in which a process takes an input
-abbrev pub IsTaken : {Z : Type 0} → Judged (Vec Sending Z) → Actor → Judged Acted → Type 0
-IsTaken (Ok packets) new written = written ≡ Ok (record { actor = new; packets = packets.items })
-IsTaken (Err fault) new written = Fails fault written
+abbrev pub IsActorStep : {Z : Type 0} → Judged (Vec Sending Z) → Actor → Judged ActorStepped → Type 0
+IsActorStep (Ok packets) new written = written ≡ Ok (record { actor = new; packets = packets.items })
+IsActorStep (Err fault) new written = Fails fault written

@@ -10,7 +10,7 @@ use Rattle.totem_recover.specs.Lives.{first_ranks}
 use Rattle.totem_node.specs.declared.input.Input.{Input}
 use Rattle.totem_script.specs.declared.script_fault.ScriptFaultKind.TheVariants.{Members, Place, TooMany}
 use Rattle.totem_script.specs.Judged.{Judged, Fails, ◌>>=◌}
-use Rattle.totem_script.specs.Actors.{Actor, new_actor, takes, logs_of, may_return, returned, ring_of_return, Rises}
+use Rattle.totem_script.specs.Actors.{Actor, new_actor, actor_step, logs_of, may_return, returned, ring_of_return, Rises}
 
 -- by identifier: of each there is one, in its present life
 abbrev pub ids_in : List Actor → List ℕ
@@ -62,26 +62,26 @@ with_ring actors ring members =
     else Err Members
 
 -- what comes of it when a process takes an input: all processes after it, and what the node sent
-pub record Played : Type 0 where
+pub record CastStepped : Type 0 where
   pub actors : List Actor
   pub packets : List Sending
 
 -- the process takes this input, if it is one of these
-unfoldable pub plays : List Actor → ℕ → Input → Judged Played
-plays [] p i = Ok (record { actors = []; packets = [] })
-plays (a ∷ actors) p i =
+unfoldable pub cast_step : List Actor → ℕ → Input → Judged CastStepped
+cast_step [] p i = Ok (record { actors = []; packets = [] })
+cast_step (a ∷ actors) p i =
     if id_of a.proc == p
     then (do
-      done ← takes a i
+      done ← actor_step a i
       Ok (record { actors = done.actor ∷ actors; packets = done.packets }))
     else (do
-      rest ← plays actors p i
+      rest ← cast_step actors p i
       Ok (record { actors = a ∷ rest.actors; packets = rest.packets }))
 
 -- the answer of a call in which a process takes an input
-abbrev pub IsPlayed : {Z : Type 0} → Judged (Vec Sending Z) → List Actor → Judged Played → Type 0
-IsPlayed (Ok packets) new written = written ≡ Ok (record { actors = new; packets = packets.items })
-IsPlayed (Err fault) new written = Fails fault written
+abbrev pub IsCastStep : {Z : Type 0} → Judged (Vec Sending Z) → List Actor → Judged CastStepped → Type 0
+IsCastStep (Ok packets) new written = written ≡ Ok (record { actors = new; packets = packets.items })
+IsCastStep (Err fault) new written = Fails fault written
 
 -- ---- Coming back
 
@@ -91,19 +91,19 @@ pub record Returned : Type 0 where
   pub ring : RingName
 
 -- the process is back, if it is one of these and may return
-unfoldable pub comes_back : List Actor → ℕ → Judged Returned
-comes_back [] p = Err Members
-comes_back (a ∷ actors) p =
+unfoldable pub return_of : List Actor → ℕ → Judged Returned
+return_of [] p = Err Members
+return_of (a ∷ actors) p =
     if id_of a.proc == p
     then (if may_return a then Ok (record { actors = returned a ∷ actors; ring = ring_of_return a }) else Err Place)
     else (do
-      rest ← comes_back actors p
+      rest ← return_of actors p
       Ok (record { actors = a ∷ rest.actors; ring = rest.ring }))
 
 -- the same where there is room for one life more
 abbrev pub with_return : List Actor → ℕ → Judged Returned
 with_return actors p = do
-  done ← comes_back actors p
+  done ← return_of actors p
   if nat_lt (lives_of actors) 32 then Ok done else Err TooMany
 
 -- the answer of a call in which a process comes back: its ring

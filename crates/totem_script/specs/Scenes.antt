@@ -18,7 +18,7 @@ use Rattle.totem_script.specs.declared.script_fault.ScriptFaultKind.TheVariants.
 use Rattle.totem_script.specs.declared.script_version.ScriptVersion.{ScriptVersion}
 use Rattle.totem_script.specs.Judged.{Judged, ◌>>=◌}
 use Rattle.totem_script.specs.Actors.{Actor}
-use Rattle.totem_script.specs.Casts.{is_known, with_ring, plays, with_return}
+use Rattle.totem_script.specs.Casts.{is_known, with_ring, cast_step, with_return}
 
 -- packets on their way, each with its receiver
 abbrev pub Queue : Type 0
@@ -56,19 +56,19 @@ unfoldable pub posted_all : Option (List (List ℕ)) → List Actor → ℕ → 
 posted_all cut actors from sendings = flat_map (posted cut actors from) sendings
 
 -- the process takes this input, if it is one of these, and what its node sends is on its way
-unfoldable pub takes_in : Scene → ℕ → Input → Judged Scene
-takes_in s p i = do
-  played ← plays s.actors p i
-  Ok (record s { actors = played.actors; queue = s.queue ++ posted_all s.cut played.actors p played.packets })
+unfoldable pub scene_step : Scene → ℕ → Input → Judged Scene
+scene_step s p i = do
+  stepped ← cast_step s.actors p i
+  Ok (record s { actors = stepped.actors; queue = s.queue ++ posted_all s.cut stepped.actors p stepped.packets })
 
 -- the same of a process that a line names
-abbrev pub step_of : Scene → ℕ → Input → Judged Scene
-step_of s p i = if is_known s.actors p then takes_in s p i else Err Members
+abbrev pub named_step : Scene → ℕ → Input → Judged Scene
+named_step s p i = if is_known s.actors p then scene_step s p i else Err Members
 
 -- the first packet goes to its receiver
 abbrev pub run_one : Scene → Queue → Judged Scene
 run_one s [] = Ok s
-run_one s (e ∷ queue) = takes_in (record s { queue = queue }) e.0 (input.Packet e.1)
+run_one s (e ∷ queue) = scene_step (record s { queue = queue }) e.0 (input.Packet e.1)
 
 -- so many times, while there is one
 unfoldable pub run_times : ℕ → Scene → Judged Scene
@@ -113,14 +113,14 @@ parted s groups = if is_partition s.actors groups then Ok (record s { cut = Some
 -- what a command does
 abbrev pub effect : Scene → Command → Judged Scene
 effect s (command.Ring ring members) = ring_made s ring members
-effect s (command.Submit p service payload) = step_of s p (input.Submit service payload)
+effect s (command.Submit p service payload) = named_step s p (input.Submit service payload)
 effect s (command.Run times) = run_times times s
 effect s (command.Drop place) = dropped s place
 effect s (command.Repeat place) = once_more s (slice_get s.queue (place - 1))
 effect s (command.Cut groups) = parted s groups
 effect s command.Join = Ok (record s { cut = None })
-effect s (command.Timer p) = step_of s p input.Timer
-effect s (command.Crash p) = step_of s p input.Crash
+effect s (command.Timer p) = named_step s p input.Timer
+effect s (command.Crash p) = named_step s p input.Crash
 effect s (command.Return p) = brought_back s p
 effect s command.End = Ok s
 
@@ -141,6 +141,6 @@ makes_ring command.End = false
 abbrev pub is_in_order : Scene → Command → Bool
 is_in_order s c = if makes_ring c then not s.under_way else nat_lt 0 (length s.actors)
 
--- the command is done, if it may come now
-abbrev pub done : Scene → Command → Judged Scene
-done s c = if is_in_order s c then effect (record s { under_way = not (makes_ring c) }) c else Err Order
+-- the command is carried out, if it may come now
+abbrev pub carried_out : Scene → Command → Judged Scene
+carried_out s c = if is_in_order s c then effect (record s { under_way = not (makes_ring c) }) c else Err Order

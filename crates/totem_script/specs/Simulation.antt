@@ -10,7 +10,7 @@ use Rattle.totem_script.specs.Commands.{command_of}
 use Rattle.totem_script.specs.Lines.{lines_of}
 use Rattle.totem_script.specs.Judged.{Judged, Fails, by_line, ◌>>=◌}
 use Rattle.totem_script.specs.Casts.{logs_in}
-use Rattle.totem_script.specs.Scenes.{Scene, empty_scene, done}
+use Rattle.totem_script.specs.Scenes.{Scene, empty_scene, carried_out}
 use Rattle.totem_script.specs.Versions.{version_in, run_of}
 
 -- a script's lines: of each its text, or what is wrong with that
@@ -30,36 +30,31 @@ abbrev pub and_then : {A B : Type 0} → Told A → (A → Told B) → Told B
 and_then (Ok x) f = f x
 and_then (Err fault) f = Err fault
 
-abbrev pub ends : Command → Bool
-ends (command.Ring ring members) = false
-ends (command.Submit p service payload) = false
-ends (command.Run times) = false
-ends (command.Drop place) = false
-ends (command.Repeat place) = false
-ends (command.Cut groups) = false
-ends command.Join = false
-ends (command.Timer p) = false
-ends (command.Crash p) = false
-ends (command.Return p) = false
-ends command.End = true
+abbrev pub is_end : Command → Bool
+is_end (command.Ring ring members) = false
+is_end (command.Submit p service payload) = false
+is_end (command.Run times) = false
+is_end (command.Drop place) = false
+is_end (command.Repeat place) = false
+is_end (command.Cut groups) = false
+is_end command.Join = false
+is_end (command.Timer p) = false
+is_end (command.Crash p) = false
+is_end (command.Return p) = false
+is_end command.End = true
 
 -- what a line leaves, and whether it is the last
-pub record Followed : Type 0 where
+pub record LinePlayed : Type 0 where
   pub scene : Scene
   pub ended : Bool
 
--- what is said is read, and then done
-unfoldable pub followed : Scene → List ℕ → Judged Followed
-followed s text = do
-  c ← by_line (command_of s.version text)
-  next ← done s c
-  Ok (record { scene = next; ended = ends c })
-
--- the line's text is followed
-unfoldable pub judged : Scene → Judged (List ℕ) → Judged Followed
-judged s line = do
+-- what the line says is read, and then carried out
+unfoldable pub line_played : Scene → Judged (List ℕ) → Judged LinePlayed
+line_played s line = do
   text ← line
-  followed s text
+  c ← by_line (command_of s.version text)
+  next ← carried_out s c
+  Ok (record { scene = next; ended = is_end c })
 
 -- nothing stands behind the last line
 unfoldable pub closing : ℕ → Scene → Texts → Told Scene
@@ -70,7 +65,7 @@ closing n s (line ∷ lines) = Err (record { kind = End; line = n })
 unfoldable pub play : ℕ → Scene → Texts → Told Scene
 play n s [] = Err (record { kind = Truncated; line = n })
 play n s (line ∷ lines) =
-    and_then (at_line n (judged s line)) (λ next. if next.ended then closing (n + 1) next.scene lines else play (n + 1) next.scene lines)
+    and_then (at_line n (line_played s line)) (λ next. if next.ended then closing (n + 1) next.scene lines else play (n + 1) next.scene lines)
 
 abbrev pub begun : Option ScriptVersion → Judged ScriptVersion
 begun None = Err Header
@@ -106,15 +101,15 @@ abbrev pub Leads : {B : Type 0} → Told B → Scene → Told Scene → Type 0
 Leads (Ok done) new written = written ≡ Ok new
 Leads (Err fault) new written = FailsAt fault written
 
--- the answer of a call that follows a line: whether it is the last
-abbrev pub Follows : Judged Bool → Scene → Judged Followed → Type 0
-Follows (Ok ended) new written = written ≡ Ok (record { scene = new; ended = ended })
-Follows (Err fault) new written = Fails fault written
+-- the answer of a call that plays a line: whether it is the last
+abbrev pub IsLinePlayed : Judged Bool → Scene → Judged LinePlayed → Type 0
+IsLinePlayed (Ok ended) new written = written ≡ Ok (record { scene = new; ended = ended })
+IsLinePlayed (Err fault) new written = Fails fault written
 
 -- what the first of these lines leaves
-abbrev pub first_judged : Scene → Texts → Judged Followed
-first_judged s [] = Err Truncated
-first_judged s (line ∷ lines) = judged s line
+abbrev pub first_line_played : Scene → Texts → Judged LinePlayed
+first_line_played s [] = Err Truncated
+first_line_played s (line ∷ lines) = line_played s line
 
 -- what the first of these lines is as a head
 abbrev pub first_headed : Texts → Judged ScriptVersion

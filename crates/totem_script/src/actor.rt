@@ -4,7 +4,7 @@ ghost use Rattle.totem_evs.specs.Members.{IsMembers};
 ghost use Rattle.totem_ids.specs.Ranks.{id_of};
 ghost use Rattle.totem_node.specs.Nodes.{new_node};
 ghost use Rattle.totem_node.specs.Replay.{first_change};
-ghost use Rattle.totem_script.specs.Actors.{new_actor, takes, log_with, logs_of, may_return, returned, ring_of_return, IsHistory, IsTaken};
+ghost use Rattle.totem_script.specs.Actors.{new_actor, actor_step, log_with, logs_of, may_return, returned, ring_of_return, IsHistory, IsActorStep};
 
 use crate::script_fault::ScriptFaultKind;
 use std::alloc::{AllocError, Global};
@@ -117,12 +117,12 @@ impl ActorState {
 
     /// Gives the node this input, and returns what the node sends. A step that the node refuses is passed over.
     /// `TooMany` if the log would have more than 1,000,000 entries.
-    pub fn take(
+    pub fn step(
         &mut self,
         alloc: Global,
         input: Input,
     ) -> Result<Vec<(To, Packet)>, ScriptFaultKind>
-        ensures taken { IsTaken result self.new (takes self.old input) }
+        ensures stepped { IsActorStep result self.new (actor_step self.old input) }
         ensures same { self.new.proc ≡ self.old.proc }
         ensures earlier { self.new.earlier ≡ self.old.earlier }
     {
@@ -159,7 +159,7 @@ impl ActorState {
 
     /// Begins the next life of the process, and returns the ring on which it is alone. What was written in the life before is
     /// kept as a log.
-    pub fn come_back(&mut self, alloc: Global) -> Result<RingId, AllocError>
+    pub fn bring_back(&mut self, alloc: Global) -> Result<RingId, AllocError>
         requires { may_return self.old ≡ true }
         ensures done { OnOk result (self.new ≡ returned self.old) }
         ensures ring { IfOk result (λ ring. ring ≡ ring_of_return self.old) }

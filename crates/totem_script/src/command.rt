@@ -1,3 +1,7 @@
+ghost use Rattle.std.specs.Prelude.{◌≡◌};
+ghost use Rattle.totem_script.specs.Scenes.{makes_ring};
+ghost use Rattle.totem_script.specs.Simulation.{is_end};
+
 use crate::groups::Groups;
 use crate::process_list::ProcessList;
 use totem_ids::{ProcId, RingId, Service};
@@ -49,4 +53,29 @@ pub enum Command {
     },
     /// The last line.
     End,
+}
+
+impl Command {
+    /// Returns whether this is the command `ring`.
+    pub(crate) fn makes_ring(&self) -> bool
+        ensures { result ≡ makes_ring self.now }
+    {
+        match self {
+            Command::Ring {
+                ring: _,
+                members: _,
+            } => true,
+            _ => false,
+        }
+    }
+
+    /// Returns whether this is the command `end`.
+    pub(crate) fn is_end(&self) -> bool
+        ensures { result ≡ is_end self.now }
+    {
+        match self {
+            Command::End => true,
+            _ => false,
+        }
+    }
 }

@@ -1,9 +1,8 @@
 //! Plays a script line by line.
 ghost use Rattle.std.specs.Prelude.{◌≡◌, ◌≤◌, length, drop, OnOk};
 ghost use Rattle.totem_script.specs.Judged as judged;
-ghost use Rattle.totem_script.specs.Simulation.{ends, followed, first_judged, first_headed, play, simulate, Follows, Leads, Gives};
+ghost use Rattle.totem_script.specs.Simulation.{first_line_played, first_headed, play, simulate, IsLinePlayed, Leads, Gives};
 
-use crate::command::Command;
 use crate::lines::Lines;
 use crate::reading::read_command;
 use crate::scene::SceneState;
@@ -12,39 +11,22 @@ use crate::script_version::ScriptVersion;
 use std::alloc::Global;
 use totem_evs::Run;
 
-/// Returns whether this is the command `end`.
-fn ends(command: &Command) -> bool
-    ensures { result ≡ ends command.now }
-{
-    match command {
-        Command::End => true,
-        _ => false,
-    }
-}
-
-/// Does what the line says. Returns whether it was the last line.
-fn follow(alloc: Global, scene: &mut SceneState, line: &[u8]) -> Result<bool, ScriptFaultKind>
-    ensures { Follows result scene.new (followed scene.old line.now) }
-{
-    let command = read_command(alloc, scene.version(), line)?;
-    let ended = ends(&command);
-    scene.follow(alloc, command)?;
-    Ok(ended)
-}
-
-/// Reads the next line and does what it says. Returns whether it was the last line.
-fn judge(
+/// Reads the next line and carries out its command. Returns whether that was `end`.
+fn play_line(
     alloc: Global,
     lines: &mut Lines<'_>,
     scene: &mut SceneState,
 ) -> Result<bool, ScriptFaultKind>
-    ensures done { Follows result scene.new (first_judged scene.old lines.old) }
+    ensures played { IsLinePlayed result scene.new (first_line_played scene.old lines.old) }
     ensures rest { OnOk result (lines.new ≡ drop 1 lines.old) }
 {
     let Some(text) = lines.next()? else {
         return Err(ScriptFaultKind::Truncated);
     };
-    follow(alloc, scene, text)
+    let command = read_command(alloc, scene.version(), text)?;
+    let ended = command.is_end();
+    scene.carry_out(alloc, command)?;
+    Ok(ended)
 }
 
 /// Plays the lines from the second on, up to `end`. Returns the number of that last line.
@@ -54,7 +36,7 @@ fn play(alloc: Global, lines: &mut Lines<'_>, scene: &mut SceneState) -> Result<
 {
     let mut line = 2u32;
     'lines: loop {
-        let ended = match judge(alloc, lines, scene) {
+        let ended = match play_line(alloc, lines, scene) {
             Ok(ended) => ended,
             Err(kind) => return Err(ScriptFault { kind, line }),
         };

@@ -2,7 +2,7 @@
 ghost use Rattle.std.specs.Prelude.{◌≡◌, length, nat_lt, slice_get};
 ghost use Rattle.totem_script.specs.Casts.{is_known};
 ghost use Rattle.totem_script.specs.Judged.{Becomes};
-ghost use Rattle.totem_script.specs.Scenes.{empty_scene, takes_in, step_of, makes_ring, is_in_order, effect, done};
+ghost use Rattle.totem_script.specs.Scenes.{empty_scene, scene_step, named_step, is_in_order, effect, carried_out};
 
 use crate::cast::Cast;
 use crate::command::Command;
@@ -45,19 +45,6 @@ impl Model for SceneState {
     ghost view = { λ s. record { version = s.version; actors = s.actors; queue = s.queue.items; cut = s.cut; under_way = s.under_way } };
 }
 
-/// Returns whether this is the command `ring`.
-fn makes_ring(command: &Command) -> bool
-    ensures { result ≡ makes_ring command.now }
-{
-    match command {
-        Command::Ring {
-            ring: _,
-            members: _,
-        } => true,
-        _ => false,
-    }
-}
-
 impl SceneState {
     ghost use Rattle.std.specs.Prelude.{IfOk};
     ghost use Rattle.totem_script.specs.Casts.{logs_in};
@@ -83,36 +70,41 @@ impl SceneState {
     }
 
     /// Gives a process this input, and puts what its node sends on its way. A process that the script does not have is passed over.
-    fn take(&mut self, alloc: Global, proc: ProcId, input: Input) -> Result<(), ScriptFaultKind>
-        ensures { Becomes result self.new (takes_in self.old proc input) }
+    fn step(&mut self, alloc: Global, proc: ProcId, input: Input) -> Result<(), ScriptFaultKind>
+        ensures { Becomes result self.new (scene_step self.old proc input) }
     {
-        let packets = self.actors.take(alloc, proc, input)?;
+        let packets = self.actors.step(alloc, proc, input)?;
         let actors = self.actors.as_slice();
         post_all(alloc, &mut self.queue, &self.cut, actors, proc, packets)?;
         Ok(())
     }
 
     /// Gives this input to a process that a line names. `Members` if the script does not have that process.
-    fn step(&mut self, alloc: Global, proc: ProcId, input: Input) -> Result<(), ScriptFaultKind>
-        ensures { Becomes result self.new (step_of self.old proc input) }
+    fn step_named(
+        &mut self,
+        alloc: Global,
+        proc: ProcId,
+        input: Input,
+    ) -> Result<(), ScriptFaultKind>
+        ensures { Becomes result self.new (named_step self.old proc input) }
     {
         if !self.actors.is_known(proc) {
             return Err(ScriptFaultKind::Members);
         }
-        self.take(alloc, proc, input)
+        self.step(alloc, proc, input)
     }
 
     fn is_in_order(&self, command: &Command) -> bool
         ensures { result ≡ is_in_order self.now command.now }
     {
-        if makes_ring(command) {
+        if command.makes_ring() {
             return !self.under_way;
         }
         !self.actors.as_slice().is_empty()
     }
 
     /// Does what a command says.
-    fn act(&mut self, alloc: Global, command: Command) -> Result<(), ScriptFaultKind>
+    fn effect(&mut self, alloc: Global, command: Command) -> Result<(), ScriptFaultKind>
         ensures { Becomes result self.new (effect self.old command) }
     {
         match command {
@@ -123,7 +115,7 @@ impl SceneState {
                 payload,
             } => {
                 let payload = payload.into_bytes();
-                self.step(alloc, proc, Input::Submit { service, payload })
+                self.step_named(alloc, proc, Input::Submit { service, payload })
             }
             Command::Run { times } => self.run(alloc, times),
             Command::Drop { place } => self.lose(place),
@@ -133,22 +125,22 @@ impl SceneState {
                 self.cut = None;
                 Ok(())
             }
-            Command::Timer { proc } => self.step(alloc, proc, Input::Timer),
-            Command::Crash { proc } => self.step(alloc, proc, Input::Crash),
+            Command::Timer { proc } => self.step_named(alloc, proc, Input::Timer),
+            Command::Crash { proc } => self.step_named(alloc, proc, Input::Crash),
             Command::Return { proc } => self.bring_back(alloc, proc),
             Command::End => Ok(()),
         }
     }
 
-    /// Does what a command says, if the command may come now. `Order` if it may not.
-    pub fn follow(&mut self, alloc: Global, command: Command) -> Result<(), ScriptFaultKind>
-        ensures { Becomes result self.new (done self.old command) }
+    /// Carries out a command, if it may come now. `Order` if it may not.
+    pub fn carry_out(&mut self, alloc: Global, command: Command) -> Result<(), ScriptFaultKind>
+        ensures { Becomes result self.new (carried_out self.old command) }
     {
         if !self.is_in_order(&command) {
             return Err(ScriptFaultKind::Order);
         }
-        self.under_way = !makes_ring(&command);
-        self.act(alloc, command)
+        self.under_way = !command.makes_ring();
+        self.effect(alloc, command)
     }
 
     /// Returns the run that the processes have recorded.

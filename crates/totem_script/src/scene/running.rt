@@ -17,7 +17,7 @@ impl SceneState {
             let Some(first) = self.queue.pop_front() else {
                 return Ok(());
             };
-            self.take(alloc, first.0, Input::Packet(first.1))?;
+            self.step(alloc, first.0, Input::Packet(first.1))?;
             left -= 1;
         }
         Ok(())

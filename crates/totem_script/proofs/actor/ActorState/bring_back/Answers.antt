@@ -4,8 +4,8 @@ use Rattle.totem_evs.specs.LogRecord.{LogRecord}
 use Rattle.totem_node.specs.Replay.{first_change}
 use Rattle.totem_script.specs.Actors.{Actor, may_return, next_life}
 use Rattle.totem_script.proofs.Acting.{recorded_loud}
-use Rattle.totem_script.proofs.ComingBack.{numbers_left, next_history, is_back}
-use Rattle.totem_script.proofs.actor.ActorState.come_back.Goals as goal
+use Rattle.totem_script.proofs.NextLife.{numbers_left, next_history, is_back}
+use Rattle.totem_script.proofs.actor.ActorState.bring_back.Goals as goal
 
 pub invariant_of-self-2 : goal.invariant_of-self-2
 invariant_of-self-2 c =
