@@ -11,3 +11,4 @@ pub mod Sent
 pub mod Happening
 pub mod Versions
 pub mod Judging
+pub mod Returns

@@ -1,5 +1,5 @@
 -- A process that returns.
-use Rattle.std.proofs.Common.{◌≡◌, ◌≢◌, ℕ, ◌<◌, ◌≤◌, ◌+◌, ◌&&◌, List, [], ◌∷◌, ◌++◌, Bool, true, false, nat_lt, nat_le, refl, ap, arith}
+use Rattle.std.proofs.Common.{◌≡◌, ◌≢◌, ℕ, ◌<◌, ◌+◌, ◌&&◌, List, [], ◌∷◌, ◌++◌, Bool, true, false, nat_lt, nat_le, refl, ap, arith}
 use Rattle.std.proofs.lemmas.Bool.Decides.{nat_tests}
 use Rattle.totem_ids.specs.Names.{RingName}
 use Rattle.totem_ids.specs.Ranks.{id_of, life_of}
@@ -9,6 +9,7 @@ use Rattle.totem_evs.specs.LogRecord.{LogRecord}
 use Rattle.totem_evs.specs.declared.ending.Ending.TheVariants.{Quiet}
 use Rattle.totem_node.specs.Nodes.{Node, new_node}
 use Rattle.totem_node.specs.Replay.{first_change}
+use Rattle.totem_script.specs.Laws.{CanReturn}
 use Rattle.totem_script.specs.Actors.{Actor, new_actor, log_of, may_return, next_life, ring_of_return, returned, procs_in, IsBelowAll, Rises, AreLives, IsHistory}
 
 -- ---- What the tests say
@@ -17,17 +18,23 @@ both : (a b : Bool) → (a && b) ≡ true → (a ≡ true) × (b ≡ true)
 both true b is = (refl, is)
 both false b is = absurd (cc)
 
--- there is a number for the next life, and one for its ring
-pub numbers_left : (a : Actor) → may_return a ≡ true → (life_of a.proc < 65535) × (a.node.seq + 4 ≤ 4294967295)
-numbers_left a may =
-    let parts = both (nat_lt (life_of a.proc) 65535) (nat_le (a.node.seq + 4) 4294967295) (both a.node.crashed (nat_lt (life_of a.proc) 65535 && nat_le (a.node.seq + 4) 4294967295) may).1 in
-    let life = parts.0 in
-    let seq = parts.1 in
-    (grind (arith, nat_tests), grind (arith, nat_tests))
+pub can_return : (a : Actor) → may_return a ≡ true → CanReturn a
+can_return a may =
+    let crashed = both a.node.crashed (nat_lt (life_of a.proc) 65535 && nat_le (a.node.seq + 4) 4294967295) may in
+    let numbers = both (nat_lt (life_of a.proc) 65535) (nat_le (a.node.seq + 4) 4294967295) crashed.1 in
+    let less = numbers.0 in
+    let most = numbers.1 in
+    record { crashed = crashed.0; life = grind (arith, nat_tests); seq = grind (arith, nat_tests) }
+
+pub may_if_can : (a : Actor) → CanReturn a → may_return a ≡ true
+may_if_can a can =
+    let life : nat_lt (life_of a.proc) 65535 ≡ true = (let less = can.life in grind (arith, nat_tests)) in
+    let seq : nat_le (a.node.seq + 4) 4294967295 ≡ true = (let most = can.seq in grind (arith, nat_tests)) in
+    rw (can.crashed, life, seq)
 
 -- ---- The lives before
 
-same_id : (p : ℕ) → life_of p < 65535 → id_of (next_life p) ≡ id_of p
+pub same_id : (p : ℕ) → life_of p < 65535 → id_of (next_life p) ≡ id_of p
 same_id p less = omega arith
 
 later : (p : ℕ) → life_of p < 65535 → p < next_life p

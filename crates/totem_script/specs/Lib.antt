@@ -11,3 +11,4 @@ pub mod Casts
 pub mod Scenes
 pub mod Versions
 pub mod Simulation
+pub mod Laws

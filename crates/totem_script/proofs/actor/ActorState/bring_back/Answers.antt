@@ -4,7 +4,7 @@ use Rattle.totem_evs.specs.LogRecord.{LogRecord}
 use Rattle.totem_node.specs.Replay.{first_change}
 use Rattle.totem_script.specs.Actors.{Actor, may_return, next_life}
 use Rattle.totem_script.proofs.Acting.{recorded_loud}
-use Rattle.totem_script.proofs.NextLife.{numbers_left, next_history, is_back}
+use Rattle.totem_script.proofs.NextLife.{can_return, next_history, is_back}
 use Rattle.totem_script.proofs.actor.ActorState.bring_back.Goals as goal
 
 pub invariant_of-self-2 : goal.invariant_of-self-2
@@ -18,7 +18,7 @@ invariant_of-self-2 c =
     let same : c.log_with.result.proc ≡ c.self.inside.proc = ap (λ (log : LogRecord). log.proc) c.log_with.ensures in (
       omega (arith, one),
       omega (arith, one),
-      next_history c.self.inside.proc c.of-proc.result c.self.inside.earlier.items c.push.new.self.items c.log_with.result c.self.invariant.2 (numbers_left a may).0 next same (recorded_loud _ _ _ c.log_with.ensures) (search rules),
+      next_history c.self.inside.proc c.of-proc.result c.self.inside.earlier.items c.push.new.self.items c.log_with.result c.self.invariant.2 (can_return a may).life next same (recorded_loud _ _ _ c.log_with.ensures) (search rules),
     )
 
 pub returns-clause-done : goal.returns-clause-done

@@ -1,0 +1,21 @@
+//! Laws of returns, each the contract of a function that does nothing.
+ghost use Rattle.std.specs.Prelude.{◌≡◌, ◌↔◌, ℕ, List, Contains, Ok, Err, false};
+ghost use Rattle.totem_script.specs.Actors.{Actor};
+ghost use Rattle.totem_script.specs.Casts.{Returned, IsCast, is_known, with_return};
+ghost use Rattle.totem_script.specs.Laws.{IsNextLife, ReturnsIfCrashed};
+ghost use Rattle.totem_script.specs.declared.script_fault.ScriptFaultKind.TheVariants.{Members};
+
+/// A process of a script returns exactly if it has crashed, numbers are left for its next life and for the ring of that,
+/// and there have been fewer than 32 lives. The fault is `Place` exactly if it has not crashed or a number is wanting, and
+/// `TooMany` exactly if only the lives forbid it. A process that the script does not have, and no other, is `Members`.
+pub fn only_the_crashed_return()
+    ensures known { (actors : List Actor) (a : Actor) → IsCast actors → Contains actors a → ReturnsIfCrashed actors a }
+    ensures others { (actors : List Actor) (p : ℕ) → (with_return actors p ≡ Err Members) ↔ (is_known actors p ≡ false) }
+{}
+
+/// With a return a process that had crashed begins the life after its last one, as a new node alone on a ring. The process
+/// is the representative of that ring, whose number is 4 above the greatest that the old node made, filled or installed.
+/// The logs of the lives before are kept, and nothing changes for other processes.
+pub fn a_return_begins_the_next_life()
+    ensures { (actors : List Actor) (p : ℕ) (done : Returned) → with_return actors p ≡ Ok done → IsNextLife actors p done }
+{}
