@@ -4,7 +4,7 @@ ghost use Rattle.totem_evs.specs.Members.{IsMembers};
 ghost use Rattle.totem_ids.specs.Ranks.{id_of};
 ghost use Rattle.totem_node.specs.Nodes.{new_node};
 ghost use Rattle.totem_node.specs.Replay.{first_change};
-ghost use Rattle.totem_script.specs.Actors.{new_actor, actor_step, log_with, logs_of, may_return, returned, ring_of_return, IsHistory, IsActorStep};
+ghost use Rattle.totem_script.specs.Actors.{new_actor, actor_step, log_of, log_with, logs_of, may_return, returned, ring_of_return, IsHistory, IsActorStep};
 
 use crate::script_fault::ScriptFaultKind;
 use std::alloc::{AllocError, Global};
@@ -181,18 +181,27 @@ impl ActorState {
         Ok(ring)
     }
 
+    /// Returns the logs of the earlier lives, and that of the present one.
+    fn into_lives(self) -> (Vec<Log>, Log)
+        ensures earlier { result.0.items ≡ self.earlier }
+        ensures present { result.1 ≡ log_of self }
+    {
+        let ActorState {
+            proc,
+            earlier,
+            node: _,
+            entries,
+        } = self;
+        (earlier, log_with(proc, entries))
+    }
+
     /// Puts a log of each life behind these logs.
     pub fn put_logs(self, logs: &mut Vec<Log>) -> Result<(), AllocError>
         ensures { OnOk result (logs.new.items ≡ logs.old.items ++ logs_of self) }
     {
-        let ActorState {
-            proc,
-            mut earlier,
-            node: _,
-            entries,
-        } = self;
+        let (mut earlier, present) = self.into_lives();
         logs.append(&mut earlier)?;
-        logs.push(log_with(proc, entries))?;
+        logs.push(present)?;
         Ok(())
     }
 }
