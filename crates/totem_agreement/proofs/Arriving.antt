@@ -14,8 +14,8 @@ use Rattle.totem_evs.specs.declared.log.Log.{Log}
 use Rattle.totem_evs.specs.Events.{log_of, ChangesTo}
 use Rattle.totem_evs.specs.Answers.{MeetsPasses}
 use Rattle.totem_evs.proofs.LogOf.{Rising, log_of_at, less_or_not}
-use Rattle.totem_passes.specs.declared.keys.Visit.{Visit}
-use Rattle.totem_passes.proofs.QuickSends.{visit}
+use Rattle.totem_passes.specs.declared.keys.Change.{Change}
+use Rattle.totem_passes.proofs.Exact.{change_by}
 use Rattle.totem_agreement.specs.declared.comings.Arrival.{Arrival}
 use Rattle.totem_agreement.specs.Arrivals.{IsArrival, IsBelowArrival, AreArrivals}
 use Rattle.totem_agreement.specs.Comings.{HoldsComings}
@@ -35,15 +35,15 @@ none_yet run c = record {
   whole = λ k i log lt at changes. absurd (omega arith);
 }
 
-module _ (by_ring : RingId → RingId → Ordering) (by_visit : Visit → Visit → Ordering) (rings : BTreeSet RingId) (indices : BTreeMap Visit ℕ)
-    (run : List Log) (holds : HoldsComings by_ring by_visit rings indices run) (rising : Rising run) (c : RingId) (n : ℕ) (log : Log) (at_n : slice_get run n ≡ Some log) where
+module _ (by_ring : RingId → RingId → Ordering) (by_change : Change → Change → Ordering) (rings : BTreeSet RingId) (indices : BTreeMap Change ℕ)
+    (run : List Log) (holds : HoldsComings by_ring by_change rings indices run) (rising : Rising run) (c : RingId) (n : ℕ) (log : Log) (at_n : slice_get run n ≡ Some log) where
   entries_are : log_of run log.proc ≡ log.entries
   entries_are = log_of_at run n log rising at_n
 
   same_log : (other : Log) (k : ℕ) → k ≡ n → slice_get run k ≡ Some other → other ≡ log
   same_log other k same at = let there : slice_get run n ≡ Some other = rw same at at in cc
 
-  pub no_more : (arrivals : List Arrival) → tree.get by_visit indices (visit log.proc (Regular c)) ≡ None → AreArrivalsOf run c n arrivals → AreArrivalsOf run c (n + 1) arrivals
+  pub no_more : (arrivals : List Arrival) → tree.get by_change indices (change_by log.proc (Regular c)) ≡ None → AreArrivalsOf run c n arrivals → AreArrivalsOf run c (n + 1) arrivals
   no_more arrivals none before = record {
     each = before.each;
     rising = before.rising;
@@ -59,7 +59,7 @@ module _ (by_ring : RingId → RingId → Ordering) (by_visit : Visit → Visit 
           let here : ChangesTo (log_of run log.proc) i (Regular c) = rw entries_are changes in
           (holds.all log.proc i (slice_get_within (log_of run log.proc) i _ here.1)).index c here none
 
-  pub one_more : (arrivals : List Arrival) (j : ℕ) → MeetsPasses run → tree.get by_visit indices (visit log.proc (Regular c)) ≡ Some j → AreArrivalsOf run c n arrivals
+  pub one_more : (arrivals : List Arrival) (j : ℕ) → MeetsPasses run → tree.get by_change indices (change_by log.proc (Regular c)) ≡ Some j → AreArrivalsOf run c n arrivals
       → AreArrivalsOf run c (n + 1) (arrivals ++ record { log = n; at = j } ∷ [])
   one_more arrivals j meets found before = record {
     each = All-push (IsArrival run c) arrivals new before.each (record { log = log; stands = at_n; change = rw (← entries_are) change });
@@ -75,7 +75,7 @@ module _ (by_ring : RingId → RingId → Ordering) (by_visit : Visit → Visit 
       new = record { log = n; at = j }
 
       change : ChangesTo (log_of run log.proc) j (Regular c)
-      change = holds.only.index (visit log.proc (Regular c)) j found
+      change = holds.only.index (change_by log.proc (Regular c)) j found
 
       here : (k i : ℕ) → k ≡ n → ChangesTo log.entries i (Regular c) → Contains (arrivals ++ new ∷ []) (record { log = k; at = i })
       here k i same changes =

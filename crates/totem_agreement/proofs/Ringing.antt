@@ -18,7 +18,7 @@ use Rattle.totem_evs.specs.declared.log.Log.{Log}
 use Rattle.totem_evs.specs.Events.{log_of}
 use Rattle.totem_evs.specs.Answers.{IsRing, AreRings}
 use Rattle.totem_evs.proofs.LogOf.{less_or_not}
-use Rattle.totem_passes.specs.declared.keys.Visit.{Visit}
+use Rattle.totem_passes.specs.declared.keys.Change.{Change}
 use Rattle.totem_passes.proofs.Exact.{exact_ring}
 use Rattle.totem_agreement.specs.Comings.{HoldsComings}
 
@@ -43,9 +43,9 @@ below_from_less c d e = elim (less_first (nat_cmp c.seq d.seq) (nat_cmp c.rep d.
   | inr (same, lt) ↦ inr (compared c.seq d.seq Equal (sym same), compared c.rep d.rep Less (sym lt))
 ]
 
-pub are_rings : (by_visit : Visit → Visit → Ordering) (rings : BTreeSet RingId) (indices : BTreeMap Visit ℕ) (run : List Log) → HoldsComings ring.cmp-value.it by_visit rings indices run
+pub are_rings : (by_change : Change → Change → Ordering) (rings : BTreeSet RingId) (indices : BTreeMap Change ℕ) (run : List Log) → HoldsComings ring.cmp-value.it by_change rings indices run
     → IsOrdered ring.cmp-value.it rings → AreRings run rings.keys
-are_rings by_visit rings indices run holds ordered = record {
+are_rings by_change rings indices run holds ordered = record {
   rising = λ i j d lt within. below_from_less _ _ (Less-from_sorted ring.cmp-value.it rings.keys i j d ordered lt within);
   exact = λ c. (λ has. holds.only.ring c ((btree_set_contains_iff total-law exact_ring rings c).1 has), λ r. (btree_set_contains_iff total-law exact_ring rings c).0 (known c r));
 }

@@ -2,7 +2,7 @@
 use Rattle.std.specs.Prelude.{◌≡◌, ℕ, List, slice_get, Some}
 use Rattle.totem_ids.specs.declared.ring.RingId.{RingId}
 use Rattle.totem_ids.specs.contracts.ring.RingIdOrd.TheImpl as ring
-use Rattle.totem_passes.specs.contracts.keys.VisitOrd.TheImpl as visit
+use Rattle.totem_passes.specs.contracts.keys.ChangeOrd.TheImpl as change
 use Rattle.totem_evs.specs.declared.log.Log.{Log}
 use Rattle.totem_evs.specs.Answers.{MeetsPasses, AreRings}
 use Rattle.totem_table.specs.Changes.{AreChanges}
@@ -17,7 +17,7 @@ pub record AreJobs (run : List Log) (jobs : Jobs) : Type 0 where
   pub meets : MeetsPasses run
   pub rings : AreRings run jobs.rings.items
   pub changes : AreChanges run jobs.changes.rows.items
-  pub comings : HoldsComings ring.cmp-value.it visit.cmp-value.it jobs.comings.rings jobs.comings.indices run
+  pub comings : HoldsComings ring.cmp-value.it change.cmp-value.it jobs.comings.rings jobs.comings.indices run
 
 -- what is found in the configuration at this index of the list, if there is one
 pub record AreFindingsAt (run : List Log) (rings : List RingId) (index : ℕ) (findings : Findings) : Type 0 where

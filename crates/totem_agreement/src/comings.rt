@@ -6,7 +6,7 @@ use std::alloc::{AllocError, Global};
 use std::collections::{BTreeMap, BTreeSet};
 use totem_evs::{Entry, Run};
 use totem_ids::{ConfId, Proc, RingId};
-use totem_passes::{ChangeRegister, Visit, enter_changes};
+use totem_passes::{Change, ChangeRegister, enter_changes};
 use totem_table::Changes;
 
 /// A change to a regular configuration: in which log of the run, counted from 0, and at which index of that log.
@@ -20,15 +20,15 @@ pub struct Arrival {
 #[derive(Drop)]
 pub struct Comings {
     pub rings: BTreeSet<RingId>,
-    pub indices: BTreeMap<Visit, usize>,
+    pub indices: BTreeMap<Change, usize>,
 }
 
 impl ChangeRegister for Comings {
     ghost use Rattle.totem_agreement.specs.Comings.{AreComings, KnowsComing};
 
-    ghost sound = { λ s. AreComings ⟦<RingId as Ord>⟧.cmp ⟦<Visit as Ord>⟧.cmp s.rings s.indices };
+    ghost sound = { λ s. AreComings ⟦<RingId as Ord>⟧.cmp ⟦<Change as Ord>⟧.cmp s.rings s.indices };
 
-    ghost knows = { λ s. KnowsComing ⟦<RingId as Ord>⟧.cmp ⟦<Visit as Ord>⟧.cmp s.rings s.indices };
+    ghost knows = { λ s. KnowsComing ⟦<RingId as Ord>⟧.cmp ⟦<Change as Ord>⟧.cmp s.rings s.indices };
 
     fn spares(&self) {}
 
@@ -49,7 +49,7 @@ impl ChangeRegister for Comings {
         let ring = *ring;
         let conf = ConfId::Regular(ring);
         self.rings.insert(ring)?;
-        self.indices.insert(Visit { proc, conf }, at)?;
+        self.indices.insert(Change { proc, conf }, at)?;
         Ok(())
     }
 }
@@ -77,7 +77,7 @@ impl Comings {
     /// Keeps the changes of a run to regular configurations, in n log n steps for n changes.
     pub fn build(alloc: Global, run: &Run, changes: &Changes) -> Result<Comings, AllocError>
         requires { AreChanges run.now.logs changes.now.rows.items }
-        ensures { IfOk result (λ comings. HoldsComings ⟦<RingId as Ord>⟧.cmp ⟦<Visit as Ord>⟧.cmp comings.rings comings.indices run.now.logs) }
+        ensures { IfOk result (λ comings. HoldsComings ⟦<RingId as Ord>⟧.cmp ⟦<Change as Ord>⟧.cmp comings.rings comings.indices run.now.logs) }
     {
         let mut comings = Comings::new(alloc);
         enter_changes(&mut comings, alloc, run, changes)?;
@@ -98,7 +98,7 @@ impl Comings {
 
     /// Returns the changes to the regular configuration of this ring, log by log.
     fn arrivals(&self, alloc: Global, run: &Run, ring: RingId) -> Result<Vec<Arrival>, AllocError>
-        requires comings { HoldsComings ⟦<RingId as Ord>⟧.cmp ⟦<Visit as Ord>⟧.cmp self.now.rings self.now.indices run.now.logs }
+        requires comings { HoldsComings ⟦<RingId as Ord>⟧.cmp ⟦<Change as Ord>⟧.cmp self.now.rings self.now.indices run.now.logs }
         requires meets { MeetsPasses run.now.logs }
         ensures { IfOk result (λ list. AreArrivals run.now.logs ring list.items) }
     {
@@ -106,7 +106,7 @@ impl Comings {
         for (log, recorded) in run.logs.as_slice().iter().enumerate() {
             let proc = recorded.proc;
             let conf = ConfId::Regular(ring);
-            if let Some(at) = self.indices.get(&Visit { proc, conf }) {
+            if let Some(at) = self.indices.get(&Change { proc, conf }) {
                 arrivals.push(Arrival { log, at: *at })?;
             }
         }
@@ -121,7 +121,7 @@ impl Comings {
         changes: &Changes,
         ring: RingId,
     ) -> Result<Vec<Stay<'r>>, AllocError>
-        requires comings { HoldsComings ⟦<RingId as Ord>⟧.cmp ⟦<Visit as Ord>⟧.cmp self.now.rings self.now.indices run.now.logs }
+        requires comings { HoldsComings ⟦<RingId as Ord>⟧.cmp ⟦<Change as Ord>⟧.cmp self.now.rings self.now.indices run.now.logs }
         requires meets { MeetsPasses run.now.logs }
         requires changes { AreChanges run.now.logs changes.now.rows.items }
         ensures { IfOk result (λ list. AreStays run.now.logs ring list.items) }

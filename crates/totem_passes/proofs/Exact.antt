@@ -9,14 +9,14 @@ use Rattle.totem_ids.specs.declared.conf.ConfId.{ConfId}
 use Rattle.totem_ids.specs.declared.conf.ConfId.TheVariants.{Regular, Transitional}
 use Rattle.totem_ids.specs.declared.message.MsgId.{MsgId}
 use Rattle.totem_passes.specs.declared.keys.Sending.{Sending}
-use Rattle.totem_passes.specs.declared.keys.Visit.{Visit}
+use Rattle.totem_passes.specs.declared.keys.Change.{Change}
 use Rattle.totem_evs.proofs.ProcOrder.{exact_proc}
 use Rattle.totem_ids.specs.contracts.life.ProcOrd.TheImpl as life
 use Rattle.totem_ids.specs.contracts.ring.RingIdOrd.TheImpl as ring
 use Rattle.totem_ids.specs.contracts.conf.ConfIdOrd.TheImpl as conf
 use Rattle.totem_ids.specs.contracts.message.MsgIdOrd.TheImpl as message
 use Rattle.totem_passes.specs.contracts.keys.SendingOrd.TheImpl as sending
-use Rattle.totem_passes.specs.contracts.keys.VisitOrd.TheImpl as visit
+use Rattle.totem_passes.specs.contracts.keys.ChangeOrd.TheImpl as change
 
 pub both_equal : (a b : Ordering) → ordering_then a b ≡ Equal → (a ≡ Equal) × (b ≡ Equal)
 both_equal Less b e = absurd cc
@@ -53,9 +53,9 @@ pub exact_sending : CmpEqualImpliesEq sending.cmp-value.it
 exact_sending s t e = let h = both_equal (message.cmp-value.it s.message t.message) (ring.cmp-value.it s.ring t.ring) e in
     ap (λ (x : MsgId). sending_of x s.ring) (exact_message s.message t.message h.0) ∙ ap (sending_of t.message) (exact_ring s.ring t.ring h.1)
 
-abbrev visit_of : ℕ → ConfId → Visit
-visit_of p x = record { proc = p; conf = x }
+abbrev pub change_by : ℕ → ConfId → Change
+change_by p x = record { proc = p; conf = x }
 
-pub exact_visit : CmpEqualImpliesEq visit.cmp-value.it
-exact_visit v w e = let h = both_equal (life.cmp-value.it v.proc w.proc) (conf.cmp-value.it v.conf w.conf) e in
-    ap (λ (x : ℕ). visit_of x v.conf) (exact_proc v.proc w.proc h.0) ∙ ap (visit_of w.proc) (exact_conf v.conf w.conf h.1)
+pub exact_change : CmpEqualImpliesEq change.cmp-value.it
+exact_change v w e = let h = both_equal (life.cmp-value.it v.proc w.proc) (conf.cmp-value.it v.conf w.conf) e in
+    ap (λ (x : ℕ). change_by x v.conf) (exact_proc v.proc w.proc h.0) ∙ ap (change_by w.proc) (exact_conf v.conf w.conf h.1)

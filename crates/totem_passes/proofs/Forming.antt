@@ -11,7 +11,7 @@ use Rattle.totem_evs.specs.declared.entry.Entry.{Entry}
 use Rattle.totem_evs.specs.declared.entry.Entry.TheVariants.{Conf, Send, Deliver, Fail}
 use Rattle.totem_evs.specs.declared.log.Log.{Log}
 use Rattle.totem_evs.specs.Events.{log_of, IsChange}
-use Rattle.totem_passes.specs.declared.keys.Visit.{Visit}
+use Rattle.totem_passes.specs.declared.keys.Change.{Change}
 use Rattle.totem_passes.specs.Met.{IsMet}
 use Rattle.totem_passes.specs.Registers.{Keeps, KnowsRun}
 use Rattle.totem_passes.specs.Forms.{KnowsChange}
@@ -19,35 +19,33 @@ use Rattle.totem_passes.specs.Search.{place, NoneFrom, HoldsOfNone}
 use Rattle.totem_passes.specs.Pairs.{IsOne, IsOneOrTwo}
 use Rattle.totem_passes.specs.Bad.{IsForeignChange, AreTwoForms}
 use Rattle.totem_passes.proofs.Knowing.{meets_keeps}
+use Rattle.totem_passes.proofs.Exact.{change_by}
 
-abbrev visit : ℕ → ConfId → Visit
-visit p x = record { proc = p; conf = x }
-
-module _ (by_visit : Visit → Visit → Ordering) (by_conf : ConfId → ConfId → Ordering) where
+module _ (by_change : Change → Change → Ordering) (by_conf : ConfId → ConfId → Ordering) where
   -- of what is no change there is nothing to know
-  pub spares_change : (v : BTreeMap Visit (Option Place)) (f : BTreeMap ConfId (Option (List ℕ))) (p : ℕ) (log : List Entry) (i : ℕ) → (IsChange log i → ⊥) → KnowsChange by_visit by_conf v f p log i
-  spares_change v f p log i never = record { visited = λ x ms at. absurd (never (x, (ms, at))); formed = λ x ms at. absurd (never (x, (ms, at))) }
+  pub spares_change : (v : BTreeMap Change (Option Place)) (f : BTreeMap ConfId (Option (List ℕ))) (p : ℕ) (log : List Entry) (i : ℕ) → (IsChange log i → ⊥) → KnowsChange by_change by_conf v f p log i
+  spares_change v f p log i never = record { placed = λ x ms at. absurd (never (x, (ms, at))); formed = λ x ms at. absurd (never (x, (ms, at))) }
 
-  pub keeps_changes : IsTotalOrder by_visit → IsTotalOrder by_conf → (v w : BTreeMap Visit (Option Place)) (f g : BTreeMap ConfId (Option (List ℕ))) (k : Visit) (e : Place) (y : ConfId) (ns : List ℕ) → IsMet by_visit v w k e → IsMet by_conf f g y ns
-      → Keeps (KnowsChange by_visit by_conf v f) (KnowsChange by_visit by_conf w g)
+  pub keeps_changes : IsTotalOrder by_change → IsTotalOrder by_conf → (v w : BTreeMap Change (Option Place)) (f g : BTreeMap ConfId (Option (List ℕ))) (k : Change) (e : Place) (y : ConfId) (ns : List ℕ) → IsMet by_change v w k e → IsMet by_conf f g y ns
+      → Keeps (KnowsChange by_change by_conf v f) (KnowsChange by_change by_conf w g)
   keeps_changes first second v w f g k e y ns met formed = record {
     each = λ p log i h. record {
-      visited = λ x ms at. meets_keeps by_visit first v w k e met (visit p x) (place p i) (h.visited x ms at);
+      placed = λ x ms at. meets_keeps by_change first v w k e met (change_by p x) (place p i) (h.placed x ms at);
       formed = λ x ms at. meets_keeps by_conf second f g y ns formed x ms (h.formed x ms at);
     };
   }
 
   -- a configuration to which a process changed once, and which has one form, is in no two forms
-  pub only_form : (run : List Log) (v : BTreeMap Visit (Option Place)) (f : BTreeMap ConfId (Option (List ℕ))) (p i : ℕ) (x : ConfId) (ms : List ℕ) → KnowsRun (KnowsChange by_visit by_conf v f) run
-      → tree.get by_visit v (visit p x) ≡ Some (Some (place p i)) → tree.get by_conf f x ≡ Some (Some ms) → HoldsOfNone (IsOne run (AreTwoForms p i (Conf x ms)))
+  pub only_form : (run : List Log) (v : BTreeMap Change (Option Place)) (f : BTreeMap ConfId (Option (List ℕ))) (p i : ℕ) (x : ConfId) (ms : List ℕ) → KnowsRun (KnowsChange by_change by_conf v f) run
+      → tree.get by_change v (change_by p x) ≡ Some (Some (place p i)) → tree.get by_conf f x ≡ Some (Some ms) → HoldsOfNone (IsOne run (AreTwoForms p i (Conf x ms)))
   only_form run v f p i x ms known once one = record { none = λ places h. go places h }
     where
       go : (places : List Place) → IsOne run (AreTwoForms p i (Conf x ms)) places → ⊥
       go [] h = h
       go (g ∷ []) (j, js, (Conf y ns, at, (same, inl (procs, other)))) =
-          let key : visit p x ≡ visit g.proc y = rw (procs, same) refl in
-          let met = ((known.each g.proc j (slice_get_within (log_of run g.proc) j (Conf y ns) at)).visited y ns at).only (place p i)
-          (subst (λ (k : Visit). tree.get by_visit v k ≡ Some (Some (place p i))) key once) in
+          let key : change_by p x ≡ change_by g.proc y = rw (procs, same) refl in
+          let met = ((known.each g.proc j (slice_get_within (log_of run g.proc) j (Conf y ns) at)).placed y ns at).only (place p i)
+          (subst (λ (k : Change). tree.get by_change v k ≡ Some (Some (place p i))) key once) in
           other (let ats : i + 1 ≡ j + 1 = ap (λ (e : Place). e.at) met in omega arith)
       go (g ∷ []) (j, js, (Conf y ns, at, (same, inr other))) =
           other (((known.each g.proc j (slice_get_within (log_of run g.proc) j (Conf y ns) at)).formed y ns at).only ms (rw same at one))

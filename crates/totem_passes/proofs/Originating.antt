@@ -20,20 +20,20 @@ use Rattle.totem_passes.specs.Registers.{Keeps, KnowsRun}
 use Rattle.totem_passes.specs.Search.{HoldsOfNone}
 use Rattle.totem_passes.specs.Turns.{IsOtherOrigin}
 use Rattle.totem_passes.proofs.Knowing.{meets_knows, meets_keeps}
-use Rattle.totem_passes.proofs.Turning.{one_turn}
+use Rattle.totem_passes.proofs.Turning.{one_succession}
 
 module _ (by_conf : ConfId → ConfId → Ordering) where
   -- from what is no change no log comes
   pub spares_origin : (s : BTreeMap ConfId (Option RingId)) (p : ℕ) (log : List Entry) (i : ℕ) → (IsChange log i → ⊥) → KnowsOrigin by_conf s p log i
-  spares_origin s p log i never = record { each = λ j c t ms ns turn. absurd (never (Regular c, (ms, turn.first))) }
+  spares_origin s p log i never = record { each = λ j c t ms ns succession. absurd (never (Regular c, (ms, succession.first))) }
 
   pub keeps_origins : IsTotalOrder by_conf → (s t : BTreeMap ConfId (Option RingId)) (y : ConfId) (d : RingId) → IsMet by_conf s t y d → Keeps (KnowsOrigin by_conf s) (KnowsOrigin by_conf t)
-  keeps_origins total s t y d met = record { each = λ p log i h. record { each = λ j c x ms ns turn. meets_keeps by_conf total s t y d met x c (h.each j c x ms ns turn) } }
+  keeps_origins total s t y d met = record { each = λ p log i h. record { each = λ j c x ms ns succession. meets_keeps by_conf total s t y d met x c (h.each j c x ms ns succession) } }
 
   pub enters_origin : IsTotalOrder by_conf → (s t : BTreeMap ConfId (Option RingId)) (p : ℕ) (log : List Entry) (i j : ℕ) (x y : ConfId) (ms ns : List ℕ) (d : RingId) → x ≡ Regular d → ChangesNext log i j x y ms ns → IsMet by_conf s t y d
       → KnowsOrigin by_conf t p log i
-  enters_origin total s t p log i j x y ms ns d is turn met = record {
-    each = λ k c z ks ls turn'. (let one = one_turn log i j k x (Regular c) y z ms ks ns ls turn turn' in let rings : d ≡ c = (let h = one.conf in cc) in
+  enters_origin total s t p log i j x y ms ns d is succession met = record {
+    each = λ k c z ks ls succession'. (let one = one_succession log i j k x (Regular c) y z ms ks ns ls succession succession' in let rings : d ≡ c = (let h = one.conf in cc) in
         rw (← one.next, ← rings) (meets_knows by_conf total s t y d met));
   }
 
@@ -44,6 +44,6 @@ module _ (by_conf : ConfId → ConfId → Ordering) where
       go : (places : List Place) → IsOtherOrigin run p c t places → ⊥
       go [] h = h
       go (g ∷ []) h = h
-      go (g ∷ h ∷ []) (k, ks, (l, ls, (same, (lt, d, os, qs, other, turn)))) =
-          other (((known.each g.proc k (slice_get_within (log_of run g.proc) k (Conf (Regular d) os) turn.first)).each l d t os qs turn).only c only)
+      go (g ∷ h ∷ []) (k, ks, (l, ls, (same, (lt, d, os, qs, other, succession)))) =
+          other (((known.each g.proc k (slice_get_within (log_of run g.proc) k (Conf (Regular d) os) succession.first)).each l d t os qs succession).only c only)
       go (g ∷ h ∷ x ∷ more) other = other

@@ -15,11 +15,12 @@ use Rattle.totem_evs.specs.declared.entry.Entry.{Entry}
 use Rattle.totem_evs.specs.declared.log.Log.{Log}
 use Rattle.totem_evs.specs.Events.{log_of, WasSentIn}
 use Rattle.totem_passes.specs.declared.keys.Sending.{Sending}
-use Rattle.totem_passes.specs.declared.keys.Visit.{Visit}
+use Rattle.totem_passes.specs.declared.keys.Change.{Change}
 use Rattle.totem_passes.specs.Sent.{WasSentTo}
 use Rattle.totem_passes.specs.Sendings.{WereSent}
 use Rattle.totem_passes.specs.Followed.{AreFollowed}
-use Rattle.totem_passes.proofs.QuickSends.{sending, visit}
+use Rattle.totem_passes.proofs.Exact.{change_by}
+use Rattle.totem_passes.proofs.QuickSends.{sending}
 use Rattle.totem_passes.proofs.SentOrNot.{sent_or_not}
 
 -- what can't be unsent was sent
@@ -38,7 +39,7 @@ pub sent_regular : (run : List Log) (log : List Entry) (m : MsgId) (c : RingId) 
 sent_regular run log m c true sent = (c, sent, inl refl)
 sent_regular run log m c false sent = tt
 
-pub sent_before : (cmp : Visit → Visit → Ordering) (r : BTreeMap Visit RingId) (run : List Log) (p : ℕ) (m : MsgId) (c : RingId) (d : ConfId) (b : Bool) → Some c ≡ tree.get cmp r (visit p d) → ∥ AreFollowed cmp r run ∥₁
+pub sent_before : (cmp : Change → Change → Ordering) (r : BTreeMap Change RingId) (run : List Log) (p : ℕ) (m : MsgId) (c : RingId) (d : ConfId) (b : Bool) → Some c ≡ tree.get cmp r (change_by p d) → ∥ AreFollowed cmp r run ∥₁
     → OnTrue b (WasSentIn run m (Regular c)) → OnTrue b (WasSentTo run (log_of run p) m d)
-sent_before cmp r run p m c d true is known sent = sent_if_there run (log_of run p) m d (λ never. not_there known (λ h. never (c, sent, inr (h.each (visit p d) c (sym is)))))
+sent_before cmp r run p m c d true is known sent = sent_if_there run (log_of run p) m d (λ never. not_there known (λ h. never (c, sent, inr (h.each (change_by p d) c (sym is)))))
 sent_before cmp r run p m c d false is known sent = tt

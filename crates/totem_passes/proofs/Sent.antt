@@ -15,11 +15,11 @@ use Rattle.totem_evs.specs.Changes.{ChangesNext}
 use Rattle.totem_evs.specs.DeliveryFaults.{IsUnsent, BreaksUnsent}
 use Rattle.totem_passes.specs.Search.{place, NoneFrom, IsLeastFrom, NoneOf, IsLeastOf, HoldsOfNone}
 use Rattle.totem_passes.specs.Pairs.{IsOne}
-use Rattle.totem_passes.specs.Turns.{HasNoTurn}
+use Rattle.totem_passes.specs.Turns.{HasNoSuccession}
 use Rattle.totem_passes.specs.Sent.{IsChangeTo, NeverChangesTo, WasSentTo, IsSendTo}
 use Rattle.totem_evs.proofs.LogOf.{less_or_not}
 use Rattle.totem_passes.proofs.Starting.{Begins, EachBegins, begins_at, one_begins, none_of_all}
-use Rattle.totem_passes.proofs.Turning.{one_turn}
+use Rattle.totem_passes.proofs.Turning.{one_succession}
 
 -- the log has no change to x before n
 pub record NoneYet (log : List Entry) (x : ConfId) (n : ℕ) : Type 0 where
@@ -61,18 +61,18 @@ same_first log x i j a b = elim (less_or_not i j) [
   | inr more ↦ elim more [ inl gt ↦ absurd (a.none_before j gt b.change) | inr e ↦ e ]
 ]
 
-turn_of : (log : List Entry) (c : RingId) (d : ConfId) (i : ℕ) (f : Follows log c d) → IsFirstChange log (Regular c) i → (ms ns : List ℕ) × ChangesNext log i f.to (Regular c) d ms ns
-turn_of log c d i f first = let same = same_first log (Regular c) f.from i f.first first in
+succession_of : (log : List Entry) (c : RingId) (d : ConfId) (i : ℕ) (f : Follows log c d) → IsFirstChange log (Regular c) i → (ms ns : List ℕ) × ChangesNext log i f.to (Regular c) d ms ns
+succession_of log c d i f first = let same = same_first log (Regular c) f.from i f.first first in
     (f.first.change.0, f.change.0, record { first = rw same at f.first.change.1; second = f.change.1; next = rw same at f.next })
 
-pub not_without_turn : (log : List Entry) (c : RingId) (d : ConfId) (i : ℕ) → IsFirstChange log (Regular c) i → HasNoTurn log i → IsTrue false ↔ Follows log c d
-not_without_turn log c d i first never = (λ t. absurd cc, λ f. absurd (let t = turn_of log c d i f first in never.none f.to (Regular c) d t.0 t.1 t.2))
+pub not_without_succession : (log : List Entry) (c : RingId) (d : ConfId) (i : ℕ) → IsFirstChange log (Regular c) i → HasNoSuccession log i → IsTrue false ↔ Follows log c d
+not_without_succession log c d i first never = (λ t. absurd cc, λ f. absurd (let t = succession_of log c d i f first in never.none f.to (Regular c) d t.0 t.1 t.2))
 
 pub follows_decided : (log : List Entry) (c : RingId) (d : ConfId) (i j : ℕ) (x y : ConfId) (ms ns : List ℕ) (b : Bool) → IsFirstChange log (Regular c) i → ChangesNext log i j x y ms ns → IsTransitional d → IsTrue b ↔ (y ≡ d)
     → IsTrue b ↔ Follows log c d
-follows_decided log c d i j x y ms ns b first turn moves decides = (
-  λ t. (let same = decides.0 t in record { from = i; to = j; first = first; next = turn.next; change = (ns, rw same at turn.second); transitional = moves }),
-  λ f. decides.1 (let t = turn_of log c d i f first in (one_turn log i j f.to x (Regular c) y d ms t.0 ns t.1 turn t.2).next),
+follows_decided log c d i j x y ms ns b first succession moves decides = (
+  λ t. (let same = decides.0 t in record { from = i; to = j; first = first; next = succession.next; change = (ns, rw same at succession.second); transitional = moves }),
+  λ f. decides.1 (let t = succession_of log c d i f first in (one_succession log i j f.to x (Regular c) y d ms t.0 ns t.1 succession t.2).next),
 )
 
 pub in_regular : (log : List Entry) (c e : RingId) (b : Bool) → IsTrue b ↔ (e ≡ c) → IsTrue b ↔ Com log c (Regular e)

@@ -235,13 +235,13 @@ pub sent_or_not : (run : List Log) (log : List Entry) (m : MsgId) (d : ConfId) �
 unfolding HasSend
 sent_or_not run log m d = elim (some_log_or_none (HasSend run log m d) (has_send_or_not run log m d) run) [
   | inl found ↦ inl (has_send run log m d found.0 found.1)
-  | inr none ↦ inr (has_no_send run log m d (λ p found. nowhere none p found (log_of_cases run p)))
+  | inr none ↦ inr (has_no_send run log m d (λ p found. no_send_of_any none p found (log_of_cases run p)))
 ]
   where
-    nowhere : ((k : ℕ) (l : Log) → slice_get run k ≡ Some l → HasSend run log m d l.proc → ⊥) → (p : ℕ) → HasSend run log m d p
+    no_send_of_any : ((k : ℕ) (l : Log) → slice_get run k ≡ Some l → HasSend run log m d l.proc → ⊥) → (p : ℕ) → HasSend run log m d p
         → (log_of run p ≡ []) ⊎ ((k : ℕ) × (l : Log) × (slice_get run k ≡ Some l) × (l.proc ≡ p) × (log_of run p ≡ l.entries)) → ⊥
-    nowhere none p found (inl empty) = let at : slice_get {X = Entry} [] found.index ≡ Some found.entry = rw empty at found.at in cc
-    nowhere none p found (inr (k, l, at, same, is)) = none k l at (rw same found)
+    no_send_of_any none p found (inl empty) = let at : slice_get {X = Entry} [] found.index ≡ Some found.entry = rw empty at found.at in cc
+    no_send_of_any none p found (inr (k, l, at, same, is)) = none k l at (rw same found)
 
 pub none_unsent : (run : List Log) → HoldsOfNone (BreaksUnsent run) → DeliversWhatWasSent run
 none_unsent run never p i m d at = elim (sent_or_not run (log_of run p) m d) [

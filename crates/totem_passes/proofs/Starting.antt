@@ -74,6 +74,18 @@ has_not run P p i x b at decides e = record { none = λ rest h. go rest h }
         let t : b ≡ true = decides.1 (rw (same, one) at h) in cc
     go (f ∷ more) h = h
 
+-- what a search found, as places
+pub told_as_places : {V : Type 0} (items : V → List Place) (found : Option V) (places : Option (List Place)) (Told : Option (List Place) → Type 0) (A : Type 0) (P : V → Type 0)
+    → MatchOption found (places ≡ None) (λ v. places ≡ Some (items v)) → (A → Told None) → ((v : V) → P v → Told (Some (items v))) → MatchOption found A P → Told places
+told_as_places items None places Told A P is none some h = rw is (none h)
+told_as_places items (Some v) places Told A P is none some h = rw is (some v h)
+
+-- so the least list of the run is told as places
+pub least_places : {V : Type 0} (items : V → List Place) (run : List Log) (H : List Place → Type 0) (found : Option V) (places : Option (List Place)) → EachBegins run H → MatchOption found (places ≡ None) (λ v. places ≡ Some (items v))
+    → MatchOption found (NoneOf run H) (λ v. IsLeastOf run H (items v)) → MatchOption places (HoldsOfNone H) (IsLeast H)
+least_places items run H found places begins is = told_as_places items found places (λ told. MatchOption told (HoldsOfNone H) (IsLeast H)) (NoneOf run H) (λ v. IsLeastOf run H (items v)) is
+    (none_of_all run H begins) (λ v. least_of_all run H (items v) begins)
+
 -- what a search answers, in other words
 pub reworded : {X F : Type 0} (r : Result (Option X) F) (A B : Type 0) (P Q : X → Type 0) → (A → B) → ((x : X) → P x → Q x) → IfOk r (λ found. MatchOption found A P) → IfOk r (λ found. MatchOption found B Q)
 reworded (Err e) A B P Q f g h = tt

@@ -15,10 +15,10 @@ use Rattle.totem_evs.specs.Changes.{ChangesNext, TakesTurns}
 use Rattle.totem_evs.specs.ChangeFaults.{AreWrongNeighbours, BreaksTurns}
 use Rattle.totem_evs.specs.Answers.{ComesFirst, IsLeast, TakeTurns}
 use Rattle.totem_passes.specs.Search.{place, HoldsOfNone}
-use Rattle.totem_passes.specs.Turns.{IsWrongTurn, IsTurnFault}
+use Rattle.totem_passes.specs.Turns.{IsWrongSuccession, IsTurnFault}
 use Rattle.totem_passes.proofs.Decisions.{all_or_not, same_ring_or_not, regular_or_transitional}
 use Rattle.totem_passes.proofs.Starting.{Begins, EachBegins, begins_at}
-use Rattle.totem_passes.proofs.Turning.{wrong_neighbours, turn_of_rest, turn_within}
+use Rattle.totem_passes.proofs.Turning.{wrong_neighbours, succession_of_rest, succession_within}
 
 below_below : (e f g : Place) → PlaceBelow e f → PlaceBelow f g → PlaceBelow e g
 below_below e f g (inl h) (inl k) = inl (omega arith)
@@ -50,10 +50,10 @@ pub turn_faults_break : (run : List Log) (ps : List Place) → IsTurnFault run p
 turn_faults_break run [] h = absurd h
 turn_faults_break run (e ∷ []) h = h
 turn_faults_break run (e ∷ f ∷ []) (i, is, (j, js, (procs, h))) = (i, is, (j, js, (procs, inl h)))
-turn_faults_break run (e ∷ f ∷ g ∷ []) (i, is, (j, js, (procs, (c, t, ms, ns, moves, turn, other)))) = absurd other
-turn_faults_break run (e ∷ f ∷ g ∷ h ∷ []) (i, is, (j, js, (procs, (c, t, ms, ns, moves, turn, (k, ks, (l, ls, (others, (lt, d, os, qs, never, turn')))))))) =
-    (i, is, (j, js, (k, ks, (l, ls, (procs, others, (lt, c, d, t, ms, ns, os, qs, moves, never, turn, turn'))))))
-turn_faults_break run (e ∷ f ∷ g ∷ h ∷ x ∷ more) (i, is, (j, js, (procs, (c, t, ms, ns, moves, turn, other)))) = absurd other
+turn_faults_break run (e ∷ f ∷ g ∷ []) (i, is, (j, js, (procs, (c, t, ms, ns, moves, succession, other)))) = absurd other
+turn_faults_break run (e ∷ f ∷ g ∷ h ∷ []) (i, is, (j, js, (procs, (c, t, ms, ns, moves, succession, (k, ks, (l, ls, (others, (lt, d, os, qs, never, succession')))))))) =
+    (i, is, (j, js, (k, ks, (l, ls, (procs, others, (lt, c, d, t, ms, ns, os, qs, moves, never, succession, succession'))))))
+turn_faults_break run (e ∷ f ∷ g ∷ h ∷ x ∷ more) (i, is, (j, js, (procs, (c, t, ms, ns, moves, succession, other)))) = absurd other
 
 pub breaks_have_turn_faults : (run : List Log) (ps : List Place) → BreaksTurns run ps → (qs : List Place) × IsTurnFault run qs × ComesFirst qs ps
 breaks_have_turn_faults run [] h = absurd h
@@ -63,10 +63,10 @@ breaks_have_turn_faults run (e ∷ f ∷ []) (i, is, (j, js, (procs, inr h))) =
     (f ∷ e ∷ [], (j, js, (i, is, (sym procs, rw procs at h))), inl (inr (sym procs, earlier j i e.at f.at is js (log_of run e.proc) h)))
   where
     earlier : (j i m n : ℕ) → m ≡ i + 1 → n ≡ j + 1 → (log : List Entry) → AreWrongNeighbours log j i → n < m
-    earlier j i m n is js log (x, y, ms, ns, turn, how) = let lt = turn.next.later in omega arith
+    earlier j i m n is js log (x, y, ms, ns, succession, how) = let lt = succession.next.later in omega arith
 breaks_have_turn_faults run (e ∷ f ∷ g ∷ []) h = absurd h
-breaks_have_turn_faults run (e ∷ f ∷ g ∷ h ∷ []) (i, is, (j, js, (k, ks, (l, ls, (procs, others, (lt, c, d, t, ms, ns, os, qs, moves, never, turn, turn')))))) =
-    (e ∷ f ∷ g ∷ h ∷ [], (i, is, (j, js, (procs, (c, t, ms, ns, moves, turn, (k, ks, (l, ls, (others, (lt, d, os, qs, never, turn')))))))), comes_itself (e ∷ f ∷ g ∷ h ∷ []))
+breaks_have_turn_faults run (e ∷ f ∷ g ∷ h ∷ []) (i, is, (j, js, (k, ks, (l, ls, (procs, others, (lt, c, d, t, ms, ns, os, qs, moves, never, succession, succession')))))) =
+    (e ∷ f ∷ g ∷ h ∷ [], (i, is, (j, js, (procs, (c, t, ms, ns, moves, succession, (k, ks, (l, ls, (others, (lt, d, os, qs, never, succession')))))))), comes_itself (e ∷ f ∷ g ∷ h ∷ []))
 breaks_have_turn_faults run (e ∷ f ∷ g ∷ h ∷ x ∷ more) b = absurd b
 
 pub turn_faults_begin : (run : List Log) → EachBegins run (IsTurnFault run)
@@ -75,28 +75,28 @@ turn_faults_begin run = record { each = λ places h. go places h }
     go : (places : List Place) → IsTurnFault run places → Begins run places
     go [] h = absurd h
     go (e ∷ []) (i, is, (x, (ms, at), moves, none)) = begins_at run e i [] is (slice_get_within (log_of run e.proc) i (Conf x ms) at)
-    go (e ∷ f ∷ rest) (i, is, (j, js, (procs, h))) = let found = turn_of_rest run e.proc i j rest h in
-        begins_at run e i (f ∷ rest) is (turn_within (log_of run e.proc) i j found.0 found.1 found.2 found.3 found.4)
+    go (e ∷ f ∷ rest) (i, is, (j, js, (procs, h))) = let found = succession_of_rest run e.proc i j rest h in
+        begins_at run e i (f ∷ rest) is (succession_within (log_of run e.proc) i j found.0 found.1 found.2 found.3 found.4)
 
-alternate : (x y : ConfId) (ms ns : List ℕ) → (IsWrongTurn x ms y ns → ⊥) → IsRegular x ↔ IsTransitional y
+alternate : (x y : ConfId) (ms ns : List ℕ) → (IsWrongSuccession x ms y ns → ⊥) → IsRegular x ↔ IsTransitional y
 alternate (Regular c) (Regular d) ms ns right = absurd (right tt)
 alternate (Regular c) (Transitional n l) ms ns right = (λ _. tt, λ _. tt)
 alternate (Transitional n l) (Regular c) ms ns right = (λ h. h, λ h. h)
 alternate (Transitional n l) (Transitional m k) ms ns right = absurd (right tt)
 
-members_from : (c : RingId) (y : ConfId) (ms ns : List ℕ) → IsTransitional y → (IsWrongTurn (Regular c) ms y ns → ⊥) → All (Contains ms) ns
+members_from : (c : RingId) (y : ConfId) (ms ns : List ℕ) → IsTransitional y → (IsWrongSuccession (Regular c) ms y ns → ⊥) → All (Contains ms) ns
 members_from c (Regular d) ms ns moves right = absurd moves
 members_from c (Transitional n l) ms ns moves right = elim (all_or_not ms ns) [ inl all ↦ all | inr never ↦ absurd (right never) ]
 
-members_to : (x : ConfId) (c : RingId) (ms ns : List ℕ) → IsTransitional x → (IsWrongTurn x ms (Regular c) ns → ⊥) → All (Contains ns) ms
+members_to : (x : ConfId) (c : RingId) (ms ns : List ℕ) → IsTransitional x → (IsWrongSuccession x ms (Regular c) ns → ⊥) → All (Contains ns) ms
 members_to (Regular d) c ms ns moves right = absurd moves
 members_to (Transitional n l) c ms ns moves right = elim (all_or_not ns ms) [ inl all ↦ all | inr never ↦ absurd (right (inl never)) ]
 
 pub no_turn_faults : (run : List Log) → HoldsOfNone (IsTurnFault run) → TakeTurns run
 no_turn_faults run never = record { each = λ p. each p; origin = λ p i j q k l c d t ms ns ks ls lt moves first second. origin p i j q k l c d t ms ns ks ls lt moves first second }
   where
-    right : (p i j : ℕ) (x y : ConfId) (ms ns : List ℕ) → ChangesNext (log_of run p) i j x y ms ns → IsWrongTurn x ms y ns → ⊥
-    right p i j x y ms ns turn w = never.none (place p i ∷ place p j ∷ []) (i, refl, (j, refl, (refl, wrong_neighbours (log_of run p) i j x y ms ns turn w)))
+    right : (p i j : ℕ) (x y : ConfId) (ms ns : List ℕ) → ChangesNext (log_of run p) i j x y ms ns → IsWrongSuccession x ms y ns → ⊥
+    right p i j x y ms ns succession w = never.none (place p i ∷ place p j ∷ []) (i, refl, (j, refl, (refl, wrong_neighbours (log_of run p) i j x y ms ns succession w)))
 
     each : (p : ℕ) → TakesTurns (log_of run p)
     each p = record {
@@ -104,12 +104,12 @@ no_turn_faults run never = record { each = λ p. each p; origin = λ p i j q k l
         | inl regular ↦ regular
         | inr moves ↦ absurd (never.none (place p i ∷ []) (i, refl, (x, change, moves, none)))
       ];
-      turns = λ i j x y ms ns turn. alternate x y ms ns (right p i j x y ms ns turn);
-      from = λ i j c y ms ns moves turn. members_from c y ms ns moves (right p i j (Regular c) y ms ns turn);
-      to = λ i j x c ms ns moves turn. members_to x c ms ns moves (right p i j x (Regular c) ms ns turn);
-      named = λ i j next c least ms ns turn. elim (same_ring_or_not c next) [
+      turns = λ i j x y ms ns succession. alternate x y ms ns (right p i j x y ms ns succession);
+      from = λ i j c y ms ns moves succession. members_from c y ms ns moves (right p i j (Regular c) y ms ns succession);
+      to = λ i j x c ms ns moves succession. members_to x c ms ns moves (right p i j x (Regular c) ms ns succession);
+      named = λ i j next c least ms ns succession. elim (same_ring_or_not c next) [
         | inl same ↦ same
-        | inr other ↦ absurd (right p i j (Transitional next least) (Regular c) ms ns turn (inr other))
+        | inr other ↦ absurd (right p i j (Transitional next least) (Regular c) ms ns succession (inr other))
       ];
     }
 

@@ -15,7 +15,7 @@ use Rattle.totem_evs.specs.ChangeFaults.{BeginsTransitional, AreWrongNeighbours}
 use Rattle.totem_evs.specs.Answers.{ComesFirst, IsLeast}
 use Rattle.totem_passes.specs.Search.{place, NoneFrom, IsLeastFrom, HoldsOfNone}
 use Rattle.totem_table.specs.Changes.{IsNextOrEnd}
-use Rattle.totem_passes.specs.Turns.{IsWrongTurn, HasNoTurn, IsOfOtherRing, ComesFromElsewhere, IsOtherOrigin, IsTurnRest, IsTurnFault}
+use Rattle.totem_passes.specs.Turns.{IsWrongSuccession, HasNoSuccession, IsOfOtherRing, ComesFromElsewhere, IsOtherOrigin, IsTurnRest, IsTurnFault}
 use Rattle.totem_evs.proofs.LogOf.{less_or_not}
 use Rattle.totem_passes.proofs.Starting.{Begins, EachBegins, begins_at}
 
@@ -37,21 +37,21 @@ none_between_more log i n e at other before = record {
   ];
 }
 
-pub turn_here : (log : List Entry) (i j : ℕ) (x y : ConfId) (ms ns : List ℕ) → slice_get log i ≡ Some (Conf x ms) → slice_get log j ≡ Some (Conf y ns) → i < j → NoneBetween log i j → ChangesNext log i j x y ms ns
-turn_here log i j x y ms ns at_i at_j lt before = record { first = at_i; second = at_j; next = record { change = (y, (ns, at_j)); later = lt; none_between = before.none } }
+pub succession_here : (log : List Entry) (i j : ℕ) (x y : ConfId) (ms ns : List ℕ) → slice_get log i ≡ Some (Conf x ms) → slice_get log j ≡ Some (Conf y ns) → i < j → NoneBetween log i j → ChangesNext log i j x y ms ns
+succession_here log i j x y ms ns at_i at_j lt before = record { first = at_i; second = at_j; next = record { change = (y, (ns, at_j)); later = lt; none_between = before.none } }
 
-pub no_turn_without_change : (log : List Entry) (i : ℕ) (e : Entry) → slice_get log i ≡ Some e → ((x : ConfId) (ms : List ℕ) → e ≡ Conf x ms → ⊥) → HasNoTurn log i
-no_turn_without_change log i e at other = record { none = λ j x y ms ns turn. no_change log i e at other (x, (ms, turn.first)) }
+pub no_succession_without_change : (log : List Entry) (i : ℕ) (e : Entry) → slice_get log i ≡ Some e → ((x : ConfId) (ms : List ℕ) → e ≡ Conf x ms → ⊥) → HasNoSuccession log i
+no_succession_without_change log i e at other = record { none = λ j x y ms ns succession. no_change log i e at other (x, (ms, succession.first)) }
 
-pub no_turn_at_end : (log : List Entry) (i n : ℕ) → length log ≤ n → NoneBetween log i n → HasNoTurn log i
-no_turn_at_end log i n end before = record { none = λ j x y ms ns turn. before.none j turn.next.later (omega (arith, slice_get_within log j (Conf y ns) turn.second)) turn.next.change }
+pub no_succession_at_end : (log : List Entry) (i n : ℕ) → length log ≤ n → NoneBetween log i n → HasNoSuccession log i
+no_succession_at_end log i n end before = record { none = λ j x y ms ns succession. before.none j succession.next.later (omega (arith, slice_get_within log j (Conf y ns) succession.second)) succession.next.change }
 
--- what is told of the next change is what is asked of a turn
-pub turn_to_next : (log : List Entry) (i j : ℕ) (x y : ConfId) (ms ns : List ℕ) → slice_get log i ≡ Some (Conf x ms) → slice_get log j ≡ Some (Conf y ns) → IsNextOrEnd log i j → ChangesNext log i j x y ms ns
-turn_to_next log i j x y ms ns at_i at_j next = record { first = at_i; second = at_j; next = record { change = (y, (ns, at_j)); later = next.later; none_between = next.none_between } }
+-- what is told of the next change is what is asked of a succession
+pub succession_to_next : (log : List Entry) (i j : ℕ) (x y : ConfId) (ms ns : List ℕ) → slice_get log i ≡ Some (Conf x ms) → slice_get log j ≡ Some (Conf y ns) → IsNextOrEnd log i j → ChangesNext log i j x y ms ns
+succession_to_next log i j x y ms ns at_i at_j next = record { first = at_i; second = at_j; next = record { change = (y, (ns, at_j)); later = next.later; none_between = next.none_between } }
 
-pub no_turn_to_end : (log : List Entry) (i j : ℕ) → IsNextOrEnd log i j → length log ≤ j → HasNoTurn log i
-no_turn_to_end log i j next end = no_turn_at_end log i j end (record { none = next.none_between })
+pub no_succession_to_end : (log : List Entry) (i j : ℕ) → IsNextOrEnd log i j → length log ≤ j → HasNoSuccession log i
+no_succession_to_end log i j next end = no_succession_at_end log i j end (record { none = next.none_between })
 
 pub next_is_change : (log : List Entry) (i j : ℕ) (e : Entry) → IsNextOrEnd log i j → j < length log → slice_get log j ≡ Some e → ((x : ConfId) (ms : List ℕ) → e ≡ Conf x ms → ⊥) → ⊥
 next_is_change log i j e next lt at other = no_change log j e at other (next.change lt)
@@ -76,8 +76,8 @@ pub record SameTurn (j k : ℕ) (x x' y y' : ConfId) (ms ms' ns ns' : List ℕ) 
   pub next : y ≡ y'
   pub next_members : ns ≡ ns'
 
-pub one_turn : (log : List Entry) (i j k : ℕ) (x x' y y' : ConfId) (ms ms' ns ns' : List ℕ) → ChangesNext log i j x y ms ns → ChangesNext log i k x' y' ms' ns' → SameTurn j k x x' y y' ms ms' ns ns'
-one_turn log i j k x x' y y' ms ms' ns ns' a b =
+pub one_succession : (log : List Entry) (i j k : ℕ) (x x' y y' : ConfId) (ms ms' ns ns' : List ℕ) → ChangesNext log i j x y ms ns → ChangesNext log i k x' y' ms' ns' → SameTurn j k x x' y y' ms ms' ns ns'
+one_succession log i j k x x' y y' ms ms' ns ns' a b =
     let same_at = same in
     record { at = same; conf = (let h = a.first in let g = b.first in cc); members = (let h = a.first in let g = b.first in cc); next = seconds.0; next_members = seconds.1 }
   where
@@ -90,59 +90,59 @@ one_turn log i j k x x' y y' ms ms' ns ns' a b =
     seconds : (y ≡ y') × (ns ≡ ns')
     seconds = let h : slice_get log k ≡ Some (Conf y ns) = rw same at a.second in let g = b.second in (cc, cc)
 
--- the ways in which a turn is wrong
-pub wrong_turn : (x y : ConfId) (ms ns : List ℕ)
+-- the ways in which a succession is wrong
+pub wrong_succession : (x y : ConfId) (ms ns : List ℕ)
     → (IsRegular x × IsRegular y) ⊎ (IsTransitional x × IsTransitional y)
     ⊎ (IsRegular x × IsTransitional y × (All (Contains ms) ns → ⊥)) ⊎ (IsTransitional x × IsRegular y × (All (Contains ns) ms → ⊥))
-    ⊎ ((next c : RingId) × (least : ℕ) × (x ≡ Transitional next least) × (y ≡ Regular c) × (c ≢ next)) → IsWrongTurn x ms y ns
-wrong_turn (Regular c) (Regular d) ms ns h = tt
-wrong_turn (Regular c) (Transitional n l) ms ns (inl (r, s)) = absurd s
-wrong_turn (Regular c) (Transitional n l) ms ns (inr (inl (s, t))) = absurd s
-wrong_turn (Regular c) (Transitional n l) ms ns (inr (inr (inl (r, t, never)))) = never
-wrong_turn (Regular c) (Transitional n l) ms ns (inr (inr (inr (inl (t, r, never))))) = absurd t
-wrong_turn (Regular c) (Transitional n l) ms ns (inr (inr (inr (inr (m, d, k, is_x, is_y, other))))) = absurd cc
-wrong_turn (Transitional n l) (Regular c) ms ns (inl (r, s)) = absurd r
-wrong_turn (Transitional n l) (Regular c) ms ns (inr (inl (s, t))) = absurd t
-wrong_turn (Transitional n l) (Regular c) ms ns (inr (inr (inl (r, t, never)))) = absurd r
-wrong_turn (Transitional n l) (Regular c) ms ns (inr (inr (inr (inl (t, r, never))))) = inl never
-wrong_turn (Transitional n l) (Regular c) ms ns (inr (inr (inr (inr (m, d, k, is_x, is_y, other))))) = inr (λ e. other cc)
-wrong_turn (Transitional n l) (Transitional m k) ms ns h = tt
+    ⊎ ((next c : RingId) × (least : ℕ) × (x ≡ Transitional next least) × (y ≡ Regular c) × (c ≢ next)) → IsWrongSuccession x ms y ns
+wrong_succession (Regular c) (Regular d) ms ns h = tt
+wrong_succession (Regular c) (Transitional n l) ms ns (inl (r, s)) = absurd s
+wrong_succession (Regular c) (Transitional n l) ms ns (inr (inl (s, t))) = absurd s
+wrong_succession (Regular c) (Transitional n l) ms ns (inr (inr (inl (r, t, never)))) = never
+wrong_succession (Regular c) (Transitional n l) ms ns (inr (inr (inr (inl (t, r, never))))) = absurd t
+wrong_succession (Regular c) (Transitional n l) ms ns (inr (inr (inr (inr (m, d, k, is_x, is_y, other))))) = absurd cc
+wrong_succession (Transitional n l) (Regular c) ms ns (inl (r, s)) = absurd r
+wrong_succession (Transitional n l) (Regular c) ms ns (inr (inl (s, t))) = absurd t
+wrong_succession (Transitional n l) (Regular c) ms ns (inr (inr (inl (r, t, never)))) = absurd r
+wrong_succession (Transitional n l) (Regular c) ms ns (inr (inr (inr (inl (t, r, never))))) = inl never
+wrong_succession (Transitional n l) (Regular c) ms ns (inr (inr (inr (inr (m, d, k, is_x, is_y, other))))) = inr (λ e. other cc)
+wrong_succession (Transitional n l) (Transitional m k) ms ns h = tt
 
-pub wrong_neighbours : (log : List Entry) (i j : ℕ) (x y : ConfId) (ms ns : List ℕ) → ChangesNext log i j x y ms ns → IsWrongTurn x ms y ns → AreWrongNeighbours log i j
-wrong_neighbours log i j (Regular c) (Regular d) ms ns turn w = (Regular c, Regular d, ms, ns, turn, inl (tt, tt))
-wrong_neighbours log i j (Regular c) (Transitional n l) ms ns turn w = (Regular c, Transitional n l, ms, ns, turn, inr (inr (inl (tt, tt, w))))
-wrong_neighbours log i j (Transitional n l) (Regular c) ms ns turn (inl w) = (Transitional n l, Regular c, ms, ns, turn, inr (inr (inr (inl (tt, tt, w)))))
-wrong_neighbours log i j (Transitional n l) (Regular c) ms ns turn (inr w) = (Transitional n l, Regular c, ms, ns, turn, inr (inr (inr (inr (n, c, l, refl, refl, w)))))
-wrong_neighbours log i j (Transitional n l) (Transitional m k) ms ns turn w = (Transitional n l, Transitional m k, ms, ns, turn, inr (inl (tt, tt)))
+pub wrong_neighbours : (log : List Entry) (i j : ℕ) (x y : ConfId) (ms ns : List ℕ) → ChangesNext log i j x y ms ns → IsWrongSuccession x ms y ns → AreWrongNeighbours log i j
+wrong_neighbours log i j (Regular c) (Regular d) ms ns succession w = (Regular c, Regular d, ms, ns, succession, inl (tt, tt))
+wrong_neighbours log i j (Regular c) (Transitional n l) ms ns succession w = (Regular c, Transitional n l, ms, ns, succession, inr (inr (inl (tt, tt, w))))
+wrong_neighbours log i j (Transitional n l) (Regular c) ms ns succession (inl w) = (Transitional n l, Regular c, ms, ns, succession, inr (inr (inr (inl (tt, tt, w)))))
+wrong_neighbours log i j (Transitional n l) (Regular c) ms ns succession (inr w) = (Transitional n l, Regular c, ms, ns, succession, inr (inr (inr (inr (n, c, l, refl, refl, w)))))
+wrong_neighbours log i j (Transitional n l) (Transitional m k) ms ns succession w = (Transitional n l, Transitional m k, ms, ns, succession, inr (inl (tt, tt)))
 
-same_wrong : (x x' y y' : ConfId) (ms ms' ns ns' : List ℕ) → x' ≡ x → ms' ≡ ms → y' ≡ y → ns' ≡ ns → IsWrongTurn x' ms' y' ns' → IsWrongTurn x ms y ns
+same_wrong : (x x' y y' : ConfId) (ms ms' ns ns' : List ℕ) → x' ≡ x → ms' ≡ ms → y' ≡ y → ns' ≡ ns → IsWrongSuccession x' ms' y' ns' → IsWrongSuccession x ms y ns
 same_wrong x x' y y' ms ms' ns ns' a b c d h =
-    let P : ConfId → List ℕ → ConfId → List ℕ → Type 0 = λ x ms y ns. IsWrongTurn x ms y ns in
+    let P : ConfId → List ℕ → ConfId → List ℕ → Type 0 = λ x ms y ns. IsWrongSuccession x ms y ns in
     let e : P x' ms' y' ns' ≡ P x ms y ns = cc in
     rw e at h
 
--- a right turn is the neighbour of no wrong one
-pub right_not_wrong : (log : List Entry) (i j k : ℕ) (x y : ConfId) (ms ns : List ℕ) → ChangesNext log i j x y ms ns → (IsWrongTurn x ms y ns → ⊥) → AreWrongNeighbours log i k → ⊥
-right_not_wrong log i j k x y ms ns turn right (x', y', ms', ns', turn', how) =
-    let one = one_turn log i k j x' x y' y ms' ms ns' ns turn' turn in
-    right (same_wrong x x' y y' ms ms' ns ns' one.conf one.members one.next one.next_members (wrong_turn x' y' ms' ns' how))
+-- a right succession is the neighbour of no wrong one
+pub right_not_wrong : (log : List Entry) (i j k : ℕ) (x y : ConfId) (ms ns : List ℕ) → ChangesNext log i j x y ms ns → (IsWrongSuccession x ms y ns → ⊥) → AreWrongNeighbours log i k → ⊥
+right_not_wrong log i j k x y ms ns succession right (x', y', ms', ns', succession', how) =
+    let one = one_succession log i k j x' x y' y ms' ms ns' ns succession' succession in
+    right (same_wrong x x' y y' ms ms' ns ns' one.conf one.members one.next one.next_members (wrong_succession x' y' ms' ns' how))
 
-pub turn_within : (log : List Entry) (i j : ℕ) (x y : ConfId) (ms ns : List ℕ) → ChangesNext log i j x y ms ns → i < length log
-turn_within log i j x y ms ns turn = slice_get_within log i (Conf x ms) turn.first
+pub succession_within : (log : List Entry) (i j : ℕ) (x y : ConfId) (ms ns : List ℕ) → ChangesNext log i j x y ms ns → i < length log
+succession_within log i j x y ms ns succession = slice_get_within log i (Conf x ms) succession.first
 
 place_of : (p j k : ℕ) (f : Place) → p ≡ f.proc → f.at ≡ k + 1 → j ≡ k → place p j ≡ f
 place_of p j k f procs at same = rw (procs, same, ← at) refl
 
-pub turn_of_rest : (run : List Log) (p i j : ℕ) (rest : List Place) → IsTurnRest run p i j rest → (x y : ConfId) × (ms ns : List ℕ) × ChangesNext (log_of run p) i j x y ms ns
-turn_of_rest run p i j [] (x, y, ms, ns, turn, how) = (x, y, ms, ns, turn)
-turn_of_rest run p i j (g ∷ rest) (c, t, ms, ns, moves, turn, other) = (Regular c, t, ms, ns, turn)
+pub succession_of_rest : (run : List Log) (p i j : ℕ) (rest : List Place) → IsTurnRest run p i j rest → (x y : ConfId) × (ms ns : List ℕ) × ChangesNext (log_of run p) i j x y ms ns
+succession_of_rest run p i j [] (x, y, ms, ns, succession, how) = (x, y, ms, ns, succession)
+succession_of_rest run p i j (g ∷ rest) (c, t, ms, ns, moves, succession, other) = (Regular c, t, ms, ns, succession)
 
--- no list begins where no turn is, and no log begins
-pub none_without_turn : (run : List Log) (p i : ℕ) → (BeginsTransitional (log_of run p) i → ⊥) → HasNoTurn (log_of run p) i → NoneFrom (IsTurnFault run) p i
-none_without_turn run p i not_first never = record { none = λ rest h. go rest h }
+-- no list begins where no succession is, and no log begins
+pub none_without_succession : (run : List Log) (p i : ℕ) → (BeginsTransitional (log_of run p) i → ⊥) → HasNoSuccession (log_of run p) i → NoneFrom (IsTurnFault run) p i
+none_without_succession run p i not_first never = record { none = λ rest h. go rest h }
   where
     at_index : (k : ℕ) (f : Place) (rest : List Place) (j : ℕ) → k ≡ i → IsTurnRest run p k j rest → ⊥
-    at_index k f rest j same h = let found = turn_of_rest run p i j rest (rw same at h) in never.none j found.0 found.1 found.2 found.3 found.4
+    at_index k f rest j same h = let found = succession_of_rest run p i j rest (rw same at h) in never.none j found.0 found.1 found.2 found.3 found.4
 
     go : (rest : List Place) → IsTurnFault run (place p i ∷ rest) → ⊥
     go [] (k, is, h) = let same : k ≡ i = omega arith in not_first (rw same at h)
@@ -150,22 +150,22 @@ none_without_turn run p i not_first never = record { none = λ rest h. go rest h
 
 -- no list begins with what is no change
 pub none_without_change : (run : List Log) (p i : ℕ) → (IsChange (log_of run p) i → ⊥) → NoneFrom (IsTurnFault run) p i
-none_without_change run p i never = none_without_turn run p i (λ (x, change, moves, none). never (x, change)) (record { none = λ j x y ms ns turn. never (x, (ms, turn.first)) })
+none_without_change run p i never = none_without_succession run p i (λ (x, change, moves, none). never (x, change)) (record { none = λ j x y ms ns succession. never (x, (ms, succession.first)) })
 
 -- the list ends with a change that may not be the next one
-pub wrong_here : (run : List Log) (p i j : ℕ) (x y : ConfId) (ms ns : List ℕ) → (BeginsTransitional (log_of run p) i → ⊥) → ChangesNext (log_of run p) i j x y ms ns → IsWrongTurn x ms y ns
+pub wrong_here : (run : List Log) (p i j : ℕ) (x y : ConfId) (ms ns : List ℕ) → (BeginsTransitional (log_of run p) i → ⊥) → ChangesNext (log_of run p) i j x y ms ns → IsWrongSuccession x ms y ns
     → IsLeastFrom (IsTurnFault run) p i (place p j ∷ [])
-wrong_here run p i j x y ms ns not_first turn w = record {
+wrong_here run p i j x y ms ns not_first succession w = record {
   least = record {
-    holds = (i, refl, (j, refl, (refl, wrong_neighbours (log_of run p) i j x y ms ns turn w)));
+    holds = (i, refl, (j, refl, (refl, wrong_neighbours (log_of run p) i j x y ms ns succession w)));
     first = λ others h. go others h;
   };
 }
   where
     at_index : (k l : ℕ) (f : Place) (rest : List Place) → k ≡ i → p ≡ f.proc → f.at ≡ l + 1 → IsTurnRest run p k l rest → ComesFirst (place p j ∷ []) (f ∷ rest)
     at_index k l f rest same procs at h =
-        let found = turn_of_rest run p i l rest (rw same at h) in
-        let one = one_turn (log_of run p) i j l x found.0 y found.1 ms found.2 ns found.3 turn found.4 in
+        let found = succession_of_rest run p i l rest (rw same at h) in
+        let one = one_succession (log_of run p) i j l x found.0 y found.1 ms found.2 ns found.3 succession found.4 in
         inr (place_of p j l f procs at one.at, tt)
 
     go : (others : List Place) → IsTurnFault run (place p i ∷ others) → ComesFirst (place p j ∷ []) others
@@ -173,14 +173,14 @@ wrong_here run p i j x y ms ns not_first turn w = record {
     go (f ∷ rest) (k, is, (l, ls, (procs, h))) = at_index k l f rest (omega arith) procs ls h
 
 -- it may be the next one, and no other log comes there from elsewhere
-pub none_after_right : (run : List Log) (p i j : ℕ) (x y : ConfId) (ms ns : List ℕ) → (BeginsTransitional (log_of run p) i → ⊥) → ChangesNext (log_of run p) i j x y ms ns → (IsWrongTurn x ms y ns → ⊥)
+pub none_after_right : (run : List Log) (p i j : ℕ) (x y : ConfId) (ms ns : List ℕ) → (BeginsTransitional (log_of run p) i → ⊥) → ChangesNext (log_of run p) i j x y ms ns → (IsWrongSuccession x ms y ns → ⊥)
     → ((c : RingId) → x ≡ Regular c → HoldsOfNone (IsOtherOrigin run p c y)) → NoneFrom (IsTurnFault run) p i
-none_after_right run p i j x y ms ns not_first turn right none_else = record { none = λ rest h. go rest h }
+none_after_right run p i j x y ms ns not_first succession right none_else = record { none = λ rest h. go rest h }
   where
     at_index : (k l : ℕ) (rest : List Place) → k ≡ i → IsTurnRest run p k l rest → ⊥
-    at_index k l [] same h = right_not_wrong (log_of run p) i j l x y ms ns turn right (rw same at h)
-    at_index k l (g ∷ rest) same (c, t, ks, ls, moves, turn', other) =
-        let one = one_turn (log_of run p) i j l x (Regular c) y t ms ks ns ls turn (rw same at turn') in
+    at_index k l [] same h = right_not_wrong (log_of run p) i j l x y ms ns succession right (rw same at h)
+    at_index k l (g ∷ rest) same (c, t, ks, ls, moves, succession', other) =
+        let one = one_succession (log_of run p) i j l x (Regular c) y t ms ks ns ls succession (rw same at succession') in
         (none_else c one.conf).none (g ∷ rest) (other_at g rest c t (sym one.next) other)
       where
         other_at : (g : Place) (rest : List Place) (c : RingId) (t : ConfId) → t ≡ y → IsOtherOrigin run p c t (g ∷ rest) → IsOtherOrigin run p c y (g ∷ rest)
@@ -192,8 +192,8 @@ none_after_right run p i j x y ms ns not_first turn right none_else = record { n
 
 -- it may be the next one, and another log comes there from elsewhere
 pub some_after_right : (run : List Log) (p i j : ℕ) (x y : ConfId) (ms ns : List ℕ) (c : RingId) (rest : List Place) → (BeginsTransitional (log_of run p) i → ⊥) → ChangesNext (log_of run p) i j x y ms ns
-    → (IsWrongTurn x ms y ns → ⊥) → x ≡ Regular c → IsLeast (IsOtherOrigin run p c y) rest → IsLeastFrom (IsTurnFault run) p i (place p j ∷ rest)
-some_after_right run p i j x y ms ns c rest not_first turn right is_c least = record {
+    → (IsWrongSuccession x ms y ns → ⊥) → x ≡ Regular c → IsLeast (IsOtherOrigin run p c y) rest → IsLeastFrom (IsTurnFault run) p i (place p j ∷ rest)
+some_after_right run p i j x y ms ns c rest not_first succession right is_c least = record {
   least = record {
     holds = (i, refl, (j, refl, (refl, known rest least.holds)));
     first = λ others h. go others h;
@@ -206,16 +206,16 @@ some_after_right run p i j x y ms ns c rest not_first turn right is_c least = re
 
     known : (rest : List Place) → IsOtherOrigin run p c y rest → IsTurnRest run p i j rest
     known [] h = absurd h
-    known (g ∷ more) h = (c, y, ms, ns, moves_on y refl, rw is_c at turn, h)
+    known (g ∷ more) h = (c, y, ms, ns, moves_on y refl, rw is_c at succession, h)
 
     other_at : (g : Place) (more : List Place) (d : RingId) (t : ConfId) → d ≡ c → t ≡ y → IsOtherOrigin run p d t (g ∷ more) → IsOtherOrigin run p c y (g ∷ more)
     other_at g more d t a b h = let P : RingId → ConfId → Type 0 = λ e z. IsOtherOrigin run p e z (g ∷ more) in
         let both : P d t ≡ P c y = cc in rw both at h
 
     at_index : (k l : ℕ) (f : Place) (more : List Place) → k ≡ i → p ≡ f.proc → f.at ≡ l + 1 → IsTurnRest run p k l more → ComesFirst (place p j ∷ rest) (f ∷ more)
-    at_index k l f [] same procs at h = absurd (right_not_wrong (log_of run p) i j l x y ms ns turn right (rw same at h))
-    at_index k l f (g ∷ more) same procs at (d, t, ks, ls, moves, turn', other) =
-        let one = one_turn (log_of run p) i j l x (Regular d) y t ms ks ns ls turn (rw same at turn') in
+    at_index k l f [] same procs at h = absurd (right_not_wrong (log_of run p) i j l x y ms ns succession right (rw same at h))
+    at_index k l f (g ∷ more) same procs at (d, t, ks, ls, moves, succession', other) =
+        let one = one_succession (log_of run p) i j l x (Regular d) y t ms ks ns ls succession (rw same at succession') in
         let rings : d ≡ c = (let e : Regular d ≡ Regular c = sym one.conf ∙ is_c in cc) in
         inr (place_of p j l f procs at one.at, least.first (g ∷ more) (other_at g more d t rings (sym one.next) other))
 
@@ -233,7 +233,7 @@ others_begin run p c t = record { each = λ places h. go places h }
     go : (places : List Place) → IsOtherOrigin run p c t places → Begins run places
     go [] h = absurd h
     go (g ∷ []) h = absurd h
-    go (g ∷ h ∷ []) (k, is, (l, ls, (same, (lt, d, ks, ls', never, turn)))) = begins_at run g k (h ∷ []) is (turn_within (log_of run g.proc) k l (Regular d) t ks ls' turn)
+    go (g ∷ h ∷ []) (k, is, (l, ls, (same, (lt, d, ks, ls', never, succession)))) = begins_at run g k (h ∷ []) is (succession_within (log_of run g.proc) k l (Regular d) t ks ls' succession)
     go (g ∷ h ∷ f ∷ more) b = absurd b
 
 no_other : (run : List Log) (p : ℕ) (c : RingId) (t : ConfId) (q k : ℕ) → ((l : ℕ) → ComesFromElsewhere run p c t q k l → ⊥) → NoneFrom (IsOtherOrigin run p c t) q k
@@ -250,31 +250,31 @@ no_other run p c t q k never = record { none = λ rest h. go rest h }
 pub no_other_below : (run : List Log) (p : ℕ) (c : RingId) (t : ConfId) (q k : ℕ) → q ≤ p → NoneFrom (IsOtherOrigin run p c t) q k
 no_other_below run p c t q k le = no_other run p c t q k (λ l h. let lt = h.0 in omega arith)
 
-pub no_other_without_turn : (run : List Log) (p : ℕ) (c : RingId) (t : ConfId) (q k : ℕ) → HasNoTurn (log_of run q) k → NoneFrom (IsOtherOrigin run p c t) q k
-no_other_without_turn run p c t q k none = no_other run p c t q k (λ l (lt, d, ks, ls, never, turn). none.none l (Regular d) t ks ls turn)
+pub no_other_without_succession : (run : List Log) (p : ℕ) (c : RingId) (t : ConfId) (q k : ℕ) → HasNoSuccession (log_of run q) k → NoneFrom (IsOtherOrigin run p c t) q k
+no_other_without_succession run p c t q k none = no_other run p c t q k (λ l (lt, d, ks, ls, never, succession). none.none l (Regular d) t ks ls succession)
 
 pub no_other_from_here : (run : List Log) (p : ℕ) (c : RingId) (t : ConfId) (q k j : ℕ) (x y : ConfId) (ms ns : List ℕ) → ChangesNext (log_of run q) k j x y ms ns → (IsOfOtherRing c x → ⊥) → NoneFrom (IsOtherOrigin run p c t) q k
-no_other_from_here run p c t q k j x y ms ns turn never = no_other run p c t q k (λ l (lt, d, ks, ls, other, turn').
-    let one = one_turn (log_of run q) k l j (Regular d) x t y ks ms ls ns turn' turn in
+no_other_from_here run p c t q k j x y ms ns succession never = no_other run p c t q k (λ l (lt, d, ks, ls, other, succession').
+    let one = one_succession (log_of run q) k l j (Regular d) x t y ks ms ls ns succession' succession in
     let P : ConfId → Type 0 = λ z. IsOfOtherRing c z in never (subst P one.conf other))
 
 pub no_other_to_there : (run : List Log) (p : ℕ) (c : RingId) (t : ConfId) (q k j : ℕ) (x y : ConfId) (ms ns : List ℕ) → ChangesNext (log_of run q) k j x y ms ns → (y ≡ t → ⊥) → NoneFrom (IsOtherOrigin run p c t) q k
-no_other_to_there run p c t q k j x y ms ns turn never = no_other run p c t q k (λ l (lt, d, ks, ls, other, turn').
-    never (sym (one_turn (log_of run q) k l j (Regular d) x t y ks ms ls ns turn' turn).next))
+no_other_to_there run p c t q k j x y ms ns succession never = no_other run p c t q k (λ l (lt, d, ks, ls, other, succession').
+    never (sym (one_succession (log_of run q) k l j (Regular d) x t y ks ms ls ns succession' succession).next))
 
 pub other_here : (run : List Log) (p : ℕ) (c : RingId) (t : ConfId) (q k j : ℕ) (x y : ConfId) (ms ns : List ℕ) → p < q → ChangesNext (log_of run q) k j x y ms ns → IsOfOtherRing c x → y ≡ t
     → IsLeastFrom (IsOtherOrigin run p c t) q k (place q j ∷ [])
-other_here run p c t q k j (Transitional n l) y ms ns lt turn other same = absurd other
-other_here run p c t q k j (Regular d) y ms ns lt turn other same = record {
+other_here run p c t q k j (Transitional n l) y ms ns lt succession other same = absurd other
+other_here run p c t q k j (Regular d) y ms ns lt succession other same = record {
   least = record {
-    holds = (k, refl, (j, refl, (refl, (lt, d, ms, ns, other, rw same at turn))));
+    holds = (k, refl, (j, refl, (refl, (lt, d, ms, ns, other, rw same at succession))));
     first = λ others h. go others h;
   };
 }
   where
     at_index : (m l : ℕ) (f : Place) → m ≡ k → q ≡ f.proc → f.at ≡ l + 1 → ComesFromElsewhere run p c t q m l → ComesFirst (place q j ∷ []) (f ∷ [])
-    at_index m l f same_at procs at (lt', e, ks, ls, never, turn') =
-        let one = one_turn (log_of run q) k j l (Regular d) (Regular e) y t ms ks ns ls turn (rw same_at at turn') in
+    at_index m l f same_at procs at (lt', e, ks, ls, never, succession') =
+        let one = one_succession (log_of run q) k j l (Regular d) (Regular e) y t ms ks ns ls succession (rw same_at at succession') in
         inr (place_of q j l f procs at one.at, tt)
 
     go : (others : List Place) → IsOtherOrigin run p c t (place q k ∷ others) → ComesFirst (place q j ∷ []) others

@@ -11,12 +11,12 @@ use Rattle.totem_evs.specs.declared.entry.Entry.{Entry}
 use Rattle.totem_evs.specs.declared.log.Log.{Log}
 use Rattle.totem_evs.specs.Events.{log_of, ChangesTo}
 use Rattle.totem_evs.specs.Following.{Follows}
-use Rattle.totem_passes.specs.declared.keys.Visit.{Visit}
+use Rattle.totem_passes.specs.declared.keys.Change.{Change}
 
--- p's change at i to a regular configuration is among the visits
-pub record KnowsVisit (by_visit : Visit → Visit → Ordering) (visits : BTreeSet Visit) (p : ℕ) (log : List Entry) (i : ℕ) : Type 0 where
-  pub each : (c : RingId) → ChangesTo log i (Regular c) → IsTrue (sorted.contains by_visit visits (record { proc = p; conf = Regular c }))
+-- p's change at i to a regular configuration is among the changes
+pub record KnowsRegularChange (by_change : Change → Change → Ordering) (changes : BTreeSet Change) (p : ℕ) (log : List Entry) (i : ℕ) : Type 0 where
+  pub each : (c : RingId) → ChangesTo log i (Regular c) → IsTrue (sorted.contains by_change changes (record { proc = p; conf = Regular c }))
 
 -- each configuration that is kept follows the regular one of its ring in the log of its process
-pub record AreFollowed (by_visit : Visit → Visit → Ordering) (rings : BTreeMap Visit RingId) (run : List Log) : Type 0 where
-  pub each : (v : Visit) (c : RingId) → tree.get by_visit rings v ≡ Some c → Follows (log_of run v.proc) c v.conf
+pub record AreFollowed (by_change : Change → Change → Ordering) (rings : BTreeMap Change RingId) (run : List Log) : Type 0 where
+  pub each : (v : Change) (c : RingId) → tree.get by_change rings v ≡ Some c → Follows (log_of run v.proc) c v.conf

@@ -6,12 +6,12 @@ use Rattle.totem_ids.specs.declared.conf.ConfId.{ConfId}
 use Rattle.totem_ids.specs.declared.place.Place.{Place}
 use Rattle.totem_evs.specs.declared.entry.Entry.{Entry}
 use Rattle.totem_evs.specs.Events.{ChangesWith}
-use Rattle.totem_passes.specs.declared.keys.Visit.{Visit}
+use Rattle.totem_passes.specs.declared.keys.Change.{Change}
 use Rattle.totem_passes.specs.Met.{Knows}
 use Rattle.totem_passes.specs.Search.{place}
 
--- the place of p's change is met under p's visit, and its members under the configuration
-pub record KnowsChange (by_visit : Visit → Visit → Ordering) (by_conf : ConfId → ConfId → Ordering) (visits : BTreeMap Visit (Option Place)) (members : BTreeMap ConfId (Option (List ℕ)))
+-- the place of p's change is met under p and its configuration, and its members under the configuration
+pub record KnowsChange (by_change : Change → Change → Ordering) (by_conf : ConfId → ConfId → Ordering) (changes : BTreeMap Change (Option Place)) (members : BTreeMap ConfId (Option (List ℕ)))
     (p : ℕ) (log : List Entry) (i : ℕ) : Type 0 where
-  pub visited : (x : ConfId) (ms : List ℕ) → ChangesWith log i x ms → Knows by_visit visits (record { proc = p; conf = x }) (place p i)
+  pub placed : (x : ConfId) (ms : List ℕ) → ChangesWith log i x ms → Knows by_change changes (record { proc = p; conf = x }) (place p i)
   pub formed : (x : ConfId) (ms : List ℕ) → ChangesWith log i x ms → Knows by_conf members x ms

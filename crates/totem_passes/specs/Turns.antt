@@ -13,14 +13,14 @@ use Rattle.totem_evs.specs.ChangeFaults.{BeginsTransitional, AreWrongNeighbours}
 use Rattle.totem_evs.specs.Places.{At}
 
 -- the second of these may not come next after the first
-abbrev pub IsWrongTurn : ConfId → List ℕ → ConfId → List ℕ → Type 0
-IsWrongTurn (Regular c) ms (Regular d) ns = Unit {0}
-IsWrongTurn (Regular c) ms (Transitional next least) ns = All (Contains ms) ns → ⊥
-IsWrongTurn (Transitional next least) ms (Regular c) ns = (All (Contains ns) ms → ⊥) ⊎ (c ≢ next)
-IsWrongTurn (Transitional next least) ms (Transitional later other) ns = Unit {0}
+abbrev pub IsWrongSuccession : ConfId → List ℕ → ConfId → List ℕ → Type 0
+IsWrongSuccession (Regular c) ms (Regular d) ns = Unit {0}
+IsWrongSuccession (Regular c) ms (Transitional next least) ns = All (Contains ms) ns → ⊥
+IsWrongSuccession (Transitional next least) ms (Regular c) ns = (All (Contains ns) ms → ⊥) ⊎ (c ≢ next)
+IsWrongSuccession (Transitional next least) ms (Transitional later other) ns = Unit {0}
 
 -- the entry at i is no change, or none comes after it
-pub record HasNoTurn (log : List Entry) (i : ℕ) : Type 0 where
+pub record HasNoSuccession (log : List Entry) (i : ℕ) : Type 0 where
   pub none : (j : ℕ) (x y : ConfId) (ms ns : List ℕ) → ChangesNext log i j x y ms ns → ⊥
 
 -- the regular configuration of another ring than c

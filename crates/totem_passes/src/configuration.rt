@@ -11,8 +11,9 @@ ghost use Rattle.totem_passes.specs.Forms.{KnowsChange};
 use crate::change_register::enter_changes;
 use crate::change_search::{ChangeRelation, least_change};
 use crate::forms::Forms;
-use crate::keys::Visit;
+use crate::keys::Change;
 use crate::pairs::{Standing, Test, bad_from};
+use crate::search::places_of;
 use std::alloc::{AllocError, Global};
 use totem_evs::{Entry, Places, Run, SpecNo};
 use totem_ids::{ConfId, Place, Proc};
@@ -24,7 +25,7 @@ use totem_table::Changes;
 struct TwoForms<'r> {
     run: &'r Run,
     forms: Forms,
-    ghost known: { ∥ KnowsRun (KnowsChange ⟦<Visit as Ord>⟧.cmp ⟦<ConfId as Ord>⟧.cmp forms.visits.values forms.members.values) run.now.logs ∥₁ },
+    ghost known: { ∥ KnowsRun (KnowsChange ⟦<Change as Ord>⟧.cmp ⟦<ConfId as Ord>⟧.cmp forms.changes.values forms.members.values) run.now.logs ∥₁ },
 }
 
 impl Test for TwoForms<'_> {
@@ -64,8 +65,8 @@ impl Test for TwoForms<'_> {
             proc,
             at: (first.at + 1) as u32,
         };
-        let visit = Visit { proc, conf: *conf };
-        !self.forms.visits.is_only(&visit, &place) || !self.forms.members.is_only(conf, members)
+        let change = Change { proc, conf: *conf };
+        !self.forms.changes.is_only(&change, &place) || !self.forms.members.is_only(conf, members)
     }
 }
 
@@ -99,10 +100,7 @@ fn least_form(
     ensures { IfOk result (λ found. MatchOption found (HoldsOfNone (IsOneOrTwo two_forms.now.run.now.logs IsForeignChange AreTwoForms))
         (IsLeast (IsOneOrTwo two_forms.now.run.now.logs IsForeignChange AreTwoForms))) }
 {
-    match least_change(two_forms, alloc, two_forms.run, changes)? {
-        None => Ok(None),
-        Some(list) => Ok(Some(Places::new(list))),
-    }
+    Ok(places_of(least_change(two_forms, alloc, two_forms.run, changes)?))
 }
 
 /// Finds the least events that break 2.3.

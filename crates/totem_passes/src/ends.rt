@@ -225,10 +225,6 @@ pub fn find(alloc: Global, run: &Run) -> Result<Option<Places>, AllocError>
     let ends = ends_of(alloc, run)?;
     match first_of(run, &ends) {
         None => Ok(None),
-        Some(place) => {
-            let mut list = Vec::new(alloc);
-            list.push(place)?;
-            Ok(Some(Places::new(list)))
-        }
+        Some(place) => Ok(Some(Places::new(vec![in alloc; place]?))),
     }
 }

@@ -4,7 +4,7 @@ ghost use Rattle.totem_evs.specs.Following.{IsFirstChange, Follows, Com};
 ghost use Rattle.totem_passes.specs.Sent.{IsChangeTo, NeverChangesTo};
 
 use crate::kinds::is_transitional;
-use crate::turn::turn_at;
+use crate::succession::succession_at;
 use totem_evs::Entry;
 use totem_ids::{ConfId, RingId};
 
@@ -40,10 +40,10 @@ fn follows(log: &[Entry], ring: &RingId, conf: &ConfId) -> bool
     let Some(first) = first_change(log, ring) else {
         return false;
     };
-    let Some(turn) = turn_at(log, first) else {
+    let Some(succession) = succession_at(log, first) else {
         return false;
     };
-    turn.next.is(conf)
+    succession.next.is(conf)
 }
 
 /// Returns whether `conf` is the regular configuration of the ring, or what follows that one in this log.

@@ -1,11 +1,11 @@
 //! Which regular configuration each transitional one follows in a log (docs/SPECIFICATIONS.md, "Following").
 ghost use Rattle.std.specs.Prelude.{◌≡◌, ◌↔◌, IsTrue};
-ghost use Rattle.totem_passes.specs.Followed.{KnowsVisit, AreFollowed};
+ghost use Rattle.totem_passes.specs.Followed.{KnowsRegularChange, AreFollowed};
 
 use crate::change_register::ChangeRegister;
-use crate::keys::Visit;
+use crate::keys::Change;
 use crate::kinds::is_transitional;
-use crate::turn::turn_between;
+use crate::succession::succession_between;
 use std::alloc::{AllocError, Global};
 use std::collections::{BTreeMap, BTreeSet};
 use totem_evs::Entry;
@@ -15,8 +15,8 @@ use totem_ids::{ConfId, Proc, RingId};
 /// of the regular one that it follows there.
 #[derive(Drop)]
 pub struct Followed {
-    pub visits: BTreeSet<Visit>,
-    pub rings: BTreeMap<Visit, RingId>,
+    pub changes: BTreeSet<Change>,
+    pub rings: BTreeMap<Change, RingId>,
 }
 
 impl Followed {
@@ -24,20 +24,20 @@ impl Followed {
     ghost use Rattle.std.specs.BTreeSet as sorted;
 
     pub fn new(alloc: Global) -> Followed
-        ensures visits { sorted.IsEmpty result.visits }
+        ensures changes { sorted.IsEmpty result.changes }
         ensures rings { IsEmpty result.rings }
     {
         Followed {
-            visits: BTreeSet::new(alloc),
+            changes: BTreeSet::new(alloc),
             rings: BTreeMap::new(alloc),
         }
     }
 }
 
 impl ChangeRegister for Followed {
-    ghost sound = { λ s. AreFollowed ⟦<Visit as Ord>⟧.cmp s.rings };
+    ghost sound = { λ s. AreFollowed ⟦<Change as Ord>⟧.cmp s.rings };
 
-    ghost knows = { λ s. KnowsVisit ⟦<Visit as Ord>⟧.cmp s.visits };
+    ghost knows = { λ s. KnowsRegularChange ⟦<Change as Ord>⟧.cmp s.changes };
 
     fn spares(&self) {}
 
@@ -57,15 +57,15 @@ impl ChangeRegister for Followed {
         };
         let ring = *ring;
         let conf = ConfId::Regular(ring);
-        if !self.visits.insert(Visit { proc, conf })? {
+        if !self.changes.insert(Change { proc, conf })? {
             return Ok(());
         }
-        let Some(turn) = turn_between(log, at, next) else {
+        let Some(succession) = succession_between(log, at, next) else {
             return Ok(());
         };
-        if is_transitional(turn.next) {
-            let conf = *turn.next;
-            self.rings.insert(Visit { proc, conf }, ring)?;
+        if is_transitional(succession.next) {
+            let conf = *succession.next;
+            self.rings.insert(Change { proc, conf }, ring)?;
         }
         Ok(())
     }

@@ -3,7 +3,7 @@ ghost use Rattle.std.specs.Prelude.{◌≡◌, ℕ, ◌<◌, List};
 ghost use Rattle.totem_passes.specs.Forms.{KnowsChange};
 
 use crate::change_register::ChangeRegister;
-use crate::keys::Visit;
+use crate::keys::Change;
 use crate::met::{Met, Same};
 use std::alloc::{AllocError, Global};
 use totem_evs::{Entry, Members};
@@ -19,7 +19,7 @@ impl Same for Members {
 /// several, it keeps only that there are several.
 #[derive(Drop)]
 pub struct Forms {
-    pub visits: Met<Visit, Place>,
+    pub changes: Met<Change, Place>,
     pub members: Met<ConfId, Members>,
 }
 
@@ -27,11 +27,11 @@ impl Forms {
     ghost use Rattle.std.specs.BTreeMap.{IsEmpty};
 
     pub fn new(alloc: Global) -> Forms
-        ensures visits { IsEmpty result.visits.values }
+        ensures changes { IsEmpty result.changes.values }
         ensures members { IsEmpty result.members.values }
     {
         Forms {
-            visits: Met::new(alloc),
+            changes: Met::new(alloc),
             members: Met::new(alloc),
         }
     }
@@ -40,7 +40,7 @@ impl Forms {
 impl ChangeRegister for Forms {
     ghost sound = { λ s run. Unit {0} };
 
-    ghost knows = { λ s. KnowsChange ⟦<Visit as Ord>⟧.cmp ⟦<ConfId as Ord>⟧.cmp s.visits.values s.members.values };
+    ghost knows = { λ s. KnowsChange ⟦<Change as Ord>⟧.cmp ⟦<ConfId as Ord>⟧.cmp s.changes.values s.members.values };
 
     fn spares(&self) {}
 
@@ -60,7 +60,7 @@ impl ChangeRegister for Forms {
             return Ok(());
         };
         let conf = *conf;
-        self.visits.meet(Visit { proc, conf }, place)?;
+        self.changes.meet(Change { proc, conf }, place)?;
         self.members.meet(conf, members.try_clone(alloc)?)?;
         Ok(())
     }

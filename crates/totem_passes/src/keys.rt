@@ -15,9 +15,9 @@ pub struct Sending {
     pub ring: RingId,
 }
 
-/// A configuration, and a process that changes to it.
+/// A change of configuration: who changes, and to what.
 #[derive(Clone, Copy, Debug, PartialEq, Eq, PartialOrd, Ord)]
-pub struct Visit {
+pub struct Change {
     pub proc: Proc,
     pub conf: ConfId,
 }

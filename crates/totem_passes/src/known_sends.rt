@@ -11,7 +11,7 @@ ghost use Rattle.totem_passes.specs.Sent.{WasSentTo, IsSendIn, IsSentBy, IsSentH
 
 use crate::change_register::enter_changes;
 use crate::followed::Followed;
-use crate::keys::Visit;
+use crate::keys::Change;
 use std::alloc::{AllocError, Global};
 use totem_evs::{Entry, Log, Run};
 use totem_ids::{ConfId, MsgId, Proc, RingId};
@@ -124,14 +124,14 @@ fn is_known(
     conf: &ConfId,
 ) -> bool
     requires sends { AreKnownSends run.now.logs sends.now }
-    requires followed { AreFollowed ⟦<Visit as Ord>⟧.cmp followed.now.rings run.now.logs }
+    requires followed { AreFollowed ⟦<Change as Ord>⟧.cmp followed.now.rings run.now.logs }
     ensures { OnTrue result (WasSentTo run.now.logs (log_of run.now.logs proc) message.now conf.now) }
 {
     match conf {
         ConfId::Regular(ring) => is_sent(run, sends, number, message, *ring),
         ConfId::Transitional { .. } => {
             let conf = *conf;
-            match followed.rings.get(&Visit { proc, conf }) {
+            match followed.rings.get(&Change { proc, conf }) {
                 Some(ring) => is_sent(run, sends, number, message, *ring),
                 None => false,
             }
@@ -149,7 +149,7 @@ fn entry_is_known(
     entry: &Entry,
 ) -> bool
     requires sends { AreKnownSends run.now.logs sends.now }
-    requires followed { AreFollowed ⟦<Visit as Ord>⟧.cmp followed.now.rings run.now.logs }
+    requires followed { AreFollowed ⟦<Change as Ord>⟧.cmp followed.now.rings run.now.logs }
     ensures { OnTrue result (IsSentBy run.now.logs proc entry.now) }
 {
     match entry {
@@ -170,7 +170,7 @@ fn log_is_known(
     row: &[u32],
 ) -> bool
     requires sends { AreKnownSends run.now.logs sends.now }
-    requires followed { AreFollowed ⟦<Visit as Ord>⟧.cmp followed.now.rings run.now.logs }
+    requires followed { AreFollowed ⟦<Change as Ord>⟧.cmp followed.now.rings run.now.logs }
     requires log { log.now ≡ log_of run.now.logs proc }
     ensures { OnTrue result (KnowsLog (IsSentHere run.now.logs) proc log.now (length log.now)) }
 {
@@ -185,7 +185,7 @@ fn log_is_known(
 /// Whether all that the logs of the run deliver is known to be sent for it.
 fn all_known(run: &Run, sends: &[Option<KnownSend>], followed: &Followed, rows: &[Row]) -> bool
     requires sends { AreKnownSends run.now.logs sends.now }
-    requires followed { AreFollowed ⟦<Visit as Ord>⟧.cmp followed.now.rings run.now.logs }
+    requires followed { AreFollowed ⟦<Change as Ord>⟧.cmp followed.now.rings run.now.logs }
     ensures { OnTrue result (DeliversWhatWasSent run.now.logs) }
 {
     for (k, log) in run.logs.as_slice().iter().enumerate() {

@@ -80,10 +80,6 @@ pub fn find(alloc: Global, run: &Run) -> Result<Option<Places>, AllocError>
 {
     match first_of(run) {
         None => Ok(None),
-        Some(place) => {
-            let mut list = Vec::new(alloc);
-            list.push(place)?;
-            Ok(Some(Places::new(list)))
-        }
+        Some(place) => Ok(Some(Places::new(vec![in alloc; place]?))),
     }
 }

@@ -3,7 +3,7 @@ ghost use Rattle.totem_passes.specs.Origins.{KnowsOrigin};
 
 use crate::change_register::ChangeRegister;
 use crate::met::{Met, Same};
-use crate::turn::turn_between;
+use crate::succession::succession_between;
 use std::alloc::{AllocError, Global};
 use totem_evs::Entry;
 use totem_ids::{ConfId, Proc, RingId};
@@ -48,12 +48,12 @@ impl ChangeRegister for Origins {
         at: usize,
         next: usize,
     ) -> Result<(), AllocError> {
-        let Some(turn) = turn_between(log, at, next) else {
+        let Some(succession) = succession_between(log, at, next) else {
             return Ok(());
         };
-        let ConfId::Regular(ring) = turn.conf else {
+        let ConfId::Regular(ring) = succession.conf else {
             return Ok(());
         };
-        self.rings.meet(*turn.next, *ring)
+        self.rings.meet(*succession.next, *ring)
     }
 }

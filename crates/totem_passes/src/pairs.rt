@@ -9,7 +9,7 @@ ghost use Rattle.totem_evs.specs.Answers.{IsLeast};
 ghost use Rattle.totem_passes.specs.Search.{NoneFrom, IsLeastFrom, HoldsOfNone};
 ghost use Rattle.totem_passes.specs.Pairs.{IsOne, IsOneOrTwo};
 
-use crate::search::{Relation, least};
+use crate::search::{Relation, least, places_of};
 use std::alloc::{AllocError, Global};
 use totem_evs::{Entry, Places, Run};
 use totem_ids::{Place, Proc};
@@ -129,8 +129,5 @@ pub fn least_bad<T: Test>(test: &T, alloc: Global) -> Result<Option<Places>, All
         (IsLeast (IsOneOrTwo (T.of test.now) (T.alone test.now) (T.pair test.now)))) }
 {
     let lists = OneOrTwo { test };
-    match least(&lists, alloc, test.run())? {
-        None => Ok(None),
-        Some(list) => Ok(Some(Places::new(list))),
-    }
+    Ok(places_of(least(&lists, alloc, test.run())?))
 }

@@ -1,12 +1,12 @@
 //! Finds the least list of events of a run for which something holds, place by place.
-ghost use Rattle.std.specs.Prelude.{◌≡◌, ◌<◌, ◌≤◌, IfOk, MatchOption, List, ◌∷◌, length};
+ghost use Rattle.std.specs.Prelude.{◌≡◌, ◌<◌, ◌≤◌, IfOk, MatchOption, List, ◌∷◌, Some, None, length};
 ghost use Rattle.totem_ids.specs.declared.place.Place.{Place};
 ghost use Rattle.totem_evs.specs.declared.log.Log.{Log};
 ghost use Rattle.totem_evs.specs.Events.{log_of};
 ghost use Rattle.totem_passes.specs.Search.{place, NoneFrom, IsLeastFrom, NoneInLog, IsLeastInLog, NoneOf, IsLeastOf};
 
 use std::alloc::{AllocError, Global};
-use totem_evs::{Entry, Run};
+use totem_evs::{Entry, Places, Run};
 use totem_ids::{Place, Proc};
 
 /// A relation on lists of events of one run.
@@ -42,6 +42,13 @@ pub fn begin_at(proc: Proc, at: usize, mut rest: Vec<Place>) -> Result<Vec<Place
     };
     rest.insert(0, first)?;
     Ok(rest)
+}
+
+/// Returns the list that was found as places, or `None` if none was found.
+pub fn places_of(found: Option<Vec<Place>>) -> Option<Places>
+    ensures { MatchOption found (result ≡ None) (λ list. result ≡ Some list.items) }
+{
+    found.map(Places::new)
 }
 
 /// Returns the least list that begins in this log.

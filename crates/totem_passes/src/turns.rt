@@ -12,8 +12,8 @@ use crate::change_register::enter_changes;
 use crate::change_search::{ChangeRelation, least_change};
 use crate::kinds::is_transitional;
 use crate::origins::Origins;
-use crate::search::{Relation, begin_at, least};
-use crate::turn::{is_wrong, turn_at, turn_between};
+use crate::search::{Relation, begin_at, least, places_of};
+use crate::succession::{is_wrong, succession_at, succession_between};
 use std::alloc::{AllocError, Global};
 use totem_evs::{Entry, Places, Run, SpecNo};
 use totem_ids::{ConfId, Place, Proc, RingId};
@@ -66,16 +66,16 @@ impl Relation for OtherOrigins<'_, '_> {
         if proc.rank() <= self.proc.rank() {
             return Ok(None);
         }
-        let Some(turn) = turn_at(log, at) else {
+        let Some(succession) = succession_at(log, at) else {
             return Ok(None);
         };
-        if !is_of_other_ring(turn.conf, &self.ring) {
+        if !is_of_other_ring(succession.conf, &self.ring) {
             return Ok(None);
         }
-        if !turn.next.is(self.conf) {
+        if !succession.next.is(self.conf) {
             return Ok(None);
         }
-        Ok(Some(begin_at(proc, turn.next_at, Vec::new(alloc))?))
+        Ok(Some(begin_at(proc, succession.next_at, Vec::new(alloc))?))
     }
 }
 
@@ -106,27 +106,32 @@ impl ChangeRelation for Turns<'_> {
         if begins_transitional(log, at, is_later) {
             return Ok(Some(Vec::new(alloc)));
         }
-        let Some(turn) = turn_between(log, at, next) else {
+        let Some(succession) = succession_between(log, at, next) else {
             return Ok(None);
         };
-        if is_wrong(turn.conf, turn.members, turn.next, turn.next_members) {
-            return Ok(Some(begin_at(proc, turn.next_at, Vec::new(alloc))?));
+        if is_wrong(
+            succession.conf,
+            succession.members,
+            succession.next,
+            succession.next_members,
+        ) {
+            return Ok(Some(begin_at(proc, succession.next_at, Vec::new(alloc))?));
         }
-        let ConfId::Regular(ring) = turn.conf else {
+        let ConfId::Regular(ring) = succession.conf else {
             return Ok(None);
         };
-        if self.origins.rings.is_only(turn.next, ring) {
+        if self.origins.rings.is_only(succession.next, ring) {
             return Ok(None);
         }
         let others = OtherOrigins {
             run: self.run,
             proc,
             ring: *ring,
-            conf: turn.next,
+            conf: succession.next,
         };
         match least(&others, alloc, self.run)? {
             None => Ok(None),
-            Some(rest) => Ok(Some(begin_at(proc, turn.next_at, rest)?)),
+            Some(rest) => Ok(Some(begin_at(proc, succession.next_at, rest)?)),
         }
     }
 }
@@ -139,8 +144,5 @@ pub fn find(alloc: Global, run: &Run, changes: &Changes) -> Result<Option<Places
     let mut origins = Origins::new(alloc);
     enter_changes(&mut origins, alloc, run, changes)?;
     let turns = Turns { run, origins };
-    match least_change(&turns, alloc, run, changes)? {
-        None => Ok(None),
-        Some(list) => Ok(Some(Places::new(list))),
-    }
+    Ok(places_of(least_change(&turns, alloc, run, changes)?))
 }

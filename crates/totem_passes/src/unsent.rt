@@ -13,10 +13,10 @@ ghost use Rattle.totem_passes.specs.Followed.{AreFollowed};
 use crate::change_register::enter_changes;
 use crate::follow::is_in;
 use crate::followed::Followed;
-use crate::keys::{Sending, Visit};
+use crate::keys::{Change, Sending};
 use crate::known_sends::is_met;
 use crate::register::enter_run;
-use crate::search::{Relation, least};
+use crate::search::{Relation, least, places_of};
 use crate::sendings::Sendings;
 use std::alloc::{AllocError, Global};
 use totem_evs::{Entry, Places, Run, SpecNo};
@@ -94,7 +94,7 @@ struct Unsent<'r> {
     sendings: Sendings,
     followed: Followed,
     ghost sent: { ∥ WereSent ⟦<Sending as Ord>⟧.cmp sendings.sends run.now.logs ∥₁ },
-    ghost follow: { ∥ AreFollowed ⟦<Visit as Ord>⟧.cmp followed.rings run.now.logs ∥₁ },
+    ghost follow: { ∥ AreFollowed ⟦<Change as Ord>⟧.cmp followed.rings run.now.logs ∥₁ },
 }
 
 impl Unsent<'_> {
@@ -113,7 +113,7 @@ impl Unsent<'_> {
             ConfId::Regular(ring) => self.was_sent_in(message, *ring),
             ConfId::Transitional { .. } => {
                 let conf = *conf;
-                match self.followed.rings.get(&Visit { proc, conf }) {
+                match self.followed.rings.get(&Change { proc, conf }) {
                     Some(ring) => self.was_sent_in(message, *ring),
                     None => false,
                 }
@@ -170,8 +170,5 @@ pub fn find(
         sendings,
         followed,
     };
-    match least(&unsent, alloc, run)? {
-        None => Ok(None),
-        Some(list) => Ok(Some(Places::new(list))),
-    }
+    Ok(places_of(least(&unsent, alloc, run)?))
 }

@@ -1,11 +1,11 @@
-use Rattle.totem_passes.proofs.Starting.{none_of_all, least_of_all}
+use Rattle.totem_evs.specs.Answers.{Finds}
+use Rattle.totem_evs.specs.declared.spec.SpecNo.TheVariants as spec
+use Rattle.totem_passes.proofs.Starting.{none_of_all, least_of_all, told_as_places}
 use Rattle.totem_passes.proofs.TurnFaults.{least_of_more, turn_faults_break, breaks_have_turn_faults, turn_faults_begin, no_turn_faults}
 use Rattle.totem_passes.proofs.turns.find.Goals as goal
 
-pub returns-in-None : goal.returns-in-None
-returns-in-None c = no_turn_faults c.args.run.now.logs (none_of_all _ _ (turn_faults_begin _) (rw c.in-None.is at c.in_ok-least_change.ensures))
-
 pub returns : goal.returns
-returns c = rw c.new.ensures
-    (least_of_more _ _ c.in-Some.list.items (turn_faults_break c.args.run.now.logs) (breaks_have_turn_faults c.args.run.now.logs)
-    (least_of_all _ _ c.in-Some.list.items (turn_faults_begin _) (rw c.in-Some.is at c.in_ok-least_change.ensures)))
+returns c =
+    let run = c.args.run.now.logs in
+    told_as_places (λ list. list.items) _ _ (Finds run spec.Turns) _ _ c.places_of.ensures (λ h. no_turn_faults run (none_of_all _ _ (turn_faults_begin _) h))
+    (λ list h. least_of_more _ _ list.items (turn_faults_break run) (breaks_have_turn_faults run) (least_of_all _ _ list.items (turn_faults_begin _) h)) c.in_ok-least_change.ensures

@@ -1,6 +1,6 @@
 use Rattle.std.proofs.Common.{refl}
 use Rattle.totem_passes.proofs.Starting.{none_of_all, least_of_all}
-use Rattle.totem_passes.proofs.Turning.{begins_here, none_without_turn, wrong_here, none_after_right, some_after_right, others_begin, begins_not, others_of_ring}
+use Rattle.totem_passes.proofs.Turning.{begins_here, none_without_succession, wrong_here, none_after_right, some_after_right, others_begin, begins_not, others_of_ring}
 use Rattle.totem_passes.proofs.Sparing.{none_known}
 use Rattle.totem_passes.proofs.Originating.{one_origin}
 use Rattle.totem_passes.proofs.turns.TurnsChangeRelation.rest.Goals as goal
@@ -10,7 +10,7 @@ returns-then-begins_transitional c = rw c.new.ensures.items (begins_here _ _ _ (
 
 pub returns-in_default : goal.returns-in_default
 returns-in_default c =
-    none_without_turn _ _ _ (begins_not c.args.self.now.run.now.logs _ _ _ _ c.requires.log c.if-begins_transitional.false c.begins_transitional.ensures) (rw c.requires.log at c.in_default.ensures.none)
+    none_without_succession _ _ _ (begins_not c.args.self.now.run.now.logs _ _ _ _ c.requires.log c.if-begins_transitional.false c.begins_transitional.ensures) (rw c.requires.log at c.in_default.ensures.none)
 
 pub returns-then-is_wrong : goal.returns-then-is_wrong
 returns-then-is_wrong c =

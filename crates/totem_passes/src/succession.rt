@@ -3,14 +3,14 @@ ghost use Rattle.std.specs.Prelude.{◌≡◌, ◌↔◌, ◌<◌, All, Contains
 ghost use Rattle.totem_evs.specs.Events.{IsChange};
 ghost use Rattle.totem_evs.specs.Changes.{ChangesNext};
 ghost use Rattle.totem_table.specs.Changes.{IsNextOrEnd};
-ghost use Rattle.totem_passes.specs.Turns.{HasNoTurn, IsWrongTurn};
+ghost use Rattle.totem_passes.specs.Turns.{HasNoSuccession, IsWrongSuccession};
 
 use totem_evs::{Entry, Members};
 use totem_ids::ConfId;
 
 /// A change, and the next change of the same log.
 #[derive(Clone, Copy)]
-pub struct Turn<'a> {
+pub struct Succession<'a> {
     pub conf: &'a ConfId,
     pub members: &'a Members,
     pub next_at: usize,
@@ -19,18 +19,18 @@ pub struct Turn<'a> {
 }
 
 /// Returns the change at this index and the next one, or `None` unless there are both.
-pub fn turn_at(log: &[Entry], at: usize) -> Option<Turn<'_>>
+pub fn succession_at(log: &[Entry], at: usize) -> Option<Succession<'_>>
     requires { at < length log.now }
-    ensures found { IfSome result (λ turn. ChangesNext log.now at turn.next_at turn.conf.now turn.next.now turn.members.now turn.next_members.now) }
-    ensures within { IfSome result (λ turn. turn.next_at < length log.now) }
-    ensures none { IfNone result (HasNoTurn log.now at) }
+    ensures found { IfSome result (λ succession. ChangesNext log.now at succession.next_at succession.conf.now succession.next.now succession.members.now succession.next_members.now) }
+    ensures within { IfSome result (λ succession. succession.next_at < length log.now) }
+    ensures none { IfNone result (HasNoSuccession log.now at) }
 {
     let Entry::Conf(conf, members) = &log[at] else {
         return None;
     };
     for next_at in at + 1..log.len() {
         if let Entry::Conf(next, next_members) = &log[next_at] {
-            return Some(Turn {
+            return Some(Succession {
                 conf,
                 members,
                 next_at,
@@ -43,11 +43,11 @@ pub fn turn_at(log: &[Entry], at: usize) -> Option<Turn<'_>>
 }
 
 /// Returns the change at this index and the one at `next_at`, or `None` unless there are both. No change stands between.
-pub fn turn_between(log: &[Entry], at: usize, next_at: usize) -> Option<Turn<'_>>
+pub fn succession_between(log: &[Entry], at: usize, next_at: usize) -> Option<Succession<'_>>
     requires { IsNextOrEnd log.now at next_at }
-    ensures found { IfSome result (λ turn. ChangesNext log.now at turn.next_at turn.conf.now turn.next.now turn.members.now turn.next_members.now) }
-    ensures within { IfSome result (λ turn. turn.next_at < length log.now) }
-    ensures none { IfNone result (HasNoTurn log.now at) }
+    ensures found { IfSome result (λ succession. ChangesNext log.now at succession.next_at succession.conf.now succession.next.now succession.members.now succession.next_members.now) }
+    ensures within { IfSome result (λ succession. succession.next_at < length log.now) }
+    ensures none { IfNone result (HasNoSuccession log.now at) }
 {
     let Entry::Conf(conf, members) = &log[at] else {
         return None;
@@ -58,7 +58,7 @@ pub fn turn_between(log: &[Entry], at: usize, next_at: usize) -> Option<Turn<'_>
     let Entry::Conf(next, next_members) = &log[next_at] else {
         return None;
     };
-    Some(Turn {
+    Some(Succession {
         conf,
         members,
         next_at,
@@ -80,7 +80,7 @@ fn contains_all(members: &Members, others: &Members) -> bool
 
 /// Returns whether the second change may not come next after the first.
 pub fn is_wrong(conf: &ConfId, members: &Members, next: &ConfId, next_members: &Members) -> bool
-    ensures { IsTrue result ↔ IsWrongTurn conf.now members.now next.now next_members.now }
+    ensures { IsTrue result ↔ IsWrongSuccession conf.now members.now next.now next_members.now }
 {
     match (conf, next) {
         (ConfId::Regular(_), ConfId::Transitional { .. }) => !contains_all(members, next_members),

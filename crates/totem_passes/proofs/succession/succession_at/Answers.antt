@@ -1,7 +1,7 @@
 use Rattle.std.proofs.Common.{refl}
 use Rattle.std.proofs.lemmas.Option.{slice_get_read}
-use Rattle.totem_passes.proofs.Turning.{none_between_more, no_turn_at_end}
-use Rattle.totem_passes.proofs.turn.turn_at.Goals as goal
+use Rattle.totem_passes.proofs.Turning.{none_between_more, no_succession_at_end}
+use Rattle.totem_passes.proofs.succession.succession_at.Goals as goal
 
 pub loop-next_at-preserved : goal.loop-next_at-preserved
 loop-next_at-preserved c =
@@ -9,4 +9,4 @@ loop-next_at-preserved c =
     c.in_default-log.not-Conf c.loop-next_at.invariant
 
 pub returns-clause-none : goal.returns-clause-none
-returns-clause-none c = no_turn_at_end c.args.log.now c.args.at _ c.loop-next_at-test.false c.loop-next_at.invariant
+returns-clause-none c = no_succession_at_end c.args.log.now c.args.at _ c.loop-next_at-test.false c.loop-next_at.invariant

@@ -1,6 +1,6 @@
 use Rattle.std.proofs.Common.{refl}
 use Rattle.totem_passes.proofs.Decisions.{all_more, all_whole, all_not}
-use Rattle.totem_passes.proofs.turn.contains_all.Goals as goal
+use Rattle.totem_passes.proofs.succession.contains_all.Goals as goal
 
 pub returns-then-not-contains : goal.returns-then-not-contains
 returns-then-not-contains c =

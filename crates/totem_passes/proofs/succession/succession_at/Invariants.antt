@@ -1,5 +1,5 @@
 use Rattle.totem_passes.proofs.Turning.{NoneBetween}
-use Rattle.totem_passes.proofs.turn.turn_at.Given as goal
+use Rattle.totem_passes.proofs.succession.succession_at.Given as goal
 
 abbrev pub invariant-loop-next_at : goal.invariant-loop-next_at
 invariant-loop-next_at l = NoneBetween l.log l.at l.next_at
