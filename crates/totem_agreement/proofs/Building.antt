@@ -18,7 +18,7 @@ use Rattle.totem_agreement.proofs.Staying.{is_stay}
 use Rattle.totem_table.proofs.Pushing.{nothing, before_push}
 use Rattle.totem_passes.proofs.LogEnds.{ending_of_at}
 use Rattle.totem_agreement.proofs.Excusing.{quiet_never_fails}
-use Rattle.totem_agreement.proofs.Known.{keeps_rules}
+use Rattle.totem_agreement.proofs.KnownStays.{keeps_rules}
 
 -- the stay is the one that begins at this change
 pub record IsStayAt (run : List Log) (c : RingId) (arrival : Arrival) (stay : Stay) : Type 0 where
@@ -107,8 +107,8 @@ all_stays run c arrivals stays n is_run are count all = record {
         let procs = in_order run a.arrival.log b.arrival.log a.here.log b.here.log is_run.rising a.here.stands b.here.stands below in
         rw (a.here.proc, b.here.proc) procs
 
-    nowhere : (i : ℕ) → ChangesTo [] i (Regular c) → ⊥
-    nowhere i (ms, h) = cc
+    no_change_in_none : (i : ℕ) → ChangesTo [] i (Regular c) → ⊥
+    no_change_in_none i (ms, h) = cc
 
     found : (p k i m : ℕ) (log : Log) → slice_get run k ≡ Some log → log.proc ≡ p → m < length arrivals → slice_get arrivals m ≡ Some (record { log = k; at = i }) → HasStay stays p
     found p k i m log at same lt listed = elim (slice_get_cases stays m).1 [
@@ -122,7 +122,7 @@ all_stays run c arrivals stays n is_run are count all = record {
 
     comes : (p i : ℕ) → ChangesTo (log_of run p) i (Regular c)
         → (log_of run p ≡ []) ⊎ ((k : ℕ) × (log : Log) × (slice_get run k ≡ Some log) × (log.proc ≡ p) × (log_of run p ≡ log.entries)) → HasStay stays p
-    comes p i change (inl empty) = absurd (nowhere i (rw empty at change))
+    comes p i change (inl empty) = absurd (no_change_in_none i (rw empty at change))
     comes p i change (inr (k, log, at, same, is)) =
         let h = are.whole k i log at (rw is at change) in
         found p k i h.0 log at same h.1 (slice_get-get_or arrivals h.0 (record { log = k; at = i }) h.1 ∙ ap Some h.2)

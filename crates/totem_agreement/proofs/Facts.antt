@@ -15,11 +15,12 @@ use Rattle.totem_evs.proofs.LogOf.{less_or_not}
 use Rattle.totem_passes.proofs.Sent.{same_first}
 use Rattle.totem_passes.proofs.SentOrNot.{one_next}
 use Rattle.totem_agreement.specs.declared.stay.Stay.{Stay}
+use Rattle.totem_agreement.specs.declared.stays.Stays.{Stays}
 use Rattle.totem_agreement.specs.Stays.{IsStay, IsStayOf, HasStay, AreStays}
 use Rattle.totem_agreement.specs.Acts.{IsAmong, DeliversHere}
 use Rattle.totem_agreement.specs.Search.{IsInside, StandsInside}
 use Rattle.totem_agreement.proofs.Staying.{names_no_change, same_change}
-use Rattle.totem_agreement.proofs.Known.{meets, stays}
+use Rattle.totem_agreement.proofs.KnownStays.{meets, stays}
 use Rattle.totem_agreement.proofs.Searching.{stay_of}
 
 -- what is known of a stay
@@ -52,6 +53,7 @@ not_both (Transitional n l) r t = r
 pub at_turn_no_name : (log : List Entry) (c : RingId) (from turn end i : ℕ) (x : ConfId) → IsStay log c from turn end → turn < end → i ≡ turn → Names log i x → ⊥
 at_turn_no_name log c from turn end i x is lt same names = let t = is.turns lt in names_no_change log turn x (rw same at names) (t.conf, t.change)
 
+-- what an entry inside a stay names is c or follows it
 pub com_of : (log : List Entry) (c : RingId) (from turn end i : ℕ) (x : ConfId) → IsStay log c from turn end → from < i → i < end → Names log i x → Com log c x
 com_of log c from turn end i x is after until names = elim (less_or_not i turn) [
   | inl lt ↦ inl (is.regular i x after lt names)
@@ -130,6 +132,9 @@ facts run c list met known =
       inside = λ p i x names belongs. stay_around run c list p i x m are names belongs;
       whole = are.whole;
     }
+
+pub facts_of : (stays : Stays) → Facts stays.run.now.logs stays.ring stays.list.items
+facts_of stays = facts stays.run.now.logs stays.ring stays.list.items stays.meets stays.are
 
 pub here_delivers : (run : List Log) (c : RingId) (stay : Stay) (m : MsgId) (k : ℕ) → StayFacts run c stay → DeliversHere stay m k → DeliversIn (log_of run stay.proc) c m k
 here_delivers run c stay m k facts here =

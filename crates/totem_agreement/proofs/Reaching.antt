@@ -22,7 +22,7 @@ use Rattle.totem_agreement.specs.Stays.{IsStay}
 use Rattle.totem_agreement.specs.Acts.{IsSendingOf}
 use Rattle.totem_agreement.specs.Reached.{IsSafeIn, AreMembersAt}
 use Rattle.totem_agreement.proofs.Staying.{names_no_change, same_change}
-use Rattle.totem_agreement.proofs.Known as known
+use Rattle.totem_agreement.proofs.KnownStays as known
 
 -- a message that is sent with another service is not safe
 pub not_safe : (run : List Log) (c : RingId) (m : MsgId) (s : Sending) → ∥ MeetsPasses run ∥₁ → IsSendingOf run c m s → (s.service ≡ Safe → ⊥) → IsSafeIn run c m → ⊥

@@ -10,7 +10,7 @@ use Rattle.totem_evs.proofs.LogOf.{less_or_not}
 use Rattle.totem_agreement.specs.declared.stay.Stay.{Stay}
 use Rattle.totem_agreement.specs.Stays.{AreStays, IsStayOf}
 use Rattle.totem_agreement.specs.Acts.{IsAmong}
-use Rattle.totem_agreement.proofs.Known.{meets, stays}
+use Rattle.totem_agreement.proofs.KnownStays.{meets, stays}
 use Rattle.totem_agreement.specs.Search.{IsInside, EachBeginsWithin, NoneBelow, NoneWithin, IsLeastWithin, IsShort}
 
 -- index by index

@@ -120,8 +120,8 @@ until log c from turn end bounds = elim (turn_or_end log c from turn end bounds)
   | inr past ↦ omega (arith, past.1)
 ]
 
-within : (log : List Entry) (c : RingId) (from turn end : ℕ) → Bounds log c from turn end → end ≤ length log
-within log c from turn end bounds = elim (turn_or_end log c from turn end bounds) [
+end_within : (log : List Entry) (c : RingId) (from turn end : ℕ) → Bounds log c from turn end → end ≤ length log
+end_within log c from turn end bounds = elim (turn_or_end log c from turn end bounds) [
   | inl lt ↦ (bounds.two.second lt).within
   | inr past ↦ omega (arith, past.0, past.1)
 ]
@@ -248,7 +248,7 @@ pub is_stay : (log : List Entry) (c : RingId) (from turn end : ℕ) → KeepsRul
 is_stay log c from turn end rules bounds = record {
   before = bounds.two.first.later;
   until = until log c from turn end bounds;
-  within = within log c from turn end bounds;
+  within = end_within log c from turn end bounds;
   change = bounds.change;
   turns = λ lt. follows log c from turn end rules bounds (has_turn log c from turn end bounds lt);
   here = is_here log c from turn end rules bounds;

@@ -28,8 +28,8 @@ use Rattle.totem_agreement.specs.Acts.{IsAmong, DeliversHere, DeliversNot}
 use Rattle.totem_agreement.specs.Suspects.{Handles, HandlesNothing, ComesBefore, ComesNotBefore, IsEarlier, IsSuspect, HasAllOf, IsNoted, AreNotedFrom, AreNoted, AllNoted, AreSuspects}
 use Rattle.totem_agreement.proofs.Facts.{Facts, StayFacts, here_delivers}
 use Rattle.totem_agreement.proofs.Rests.{nothing_here, sends_there}
-use Rattle.totem_agreement.proofs.Causing.{one_in, not_in}
-use Rattle.totem_agreement.proofs.Lacking.{within}
+use Rattle.totem_agreement.proofs.CausalityFaults.{one_delivery_in, not_delivered_in}
+use Rattle.totem_agreement.proofs.GapFaults.{delivery_inside}
 
 -- ---- one entry
 
@@ -45,7 +45,7 @@ sends_nothing run c q e early other = record { no_later = omega arith; each = λ
 pub undelivered : (run : List Log) (c : RingId) (stay : Stay) (e : Entry) (m : MsgId) (y : ConfId) (v : Service) (early : ℕ) → StayFacts run c stay → e ≡ Send m y v → DeliversNot stay.log.now c m → IsEarlier run c stay.proc e early early
 undelivered run c stay e m y v early of sends not = record {
   no_later = omega arith;
-  each = λ n x s k is h. (let same : n ≡ m = (let t : Send n x s ≡ Send m y v = sym is ∙ sends in cc) in absurd (not_in run c stay m of not (k, rw same at h)));
+  each = λ n x s k is h. (let same : n ≡ m = (let t : Send n x s ≡ Send m y v = sym is ∙ sends in cc) in absurd (not_delivered_in run c stay m of not (k, rw same at h)));
 }
 
 pub delivered_at : (run : List Log) (c : RingId) (stays : List Stay) (stay : Stay) (e : Entry) (m : MsgId) (y : ConfId) (v : Service) (at old new : ℕ) → Facts run c stays → IsAmong stays stay → e ≡ Send m y v → DeliversHere stay m at → new ≤ old → new ≤ at
@@ -53,7 +53,7 @@ pub delivered_at : (run : List Log) (c : RingId) (stays : List Stay) (stay : Sta
 delivered_at run c stays stay e m y v at old new of among sends here no_later le = record {
   no_later = no_later;
   each = λ n x s k is h. (let same : n ≡ m = (let t : Send n x s ≡ Send m y v = sym is ∙ sends in cc) in
-      let one = one_in run c stays stay.proc at k m of (here_delivers run c stay m at (of.each stay among) here) (rw same at h) in omega arith);
+      let one = one_delivery_in run c stays stay.proc at k m of (here_delivers run c stay m at (of.each stay among) here) (rw same at h) in omega arith);
 }
 
 pub comes : (run : List Log) (c : RingId) (stay : Stay) (m : MsgId) (at k : ℕ) → StayFacts run c stay → DeliversHere stay m at → at < k → ComesBefore run c stay.proc m k
@@ -148,7 +148,7 @@ so_far_more cmp old now then run c stays sender receiver next at early new entry
         → DeliversIn (log_of run receiver.proc) c n k → ComesNotBefore run c receiver.proc m k → IsSuspect cmp then m
     here h j k e m n x v same lt until at_h handles at_j d never =
         let le = before.earliest.each j k n x v (omega arith) until at_j d in
-        let inside = within run c stays receiver n k of among d in
+        let inside = delivery_inside run c stays receiver n k of among d in
         let below = inside.until in
         let there : slice_get (log_of run sender.proc) at ≡ Some e = rw same at at_h in
         let is_entry : e ≡ entry = cc in

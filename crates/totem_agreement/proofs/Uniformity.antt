@@ -28,9 +28,9 @@ use Rattle.totem_passes.specs.Search.{place}
 use Rattle.totem_agreement.proofs.Excusing.{excused_or_not}
 use Rattle.totem_agreement.proofs.Facts.{Facts, StayFacts}
 use Rattle.totem_agreement.proofs.Rests.{index_of}
-use Rattle.totem_agreement.proofs.Parting.{turn_of}
+use Rattle.totem_agreement.proofs.AtomicityFaults.{turn_of}
 use Rattle.totem_agreement.proofs.Placing.{IsUniformStay, uniform_stay, told, IsPlaced, placed, HasUniformStay, stay_where, has_delivered, delivers_before, ends_here, HasOrigin, origin_of, delivers_as, IsCause, sent_before, heard_before, turn_member, front_has}
-use Rattle.totem_agreement.proofs.Jointly.{joint}
+use Rattle.totem_agreement.proofs.UniformAtomicity.{joint}
 
 -- ---- 3
 

@@ -12,7 +12,7 @@ use crate::stays::Stays;
 use std::alloc::{AllocError, Global};
 use totem_evs::Places;
 use totem_ids::{Place, Proc};
-use totem_passes::begin_at;
+use totem_passes::{begin_at, places_of};
 
 /// A relation on lists of events that begin in one of the stays.
 pub trait Relation {
@@ -145,8 +145,5 @@ pub fn least_found<F: Finder>(
     requires begins { EachBeginsWithin stays.now.list.items (F.reaches finder.now) (F.holds finder.now) }
     ensures { IfOk result (λ found. MatchOption found (HoldsOfNone (F.holds finder.now)) (IsLeast (F.holds finder.now))) }
 {
-    match first_found(finder, alloc, stays)? {
-        None => Ok(None),
-        Some(list) => Ok(Some(Places::new(list))),
-    }
+    Ok(places_of(first_found(finder, alloc, stays)?))
 }

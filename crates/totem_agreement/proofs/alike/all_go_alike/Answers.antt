@@ -1,7 +1,7 @@
 use Rattle.std.proofs.Common.{◌<◌, length, refl, arith}
 use Rattle.std.proofs.lemmas.Option.{slice_get_read}
 use Rattle.totem_agreement.specs.Owed.{GoAlikeBy}
-use Rattle.totem_agreement.proofs.GoingTogether.{holds_of_one, all_alike}
+use Rattle.totem_agreement.proofs.GoingAlike.{holds_of_one, all_alike}
 use Rattle.totem_agreement.proofs.alike.all_go_alike.Goals as goal
 
 pub loop-index-preserved : goal.loop-index-preserved

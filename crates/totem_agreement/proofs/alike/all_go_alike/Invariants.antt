@@ -1,5 +1,5 @@
 use Rattle.totem_agreement.specs.Owed.{GoAlikeBy}
-use Rattle.totem_agreement.proofs.GoingTogether.{HoldsTo}
+use Rattle.totem_agreement.proofs.GoingAlike.{HoldsTo}
 use Rattle.totem_agreement.proofs.alike.all_go_alike.Given as goal
 
 abbrev pub invariant-loop-index : goal.invariant-loop-index

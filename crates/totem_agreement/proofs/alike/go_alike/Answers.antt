@@ -1,4 +1,4 @@
-use Rattle.totem_agreement.proofs.GoingTogether.{parted_at_once, parted_later}
+use Rattle.totem_agreement.proofs.GoingAlike.{parted_at_once, parted_later}
 use Rattle.totem_agreement.proofs.alike.go_alike.Goals as goal
 
 pub returns-then-not-is_same_change : goal.returns-then-not-is_same_change

@@ -1,4 +1,4 @@
-use Rattle.totem_agreement.proofs.GoingTogether.{TailTo}
+use Rattle.totem_agreement.proofs.GoingAlike.{TailTo}
 use Rattle.totem_agreement.proofs.alike.has_tail.Given as goal
 
 abbrev pub invariant-loop-at : goal.invariant-loop-at

@@ -1,6 +1,6 @@
 use Rattle.totem_agreement.proofs.Facts.{facts}
-use Rattle.totem_agreement.proofs.Unopened.{placed, none_open}
-use Rattle.totem_agreement.proofs.Completing.{none_pending_in}
+use Rattle.totem_agreement.proofs.NoneOpen.{placed, none_open}
+use Rattle.totem_agreement.proofs.AllDelivered.{none_pending_in}
 use Rattle.totem_agreement.proofs.complete.complete_in.Goals as goal
 
 pub none_is_open-requires : goal.none_is_open-requires

@@ -1,4 +1,4 @@
-use Rattle.totem_agreement.proofs.OnePlace.{begins_inside}
+use Rattle.totem_agreement.proofs.OneEvent.{begins_inside}
 use Rattle.totem_agreement.proofs.events.least_event.Goals as goal
 
 pub least-requires-clause-begins : goal.least-requires-clause-begins

@@ -1,4 +1,4 @@
-use Rattle.totem_agreement.proofs.Trailing.{SettledTo}
+use Rattle.totem_agreement.proofs.LastCommonDeliveries.{SettledTo}
 use Rattle.totem_agreement.proofs.gap.all_keep_up.Given as goal
 
 abbrev pub invariant-loop-k : goal.invariant-loop-k

@@ -1,18 +1,18 @@
 use Rattle.std.proofs.Common.{arith}
-use Rattle.totem_agreement.proofs.Facts.{facts}
-use Rattle.totem_agreement.proofs.Trailing.{apart_at_end, apart_more}
+use Rattle.totem_agreement.proofs.Facts.{facts_of}
+use Rattle.totem_agreement.proofs.LastCommonDeliveries.{apart_at_end, apart_more}
 use Rattle.totem_agreement.proofs.gap.last_common.Goals as goal
 
 pub back-init : goal.back-init
 back-init c =
     let s = c.args.stays.now in
-    let of = facts s.run.now.logs s.ring s.list.items s.meets s.are in
+    let of = facts_of s in
     record { apart = apart_at_end s.run.now.logs s.ring s.list.items c.args.leader.now c.args.follower.now.proc of c.requires.leader; until = omega arith }
 
 pub overflow_add-leader : goal.overflow_add-leader
 overflow_add-leader c =
     let s = c.args.stays.now in
-    let of = (facts s.run.now.logs s.ring s.list.items s.meets s.are).each c.args.leader.now c.requires.leader in
+    let of = (facts_of s).each c.args.leader.now c.requires.leader in
     omega (arith, of.before, of.until, of.few)
 
 pub back-preserved : goal.back-preserved

@@ -1,5 +1,5 @@
 use Rattle.std.proofs.Common.{◌≤◌}
-use Rattle.totem_agreement.proofs.Trailing.{ApartFrom}
+use Rattle.totem_agreement.proofs.LastCommonDeliveries.{ApartFrom}
 use Rattle.totem_agreement.proofs.gap.last_common.Given as goal
 
 abbrev pub invariant-back : goal.invariant-back

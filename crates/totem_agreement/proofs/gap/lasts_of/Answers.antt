@@ -1,6 +1,6 @@
 use Rattle.std.proofs.Common.{refl, ◌≡◌, length, ap, arith}
 use Rattle.std.proofs.lemmas.Option.{slice_get_read}
-use Rattle.totem_agreement.proofs.Trailing.{lasts_more, lasts_whole}
+use Rattle.totem_agreement.proofs.LastCommonDeliveries.{lasts_more, lasts_whole}
 use Rattle.totem_agreement.proofs.gap.lasts_of.Goals as goal
 
 pub loop-follower-preserved : goal.loop-follower-preserved

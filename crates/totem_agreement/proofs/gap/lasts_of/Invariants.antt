@@ -1,4 +1,4 @@
-use Rattle.totem_agreement.proofs.Trailing.{LastsTo}
+use Rattle.totem_agreement.proofs.LastCommonDeliveries.{LastsTo}
 use Rattle.totem_agreement.proofs.gap.lasts_of.Given as goal
 
 abbrev pub invariant-loop-follower : goal.invariant-loop-follower

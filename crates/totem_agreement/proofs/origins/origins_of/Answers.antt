@@ -1,7 +1,7 @@
 use Rattle.std.proofs.Common.{◌<◌, ◌+◌, length, ◌∙◌, refl, ap, arith}
 use Rattle.std.proofs.lemmas.List.{get_or_default}
 use Rattle.std.proofs.lemmas.Option.{slice_get_read, slice_get_within}
-use Rattle.totem_agreement.proofs.Taking.{one_more_origin, no_origins, is_one_more}
+use Rattle.totem_agreement.proofs.TakingSends.{one_more_origin, no_origins, is_one_more}
 use Rattle.totem_agreement.proofs.origins.origins_of.Goals as goal
 
 pub loop-place-init : goal.loop-place-init

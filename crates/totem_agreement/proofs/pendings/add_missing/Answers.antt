@@ -1,5 +1,5 @@
 use Rattle.std.proofs.Common.{arith}
-use Rattle.totem_agreement.proofs.Known.{stay_is}
+use Rattle.totem_agreement.proofs.KnownStays.{stay_is}
 use Rattle.totem_agreement.proofs.pendings.add_missing.Goals as goal
 
 pub of-requires : goal.of-requires

@@ -1,8 +1,8 @@
 use Rattle.std.proofs.Common.{refl, arith}
 use Rattle.std.proofs.lemmas.Option.{slice_get_read}
-use Rattle.totem_agreement.proofs.Known as known
+use Rattle.totem_agreement.proofs.KnownStays as known
 use Rattle.totem_agreement.proofs.Adding.{between_more}
-use Rattle.totem_agreement.proofs.Pend.{MissesOf, of_one_sender, all_senders}
+use Rattle.totem_agreement.proofs.WhatIsPending.{MissesOf, of_one_sender, all_senders}
 use Rattle.totem_agreement.proofs.pendings.add_missing_by.Goals as goal
 
 pub loop-sender-preserved : goal.loop-sender-preserved

@@ -1,6 +1,6 @@
 use Rattle.totem_agreement.specs.Pendings.{Adds}
 use Rattle.totem_agreement.proofs.Adding.{Between}
-use Rattle.totem_agreement.proofs.Pend.{MissesOf}
+use Rattle.totem_agreement.proofs.WhatIsPending.{MissesOf}
 use Rattle.totem_agreement.proofs.pendings.add_missing_by.Given as goal
 
 abbrev pub invariant-loop-sender : goal.invariant-loop-sender

@@ -1,7 +1,7 @@
 use Rattle.std.proofs.Common.{refl, arith}
-use Rattle.totem_agreement.proofs.Known.{stay_is}
+use Rattle.totem_agreement.proofs.KnownStays.{stay_is}
 use Rattle.totem_agreement.proofs.Adding.{adds_one, between_more}
-use Rattle.totem_agreement.proofs.Pend.{MissesBy, nothing_here, misses_one, same_pending, all_of_sender}
+use Rattle.totem_agreement.proofs.WhatIsPending.{MissesBy, nothing_here, misses_one, same_pending, all_of_sender}
 use Rattle.totem_agreement.proofs.pendings.add_missing_from.Goals.{in-Some+in_ok-push, in_default}
 use Rattle.totem_agreement.proofs.pendings.add_missing_from.Goals as goal
 

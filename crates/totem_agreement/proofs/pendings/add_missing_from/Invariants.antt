@@ -1,7 +1,7 @@
 use Rattle.std.proofs.Common.{◌+◌}
 use Rattle.totem_agreement.specs.Pendings.{Adds}
 use Rattle.totem_agreement.proofs.Adding.{Between}
-use Rattle.totem_agreement.proofs.Pend.{MissesBy}
+use Rattle.totem_agreement.proofs.WhatIsPending.{MissesBy}
 use Rattle.totem_agreement.proofs.pendings.add_missing_from.Given as goal
 
 abbrev pub invariant-loop-at : goal.invariant-loop-at

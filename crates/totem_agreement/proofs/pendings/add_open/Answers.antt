@@ -1,5 +1,5 @@
-use Rattle.totem_agreement.proofs.Known.{stay_is}
-use Rattle.totem_agreement.proofs.Pend.{of_open_if_ok}
+use Rattle.totem_agreement.proofs.KnownStays.{stay_is}
+use Rattle.totem_agreement.proofs.WhatIsPending.{of_open_if_ok}
 use Rattle.totem_agreement.proofs.pendings.add_open.Goals as goal
 
 pub returns : goal.returns

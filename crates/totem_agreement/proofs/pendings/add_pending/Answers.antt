@@ -1,8 +1,8 @@
 use Rattle.std.proofs.Common.{refl, arith}
 use Rattle.std.proofs.lemmas.Option.{slice_get_read}
-use Rattle.totem_agreement.proofs.Known as known
+use Rattle.totem_agreement.proofs.KnownStays as known
 use Rattle.totem_agreement.proofs.Adding.{between_more}
-use Rattle.totem_agreement.proofs.Pend.{PendingOf, of_one_stay, all_stays}
+use Rattle.totem_agreement.proofs.WhatIsPending.{PendingOf, of_one_stay, all_stays}
 use Rattle.totem_agreement.proofs.pendings.add_pending.Goals as goal
 
 pub loop-stay-preserved : goal.loop-stay-preserved

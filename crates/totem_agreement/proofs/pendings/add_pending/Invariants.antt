@@ -1,6 +1,6 @@
 use Rattle.totem_agreement.specs.Pendings.{Adds}
 use Rattle.totem_agreement.proofs.Adding.{Between}
-use Rattle.totem_agreement.proofs.Pend.{PendingOf}
+use Rattle.totem_agreement.proofs.WhatIsPending.{PendingOf}
 use Rattle.totem_agreement.proofs.pendings.add_pending.Given as goal
 
 abbrev pub invariant-loop-stay : goal.invariant-loop-stay

@@ -1,7 +1,7 @@
 use Rattle.totem_evs.specs.contracts.pending.PendingPartialEq.TheImpl as same
 use Rattle.totem_evs.specs.contracts.pending.PendingEq.TheImpl.Laws.{laws-law}
 use Rattle.totem_evs.specs.contracts.pending.PendingOrd.TheImpl.Laws.{matches_eq-law}
-use Rattle.totem_agreement.proofs.PendOrder.{ordered_once}
+use Rattle.totem_agreement.proofs.PendingOrder.{ordered_once}
 use Rattle.totem_agreement.proofs.pendings.in_order.Goals as goal
 
 pub returns : goal.returns

@@ -1,5 +1,5 @@
-use Rattle.totem_agreement.proofs.Known.{stay_is, meets}
-use Rattle.totem_agreement.proofs.Pend.{excused_open, not_excused_open}
+use Rattle.totem_agreement.proofs.KnownStays.{stay_is, meets}
+use Rattle.totem_agreement.proofs.WhatIsPending.{excused_open, not_excused_open}
 use Rattle.totem_agreement.proofs.pendings.is_open.Goals as goal
 
 pub has_failed-requires : goal.has_failed-requires

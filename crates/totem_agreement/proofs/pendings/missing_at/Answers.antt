@@ -1,7 +1,7 @@
 use Rattle.std.proofs.Common.{refl}
 use Rattle.std.proofs.lemmas.Option.{slice_get_read}
-use Rattle.totem_agreement.proofs.Known.{stay_is}
-use Rattle.totem_agreement.proofs.Pend.{misses_here, delivered_already}
+use Rattle.totem_agreement.proofs.KnownStays.{stay_is}
+use Rattle.totem_agreement.proofs.WhatIsPending.{misses_here, delivered_already}
 use Rattle.totem_agreement.proofs.pendings.missing_at.Goals as goal
 
 pub returns-in-Some-clause-none : goal.returns-in-Some-clause-none

@@ -1,8 +1,8 @@
 use Rattle.std.proofs.Common.{◌≡◌, Some, slice_get, refl, arith}
 use Rattle.std.proofs.lemmas.Option.{slice_get_read}
 use Rattle.totem_agreement.proofs.Adding.{between_more}
-use Rattle.totem_agreement.proofs.Pend.{PendingAt, of_one_ring, all_rings}
-use Rattle.totem_agreement.proofs.PendOrder.{are_pending_if_ok, empty_has_none}
+use Rattle.totem_agreement.proofs.WhatIsPending.{PendingAt, of_one_ring, all_rings}
+use Rattle.totem_agreement.proofs.PendingOrder.{are_pending_if_ok, empty_has_none}
 use Rattle.totem_agreement.proofs.pendings.pending_of.Goals as goal
 
 pub loop-k-preserved : goal.loop-k-preserved

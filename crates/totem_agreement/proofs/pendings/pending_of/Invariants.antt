@@ -1,6 +1,6 @@
 use Rattle.totem_agreement.specs.Pendings.{Adds}
 use Rattle.totem_agreement.proofs.Adding.{Between}
-use Rattle.totem_agreement.proofs.Pend.{PendingAt}
+use Rattle.totem_agreement.proofs.WhatIsPending.{PendingAt}
 use Rattle.totem_agreement.proofs.pendings.pending_of.Given as goal
 
 abbrev pub invariant-loop-k : goal.invariant-loop-k

@@ -1,6 +1,6 @@
 use Rattle.std.proofs.Common.{refl}
 use Rattle.std.proofs.lemmas.Option.{slice_get_read}
-use Rattle.totem_agreement.proofs.Known.{meets, stays}
+use Rattle.totem_agreement.proofs.KnownStays.{meets, stays}
 use Rattle.totem_agreement.proofs.Searching.{least_here, none_before_more, none_at_end}
 use Rattle.totem_agreement.proofs.search.first_found.Goals as goal
 

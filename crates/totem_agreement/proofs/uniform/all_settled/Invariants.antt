@@ -1,4 +1,4 @@
-use Rattle.totem_agreement.proofs.Settling.{SettledTo}
+use Rattle.totem_agreement.proofs.SettledStays.{SettledTo}
 use Rattle.totem_agreement.proofs.uniform.all_settled.Given as goal
 
 abbrev pub invariant-loop-index : goal.invariant-loop-index

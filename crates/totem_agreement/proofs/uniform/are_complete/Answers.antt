@@ -1,6 +1,6 @@
 use Rattle.std.proofs.Common.{◌≤◌, length, slice_index_or, refl, arith}
 use Rattle.std.proofs.lemmas.Option.{slice_get_read}
-use Rattle.totem_agreement.proofs.Whole.{one_more_complete, all_complete}
+use Rattle.totem_agreement.proofs.CompleteStays.{one_more_complete, all_complete}
 use Rattle.totem_agreement.proofs.uniform.are_complete.Goals as goal
 
 pub loop-k-preserved : goal.loop-k-preserved

@@ -1,4 +1,4 @@
-use Rattle.totem_agreement.proofs.Whole.{CompleteUpTo}
+use Rattle.totem_agreement.proofs.CompleteStays.{CompleteUpTo}
 use Rattle.totem_agreement.proofs.uniform.are_complete.Given as goal
 
 abbrev pub invariant-loop-k : goal.invariant-loop-k

@@ -1,4 +1,4 @@
-use Rattle.totem_agreement.proofs.Whole.{TakenUpTo}
+use Rattle.totem_agreement.proofs.CompleteStays.{TakenUpTo}
 use Rattle.totem_agreement.proofs.uniform.are_taken.Given as goal
 
 abbrev pub invariant-loop-k : goal.invariant-loop-k

@@ -1,4 +1,4 @@
-use Rattle.totem_agreement.proofs.Whole.{HaveUpTo}
+use Rattle.totem_agreement.proofs.CompleteStays.{HaveUpTo}
 use Rattle.totem_agreement.proofs.uniform.have_stays.Given as goal
 
 abbrev pub invariant-loop-member : goal.invariant-loop-member

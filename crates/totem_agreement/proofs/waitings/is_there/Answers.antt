@@ -5,7 +5,7 @@ use Rattle.totem_evs.specs.RunRecord.{RunRecord}
 use Rattle.totem_evs.specs.Events.{log_of}
 use Rattle.totem_evs.proofs.LogOf.{log_of_at}
 use Rattle.totem_passes.proofs.EndsTogether.{read_there}
-use Rattle.totem_agreement.proofs.Waits.{no_log}
+use Rattle.totem_agreement.proofs.WhoWaits.{no_log}
 use Rattle.totem_agreement.proofs.waitings.is_there.Goals as goal
 
 pub returns-in_default : goal.returns-in_default

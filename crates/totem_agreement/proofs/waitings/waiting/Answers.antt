@@ -4,7 +4,7 @@ use Rattle.totem_evs.specs.LogRecord.{LogRecord}
 use Rattle.totem_evs.specs.RunRecord.{RunRecord}
 use Rattle.totem_evs.specs.Events.{log_of}
 use Rattle.totem_evs.proofs.LogOf.{log_of_at}
-use Rattle.totem_agreement.proofs.Waits.{waits_next, waits_end}
+use Rattle.totem_agreement.proofs.WhoWaits.{waits_next, waits_end}
 use Rattle.totem_agreement.proofs.waitings.waiting.Goals as goal
 
 pub waiting_of-requires-clause-log : goal.waiting_of-requires-clause-log

@@ -1,4 +1,4 @@
-use Rattle.totem_agreement.proofs.Waits.{WaitsOf}
+use Rattle.totem_agreement.proofs.WhoWaits.{WaitsOf}
 use Rattle.totem_agreement.proofs.waitings.waiting.Given as goal
 
 abbrev pub invariant-loop-k : goal.invariant-loop-k

@@ -1,4 +1,4 @@
-use Rattle.totem_agreement.proofs.Waits.{WaitsAmong}
+use Rattle.totem_agreement.proofs.WhoWaits.{WaitsAmong}
 use Rattle.totem_agreement.proofs.waitings.waiting_of.Given as goal
 
 abbrev pub invariant-loop-other : goal.invariant-loop-other

@@ -1,21 +1,21 @@
 use Rattle.std.proofs.Common.{sym, ◌∙◌}
 use Rattle.totem_passes.proofs.Starting.{reworded}
-use Rattle.totem_agreement.proofs.Facts.{facts}
-use Rattle.totem_agreement.proofs.Causing.{send_here, effects_begin, none_without_effect, least_effect}
+use Rattle.totem_agreement.proofs.Facts.{facts_of}
+use Rattle.totem_agreement.proofs.CausalityFaults.{send_here, effects_begin, none_without_effect, least_effect}
 use Rattle.totem_agreement.proofs.Suspecting.{none_unsuspected}
 use Rattle.totem_agreement.proofs.causality.CausesRelation.rest.Goals as goal
 
 pub returns-then-not-contains : goal.returns-then-not-contains
 returns-then-not-contains c =
     let s = c.args.self.now.stays.now in
-    none_unsuspected _ c.args.self.now.suspects s.run.now.logs s.ring s.list.items _ _ _ _ _ (facts s.run.now.logs s.ring s.list.items s.meets s.are) c.args.self.now.are (sym c.contains.ensures ∙ c.if-not-contains.true) (rw c.in-Send.is at c.entry_in.ensures)
+    none_unsuspected _ c.args.self.now.suspects s.run.now.logs s.ring s.list.items _ _ _ _ _ (facts_of s) c.args.self.now.are (sym c.contains.ensures ∙ c.if-not-contains.true) (rw c.in-Send.is at c.entry_in.ensures)
 
 pub least_list-requires-clause-begins : goal.least_list-requires-clause-begins
-least_list-requires-clause-begins c = effects_begin _ _ _ _ _ (facts _ _ _ c.args.self.now.stays.now.meets c.args.self.now.stays.now.are)
+least_list-requires-clause-begins c = effects_begin _ _ _ _ _ (facts_of c.args.self.now.stays.now)
 
 pub returns : goal.returns
 returns c =
-    let of = facts _ _ _ c.args.self.now.stays.now.meets c.args.self.now.stays.now.are in
+    let of = facts_of c.args.self.now.stays.now in
     let at = rw c.in-Send.is at c.entry_in.ensures in
     reworded c.least_list.result _ _ _ _
     (λ none. none_without_effect _ _ _ _ _ _ _ at none)

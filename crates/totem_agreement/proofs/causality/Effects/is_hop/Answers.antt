@@ -1,13 +1,13 @@
 use Rattle.std.proofs.Common.{arith}
 use Rattle.totem_table.proofs.Comparing.{other_parts}
-use Rattle.totem_agreement.proofs.Facts.{facts}
-use Rattle.totem_agreement.proofs.Causing.{no_hop, hop_by_delivery, lt_decided}
+use Rattle.totem_agreement.proofs.Facts.{facts_of}
+use Rattle.totem_agreement.proofs.CausalityFaults.{no_hop, hop_by_delivery, lt_decided}
 use Rattle.totem_agreement.proofs.causality.Effects.is_hop.Goals as goal
 use Rattle.totem_agreement.proofs.causality.Effects.is_hop.Goals.{else-eq-via-then-eq+else-self-at, else-eq-via-else-eq}
 
 pub returns-in-None : goal.returns-in-None
 returns-in-None c =
-    let of = facts _ _ _ c.args.self.now.stays.now.meets c.args.self.now.stays.now.are in
+    let of = facts_of c.args.self.now.stays.now in
     no_hop _ _ c.args.stay.now _ c.args.self.now.proc c.args.self.now.at c.args.at
     (λ (same, lt). elim c.else-eq.branch [
       | else-eq-via-then-eq+else-self-at w ↦ (let le = w.if-self-at.false in omega arith)
@@ -17,7 +17,7 @@ returns-in-None c =
 
 pub returns-in-Some : goal.returns-in-Some
 returns-in-Some c =
-    let of = facts _ _ _ c.args.self.now.stays.now.meets c.args.self.now.stays.now.are in
+    let of = facts_of c.args.self.now.stays.now in
     hop_by_delivery _ _ _ c.args.stay.now _ c.args.self.now.proc c.args.self.now.at c.args.at c.in-Some.before _
     (λ (same, lt). elim c.else-eq.branch [
       | else-eq-via-then-eq+else-self-at w ↦ (let le = w.if-self-at.false in omega arith)

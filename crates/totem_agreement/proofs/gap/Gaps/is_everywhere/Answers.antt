@@ -1,7 +1,7 @@
 use Rattle.std.proofs.Common.{refl}
 use Rattle.std.proofs.lemmas.Option.{slice_get_read}
-use Rattle.totem_agreement.proofs.Facts.{facts}
-use Rattle.totem_agreement.proofs.Lacking.{each_yet, each_more, everywhere, delivered_by}
+use Rattle.totem_agreement.proofs.Facts.{facts_of}
+use Rattle.totem_agreement.proofs.GapFaults.{each_yet, each_more, everywhere, delivered_by}
 use Rattle.totem_agreement.proofs.gap.Gaps.is_everywhere.Goals as goal
 
 pub loop-stay-init : goal.loop-stay-init
@@ -9,7 +9,7 @@ loop-stay-init c = each_yet _ _ _ _
 
 pub loop-stay-preserved : goal.loop-stay-preserved
 loop-stay-preserved c =
-    let of = facts _ _ _ c.args.self.now.stays.now.meets c.args.self.now.stays.now.are in
+    let of = facts_of c.args.self.now.stays.now in
     let at = slice_get_read c.deref-stay-items.result.now _ c.loop-stay.stay-index c.stay-item.result refl c.loop-stay-test.true c.stay-item.is in
     each_more _ _ _ _ _ c.stay-item.result at
     (delivered_by _ _ _ c.stay-item.result _ c.delivery_of.result of (record { at = c.loop-stay.stay-index; stands = rw c.deref-stay-items.ensures.value at at }) c.if-is_none.ensures c.delivery_of.ensures.found)

@@ -1,4 +1,4 @@
-use Rattle.totem_agreement.proofs.Lacking.{EachBefore}
+use Rattle.totem_agreement.proofs.GapFaults.{EachBefore}
 use Rattle.totem_agreement.proofs.gap.Gaps.is_everywhere.Given as goal
 
 abbrev pub invariant-loop-stay : goal.invariant-loop-stay

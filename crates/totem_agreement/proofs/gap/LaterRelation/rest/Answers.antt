@@ -1,14 +1,14 @@
 use Rattle.totem_passes.proofs.Starting.{reworded}
-use Rattle.totem_agreement.proofs.Facts.{facts}
-use Rattle.totem_agreement.proofs.Lacking.{lacks_begin, none_without_lack, least_lack}
+use Rattle.totem_agreement.proofs.Facts.{facts_of}
+use Rattle.totem_agreement.proofs.GapFaults.{lacks_begin, none_without_lack, least_lack}
 use Rattle.totem_agreement.proofs.gap.LaterRelation.rest.Goals as goal
 
 pub first_found-requires-clause-begins : goal.first_found-requires-clause-begins
-first_found-requires-clause-begins c = lacks_begin _ _ _ _ _ _ (facts _ _ _ c.args.self.now.stays.now.meets c.args.self.now.stays.now.are)
+first_found-requires-clause-begins c = lacks_begin _ _ _ _ _ _ (facts_of c.args.self.now.stays.now)
 
 pub returns : goal.returns
 returns c =
-    let of = facts _ _ _ c.args.self.now.stays.now.meets c.args.self.now.stays.now.are in
+    let of = facts_of c.args.self.now.stays.now in
     let at = rw c.in-Deliver.is at c.entry_in.ensures in
     reworded c.first_found.result _ _ _ _
     (λ none. none_without_lack _ _ _ _ _ _ _ _ _ at none)

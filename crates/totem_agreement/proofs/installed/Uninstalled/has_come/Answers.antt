@@ -1,11 +1,11 @@
 use Rattle.std.proofs.Common.{refl}
-use Rattle.totem_agreement.proofs.Facts.{facts}
+use Rattle.totem_agreement.proofs.Facts.{facts_of}
 use Rattle.totem_agreement.proofs.installed.Uninstalled.has_come.Goals as goal
 
 pub returns-in-Some : goal.returns-in-Some
 returns-in-Some c =
     let s = c.args.self.now.stays.now in
-    let is = (facts s.run.now.logs s.ring s.list.items s.meets s.are).each c.in-Some.field-0.now c.in-Some.ensures.found in
+    let is = (facts_of s).each c.in-Some.field-0.now c.in-Some.ensures.found in
     (λ t. rw (← c.in-Some.ensures.proc) (c.in-Some.field-0.now.from, is.is.change), λ h. refl)
 
 pub returns-in-None : goal.returns-in-None

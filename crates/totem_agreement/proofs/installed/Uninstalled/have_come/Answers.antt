@@ -1,7 +1,7 @@
 use Rattle.std.proofs.Common.{rules, tests}
 use Rattle.std.proofs.lemmas.Iterator.{cases_from_all, YieldsList-from_slice}
 use Rattle.totem_agreement.specs.Acts.{HasCome}
-use Rattle.totem_agreement.proofs.Rooms.{all_or_not_all}
+use Rattle.totem_agreement.proofs.EventFaults.{all_or_not_all}
 use Rattle.totem_agreement.proofs.installed.Uninstalled.have_come.Goals as goal
 
 pub returns : goal.returns

@@ -1,5 +1,5 @@
 use Rattle.std.proofs.Common.{refl}
-use Rattle.totem_agreement.proofs.Ringing.{are_rings}
+use Rattle.totem_agreement.proofs.Rings.{are_rings}
 use Rattle.totem_agreement.proofs.jobs.Jobs.over.Goals as goal
 
 pub returns : goal.returns

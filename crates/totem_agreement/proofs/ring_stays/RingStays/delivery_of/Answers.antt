@@ -1,5 +1,5 @@
 use Rattle.totem_agreement.proofs.Indexing.{never_delivers}
-use Rattle.totem_agreement.proofs.Known.{stay_is}
+use Rattle.totem_agreement.proofs.KnownStays.{stay_is}
 use Rattle.totem_agreement.proofs.ring_stays.RingStays.delivery_of.Goals as goal
 
 pub returns-clause-none : goal.returns-clause-none

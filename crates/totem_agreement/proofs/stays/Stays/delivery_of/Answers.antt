@@ -2,9 +2,9 @@ use Rattle.std.proofs.Common.{◌≡◌, ◌∙◌, ap, sym, slice_get, Some, ar
 use Rattle.std.proofs.lemmas.Option.{slice_get-get_or, slice_get_within}
 use Rattle.totem_ids.specs.contracts.message.MsgIdOrd.TheImpl as message
 use Rattle.totem_agreement.specs.declared.act.Act.TheVariants as acts
-use Rattle.totem_agreement.proofs.Answering.{as_many, each_tells}
+use Rattle.totem_agreement.proofs.FoundByIndex.{as_many, each_tells}
 use Rattle.totem_agreement.proofs.Indexing.{never_delivers}
-use Rattle.totem_agreement.proofs.Known.{stay_is}
+use Rattle.totem_agreement.proofs.KnownStays.{stay_is}
 use Rattle.totem_agreement.proofs.stays.Stays.delivery_of.Goals as goal
 
 pub index-requires : goal.index-requires

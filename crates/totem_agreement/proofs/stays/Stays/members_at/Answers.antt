@@ -1,6 +1,6 @@
 use Rattle.std.proofs.Common.{arith}
 use Rattle.std.proofs.lemmas.Option.{slice_get-get_or}
-use Rattle.totem_agreement.proofs.Known.{stay_is}
+use Rattle.totem_agreement.proofs.KnownStays.{stay_is}
 use Rattle.totem_agreement.proofs.Reaching.{members_before, members_after}
 use Rattle.totem_agreement.proofs.stays.Stays.members_at.Goals as goal
 use Rattle.totem_agreement.proofs.stays.Stays.members_at.Goals.{then-at-stay, else-at-stay}

@@ -1,8 +1,8 @@
 use Rattle.std.proofs.Common.{rules, ◌≡◌, slice_get, Some, refl, arith}
 use Rattle.std.proofs.lemmas.Option.{slice_get_read, slice_get_within}
-use Rattle.totem_agreement.proofs.Answering.{one_stay}
-use Rattle.totem_agreement.proofs.Looking.{not_one_more}
-use Rattle.totem_agreement.proofs.Known as known
+use Rattle.totem_agreement.proofs.FoundByIndex.{one_stay}
+use Rattle.totem_agreement.proofs.FindingStays.{not_one_more}
+use Rattle.totem_agreement.proofs.KnownStays as known
 use Rattle.totem_agreement.proofs.stays.Stays.position.Goals as goal
 
 pub returns-then-eq : goal.returns-then-eq

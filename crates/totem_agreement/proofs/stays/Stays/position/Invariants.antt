@@ -1,4 +1,4 @@
-use Rattle.totem_agreement.proofs.Looking.{NotBefore}
+use Rattle.totem_agreement.proofs.FindingStays.{NotBefore}
 use Rattle.totem_agreement.proofs.stays.Stays.position.Given as goal
 
 abbrev pub invariant-loop-number : goal.invariant-loop-number

@@ -1,5 +1,5 @@
 use Rattle.std.proofs.Common.{arith}
-use Rattle.totem_agreement.proofs.Answering.{one_sends_none, none_sends}
+use Rattle.totem_agreement.proofs.FoundByIndex.{one_sends_none, none_sends}
 use Rattle.totem_agreement.proofs.stays.Stays.send_of.Goals as goal
 
 pub loop-number-preserved : goal.loop-number-preserved

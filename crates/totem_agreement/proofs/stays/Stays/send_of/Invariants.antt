@@ -1,4 +1,4 @@
-use Rattle.totem_agreement.proofs.Answering.{SendNone}
+use Rattle.totem_agreement.proofs.FoundByIndex.{SendNone}
 use Rattle.totem_agreement.proofs.stays.Stays.send_of.Given as goal
 
 abbrev pub invariant-loop-number : goal.invariant-loop-number

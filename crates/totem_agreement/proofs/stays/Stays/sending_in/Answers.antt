@@ -2,7 +2,7 @@ use Rattle.std.proofs.Common.{◌≡◌, ◌∙◌, ap, sym, slice_get, Some, ar
 use Rattle.std.proofs.lemmas.Option.{slice_get-get_or}
 use Rattle.totem_ids.specs.contracts.message.MsgIdOrd.TheImpl as message
 use Rattle.totem_agreement.specs.declared.act.Act.TheVariants as acts
-use Rattle.totem_agreement.proofs.Answering.{as_many, each_tells, sends_in}
+use Rattle.totem_agreement.proofs.FoundByIndex.{as_many, each_tells, sends_in}
 use Rattle.totem_agreement.proofs.Indexing.{serves, serves_not}
 use Rattle.totem_agreement.proofs.stays.Stays.sending_in.Goals as goal
 

@@ -1,4 +1,4 @@
-use Rattle.totem_agreement.proofs.Looking.{never_comes}
+use Rattle.totem_agreement.proofs.FindingStays.{never_comes}
 use Rattle.totem_agreement.proofs.stays.Stays.stay_of.Goals as goal
 
 pub returns-clause-none : goal.returns-clause-none

@@ -28,9 +28,9 @@ use Rattle.totem_evs.specs.contracts.pending.PendingOrd.TheImpl.Laws.{total-law}
 use Rattle.totem_evs.specs.Unsettled.{PendingBelow, ArePending}
 use Rattle.totem_evs.proofs.ProcOrder.{exact_proc}
 use Rattle.totem_passes.proofs.Exact.{both_equal, exact_ring, exact_message}
-use Rattle.totem_agreement.proofs.Ringing.{less_first, compared, below_from_less}
+use Rattle.totem_agreement.proofs.Rings.{less_first, compared, below_from_less}
 use Rattle.totem_agreement.specs.Pendings.{IsInOrder}
-use Rattle.totem_agreement.proofs.Pend.{HoldsPending, same_pending}
+use Rattle.totem_agreement.proofs.WhatIsPending.{HoldsPending, same_pending}
 
 pub exact_pending : CmpEqualImpliesEq pending.cmp-value.it
 exact_pending a b e = let h = both_equal (life.cmp-value.it a.proc b.proc) (message.cmp-value.it a.msg b.msg) e in

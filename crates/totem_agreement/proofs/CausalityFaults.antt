@@ -25,12 +25,12 @@ use Rattle.totem_agreement.proofs.Facts.{Facts, StayFacts, here_delivers}
 use Rattle.totem_agreement.proofs.Rests.{none_rest, least_rest, nothing_here, only_here, sends_there, there_sends, index_of, begins_at}
 
 -- one delivery of a message in c and in what follows it
-pub one_in : (run : List Log) (c : RingId) (stays : List Stay) (p i j : ℕ) (m : MsgId) → Facts run c stays → DeliversIn (log_of run p) c m i → DeliversIn (log_of run p) c m j → i ≡ j
-one_in run c stays p i j m facts (x, at_i, _) (y, at_j, _) = facts.meets.once.one_delivery p i j m x y at_i at_j
+pub one_delivery_in : (run : List Log) (c : RingId) (stays : List Stay) (p i j : ℕ) (m : MsgId) → Facts run c stays → DeliversIn (log_of run p) c m i → DeliversIn (log_of run p) c m j → i ≡ j
+one_delivery_in run c stays p i j m facts (x, at_i, _) (y, at_j, _) = facts.meets.once.one_delivery p i j m x y at_i at_j
 
 -- what no one delivers there, the log doesn't
-pub not_in : (run : List Log) (c : RingId) (stay : Stay) (m : MsgId) → StayFacts run c stay → DeliversNot stay.log.now c m → HasDelivered (log_of run stay.proc) c m → ⊥
-not_in run c stay m facts never h = never.never (rw facts.log h)
+pub not_delivered_in : (run : List Log) (c : RingId) (stay : Stay) (m : MsgId) → StayFacts run c stay → DeliversNot stay.log.now c m → HasDelivered (log_of run stay.proc) c m → ⊥
+not_delivered_in run c stay m facts never h = never.never (rw facts.log h)
 
 -- the surprises of one stay
 surprise_at : (run : List Log) (c : RingId) (m n : MsgId) (p i : ℕ) (rest : List Place) → IsOneSurprise run c m n (place p i ∷ rest) → IsSurprise run c m n p i
@@ -38,7 +38,7 @@ surprise_at run c m n p i [] (j, is, h) = let same : j ≡ i = omega arith in rw
 surprise_at run c m n p i (f ∷ more) h = absurd h
 
 pub none_undelivered : (run : List Log) (c : RingId) (stay : Stay) (m n : MsgId) → StayFacts run c stay → DeliversNot stay.log.now c n → NoneWithin IsInside (IsOneSurprise run c m n) stay
-none_undelivered run c stay m n facts never = record { none = λ i rest inside h. not_in run c stay n facts never (i, (surprise_at run c m n stay.proc i rest h).0) }
+none_undelivered run c stay m n facts never = record { none = λ i rest inside h. not_delivered_in run c stay n facts never (i, (surprise_at run c m n stay.proc i rest h).0) }
 
 pub none_caused : (run : List Log) (c : RingId) (stays : List Stay) (stay : Stay) (m n : MsgId) (k l : ℕ) → Facts run c stays → IsAmong stays stay → DeliversHere stay n k → DeliversHere stay m l → l < k
     → NoneWithin IsInside (IsOneSurprise run c m n) stay
@@ -46,7 +46,7 @@ none_caused run c stays stay m n k l facts among effect cause lt = record { none
   where
     never : (i : ℕ) → IsSurprise run c m n stay.proc i → ⊥
     never i (delivers, none) =
-        let same = one_in run c stays stay.proc i k n facts delivers (here_delivers run c stay n k (facts.each stay among) effect) in
+        let same = one_delivery_in run c stays stay.proc i k n facts delivers (here_delivers run c stay n k (facts.each stay among) effect) in
         none l (rw same lt) (here_delivers run c stay m l (facts.each stay among) cause)
 
 pub surprise_here : (run : List Log) (c : RingId) (stays : List Stay) (stay : Stay) (m n : MsgId) (k : ℕ) (places : List Place) → Facts run c stays → IsAmong stays stay → DeliversHere stay n k
@@ -54,12 +54,12 @@ pub surprise_here : (run : List Log) (c : RingId) (stays : List Stay) (stay : St
 surprise_here run c stays stay m n k places facts among effect none is =
     let delivers = here_delivers run c stay n k (facts.each stay among) effect in
     only_here IsInside (IsOneSurprise run c m n) stay k places (k, refl, (delivers, none))
-    (λ i rest h. one_in run c stays stay.proc i k n facts (surprise_at run c m n stay.proc i rest h).0 delivers) is
+    (λ i rest h. one_delivery_in run c stays stay.proc i k n facts (surprise_at run c m n stay.proc i rest h).0 delivers) is
 
 pub not_before : (run : List Log) (c : RingId) (stays : List Stay) (stay : Stay) (m : MsgId) (k l : ℕ) → Facts run c stays → IsAmong stays stay → DeliversHere stay m l → k ≤ l
     → (i : ℕ) → i < k → DeliversIn (log_of run stay.proc) c m i → ⊥
 not_before run c stays stay m k l facts among cause le i lt delivers =
-    let same = one_in run c stays stay.proc i l m facts delivers (here_delivers run c stay m l (facts.each stay among) cause) in omega arith
+    let same = one_delivery_in run c stays stay.proc i l m facts delivers (here_delivers run c stay m l (facts.each stay among) cause) in omega arith
 
 pub surprises_begin : (run : List Log) (c : RingId) (stays : List Stay) (m n : MsgId) → Facts run c stays → EachBeginsWithin stays IsInside (IsOneSurprise run c m n)
 surprises_begin run c stays m n facts = record { each = λ places h. go places h }
@@ -81,7 +81,7 @@ no_hop run c stay m p i j apart facts never = (λ t. absurd cc, λ h. absurd (go
   where
     go : IsHop run c m (place p i) (place stay.proc j) → ⊥
     go (inl (same, lt)) = apart (sym same, omega arith)
-    go (inr (k, is, (l, lt, at))) = not_in run c stay m facts never (l, (Regular c, at, inl refl))
+    go (inr (k, is, (l, lt, at))) = not_delivered_in run c stay m facts never (l, (Regular c, at, inl refl))
 
 pub hop_by_delivery : (run : List Log) (c : RingId) (stays : List Stay) (stay : Stay) (m : MsgId) (p i j l : ℕ) (b : Bool) → ((stay.proc ≡ p) × (i < j) → ⊥) → Facts run c stays → IsAmong stays stay → DeliversHere stay m l
     → j < stay.turn → IsTrue b ↔ (l < j) → IsTrue b ↔ IsHop run c m (place p i) (place stay.proc j)
@@ -102,7 +102,7 @@ hop_by_delivery run c stays stay m p i j l b apart facts among here before decid
 
     from : IsHop run c m (place p i) (place stay.proc j) → l < j
     from (inl (same, lt)) = absurd (apart (sym same, omega arith))
-    from (inr (k, is, (o, lt, at))) = let same = one_in run c stays stay.proc o l m facts (Regular c, at, inl refl) delivers in omega arith
+    from (inr (k, is, (o, lt, at))) = let same = one_delivery_in run c stays stay.proc o l m facts (Regular c, at, inl refl) delivers in omega arith
 
 pub lt_decided : (a b : ℕ) → IsTrue (nat_lt a b) ↔ (a < b)
 lt_decided a b = search rules

@@ -61,7 +61,7 @@ kept messages origins o n k m h = record { place = h.place; below = h.below; is 
 
 pub one_more_origin : (replays : List Replay) (messages : List MsgId) (origins : List Origin) (old new : List ℕ) (n : ℕ) (m : MsgId) (o : Origin) → slice_get messages n ≡ Some m → SendsNext replays old n m o → IsOneMore old new o.stay
     → OriginsUpTo replays messages origins old n → OriginsUpTo replays messages (origins ++ (o ∷ [])) new (n + 1)
-one_more_origin replays messages origins old new n m o stands next more before = record { long = before.long ∙ sym more.long; count = count; each = each; within = within; rising = rising; all = all }
+one_more_origin replays messages origins old new n m o stands next more before = record { long = before.long ∙ sym more.long; count = count; each = each; within = index_taken; rising = rising; all = all }
   where
     count : length (origins ++ (o ∷ [])) ≡ n + 1
     count = length-append origins (o ∷ []) ∙ ap (λ k. k + 1) before.count
@@ -82,8 +82,8 @@ one_more_origin replays messages origins old new n m o stands next more before =
       | inr (last, same) ↦ rw (last, before.count, ← same) (newest q (rw (last, before.count) at at_q))
     ]
 
-    within : (k : ℕ) (p : Origin) → slice_get (origins ++ (o ∷ [])) k ≡ Some p → p.index < slice_index_or new p.stay 0
-    within k p at_p = elim (before_push origins o k p at_p) [
+    index_taken : (k : ℕ) (p : Origin) → slice_get (origins ++ (o ∷ [])) k ≡ Some p → p.index < slice_index_or new p.stay 0
+    index_taken k p at_p = elim (before_push origins o k p at_p) [
       | inl inside ↦ (let lt = before.within k p inside in let up = grows old new o.stay p.stay more in omega (arith, lt, up))
       | inr (last, same) ↦ rw (← same) (let index = next.index in let here = more.here in omega (arith, index, here))
     ]

@@ -29,7 +29,7 @@ use Rattle.totem_agreement.proofs.Deciding.{has_delivered_or_not}
 use Rattle.totem_agreement.proofs.Staying.{same_change}
 use Rattle.totem_agreement.proofs.Facts.{Facts, StayFacts, here_delivers}
 use Rattle.totem_agreement.proofs.Rests.{none_rest, least_rest, nothing_here, only_here, begins_at}
-use Rattle.totem_agreement.proofs.Causing.{one_in, not_in}
+use Rattle.totem_agreement.proofs.CausalityFaults.{one_delivery_in, not_delivered_in}
 
 -- one regular configuration that another is, or follows, in one log
 pub one_ring : (run : List Log) (p : ℕ) (c c' : RingId) (d : ConfId) → IsOneConfiguration run → Com (log_of run p) c d → Com (log_of run p) c' d → c ≡ c'
@@ -105,7 +105,7 @@ pub none_later : (run : List Log) (c : RingId) (stay : Stay) (s : ℕ) (m n : Ms
 none_later run c stay s m n facts never = record { none = λ i rest inside h. go i (lack_at run c s m n stay.proc i rest h) }
   where
     go : (i : ℕ) → IsLack run c s m n stay.proc i → ⊥
-    go i (d, at, belongs, member, lacks) = not_in run c stay n facts never (i, (d, at, belongs))
+    go i (d, at, belongs, member, lacks) = not_delivered_in run c stay n facts never (i, (d, at, belongs))
 
 pub none_lacks : (run : List Log) (c : RingId) (stay : Stay) (s k : ℕ) (m n : MsgId) → StayFacts run c stay → DeliversHere stay m k → NoneWithin IsInside (IsOneLack run c s m n) stay
 none_lacks run c stay s k m n facts here = record { none = λ i rest inside h. go i (lack_at run c s m n stay.proc i rest h) }
@@ -119,7 +119,7 @@ none_member run c stays stay s k m n b facts among here tells no_member = record
   where
     go : (i : ℕ) → IsLack run c s m n stay.proc i → ⊥
     go i (d, at, belongs, member, lacks) =
-        let same = one_in run c stays stay.proc i k n facts (d, at, belongs) (here_delivers run c stay n k (facts.each stay among) here) in
+        let same = one_delivery_in run c stays stay.proc i k n facts (d, at, belongs) (here_delivers run c stay n k (facts.each stay among) here) in
         let t : b ≡ true = (tells.each d (Deliver n d, rw same at at, refl)).1 member in cc
 
 pub lack_here : (run : List Log) (c : RingId) (stays : List Stay) (stay : Stay) (s k : ℕ) (m n : MsgId) (b : Bool) (places : List Place) → Facts run c stays → IsAmong stays stay → DeliversHere stay n k → DeliversNot stay.log.now c m
@@ -127,11 +127,11 @@ pub lack_here : (run : List Log) (c : RingId) (stays : List Stay) (stay : Stay) 
 lack_here run c stays stay s k m n b places facts among here never tells is_member is = go (here_delivers run c stay n k (facts.each stay among) here)
   where
     one : DeliversIn (log_of run stay.proc) c n k → (i : ℕ) → IsLack run c s m n stay.proc i → i ≡ k
-    one there i (d, at, belongs, member, lacks) = one_in run c stays stay.proc i k n facts (d, at, belongs) there
+    one there i (d, at, belongs, member, lacks) = one_delivery_in run c stays stay.proc i k n facts (d, at, belongs) there
 
     go : DeliversIn (log_of run stay.proc) c n k → IsLeastWithin IsInside (IsOneLack run c s m n) stay places
     go (d, at, belongs) = only_here IsInside (IsOneLack run c s m n) stay k places
-        (k, refl, (d, at, belongs, (tells.each d (Deliver n d, at, refl)).0 is_member, not_in run c stay m (facts.each stay among) never))
+        (k, refl, (d, at, belongs, (tells.each d (Deliver n d, at, refl)).0 is_member, not_delivered_in run c stay m (facts.each stay among) never))
         (λ i rest h. one (d, at, belongs) i (lack_at run c s m n stay.proc i rest h)) is
 
 pub lacks_begin : (run : List Log) (c : RingId) (stays : List Stay) (s : ℕ) (m n : MsgId) → Facts run c stays → EachBeginsWithin stays IsInside (IsOneLack run c s m n)
@@ -246,8 +246,8 @@ gap_of run c m p i j (g ∷ []) sending delivers of (a, is, (lt, (n, later, (k, 
 gap_of run c m p i j (g ∷ h ∷ rest) sending delivers of (a, is, (lt, (n, later, one))) = absurd one
 
 -- the later delivery stands in the same stay
-pub within : (run : List Log) (c : RingId) (stays : List Stay) (stay : Stay) (n : MsgId) (j : ℕ) → Facts run c stays → IsAmong stays stay → DeliversIn (log_of run stay.proc) c n j → IsInside stay j
-within run c stays stay n j facts among (d, at, belongs) =
+pub delivery_inside : (run : List Log) (c : RingId) (stays : List Stay) (stay : Stay) (n : MsgId) (j : ℕ) → Facts run c stays → IsAmong stays stay → DeliversIn (log_of run stay.proc) c n j → IsInside stay j
+delivery_inside run c stays stay n j facts among (d, at, belongs) =
     let bounds = (facts.each stay among).is.here j d (Deliver n d, at, refl) belongs in record { after = bounds.0; until = bounds.1 }
 
 pub none_after : (run : List Log) (c : RingId) (stays : List Stay) (stay : Stay) (m : MsgId) (d : ConfId) (i : ℕ) (sending : Sending) → Facts run c stays → IsAmong stays stay → slice_get (log_of run stay.proc) i ≡ Some (Deliver m d) → IsSendingOf run c m sending
@@ -258,7 +258,7 @@ none_after run c stays stay m d i sending facts among at of none = nothing_here 
     go j q k gap = none.none j (place q k ∷ []) (inside gap) (later_of run c stays m d stay.proc i sending facts at of j q k gap)
       where
         inside : IsGap run c stay.proc i j q k → IsInside stay j
-        inside (o, n, x, y, s, l, earlier, later, lt, at_k, belongs, send, member, lacks) = within run c stays stay n j facts among later
+        inside (o, n, x, y, s, l, earlier, later, lt, at_k, belongs, send, member, lacks) = delivery_inside run c stays stay n j facts among later
 
 pub least_after : (run : List Log) (c : RingId) (stays : List Stay) (stay : Stay) (m : MsgId) (d : ConfId) (i : ℕ) (sending : Sending) (list : List Place) → Facts run c stays → IsAmong stays stay → IsInside stay i → slice_get (log_of run stay.proc) i ≡ Some (Deliver m d)
     → IsSendingOf run c m sending → IsLeastWithin IsInside (IsLater run c sending.proc m i) stay list → IsLeastFrom (BreaksGapIn run c) stay.proc i list
@@ -268,7 +268,7 @@ least_after run c stays stay m d i sending list facts among inside at of least =
     holds = rw least.is (gap_of run c m stay.proc i least.at least.rest sending (d, at, (facts.each stay among).stands i d inside (Deliver m d, at, refl)) of least.least.least.holds)
 
     inside_of : (j q k : ℕ) → IsGap run c stay.proc i j q k → IsInside stay j
-    inside_of j q k (o, n, x, y, s, l, earlier, later, lt, at_k, belongs, send, member, lacks) = within run c stays stay n j facts among later
+    inside_of j q k (o, n, x, y, s, l, earlier, later, lt, at_k, belongs, send, member, lacks) = delivery_inside run c stays stay n j facts among later
 
     compare : (j q k : ℕ) → IsGap run c stay.proc i j q k → ComesFirst (place stay.proc least.at ∷ least.rest) (place stay.proc j ∷ place q k ∷ [])
     compare j q k gap = let later = later_of run c stays m d stay.proc i sending facts at of j q k gap in elim (less_or_not j least.at) [

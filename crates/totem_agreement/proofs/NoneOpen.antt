@@ -14,7 +14,7 @@ use Rattle.totem_agreement.specs.Endings.{HasFailed}
 use Rattle.totem_agreement.specs.Pendings.{IsPendingIn, IsPlacedStay, EndsClosed, HasNonePending}
 use Rattle.totem_agreement.proofs.Excusing.{not_excused}
 use Rattle.totem_agreement.proofs.Facts.{Facts, StayFacts}
-use Rattle.totem_agreement.proofs.Pend.{came_to}
+use Rattle.totem_agreement.proofs.WhatIsPending.{came_to}
 
 -- the logs of stays are in place, as all logs of the run
 pub placed : (run : List Log) (c : RingId) (stays : List Stay) → MeetsPasses run → All (IsStayOf run c) stays → All IsPlacedStay stays

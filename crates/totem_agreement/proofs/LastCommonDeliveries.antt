@@ -20,12 +20,12 @@ use Rattle.totem_agreement.specs.Acts.{IsAmong, DeliversNot}
 use Rattle.totem_agreement.specs.Gaps.{IsApart, IsBeyond, AreLasts, IsSettled}
 use Rattle.totem_agreement.proofs.Facts.{Facts, StayFacts}
 use Rattle.totem_agreement.proofs.Rests.{nothing_here}
-use Rattle.totem_agreement.proofs.Causing.{not_in}
-use Rattle.totem_agreement.proofs.Lacking.{gap_at, within}
+use Rattle.totem_agreement.proofs.CausalityFaults.{not_delivered_in}
+use Rattle.totem_agreement.proofs.GapFaults.{delivery_inside, gap_at}
 
 pub apart_undelivered : (run : List Log) (c : RingId) (follower : Stay) (p at : ℕ) (m : MsgId) (d : ConfId) → StayFacts run c follower → slice_get (log_of run p) at ≡ Some (Deliver m d) → DeliversNot follower.log.now c m → IsApart run c p follower.proc at
 apart_undelivered run c follower p at m d of there not = record {
-  never = λ n (x, is, belongs) h. (let same : n ≡ m = cc in not_in run c follower m of not (rw same at h));
+  never = λ n (x, is, belongs) h. (let same : n ≡ m = cc in not_delivered_in run c follower m of not (rw same at h));
 }
 
 pub apart_other : (run : List Log) (c : RingId) (p q at : ℕ) (e : Entry) → slice_get (log_of run p) at ≡ Some e → ((m : MsgId) (d : ConfId) → e ≡ Deliver m d → ⊥) → IsApart run c p q at
@@ -37,7 +37,7 @@ pub record ApartFrom (run : List Log) (c : RingId) (p q n : ℕ) : Type 0 where
 
 pub apart_at_end : (run : List Log) (c : RingId) (stays : List Stay) (leader : Stay) (q : ℕ) → Facts run c stays → IsAmong stays leader → ApartFrom run c leader.proc q leader.end
 apart_at_end run c stays leader q facts among = record {
-  each = λ j le. record { never = λ n delivers h. (let inside = within run c stays leader n j facts among delivers in let until = inside.until in absurd (omega arith)) };
+  each = λ j le. record { never = λ n delivers h. (let inside = delivery_inside run c stays leader n j facts among delivers in let until = inside.until in absurd (omega arith)) };
 }
 
 pub apart_more : (run : List Log) (c : RingId) (p q n k : ℕ) → n ≡ k + 1 → IsApart run c p q k → ApartFrom run c p q n → ApartFrom run c p q k

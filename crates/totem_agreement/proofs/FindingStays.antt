@@ -15,7 +15,7 @@ use Rattle.totem_agreement.specs.declared.stay.Stay.{Stay}
 use Rattle.totem_agreement.specs.Stays.{IsStay, HasStay, AreStays}
 use Rattle.totem_agreement.specs.Acts.{NeverComes, NobodySent}
 use Rattle.totem_agreement.proofs.Staying.{names_no_change}
-use Rattle.totem_agreement.proofs.Known as known
+use Rattle.totem_agreement.proofs.KnownStays as known
 
 -- none of the stays before the n-th is p's
 pub record NotBefore (stays : List Stay) (p n : ℕ) : Type 0 where

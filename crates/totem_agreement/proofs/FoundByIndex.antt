@@ -24,9 +24,9 @@ use Rattle.totem_agreement.specs.Stays.{IsShortStay, AreStays}
 use Rattle.totem_agreement.specs.Acts.{IsAmong, NobodySent}
 use Rattle.totem_agreement.specs.Indexes.{index_told, Tells, AllTell, SendsNoneIn}
 use Rattle.totem_agreement.proofs.Indexing.{sends_act}
-use Rattle.totem_agreement.proofs.Looking.{nobody_sent}
-use Rattle.totem_agreement.proofs.Rooms.{inside_names}
-use Rattle.totem_agreement.proofs.Known as known
+use Rattle.totem_agreement.proofs.FindingStays.{nobody_sent}
+use Rattle.totem_agreement.proofs.Facts.{com_of}
+use Rattle.totem_agreement.proofs.KnownStays as known
 
 -- the stays of a run are short
 pub are_short : (run : List Log) (c : RingId) (stays : List Stay) → AreStays run c stays → All IsShortStay stays
@@ -70,7 +70,7 @@ sends_in run c list stay i m x v met are among after until sends = rw regular at
     regular : x ≡ Regular c
     regular =
         let is = known.stay_is run c list stay met are among in
-        only stay.log.now x ((known.meets run met).once.regular stay.proc i m x (v, at)) (inside_names stay.log.now c stay.from stay.turn stay.end i x is.is after until (Send m x v, sends, refl))
+        only stay.log.now x ((known.meets run met).once.regular stay.proc i m x (v, at)) (com_of stay.log.now c stay.from stay.turn stay.end i x is.is after until (Send m x v, sends, refl))
 
 -- none of the first n stays sends m
 pub record SendNone (stays : List Stay) (m : MsgId) (n : ℕ) : Type 0 where

@@ -25,11 +25,11 @@ use Rattle.totem_agreement.specs.Acts.{IsAmong, DeliversHere, DeliversNot}
 use Rattle.totem_agreement.specs.Search.{IsInside, EachBeginsWithin, BeginsWithin, NoneWithin, IsLeastWithin}
 use Rattle.totem_agreement.specs.Partings.{IsAnywhere, IsSpan, IsNoChange, NeverDelivers, IsPartner, IsOnePartner}
 use Rattle.totem_agreement.proofs.Deciding.{below_or_not, delivers_or_not}
-use Rattle.totem_agreement.proofs.Known.{any_change_at_or_not}
+use Rattle.totem_agreement.proofs.KnownStays.{any_change_at_or_not}
 use Rattle.totem_agreement.proofs.Staying.{same_change, change_within}
 use Rattle.totem_agreement.proofs.Facts.{Facts, StayFacts}
 use Rattle.totem_agreement.proofs.Rests.{nothing_here, only_here, begins_at}
-use Rattle.totem_agreement.proofs.Causing.{not_in}
+use Rattle.totem_agreement.proofs.CausalityFaults.{not_delivered_in}
 
 -- the next change after the one to c, and after the one to what follows it
 pub next_of_from : (log : List Entry) (c : RingId) (from turn end k : ℕ) → IsStay log c from turn end → IsNextChange log from k → k ≡ turn
@@ -155,23 +155,23 @@ next_is_short run c stays stay d nx facts among to =
 
 -- whether the message is delivered in x
 pub never_there : (run : List Log) (c : RingId) (stay : Stay) (m : MsgId) (x : ConfId) → StayFacts run c stay → DeliversNot stay.log.now c m → NeverDelivers (log_of run stay.proc) c m x
-never_there run c stay m x facts never = record { never = λ inside l at. not_in run c stay m facts never (l, (x, at, inside)) }
+never_there run c stay m x facts never = record { never = λ inside l at. not_delivered_in run c stay m facts never (l, (x, at, inside)) }
 
 here_is : (run : List Log) (c : RingId) (stay : Stay) (m : MsgId) (k : ℕ) → StayFacts run c stay → (here : DeliversHere stay m k) → Delivers (log_of run stay.proc) k m here.conf
 here_is run c stay m k facts here = rw facts.log at here.delivers
 
-pub there : (run : List Log) (c : RingId) (stay : Stay) (m o : MsgId) (x y : ConfId) (k : ℕ) (b : Bool) → StayFacts run c stay → DeliversHere stay m k → slice_get (log_of run stay.proc) k ≡ Some (Deliver o y) → IsTrue b ↔ (y ≡ x)
+pub delivers_on_true : (run : List Log) (c : RingId) (stay : Stay) (m o : MsgId) (x y : ConfId) (k : ℕ) (b : Bool) → StayFacts run c stay → DeliversHere stay m k → slice_get (log_of run stay.proc) k ≡ Some (Deliver o y) → IsTrue b ↔ (y ≡ x)
     → OnTrue b ((l : ℕ) × Delivers (log_of run stay.proc) l m x)
-there run c stay m o x y k true facts here at decides =
+delivers_on_true run c stay m o x y k true facts here at decides =
     let mine = here_is run c stay m k facts here in
     let same : here.conf ≡ y = cc in
     (k, rw (same, decides.0 refl) at mine)
-there run c stay m o x y k false facts here at decides = tt
+delivers_on_true run c stay m o x y k false facts here at decides = tt
 
-pub not_there : (run : List Log) (c : RingId) (stays : List Stay) (stay : Stay) (m o : MsgId) (x y : ConfId) (k : ℕ) (b : Bool) → Facts run c stays → IsAmong stays stay → DeliversHere stay m k → slice_get (log_of run stay.proc) k ≡ Some (Deliver o y)
+pub never_on_false : (run : List Log) (c : RingId) (stays : List Stay) (stay : Stay) (m o : MsgId) (x y : ConfId) (k : ℕ) (b : Bool) → Facts run c stays → IsAmong stays stay → DeliversHere stay m k → slice_get (log_of run stay.proc) k ≡ Some (Deliver o y)
     → IsTrue b ↔ (y ≡ x) → OnFalse b (NeverDelivers (log_of run stay.proc) c m x)
-not_there run c stays stay m o x y k true facts among here at decides = tt
-not_there run c stays stay m o x y k false facts among here at decides = record { never = λ inside l at_l. go l at_l }
+never_on_false run c stays stay m o x y k true facts among here at decides = tt
+never_on_false run c stays stay m o x y k false facts among here at decides = record { never = λ inside l at_l. go l at_l }
   where
     go : (l : ℕ) → Delivers (log_of run stay.proc) l m x → ⊥
     go l at_l =

@@ -19,7 +19,7 @@ use Rattle.totem_agreement.specs.Pendings.{IsPendingIn}
 use Rattle.totem_agreement.specs.declared.complete.Complete.{Complete}
 use Rattle.totem_agreement.specs.declared.complete.Complete.TheVariants as complete
 use Rattle.totem_agreement.specs.Completeness.{AllTaken, IsFullOf, IsCompleteOf, AreCompleteOf, AreCompleteIn}
-use Rattle.totem_agreement.proofs.Pend.{came_to}
+use Rattle.totem_agreement.proofs.WhatIsPending.{came_to}
 use Rattle.totem_agreement.proofs.Placing.{has_delivered, place_within, sends_at}
 use Rattle.totem_agreement.specs.declared.origins.Origin.{Origin}
 use Rattle.totem_agreement.specs.Uniform.{AreReplays, AreOrigins}

@@ -29,12 +29,8 @@ use Rattle.totem_agreement.specs.Reached.{IsSafeIn, AreMembersAt, HoldsNotOfAll}
 use Rattle.totem_agreement.proofs.Deciding.{delivers_or_ends_or_not, changes_or_not}
 use Rattle.totem_agreement.proofs.Excusing.{excused, not_excused}
 use Rattle.totem_agreement.proofs.Facts.{Facts, StayFacts, com_of, at_turn_no_name, here_delivers}
-use Rattle.totem_agreement.proofs.OnePlace.{IsOfOne}
+use Rattle.totem_agreement.proofs.OneEvent.{IsOfOne}
 use Rattle.totem_agreement.proofs.Reaching.{safe_in}
-
--- what an entry inside a stay names is c or follows it
-pub inside_names : (log : List Entry) (c : RingId) (from turn end i : ℕ) (d : ConfId) → IsStay log c from turn end → from < i → i < end → Names log i d → Com log c d
-inside_names log c from turn end i d is lt below names = com_of log c from turn end i d is lt below names
 
 -- a process that has come, that is not excused there and has not delivered m, has missed it
 pub missed : (run : List Log) (c : RingId) (stay : Stay) (m : MsgId) → IsStayOf run c stay → (IsExcused stay → ⊥) → DeliversNot stay.log.now c m → DeliversOrEnds run stay.proc c m → ⊥
