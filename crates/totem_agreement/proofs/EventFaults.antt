@@ -1,6 +1,6 @@
 -- What breaks 3, 7.1 and 7.2 in one regular configuration, event by event.
 use Rattle.std.proofs.Common.{◌≡◌, ℕ, ◌<◌, ◌≤◌, inl, inr, List, length, get_or, slice_get, Some, Bool, true, false, not, refl, sym, arith}
-use Rattle.std.specs.Prelude.{All, Contains}
+use Rattle.std.specs.Prelude.{All}
 use Rattle.std.specs.Bool.{MatchBool, OnTrue, OnFalse}
 use Rattle.std.specs.List.{AllWithin, HoldsAt}
 use Rattle.std.proofs.lemmas.Grind.{get_or_default_zero}
@@ -13,7 +13,7 @@ use Rattle.totem_ids.specs.declared.message.Service.{Service}
 use Rattle.totem_evs.specs.declared.entry.Entry.{Entry}
 use Rattle.totem_evs.specs.declared.entry.Entry.TheVariants.{Send, Deliver, Fail}
 use Rattle.totem_evs.specs.declared.log.Log.{Log}
-use Rattle.totem_evs.specs.Events.{ChangesTo, Delivers, IsMember, log_of}
+use Rattle.totem_evs.specs.Events.{ChangesTo, Delivers, log_of}
 use Rattle.totem_evs.specs.Changes.{Names}
 use Rattle.totem_evs.specs.Following.{Com, DeliversOrEnds}
 use Rattle.totem_evs.specs.AgreementFaults.{IsNotOwned, IsNotReached, IsNotInstalled}
@@ -22,15 +22,15 @@ use Rattle.totem_evs.specs.RingFaults.{BreaksOwnDeliveryIn, BreaksSafetyIn, Brea
 use Rattle.totem_evs.specs.Answers.{MeetsPasses}
 use Rattle.totem_evs.proofs.LogOf.{less_or_not}
 use Rattle.totem_agreement.specs.declared.stay.Stay.{Stay}
-use Rattle.totem_agreement.specs.Stays.{IsStay, IsExcused, IsStayOf}
+use Rattle.totem_agreement.specs.Stays.{IsExcused, IsStayOf}
 use Rattle.totem_agreement.specs.Acts.{HasCome, NeverComes, DeliversHere, DeliversNot}
 use Rattle.totem_agreement.specs.Search.{IsInside, EachStandsInside}
 use Rattle.totem_agreement.specs.Reached.{IsSafeIn, AreMembersAt, HoldsNotOfAll}
 use Rattle.totem_agreement.proofs.Deciding.{delivers_or_ends_or_not, changes_or_not}
 use Rattle.totem_agreement.proofs.Excusing.{excused, not_excused}
-use Rattle.totem_agreement.proofs.Facts.{Facts, StayFacts, com_of, at_turn_no_name, here_delivers}
+use Rattle.totem_agreement.proofs.Facts.{Facts, StayFacts, at_turn_no_name, here_delivers}
 use Rattle.totem_agreement.proofs.OneEvent.{IsOfOne}
-use Rattle.totem_agreement.proofs.Reaching.{safe_in}
+use Rattle.totem_agreement.proofs.Reaching.{is_among_members, is_member, safe_in}
 
 -- a process that has come, that is not excused there and has not delivered m, has missed it
 pub missed : (run : List Log) (c : RingId) (stay : Stay) (m : MsgId) → IsStayOf run c stay → (IsExcused stay → ⊥) → DeliversNot stay.log.now c m → DeliversOrEnds run stay.proc c m → ⊥
@@ -53,18 +53,6 @@ absent run c q m meets never h = go h
     go (inr (inl (i, d, at, com_d))) = inside i d (Fail d, at, refl) com_d
     go (inr (inr (loud, (d, fails, last, inl same)))) = never.never last.index (last.change.0, rw same at last.change.1)
     go (inr (inr (loud, (d, fails, last, inr f)))) = never.never f.from f.first.change
-
--- members of the configuration that an entry names are those of the change before it
-pub is_among_members : (run : List Log) (p i : ℕ) (log : List Entry) (members : List ℕ) (d : ConfId) (q : ℕ) → MeetsPasses run → log ≡ log_of run p → AreMembersAt log i members → Names log i d → IsMember run d q → Contains members q
-is_among_members run p i log members d q meets logs are names (r, j, ns, changes, here) =
-    let conf : d ≡ are.conf = are.named d names in
-    let same : ns ≡ members = meets.one.members r j p are.change are.conf ns members (rw conf at changes) (rw logs at are.with) in
-    rw same at here
-
-pub is_member : (run : List Log) (p i : ℕ) (log : List Entry) (members : List ℕ) (d : ConfId) (q : ℕ) → log ≡ log_of run p → AreMembersAt log i members → Names log i d → Contains members q → IsMember run d q
-is_member run p i log members d q logs are names here =
-    let conf : d ≡ are.conf = are.named d names in
-    (p, are.change, members, rw (← logs, conf) are.with, here)
 
 -- what a test of all members tells
 pub all_or_not_all : (b : Bool) (P : ℕ → Type 0) (members : List ℕ) → MatchBool b (AllWithin P members 0 (length members)) ((k : ℕ) × (k < length members) × HoldsAt (λ q. P q → ⊥) members k)

@@ -9,24 +9,26 @@ use Rattle.totem_ids.specs.declared.conf.ConfId.TheVariants.{Regular}
 use Rattle.totem_ids.specs.declared.message.MsgId.{MsgId}
 use Rattle.totem_ids.specs.declared.place.Place.{Place}
 use Rattle.totem_evs.specs.declared.entry.Entry.{Entry}
-use Rattle.totem_evs.specs.declared.entry.Entry.TheVariants.{Conf, Deliver}
+use Rattle.totem_evs.specs.declared.entry.Entry.TheVariants.{Deliver}
 use Rattle.totem_evs.specs.declared.log.Log.{Log}
-use Rattle.totem_evs.specs.Events.{log_of, ChangesWith, ChangesTo, Delivers, WasSentIn, IsMember, IsTransitional}
-use Rattle.totem_evs.specs.Changes.{Names, IsOneConfiguration}
+use Rattle.totem_evs.specs.Events.{log_of, Delivers, WasSentIn, IsTransitional}
+use Rattle.totem_evs.specs.Changes.{IsOneConfiguration}
 use Rattle.totem_evs.specs.Following.{Com, DeliversIn, HasDelivered}
 use Rattle.totem_evs.specs.RingAgreement.{NoGapsIn}
 use Rattle.totem_evs.specs.RingFaults.{BreaksGapIn}
 use Rattle.totem_evs.specs.AgreementFaults.{IsGap}
-use Rattle.totem_evs.specs.Answers.{ComesFirst, IsLeast}
+use Rattle.totem_evs.specs.Answers.{ComesFirst, IsLeast, MeetsPasses}
 use Rattle.totem_evs.proofs.LogOf.{less_or_not}
 use Rattle.totem_passes.specs.Search.{place, NoneFrom, IsLeastFrom, HoldsOfNone}
 use Rattle.totem_agreement.specs.declared.stay.Stay.{Stay}
 use Rattle.totem_agreement.specs.declared.stays.Sending.{Sending}
 use Rattle.totem_agreement.specs.Acts.{IsAmong, DeliversHere, DeliversNot, IsSendingOf, NobodySent}
 use Rattle.totem_agreement.specs.Search.{IsInside, EachBeginsWithin, NoneWithin, IsLeastWithin, BeginsWithin}
+use Rattle.totem_agreement.specs.Reached.{AreMembersAt}
 use Rattle.totem_agreement.specs.Gaps.{IsLack, IsOneLack, IsLater, IsEverywhere, TellsMember}
 use Rattle.totem_agreement.proofs.Deciding.{has_delivered_or_not}
 use Rattle.totem_agreement.proofs.Staying.{same_change}
+use Rattle.totem_agreement.proofs.Reaching.{is_among_members, is_member}
 use Rattle.totem_agreement.proofs.Facts.{Facts, StayFacts, here_delivers}
 use Rattle.totem_agreement.proofs.Rests.{none_rest, least_rest, nothing_here, only_here, begins_at}
 use Rattle.totem_agreement.proofs.CausalityFaults.{one_delivery_in, not_delivered_in}
@@ -48,53 +50,14 @@ one_ring run p c c' d one (inr a) (inr b) =
     to : a.to ≡ b.to
     to = one.once p a.to b.to d a.change b.change
 
--- the change before an entry of a stay
-pub change_before : (run : List Log) (c : RingId) (stay : Stay) (i j : ℕ) → StayFacts run c stay → IsInside stay i → ((i < stay.turn) × (j ≡ stay.from)) ⊎ ((stay.turn ≤ i) × (j ≡ stay.turn)) → (j < length stay.log.now) × (j < 1000000)
-change_before run c stay i j facts inside which = let lt = go which in let within = facts.within in let few = facts.few in rw facts.log (omega arith, omega arith)
-  where
-    go : ((i < stay.turn) × (j ≡ stay.from)) ⊎ ((stay.turn ≤ i) × (j ≡ stay.turn)) → j < stay.end
-    go (inl (lt, from)) = let a = inside.after in let u = inside.until in omega arith
-    go (inr (le, turn)) = let u = inside.until in omega arith
-
 -- members
-members_there : (run : List Log) (p i j q : ℕ) (x : ConfId) (ms : List ℕ) (b : Bool) → IsOneConfiguration run → ChangesWith (log_of run p) j x ms → IsTrue b ↔ Contains ms q → IsTrue b ↔ IsMember run x q
-members_there run p i j q x ms b one at decides = (
-  λ t. (p, j, ms, at, decides.0 t),
-  λ (r, k, ns, at', contains). decides.1 (rw (one.members r k p j x ns ms at' at) at contains),
-)
-
-pub tells : (run : List Log) (c : RingId) (stays : List Stay) (stay : Stay) (i j q : ℕ) (y : ConfId) (ms : List ℕ) (b : Bool) → Facts run c stays → IsAmong stays stay → IsInside stay i → ((i < stay.turn) × (j ≡ stay.from)) ⊎ ((stay.turn ≤ i) × (j ≡ stay.turn))
-    → slice_get stay.log.now j ≡ Some (Conf y ms) → IsTrue b ↔ Contains ms q → TellsMember run (log_of run stay.proc) i q b
-tells run c stays stay i j q y ms b facts among inside which at decides = record { each = λ x names. go x names which }
-  where
-    of : StayFacts run c stay
-    of = facts.each stay among
-
-    there : ChangesWith (log_of run stay.proc) j y ms
-    there = rw of.log at at
-
-    go : (x : ConfId) → Names (log_of run stay.proc) i x → ((i < stay.turn) × (j ≡ stay.from)) ⊎ ((stay.turn ≤ i) × (j ≡ stay.turn)) → IsTrue b ↔ IsMember run x q
-    go x names (inl (lt, from)) =
-        let same = of.is.regular i x inside.after lt names in
-        let is = same_change (log_of run stay.proc) j stay.from y (Regular c) from (ms, there) of.is.change in
-        rw same (members_there run stay.proc i j q (Regular c) ms b facts.meets.one (rw is at there) decides)
-    go x names (inr (le, turn)) =
-        let is = same_change (log_of run stay.proc) j stay.turn y x turn (ms, there) (of.following i x le inside.until names) in
-        members_there run stay.proc i j q x ms b facts.meets.one (rw is at there) decides
-
-pub tells_nothing : (run : List Log) (c : RingId) (stays : List Stay) (stay : Stay) (i j q : ℕ) (e : Entry) (b : Bool) → Facts run c stays → IsAmong stays stay → IsInside stay i → ((i < stay.turn) × (j ≡ stay.from)) ⊎ ((stay.turn ≤ i) × (j ≡ stay.turn))
-    → slice_get stay.log.now j ≡ Some e → ((y : ConfId) (ms : List ℕ) → e ≡ Conf y ms → ⊥) → TellsMember run (log_of run stay.proc) i q b
-tells_nothing run c stays stay i j q e b facts among inside which at other = record { each = λ x names. absurd (go x names which) }
-  where
-    of : StayFacts run c stay
-    of = facts.each stay among
-
-    no_change : (k : ℕ) (x : ConfId) → j ≡ k → ChangesTo (log_of run stay.proc) k x → ⊥
-    no_change k x same (ms, h) = let there : slice_get (log_of run stay.proc) k ≡ Some e = rw (of.log, same) at at in other x ms cc
-
-    go : (x : ConfId) → Names (log_of run stay.proc) i x → ((i < stay.turn) × (j ≡ stay.from)) ⊎ ((stay.turn ≤ i) × (j ≡ stay.turn)) → ⊥
-    go x names (inl (lt, from)) = no_change stay.from (Regular c) from of.is.change
-    go x names (inr (le, turn)) = no_change stay.turn x turn (of.following i x le inside.until names)
+pub tells_member : (run : List Log) (p i q : ℕ) (log : List Entry) (members : List ℕ) (b : Bool) → MeetsPasses run → log ≡ log_of run p → AreMembersAt log i members → IsTrue b ↔ Contains members q → TellsMember run (log_of run p) i q b
+tells_member run p i q log members b meets logs are decides = record {
+  each = λ x names. (
+    λ t. is_member run p i log members x q logs are (rw logs names) (decides.0 t),
+    λ member. decides.1 (is_among_members run p i log members x q meets logs are (rw logs names) member),
+  );
+}
 
 -- who lacks the earlier message
 lack_at : (run : List Log) (c : RingId) (s : ℕ) (m n : MsgId) (q k : ℕ) (rest : List Place) → IsOneLack run c s m n (place q k ∷ rest) → IsLack run c s m n q k

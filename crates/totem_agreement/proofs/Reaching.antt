@@ -1,5 +1,6 @@
--- Safe messages, and whom they reach.
+-- Safe messages, the members of the configuration in which a message is delivered, and whom they reach.
 use Rattle.std.proofs.Common.{◌≡◌, ℕ, ◌<◌, ◌≤◌, inl, inr, List, slice_get, Some, Bool, true, false, IsTrue, ◌↔◌, refl, arith}
+use Rattle.std.specs.Prelude.{Contains}
 use Rattle.totem_ids.specs.declared.ring.RingId.{RingId}
 use Rattle.totem_ids.specs.declared.conf.ConfId.{ConfId}
 use Rattle.totem_ids.specs.declared.conf.ConfId.TheVariants.{Regular, Transitional}
@@ -9,7 +10,7 @@ use Rattle.totem_evs.specs.declared.entry.Entry.{Entry}
 use Rattle.totem_evs.specs.declared.entry.Entry.TheVariants.{Conf, Send}
 use Rattle.totem_evs.specs.declared.log.Log.{Log}
 use Rattle.totem_evs.specs.Missing.{members_of}
-use Rattle.totem_evs.specs.Events.{ChangesTo, Delivers, IsSafe, IsTransitional, log_of}
+use Rattle.totem_evs.specs.Events.{ChangesTo, Delivers, IsMember, IsSafe, IsTransitional, log_of}
 use Rattle.totem_evs.specs.Changes.{Names}
 use Rattle.totem_evs.specs.Delivery.{WasSentFor}
 use Rattle.totem_evs.specs.Following.{Follows, Com}
@@ -70,6 +71,18 @@ members_after log c from turn end i k e is le below first at =
         | inr same ↦ absurd (names_no_change log i d names (x, rw same at change))
       ]
     ]
+
+-- members of the configuration that an entry names are those of the change before it
+pub is_among_members : (run : List Log) (p i : ℕ) (log : List Entry) (members : List ℕ) (d : ConfId) (q : ℕ) → MeetsPasses run → log ≡ log_of run p → AreMembersAt log i members → Names log i d → IsMember run d q → Contains members q
+is_among_members run p i log members d q meets logs are names (r, j, ns, changes, here) =
+    let conf : d ≡ are.conf = are.named d names in
+    let same : ns ≡ members = meets.one.members r j p are.change are.conf ns members (rw conf at changes) (rw logs at are.with) in
+    rw same at here
+
+pub is_member : (run : List Log) (p i : ℕ) (log : List Entry) (members : List ℕ) (d : ConfId) (q : ℕ) → log ≡ log_of run p → AreMembersAt log i members → Names log i d → Contains members q → IsMember run d q
+is_member run p i log members d q logs are names here =
+    let conf : d ≡ are.conf = are.named d names in
+    (p, are.change, members, rw (← logs, conf) are.with, here)
 
 -- a safe message that is delivered in c, or in what follows it, was sent in c
 one_origin : (log : List Entry) (b c : RingId) (d : ConfId) → ((i j : ℕ) (x : ConfId) → ChangesTo log i x → ChangesTo log j x → i ≡ j) → Com log b d → Com log c d → b ≡ c

@@ -1,6 +1,6 @@
 //! 6.3: who delivers a later message delivers the earlier one too, where its sender is still a member
 //! (docs/SPECIFICATIONS.md, "6 Total order", "Passes").
-ghost use Rattle.std.specs.Prelude.{◌≡◌, ◌↔◌, ◌⊎◌, ◌<◌, ◌≤◌, IsTrue, IfOk, MatchOption};
+ghost use Rattle.std.specs.Prelude.{◌≡◌, ◌↔◌, ◌⊎◌, ◌<◌, ◌≤◌, IsTrue, IfOk, MatchOption, Contains};
 ghost use Rattle.std.specs.Bool.{OnTrue, OnFalse};
 ghost use Rattle.totem_evs.specs.Events.{log_of};
 ghost use Rattle.totem_evs.specs.Following.{HasDelivered};
@@ -19,6 +19,12 @@ use totem_evs::{Entry, Places, SpecNo};
 use totem_ids::{MsgId, Place, Proc};
 use totem_passes::begin_at;
 
+fn is_among(members: &[Proc], proc: Proc) -> bool
+    ensures { IsTrue result ↔ Contains members.now proc }
+{
+    members.contains(&proc)
+}
+
 /// The deliveries of a later message by processes that do not deliver the earlier one, where its sender is a member.
 #[derive(Clone, Copy)]
 struct Lacks<'s, 'r, 'm> {
@@ -35,11 +41,7 @@ impl Lacks<'_, '_, '_> {
         requires inside { IsInside stay.now at }
         ensures { TellsMember self.now.stays.now.run.now.logs (log_of self.now.stays.now.run.now.logs stay.now.proc) at self.now.sender result }
     {
-        let change = if at < stay.turn { stay.from } else { stay.turn };
-        match &stay.log[change] {
-            Entry::Conf(_, members) => members.contains(self.sender),
-            _ => false,
-        }
+        is_among(self.stays.members_at(stay, at), self.sender)
     }
 }
 
