@@ -1,4 +1,5 @@
--- Searching for what breaks 4: a delivery, its process's next change, and that of a process which goes along without the message.
+-- What is found for 4 is the least list that breaks it: a delivery, its process's next change, and that of a process which
+-- goes along without the message.
 use Rattle.std.proofs.Common.{◌≡◌, ℕ, zero, suc, ◌+◌, ◌<◌, ◌⊎◌, inl, inr, List, [], ◌∷◌, length, slice_get, Some, Bool, true, false, IsTrue, ◌↔◌, refl, sym, arith}
 use Rattle.std.specs.Bool.{OnTrue, OnFalse}
 use Rattle.totem_ids.specs.declared.ring.RingId.{RingId}

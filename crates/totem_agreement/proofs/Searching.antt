@@ -1,4 +1,4 @@
--- Searching the stays, one after the other.
+-- What is found stay by stay is the least of all.
 use Rattle.std.proofs.Common.{◌≡◌, ℕ, ◌+◌, ◌<◌, ◌≤◌, inl, inr, List, ◌∷◌, length, slice_get, Some, refl, sym, ap, arith}
 use Rattle.std.proofs.lemmas.Option.{slice_get_within, get_or_from_slice_get}
 use Rattle.totem_ids.specs.declared.ring.RingId.{RingId}
