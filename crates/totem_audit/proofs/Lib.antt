@@ -1,6 +1,6 @@
 pub mod Cutting
 pub mod Firsts
-pub mod Known
+pub mod KnownJobs
 pub mod Results
 pub mod Rings
 pub mod Soundness

@@ -5,15 +5,15 @@ use Rattle.totem_evs.specs.declared.log.Log.{Log}
 use Rattle.totem_agreement.specs.declared.findings.Findings.{Findings}
 use Rattle.totem_agreement.specs.declared.jobs.Jobs.{Jobs}
 use Rattle.totem_agreement.specs.Jobs.{AreFindingsAt}
-use Rattle.totem_audit.specs.declared.gated.Done.{Done}
+use Rattle.totem_audit.specs.declared.job.DoneJob.{DoneJob}
 
 -- it is right for the job that it names, one of these
-pub record IsRight (run : List Log) (rings : List RingId) (r : Done) : Type 0 where
+pub record IsRight (run : List Log) (rings : List RingId) (r : DoneJob) : Type 0 where
   pub within : r.index < length rings
   pub right : AreFindingsAt run rings r.index r.findings
 
 -- and so is each of these
-pub record AreRight (run : List Log) (rings : List RingId) (results : List Done) : Type 0 where
+pub record AreRight (run : List Log) (rings : List RingId) (results : List DoneJob) : Type 0 where
   pub each : All (IsRight run rings) results
 
 -- the jobs are those of this run, in these configurations

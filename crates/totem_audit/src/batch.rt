@@ -2,7 +2,7 @@
 ghost use Rattle.std.specs.Prelude.{◌≡◌};
 ghost use Rattle.totem_audit.specs.Jobs.{AreRight};
 
-use crate::gated::Done;
+use crate::job::DoneJob;
 use std::marker::{Brand, Model, PhantomData};
 
 /// The name of the jobs of a run. It is a type of which no value is made; a function that is generic over it is called at `Brand`.
@@ -27,15 +27,15 @@ impl JobsName for Brand {
 /// Results of jobs of this name, each right for the job that it names, whatever way they come.
 #[derive(Drop)]
 pub struct Batch<N: JobsName> {
-    results: Vec<Done>,
+    results: Vec<DoneJob>,
     name: PhantomData<N>,
 }
 
 impl<N: JobsName> Model for Batch<N> {
     ghost use Rattle.std.specs.Prelude.{List};
-    ghost use Rattle.totem_audit.specs.declared.gated.Done.{Done};
+    ghost use Rattle.totem_audit.specs.declared.job.DoneJob.{DoneJob};
 
-    ghost Value = { List Done };
+    ghost Value = { List DoneJob };
 
     ghost view = { λ b. b.results.items };
 
@@ -45,7 +45,7 @@ impl<N: JobsName> Model for Batch<N> {
 }
 
 impl<N: JobsName> Batch<N> {
-    pub fn new(results: Vec<Done>) -> Batch<N>
+    pub fn new(results: Vec<DoneJob>) -> Batch<N>
         requires { AreRight N.logs N.rings results.items }
         ensures { result ≡ results.items }
     {
@@ -56,7 +56,7 @@ impl<N: JobsName> Batch<N> {
     }
 
     /// Gives the results, without taking memory.
-    pub fn into_results(self) -> Vec<Done>
+    pub fn into_results(self) -> Vec<DoneJob>
         ensures value { result.items ≡ self }
         ensures right { AreRight N.logs N.rings result.items }
     {

@@ -6,7 +6,7 @@ ghost use Rattle.totem_agreement.specs.Jobs.{AreJobs, AreFindingsAt};
 ghost use Rattle.totem_audit.specs.Jobs.{IsRight, AreKnown};
 
 use crate::gate::{Gate, OpenGate};
-use crate::gated::{Done, do_gated};
+use crate::job::{DoneJob, perform_job};
 use crate::job_result::JobResult;
 use std::alloc::{AllocError, Global};
 use std::mem;
@@ -14,7 +14,7 @@ use totem_agreement::{Findings, Found, Jobs, Judged};
 use totem_evs::{Fault, Run};
 
 /// Nothing is known of any job.
-#[tactic(auto, using(crate::proofs::Known::nothing_more))]
+#[tactic(auto, using(crate::proofs::KnownJobs::nothing_more))]
 pub fn nothing_known(alloc: Global, count: usize) -> Result<Vec<Option<Findings>>, AllocError>
     ensures { IfOk result (λ known. known.items ≡ replicate count None) }
 {
@@ -26,8 +26,8 @@ pub fn nothing_known(alloc: Global, count: usize) -> Result<Vec<Option<Findings>
 }
 
 /// Notes a result. A second one for a job is refused.
-#[tactic(auto, using(crate::proofs::Known::known_set))]
-pub fn note(jobs: &Jobs<'_>, known: &mut Vec<Option<Findings>>, done: Done)
+#[tactic(auto, using(crate::proofs::KnownJobs::known_set))]
+pub fn note(jobs: &Jobs<'_>, known: &mut Vec<Option<Findings>>, done: DoneJob)
     requires right { IsRight jobs.now.run.now.logs jobs.now.rings.items done }
     requires known { AreKnown jobs.now.run.now.logs jobs.now.rings.items known.old.items }
     ensures known { AreKnown jobs.now.run.now.logs jobs.now.rings.items known.new.items }
@@ -57,7 +57,7 @@ fn known_or_done<G: Gate>(
     if let Some(findings) = known {
         return Ok(findings);
     }
-    let done = do_gated(alloc, jobs, index, gate)?;
+    let done = perform_job(alloc, jobs, index, gate)?;
     Ok(done.findings)
 }
 
@@ -95,13 +95,13 @@ fn take_in(jobs: &Jobs<'_>, known: &mut Vec<Option<Findings>>, done: JobResult<'
     }
     let index = done.job() as usize - 1;
     let findings = done.into_findings();
-    note(jobs, known, Done { index, findings });
+    note(jobs, known, DoneJob { index, findings });
 }
 
 /// The faults of pass D from results of its jobs, whatever is handed in: a second result of a job is refused, and so is one of
 /// another run; a job without a result is done here. The run is one in which `early` finds nothing. Runs are compared by
 /// value, once for each result: that takes the results times the entries.
-#[tactic(auto, using(crate::proofs::Known::nothing_is_known))]
+#[tactic(auto, using(crate::proofs::KnownJobs::nothing_is_known))]
 pub fn collect(
     alloc: Global,
     run: &Run,

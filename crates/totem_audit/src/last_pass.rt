@@ -8,7 +8,7 @@ ghost use Rattle.totem_audit.specs.Jobs.{AreRight, AreNamed, AreKnown};
 use crate::batch::{Batch, JobsName};
 use crate::collecting::{complete, note, nothing_known};
 use crate::gate::Gate;
-use crate::gated::Done;
+use crate::job::DoneJob;
 use crate::sharing::{channel_of, work_together};
 use crate::spans::spans;
 use crate::workers::Workers;
@@ -20,8 +20,8 @@ use std::thread::Threads;
 use totem_agreement::{Findings, Jobs, Judged};
 
 /// Notes these results.
-#[tactic(auto, using(crate::proofs::Known::popped))]
-fn note_all(jobs: &Jobs<'_>, known: &mut Vec<Option<Findings>>, mut results: Vec<Done>)
+#[tactic(auto, using(crate::proofs::KnownJobs::popped))]
+fn note_all(jobs: &Jobs<'_>, known: &mut Vec<Option<Findings>>, mut results: Vec<DoneJob>)
     requires right { AreRight jobs.now.run.now.logs jobs.now.rings.items results.items }
     requires known { AreKnown jobs.now.run.now.logs jobs.now.rings.items known.old.items }
     ensures { AreKnown jobs.now.run.now.logs jobs.now.rings.items known.new.items }
@@ -32,7 +32,7 @@ fn note_all(jobs: &Jobs<'_>, known: &mut Vec<Option<Findings>>, mut results: Vec
 }
 
 /// What is known of each job, once all has come that was found.
-#[tactic(auto, using(crate::proofs::Known::nothing_is_known, crate::proofs::Known::right_by_jobs))]
+#[tactic(auto, using(crate::proofs::KnownJobs::nothing_is_known, crate::proofs::KnownJobs::right_by_jobs))]
 fn by_job<N: JobsName, T: Wait>(
     rt: &T,
     alloc: Global,
@@ -77,7 +77,7 @@ fn shared<N: JobsName + Send + Sync, T: Threads + Wait + Sync, G: Gate>(
 }
 
 /// Pass D by its jobs, which so many workers share. One worker alone does them one after the other, without a channel.
-#[tactic(auto, using(crate::proofs::Known::nothing_is_known))]
+#[tactic(auto, using(crate::proofs::KnownJobs::nothing_is_known))]
 pub fn pass_d_with<T: Threads + Wait + Sync, G: Gate>(
     rt: &T,
     alloc: Global,

@@ -7,7 +7,7 @@ mod batch;
 mod collecting;
 mod first_passes;
 mod gate;
-mod gated;
+mod job;
 mod job_result;
 mod last_pass;
 mod sharing;

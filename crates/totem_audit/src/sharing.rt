@@ -5,7 +5,7 @@ ghost use Rattle.totem_audit.specs.Jobs.{AreRight, AreNamed};
 
 use crate::batch::{Batch, JobsName};
 use crate::gate::Gate;
-use crate::gated::{Done, do_gated};
+use crate::job::{DoneJob, perform_job};
 use crate::spans::Span;
 use crossbeam_channel::{Receiver, Sender, bounded};
 use std::alloc::{AllocError, Global};
@@ -34,7 +34,7 @@ fn do_span<G: Gate>(
     alloc: Global,
     jobs: &Jobs<'_>,
     span: Span,
-    results: &mut Vec<Done>,
+    results: &mut Vec<DoneJob>,
     gate: &G,
 ) -> Result<(), AllocError>
     requires jobs { AreJobs jobs.now.run.now.logs jobs.now }
@@ -42,13 +42,13 @@ fn do_span<G: Gate>(
     ensures { AreRight jobs.now.run.now.logs jobs.now.rings.items results.new.items }
 {
     for index in span.from..span.to.min(jobs.rings.len()) {
-        results.push(do_gated(alloc, jobs, index, gate)?)?;
+        results.push(perform_job(alloc, jobs, index, gate)?)?;
     }
     Ok(())
 }
 
 /// Takes spans, does their jobs and sends what was found, until none is left, or memory is wanting.
-#[tactic(auto, using(crate::proofs::Known::none_right, crate::proofs::Known::right_by_name))]
+#[tactic(auto, using(crate::proofs::KnownJobs::none_right, crate::proofs::KnownJobs::right_by_name))]
 fn work<N: JobsName, T: Wait, G: Gate>(
     rt: &T,
     alloc: Global,

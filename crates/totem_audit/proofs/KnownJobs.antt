@@ -8,7 +8,7 @@ use Rattle.totem_evs.proofs.LogOf.{less_or_not}
 use Rattle.totem_agreement.specs.declared.findings.Findings.{Findings}
 use Rattle.totem_agreement.specs.declared.jobs.Jobs.{Jobs}
 use Rattle.totem_agreement.specs.Jobs.{AreFindingsAt}
-use Rattle.totem_audit.specs.declared.gated.Done.{Done}
+use Rattle.totem_audit.specs.declared.job.DoneJob.{DoneJob}
 use Rattle.totem_audit.specs.Jobs.{IsRight, AreRight, AreNamed, AreKnown}
 
 -- one of them is set to what is right for it, or to nothing
@@ -37,25 +37,25 @@ nothing_is_known run rings known is = record {
 }
 
 -- no result yet
-pub none_right : (run : List Log) (rings : List RingId) (results : List Done) → results ≡ [] → AreRight run rings results
+pub none_right : (run : List Log) (rings : List RingId) (results : List DoneJob) → results ≡ [] → AreRight run rings results
 none_right run rings results is = record { each = rw is (λ k d lt. absurd (omega (arith, lt))) }
 
 -- one more
-pub one_right : (run : List Log) (rings : List RingId) (results more : List Done) (r : Done) → AreRight run rings results → IsRight run rings r → more ≡ results ++ r ∷ []
+pub one_right : (run : List Log) (rings : List RingId) (results more : List DoneJob) (r : DoneJob) → AreRight run rings results → IsRight run rings r → more ≡ results ++ r ∷ []
     → AreRight run rings more
 one_right run rings results more r are right is = record { each = rw is (All-append (IsRight run rings) results (r ∷ []) are.each (λ k d lt. only k d lt)) }
   where
-    only : (k : ℕ) (d : Done) → k < length (r ∷ []) → IsRight run rings (slice_index_or (r ∷ []) k d)
+    only : (k : ℕ) (d : DoneJob) → k < length (r ∷ []) → IsRight run rings (slice_index_or (r ∷ []) k d)
     only zero d lt = right
     only (suc k) d lt = absurd (omega (arith, lt))
 
 -- results of the jobs are results of what they are named, and the other way round
-pub right_by_name : (run : List Log) (rings : List RingId) (jobs : Jobs) (results : List Done) → AreNamed run rings jobs → AreRight jobs.run.now.logs jobs.rings.items results → AreRight run rings results
+pub right_by_name : (run : List Log) (rings : List RingId) (jobs : Jobs) (results : List DoneJob) → AreNamed run rings jobs → AreRight jobs.run.now.logs jobs.rings.items results → AreRight run rings results
 right_by_name run rings jobs results named are = rw (named.run, named.confs) at are
 
-pub right_by_jobs : (run : List Log) (rings : List RingId) (jobs : Jobs) (results : List Done) → AreNamed run rings jobs → AreRight run rings results → AreRight jobs.run.now.logs jobs.rings.items results
+pub right_by_jobs : (run : List Log) (rings : List RingId) (jobs : Jobs) (results : List DoneJob) → AreNamed run rings jobs → AreRight run rings results → AreRight jobs.run.now.logs jobs.rings.items results
 right_by_jobs run rings jobs results named are = rw (named.run, named.confs) are
 
 -- all but the last, and the last
-pub popped : (run : List Log) (rings : List RingId) (results rest : List Done) (r : Done) → AreRight run rings results → results ≡ rest ++ option_to_list (Some r) → AreRight run rings rest × IsRight run rings r
+pub popped : (run : List Log) (rings : List RingId) (results rest : List DoneJob) (r : DoneJob) → AreRight run rings results → results ≡ rest ++ option_to_list (Some r) → AreRight run rings rest × IsRight run rings r
 popped run rings results rest r are is = let p = All-pop (IsRight run rings) results rest (Some r) is are.each in (record { each = p.0 }, p.1)

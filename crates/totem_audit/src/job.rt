@@ -7,21 +7,21 @@ use crate::gate::Gate;
 use std::alloc::{AllocError, Global};
 use totem_agreement::{Findings, Jobs};
 
-/// What a job gave.
+/// A job that is done: which one it was, and what it found.
 #[derive(Drop)]
-pub struct Done {
-    /// Which job it was, counted from 0.
+pub struct DoneJob {
+    /// Counted from 0.
     pub index: usize,
     pub findings: Findings,
 }
 
-/// Does the job at this index, and tells the gate.
-pub fn do_gated<G: Gate>(
+/// Does the job at this index, and tells the gate before and after.
+pub fn perform_job<G: Gate>(
     alloc: Global,
     jobs: &Jobs<'_>,
     index: usize,
     gate: &G,
-) -> Result<Done, AllocError>
+) -> Result<DoneJob, AllocError>
     requires jobs { AreJobs jobs.now.run.now.logs jobs.now }
     requires within { index < vec_len jobs.now.rings }
     ensures right { IfOk result (IsRight jobs.now.run.now.logs jobs.now.rings.items) }
@@ -31,7 +31,7 @@ pub fn do_gated<G: Gate>(
     gate.before(number);
     let findings = jobs.findings(alloc, index);
     gate.after(number);
-    Ok(Done {
+    Ok(DoneJob {
         index,
         findings: findings?,
     })
