@@ -8,7 +8,7 @@ use Rattle.totem_ring.specs.Rings.{Ring}
 use Rattle.totem_recover.specs.Finish.{deliveries}
 use Rattle.totem_ring.specs.Steps.{on_resend}
 use Rattle.totem_node.specs.declared.fault.NodeFault.TheVariants.{Memory}
-use Rattle.totem_node.specs.Visiting.{resend_steps, message_steps, message_told, adopting, carried}
+use Rattle.totem_node.specs.Visiting.{resend_steps, message_steps, adopting, carried}
 use Rattle.totem_node.specs.declared.outcome.StepOut.{StepOut}
 use Rattle.totem_node.specs.Outcomes.{Outcome, IsRefused}
 use Rattle.totem_node.specs.Nodes.{Node, Stepped, Told}
@@ -39,7 +39,7 @@ TellsAdopting (Ok told) installed now ring m out =
     × (now ≡ adopting installed (carried m.body))
 TellsAdopting (Err e) installed now ring m out = now ≡ installed
 
--- a message on the new ring, of which the installed ring may adopt what it carries; a refusal changes neither
-abbrev pub IsToldAdopting : Outcome StepOut → Ring → Ring → Ring → Ring → Message → Type 0
-IsToldAdopting (Ok out) installed now old new m = IsTold old new (Ok out) (message_told old m) × (now ≡ adopting installed (carried m.body))
-IsToldAdopting (Err fault) installed now old new m = IsTold old new (Err fault) (message_told old m) × (now ≡ installed)
+-- a message in Recovery, of which the installed ring may adopt what it carries; a refusal changes neither
+abbrev pub IsToldAdopting : Outcome StepOut → Ring → Ring → Ring → Ring → Message → Outcome Told → Type 0
+IsToldAdopting (Ok out) installed now old new m written = IsTold old new (Ok out) written × (now ≡ adopting installed (carried m.body))
+IsToldAdopting (Err fault) installed now old new m written = IsTold old new (Err fault) written × (now ≡ installed)

@@ -2,19 +2,18 @@
 ghost use Rattle.std.specs.Prelude.{◌≡◌, Err, IfOk, IfSome};
 ghost use Rattle.totem_ids.specs.declared.conf.ConfId.TheVariants.{Regular};
 ghost use Rattle.totem_recover.specs.Finish.{deliveries};
-ghost use Rattle.totem_node.specs.Nodes.{recovering_as};
-ghost use Rattle.totem_node.specs.Visiting.{message_steps, message_told, message_on_installed};
-ghost use Rattle.totem_node.specs.Table.{message_in_operational, message_in_gather, message_in_recovery, on_message};
-ghost use Rattle.totem_node.specs.Answers.{IsTold, IsStep};
+ghost use Rattle.totem_node.specs.Visiting.{message_steps, message_told, message_on_installed, told_in_recovery};
+ghost use Rattle.totem_node.specs.Table.{message_in_operational, message_in_gather, on_message};
+ghost use Rattle.totem_node.specs.Answers.{IsTold, IsStep, IsToldAdopting};
 
 use crate::fault::NodeFault;
 use crate::joins::is_among;
 use crate::node_core::NodeCore;
 use crate::outcome::StepOut;
-use crate::state::{Recovering, State};
+use crate::recovering::message_on_new;
+use crate::state::State;
 use crate::told::{deliveries_on, message_steps};
 use std::alloc::{AllocError, Global};
-use std::mem;
 use totem_packets::Message;
 use totem_ring::{RingOut, RingState, is_same_ring};
 
@@ -48,6 +47,21 @@ fn take_message(alloc: Global, ring: &mut RingState, message: Message) -> Result
             Err(e.into())
         }
     }
+}
+
+/// Takes a message in Recovery: one of the new ring.
+fn message_in_recovery(
+    alloc: Global,
+    installed: &mut RingState,
+    ring: &mut RingState,
+    message: Message,
+) -> Result<StepOut, NodeFault>
+    ensures { IsToldAdopting result installed.old installed.new ring.old ring.new message (told_in_recovery installed.old ring.old message) }
+{
+    if is_same_ring(message.ring, installed.ring()) || !is_same_ring(message.ring, ring.ring()) {
+        return Err(NodeFault::OtherRing);
+    }
+    message_on_new(alloc, installed, ring, message)
 }
 
 impl NodeCore {
@@ -91,24 +105,6 @@ impl NodeCore {
         self.message_on_installed(alloc, message)
     }
 
-    /// Takes a message in Recovery: one of the new ring. The caller has taken the recovery out of the state.
-    fn message_in_recovery(
-        &mut self,
-        alloc: Global,
-        x: Recovering,
-        message: Message,
-    ) -> Result<StepOut, NodeFault>
-        ensures { IsStep (recovering_as self.old x) self.new result (message_in_recovery (recovering_as self.old x) x message) }
-    {
-        if is_same_ring(message.ring, self.installed.ring())
-            || !is_same_ring(message.ring, x.ring.ring())
-        {
-            self.state = State::InRecovery(x);
-            return Err(NodeFault::OtherRing);
-        }
-        self.message_on_new(alloc, x, message)
-    }
-
     /// Takes a message that has come.
     pub(crate) fn on_message(
         &mut self,
@@ -117,17 +113,13 @@ impl NodeCore {
     ) -> Result<StepOut, NodeFault>
         ensures { IsStep self.old self.new result (on_message self.old message self.old.state) }
     {
-        match mem::replace(&mut self.state, State::Operational) {
+        match &mut self.state {
             State::Operational => self.message_in_operational(alloc, message),
-            State::Gathering(gather) => {
-                self.state = State::Gathering(gather);
-                self.message_in_gather(alloc, message)
+            State::Gathering(_) => self.message_in_gather(alloc, message),
+            State::Committing(_) => Err(NodeFault::OtherRing),
+            State::InRecovery(x) => {
+                message_in_recovery(alloc, &mut self.installed, &mut x.ring, message)
             }
-            State::Committing(gather) => {
-                self.state = State::Committing(gather);
-                Err(NodeFault::OtherRing)
-            }
-            State::InRecovery(x) => self.message_in_recovery(alloc, x, message),
         }
     }
 }

@@ -2,15 +2,12 @@
 ghost use Rattle.std.specs.Prelude.{◌≡◌, Err, IfOk, IfSome, MatchResult};
 ghost use Rattle.totem_ids.specs.declared.conf.ConfId.TheVariants.{Regular};
 ghost use Rattle.totem_recover.specs.Finish.{deliveries};
-ghost use Rattle.totem_node.specs.Nodes.{recovering_as};
-ghost use Rattle.totem_node.specs.Visiting.{carried, adopting, message_on_new};
-ghost use Rattle.totem_node.specs.Answers.{IsStep, IsToldAdopting, TellsAdopting};
+ghost use Rattle.totem_node.specs.Visiting.{carried, adopting, message_told};
+ghost use Rattle.totem_node.specs.Answers.{IsToldAdopting, TellsAdopting};
 
 use crate::fault::NodeFault;
 use crate::messages::tell;
-use crate::node_core::NodeCore;
 use crate::outcome::StepOut;
-use crate::state::{Recovering, State};
 use std::alloc::{AllocError, Global};
 use totem_packets::{Body, Message};
 use totem_ring::{RingFault, RingOut, RingState};
@@ -70,14 +67,14 @@ fn tell_adopting(
     Ok(told)
 }
 
-/// Lets the new ring take a message that has come.
-fn take_adopting(
+/// Takes a message of the new ring, of which the installed ring may adopt what it carries.
+pub fn message_on_new(
     alloc: Global,
     installed: &mut RingState,
     ring: &mut RingState,
     message: Message,
 ) -> Result<StepOut, NodeFault>
-    ensures { IsToldAdopting result installed.old installed.new ring.old ring.new message }
+    ensures { IsToldAdopting result installed.old installed.new ring.old ring.new message (message_told ring.old message) }
 {
     let (out, undo) = ring.take_message(alloc, &message)?;
     match tell_adopting(alloc, installed, ring, message, out) {
@@ -86,21 +83,5 @@ fn take_adopting(
             ring.undo(undo);
             Err(e.into())
         }
-    }
-}
-
-impl NodeCore {
-    /// Takes a message of the new ring. The caller has taken the recovery out of the state.
-    pub(crate) fn message_on_new(
-        &mut self,
-        alloc: Global,
-        mut x: Recovering,
-        message: Message,
-    ) -> Result<StepOut, NodeFault>
-        ensures { IsStep (recovering_as self.old x) self.new result (message_on_new (recovering_as self.old x) x message) }
-    {
-        let told = take_adopting(alloc, &mut self.installed, &mut x.ring, message);
-        self.state = State::InRecovery(x);
-        told
     }
 }
