@@ -39,7 +39,7 @@ pub fn tell(
 fn take_message(alloc: Global, ring: &mut RingState, message: Message) -> Result<StepOut, NodeFault>
     ensures { IsTold ring.old ring.new result (message_told ring.old message) }
 {
-    let (out, undo) = ring.take_message(alloc, &message)?;
+    let (out, undo) = ring.on_message_with_undo(alloc, &message)?;
     match tell(alloc, ring, message, out) {
         Ok(told) => Ok(told),
         Err(e) => {

@@ -76,7 +76,7 @@ pub fn message_on_new(
 ) -> Result<StepOut, NodeFault>
     ensures { IsToldAdopting result installed.old installed.new ring.old ring.new message (message_told ring.old message) }
 {
-    let (out, undo) = ring.take_message(alloc, &message)?;
+    let (out, undo) = ring.on_message_with_undo(alloc, &message)?;
     match tell_adopting(alloc, installed, ring, message, out) {
         Ok(told) => Ok(told),
         Err(e) => {

@@ -58,7 +58,7 @@ fn take(
     }
     let sends = visit_sends(alloc, ring, token)?;
     let ring_steps = visit_steps(alloc, ring.ring(), bodies, token)?;
-    let (out, undo) = ring.take_token(alloc, token)?;
+    let (out, undo) = ring.on_token_with_undo(alloc, token)?;
     let visited = Visited {
         out,
         sends,

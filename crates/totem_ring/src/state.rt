@@ -212,7 +212,7 @@ impl RingState {
     }
 
     /// Takes a message that has come, as `on_message` does. The undo that it gives can take the step back.
-    pub fn take_message(
+    pub fn on_message_with_undo(
         &mut self,
         alloc: Global,
         message: &Message,
@@ -245,12 +245,12 @@ impl RingState {
     pub fn on_message(&mut self, alloc: Global, message: &Message) -> Result<RingOut, RingFault>
         ensures { Answers result self.old self.new (on_message self.old message.now) }
     {
-        let (out, _undo) = self.take_message(alloc, message)?;
+        let (out, _undo) = self.on_message_with_undo(alloc, message)?;
         Ok(out)
     }
 
-    /// Takes the last step back, for a caller that is refused memory of its own after the step. `take_message` and
-    /// `take_token` give the undo; for a submit or an adopt the caller writes it.
+    /// Takes the last step back, for a caller that is refused memory of its own after the step. `on_message_with_undo` and
+    /// `on_token_with_undo` give the undo; for a submit or an adopt the caller writes it.
     pub fn undo(&mut self, undo: RingUndo)
         ensures { self.new ≡ taken_back undo self.old }
     {

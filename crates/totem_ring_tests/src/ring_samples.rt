@@ -98,7 +98,7 @@ fn mark_back(state: &mut RingState) -> Told {
 
 /// Takes the first token of ring 4.1 and takes the visit back.
 fn token_back(alloc: Global, state: &mut RingState) -> Told {
-    match state.take_token(alloc, &first_token(alloc, ring(4))) {
+    match state.on_token_with_undo(alloc, &first_token(alloc, ring(4))) {
         Ok((_, undo)) => taken_back(state, undo),
         Err(fault) => Told::Refusal(fault.name()),
     }
@@ -106,7 +106,7 @@ fn token_back(alloc: Global, state: &mut RingState) -> Told {
 
 /// Takes a message and takes the step back.
 fn message_back(alloc: Global, state: &mut RingState, message: &Message) -> Told {
-    match state.take_message(alloc, message) {
+    match state.on_message_with_undo(alloc, message) {
         Ok((_, undo)) => taken_back(state, undo),
         Err(fault) => Told::Refusal(fault.name()),
     }

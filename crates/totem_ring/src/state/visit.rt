@@ -152,7 +152,7 @@ impl RingState {
     }
 
     /// Takes the token that has come, as `on_token` does. The undo that it gives can take the visit back.
-    pub fn take_token(
+    pub fn on_token_with_undo(
         &mut self,
         alloc: Global,
         token: &Token,
@@ -195,7 +195,7 @@ impl RingState {
     pub fn on_token(&mut self, alloc: Global, token: &Token) -> Result<RingOut, RingFault>
         ensures { Answers result self.old self.new (on_token self.old token.now) }
     {
-        let (out, _undo) = self.take_token(alloc, token)?;
+        let (out, _undo) = self.on_token_with_undo(alloc, token)?;
         Ok(out)
     }
 }

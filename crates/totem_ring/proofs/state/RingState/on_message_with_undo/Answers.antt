@@ -7,7 +7,7 @@ use Rattle.totem_ring.specs.Undoing.{AnswersUndoably}
 use Rattle.totem_ring.specs.Rings.{Ring}
 use Rattle.totem_ring.proofs.Holding.{undone}
 use Rattle.totem_ring.proofs.Undone.{undoable_memory, message_comes}
-use Rattle.totem_ring.proofs.state.RingState.take_message.Goals as goal
+use Rattle.totem_ring.proofs.state.RingState.on_message_with_undo.Goals as goal
 
 pub returns-in_default-going_up : goal.returns-in_default-going_up
 returns-in_default-going_up c =

@@ -12,7 +12,7 @@ use Rattle.totem_ring.specs.Undoing.{AnswersUndoably}
 use Rattle.totem_packets.specs.declared.message.Body.{Body}
 use Rattle.totem_ring.proofs.Undone.{undoable_memory}
 use Rattle.totem_ring.proofs.VisitAnswers.{own_above, own_fits, back_again, departs}
-use Rattle.totem_ring.proofs.state.RingState.take_token.Goals as goal
+use Rattle.totem_ring.proofs.state.RingState.on_token_with_undo.Goals as goal
 
 pub hold_all-requires-clause-above : goal.hold_all-requires-clause-above
 hold_all-requires-clause-above c =
