@@ -4,6 +4,5 @@ pub mod Growing
 pub mod Gathered
 pub mod Entering
 pub mod Refusing
-pub mod Rooms
 pub mod Crowding
 pub mod Foretelling

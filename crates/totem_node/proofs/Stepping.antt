@@ -8,8 +8,8 @@ use Rattle.totem_node.specs.Outcomes.{Outcome}
 use Rattle.totem_node.specs.Nodes.{Node, Stepped}
 use Rattle.totem_node.specs.Gathering.{join_broadcast, look_at_consensus}
 use Rattle.totem_node.specs.Table.{late}
-use Rattle.totem_node.specs.Turns.{IsTurn}
-use Rattle.totem_node.specs.declared.turn.Turn.{Turn}
+use Rattle.totem_node.specs.Transitions.{IsTransition}
+use Rattle.totem_node.specs.declared.transition.Transition.{Transition}
 use Rattle.totem_ring.specs.Visits.{Sending}
 
 late_from : Node → Result Gathered MemberFault → Outcome Stepped
@@ -25,8 +25,8 @@ pub late_as : (n : Node) (g next : Gather) (out : GatherOut) → came_to (on_tim
 unfolding late_from
 late_as n g next out is = ap (late_from n) is
 
-pub late_of_copy : (n : Node) (g copy next : Gather) (out : GatherOut) (answer : Outcome Turn) (packets : List Sending)
+pub late_of_copy : (n : Node) (g copy next : Gather) (out : GatherOut) (answer : Outcome Transition) (packets : List Sending)
     → copy ≡ g → came_to (on_timeout copy) ≡ came_to (record { gather = next; out = out }) → packets ≡ join_broadcast next ∷ []
-    → IsTurn answer n (look_at_consensus (record n { quiet = 0 }) next out.members packets) → IsTurn answer n (late n g)
-late_of_copy n g copy next out answer packets same is sent turn =
-    subst (λ w. IsTurn answer n w) (ap (λ ps. look_at_consensus (record n { quiet = 0 }) next out.members ps) sent ∙ sym (late_as n copy next out is) ∙ ap (late n) same) turn
+    → IsTransition answer n (look_at_consensus (record n { quiet = 0 }) next out.members packets) → IsTransition answer n (late n g)
+late_of_copy n g copy next out answer packets same is sent transition =
+    subst (λ w. IsTransition answer n w) (ap (λ ps. look_at_consensus (record n { quiet = 0 }) next out.members ps) sent ∙ sym (late_as n copy next out is) ∙ ap (late n) same) transition

@@ -6,7 +6,7 @@ pub mod Visiting
 pub mod Visits
 pub mod Table
 pub mod Answers
-pub mod Turns
+pub mod Transitions
 pub mod Refusals
 pub mod NewVisits
 pub mod Sizes

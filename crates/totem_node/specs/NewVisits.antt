@@ -1,19 +1,14 @@
 -- What the calls that take a visit of a new ring answer for (docs/PROTOCOL.md, "The node").
-use Rattle.std.specs.Prelude.{◌≡◌, Bool, Ok, Err}
+use Rattle.std.specs.Prelude.{◌≡◌, ⊤, true, Ok, Err}
 use Rattle.totem_packets.specs.declared.token.Token.{Token}
-use Rattle.totem_ring.specs.Rings.{Ring}
+use Rattle.totem_ring.specs.Rings.{Ring, first_token}
 use Rattle.totem_ring.specs.Steps.{given, on_token}
 use Rattle.totem_recover.specs.Exchange.{Leaving, next_bodies, on_ring, obligation_after}
 use Rattle.totem_node.specs.declared.leaving.NewVisit.{NewVisit}
 use Rattle.totem_node.specs.declared.visiting.Visited.{Visited}
-use Rattle.totem_node.specs.declared.state.Recovering.{Recovering}
 use Rattle.totem_node.specs.Outcomes.{Outcome, by_ring, IsRefused}
 use Rattle.totem_node.specs.Visiting.{visit_entries, visit_steps, after_visit}
-use Rattle.totem_node.specs.Nodes.{Node}
-
--- the recovery, with its first token taken or not
-abbrev pub starting_as : Recovering → Bool → Recovering
-starting_as x started = record x { started = started }
+use Rattle.totem_node.specs.Nodes.{Node, State, Recovering, Operational, Gathering, Committing, InRecovery}
 
 -- a visit of the new ring: what it gave, what is written of it, and the obligation set after it
 pub record IsNewlyVisited (v : NewVisit) (r : Leaving) (installed old new : Ring) (t : Token) : Type 0 where
@@ -26,6 +21,14 @@ abbrev pub IsNewVisit : Outcome NewVisit → Leaving → Ring → Ring → Ring 
 IsNewVisit (Ok v) r installed old new t = IsNewlyVisited v r installed old new t
 IsNewVisit (Err fault) r installed old new t = IsRefused fault old new (by_ring (on_token (given old (next_bodies r)) t))
 
+-- the same of the new ring's first token, which the recovery notes as taken here
+abbrev pub IsFirstVisit : Outcome NewVisit → Ring → Recovering → Recovering → Type 0
+IsFirstVisit (Ok v) installed old new =
+    (new ≡ record old { ring = new.ring; started = true })
+    × IsNewlyVisited v old.recovery installed old.ring new.ring (first_token old.ring.ring)
+IsFirstVisit (Err fault) installed old new =
+    IsRefused fault old new (by_ring (on_token (given old.ring (next_bodies old.recovery)) (first_token old.ring.ring)))
+
 -- what is told of a visit that left the new ring so
 pub record TellsNewVisit (r : Leaving) (installed ring : Ring) (visited : Visited) (v : NewVisit) : Type 0 where
   pub packets : v.out.packets.items ≡ visited.out.packets.items
@@ -34,8 +37,18 @@ pub record TellsNewVisit (r : Leaving) (installed ring : Ring) (visited : Visite
   pub steps : v.ring_steps.items ≡ visited.ring_steps.items
   pub obligation : v.obligation ≡ obligation_after r ring
 
--- the node after the visit is noted
-abbrev pub visit_noted : Node → Recovering → NewVisit → Node
-visit_noted n x v =
+-- the visit found to whom the node owes messages after it, where the node is in this state
+abbrev pub OwesAfter : NewVisit → State → Type 0
+OwesAfter v Operational = ⊤
+OwesAfter v (Gathering g) = ⊤
+OwesAfter v (Committing g) = ⊤
+OwesAfter v (InRecovery x) = v.obligation ≡ obligation_after x.recovery x.ring
+
+-- the node in this state after the visit is noted
+abbrev pub visit_noted : Node → NewVisit → State → Node
+visit_noted n v Operational = n
+visit_noted n v (Gathering g) = n
+visit_noted n v (Committing g) = n
+visit_noted n v (InRecovery x) =
     after_visit (record n { quiet = 0 }) x (record { state = x.ring; packets = v.out.packets.items; handed = v.out.handed.items })
     (on_ring x.recovery x.ring v.out.packets.items)

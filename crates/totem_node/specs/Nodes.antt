@@ -61,10 +61,6 @@ committed_to (Gathering g) = []
 committed_to (Committing g) = gathered g
 committed_to (InRecovery x) = gathered x.gather
 
--- the node in this recovery
-abbrev pub recovering_as : Node → Recovering → Node
-recovering_as n x = record n { state = InRecovery x }
-
 -- the report of this node's life, and of what it has of the installed ring
 abbrev pub report : Node → Report
 report n = record {

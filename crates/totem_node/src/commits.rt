@@ -4,13 +4,13 @@ ghost use Rattle.totem_packets.specs.declared.packet.Packet.TheVariants as packe
 ghost use Rattle.totem_recover.specs.Exchange.{IsReady};
 ghost use Rattle.totem_node.specs.Outcomes.{Fails};
 ghost use Rattle.totem_node.specs.Table.{filling, recovering, entering, commit_taken, on_packet};
-ghost use Rattle.totem_node.specs.Turns.{IsTurn, IsCommitTurn, Makes};
+ghost use Rattle.totem_node.specs.Transitions.{IsTransition, IsCommitTransition, Makes};
 
 use crate::fault::NodeFault;
 use crate::gathering::commit_passed_on;
 use crate::node_core::NodeCore;
 use crate::state::{Recovering, State};
-use crate::turn::Turn;
+use crate::transition::Transition;
 use std::alloc::{AllocError, Global};
 use totem_member::{Act, Gather, Phase, on_commit};
 use totem_packets::{CommitToken, Number};
@@ -18,19 +18,19 @@ use totem_recover::Recovery;
 use totem_ring::RingState;
 
 impl NodeCore {
-    /// Returns the turn in which the node fills in its report, passes the token on and waits for it in Commit.
+    /// Returns the transition in which the node fills in its report, passes the token on and waits for it in Commit.
     fn filling(
         &self,
         alloc: Global,
         gather: &Gather,
         token: CommitToken,
-    ) -> Result<Turn, AllocError>
-        ensures { IfOk result (λ turn. Makes turn self.now (filling self.now gather.now token)) }
+    ) -> Result<Transition, AllocError>
+        ensures { IfOk result (λ transition. Makes transition self.now (filling self.now gather.now token)) }
     {
         let ring = token.ring;
         let mut packets = Vec::new(alloc);
         packets.push(commit_passed_on(alloc, self.me, token)?)?;
-        Ok(Turn {
+        Ok(Transition {
             state: State::Committing(gather.try_clone(alloc)?),
             quiet: self.quiet,
             seq: Number::of(ring.seq),
@@ -59,20 +59,20 @@ impl NodeCore {
         })
     }
 
-    /// Returns the turn in which the node becomes a member of the new ring and recovers.
+    /// Returns the transition in which the node becomes a member of the new ring and recovers.
     fn entering(
         &self,
         alloc: Global,
         gather: &Gather,
         token: CommitToken,
-    ) -> Result<Turn, AllocError>
+    ) -> Result<Transition, AllocError>
         requires { IsReady self.now.me self.now.installed token }
-        ensures { IfOk result (λ turn. Makes turn self.now (entering self.now gather.now token)) }
+        ensures { IfOk result (λ transition. Makes transition self.now (entering self.now gather.now token)) }
     {
         let state = State::InRecovery(self.recovering(alloc, gather, &token)?);
         let mut packets = Vec::new(alloc);
         packets.push(commit_passed_on(alloc, self.me, token)?)?;
-        Ok(Turn {
+        Ok(Transition {
             state,
             quiet: self.quiet,
             seq: self.seq,
@@ -81,8 +81,8 @@ impl NodeCore {
         })
     }
 
-    /// Lets a node that gathers, commits or recovers take a commit token. Returns no turn where the first token of the
-    /// new ring is to be taken.
+    /// Lets a node that gathers, commits or recovers take a commit token. Returns `None` where the first token of the new
+    /// ring is to be taken.
     fn commit_taken(
         &self,
         alloc: Global,
@@ -90,8 +90,8 @@ impl NodeCore {
         phase: Phase,
         started: bool,
         token: &CommitToken,
-    ) -> Result<Option<Turn>, NodeFault>
-        ensures { IsCommitTurn result self.now (commit_taken self.now gather.now phase started token.now) }
+    ) -> Result<Option<Transition>, NodeFault>
+        ensures { IsCommitTransition result self.now (commit_taken self.now gather.now phase started token.now) }
     {
         let view = self.commit_view(alloc, phase, gather, started)?;
         let report = self.report(alloc)?;
@@ -103,13 +103,14 @@ impl NodeCore {
         }
     }
 
-    /// Takes a commit token that has come. Returns no turn where the first token of the new ring is to be taken.
-    pub(crate) fn on_commit(
+    /// Returns the transition that this commit token causes, or `None` where the first token of the new ring is to be
+    /// taken.
+    pub(crate) fn commit_transition(
         &self,
         alloc: Global,
         token: &CommitToken,
-    ) -> Result<Option<Turn>, NodeFault>
-        ensures { IsCommitTurn result self.now (on_packet self.now (packet.Commit token.now)) }
+    ) -> Result<Option<Transition>, NodeFault>
+        ensures { IsCommitTransition result self.now (on_packet self.now (packet.Commit token.now)) }
     {
         match &self.state {
             State::Operational => Err(NodeFault::Stale),

@@ -5,13 +5,13 @@ ghost use Rattle.totem_packets.specs.Sets.{is_least, union};
 ghost use Rattle.totem_member.specs.Gathers.{gathered};
 ghost use Rattle.totem_node.specs.Gathering.{join_broadcast, commit_passed_on, commit_begun, at_consensus, look_at_consensus, taking, set_of, gather_base, gather_begun, gathering_anew, to_gather};
 ghost use Rattle.totem_node.specs.Outcomes.{Gives};
-ghost use Rattle.totem_node.specs.Turns.{IsTurn};
+ghost use Rattle.totem_node.specs.Transitions.{IsTransition};
 ghost use Rattle.totem_node.specs.Sizes.{MakesBase};
 
 use crate::fault::NodeFault;
 use crate::node_core::NodeCore;
 use crate::state::State;
-use crate::turn::Turn;
+use crate::transition::Transition;
 use std::alloc::{AllocError, Global};
 use totem_ids::ProcId;
 use totem_member::{Gather, Phase, first_commit};
@@ -83,22 +83,22 @@ fn union(alloc: Global, set: Processes, gather: &Gather) -> Result<Processes, Se
 }
 
 impl NodeCore {
-    /// Returns the turn in which the least member makes the commit token and sends it on.
+    /// Returns the transition in which the least member makes the commit token and sends it on.
     fn commit_begun(
         &self,
         alloc: Global,
         gather: Gather,
         mut packets: Vec<(To, Packet)>,
-    ) -> Result<Turn, NodeFault>
+    ) -> Result<Transition, NodeFault>
         requires { IsTrue (is_least (gathered gather) self.now.me) }
-        ensures { IsTurn result self.now (commit_begun self.now gather packets.items) }
+        ensures { IsTransition result self.now (commit_begun self.now gather packets.items) }
     {
         let view = self.commit_view(alloc, Phase::Gather, &gather, false)?;
         let report = self.report(alloc)?;
         let token = first_commit(alloc, &view, report)?;
         let ring = token.ring;
         packets.push(commit_passed_on(alloc, self.me, token)?)?;
-        Ok(Turn {
+        Ok(Transition {
             state: State::Committing(gather),
             quiet: 0,
             seq: Number::of(ring.seq),
@@ -107,19 +107,19 @@ impl NodeCore {
         })
     }
 
-    /// Returns the turn to Commit, in which the least member makes the commit token.
+    /// Returns the transition to Commit, in which the least member makes the commit token.
     fn at_consensus(
         &self,
         alloc: Global,
         gather: Gather,
         packets: Vec<(To, Packet)>,
-    ) -> Result<Turn, NodeFault>
-        ensures { IsTurn result self.now (at_consensus self.now gather packets.items) }
+    ) -> Result<Transition, NodeFault>
+        ensures { IsTransition result self.now (at_consensus self.now gather packets.items) }
     {
         if gather.gathered(alloc)?.is_least(self.me) {
             return self.commit_begun(alloc, gather, packets);
         }
-        Ok(Turn {
+        Ok(Transition {
             state: State::Committing(gather),
             quiet: 0,
             seq: self.seq,
@@ -128,7 +128,8 @@ impl NodeCore {
         })
     }
 
-    /// Returns the turn to Commit if there is consensus, and otherwise one that goes on in Gather with this count of timers.
+    /// Returns the transition to Commit if there is consensus, and otherwise one that goes on in Gather with this count of
+    /// timers.
     pub(crate) fn look_at_consensus(
         &self,
         alloc: Global,
@@ -136,13 +137,13 @@ impl NodeCore {
         gather: Gather,
         members: Option<Processes>,
         packets: Vec<(To, Packet)>,
-    ) -> Result<Turn, NodeFault>
-        ensures { IsTurn result self.now (look_at_consensus (record self.now { quiet = quiet }) gather members packets.items) }
+    ) -> Result<Transition, NodeFault>
+        ensures { IsTransition result self.now (look_at_consensus (record self.now { quiet = quiet }) gather members packets.items) }
     {
         if members.is_some() {
             return self.at_consensus(alloc, gather, packets);
         }
-        Ok(Turn {
+        Ok(Transition {
             state: State::Gathering(gather),
             quiet,
             seq: self.seq,
@@ -182,15 +183,15 @@ impl NodeCore {
         }
     }
 
-    /// Returns the turn with a new gathering: it takes the Join that caused it, its own Join is broadcast once, and
-    /// consensus is looked at.
+    /// Returns the transition with a new gathering: it takes the Join that caused it, its own Join is broadcast once,
+    /// and consensus is looked at.
     fn gathering_anew(
         &self,
         alloc: Global,
         new: Gather,
         cause: Option<&Join>,
-    ) -> Result<Turn, NodeFault>
-        ensures { IsTurn result self.now (gathering_anew self.now new (option_copied cause.entry)) }
+    ) -> Result<Transition, NodeFault>
+        ensures { IsTransition result self.now (gathering_anew self.now new (option_copied cause.entry)) }
     {
         let gather = taking(alloc, new, cause)?;
         let members = gather.consensus(alloc)?;
@@ -213,14 +214,14 @@ impl NodeCore {
         }
     }
 
-    /// Returns the turn *to gather*, with the process `extra` and because of the Join `cause`, if they are given.
+    /// Returns the transition *to gather*, with the process `extra` and because of the Join `cause`, if they are given.
     pub(crate) fn to_gather(
         &self,
         alloc: Global,
         extra: Option<ProcId>,
         cause: Option<&Join>,
-    ) -> Result<Turn, NodeFault>
-        ensures { IsTurn result self.now (to_gather self.now (option_to_list extra) (option_copied cause.entry)) }
+    ) -> Result<Transition, NodeFault>
+        ensures { IsTransition result self.now (to_gather self.now (option_to_list extra) (option_copied cause.entry)) }
     {
         let new = self.new_gather(alloc, extra)?;
         self.gathering_anew(alloc, new, cause)

@@ -4,13 +4,13 @@ ghost use Rattle.totem_packets.specs.declared.packet.Packet.TheVariants as packe
 ghost use Rattle.totem_packets.specs.Sets.{has, is_within};
 ghost use Rattle.totem_member.specs.Gathers.{gathered};
 ghost use Rattle.totem_node.specs.Table.{is_late, says_nothing_new, join_in_gather, join_in_commit, on_join_in, on_packet};
-ghost use Rattle.totem_node.specs.Turns.{IsTurn};
+ghost use Rattle.totem_node.specs.Transitions.{IsTransition};
 
 use crate::fault::NodeFault;
 use crate::gathering::join_broadcast;
 use crate::node_core::NodeCore;
 use crate::state::State;
-use crate::turn::Turn;
+use crate::transition::Transition;
 use std::alloc::Global;
 use totem_ids::ProcId;
 use totem_member::Gather;
@@ -59,8 +59,13 @@ impl NodeCore {
     }
 
     /// Takes a Join in Gather.
-    fn join_in_gather(&self, alloc: Global, gather: &Gather, join: &Join) -> Result<Turn, NodeFault>
-        ensures { IsTurn result self.now (join_in_gather self.now gather.now join.now) }
+    fn join_in_gather(
+        &self,
+        alloc: Global,
+        gather: &Gather,
+        join: &Join,
+    ) -> Result<Transition, NodeFault>
+        ensures { IsTransition result self.now (join_in_gather self.now gather.now join.now) }
     {
         let mut next = gather.try_clone(alloc)?;
         let out = next.on_join(alloc, join)?;
@@ -72,8 +77,13 @@ impl NodeCore {
     }
 
     /// Takes a Join in Commit or Recovery.
-    fn join_in_commit(&self, alloc: Global, gather: &Gather, join: &Join) -> Result<Turn, NodeFault>
-        ensures { IsTurn result self.now (join_in_commit self.now gather.now join.now) }
+    fn join_in_commit(
+        &self,
+        alloc: Global,
+        gather: &Gather,
+        join: &Join,
+    ) -> Result<Transition, NodeFault>
+        ensures { IsTransition result self.now (join_in_commit self.now gather.now join.now) }
     {
         if says_nothing_new(gather, join) {
             return Err(NodeFault::Stale);
@@ -81,9 +91,13 @@ impl NodeCore {
         self.to_gather(alloc, None, Some(join))
     }
 
-    /// Takes a Join that has come, and returns the turn that comes of it.
-    pub(crate) fn on_join(&self, alloc: Global, join: &Join) -> Result<Turn, NodeFault>
-        ensures { IsTurn result self.now (on_packet self.now (packet.Join join.now)) }
+    /// Returns the transition that this Join causes.
+    pub(crate) fn join_transition(
+        &self,
+        alloc: Global,
+        join: &Join,
+    ) -> Result<Transition, NodeFault>
+        ensures { IsTransition result self.now (on_packet self.now (packet.Join join.now)) }
     {
         if self.is_late(join) {
             return Err(NodeFault::Stale);

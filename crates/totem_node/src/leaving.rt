@@ -3,12 +3,8 @@ ghost use Rattle.std.specs.Prelude.{◌≡◌, ◌++◌, Err, IfOk, IfSome, OnOk
 ghost use Rattle.totem_recover.specs.Finish.{deliveries};
 ghost use Rattle.totem_ring.specs.Refusals.{refusal_at_once};
 ghost use Rattle.totem_node.specs.Faults.{of_ring};
-ghost use Rattle.totem_recover.specs.Exchange.{obligation_after};
-ghost use Rattle.totem_node.specs.declared.state.State.TheVariants.{InRecovery};
-ghost use Rattle.totem_node.specs.Nodes.{recovering_as};
-ghost use Rattle.totem_node.specs.Visiting.{finishing_entries, installing, visit_entries, visit_new};
-ghost use Rattle.totem_node.specs.Answers.{IsStep};
-ghost use Rattle.totem_node.specs.NewVisits.{IsNewVisit, starting_as, visit_noted, TellsNewVisit};
+ghost use Rattle.totem_node.specs.Visiting.{finishing_entries, visit_entries};
+ghost use Rattle.totem_node.specs.NewVisits.{IsFirstVisit, IsNewVisit, OwesAfter, visit_noted, TellsNewVisit};
 
 use crate::fault::NodeFault;
 use crate::node_core::NodeCore;
@@ -16,13 +12,14 @@ use crate::outcome::StepOut;
 use crate::ring_step::RingStep;
 use crate::state::{Recovering, State};
 use crate::told::write_deliveries;
-use crate::visiting::{Visited, visit};
+use crate::visiting::{Visited, visit_with};
 use std::alloc::{AllocError, Global};
+use std::mem;
 use totem_evs::Entry;
 use totem_ids::ConfId;
 use totem_packets::{Message, Processes, Token};
 use totem_recover::{Recovery, deliver};
-use totem_ring::{RingOut, RingState};
+use totem_ring::{RingOut, RingState, first_token};
 
 /// Appends the deliveries of those messages whose number is at most `last`.
 fn write_up_to(
@@ -134,9 +131,10 @@ impl NewVisit {
     }
 }
 
-/// Takes the new ring's token. Before the visit the ring is given the next bodies of the list to send.
+/// Gives the new ring the next bodies of the list to send, lets it take a token, and returns what is written of the
+/// visit.
 #[tactic(auto, using(crate::proofs::Refusing::token_refused))]
-fn take_visit(
+pub(crate) fn visit_with_next(
     alloc: Global,
     recovery: &Recovery,
     installed: &RingState,
@@ -149,7 +147,7 @@ fn take_visit(
         return Err(fault.into());
     }
     let bodies = recovery.next_bodies(alloc)?;
-    let (visited, undo) = visit(alloc, ring, &bodies, token)?;
+    let (visited, undo) = visit_with(alloc, ring, &bodies, token)?;
     match NewVisit::of(alloc, recovery, installed, ring, visited) {
         Ok(visit) => Ok(visit),
         Err(e) => {
@@ -159,36 +157,26 @@ fn take_visit(
     }
 }
 
+/// Lets the new ring take its first token, and notes in the recovery that it was taken here.
+pub(crate) fn visit_first(
+    alloc: Global,
+    installed: &RingState,
+    x: &mut Recovering,
+) -> Result<NewVisit, NodeFault>
+    ensures { IsFirstVisit result installed.now x.old x.new }
+{
+    let token = first_token(alloc, x.ring.ring());
+    let visit = visit_with_next(alloc, &x.recovery, installed, &mut x.ring, &token)?;
+    x.started = true;
+    Ok(visit)
+}
+
 impl NodeCore {
-    /// Installs the new ring.
-    fn install(&mut self, alloc: Global, ring: RingState)
-        ensures { self.new ≡ installing self.old ring }
-    {
-        self.state = State::Operational;
-        self.installed = ring;
-        self.obligation = Processes::none(alloc);
-        self.filled = None;
-    }
-
-    /// Goes on with the recovery. `started` says whether the new ring's first token was taken here.
-    fn go_on(&mut self, mut x: Recovering, started: bool, obligation: Processes)
-        ensures { self.new ≡ record self.old { state = InRecovery (starting_as x started); obligation = obligation } }
-    {
-        x.started = started;
-        self.state = State::InRecovery(x);
-        self.obligation = obligation;
-    }
-
-    /// Notes the visit. Once every member's mark is handed up, installs the new ring; otherwise goes on with the recovery.
-    fn note_visit(
-        &mut self,
-        alloc: Global,
-        mut x: Recovering,
-        started: bool,
-        visit: NewVisit,
-    ) -> StepOut
-        requires { visit.obligation ≡ obligation_after x.recovery x.ring }
-        ensures node { self.new ≡ visit_noted self.old (starting_as x started) visit }
+    /// Notes a visit of the new ring. Once every member's mark is handed up, installs that ring, and the old one goes with
+    /// the recovery; otherwise the recovery goes on. Does nothing in any other state.
+    pub(crate) fn note_visit(&mut self, alloc: Global, visit: NewVisit) -> StepOut
+        requires { OwesAfter visit self.old.state }
+        ensures node { self.new ≡ visit_noted self.old visit self.old.state }
         ensures packets { result.packets.items ≡ visit.out.packets.items }
         ensures entries { result.entries.items ≡ visit.entries.items }
         ensures ring_steps { result.ring_steps.items ≡ visit.ring_steps.items }
@@ -199,38 +187,21 @@ impl NodeCore {
             ring_steps,
             obligation,
         } = visit;
-        let is_done = x.recovery.on_ring(&x.ring, &out);
-        self.quiet = 0;
-        let told = StepOut {
+        if let State::InRecovery(x) = &mut self.state {
+            self.quiet = 0;
+            if x.recovery.on_ring(&x.ring, &out) {
+                mem::swap(&mut self.installed, &mut x.ring);
+                self.state = State::Operational;
+                self.obligation = Processes::none(alloc);
+                self.filled = None;
+            } else {
+                self.obligation = obligation;
+            }
+        }
+        StepOut {
             packets: out.packets,
             entries,
             ring_steps,
-        };
-        if is_done {
-            self.install(alloc, x.ring);
-            return told;
-        }
-        self.go_on(x, started, obligation);
-        told
-    }
-
-    /// Takes the new ring's token. The caller has taken the recovery out of the state. `started` says whether, with
-    /// this token, the ring's first token has been taken here.
-    pub(crate) fn visit_new(
-        &mut self,
-        alloc: Global,
-        mut x: Recovering,
-        started: bool,
-        token: &Token,
-    ) -> Result<StepOut, NodeFault>
-        ensures { IsStep (recovering_as self.old x) self.new result (visit_new (recovering_as self.old x) (starting_as x started) token.now) }
-    {
-        match take_visit(alloc, &x.recovery, &self.installed, &mut x.ring, token) {
-            Ok(visit) => Ok(self.note_visit(alloc, x, started, visit)),
-            Err(fault) => {
-                self.state = State::InRecovery(x);
-                Err(fault)
-            }
         }
     }
 }

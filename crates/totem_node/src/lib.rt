@@ -21,7 +21,7 @@ mod step;
 mod timers;
 mod tokens;
 mod told;
-mod turn;
+mod transition;
 mod visiting;
 
 pub use fault::NodeFault;

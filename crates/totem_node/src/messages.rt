@@ -35,8 +35,8 @@ pub fn tell(
     })
 }
 
-/// Lets a ring take a message that has come.
-fn take_message(alloc: Global, ring: &mut RingState, message: Message) -> Result<StepOut, NodeFault>
+/// Lets a ring take a message that has come, and returns what a node tells of it.
+fn message_told(alloc: Global, ring: &mut RingState, message: Message) -> Result<StepOut, NodeFault>
     ensures { IsTold ring.old ring.new result (message_told ring.old message) }
 {
     let (out, undo) = ring.on_message_with_undo(alloc, &message)?;
@@ -73,7 +73,7 @@ impl NodeCore {
     ) -> Result<StepOut, NodeFault>
         ensures { IsStep self.old self.new result (message_on_installed self.old message) }
     {
-        take_message(alloc, &mut self.installed, message)
+        message_told(alloc, &mut self.installed, message)
     }
 
     /// Takes a message in Operational. One of a foreign ring makes the node gather, with the message's sender.
@@ -90,8 +90,8 @@ impl NodeCore {
         if is_among(self.installed.members(), message.sender) {
             return Err(NodeFault::OtherRing);
         }
-        let turn = self.to_gather(alloc, Some(message.sender), None)?;
-        Ok(self.turn(alloc, turn))
+        let transition = self.to_gather(alloc, Some(message.sender), None)?;
+        Ok(self.apply(alloc, transition))
     }
 
     /// Takes a message in Gather: one of the installed ring, as long as the node has not made or filled a commit token.

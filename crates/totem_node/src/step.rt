@@ -8,75 +8,68 @@ ghost use Rattle.totem_node.specs.Answers.{IsStep};
 
 use crate::fault::NodeFault;
 use crate::input::Input;
+use crate::leaving::{visit_first, visit_with_next};
 use crate::node_core::NodeCore;
 use crate::outcome::StepOut;
 use crate::state::State;
 use std::alloc::Global;
-use std::mem;
 use totem_packets::{CommitToken, Join, Packet, Token};
-use totem_ring::first_token;
 
 impl NodeCore {
     /// Takes a token that has come.
     fn on_token(&mut self, alloc: Global, token: &Token) -> Result<StepOut, NodeFault>
         ensures { IsStep self.old self.new result (on_token self.old token.now self.old.state) }
     {
-        match mem::replace(&mut self.state, State::Operational) {
+        match &mut self.state {
             State::Operational => self.visit_installed(alloc, token),
-            State::Gathering(gather) => {
-                self.state = State::Gathering(gather);
-                Err(NodeFault::Stale)
-            }
-            State::Committing(gather) => {
-                self.state = State::Committing(gather);
-                Err(NodeFault::Stale)
-            }
+            State::Gathering(_) => Err(NodeFault::Stale),
+            State::Committing(_) => Err(NodeFault::Stale),
             State::InRecovery(x) => {
-                let started = x.started;
-                self.visit_new(alloc, x, started, token)
+                let visit = visit_with_next(
+                    alloc,
+                    &x.recovery,
+                    &self.installed,
+                    &mut x.ring,
+                    token,
+                )?;
+                Ok(self.note_visit(alloc, visit))
             }
         }
     }
 
     /// Takes the first token of the new ring at once, because the commit token has come back.
-    fn start(&mut self, alloc: Global) -> Result<StepOut, NodeFault>
+    fn start_ring(&mut self, alloc: Global) -> Result<StepOut, NodeFault>
         ensures { IsStep self.old self.new result (starting self.old self.old.state) }
     {
-        match mem::replace(&mut self.state, State::Operational) {
+        match &mut self.state {
             State::Operational => Err(NodeFault::Stale),
-            State::Gathering(gather) => {
-                self.state = State::Gathering(gather);
-                Err(NodeFault::Stale)
-            }
-            State::Committing(gather) => {
-                self.state = State::Committing(gather);
-                Err(NodeFault::Stale)
-            }
+            State::Gathering(_) => Err(NodeFault::Stale),
+            State::Committing(_) => Err(NodeFault::Stale),
             State::InRecovery(x) => {
-                let token = first_token(alloc, x.ring.ring());
-                self.visit_new(alloc, x, true, &token)
+                let visit = visit_first(alloc, &self.installed, x)?;
+                Ok(self.note_visit(alloc, visit))
             }
         }
     }
 
     /// Takes a Join that has come.
-    fn take_join(&mut self, alloc: Global, join: &Join) -> Result<StepOut, NodeFault>
+    fn on_join(&mut self, alloc: Global, join: &Join) -> Result<StepOut, NodeFault>
         ensures { IsStep self.old self.new result (on_packet self.old (packet.Join join.now)) }
     {
-        match self.on_join(alloc, join) {
-            Ok(turn) => Ok(self.turn(alloc, turn)),
+        match self.join_transition(alloc, join) {
+            Ok(transition) => Ok(self.apply(alloc, transition)),
             Err(fault) => Err(fault),
         }
     }
 
     /// Takes a commit token that has come.
-    fn take_commit(&mut self, alloc: Global, token: &CommitToken) -> Result<StepOut, NodeFault>
+    fn on_commit(&mut self, alloc: Global, token: &CommitToken) -> Result<StepOut, NodeFault>
         ensures { IsStep self.old self.new result (on_packet self.old (packet.Commit token.now)) }
     {
-        if let Some(turn) = self.on_commit(alloc, token)? {
-            return Ok(self.turn(alloc, turn));
+        if let Some(transition) = self.commit_transition(alloc, token)? {
+            return Ok(self.apply(alloc, transition));
         }
-        self.start(alloc)
+        self.start_ring(alloc)
     }
 
     /// Takes a packet that has come.
@@ -86,8 +79,8 @@ impl NodeCore {
         match packet {
             Packet::Message(message) => self.on_message(alloc, message),
             Packet::Token(token) => self.on_token(alloc, &token),
-            Packet::Join(join) => self.take_join(alloc, &join),
-            Packet::Commit(token) => self.take_commit(alloc, &token),
+            Packet::Join(join) => self.on_join(alloc, &join),
+            Packet::Commit(token) => self.on_commit(alloc, &token),
         }
     }
 

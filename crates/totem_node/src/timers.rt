@@ -1,7 +1,7 @@
 //! How a node takes timers that run out.
 ghost use Rattle.std.specs.Prelude.{◌≡◌, IfOk};
 ghost use Rattle.totem_node.specs.Table.{late, on_timer};
-ghost use Rattle.totem_node.specs.Turns.{IsTurn, IsTimerTurn, IsCounting};
+ghost use Rattle.totem_node.specs.Transitions.{IsTransition, IsTimerTransition, IsCounting};
 ghost use Rattle.totem_node.specs.Answers.{IsStep};
 
 use crate::fault::NodeFault;
@@ -10,7 +10,7 @@ use crate::node_core::NodeCore;
 use crate::outcome::StepOut;
 use crate::state::State;
 use crate::tokens::resend;
-use crate::turn::Turn;
+use crate::transition::Transition;
 use std::alloc::Global;
 use totem_member::Gather;
 
@@ -21,9 +21,9 @@ pub(crate) const QUIET: u8 = 2;
 const PATIENCE: u8 = 1;
 
 impl NodeCore {
-    /// Returns the turn in which a gathering gives up those that did not agree in time.
-    fn late(&self, alloc: Global, gather: &Gather) -> Result<Turn, NodeFault>
-        ensures { IsTurn result self.now (late self.now gather.now) }
+    /// Returns the transition in which a gathering gives up those that did not agree in time.
+    fn late(&self, alloc: Global, gather: &Gather) -> Result<Transition, NodeFault>
+        ensures { IsTransition result self.now (late self.now gather.now) }
     {
         let mut next = gather.try_clone(alloc)?;
         let out = next.on_timeout(alloc)?;
@@ -32,9 +32,9 @@ impl NodeCore {
         self.look_at_consensus(alloc, 0, next, out.members, packets)
     }
 
-    /// Returns the turn that this timer causes, or `None` if it is only counted.
-    fn timer_turn(&self, alloc: Global) -> Result<Option<Turn>, NodeFault>
-        ensures { IsTimerTurn result self.now }
+    /// Returns the transition that this timer causes, or `None` if it is only counted.
+    fn timer_transition(&self, alloc: Global) -> Result<Option<Transition>, NodeFault>
+        ensures { IsTimerTransition result self.now }
     {
         if let State::Gathering(gather) = &self.state {
             if self.quiet < PATIENCE {
@@ -68,8 +68,8 @@ impl NodeCore {
     pub(crate) fn on_timer(&mut self, alloc: Global) -> Result<StepOut, NodeFault>
         ensures { IsStep self.old self.new result (on_timer self.old self.old.state) }
     {
-        if let Some(turn) = self.timer_turn(alloc)? {
-            return Ok(self.turn(alloc, turn));
+        if let Some(transition) = self.timer_transition(alloc)? {
+            return Ok(self.apply(alloc, transition));
         }
         let told = self.sent_again(alloc)?;
         self.quiet += 1;

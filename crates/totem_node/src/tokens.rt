@@ -11,7 +11,7 @@ use crate::node_core::NodeCore;
 use crate::outcome::StepOut;
 use crate::ring_step::RingStep;
 use crate::told::write_deliveries;
-use crate::visiting::{Visited, visit};
+use crate::visiting::{Visited, visit_with};
 use std::alloc::{AllocError, Global};
 use totem_ids::ConfId;
 use totem_packets::{Body, Token};
@@ -36,9 +36,9 @@ fn tell_visit(conf: &ConfId, visited: Visited) -> Result<StepOut, AllocError>
     })
 }
 
-/// Gives these bodies to a ring, and lets it take a token that has come.
+/// Gives these bodies to a ring, lets it take a token that has come, and returns what a node tells of it.
 #[tactic(auto, using(crate::proofs::Refusing::visit_refused))]
-fn take_token(
+fn visit_told(
     alloc: Global,
     ring: &mut RingState,
     bodies: &[Body],
@@ -50,7 +50,7 @@ fn take_token(
         return Err(fault.into());
     }
     let conf = ConfId::Regular(ring.ring());
-    let (visited, undo) = visit(alloc, ring, bodies, token)?;
+    let (visited, undo) = visit_with(alloc, ring, bodies, token)?;
     match tell_visit(&conf, visited) {
         Ok(told) => Ok(told),
         Err(e) => {
@@ -86,7 +86,7 @@ impl NodeCore {
     ) -> Result<StepOut, NodeFault>
         ensures { IsStep self.old self.new result (visit_installed self.old token.now) }
     {
-        let told = take_token(alloc, &mut self.installed, &self.waiting, token)?;
+        let told = visit_told(alloc, &mut self.installed, &self.waiting, token)?;
         self.waiting.clear();
         self.quiet = 0;
         Ok(told)

@@ -3,7 +3,7 @@ ghost use Rattle.std.specs.Prelude.{◌≡◌, ◌+◌, None};
 ghost use Rattle.totem_ring.specs.declared.undo.RingUndo.TheVariants.{Submit as OfSubmit};
 ghost use Rattle.totem_ring.specs.Undoing.{taken_back};
 ghost use Rattle.totem_ring.specs.Refusals.{refusal_at_once};
-ghost use Rattle.totem_node.specs.Visits.{IsVisit, IsTaken};
+ghost use Rattle.totem_node.specs.Visits.{IsVisit, IsVisitGiven};
 
 use crate::fault::NodeFault;
 use crate::ring_step::RingStep;
@@ -42,8 +42,9 @@ impl VisitUndo {
     }
 }
 
-/// Lets the ring, which was given these bodies behind the `waited` ones that it had before, take the token.
-fn take(
+/// Lets the ring, which was given these bodies behind the `waited` ones that it had before, take the token. What is
+/// returned can take the visit back.
+fn visit_given(
     alloc: Global,
     ring: &mut RingState,
     waited: usize,
@@ -51,7 +52,7 @@ fn take(
     token: &Token,
 ) -> Result<(Visited, VisitUndo), NodeFault>
     requires { refusal_at_once ring.old token.now ≡ None }
-    ensures { IsTaken waited ring.old ring.new result bodies.now token.now }
+    ensures { IsVisitGiven waited ring.old ring.new result bodies.now token.now }
 {
     if u64::from(token.seq) + ring.waiting().len() as u64 >= 1 << 32 {
         return Err(NodeFault::Range);
@@ -67,9 +68,9 @@ fn take(
     Ok((visited, VisitUndo { undo, waited }))
 }
 
-/// Gives these bodies to the ring, and lets it take the token. The caller has to know that nothing refuses the token at
-/// once (`RingState::token_refusal_at_once`).
-pub fn visit(
+/// Gives these bodies to the ring, and lets it take the token. What is returned can take the visit back. The caller has to
+/// know that nothing refuses the token at once (`RingState::token_refusal_at_once`).
+pub fn visit_with(
     alloc: Global,
     ring: &mut RingState,
     bodies: &[Body],
@@ -80,7 +81,7 @@ pub fn visit(
 {
     let waited = ring.waiting().len();
     ring.give(bodies)?;
-    match take(alloc, ring, waited, bodies, token) {
+    match visit_given(alloc, ring, waited, bodies, token) {
         Ok(visited) => Ok(visited),
         Err(fault) => {
             ring.undo(RingUndo::Submit { waited });
