@@ -13,7 +13,7 @@ use Rattle.totem_packets.specs.Sets.{has, with_process, is_least}
 use Rattle.totem_ring.specs.declared.fault.RingFault.{RingFault}
 use Rattle.totem_ring.specs.declared.fault.RingFault.TheVariants as ring_fault
 use Rattle.totem_ring.specs.Rings.{Ring, same_ring, holds, first_token}
-use Rattle.totem_ring.specs.Refusals.{message_refusal, token_refusal, is_member, is_token_in_range}
+use Rattle.totem_ring.specs.Refusals.{message_refusal, token_refusal, is_token_in_range}
 use Rattle.totem_ring.specs.Steps.{Done, given, unless_refused}
 use Rattle.totem_ring.specs.Visits.{Sending}
 use Rattle.totem_member.specs.declared.views.Act.{Act}
@@ -112,7 +112,7 @@ three false false true e = cc
 three false false false e = cc
 
 message_known : (s : Ring) (m : Message) → message_refusal s m ≡ Some ring_fault.Memory → ⊥
-message_known s m e = three (not (same_ring m.ring s.ring)) (holds s.held m.number) (not (is_member s.members m.sender)) e
+message_known s m e = three (not (same_ring m.ring s.ring)) (holds s.held m.number) (not (has s.members m.sender)) e
 
 token_known : (s : Ring) (t : Token) → token_refusal s t ≡ Some ring_fault.Memory → ⊥
 token_known s t e = three (not (same_ring t.ring s.ring)) (nat_le t.token_seq s.last) (not (is_token_in_range s t)) e

@@ -3,8 +3,8 @@ ghost use Rattle.std.specs.Prelude.{◌≡◌, ◌≤◌, ◌||◌, length, take
 ghost use Rattle.totem_packets.specs.Sets.{has, union};
 ghost use Rattle.totem_node.specs.Crowds.{procs_of, crowd_of, Counts};
 
-use crate::joins::is_among;
 use totem_ids::ProcId;
+use totem_packets::is_among;
 
 /// How many processes may gather at most.
 const MOST: usize = 32;

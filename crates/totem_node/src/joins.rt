@@ -14,14 +14,7 @@ use crate::transition::Transition;
 use std::alloc::Global;
 use totem_ids::ProcId;
 use totem_member::Gather;
-use totem_packets::Join;
-
-/// Returns whether the process is one of these.
-pub fn is_among(procs: &[ProcId], proc: ProcId) -> bool
-    ensures { result ≡ has procs.now proc }
-{
-    procs.iter().any(|q| *q == proc)
-}
+use totem_packets::{Join, is_among};
 
 /// Returns whether the process is in M: known to the gathering, and not failed.
 #[tactic(auto, using(crate::proofs::Gathered::has_without))]

@@ -7,14 +7,13 @@ ghost use Rattle.totem_node.specs.Table.{message_in_operational, message_in_gath
 ghost use Rattle.totem_node.specs.Answers.{IsTold, IsStep, IsToldAdopting};
 
 use crate::fault::NodeFault;
-use crate::joins::is_among;
 use crate::node_core::NodeCore;
 use crate::outcome::StepOut;
 use crate::recovering::message_on_new;
 use crate::state::State;
 use crate::told::{deliveries_on, message_steps};
 use std::alloc::{AllocError, Global};
-use totem_packets::Message;
+use totem_packets::{Message, is_among};
 use totem_ring::{RingOut, RingState, is_same_ring};
 
 /// Returns what a node tells of a message that a ring took.

@@ -11,7 +11,7 @@ ghost use Rattle.totem_node.specs.Refusals.{of_its_ring, begun_by, cause_refusal
 use crate::crowd::{Part, is_crowded, is_crowded_with};
 use crate::fault::NodeFault;
 use crate::input::Input;
-use crate::joins::{is_among, says_nothing_new};
+use crate::joins::says_nothing_new;
 use crate::node_core::NodeCore;
 use crate::reporting::greater;
 use crate::state::{Recovering, State};
@@ -19,7 +19,7 @@ use crate::timers::QUIET;
 use std::alloc::Global;
 use totem_ids::ProcId;
 use totem_member::{Act, Gather, MemberFault, Phase, Shown, commit_act};
-use totem_packets::{CommitToken, Join, Message, Packet, Token};
+use totem_packets::{CommitToken, Join, Message, Packet, Token, is_among};
 use totem_ring::{RingFault, RingState, first_token, is_same_ring};
 
 /// Returns a ring's refusal as the node's.

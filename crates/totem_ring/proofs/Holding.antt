@@ -12,7 +12,8 @@ use Rattle.totem_packets.specs.declared.message.Message.{Message}
 use Rattle.totem_ring.specs.declared.fault.RingFault.{RingFault}
 use Rattle.totem_ring.specs.declared.fault.RingFault.TheVariants.{OtherRing, Repeat, Range, Memory}
 use Rattle.totem_ring.specs.Rings.{Ring, Held, message_at, holds, aru_of, same_ring, going_up, with_message, without}
-use Rattle.totem_ring.specs.Refusals.{message_refusal, is_member}
+use Rattle.totem_packets.specs.Sets.{has}
+use Rattle.totem_ring.specs.Refusals.{message_refusal}
 use Rattle.totem_ring.specs.Invariant.{RisesFrom, IsWholeTo, KeepsAru}
 use Rattle.totem_ring.proofs.Rising.{at_same, at_other, whole_is, whole_holds, Rises-insert, remove-insert, going_fits}
 
@@ -70,7 +71,7 @@ none_at (Some m) h = absurd cc
 
 -- a message that isn't refused is new
 pub not_held : (s : Ring) (m : Message) → message_refusal s m ≡ None → message_at s.held m.number ≡ None
-not_held s m h = none_at _ (refusal_parts (same_ring m.ring s.ring) (holds s.held m.number) (is_member s.members m.sender) h)
+not_held s m h = none_at _ (refusal_parts (same_ring m.ring s.ring) (holds s.held m.number) (has s.members m.sender) h)
 
 -- what is forgotten again leaves what was there
 pub undone : (s : Ring) (m : Message) (held new newer : Held) → message_refusal s m ≡ None → s.held ≡ held → new ≡ with_message held m → newer ≡ without new m.number → newer ≡ held

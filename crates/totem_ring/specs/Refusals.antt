@@ -4,12 +4,10 @@ use Rattle.std.specs.List.{list_any}
 use Rattle.std.specs.Map.{keys_of}
 use Rattle.totem_packets.specs.declared.message.Message.{Message}
 use Rattle.totem_packets.specs.declared.token.Token.{Token}
+use Rattle.totem_packets.specs.Sets.{has}
 use Rattle.totem_ring.specs.declared.fault.RingFault.{RingFault}
 use Rattle.totem_ring.specs.declared.fault.RingFault.TheVariants.{OtherRing, Repeat, Range, Full}
 use Rattle.totem_ring.specs.Rings.{Ring, Held, same_ring, holds, taker_of}
-
-abbrev pub is_member : List ℕ → ℕ → Bool
-is_member members p = list_any (λ q. q == p) members
 
 -- 16 bodies wait already
 abbrev pub submit_refusal : Ring → Option RingFault
@@ -20,13 +18,13 @@ abbrev pub message_refusal : Ring → Message → Option RingFault
 message_refusal s m =
     if not (same_ring m.ring s.ring) then Some OtherRing
     else if holds s.held m.number then Some Repeat
-    else if not (is_member s.members m.sender) then Some Range
+    else if not (has s.members m.sender) then Some Range
     else None
 
 -- none, or a member
 abbrev pub is_none_or_member : List ℕ → Option ℕ → Bool
 is_none_or_member members None = true
-is_none_or_member members (Some p) = is_member members p
+is_none_or_member members (Some p) = has members p
 
 abbrev pub is_above : ℕ → List ℕ → Bool
 is_above seq numbers = list_any (λ n. nat_lt seq n) numbers

@@ -1,10 +1,10 @@
 //! Tests that decide whether a step is refused, or a message handed up.
 ghost use Rattle.std.specs.Prelude.{◌≡◌, ◌==◌, ◌<◌, position, length, IfSome};
 ghost use Rattle.totem_ring.specs.Rings.{same_ring, is_agreed};
-ghost use Rattle.totem_ring.specs.Refusals.{is_member, is_none_or_member, is_above};
+ghost use Rattle.totem_ring.specs.Refusals.{is_none_or_member, is_above};
 
 use totem_ids::{ProcId, RingId, Service};
-use totem_packets::{Body, Number};
+use totem_packets::{Body, Number, is_among};
 
 /// How many bodies may wait at most.
 pub const MOST_WAITING: usize = 16;
@@ -13,12 +13,6 @@ pub fn is_same_ring(a: RingId, b: RingId) -> bool
     ensures { result ≡ same_ring a b }
 {
     a.seq == b.seq && a.rep.number() == b.rep.number()
-}
-
-pub fn is_member(members: &[ProcId], proc: ProcId) -> bool
-    ensures { result ≡ is_member members.now proc }
-{
-    members.iter().any(|q| q.number() == proc.number())
 }
 
 /// Returns whether a message with this body is handed up as soon as its turn comes. Any other is safe, and waits until
@@ -41,7 +35,7 @@ pub fn is_none_or_member(members: &[ProcId], proc: Option<ProcId>) -> bool
 {
     match proc {
         None => true,
-        Some(proc) => is_member(members, proc),
+        Some(proc) => is_among(members, proc),
     }
 }
 

@@ -6,13 +6,13 @@ ghost use Rattle.totem_ring.specs.Undoing.{kept_again};
 use crate::fault::RingFault;
 use crate::held::Held;
 use crate::outcome::{RingOut, To};
-use crate::refusals::{MOST_WAITING, is_member, is_same_ring, place_of};
+use crate::refusals::{MOST_WAITING, is_same_ring, place_of};
 use crate::undo::RingUndo;
 use std::alloc::{AllocError, Global};
 use std::collections::BTreeMap;
 use std::marker::Model;
 use totem_ids::{ProcId, RingId};
-use totem_packets::{Body, Message, Number, Packet, Token};
+use totem_packets::{Body, Message, Number, Packet, Token, is_among};
 
 mod act;
 mod visit;
@@ -194,7 +194,7 @@ impl RingState {
         if self.held.contains(message.number.get()) {
             return Some(RingFault::Repeat);
         }
-        if !is_member(&self.members, message.sender) {
+        if !is_among(&self.members, message.sender) {
             return Some(RingFault::Range);
         }
         None

@@ -20,7 +20,7 @@ pub type Queue = VecDeque<(ProcId, Packet)>;
 fn are_together(group: &ProcessList, from: ProcId, to: ProcId) -> bool
     ensures { result ≡ (has group.now from && has group.now to) }
 {
-    group.has(from) && group.has(to)
+    group.contains(from) && group.contains(to)
 }
 
 fn is_group_of(groups: &[ProcessList], from: ProcId, to: ProcId) -> bool

@@ -4,6 +4,7 @@ ghost use Rattle.totem_packets.specs.Sets.{has};
 use std::alloc::{AllocError, AllocFailed, Global};
 use std::marker::Model;
 use totem_ids::ProcId;
+use totem_packets::is_among;
 
 /// Processes as a line lists them: in any order, and each as often as it stands there.
 #[derive(Debug, Drop)]
@@ -43,10 +44,10 @@ impl ProcessList {
         self.procs.is_empty()
     }
 
-    pub fn has(&self, proc: ProcId) -> bool
+    pub fn contains(&self, proc: ProcId) -> bool
         ensures { result ≡ has self.now proc }
     {
-        self.procs.iter().any(|other| *other == proc)
+        is_among(&self.procs, proc)
     }
 
     pub fn as_slice(&self) -> &[ProcId]
