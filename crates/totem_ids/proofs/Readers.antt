@@ -301,5 +301,5 @@ abbrev pub gives : {A : Type 0} → A → List ℕ → Parsed A
 gives x rest = Ok (x, rest)
 
 -- a byte that is another one
-pub otherwise : {Y : Type 0} (a b : Seen) (parse p q : List ℕ → Result Y TextFault) (x m n : ℕ) → Comes a b parse (λ more. cond (x == n) (p more) (q more)) → x ≡ m → (m == n) ≡ false → Comes a b parse q
-otherwise a b parse p q x m n so_far e f = passed a b parse p q (x == n) so_far (ap (λ (k : ℕ). k == n) e ∙ f)
+pub passes_byte : {Y : Type 0} (a b : Seen) (parse p q : List ℕ → Result Y TextFault) (x m n : ℕ) → Comes a b parse (λ more. cond (x == n) (p more) (q more)) → x ≡ m → (m == n) ≡ false → Comes a b parse q
+passes_byte a b parse p q x m n so_far e f = passed a b parse p q (x == n) so_far (ap (λ (k : ℕ). k == n) e ∙ f)

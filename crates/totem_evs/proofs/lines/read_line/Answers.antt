@@ -1,7 +1,7 @@
 use Rattle.std.proofs.Common.{refl}
 use Rattle.totem_evs.specs.Endings.{writes_quiet}
 use Rattle.totem_evs.specs.RunGrammar.{line_at}
-use Rattle.totem_ids.proofs.Readers.{begins, called, handed, picks, otherwise}
+use Rattle.totem_ids.proofs.Readers.{begins, called, handed, picks, passes_byte}
 use Rattle.totem_evs.proofs.lines.read_line.Goals as goal
 
 pub returns-in-99-clause-read : goal.returns-in-99-clause-read
@@ -10,23 +10,23 @@ returns-in-99-clause-read g c = handed _ _ _ _ _ _ (picks _ _ _ _ _ _ _ (called 
 
 pub returns-in-115-clause-read : goal.returns-in-115-clause-read
 unfolding line_at
-returns-in-115-clause-read g c = handed _ _ _ _ _ _ (picks _ _ _ _ _ _ _ (otherwise _ _ _ _ _ _ _ _ (called _ _ _ _ _ _ _ (begins _ _) c.in_ok-letter.ensures.read) c.in-115.is refl) c.in-115.is) c.read_send.ensures.read
+returns-in-115-clause-read g c = handed _ _ _ _ _ _ (picks _ _ _ _ _ _ _ (passes_byte _ _ _ _ _ _ _ _ (called _ _ _ _ _ _ _ (begins _ _) c.in_ok-letter.ensures.read) c.in-115.is refl) c.in-115.is) c.read_send.ensures.read
 
 pub returns-in-100-clause-read : goal.returns-in-100-clause-read
 unfolding line_at
-returns-in-100-clause-read g c = handed _ _ _ _ _ _ (picks _ _ _ _ _ _ _ (otherwise _ _ _ _ _ _ _ _ (otherwise _ _ _ _ _ _ _ _ (called _ _ _ _ _ _ _ (begins _ _) c.in_ok-letter.ensures.read) c.in-100.is refl) c.in-100.is refl) c.in-100.is) c.read_delivery.ensures.read
+returns-in-100-clause-read g c = handed _ _ _ _ _ _ (picks _ _ _ _ _ _ _ (passes_byte _ _ _ _ _ _ _ _ (passes_byte _ _ _ _ _ _ _ _ (called _ _ _ _ _ _ _ (begins _ _) c.in_ok-letter.ensures.read) c.in-100.is refl) c.in-100.is refl) c.in-100.is) c.read_delivery.ensures.read
 
 pub returns-in-102-clause-read : goal.returns-in-102-clause-read
 unfolding line_at
-returns-in-102-clause-read g c = handed _ _ _ _ _ _ (picks _ _ _ _ _ _ _ (otherwise _ _ _ _ _ _ _ _ (otherwise _ _ _ _ _ _ _ _ (otherwise _ _ _ _ _ _ _ _ (called _ _ _ _ _ _ _ (begins _ _) c.in_ok-letter.ensures.read) c.in-102.is refl) c.in-102.is refl) c.in-102.is refl) c.in-102.is) c.read_failure.ensures.read
+returns-in-102-clause-read g c = handed _ _ _ _ _ _ (picks _ _ _ _ _ _ _ (passes_byte _ _ _ _ _ _ _ _ (passes_byte _ _ _ _ _ _ _ _ (passes_byte _ _ _ _ _ _ _ _ (called _ _ _ _ _ _ _ (begins _ _) c.in_ok-letter.ensures.read) c.in-102.is refl) c.in-102.is refl) c.in-102.is refl) c.in-102.is) c.read_failure.ensures.read
 
 pub returns-in-111-clause-read : goal.returns-in-111-clause-read
 unfolding line_at
-returns-in-111-clause-read g c = handed _ _ _ _ _ _ (picks _ _ _ _ _ _ _ (otherwise _ _ _ _ _ _ _ _ (otherwise _ _ _ _ _ _ _ _ (otherwise _ _ _ _ _ _ _ _ (otherwise _ _ _ _ _ _ _ _ (called _ _ _ _ _ _ _ (begins _ _) c.in_ok-letter.ensures.read) c.in-111.is refl) c.in-111.is refl) c.in-111.is refl) c.in-111.is refl) c.in-111.is) c.read_open.ensures.read
+returns-in-111-clause-read g c = handed _ _ _ _ _ _ (picks _ _ _ _ _ _ _ (passes_byte _ _ _ _ _ _ _ _ (passes_byte _ _ _ _ _ _ _ _ (passes_byte _ _ _ _ _ _ _ _ (passes_byte _ _ _ _ _ _ _ _ (called _ _ _ _ _ _ _ (begins _ _) c.in_ok-letter.ensures.read) c.in-111.is refl) c.in-111.is refl) c.in-111.is refl) c.in-111.is refl) c.in-111.is) c.read_open.ensures.read
 
 pub returns-in-113-clause-read : goal.returns-in-113-clause-read
 unfolding line_at
-returns-in-113-clause-read g c = handed _ _ _ _ _ _ (picks _ _ _ _ _ _ _ (otherwise _ _ _ _ _ _ _ _ (otherwise _ _ _ _ _ _ _ _ (otherwise _ _ _ _ _ _ _ _ (otherwise _ _ _ _ _ _ _ _ (otherwise _ _ _ _ _ _ _ _ (called _ _ _ _ _ _ _ (begins _ _) c.in_ok-letter.ensures.read) c.in-113.is refl) c.in-113.is refl) c.in-113.is refl) c.in-113.is refl) c.in-113.is refl) c.in-113.is) c.read_quiet.ensures.read
+returns-in-113-clause-read g c = handed _ _ _ _ _ _ (picks _ _ _ _ _ _ _ (passes_byte _ _ _ _ _ _ _ _ (passes_byte _ _ _ _ _ _ _ _ (passes_byte _ _ _ _ _ _ _ _ (passes_byte _ _ _ _ _ _ _ _ (passes_byte _ _ _ _ _ _ _ _ (called _ _ _ _ _ _ _ (begins _ _) c.in_ok-letter.ensures.read) c.in-113.is refl) c.in-113.is refl) c.in-113.is refl) c.in-113.is refl) c.in-113.is refl) c.in-113.is) c.read_quiet.ensures.read
 
 pub returns-in-99-clause-follows : goal.returns-in-99-clause-follows
 returns-in-99-clause-follows g c = c.read_change.ensures.follows (writes_quiet c.args.version)
