@@ -1,15 +1,99 @@
-//! Readers of whole runs.
+//! Readers of whole runs, which gather logs from parts.
+ghost use Rattle.std.specs.Prelude.{◌≡◌, OnOk};
 ghost use Rattle.totem_ids.specs.Sources.{seen};
+ghost use Rattle.totem_evs.specs.Gathered.{none_gathered, gathered, MayGather};
 ghost use Rattle.totem_evs.specs.Reading.{ReadsRun, ReadsEnd};
+ghost use Rattle.totem_evs.specs.Runs.{IsRunOf};
 
+use crate::entries::Entries;
+use crate::entry::Entry;
 use crate::form::RunText;
-use crate::gathered::Gathered;
 use crate::heads::read_header;
+use crate::log::Log;
+use crate::logs::Logs;
+use crate::part::Part;
 use crate::part_reader::PartReader;
 use crate::run::Run;
 use crate::run_fault::RunFault;
-use std::alloc::Global;
-use totem_ids::Source;
+use std::alloc::{AllocError, Global};
+use std::marker::Model;
+use std::mem;
+use totem_ids::{Proc, Source, Version};
+
+/// The logs that have ended, and of the log that has not ended its process and its entries.
+#[derive(Drop)]
+struct Gathered {
+    logs: Vec<Log>,
+    proc: Option<Proc>,
+    entries: Vec<Entry>,
+}
+
+impl Model for Gathered {
+    ghost use Rattle.totem_evs.specs.Gathered.{GatheredLogs};
+
+    ghost Value = { GatheredLogs };
+
+    ghost view = { λ g. record { logs = g.logs.items; proc = g.proc; entries = g.entries.items } };
+}
+
+impl Gathered {
+    /// Returns the state before any part has come.
+    fn new(alloc: Global) -> Gathered
+        ensures { result ≡ none_gathered }
+    {
+        Gathered {
+            logs: Vec::new(alloc),
+            proc: None,
+            entries: Vec::new(alloc),
+        }
+    }
+
+    /// Adds the part that comes next.
+    fn add(&mut self, alloc: Global, part: Part) -> Result<(), AllocError>
+        requires { MayGather self.old part }
+        ensures { OnOk result (self.new ≡ gathered self.old part) }
+    {
+        match part {
+            Part::Log(proc) => {
+                self.proc = Some(proc);
+                self.entries = Vec::new(alloc);
+            }
+            Part::Entry(entry) => {
+                self.entries.push(entry)?;
+            }
+            Part::Close(ending) => {
+                let entries = mem::replace(&mut self.entries, Vec::new(alloc));
+                if let Some(proc) = self.proc {
+                    let entries = Entries::of(entries);
+                    self.logs.push(Log {
+                        proc,
+                        entries,
+                        ending,
+                    })?;
+                }
+                self.proc = None;
+            }
+        }
+        Ok(())
+    }
+
+    /// Returns the run of this version that has these logs.
+    #[tactic(auto, using(crate::proofs::Weaker::any_lives))]
+    fn into_run(self, version: Version) -> Run
+        requires { IsRunOf (record { version = version; logs = self.logs }) }
+        ensures { result ≡ record { version = version; logs = self.logs } }
+    {
+        let Gathered {
+            logs,
+            proc: _,
+            entries: _,
+        } = self;
+        Run {
+            version,
+            logs: Logs::of(logs),
+        }
+    }
+}
 
 /// Reads a run from the first byte to the line `end`, and leaves unread what follows. Each member of a configuration
 /// has a log in it, or the fault is `MissingLog`.
