@@ -10,10 +10,15 @@ EXAMPLES = os.path.join(os.path.dirname(row_files.FOLDER), '..', 'examples')
 AUDITS = {
     'ring-entered-twice.script': b'verdict no\nfault 4 2@3 2@4 1@3\nend\n',
 }
+# Scripts of that folder, and the specifications that the runs which they make break.
+BROKEN = {
+    'safe-message-lost.script': [b'4', b'7.1'],
+}
 # Runs of that folder, and their reports.
 REPORTS = {
     'shut-down-in-order.run': b'verdict yes\ntotem-cert 2\npos 1:1 1 2 3 5\npos 2:1 1 3 4 5\npos 3:1 1 3 5\nend\n',
     'shut-down-after-a-crash.run': b'verdict no\nfault 2.1 1:1@1\nend\n',
+    'no-cause.run': b'verdict no\nfault 5 1@2 2@3 3@2\nend\n',
 }
 
 # How many messages a long run has.
@@ -47,6 +52,18 @@ def try_example(script, wanted, program):
     came, _ = process.run([program, 'audit'], made.output)
     is_right = made.status == 0 and came.output == wanted and not came.errors
     return None if is_right else 'came:   %s, then %s\n  wanted: %r' % (made, came, wanted)
+
+
+def try_broken(script, wanted, program):
+    """Runs a script, and has the run judged: which specifications it breaks."""
+    with open(os.path.join(EXAMPLES, script), 'rb') as it:
+        made, _ = process.run([program, 'sim'], it.read())
+    came, _ = process.run([program, 'audit'], made.output)
+    lines = came.output.splitlines()
+    broken = [line.split()[1] for line in lines if line.startswith(b'fault ')]
+    is_no = came.status == 1 and lines[:1] == [b'verdict no'] and lines[-1:] == [b'end'] and not came.errors
+    is_right = is_no and broken == wanted and len(lines) == len(broken) + 2
+    return None if is_right else 'came:   %s, then %s\n  wanted: faults of %r' % (made, came, wanted)
 
 
 def try_example_run(run, wanted, program):
@@ -88,5 +105,7 @@ def examples():
     """What scripts of the examples make, and their runs, are judged as it is written."""
     for script, wanted in AUDITS.items():
         yield script, partial(try_example, script, wanted)
+    for script, wanted in BROKEN.items():
+        yield script, partial(try_broken, script, wanted)
     for run, wanted in REPORTS.items():
         yield run, partial(try_example_run, run, wanted)
