@@ -24,23 +24,23 @@ pub fn rule_of(spec: SpecNo) -> &'static str {
             "Regular and transitional configurations take turns, and a transitional one fits those on both sides of it."
         }
         SpecNo::OwnDelivery => {
-            "Who sends a message delivers it, unless it fails or is still in that configuration."
+            "Whoever sends a message delivers it, unless it fails or is still in that configuration."
         }
         SpecNo::Atomicity => {
             "Processes that go together from one configuration to the next deliver the same messages in the first."
         }
         SpecNo::Causality => {
-            "Who delivers a message has delivered before it each message whose send may have caused it."
+            "Whoever delivers a message has delivered before it each message whose send may have caused it."
         }
         SpecNo::Order => "All deliveries fit into one order.",
         SpecNo::Gap => {
-            "Who delivers a message lacks none that another delivered before it, unless the sender is no longer a member."
+            "Whoever delivers a message lacks none that another delivered before it, unless the sender is no longer a member."
         }
         SpecNo::Safety => {
             "A safe message that one member delivers is delivered by all members, unless they fail or are still there."
         }
         SpecNo::Installed => {
-            "Who delivers a safe message in a regular configuration knows that all its members came to it."
+            "Whoever delivers a safe message in a regular configuration knows that all its members came to it."
         }
     }
 }
