@@ -4,7 +4,10 @@ use std::alloc::Global;
 use std::test::Fail;
 use totem_evs::write_run;
 use totem_ids::ToWrite;
-use totem_script::{ScriptFault, ScriptFaultKind, ScriptVersion, simulate};
+use totem_script::{
+    ScriptFault, ScriptFaultKind, ScriptVersion, a_return_begins_the_next_life,
+    only_the_crashed_return, simulate,
+};
 
 // A message is lost, asked for and sent again.
 const SCRIPT: &str =
@@ -142,4 +145,10 @@ fn a_fault_says_what_and_where(rt: HostRuntime) -> Result<(), Fail> {
         )
     );
     Ok(())
+}
+
+#[test]
+fn laws_do_nothing() {
+    only_the_crashed_return();
+    a_return_begins_the_next_life();
 }

@@ -6,9 +6,10 @@ use std::alloc::{AllocError, Global};
 use totem_ids::ProcId;
 use totem_packets::{
     CommitMember, CommitMembers, Life, ListFault, Number, PacketFault, Payload, Processes,
-    Requests, TokenSeq, a_cut_packet_is_short, kind_5_tells_later_lives, kind_is_the_first_byte,
-    memory_is_no_fault_of_bytes, no_packet_begins_another, range_is_known_at_once, read_is_spelled,
-    short_has_nothing_wrong, spelled_is_read, trailing_is_behind_a_packet,
+    Requests, TokenSeq, a_cut_packet_is_short, is_among, kind_5_tells_later_lives,
+    kind_is_the_first_byte, memory_is_no_fault_of_bytes, no_packet_begins_another,
+    range_is_known_at_once, read_is_spelled, short_has_nothing_wrong, spelled_is_read,
+    trailing_is_behind_a_packet,
 };
 
 /// Tells how many elements come back, and why they were refused.
@@ -245,4 +246,14 @@ fn laws_cost_nothing() {
     range_is_known_at_once();
     trailing_is_behind_a_packet();
     memory_is_no_fault_of_bytes();
+}
+
+#[test]
+fn a_process_is_among_others_or_not(rt: HostRuntime) {
+    let procs = [ProcId::of(2), ProcId::of(5)];
+    let told = [
+        is_among(&procs, ProcId::of(5)),
+        is_among(&procs, ProcId::of(4)),
+    ];
+    assert_eq!(rt; told, [true, false]);
 }
