@@ -3,17 +3,19 @@ use Rattle.std.proofs.Common.{◌≡◌, ◌≢◌, inl, inr, List, [], ◌∷�
 use Rattle.totem_evs.specs.declared.log.Log.{Log}
 use Rattle.totem_evs.specs.declared.fault.Fault.{Fault}
 use Rattle.totem_evs.specs.Answers.{No, IsAnswered, HasCertificate, Lists, ListsConfigurations, MeetsPasses, pass_a, pass_b}
-use Rattle.totem_evs.specs.Certificates.{Numbering}
+use Rattle.totem_evs.specs.Certificates.{Numbering, Certified}
+use Rattle.totem_evs.specs.Synchrony.{IsVirtuallySynchronous}
+use Rattle.totem_passes.specs.Listed.{ListsFirst}
 use Rattle.totem_evs.proofs.Synchronous.{meets_passes, meets_configurations, synchronous, sound}
-use Rattle.totem_check.specs.declared.certificate_fault.CertificateFault.{CertificateFault}
-use Rattle.totem_check.specs.declared.certificate_fault.CertificateFault.TheVariants as certificate
+use Rattle.totem_sweep.specs.declared.certificate_fault.CertificateFault.{CertificateFault}
+use Rattle.totem_sweep.specs.declared.certificate_fault.CertificateFault.TheVariants as certificate
 use Rattle.totem_check.specs.declared.accepted.Accepted.{Accepted}
 use Rattle.totem_check.specs.declared.check_fault.CheckFault.{CheckFault}
 use Rattle.totem_check.specs.declared.check_fault.CheckFault.TheVariants as faults
 use Rattle.totem_check.specs.CheckFaults.{check_fault}
-use Rattle.totem_check.specs.Certifying.{Answers}
-use Rattle.totem_check.specs.Checks.{IsAcceptable, IsFirstFault, IsFirst, BeginsWith, Checks, RefusesRightly}
-use Rattle.totem_check.proofs.Exactly.{not_certified}
+use Rattle.totem_sweep.specs.Certifying.{Answers, Rise}
+use Rattle.totem_check.specs.Checks.{IsAcceptable, IsFirstFault, HasPassed, IsEarlyFault, Judges, BeginsWith, Checks, RefusesRightly}
+use Rattle.totem_sweep.proofs.Exactly.{not_certified}
 
 -- ---- the first fault
 
@@ -25,34 +27,41 @@ first_listed : (run : List Log) (fault : Fault) (others : List Fault) → IsAnsw
 first_listed run fault others answered =
     record { others = others; listed = answered; breaks = (sound run (No (fault ∷ others)) answered).1 0 fault (omega arith) }
 
-pub first_of_a : (run : List Log) (listed : List Fault) (fault : Fault) (others : List Fault) → Lists run pass_a listed → listed ≡ fault ∷ others → IsFirstFault run fault
-first_of_a run listed fault others h e =
-    let here : Lists run pass_a (fault ∷ others) = subst (λ (fs : List Fault). Lists run pass_a fs) e h in
+-- what passes A and B list begins with their first fault; where they list nothing, the run meets their specifications
+pub first_of_early : (run : List Log) (listed : List Fault) (found : Option Fault) → ListsFirst run listed → BeginsWith listed found → IsEarlyFault run found
+first_of_early run listed None (inl (some, a)) none = absurd (some none)
+first_of_early run listed None (inr (a, b)) none = record { a = a; b = subst (λ (fs : List Fault). Lists run pass_b fs) none b }
+first_of_early run listed (Some fault) (inl (some, a)) (others, is) =
+    let here : Lists run pass_a (fault ∷ others) = subst (λ (fs : List Fault). Lists run pass_a fs) is a in
     first_listed run fault others (not_nothing fault others, inl here)
+first_of_early run listed (Some fault) (inr (a, b)) (others, is) =
+    let here : Lists run pass_b (fault ∷ others) = subst (λ (fs : List Fault). Lists run pass_b fs) is b in
+    first_listed run fault others (not_nothing fault others, inr (inl (a, here)))
 
-pub first_of_b : (run : List Log) (first listed : List Fault) (fault : Fault) (others : List Fault) → Lists run pass_a first → first ≡ [] → Lists run pass_b listed → listed ≡ fault ∷ others → IsFirstFault run fault
-first_of_b run first listed fault others a none h e =
-    let clean : Lists run pass_a [] = subst (λ (fs : List Fault). Lists run pass_a fs) none a in
-    let here : Lists run pass_b (fault ∷ others) = subst (λ (fs : List Fault). Lists run pass_b fs) e h in
-    first_listed run fault others (not_nothing fault others, inr (inl (clean, here)))
+pub has_met : (run : List Log) → HasPassed run → MeetsPasses run
+has_met run passed = meets_passes run passed.a passed.b
 
--- where the first two passes list nothing, the run meets their specifications
-pub passed : (run : List Log) (first second : List Fault) → Lists run pass_a first → first ≡ [] → Lists run pass_b second → second ≡ [] → MeetsPasses run
-passed run first second a no_a b no_b =
-    meets_passes run (subst (λ (fs : List Fault). Lists run pass_a fs) no_a a) (subst (λ (fs : List Fault). Lists run pass_b fs) no_b b)
-
--- the last pass begins with a fault, or the run meets the specifications
-pub first_of_d : (run : List Log) (first second listed : List Fault) (found : Option Fault) → HasCertificate run → Lists run pass_a first → first ≡ [] → Lists run pass_b second → second ≡ []
-    → ListsConfigurations run listed → BeginsWith listed found → IsFirst run found
-first_of_d run first second listed None (lines, certified) a no_a b no_b d none =
-    let clean_d : ListsConfigurations run [] = subst (λ (fs : List Fault). ListsConfigurations run fs) none d in
-    let meets = passed run first second a no_a b no_b in
-    (meets, synchronous run lines meets certified (meets_configurations run clean_d))
-first_of_d run first second listed (Some fault) certified a no_a b no_b d (others, is) =
-    let clean_a : Lists run pass_a [] = subst (λ (fs : List Fault). Lists run pass_a fs) no_a a in
-    let clean_b : Lists run pass_b [] = subst (λ (fs : List Fault). Lists run pass_b fs) no_b b in
+-- the first fault of the last pass, where the others have none
+pub first_of_last : (run : List Log) (listed : List Fault) (fault : Fault) → HasCertificate run → HasPassed run → ListsConfigurations run listed → BeginsWith listed (Some fault) → IsFirstFault run fault
+first_of_last run listed fault certified passed d (others, is) =
     let here : ListsConfigurations run (fault ∷ others) = subst (λ (fs : List Fault). ListsConfigurations run fs) is d in
-    first_listed run fault others (not_nothing fault others, inr (inr (inr (clean_a, clean_b, certified, here))))
+    first_listed run fault others (not_nothing fault others, inr (inr (inr (passed.a, passed.b, certified, here))))
+
+-- where it has none either, the run meets all specifications
+pub none_of_last : (run : List Log) (listed : List Fault) → HasCertificate run → HasPassed run → ListsConfigurations run listed → listed ≡ [] → IsVirtuallySynchronous run
+none_of_last run listed (lines, certified) passed d none =
+    synchronous run lines (has_met run passed) certified (meets_configurations run (subst (λ (fs : List Fault). ListsConfigurations run fs) none d))
+
+-- what is answered of a certified run is the checker's answer
+pub judged : (run : List Log) (lines : List Numbering) (r : Result Accepted CheckFault) → Certified run lines → Judges run r → Checks run lines r
+judged run lines (Ok accepted) c (meets, open_lists) = (record { certified = c; meets = meets }, open_lists)
+judged run lines (Err faults.Count) c h = absurd h
+judged run lines (Err faults.NotRising) c h = absurd h
+judged run lines (Err faults.SendNotBefore) c h = absurd h
+judged run lines (Err faults.TwinsDiffer) c h = absurd h
+judged run lines (Err faults.SharedPosition) c h = absurd h
+judged run lines (Err (faults.Broken fault)) c h = (c, h)
+judged run lines (Err faults.Memory) c h = (c.matches, c.rises)
 
 -- a fault of the certificate, passed on
 pub passed_on : (run : List Log) (lines : List Numbering) (f : CertificateFault) → Answers run lines (Err f) → Checks run lines (Err (check_fault f))

@@ -5,13 +5,13 @@ use Rattle.totem_evs.specs.declared.fault.Fault.{Fault}
 use Rattle.totem_evs.specs.Synchrony.{IsVirtuallySynchronous}
 use Rattle.totem_evs.specs.Unsettled.{ArePending, AreWaiting}
 use Rattle.totem_evs.specs.Faults.{Breaks}
-use Rattle.totem_evs.specs.Answers.{No, MeetsPasses, IsAnswered}
-use Rattle.totem_evs.specs.Certificates.{Numbering, Certified}
+use Rattle.totem_evs.specs.Answers.{No, Lists, IsAnswered, pass_a, pass_b}
+use Rattle.totem_evs.specs.Certificates.{Numbering, Matches, Certified}
 use Rattle.totem_check.specs.declared.accepted.Accepted.{Accepted}
-use Rattle.totem_check.specs.declared.certificate_fault.CertificateFault.TheVariants as certificate
+use Rattle.totem_sweep.specs.declared.certificate_fault.CertificateFault.TheVariants as certificate
 use Rattle.totem_check.specs.declared.check_fault.CheckFault.{CheckFault}
 use Rattle.totem_check.specs.declared.check_fault.CheckFault.TheVariants as faults
-use Rattle.totem_check.specs.Certifying.{Answers}
+use Rattle.totem_sweep.specs.Certifying.{Answers, Rise}
 
 -- the lines certify the run, and it meets specifications 1 to 7
 pub record IsAcceptable (run : List Log) (lines : List Numbering) : Type 0 where
@@ -29,12 +29,25 @@ pub record IsFirstFault (run : List Log) (fault : Fault) : Type 0 where
   pub listed : IsAnswered run (No (fault ∷ others))
   pub breaks : Breaks run fault.spec fault.places
 
--- of a certified run: its first fault, or there is none and it meets the specifications
-abbrev pub IsFirst : List Log → Option Fault → Type 0
-IsFirst run None = MeetsPasses run × IsVirtuallySynchronous run
-IsFirst run (Some fault) = IsFirstFault run fault
+-- passes A and B list nothing
+pub record HasPassed (run : List Log) : Type 0 where
+  pub a : Lists run pass_a []
+  pub b : Lists run pass_b []
 
--- the run and the lines are accepted; or this is the first reason why they are not; or memory was refused
+-- the first fault of passes A and B, if they list one
+abbrev pub IsEarlyFault : List Log → Option Fault → Type 0
+IsEarlyFault run None = HasPassed run
+IsEarlyFault run (Some fault) = IsFirstFault run fault
+
+-- what is answered of a certified run
+abbrev pub Judges : List Log → Result Accepted CheckFault → Type 0
+Judges run (Ok accepted) = IsVirtuallySynchronous run × ListsOpen run accepted
+Judges run (Err (faults.Broken fault)) = IsFirstFault run fault
+Judges run (Err faults.Memory) = Unit {0}
+Judges run (Err _) = ⊥
+
+-- the run and the lines are accepted; or this is the first reason why they are not; or memory was refused, which the first two
+-- reasons take none of
 abbrev pub Checks : List Log → List Numbering → Result Accepted CheckFault → Type 0
 Checks run lines (Ok accepted) = IsAcceptable run lines × ListsOpen run accepted
 Checks run lines (Err faults.Count) = Answers run lines (Err certificate.Count)
@@ -43,7 +56,7 @@ Checks run lines (Err faults.SendNotBefore) = Answers run lines (Err certificate
 Checks run lines (Err faults.TwinsDiffer) = Answers run lines (Err certificate.TwinsDiffer)
 Checks run lines (Err faults.SharedPosition) = Answers run lines (Err certificate.SharedPosition)
 Checks run lines (Err (faults.Broken fault)) = Certified run lines × IsFirstFault run fault
-Checks run lines (Err faults.Memory) = Unit {0}
+Checks run lines (Err faults.Memory) = Matches run lines × Rise run lines
 
 -- of what was refused nothing is acceptable, want of memory aside
 abbrev pub RefusesRightly : List Log → List Numbering → Result Accepted CheckFault → Type 0

@@ -3,10 +3,10 @@ ghost use Rattle.std.specs.Prelude.{◌≡◌, IfOk};
 ghost use Rattle.totem_check.specs.declared.check_fault.CheckFault.TheVariants.{Memory};
 ghost use Rattle.totem_check.specs.CheckFaults.{fault_number, fault_name};
 
-use crate::certificate_fault::CertificateFault;
 use std::alloc::{AllocError, Global};
 use thiserror::Error;
 use totem_evs::Fault;
+use totem_sweep::CertificateFault;
 
 /// Why a run with a certificate was not accepted. Each reason is looked for in the whole run before the next one is.
 #[derive(Debug, Drop, Error)]

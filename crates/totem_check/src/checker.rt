@@ -1,16 +1,18 @@
 //! The checker of runs and certificates.
 ghost use Rattle.std.specs.Prelude.{IfOk};
 ghost use Rattle.totem_evs.specs.Answers.{HasCertificate};
-ghost use Rattle.totem_check.specs.Checks.{IsFirst, Checks, RefusesRightly, BeginsWith};
+ghost use Rattle.totem_table.specs.Changes.{AreChanges};
+ghost use Rattle.totem_check.specs.Checks.{HasPassed, IsEarlyFault, Judges, Checks, RefusesRightly, BeginsWith};
 
 use crate::accepted::Accepted;
-use crate::certification::certified;
 use crate::check_fault::CheckFault;
 use std::alloc::{AllocError, Global};
-use totem_agreement::{pass_d, pending, waiting};
+use totem_agreement::{Jobs, Judged, pass_d_of, pending_of, waiting};
 use totem_cert::Certificate;
 use totem_evs::{Fault, Run};
-use totem_passes::{pass_a, pass_b};
+use totem_passes::pass_a_and_b;
+use totem_sweep::certified;
+use totem_table::{Changes, Table};
 
 fn first_of(mut faults: Vec<Fault>) -> Option<Fault>
     ensures { BeginsWith faults.items result }
@@ -22,18 +24,44 @@ fn first_of(mut faults: Vec<Fault>) -> Option<Fault>
     }
 }
 
-/// Returns the first fault that the audit of the run would list. Some certificate orders the run's events, so pass C has none.
-fn first_fault(alloc: Global, run: &Run) -> Result<Option<Fault>, AllocError>
-    requires { HasCertificate run.now.logs }
-    ensures { IfOk result (IsFirst run.now.logs) }
+/// Returns the first fault of passes A and B, if they have one. The run makes these changes.
+fn early_fault(alloc: Global, run: &Run, changes: &Changes) -> Result<Option<Fault>, AllocError>
+    requires { AreChanges run.now.logs changes.now.rows.items }
+    ensures { IfOk result (IsEarlyFault run.now.logs) }
 {
-    if let Some(fault) = first_of(pass_a(alloc, run)?) {
-        return Ok(Some(fault));
+    let table = Table::build(alloc, run)?;
+    Ok(first_of(pass_a_and_b(alloc, run, table.as_ref(), changes)?))
+}
+
+/// Judges a certified run that has passed A and B by the last pass.
+#[tactic(auto, using(crate::proofs::Checking::has_met))]
+fn settle(alloc: Global, run: &Run, changes: Changes) -> Result<Accepted, CheckFault>
+    requires certificate { HasCertificate run.now.logs }
+    requires passed { HasPassed run.now.logs }
+    requires changes { AreChanges run.now.logs changes.rows.items }
+    ensures { Judges run.now.logs result }
+{
+    let jobs = Jobs::over(alloc, run, changes)?;
+    let Judged { faults, complete } = pass_d_of(alloc, &jobs)?;
+    if let Some(fault) = first_of(faults) {
+        return Err(CheckFault::Broken(fault));
     }
-    if let Some(fault) = first_of(pass_b(alloc, run)?) {
-        return Ok(Some(fault));
+    Ok(Accepted {
+        pending: pending_of(alloc, &jobs, &complete)?,
+        waiting: waiting(alloc, run)?,
+    })
+}
+
+/// Judges a certified run. Its certificate orders the events, so pass C has no fault.
+fn judge(alloc: Global, run: &Run) -> Result<Accepted, CheckFault>
+    requires { HasCertificate run.now.logs }
+    ensures { Judges run.now.logs result }
+{
+    let changes = Changes::of(alloc, run)?;
+    if let Some(fault) = early_fault(alloc, run, &changes)? {
+        return Err(CheckFault::Broken(fault));
     }
-    Ok(first_of(pass_d(alloc, run)?))
+    settle(alloc, run, changes)
 }
 
 /// Checks that the certificate certifies the run and that the run meets specifications 1 to 7 (docs/SPECIFICATIONS.md,
@@ -42,12 +70,6 @@ pub fn check(alloc: Global, run: &Run, certificate: &Certificate) -> Result<Acce
     ensures answer { Checks run.now.logs certificate.now.lines result }
     ensures exact { RefusesRightly run.now.logs certificate.now.lines result }
 {
-    certified(run, certificate)?;
-    if let Some(fault) = first_fault(alloc, run)? {
-        return Err(CheckFault::Broken(fault));
-    }
-    Ok(Accepted {
-        pending: pending(alloc, run)?,
-        waiting: waiting(alloc, run)?,
-    })
+    certified(alloc, run, certificate)??;
+    judge(alloc, run)
 }

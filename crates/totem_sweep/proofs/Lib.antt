@@ -1,0 +1,11 @@
+pub mod Matching
+pub mod Standing
+pub mod Asking
+pub mod Climbing
+pub mod Certain
+pub mod Exactly
+pub mod Naming
+pub mod Walking
+pub mod Passing
+pub mod Spreading
+pub mod Faulty
