@@ -193,7 +193,7 @@ class Cutting:
             if not kept:
                 tell('%s: begins behind %s, and is left out' % (log.name, name))
             elif kept < log.entries:
-                tell('%s: %d entries behind its change to %s are left out' % (log.name, log.entries - kept, name))
+                tell('%s: entries that are left out behind its change to %s: %d' % (log.name, name, log.entries - kept))
         return end
 
 

@@ -8,22 +8,29 @@ MOST_LOGS = 32
 MOST_ENTRIES = 1000000
 
 
-def _forms(number, process):
+# Numbers that are surely in range, those of processes too, and numbers of any size.
+SMALL, SMALL_PROCESS, ANY = rb'[1-9][0-9]{0,8}', rb'[1-9][0-9]{0,3}', rb'[1-9][0-9]{0,19}'
+
+
+def _forms(ring_number, process, message_number, life):
     """A regular expression for a line, with these numbers in it."""
-    ring = number + rb'\.' + process
+    ring = ring_number + rb'\.' + process
     configuration = rb'(?:r' + ring + rb'|t' + ring + rb'/' + process + rb')'
-    message = ring + rb'#' + number
-    member = process + rb'(?::' + process + rb')?'
+    message = ring + rb'#' + message_number
+    member = process + rb'(?::' + life + rb')?'
     return rb'(?:dlv ' + configuration + rb' ' + message + \
         rb'|send r' + ring + rb' [as] ' + message + \
         rb'|conf ' + configuration + rb'(?: ' + member + rb')+' + \
         rb'|fail ' + configuration + rb')\n'
 
 
-# Lines whose numbers are surely in range: nearly all that there are. The others are looked at one by one.
-PLAIN = re.compile(rb'(?:' + _forms(rb'[1-9][0-9]{0,8}', rb'[1-9][0-9]{0,3}') + rb')*')
+# Lines whose numbers are surely in range: nearly all that there are. The others are looked at one by one. Where processes and rings are
+# numbered anew theirs may have any size.
+PLAIN = re.compile(rb'(?:' + _forms(SMALL, SMALL_PROCESS, SMALL, SMALL_PROCESS) + rb')*')
+PLAIN_TO_NUMBER = re.compile(rb'(?:' + _forms(ANY, ANY, SMALL, SMALL_PROCESS) + rb')*')
 # A line with numbers of any size.
-LARGE = re.compile(_forms(rb'[1-9][0-9]{0,19}', rb'[1-9][0-9]{0,19}'))
+LARGE = re.compile(_forms(ANY, ANY, ANY, ANY))
+WITHOUT_MEMBERS = re.compile(rb'conf [rt][0-9./]+ *\n')
 # The numbers of a line, by what they are.
 RINGS = re.compile(rb'([0-9]+)\.([0-9]+)')
 MESSAGE = re.compile(rb'#([0-9]+)')
@@ -79,6 +86,8 @@ def flaw(line, is_numbered_anew):
         return 'quiet is not the last line'
     if line.endswith(b'\r\n'):
         return 'the line ends with a carriage return; lines end with one byte 0A'
+    if WITHOUT_MEMBERS.fullmatch(line):
+        return 'a change has members: %s (a first callback that names none is left out)' % shown(line)
     example = _EXAMPLES.get(line.split(b' ')[0].rstrip(b'\n'))
     if example:
         return 'this is no entry: %s (such as %s)' % (shown(line), example)

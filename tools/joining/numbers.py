@@ -17,20 +17,39 @@ def _table(numbers, most, what):
     return {number: new for new, number in enumerate(sorted(numbers), 1)}
 
 
+# How many rings are looked for at once before all others: logs name few at a time.
+MOST_RECENT = 8
+# Stands for the dot of a ring that is numbered anew already.
+DONE = b'\1'
+
+
 class Numbers:
     """Which numbers there are, and which they become."""
 
     def __init__(self):
         self.names = set()
+        self.recent = []
         self.leasts = set()
         self.processes, self.rings = {}, {}
         self.new_names = {}
 
     def see(self, block):
         """Takes note of the rings of a block."""
-        self.names.update(RING.findall(block))
         if b'/' in block:
             self.leasts.update(BEHIND_SLASH.findall(block))
+        there = []
+        for name in self.recent:
+            size = len(block)
+            block = block.replace(b'r%s ' % name, b' ').replace(b' %s#' % name, b'#')
+            if len(block) < size:
+                there.append(name)
+        found = set(RING.findall(block)) if b'.' in block else set()
+        self.names |= found
+        self._come(there, found)
+
+    def _come(self, there, found):
+        """What was there in this block, and what was found beside it, is looked for first in the next one."""
+        self.recent = (there + sorted(found.difference(there)))[-MOST_RECENT:]
 
     def settle(self, logs):
         """Makes the tables, and tells them."""
@@ -77,10 +96,22 @@ class Numbers:
             block = self._with_members(block)
             if b'/' in block:
                 block = BEHIND_SLASH.sub(lambda found: b'/%d' % self.process(int(found[1])), block)
-        if self.processes or self.rings:
-            names = self.new_names
+        return self._with_rings(block) if self.processes or self.rings else block
+
+    def _with_rings(self, block):
+        """The block with the new names of rings."""
+        names = self.new_names
+        there = []
+        for name in self.recent:
+            if b' %s#' % name in block:
+                new = names[name].replace(b'.', DONE)
+                block = block.replace(b' %s#' % name, b' %s#' % new).replace(b'r%s ' % name, b'r%s ' % new)
+                there.append(name)
+        others = set(RING.findall(block)) if b'.' in block else set()
+        self._come(there, others)
+        if others:
             block = RING.sub(lambda found: names[found[0]], block)
-        return block
+        return block.replace(DONE, b'.')
 
     def _with_members(self, block):
         """The block with the new numbers of members."""

@@ -51,13 +51,16 @@ def _check_change(log, line, members, adds_lives):
 
 
 class Scan:
-    """How logs are read. `keeps_changes`: each log gets the list of its changes. `sees(block)` is called with each block, if given."""
+    """How logs are read. `keeps_changes`: each log gets the list of its changes. `sees(block)` is called with each block, if given.
+    `is_known`: each line is known to be an entry."""
 
-    def __init__(self, is_numbered_anew=False, adds_lives=False, keeps_changes=False, sees=None):
+    def __init__(self, is_numbered_anew=False, adds_lives=False, keeps_changes=False, sees=None, is_known=False):
         self.is_numbered_anew = is_numbered_anew
         self.adds_lives = adds_lives
         self.keeps_changes = keeps_changes
         self.sees = sees
+        self.is_known = is_known
+        self.plain = entries.PLAIN_TO_NUMBER if is_numbered_anew else entries.PLAIN
 
     def _take_changes(self, log, block, offset):
         """Takes note of the changes of a block, which begins at this offset."""
@@ -76,7 +79,7 @@ class Scan:
         """Reads one log."""
         offset, block = 0, b''
         for block in blocks(log.path, 0, log.size):
-            if entries.PLAIN.match(block).end() != len(block):
+            if not self.is_known and self.plain.match(block).end() != len(block):
                 _check_lines(log, block, log.entries, self.is_numbered_anew)
             self._take_changes(log, block, offset)
             if self.sees:

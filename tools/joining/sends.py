@@ -5,7 +5,7 @@ from typing import NamedTuple
 
 from joining.folder import Log, blocks
 from joining.scan import Scan
-from joining.trouble import some, tell
+from joining.trouble import some, tell, tell_each
 
 SEND = re.compile(rb'send \S+ ([as]) (\S+)\n')
 DELIVERED = re.compile(rb'dlv \S+ (\S+)\n')
@@ -68,17 +68,6 @@ class Plan:
         self.left_out = []
         # Messages that this process never delivered.
         self.missing = []
-        self._follow_own_deliveries()
-
-    def _follow_own_deliveries(self):
-        """Finds the own deliveries: one behind a transitional change has its send at the end of the regular configuration before."""
-        services = sends_of(self.log)
-        waiting = dict(services)
-        for index, block in pieces(self.log, self.segments):
-            for name in DELIVERED.findall(block):
-                if waiting.pop(name, None) and not self.segments[index].is_regular:
-                    self.put(name, regular_at(self.segments, index))
-        self.missing = list(waiting)
 
     def put(self, name, index):
         """The send of this message stands at the end of this segment; without a segment it stays where it is."""
@@ -90,7 +79,7 @@ class Plan:
     def index_of(self, configuration):
         """The index of the segment of a configuration, or None."""
         for index, segment in enumerate(self.segments):
-            if segment.configuration == configuration:
+            if configuration and segment.configuration == configuration:
                 return index
         return None
 
@@ -106,20 +95,24 @@ class Plan:
         """Tells what was moved and what was left out; `count` sends stand in front of own deliveries."""
         who = self.log.name
         if count:
-            tell('%s: %d sends stand in front of their own deliveries' % (who, count))
+            tell('%s: sends that stand in front of their own deliveries: %d' % (who, count))
+        lines = []
         for index, names in sorted(self.at_end.items()):
-            tell('%s: %d sends stand at the end of %s, whose messages it delivered behind it or not at all: %s' % (
-                who, len(names), self.segments[index].configuration.decode(), some(names)))
+            where = self.segments[index].configuration.decode()
+            lines.append('%s: sends at the end of %s, since it delivered the messages behind it or not at all: %d (%s)'
+                         % (who, where, len(names), some(names)))
+        tell_each(lines)
         if self.kept:
-            tell('%s: %d sends stay where they are, since it was never in the configuration in which others delivered: %s' % (
+            tell('%s: sends that stay where they are, since it was never in the configuration in which others delivered: %d (%s)' % (
                 who, len(self.kept), some(sorted(self.kept))))
         if self.left_out:
-            tell('%s: %d sends of messages that nobody delivered are left out: %s' % (
+            tell('%s: sends that are left out, since nobody delivered the messages: %d (%s)' % (
                 who, len(self.left_out), some(self.left_out)))
 
 
 def delivered_in(plans, logs):
-    """Of each message that its sender never delivered, and others did, the regular configuration in which it was sent."""
+    """Of each message that its sender never delivered, and others did, the regular configuration in which it was sent; an empty name where
+    they were in none."""
     missing = {name for plan in plans for name in plan.missing}
     found = {}
     if not missing:
@@ -128,22 +121,23 @@ def delivered_in(plans, logs):
         of_log = segments(log)
         for index, block in pieces(log, of_log):
             for name in DELIVERED.findall(block):
-                if name in missing and name not in found:
+                if name in missing and not found.get(name):
                     regular = regular_at(of_log, index)
                     found[name] = of_log[regular].configuration if regular is not None else b''
     return found
 
 
 class Rewriting:
-    """A log that is written anew by its plan."""
+    """A log that is written anew by its plan. What it delivers of its own elsewhere than in a regular configuration is added to the
+    plan; where that, or what it never delivers, is anything, the log is written a second time."""
 
     def __init__(self, plan):
         self.plan = plan
         self.services = sends_of(plan.log)
         gone = plan.kept.union(plan.left_out, *plan.at_end.values())
-        # The messages whose sends are still to be put in front of the own delivery.
-        self.here = {name: service for name, service in self.services.items() if name not in gone}
-        order = {name: place for place, name in enumerate(self.services)}
+        # The messages whose own deliveries have not come yet.
+        self.here = {name for name in self.services if name not in gone} if gone else set(self.services)
+        order = {name: place for place, name in enumerate(self.services)} if plan.at_end else {}
         self.at_end = {index: sorted(names, key=order.get) for index, names in plan.at_end.items()}
         self.count = 0
 
@@ -163,46 +157,75 @@ class Rewriting:
             return SEND.sub(b'', block)
         return SEND.sub(lambda found: found[0] if found[2] in kept else b'', block)
 
+    def own_deliveries(self, index, block):
+        """Which lines of the block deliver what is still to come, and what."""
+        here = self.here
+        stripped = block.replace(b'dlv %s ' % self.plan.segments[index].configuration, b'')
+        if b'dlv ' in stripped:
+            names = [line[line.rfind(b' ') + 1:] for line in block.split(b'\n')]
+        else:
+            names = stripped.split(b'\n')
+        return [(at, name) for at, name in enumerate(names) if name in here]
+
     def of(self, index, block):
         """The piece of a segment, with the sends that stand in front of deliveries."""
-        lines = self.without_sends(block).split(b'\n')
-        here = self.here
-        for at in [at for at, line in enumerate(lines) if line[line.rfind(b' ') + 1:] in here]:
-            name = lines[at].rpartition(b' ')[2]
-            if here.pop(name, None):
+        block = self.without_sends(block)
+        lines = block.split(b'\n')
+        for at, name in self.own_deliveries(index, block):
+            if name not in self.here:
+                continue
+            self.here.discard(name)
+            if self.plan.segments[index].is_regular:
                 lines[at] = self.lines_of(index, name) + lines[at]
                 self.count += 1
+            else:
+                self.plan.put(name, regular_at(self.plan.segments, index))
         if index in self.at_end and lines[-2:-1] and lines[-2].startswith(b'fail '):
             lines[-2] = self.ending(index) + lines[-2]
         return b'\n'.join(lines)
 
-    def write(self, out):
-        """Writes the log."""
+    def write(self, path):
+        """Writes the log into a file, and returns how many bytes it has."""
         last = 0
-        for index, block in pieces(self.plan.log, self.plan.segments):
-            if index != last:
-                out.write(self.ending(last))
-                last = index
-            out.write(self.of(index, block))
-        out.write(self.ending(last))
+        with open(path, 'wb') as out:
+            for index, block in pieces(self.plan.log, self.plan.segments):
+                if index != last:
+                    out.write(self.ending(last))
+                    last = index
+                out.write(self.of(index, block))
+            out.write(self.ending(last))
+            return out.tell()
+
+    def is_settled(self):
+        """Whether the plan was known before the log was written."""
+        return not self.plan.at_end and not self.plan.kept
+
+
+def _first_writing(log, path):
+    """Writes a log as it is where each message is delivered by its sender in a regular configuration. The writing, and the bytes."""
+    rewriting = Rewriting(Plan(log))
+    size = rewriting.write(path)
+    order = {name: place for place, name in enumerate(rewriting.services)} if rewriting.here else {}
+    rewriting.plan.missing = sorted(rewriting.here, key=order.get)
+    # What the log sends is found anew where it is asked for: it may be much.
+    rewriting.services = None
+    return rewriting, size
 
 
 def move_sends(logs, folder, scan_words):
     """Writes the logs anew into a folder, each send in front of its sender's own delivery, and returns the logs that stand there."""
-    plans = [Plan(log) for log in logs]
-    places = delivered_in(plans, logs)
+    paths = [os.path.join(folder, log.name) for log in logs]
+    writings = [_first_writing(log, path) for log, path in zip(logs, paths)]
+    places = delivered_in([rewriting.plan for rewriting, _ in writings], logs)
     moved = []
-    for plan in plans:
-        plan.place_missing(places)
-        log = plan.log
-        path = os.path.join(folder, log.name)
-        rewriting = Rewriting(plan)
-        with open(path, 'wb') as out:
-            rewriting.write(out)
-            size = out.tell()
-        plan.tell(rewriting.count)
-        new = Log(log.name, path, log.process, log.life, size=size, ending=log.ending, added=log.added)
-        Scan(**scan_words).read(new)
+    for log, path, (rewriting, size) in zip(logs, paths, writings):
+        rewriting.plan.place_missing(places)
+        if not rewriting.is_settled():
+            rewriting = Rewriting(rewriting.plan)
+            size = rewriting.write(path)
+        rewriting.plan.tell(rewriting.count)
+        new = Log(log.name, path, log.process, log.life, size=size, added=log.added)
+        Scan(is_known=True, **scan_words).read(new)
         new.ending = log.ending
         moved.append(new)
     return moved

@@ -63,7 +63,7 @@ def _add_words_of_join(join):
                       'TIME end P:L, TIME conf CONF')
     join.add_argument('--own-sends', action='store_true',
                       help="put each send in front of its sender's own delivery: for logs in which a message counts as sent "
-                      'when the layer takes it')
+                      'when the layer takes it (the logs are written anew into the folder for temporary files)')
     join.add_argument('--renumber', action='store_true',
                       help='number processes past 65535 and rings past 4294967295 anew, alike in all logs')
     join.add_argument('--table', metavar='FILE', help='with --renumber: write which number became which')

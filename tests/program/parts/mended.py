@@ -82,30 +82,30 @@ SENDS = {
     'a message that went out two configurations later': (
         '--own-sends', {'1.log': 'conf r4.1 1\nsend r4.1 s 4.1#1\nconf t8.1/1 1\nconf r8.1 1\ndlv r8.1 4.1#1\n'},
         'totem-run 1\nlog 1\nconf r4.1 1\nconf t8.1/1 1\nconf r8.1 1\nsend r8.1 s 4.1#1\ndlv r8.1 4.1#1\nopen\nend\n',
-        'logs: 1.log: 1 sends stand in front of their own deliveries\n'),
+        'logs: 1.log: sends that stand in front of their own deliveries: 1\n'),
     'a send that was recorded behind the delivery': (
         '--own-sends', {'1.log': 'conf r4.1 1\ndlv r4.1 4.1#1\nsend r4.1 a 4.1#1\n'},
         'totem-run 1\nlog 1\nconf r4.1 1\nsend r4.1 a 4.1#1\ndlv r4.1 4.1#1\nopen\nend\n',
-        'logs: 1.log: 1 sends stand in front of their own deliveries\n'),
+        'logs: 1.log: sends that stand in front of their own deliveries: 1\n'),
     'a delivery behind the transitional change': (
         '--own-sends', {'1.log': 'conf r4.1 1\nsend r4.1 a 4.1#1\nsend r4.1 a 4.1#2\ndlv r4.1 4.1#1\nconf t8.1/1 1\ndlv t8.1/1 4.1#2\n'},
         'totem-run 1\nlog 1\nconf r4.1 1\nsend r4.1 a 4.1#1\ndlv r4.1 4.1#1\nsend r4.1 a 4.1#2\nconf t8.1/1 1\ndlv t8.1/1 4.1#2\n'
         'open\nend\n',
-        'logs: 1.log: 1 sends stand in front of their own deliveries\n'
-        'logs: 1.log: 1 sends stand at the end of r4.1, whose messages it delivered behind it or not at all: 4.1#2\n'),
+        'logs: 1.log: sends that stand in front of their own deliveries: 1\n'
+        'logs: 1.log: sends at the end of r4.1, since it delivered the messages behind it or not at all: 1 (4.1#2)\n'),
     'what a process that failed never delivered, and another one did': (
         '--own-sends', {'1.log': 'conf r4.1 1 2\nsend r4.1 a 4.1#1\nsend r4.1 a 4.1#2\nfail r4.1\n', '2.log': ONE_OTHER},
         'totem-run 1\nlog 1\nconf r4.1 1 2\nsend r4.1 a 4.1#1\nfail r4.1\nfailed\nlog 2\nconf r4.1 1 2\ndlv r4.1 4.1#1\nopen\nend\n',
-        'logs: 1.log: 1 sends stand at the end of r4.1, whose messages it delivered behind it or not at all: 4.1#1\n'
-        'logs: 1.log: 1 sends of messages that nobody delivered are left out: 4.1#2\n'),
+        'logs: 1.log: sends at the end of r4.1, since it delivered the messages behind it or not at all: 1 (4.1#1)\n'
+        'logs: 1.log: sends that are left out, since nobody delivered the messages: 1 (4.1#2)\n'),
     'what others delivered where the sender never was': (
         '--own-sends', {'1.log': 'conf r3.1 1\nsend r3.1 a 4.1#1\n', '2.log': ONE_OTHER},
         'totem-run 1\nlog 1\nconf r3.1 1\nsend r3.1 a 4.1#1\nopen\nlog 2\nconf r4.1 1 2\ndlv r4.1 4.1#1\nopen\nend\n',
-        'logs: 1.log: 1 sends stay where they are, since it was never in the configuration in which others delivered: 4.1#1\n'),
+        'logs: 1.log: sends that stay where they are, since it was never in the configuration in which others delivered: 1 (4.1#1)\n'),
     'a message that was sent twice stays so': (
         '--own-sends', {'1.log': 'conf r4.1 1\nsend r4.1 a 4.1#1\nsend r4.1 s 4.1#1\ndlv r4.1 4.1#1\ndlv r4.1 4.1#1\n'},
         'totem-run 1\nlog 1\nconf r4.1 1\nsend r4.1 a 4.1#1\nsend r4.1 s 4.1#1\ndlv r4.1 4.1#1\ndlv r4.1 4.1#1\nopen\nend\n',
-        'logs: 1.log: 1 sends stand in front of their own deliveries\n'),
+        'logs: 1.log: sends that stand in front of their own deliveries: 1\n'),
 }
 
 LARGE = 4294967300
@@ -155,15 +155,15 @@ TRIMMED = {
         '--trim', LOST_TAIL,
         'totem-run 1\nlog 1\nconf r4.1 1 2\ndlv r4.1 4.1#1\nconf t8.1/1 1 2\nconf r8.1 1 2\nopen\n'
         'log 2\nconf r4.1 1 2\nsend r4.1 a 4.1#1\ndlv r4.1 4.1#1\nconf t8.1/1 1 2\nconf r8.1 1 2\nopen\nend\n',
-        'logs: 1.log: 1 entries behind its change to r8.1 are left out\n'),
+        'logs: 1.log: entries that are left out behind its change to r8.1: 1\n'),
     'a process that failed is not waited for': (
         '--trim', {'1.log': 'conf r4.1 1 2\nconf t8.1/1 1\nconf r8.1 1\ndlv r8.1 8.1#1\n', '2.log': 'conf r4.1 1 2\nfail r4.1\n'},
         'totem-run 1\nlog 1\nconf r4.1 1 2\nconf t8.1/1 1\nconf r8.1 1\nopen\nlog 2\nconf r4.1 1 2\nfail r4.1\nfailed\nend\n',
-        'logs: 1.log: 1 entries behind its change to r8.1 are left out\n'),
+        'logs: 1.log: entries that are left out behind its change to r8.1: 1\n'),
     'one that is still there is': (
         '--trim', {'1.log': 'conf r4.1 1 2\nconf t8.1/1 1\nconf r8.1 1\n', '2.log': 'conf r4.1 1 2\n'},
         'totem-run 1\nlog 1\nconf r4.1 1 2\nopen\nlog 2\nconf r4.1 1 2\nopen\nend\n',
-        'logs: 1.log: 2 entries behind its change to r4.1 are left out\n'),
+        'logs: 1.log: entries that are left out behind its change to r4.1: 2\n'),
 }
 NOT_CUT = {
     'no change in common': (
@@ -199,7 +199,8 @@ def try_table(_program):
         with open(table, encoding='ascii') as it:
             lines = it.read()
     wanted = ''.join('process %d becomes %d\n' % (70000 + number, number) for number in range(1, 26))
-    is_right = came.status == 0 and lines == wanted and b'logs: process 70020 becomes 20\nlogs: .. and 5 more of the same kind\n' in came.errors
+    told = b'logs: process 70020 becomes 20\nlogs: .. and 5 more of the same kind\n'
+    is_right = came.status == 0 and lines == wanted and told in came.errors
     return None if is_right else 'came: %s, and %r' % (came, lines)
 
 
@@ -210,6 +211,29 @@ def try_nothing_made(_program):
         came = join(['--cut', os.path.join(folder, 'parts')], folder)
         left = os.listdir(folder)
     return None if came.status == 1 and left == ['1.log'] else 'came: %s, and %r' % (came, left)
+
+
+def long_logs(rings, members, is_moved):
+    """Two logs with 20,000 messages of the second process, half of them delivered on each of two rings. Their sends stand where the first
+    ring begins, or each in front of the own delivery."""
+    half = 10000
+    names = ['%d.1#%d' % (rings[0], number) for number in range(1, 2 * half + 1)]
+    start = 'conf r%d.1 %s\n' % (rings[0], members)
+    change = 'conf t%d.1/1 %s\nconf r%d.1 %s\n' % (rings[1], members, rings[1], members)
+    taken = '' if is_moved else ''.join('send r%d.1 a %s\n' % (rings[0], name) for name in names)
+    other, own = [], []
+    for ring, part in zip(rings, (names[:half], names[half:])):
+        other.append(''.join('dlv r%d.1 %s\n' % (ring, name) for name in part))
+        own.append(''.join('send r{0}.1 a {1}\ndlv r{0}.1 {1}\n'.format(ring, name) for name in part) if is_moved else other[-1])
+    return start + other[0] + change + other[1], start + taken + own[0] + change + own[1]
+
+
+def try_long(_program):
+    """Logs of many blocks: the sends are moved, and processes and rings numbered anew."""
+    first, second = long_logs((4300000000, 4300000004), '1 70000', False)
+    came = join_files('--own-sends --renumber', {'1.log': first, '70000.log': second})
+    wanted = 'totem-run 1\nlog 1\n%sopen\nlog 2\n%sopen\nend\n' % long_logs((1, 2), '1 2', True)
+    return None if (came.status, came.output.decode()) == (0, wanted) else 'came: %s' % came
 
 
 def mended():
@@ -224,11 +248,13 @@ def mended():
     yield 'cut as seldom as can be', partial(try_cut, '--entries 7', THREE_RINGS, [
         FIRST.replace('conf r8.1 1:1 2:1\nopen\nlog', 'conf r8.1 1:1 2:1\nconf t12.1/1 1:1\nconf r12.1 1:1 2:2\nopen\nlog')
         .replace('conf r8.1 1:1 2:1\nopen\nend\n', 'conf r8.1 1:1 2:1\nfail r8.1\nfailed\n' + SECOND[SECOND.index('log 2:2'):]), THIRD], '')
-    yield 'cut, and the tail left out', partial(try_cut, '--trim', LOST_TAIL, [TRIMMED['a tail that was lost'][2]], 'are left out\n')
+    trimmed = TRIMMED['a tail that was lost']
+    yield 'cut, and the tail left out', partial(try_cut, '--trim', LOST_TAIL, [trimmed[2]], trimmed[3])
     yield 'a configuration that comes again in another part', partial(
         try_cut, '--entries 3', {'1.log': 'conf r4.1 1\nconf t8.1/1 1\nconf r8.1 1\nconf t4.1/1 1\nconf r4.1 1\n'},
         ['totem-run 1\nlog 1\nconf r4.1 1\nconf t8.1/1 1\nconf r8.1 1\nopen\nend\n',
          'totem-run 1\nlog 1\nconf r8.1 1\nconf t4.1/1 1\nconf r4.1 1\nopen\nend\n'],
         'logs: 1.log: changes to r4.1, which stands in part 1 too: a name came again, and no part shows it\n')
+    yield 'long logs', try_long
     yield 'a long table', try_table
     yield 'no folder where logs are not cut', try_nothing_made
