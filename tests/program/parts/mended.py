@@ -3,7 +3,8 @@ import os
 import tempfile
 from functools import partial
 
-from parts.joined import join, join_files, try_folder, try_refused, write_files
+from harness import process
+from parts.joined import EXAMPLES, join, join_files, try_folder, try_refused, write_files
 
 # Folders to whose members lives are added.
 LIVES = {
@@ -213,6 +214,36 @@ def try_nothing_made(_program):
     return None if came.status == 1 and left == ['1.log'] else 'came: %s, and %r' % (came, left)
 
 
+# Folders of the examples that are refused as they stand: the words, and what is told (docs/OWN-LOGS.md).
+ASKED = {
+    'first-callback': ('', 'logs: 1.log, line 1: a change has members: conf t5.1/1 (a first callback that names none is left out)\n'),
+    'lives': ('--lives', 'logs: 1.1.log, line 3: which life of 2 is a member of r8.1? No log of it changes there: 2:1 or 2:2 or 2:3\n'
+              '  Say each by --member CONFIGURATION=P:L, or give the times of the lives by --clock FILE\n'),
+    'large-numbers': ('', 'logs: 167772161.log: process 167772161 is past 65535; --renumber numbers processes anew\n'),
+    'ring-again': ('', 'logs: 1.1.log, line 1: a member has no life, and the name of the file has one: --lives adds lives to members\n'),
+}
+
+
+def try_asked(folder, words, told, _program):
+    """A folder of the examples is refused, with these words."""
+    came = join(words.split(), os.path.join(EXAMPLES, 'logs', folder))
+    return None if came == process.Answer(1, b'', told.encode()) else 'came: %s\n  wanted: %r' % (came, told)
+
+
+def try_parts(program):
+    """A folder of the examples is cut into two parts, each of which is a yes."""
+    with tempfile.TemporaryDirectory() as folder:
+        made = os.path.join(folder, 'parts')
+        came = join(['--cut', made, '--entries', '5'], os.path.join(EXAMPLES, 'logs', 'sent-when-ordered'))
+        texts = []
+        for name in sorted(os.listdir(made)) if came.status == 0 else ():
+            with open(os.path.join(made, name), 'rb') as it:
+                texts.append(it.read())
+    reports = [process.run([program, 'audit'], text)[0].output for text in texts]
+    is_right = len(reports) == 2 and all(report.startswith(b'verdict yes\ntotem-cert 2\n') for report in reports)
+    return None if is_right else 'came: %s, and %r' % (came, reports)
+
+
 def long_logs(rings, members, is_moved):
     """Two logs with 20,000 messages of the second process, half of them delivered on each of two rings. Their sends stand where the first
     ring begins, or each in front of the own delivery."""
@@ -255,6 +286,9 @@ def mended():
         ['totem-run 1\nlog 1\nconf r4.1 1\nconf t8.1/1 1\nconf r8.1 1\nopen\nend\n',
          'totem-run 1\nlog 1\nconf r8.1 1\nconf t4.1/1 1\nconf r4.1 1\nopen\nend\n'],
         'logs: 1.log: changes to r4.1, which stands in part 1 too: a name came again, and no part shows it\n')
+    for folder, (words, told) in ASKED.items():
+        yield 'the folder %s' % folder, partial(try_asked, folder, words, told)
+    yield 'parts that are judged', try_parts
     yield 'long logs', try_long
     yield 'a long table', try_table
     yield 'no folder where logs are not cut', try_nothing_made
