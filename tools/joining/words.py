@@ -79,9 +79,10 @@ def _add_words_of_join(join):
 def read_words(words):
     """What the words ask for."""
     form = argparse.RawDescriptionHelpFormatter
-    parser = Words(prog='logs', description='Works on folders of logs. `logs join --help` tells how.', formatter_class=form)
+    parser = Words(prog='logs', allow_abbrev=False, formatter_class=form,
+                   description='Works on folders of logs. `logs join --help` tells how.')
     commands = parser.add_subparsers(dest='command', metavar='join', required=True)
-    join = commands.add_parser('join', help='make one run of the logs of several processes',
+    join = commands.add_parser('join', allow_abbrev=False, help='make one run of the logs of several processes',
                                description=DESCRIPTION, epilog=EXAMPLES, formatter_class=form)
     _add_words_of_join(join)
     asked = parser.parse_args(words)

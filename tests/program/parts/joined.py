@@ -230,7 +230,7 @@ def joined():
     for what, (words, files, said) in REFUSED.items():
         yield what, partial(try_refused, words, files, said)
     yield 'logs that are too long', try_too_long
-    for words in ('--nothing', '--clock times', '--member r4.1=1:1', '--table table', '--entries 5', '--cut /',
+    for words in ('--nothing', '--fail 1', '--clock times', '--member r4.1=1:1', '--table table', '--entries 5', '--cut /',
                   '--cut /no/such/folder --entries 1'):
         yield 'the words %s' % words, partial(try_words, words)
     yield 'no folder', try_no_folder
