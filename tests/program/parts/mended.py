@@ -94,6 +94,10 @@ SENDS = {
         'open\nend\n',
         'logs: 1.log: sends that stand in front of their own deliveries: 1\n'
         'logs: 1.log: sends at the end of r4.1, since it delivered the messages behind it or not at all: 1 (4.1#2)\n'),
+    'a send that was recorded behind the transitional change': (
+        '--own-sends', {'1.log': 'conf r4.1 1\nconf t8.1/1 1\nsend r4.1 a 4.1#1\ndlv t8.1/1 4.1#1\n'},
+        'totem-run 1\nlog 1\nconf r4.1 1\nsend r4.1 a 4.1#1\nconf t8.1/1 1\ndlv t8.1/1 4.1#1\nopen\nend\n',
+        'logs: 1.log: sends at the end of r4.1, since it delivered the messages behind it or not at all: 1 (4.1#1)\n'),
     'what a process that failed never delivered, and another one did': (
         '--own-sends', {'1.log': 'conf r4.1 1 2\nsend r4.1 a 4.1#1\nsend r4.1 a 4.1#2\nfail r4.1\n', '2.log': ONE_OTHER},
         'totem-run 1\nlog 1\nconf r4.1 1 2\nsend r4.1 a 4.1#1\nfail r4.1\nfailed\nlog 2\nconf r4.1 1 2\ndlv r4.1 4.1#1\nopen\nend\n',
