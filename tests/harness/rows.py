@@ -1,14 +1,16 @@
 """Rows: what the program is given, and what it has to answer. The folder `rows` has a file for each."""
 import os
+import subprocess
 from dataclasses import dataclass
 
-from harness.process import Answer
+from harness.process import ENVIRONMENT, Answer
 
 FOLDER = os.path.join(os.path.dirname(os.path.dirname(os.path.abspath(__file__))), 'rows')
-# What begins a line: of the words of the command line ($), the input (<), the output (>), the errors (!), the
-# status (=), and of what the output (~) or the errors (?) have in them where they are not told whole. A backslash
-# at the end of a line leaves out its line end. Other lines tell what the row is.
-MARKS = '$<>!=~?'
+REPOSITORY = os.path.dirname(os.path.dirname(FOLDER))
+# What begins a line: of the words of the command line ($), the input (<), the words of `tools/logs` that make the input (@), the
+# output (>), the errors (!), the status (=), and of what the output (~) or the errors (?) have in them where they are not told
+# whole. A backslash at the end of a line leaves out its line end. Other lines tell what the row is.
+MARKS = '$<@>!=~?'
 # What the program is asked to read.
 VERBS = ('audit', 'check', 'explain', 'sim')
 
@@ -16,7 +18,7 @@ VERBS = ('audit', 'check', 'explain', 'sim')
 @dataclass(frozen=True)
 class Row:
     """One row. `answer` is None where the row does not tell it whole: then it tells parts of it, or the status
-    alone."""
+    alone. `is_joined`: the input does not stand in the row, but is made of a folder of logs."""
 
     name: str
     words: tuple
@@ -25,6 +27,7 @@ class Row:
     answer: object
     output_has: tuple = ()
     errors_have: tuple = ()
+    is_joined: bool = False
 
     @property
     def verb(self):
@@ -55,6 +58,13 @@ def _parts(marked, mark):
     return tuple(line[2:].encode() for line in marked if line[0] == mark)
 
 
+def _joined(words):
+    """What `tools/logs` makes of a folder of the repository."""
+    tool = os.path.join(REPOSITORY, 'tools', 'logs')
+    return subprocess.run([tool, *words.split()], cwd=REPOSITORY, env=ENVIRONMENT, stdin=subprocess.DEVNULL,
+                          stdout=subprocess.PIPE, stderr=subprocess.DEVNULL, check=True).stdout
+
+
 def read_asked(name):
     """Reads the rows of a file: one for each line of words."""
     with open(os.path.join(FOLDER, name + '.row'), encoding='utf-8') as it:
@@ -63,8 +73,10 @@ def read_asked(name):
     output, errors = _lines(marked, '>'), _lines(marked, '!')
     answer = Answer(status, output, errors) if output or errors else None
     holds = _parts(marked, '~'), _parts(marked, '?')
+    folders = [words.decode() for words in _parts(marked, '@')]
+    given = _joined(folders[0]) if folders else _lines(marked, '<')
     for words in _parts(marked, '$'):
-        yield Row(name, tuple(words.decode().split()[1:]), _lines(marked, '<'), status, answer, *holds)
+        yield Row(name, tuple(words.decode().split()[1:]), given, status, answer, *holds, is_joined=bool(folders))
 
 
 def read(name):
@@ -78,5 +90,6 @@ def names():
 
 
 def read_texts():
-    """Reads the first row of each file in which the program reads a text, whatever it answers to it."""
-    return [row for row in map(read, names()) if row.given and row.verb in VERBS and row.status in (0, 1, 2)]
+    """Reads the first row of each file in which the program reads a text that stands there, whatever it answers to it."""
+    return [row for row in map(read, names())
+            if row.given and not row.is_joined and row.verb in VERBS and row.status in (0, 1, 2)]

@@ -14,6 +14,7 @@ mod quiet_end;
 mod reason;
 mod refusal;
 mod rule;
+mod unsent;
 mod yes;
 
 pub use event::{event_of, line_of, place_name};

@@ -8,7 +8,7 @@ use crate::lookup::entry_at;
 use crate::reason::reason;
 use crate::rule::rule_of;
 use std::alloc::{AllocError, Global};
-use totem_evs::{Fault, Run};
+use totem_evs::{Fault, Run, SpecNo};
 use totem_ids::Place;
 
 /// A fault, and what a person is told of it: lines, each with its end.
@@ -78,15 +78,44 @@ fn explain_each(alloc: Global, run: &Run, faults: &[Fault]) -> Result<Vec<Explai
     Ok(list)
 }
 
-/// Returns what is said above so many faults.
-fn heading(alloc: Global, run: &Run, count: usize) -> Result<String, AllocError> {
+/// Returns which specifications an audit that stopped at a fault of this one did not look at (docs/SPECIFICATIONS.md, "Passes"); nothing
+/// where it looked at all.
+fn unseen_behind(spec: SpecNo) -> &'static str {
+    match spec {
+        SpecNo::Twice | SpecNo::End | SpecNo::Misplaced | SpecNo::Configuration | SpecNo::Turns => {
+            "Only specifications 1.4 and 2.1 to 2.4 were looked at: the others are looked at once these hold.\n"
+        }
+        SpecNo::Unsent => {
+            "Only specifications 1.3, 1.4 and 2.1 to 2.4 were looked at: the others are looked at once these hold.\n"
+        }
+        SpecNo::Cycle | SpecNo::Order => {
+            "Specifications 3, 4, 5, 6.3, 7.1 and 7.2 were not looked at: they are once the others hold.\n"
+        }
+        SpecNo::OwnDelivery
+        | SpecNo::Atomicity
+        | SpecNo::Causality
+        | SpecNo::Gap
+        | SpecNo::Safety
+        | SpecNo::Installed => "",
+    }
+}
+
+/// Returns what is said above these faults.
+fn heading(alloc: Global, run: &Run, faults: &[Fault]) -> Result<String, AllocError> {
     let summary = summary(alloc, run)?;
+    let unseen = match faults.first() {
+        Some(fault) => unseen_behind(fault.spec),
+        None => "",
+    };
     let first = IN_FULL;
+    let count = faults.len();
     if count <= first {
-        return format!(in alloc; "No: the run breaks extended virtual synchrony.\n{summary}");
+        return format!(in alloc;
+            "No: the run breaks extended virtual synchrony.\n{summary}{unseen}"
+        );
     }
     format!(in alloc;
-        "No: the run breaks extended virtual synchrony.\n{summary}Of {count} faults the first {first} are explained in full.\n"
+        "No: the run breaks extended virtual synchrony.\n{summary}{unseen}Of {count} faults the first {first} are explained in full.\n"
     )
 }
 
@@ -95,7 +124,7 @@ pub fn explain_no(alloc: Global, run: &Run, faults: &[Fault]) -> Result<Explaine
     ensures { IfOk result (λ words. map (λ one. one.fault) words.faults.items ≡ faults.now) }
 {
     Ok(ExplainedNo {
-        heading: heading(alloc, run, faults.len())?,
+        heading: heading(alloc, run, faults)?,
         faults: explain_each(alloc, run, faults)?,
     })
 }

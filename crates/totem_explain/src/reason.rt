@@ -2,8 +2,9 @@
 use crate::cycle::cycle;
 use crate::event::place_name;
 use crate::fate::{fate_of, next_of};
-use crate::lookup::{change_before, change_in, delivery_in, entry_at, entry_of, log_of, send_in};
+use crate::lookup::{change_before, change_in, delivery_in, entry_at, entry_of, log_of};
 use crate::quiet_end::ended_alone;
+use crate::unsent::unsent;
 use std::alloc::{AllocError, Global};
 use totem_evs::{Entry, Fault, Run, SpecNo};
 use totem_ids::{ConfId, MsgId, Place, Proc};
@@ -14,28 +15,6 @@ fn message_at(run: &Run, place: Place) -> Option<MsgId> {
         Entry::Send(message, _, _) | Entry::Deliver(message, _) => Some(*message),
         _ => None,
     }
-}
-
-/// 1.3: where the message was sent, if anywhere.
-fn unsent(alloc: Global, run: &Run, delivery: Place) -> Result<String, AllocError> {
-    let mut text = String::new(alloc);
-    let Some(message) = message_at(run, delivery) else {
-        return Ok(text);
-    };
-    for log in run.logs.as_slice() {
-        if let Some((place, conf)) = send_in(log, message) {
-            let proc = log.proc.written(run.version);
-            let place = place_name(alloc, run.version, place)?;
-            write!(
-                text,
-                "  Process {proc} sent {message} in {conf} ({place}).\n"
-            )?;
-        }
-    }
-    if text.is_empty() {
-        return format!(in alloc; "  No log sends {message}.\n");
-    }
-    Ok(text)
 }
 
 /// 1.4: what is done twice.
@@ -201,7 +180,10 @@ pub fn reason(alloc: Global, run: &Run, fault: &Fault) -> Result<String, AllocEr
     let places = fault.places.as_slice();
     match (fault.spec, places) {
         (SpecNo::Cycle | SpecNo::Order, _) => cycle(alloc, run, places),
-        (SpecNo::Unsent, [delivery, ..]) => unsent(alloc, run, *delivery),
+        (SpecNo::Unsent, [delivery, ..]) => match message_at(run, *delivery) {
+            Some(message) => unsent(alloc, run, *delivery, message),
+            None => Ok(String::new(alloc)),
+        },
         (SpecNo::Twice, _) => twice(alloc, run, places),
         (SpecNo::End, [change, ..]) => ended_alone(alloc, run, *change),
         (SpecNo::Misplaced, [entry, ..]) => misplaced(alloc, run, *entry),

@@ -30,6 +30,10 @@ const BEHIND: [(&[u8], &str); 5] = [
     ),
 ];
 
+/// What is told where a process stands without its life.
+const WANT_OF_A_LIFE: &str =
+    "A process without its life stands here: from version 2 on each is written with it, as in `2:1`. `tools/logs join --lives` adds lives to members.\n";
+
 /// Returns what may stand in a line that begins so.
 fn behind(line: &[u8]) -> &'static str {
     for (front, wanted) in &BEHIND {
@@ -38,6 +42,35 @@ fn behind(line: &[u8]) -> &'static str {
         }
     }
     "A line is `log`, `conf`, `send`, `dlv` or `fail` with what follows it, or `open`, `failed`, `quiet` (from version 3 on) or `end` alone."
+}
+
+fn is_digit(byte: &u8) -> bool {
+    byte.is_ascii_digit()
+}
+
+/// Returns the bytes in front of the number at the end, or `None` if no number stands there.
+fn before_number(bytes: &[u8]) -> Option<&[u8]> {
+    let front = match bytes.iter().rposition(|byte| !is_digit(byte)) {
+        Some(at) => bytes.get(..at.saturating_add(1))?,
+        None => return None,
+    };
+    if front.len() < bytes.len() {
+        Some(front)
+    } else {
+        None
+    }
+}
+
+/// Returns whether a process was read last and this byte refused where the colon of its life is wanted. Where no lives are written, a
+/// process is followed by just these bytes.
+fn lacks_life(line: &[u8], refused: u8) -> bool {
+    let is_behind = refused == b' ' || refused == b'\n';
+    match before_number(line) {
+        Some(front) => is_behind
+            && front.ends_with(b" ")
+            && (front.starts_with(b"conf ") || front == b"log ".as_slice()),
+        None => false,
+    }
 }
 
 /// Returns what is wanted where a text is refused, in a line that begins so; nothing if the text is not what was refused.
@@ -148,6 +181,21 @@ fn is_of_a_byte(fault: &RunFault) -> bool {
     )
 }
 
+/// Returns whether the text is refused since a process stands without its life where lives are written.
+fn is_for_want_of_a_life(
+    alloc: Global,
+    fault: &RunFault,
+    place: &TextPlace<'_>,
+) -> Result<bool, AllocError> {
+    let (RunFault::Word, Some((refused, read))) = (fault, place.read.split_last()) else {
+        return Ok(false);
+    };
+    let mut line = Vec::new(alloc);
+    line.extend_from_slice(place.front)?;
+    line.extend_from_slice(read)?;
+    Ok(lacks_life(line.as_slice(), *refused))
+}
+
 /// Returns what a person is told of a text that is no run: its line with a caret under the byte that is refused, if the source knew its
 /// place, and what is wanted there. Nothing is told of a failed source or of want of memory.
 pub fn explain_refusal(
@@ -166,5 +214,8 @@ pub fn explain_refusal(
     let wanted = wanted(alloc, fault, begun)?;
     let mut text = shown(alloc, &place)?;
     text.push_str(wanted.as_str())?;
+    if is_for_want_of_a_life(alloc, fault, &place)? {
+        text.push_str(WANT_OF_A_LIFE)?;
+    }
     Ok(text)
 }

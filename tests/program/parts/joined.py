@@ -1,4 +1,4 @@
-"""Logs of one's own, joined to a run by `examples/join-logs.sh`."""
+"""Logs of one's own, joined to a run by `tools/logs join`."""
 import os
 import subprocess
 import tempfile
@@ -7,10 +7,11 @@ from functools import partial
 from harness import process
 from harness import rows as row_files
 
-EXAMPLES = os.path.join(os.path.dirname(row_files.FOLDER), '..', 'examples')
-SCRIPT = os.path.join(EXAMPLES, 'join-logs.sh')
+REPOSITORY = os.path.join(os.path.dirname(row_files.FOLDER), '..')
+EXAMPLES = os.path.join(REPOSITORY, 'examples')
+TOOL = os.path.join(REPOSITORY, 'tools', 'logs')
 
-# What the script writes of the folder `own-logs`, whose third log ends in the middle of a line.
+# What is made of the folder `own-logs`, whose third log ends in the middle of a line.
 OWN_LOGS = b"""totem-run 1
 log 1
 conf r4.1 1 2 3
@@ -45,86 +46,193 @@ waiting 3 r4.1 2
 totem-cert 1
 """
 
-# Folders by what they show: the files, and the run that they are joined to.
+# Folders by what they show: the words, the files, the run that they are joined to, and what is told.
 FOLDERS = {
     'ten comes behind two, and a failure closes a log': (
-        {'10.log': 'conf r4.2 2 10\nfail r4.2\n', '2.log': 'conf r4.2 2 10\n', 'notes.txt': 'no log\n', '02.log': 'none\n'},
-        'totem-run 1\nlog 2\nconf r4.2 2 10\nopen\nlog 10\nconf r4.2 2 10\nfail r4.2\nfailed\nend\n'),
+        '', {'10.log': 'conf r4.2 2 10\nfail r4.2\n', '2.log': 'conf r4.2 2 10\n', 'notes.txt': 'no log\n'},
+        'totem-run 1\nlog 2\nconf r4.2 2 10\nopen\nlog 10\nconf r4.2 2 10\nfail r4.2\nfailed\nend\n', ''),
     'lives': (
-        {'1.1.log': 'conf r4.1 1:1\nfail r4.1\n', '1.2.log': 'conf r8.1 1:2\n'},
-        'totem-run 2\nlog 1:1\nconf r4.1 1:1\nfail r4.1\nfailed\nlog 1:2\nconf r8.1 1:2\nopen\nend\n'),
+        '', {'1.1.log': 'conf r4.1 1:1\nfail r4.1\n', '1.2.log': 'conf r8.1 1:2\n'},
+        'totem-run 2\nlog 1:1\nconf r4.1 1:1\nfail r4.1\nfailed\nlog 1:2\nconf r8.1 1:2\nopen\nend\n', ''),
     'quiet logs, whose processes get the life 1': (
-        {'1.log': 'conf r4.1 1 2\nquiet\n', '2.log': 'conf r4.1 1 2\n'},
-        'totem-run 3\nlog 1:1\nconf r4.1 1:1 2:1\nquiet\nlog 2:1\nconf r4.1 1:1 2:1\nopen\nend\n'),
+        '', {'1.log': 'conf r4.1 1 2\nquiet\n', '2.log': 'conf r4.1 1 2\n'},
+        'totem-run 3\nlog 1:1\nconf r4.1 1:1 2:1\nquiet\nlog 2:1\nconf r4.1 1:1 2:1\nopen\nend\n', ''),
     'quiet logs of lives': (
-        {'1.1.log': 'conf r4.1 1:1\nquiet\n'},
-        'totem-run 3\nlog 1:1\nconf r4.1 1:1\nquiet\nend\n'),
+        '', {'1.1.log': 'conf r4.1 1:1\nquiet\n'},
+        'totem-run 3\nlog 1:1\nconf r4.1 1:1\nquiet\nend\n', ''),
     'a word quiet that was cut off is no claim': (
-        {'1.log': 'conf r4.1 1\nquiet'},
-        'totem-run 1\nlog 1\nconf r4.1 1\nopen\nend\n'),
-    'a line quiet before the last is left to the reader, which refuses it': (
-        {'1.log': 'conf r4.1 1\nquiet\nsend r4.1 a 4.1#1\n'},
-        'totem-run 1\nlog 1\nconf r4.1 1\nquiet\nsend r4.1 a 4.1#1\nopen\nend\n'),
+        '', {'1.log': 'conf r4.1 1\nquiet'},
+        'totem-run 1\nlog 1\nconf r4.1 1\nopen\nend\n', 'logs: 1.log: the last line was cut off, and is left out\n'),
+    'a log without an entry is left out': (
+        '', {'1.log': 'conf r4.1 1\n', '2.log': 'con'},
+        'totem-run 1\nlog 1\nconf r4.1 1\nopen\nend\n',
+        'logs: 2.log: the last line was cut off, and is left out\nlogs: 2.log has no entry, and is left out\n'),
+    'numbers at their greatest': (
+        '', {'65535.log': 'conf r4294967295.65535 65535\nsend r4294967295.65535 s 4294967295.65535#4294967295\n'},
+        'totem-run 1\nlog 65535\nconf r4294967295.65535 65535\nsend r4294967295.65535 s 4294967295.65535#4294967295\nopen\nend\n', ''),
+    'a process that is known to have failed fails where it stood': (
+        '--failed 2', {'1.log': 'conf r4.1 1 2\n', '2.log': 'conf r4.1 1 2\nconf t8.1/1 1 2\ndlv t8.1/1 4.'},
+        'totem-run 1\nlog 1\nconf r4.1 1 2\nopen\nlog 2\nconf r4.1 1 2\nconf t8.1/1 1 2\nfail t8.1/1\nfailed\nend\n',
+        'logs: 2.log: the last line was cut off, and is left out\nlogs: 2.log: fail t8.1/1 is added\n'),
+    'lives that are known to have failed': (
+        '--failed 1:1,2 --failed 3', {'1.1.log': 'conf r4.1 1:1 2:1 3:4\n', '1.2.log': 'conf r8.1 1:2\n',
+                                      '2.1.log': 'conf r4.1 1:1 2:1 3:4\n', '3.4.log': 'conf r4.1 1:1 2:1 3:4\nfail r4.1\n'},
+        'totem-run 2\nlog 1:1\nconf r4.1 1:1 2:1 3:4\nfail r4.1\nfailed\nlog 1:2\nconf r8.1 1:2\nopen\n'
+        'log 2:1\nconf r4.1 1:1 2:1 3:4\nfail r4.1\nfailed\nlog 3:4\nconf r4.1 1:1 2:1 3:4\nfail r4.1\nfailed\nend\n',
+        'logs: 1.1.log: fail r4.1 is added\nlogs: 2.1.log: fail r4.1 is added\nlogs: 3.4.log ends with fail already\n'),
+    'all that did not fail are quiet': (
+        '--failed 2 --quiet all', {'1.log': 'conf r4.1 1 2 3\n', '2.log': 'conf r4.1 1 2 3\n', '3.log': 'conf r4.1 1 2 3\nquiet\n'},
+        'totem-run 3\nlog 1:1\nconf r4.1 1:1 2:1 3:1\nquiet\nlog 2:1\nconf r4.1 1:1 2:1 3:1\nfail r4.1\nfailed\n'
+        'log 3:1\nconf r4.1 1:1 2:1 3:1\nquiet\nend\n',
+        'logs: 2.log: fail r4.1 is added\nlogs: 1.log: is closed as quiet\n'),
+    'one that is known to be quiet': (
+        '--quiet 2', {'1.log': 'conf r4.1 1 2\n', '2.log': 'conf r4.1 1 2\n'},
+        'totem-run 3\nlog 1:1\nconf r4.1 1:1 2:1\nopen\nlog 2:1\nconf r4.1 1:1 2:1\nquiet\nend\n',
+        'logs: 2.log: is closed as quiet\n'),
 }
-# Folders that are refused: the files, the status, and what is said.
+
+ONE = {'1.log': 'conf r4.1 1\n'}
+# Folders that are refused: the words, the files, and what is said.
 REFUSED = {
-    'no log': ({'notes.txt': 'none\n'}, 1, 'has no file P.log or P.L.log'),
+    'no log': ('', {'notes.txt': 'none\n'}, 'has no file P.log or P.L.log'),
+    'no entry at all': ('', {'1.log': ''}, 'logs: 1.log has no entry, and is left out\nlogs: no log has an entry\n'),
     'logs with lives and without': (
-        {'1.log': 'conf r4.1 1\n', '2.1.log': 'conf r4.1 2:1\n'}, 1, 'give each of them its life'),
+        '', {'1.log': 'conf r4.1 1\n', '2.1.log': 'conf r4.1 2:1\n'}, 'logs: 2.1.log has a life, and 1.log has none'),
+    'two logs of one life': (
+        '', {'1.log': 'conf r4.1 1\n', '1.1.log': 'conf r4.1 1:1\n'}, 'logs: 1.1.log and 1.log are two logs of one life\n'),
+    'two logs of one life, where lives are added': (
+        '--lives', {'1.log': 'conf r4.1 1\n', '1.1.log': 'conf r4.1 1\n'}, 'logs: 1.1.log and 1.log are two logs of one life\n'),
+    'a name with a zero in front': ('', {**ONE, '02.log': 'conf r4.1 2\n'}, 'logs: 02.log: the name is no process: '),
+    'a name that is none': ('', {**ONE, 'node.log': ''}, 'logs: node.log: the name is no process: '),
+    'a process past its range': ('', {'65536.log': ''}, 'logs: 65536.log: process 65536 is past 65535; --renumber '),
+    'a line that is none': ('', {**ONE, '2.log': 'conf r4.1 1\n\n'}, 'logs: 2.log, line 2: this is no entry: '),
+    'a line that begins well': (
+        '', {'1.log': 'conf r4.1 1\nsend r4.1 4.1#1\nquiet\n'}, 'logs: 1.log, line 2: this is no entry: send r4.1 4.1#1 (such as send '),
+    'a send in a transitional configuration is no entry': (
+        '', {'1.log': 'conf r4.1 1\nsend t8.1/1 a 4.1#1\n'}, 'logs: 1.log, line 2: this is no entry: send t8.1/1 a 4.1#1 '),
+    'a change without members': (
+        '', {'1.log': 'conf t4.1/1\n'}, 'logs: 1.log, line 1: a change has members: conf t4.1/1 (a first callback that names none '),
+    'a zero in front': ('', {'1.log': 'conf r4.1 1\ndlv r4.1 4.1#01\n'}, 'logs: 1.log, line 2: this is no entry: '),
+    'line ends of another system': ('', {'1.log': 'conf r4.1 1\r\n'}, 'logs: 1.log, line 1: the line ends with a carriage return'),
+    'quiet before the last line': (
+        '', {'1.log': 'conf r4.1 1\nquiet\nsend r4.1 a 4.1#1\n'}, 'logs: 1.log, line 2: quiet is not the last line\n'),
+    'quiet before a line that was cut off': (
+        '', {'1.log': 'conf r4.1 1\nquiet\nsend'}, 'logs: 1.log, line 2: quiet is not the last line\n'),
+    'quiet behind a failure': ('', {'1.log': 'conf r4.1 1\nfail r4.1\nquiet\n'}, 'logs: 1.log, line 3: quiet stands behind a failure\n'),
+    'members that do not rise': ('', {'1.log': 'conf r4.1 2 1\n'}, 'logs: 1.log, line 1: members do not rise: 1 stands behind 2\n'),
+    '33 members': (
+        '', {'1.log': 'conf r4.1 %s\n' % ' '.join(map(str, range(1, 34)))}, 'logs: 1.log, line 1: a configuration has 32 members'),
+    'a member past its range': ('', {'1.log': 'conf r4.1 1 65536\n'}, 'logs: 1.log, line 1: process 65536 is past 65535'),
+    'a ring past its range': ('', {'1.log': 'conf r4294967296.1 1\n'}, 'logs: 1.log, line 1: ring number 4294967296 is past 4294967295'),
+    'a message past its range': (
+        '--renumber', {'1.log': 'conf r4.1 1\nsend r4.1 a 4.1#4294967296\n'}, 'logs: 1.log, line 2: message number 4294967296 is past '),
+    'a member with a life, in a log without': ('', {'1.log': 'conf r4.1 1:1\n'}, 'logs: 1.log, line 1: a member has a life, and the name '),
+    'a member without a life, in a log with one': (
+        '', {'1.1.log': 'conf r4.1 1\n'}, 'logs: 1.1.log, line 1: a member has no life, and the name '),
+    'a failure of a process without a log': ('--failed 2', ONE, 'logs: there is no log of process 2\n'),
+    'a failure of what is no process': ('--failed two', ONE, "logs: 'two' is no process"),
+    'a failure of one of two lives': (
+        '--failed 1', {'1.1.log': 'conf r4.1 1:1\n', '1.2.log': 'conf r8.1 1:2\n'}, 'logs: process 1 has 2 lives with a log: say which'),
+    'a failure of a quiet process': ('--failed 1', {'1.log': 'conf r4.1 1\nquiet\n'}, 'logs: 1.log says that it is quiet, and the call'),
+    'a quiet process that failed': ('--quiet 1', {'1.log': 'conf r4.1 1\nfail r4.1\n'}, 'logs: 1.log ends with fail, and the call '),
+    '33 logs': ('', {'%d.log' % number: 'conf r4.1 1\n' for number in range(1, 34)}, 'logs: there are 33 logs, and a run has 32 at most'),
 }
 
 
-def joined_from(folder):
-    """The status, the output and the errors of the script over a folder."""
-    came = subprocess.run(['sh', SCRIPT, folder], stdin=subprocess.DEVNULL, capture_output=True,
+def join(words, folder):
+    """The status, the output and the errors of the tool over a folder."""
+    came = subprocess.run([TOOL, 'join', *words, folder], stdin=subprocess.DEVNULL, capture_output=True,
                           env=process.ENVIRONMENT, timeout=process.allowed(process.SECONDS), check=False)
     return process.Answer(came.returncode, came.stdout, came.stderr)
 
 
-def joined_files(files):
-    """The same over these files, in a folder of their own."""
+def write_files(folder, files):
+    """Writes files into a folder."""
+    for name, text in files.items():
+        with open(os.path.join(folder, name), 'w', encoding='ascii', newline='') as it:
+            it.write(text)
+
+
+def join_files(words, files):
+    """The same over these files, in a folder of their own; FOLDER in the words is that folder."""
     with tempfile.TemporaryDirectory() as folder:
-        for name, text in files.items():
-            with open(os.path.join(folder, name), 'w', encoding='ascii') as it:
-                it.write(text)
-        return joined_from(folder)
+        write_files(folder, files)
+        return join([word.replace('FOLDER', folder) for word in words.split()], folder)
 
 
 def try_own_logs(program):
     """The folder of the examples is joined as its three logs say, and the run's report begins as docs/OWN-LOGS.md tells."""
-    made = joined_from(os.path.join(EXAMPLES, 'own-logs'))
-    if (made.status, made.output) != (0, OWN_LOGS) or b'3.log: the last line was cut off' not in made.errors:
+    made = join([], os.path.join(EXAMPLES, 'own-logs'))
+    if (made.status, made.output) != (0, OWN_LOGS) or made.errors != b'logs: 3.log: the last line was cut off, and is left out\n':
         return 'came: %s' % made
     came, _ = process.run([program, 'audit'], made.output)
     return None if came.output.startswith(OWN_REPORT) and not came.errors else 'came: %s' % came
 
 
-def try_folder(files, wanted, _program):
-    """These files are joined to this run."""
-    came = joined_files(files)
-    is_right = (came.status, came.output) == (0, wanted.encode())
-    return None if is_right else 'came:   %s\n  wanted: %r' % (came, wanted)
+def try_folder(words, files, wanted, told, _program):
+    """These files are joined to this run, and this is told."""
+    came = join_files(words, files)
+    is_right = came == process.Answer(0, wanted.encode(), told.encode())
+    return None if is_right else 'came:   %s\n  wanted: %r, and told %r' % (came, wanted, told)
 
 
-def try_refused(files, status, said, _program):
-    """These files are refused with this status and nothing written."""
-    came = joined_files(files)
-    is_right = (came.status, came.output) == (status, b'') and said.encode() in came.errors
+def try_refused(words, files, said, _program):
+    """These files are refused, with nothing written."""
+    came = join_files(words, files)
+    is_right = (came.status, came.output) == (1, b'') and said.encode() in came.errors
+    return None if is_right else 'came: %s\n  wanted: %r' % (came, said)
+
+
+def try_too_long(_program):
+    """A log of 1,000,001 entries is refused, and one of 1,000,000 that is to get a failure behind them."""
+    for count, words in ((1000001, ''), (1000000, '--failed 1')):
+        came = join_files(words, {'1.log': 'conf r4.1 1\n' + 'dlv r4.1 4.1#1\n' * (count - 1)})
+        if (came.status, came.output) != (1, b'') or b'--cut makes several runs' not in came.errors:
+            return 'came: %s' % came
+    return None
+
+
+def try_words(words, _program):
+    """Words that ask for nothing that there is are told how the tool is called."""
+    came = join(words.split(), EXAMPLES)
+    is_right = (came.status, came.output) == (64, b'') and came.errors.startswith(b'usage: logs ')
     return None if is_right else 'came: %s' % came
 
 
 def try_no_folder(_program):
-    """Where there is no folder, the script tells how it is called."""
-    came = joined_from('/no/such/folder')
-    is_right = (came.status, came.output) == (64, b'') and came.errors.startswith(b'usage: ')
+    """Where there is no folder, the tool tells how it is called."""
+    came = join([], '/no/such/folder')
+    is_right = (came.status, came.output) == (64, b'') and came.errors.startswith(b'usage: logs join ')
     return None if is_right else 'came: %s' % came
+
+
+def try_help(_program):
+    """The help teaches each of the words."""
+    came = join(['--help'], EXAMPLES)
+    words = (b'--failed', b'--quiet', b'--lives', b'--member', b'--clock', b'--own-sends', b'--renumber', b'--table', b'--cut',
+             b'--entries', b'--trim', b'tools/logs join FOLDER > my.run')
+    return None if came.status == 0 and all(word in came.output for word in words) else 'came: %s' % came
+
+
+def try_full(_program):
+    """Where the output takes no more, the status says so."""
+    with open('/dev/full', 'wb') as full:
+        came = subprocess.run([TOOL, 'join', os.path.join(EXAMPLES, 'own-logs')], stdout=full, stderr=subprocess.PIPE,
+                              env=process.ENVIRONMENT, timeout=process.allowed(process.SECONDS), check=False)
+    return None if came.returncode == 4 and came.stderr.endswith(b'logs: write failed\n') else 'came: %s' % came
 
 
 def joined():
     """Folders of logs, each joined to a run, or refused."""
     yield 'the folder own-logs', try_own_logs
-    for what, (files, wanted) in FOLDERS.items():
-        yield what, partial(try_folder, files, wanted)
-    for what, (files, status, said) in REFUSED.items():
-        yield what, partial(try_refused, files, status, said)
+    for what, (words, files, wanted, told) in FOLDERS.items():
+        yield what, partial(try_folder, words, files, wanted, told)
+    for what, (words, files, said) in REFUSED.items():
+        yield what, partial(try_refused, words, files, said)
+    yield 'logs that are too long', try_too_long
+    for words in ('--nothing', '--fail 1', '--clock times', '--member r4.1=1:1', '--table table', '--entries 5', '--cut /',
+                  '--cut /no/such/folder --entries 1'):
+        yield 'the words %s' % words, partial(try_words, words)
     yield 'no folder', try_no_folder
+    yield 'help', try_help
+    yield 'a full device', try_full

@@ -1,0 +1,298 @@
+"""What `tools/logs join` adds, moves, numbers anew and cuts."""
+import os
+import tempfile
+from functools import partial
+
+from harness import process
+from parts.joined import EXAMPLES, join, join_files, try_folder, try_refused, write_files
+
+# Folders to whose members lives are added.
+LIVES = {
+    'the life whose log changes to the configuration': (
+        '--lives',
+        {'1.1.log': 'conf r4.1 1 2\nconf t8.1/1 1\nconf r8.1 1 2\n', '2.1.log': 'conf r4.1 1 2\nfail r4.1\n', '2.2.log': 'conf r8.1 1 2\n'},
+        'totem-run 2\nlog 1:1\nconf r4.1 1:1 2:1\nconf t8.1/1 1:1\nconf r8.1 1:1 2:2\nopen\n'
+        'log 2:1\nconf r4.1 1:1 2:1\nfail r4.1\nfailed\nlog 2:2\nconf r8.1 1:1 2:2\nopen\nend\n', ''),
+    'a file without a life is that of life 1': (
+        '--lives', {'1.log': 'conf r4.1 1 2\n', '2.log': 'conf r4.1 1 2\nquiet\n'},
+        'totem-run 3\nlog 1:1\nconf r4.1 1:1 2:1\nopen\nlog 2:1\nconf r4.1 1:1 2:1\nquiet\nend\n', ''),
+    'the only life that there is': (
+        '--lives', {'1.1.log': 'conf r4.1 1 2\n', '2.3.log': 'conf r5.2 2\n'},
+        'totem-run 2\nlog 1:1\nconf r4.1 1:1 2:3\nopen\nlog 2:3\nconf r5.2 2:3\nopen\nend\n', ''),
+    'the life that it is in the configuration before': (
+        '--lives',
+        {'1.1.log': 'conf r4.1 1 2\nconf t8.1/1 1 2\nconf r8.1 1 2\n', '2.1.log': 'conf r4.1 1 2\nfail r4.1\n', '2.2.log': 'conf r9.2 2\n'},
+        'totem-run 2\nlog 1:1\nconf r4.1 1:1 2:1\nconf t8.1/1 1:1 2:1\nconf r8.1 1:1 2:1\nopen\n'
+        'log 2:1\nconf r4.1 1:1 2:1\nfail r4.1\nfailed\nlog 2:2\nconf r9.2 2:2\nopen\nend\n',
+        'logs: t8.1/1: member 2, which never came, is 2:1: so it is in r4.1, next to it\n'
+        'logs: r8.1: member 2, which never came, is 2:1: so it is in t8.1/1, next to it\n'),
+    'the life that the call says': (
+        '--lives --member r4.1=2:2', {'1.log': 'conf r4.1 1 2\n', '2.1.log': 'conf r5.2 2\nfail r5.2\n', '2.2.log': 'conf r6.2 2\n'},
+        'totem-run 2\nlog 1:1\nconf r4.1 1:1 2:2\nopen\nlog 2:1\nconf r5.2 2:1\nfail r5.2\nfailed\nlog 2:2\nconf r6.2 2:2\nopen\nend\n',
+        'logs: r4.1: member 2, which never came, is 2:2: the call says so\n'),
+    'the life that ran when the configuration was changed to': (
+        '--lives --clock FOLDER/times',
+        {'1.log': 'conf r4.1 1 2\n', '2.1.log': 'conf r5.2 2\n', '2.2.log': 'conf r6.2 2\n',
+         'times': '1 start 2:1\n5 start 2:2\n6.5 conf r4.1\n'},
+        'totem-run 2\nlog 1:1\nconf r4.1 1:1 2:2\nopen\nlog 2:1\nconf r5.2 2:1\nopen\nlog 2:2\nconf r6.2 2:2\nopen\nend\n',
+        'logs: r4.1: member 2, which never came, is 2:2: by the clock\n'),
+    'the only life that ran beside that which changes to it': (
+        '--lives --clock FOLDER/times',
+        {'1.1.log': 'conf r4.1 1 2\nfail r4.1\n', '2.1.log': 'conf r5.2 2\n', '2.2.log': 'conf r6.2 2\n',
+         'times': '0 start 1:1\n1 start 2:1\n4 end 1:1\n4.5 end 2:1\n5 start 2:2\n'},
+        'totem-run 2\nlog 1:1\nconf r4.1 1:1 2:1\nfail r4.1\nfailed\nlog 2:1\nconf r5.2 2:1\nopen\nlog 2:2\nconf r6.2 2:2\nopen\nend\n',
+        'logs: r4.1: member 2, which never came, is 2:1: by the clock\n'),
+    'two lives that change to one configuration': (
+        '--lives', {'1.1.log': 'conf r4.1 1\nfail r4.1\n', '1.2.log': 'conf r4.1 1\n'},
+        'totem-run 2\nlog 1:1\nconf r4.1 1:1\nfail r4.1\nfailed\nlog 1:2\nconf r4.1 1:2\nopen\nend\n',
+        'logs: r4.1: lives 1 and 2 of process 1 change to it: a ring came again\n'),
+}
+TWO_LIVES = {'1.log': 'conf r3.1 1\nconf t4.1/1 1\nconf r4.1 1 2\n', '2.1.log': 'conf r5.2 2\n', '2.2.log': 'conf r6.2 2\n'}
+# Folders whose lives are not told: the words, the files, and what is said.
+UNKNOWN = {
+    'a member of whom no life is known': (
+        '--lives', TWO_LIVES,
+        'logs: 1.log, line 3: which life of 2 is a member of r4.1? No log of it changes there: 2:1 or 2:2\n  Say each by --member '),
+    'a member without any log': ('--lives', {'1.log': 'conf r4.1 1 2\n'}, '1.log, line 1: which life of 2 is a member of r4.1? '
+                                 'No log of it changes there: there is no log of it\n'),
+    'a clock that does not tell': ('--lives --clock FOLDER/times', {**TWO_LIVES, 'times': '1 start 2:1\n'}, 'which life of 2 is a member'),
+    'a line of a clock that is none': (
+        '--lives --clock FOLDER/times', {**TWO_LIVES, 'times': '1 start 2:1\n2 begin 2:2\n'}, '/times, line 2: a line is TIME start '),
+    'a clock in which a life starts twice': (
+        '--lives --clock FOLDER/times', {**TWO_LIVES, 'times': '1 start 2:1\n2 start 2:1\n'},
+        '/times, line 2: life 2:1 has a start already, in line 1\n'),
+    'a clock in which a life ends before it starts': (
+        '--lives --clock FOLDER/times', {**TWO_LIVES, 'times': '2 start 2:1\n1 end 2:1\n'},
+        '/times, line 2: life 2:1 ends before it starts\n'),
+    'a clock in which lives run side by side': (
+        '--lives --clock FOLDER/times', {**TWO_LIVES, 'times': '2 start 2:1\n3 start 2:2\n4 end 2:1\n'},
+        '/times, line 2: life 2:2 starts before life 2:1 has started and ended\n'),
+    'a clock in which a life changes before it starts': (
+        '--lives --clock FOLDER/times', {**TWO_LIVES, 'times': '2 start 2:1\n1 conf r5.2\n'},
+        '/times, line 2: r5.2 is changed to before 2:1 starts, whose log changes to it\n'),
+    'a clock in which a life changes behind its end': (
+        '--lives --clock FOLDER/times', {**TWO_LIVES, 'times': '2 start 2:1\n3 end 2:1\n4 conf r5.2\n'},
+        '/times, line 3: r5.2 is changed to after 2:1 has ended, whose log changes to it\n'),
+    'a member that the call names and is known': ('--lives --member r5.2=2:2', TWO_LIVES, 'logs: --member r5.2=2:2: '),
+    'members that have lives already': ('--lives', {'1.1.log': 'conf r4.1 1:1\n'}, '1.1.log, line 1: a member has a life already'),
+}
+
+ONE_OTHER = 'conf r4.1 1 2\ndlv r4.1 4.1#1\n'
+# Folders whose sends are put in front of their own deliveries.
+SENDS = {
+    'a message that went out two configurations later': (
+        '--own-sends', {'1.log': 'conf r4.1 1\nsend r4.1 s 4.1#1\nconf t8.1/1 1\nconf r8.1 1\ndlv r8.1 4.1#1\n'},
+        'totem-run 1\nlog 1\nconf r4.1 1\nconf t8.1/1 1\nconf r8.1 1\nsend r8.1 s 4.1#1\ndlv r8.1 4.1#1\nopen\nend\n',
+        'logs: 1.log: sends that stand in front of their own deliveries: 1\n'),
+    'a send that was recorded behind the delivery': (
+        '--own-sends', {'1.log': 'conf r4.1 1\ndlv r4.1 4.1#1\nsend r4.1 a 4.1#1\n'},
+        'totem-run 1\nlog 1\nconf r4.1 1\nsend r4.1 a 4.1#1\ndlv r4.1 4.1#1\nopen\nend\n',
+        'logs: 1.log: sends that stand in front of their own deliveries: 1\n'),
+    'a delivery behind the transitional change': (
+        '--own-sends', {'1.log': 'conf r4.1 1\nsend r4.1 a 4.1#1\nsend r4.1 a 4.1#2\ndlv r4.1 4.1#1\nconf t8.1/1 1\ndlv t8.1/1 4.1#2\n'},
+        'totem-run 1\nlog 1\nconf r4.1 1\nsend r4.1 a 4.1#1\ndlv r4.1 4.1#1\nsend r4.1 a 4.1#2\nconf t8.1/1 1\ndlv t8.1/1 4.1#2\n'
+        'open\nend\n',
+        'logs: 1.log: sends that stand in front of their own deliveries: 1\n'
+        'logs: 1.log: sends at the end of r4.1, since it delivered the messages behind it or not at all: 1 (4.1#2)\n'),
+    'a send that was recorded behind the transitional change': (
+        '--own-sends', {'1.log': 'conf r4.1 1\nconf t8.1/1 1\nsend r4.1 a 4.1#1\ndlv t8.1/1 4.1#1\n'},
+        'totem-run 1\nlog 1\nconf r4.1 1\nsend r4.1 a 4.1#1\nconf t8.1/1 1\ndlv t8.1/1 4.1#1\nopen\nend\n',
+        'logs: 1.log: sends at the end of r4.1, since it delivered the messages behind it or not at all: 1 (4.1#1)\n'),
+    'what a process that failed never delivered, and another one did': (
+        '--own-sends', {'1.log': 'conf r4.1 1 2\nsend r4.1 a 4.1#1\nsend r4.1 a 4.1#2\nfail r4.1\n', '2.log': ONE_OTHER},
+        'totem-run 1\nlog 1\nconf r4.1 1 2\nsend r4.1 a 4.1#1\nfail r4.1\nfailed\nlog 2\nconf r4.1 1 2\ndlv r4.1 4.1#1\nopen\nend\n',
+        'logs: 1.log: sends at the end of r4.1, since it delivered the messages behind it or not at all: 1 (4.1#1)\n'
+        'logs: 1.log: sends that are left out, since nobody delivered the messages: 1 (4.1#2)\n'),
+    'what others delivered where the sender never was': (
+        '--own-sends', {'1.log': 'conf r3.1 1\nsend r3.1 a 4.1#1\n', '2.log': ONE_OTHER},
+        'totem-run 1\nlog 1\nconf r3.1 1\nsend r3.1 a 4.1#1\nopen\nlog 2\nconf r4.1 1 2\ndlv r4.1 4.1#1\nopen\nend\n',
+        'logs: 1.log: sends that stay where they are, since it was never in the configuration in which others delivered: 1 (4.1#1)\n'),
+    'a message that was sent twice stays so': (
+        '--own-sends', {'1.log': 'conf r4.1 1\nsend r4.1 a 4.1#1\nsend r4.1 s 4.1#1\ndlv r4.1 4.1#1\ndlv r4.1 4.1#1\n'},
+        'totem-run 1\nlog 1\nconf r4.1 1\nsend r4.1 a 4.1#1\nsend r4.1 s 4.1#1\ndlv r4.1 4.1#1\ndlv r4.1 4.1#1\nopen\nend\n',
+        'logs: 1.log: sends that stand in front of their own deliveries: 1\n'),
+}
+
+LARGE = 4294967300
+# Folders whose processes and rings are numbered anew.
+NUMBERS = {
+    'processes of 32 bits, and rings past their range': (
+        '--renumber --failed 33686018',
+        {'16843009.log': 'conf r7.16843009 16843009 33686018\nsend r7.16843009 a 7.16843009#9\nconf t%d.16843009/16843009 16843009\n'
+                         'dlv t%d.16843009/16843009 7.16843009#9\n' % (LARGE, LARGE),
+         '33686018.log': 'conf r7.16843009 16843009 33686018\n'},
+        'totem-run 1\nlog 1\nconf r1.1 1 2\nsend r1.1 a 1.1#9\nconf t2.1/1 1\ndlv t2.1/1 1.1#9\nopen\n'
+        'log 2\nconf r1.1 1 2\nfail r1.1\nfailed\nend\n',
+        'logs: 33686018.log: fail r7.16843009 is added\nlogs: process 16843009 becomes 1\nlogs: process 33686018 becomes 2\n'
+        'logs: ring number 7 becomes 1\nlogs: ring number %d becomes 2\n' % LARGE),
+    'only the rings': (
+        '--renumber', {'3.log': 'conf r%d.3 3\n' % LARGE}, 'totem-run 1\nlog 3\nconf r1.3 3\nopen\nend\n',
+        'logs: ring number %d becomes 1\n' % LARGE),
+    'lives': (
+        '--renumber --lives', {'70000.2.log': 'conf r5.70000 70000\n'}, 'totem-run 2\nlog 1:2\nconf r5.1 1:2\nopen\nend\n',
+        'logs: process 70000 becomes 1\n'),
+    'nothing that is past its range': (
+        '--renumber', {'3.log': 'conf r9.3 3\n'}, 'totem-run 1\nlog 3\nconf r9.3 3\nopen\nend\n',
+        'logs: no number is past what a run may have: none is changed\n'),
+}
+
+# Process 2 fails on ring 8.1; its next life comes to ring 12.1.
+THREE_RINGS = {
+    '1.1.log': 'conf r4.1 1:1 2:1\nsend r4.1 a 4.1#1\ndlv r4.1 4.1#1\nconf t8.1/1 1:1 2:1\nconf r8.1 1:1 2:1\n'
+               'conf t12.1/1 1:1\nconf r12.1 1:1 2:2\nsend r12.1 a 12.1#1\ndlv r12.1 12.1#1\n'
+               'send r12.1 a 12.1#2\ndlv r12.1 12.1#2\nquiet\n',
+    '2.1.log': 'conf r4.1 1:1 2:1\ndlv r4.1 4.1#1\nconf t8.1/1 1:1 2:1\nconf r8.1 1:1 2:1\nfail r8.1\n',
+    '2.2.log': 'conf r11.2 2:2\nconf t12.1/2 2:2\nconf r12.1 1:1 2:2\ndlv r12.1 12.1#1\ndlv r12.1 12.1#2\nquiet\n',
+}
+FIRST = 'totem-run 3\nlog 1:1\nconf r4.1 1:1 2:1\nsend r4.1 a 4.1#1\ndlv r4.1 4.1#1\nconf t8.1/1 1:1 2:1\nconf r8.1 1:1 2:1\nopen\n' \
+    'log 2:1\nconf r4.1 1:1 2:1\ndlv r4.1 4.1#1\nconf t8.1/1 1:1 2:1\nconf r8.1 1:1 2:1\nopen\nend\n'
+SECOND = 'totem-run 3\nlog 1:1\nconf r8.1 1:1 2:1\nconf t12.1/1 1:1\nconf r12.1 1:1 2:2\nopen\n' \
+    'log 2:1\nconf r8.1 1:1 2:1\nfail r8.1\nfailed\nlog 2:2\nconf r11.2 2:2\nconf t12.1/2 2:2\nconf r12.1 1:1 2:2\nopen\nend\n'
+THIRD = 'totem-run 3\nlog 1:1\nconf r12.1 1:1 2:2\nsend r12.1 a 12.1#1\ndlv r12.1 12.1#1\nsend r12.1 a 12.1#2\n' \
+    'dlv r12.1 12.1#2\nquiet\nlog 2:2\nconf r12.1 1:1 2:2\ndlv r12.1 12.1#1\ndlv r12.1 12.1#2\nquiet\nend\n'
+# Two logs, the second of which has lost its tail.
+LOST_TAIL = {
+    '1.log': 'conf r4.1 1 2\ndlv r4.1 4.1#1\nconf t8.1/1 1 2\nconf r8.1 1 2\ndlv r8.1 8.1#1\nquiet\n',
+    '2.log': 'conf r4.1 1 2\nsend r4.1 a 4.1#1\ndlv r4.1 4.1#1\nconf t8.1/1 1 2\nconf r8.1 1 2\n',
+}
+TRIMMED = {
+    'a tail that was lost': (
+        '--trim', LOST_TAIL,
+        'totem-run 1\nlog 1\nconf r4.1 1 2\ndlv r4.1 4.1#1\nconf t8.1/1 1 2\nconf r8.1 1 2\nopen\n'
+        'log 2\nconf r4.1 1 2\nsend r4.1 a 4.1#1\ndlv r4.1 4.1#1\nconf t8.1/1 1 2\nconf r8.1 1 2\nopen\nend\n',
+        'logs: 1.log: entries that are left out behind its change to r8.1: 1\n'),
+    'a process that failed is not waited for': (
+        '--trim', {'1.log': 'conf r4.1 1 2\nconf t8.1/1 1\nconf r8.1 1\ndlv r8.1 8.1#1\n', '2.log': 'conf r4.1 1 2\nfail r4.1\n'},
+        'totem-run 1\nlog 1\nconf r4.1 1 2\nconf t8.1/1 1\nconf r8.1 1\nopen\nlog 2\nconf r4.1 1 2\nfail r4.1\nfailed\nend\n',
+        'logs: 1.log: entries that are left out behind its change to r8.1: 1\n'),
+    'one that is still there is': (
+        '--trim', {'1.log': 'conf r4.1 1 2\nconf t8.1/1 1\nconf r8.1 1\n', '2.log': 'conf r4.1 1 2\n'},
+        'totem-run 1\nlog 1\nconf r4.1 1 2\nopen\nlog 2\nconf r4.1 1 2\nopen\nend\n',
+        'logs: 1.log: entries that are left out behind its change to r4.1: 2\n'),
+}
+NOT_CUT = {
+    'no change in common': (
+        '--trim', {'1.log': 'conf r4.1 1\n', '2.log': 'conf r5.2 2\n'}, 'logs: there is no regular configuration to which all'),
+    'a log that is too long between two common changes': (
+        '--cut FOLDER/parts --entries 2', {'1.log': 'conf r4.1 1\ndlv r4.1 4.1#1\ndlv r4.1 4.1#2\n'},
+        'logs: no part fits between r4.1 and the end, the next change of all that are still there: 1.log has 3 entries\n'),
+}
+
+
+def try_cut(words, files, wanted, told, _program):
+    """These files are cut into these parts, and this is told; nothing is written to the output."""
+    with tempfile.TemporaryDirectory() as folder:
+        write_files(folder, files)
+        made = os.path.join(folder, 'parts')
+        came = join([*words.split(), '--cut', made], folder)
+        parts = {}
+        for name in sorted(os.listdir(made)) if os.path.isdir(made) else ():
+            with open(os.path.join(made, name), encoding='ascii') as it:
+                parts[name] = it.read()
+        left = sorted(set(os.listdir(folder)) - set(files))
+    is_right = (came.status, came.output, left) == (0, b'', ['parts']) and list(parts.values()) == wanted and \
+        list(parts) == ['part-%d.run' % number for number in range(1, len(wanted) + 1)] and told in came.errors.decode()
+    return None if is_right else 'came: %s, and %r\n  wanted: %r, and told %r' % (came, parts, wanted, told)
+
+
+def try_table(_program):
+    """The table of numbers is written whole, also where only its first lines are told."""
+    with tempfile.TemporaryDirectory() as folder:
+        write_files(folder, {'%d.log' % (70000 + number): 'conf r4.70001 70001\n' for number in range(1, 26)})
+        table = os.path.join(folder, 'table')
+        came = join(['--renumber', '--table', table], folder)
+        with open(table, encoding='ascii') as it:
+            lines = it.read()
+    wanted = ''.join('process %d becomes %d\n' % (70000 + number, number) for number in range(1, 26))
+    told = b'logs: process 70020 becomes 20\nlogs: .. and 5 more of the same kind\n'
+    is_right = came.status == 0 and lines == wanted and told in came.errors
+    return None if is_right else 'came: %s, and %r' % (came, lines)
+
+
+def try_nothing_made(_program):
+    """Where logs can't be cut no folder is made."""
+    with tempfile.TemporaryDirectory() as folder:
+        write_files(folder, {'1.log': 'conf r4.1 1\n\n'})
+        came = join(['--cut', os.path.join(folder, 'parts')], folder)
+        left = os.listdir(folder)
+    return None if came.status == 1 and left == ['1.log'] else 'came: %s, and %r' % (came, left)
+
+
+# Folders of the examples that are refused as they stand: the words, and what is told (docs/OWN-LOGS.md).
+ASKED = {
+    'first-callback': ('', 'logs: 1.log, line 1: a change has members: conf t5.1/1 (a first callback that names none is left out)\n'),
+    'lives': ('--lives', 'logs: 1.1.log, line 3: which life of 2 is a member of r8.1? No log of it changes there: 2:1 or 2:2 or 2:3\n'
+              '  Say each by --member CONFIGURATION=P:L, or give the times of the lives by --clock FILE\n'),
+    'large-numbers': ('', 'logs: 167772161.log: process 167772161 is past 65535; --renumber numbers processes anew\n'),
+    'ring-again': ('', 'logs: 1.1.log, line 1: a member has no life, and the name of the file has one: --lives adds lives to members\n'),
+}
+
+
+def try_asked(folder, words, told, _program):
+    """A folder of the examples is refused, with these words."""
+    came = join(words.split(), os.path.join(EXAMPLES, 'logs', folder))
+    return None if came == process.Answer(1, b'', told.encode()) else 'came: %s\n  wanted: %r' % (came, told)
+
+
+def try_parts(program):
+    """A folder of the examples is cut into two parts, each of which is a yes."""
+    with tempfile.TemporaryDirectory() as folder:
+        made = os.path.join(folder, 'parts')
+        came = join(['--cut', made, '--entries', '5'], os.path.join(EXAMPLES, 'logs', 'sent-when-ordered'))
+        texts = []
+        for name in sorted(os.listdir(made)) if came.status == 0 else ():
+            with open(os.path.join(made, name), 'rb') as it:
+                texts.append(it.read())
+    reports = [process.run([program, 'audit'], text)[0].output for text in texts]
+    is_right = len(reports) == 2 and all(report.startswith(b'verdict yes\ntotem-cert 2\n') for report in reports)
+    return None if is_right else 'came: %s, and %r' % (came, reports)
+
+
+def long_logs(rings, members, is_moved):
+    """Two logs with 20,000 messages of the second process, half of them delivered on each of two rings. Their sends stand where the first
+    ring begins, or each in front of the own delivery."""
+    half = 10000
+    names = ['%d.1#%d' % (rings[0], number) for number in range(1, 2 * half + 1)]
+    start = 'conf r%d.1 %s\n' % (rings[0], members)
+    change = 'conf t%d.1/1 %s\nconf r%d.1 %s\n' % (rings[1], members, rings[1], members)
+    taken = '' if is_moved else ''.join('send r%d.1 a %s\n' % (rings[0], name) for name in names)
+    other, own = [], []
+    for ring, part in zip(rings, (names[:half], names[half:])):
+        other.append(''.join('dlv r%d.1 %s\n' % (ring, name) for name in part))
+        own.append(''.join('send r{0}.1 a {1}\ndlv r{0}.1 {1}\n'.format(ring, name) for name in part) if is_moved else other[-1])
+    return start + other[0] + change + other[1], start + taken + own[0] + change + own[1]
+
+
+def try_long(_program):
+    """Logs of many blocks: the sends are moved, and processes and rings numbered anew."""
+    first, second = long_logs((4300000000, 4300000004), '1 70000', False)
+    came = join_files('--own-sends --renumber', {'1.log': first, '70000.log': second})
+    wanted = 'totem-run 1\nlog 1\n%sopen\nlog 2\n%sopen\nend\n' % long_logs((1, 2), '1 2', True)
+    return None if (came.status, came.output.decode()) == (0, wanted) else 'came: %s' % came
+
+
+def mended():
+    """Lives that are added, sends that are moved, numbers that are made anew, logs that are cut."""
+    for folders in (LIVES, SENDS, NUMBERS, TRIMMED):
+        for what, (words, files, wanted, told) in folders.items():
+            yield what, partial(try_folder, words, files, wanted, told)
+    for folders in (UNKNOWN, NOT_CUT):
+        for what, (words, files, said) in folders.items():
+            yield what, partial(try_refused, words, files, said)
+    yield 'cut at each common change', partial(try_cut, '--entries 5', THREE_RINGS, [FIRST, SECOND, THIRD], '')
+    yield 'cut as seldom as can be', partial(try_cut, '--entries 7', THREE_RINGS, [
+        FIRST.replace('conf r8.1 1:1 2:1\nopen\nlog', 'conf r8.1 1:1 2:1\nconf t12.1/1 1:1\nconf r12.1 1:1 2:2\nopen\nlog')
+        .replace('conf r8.1 1:1 2:1\nopen\nend\n', 'conf r8.1 1:1 2:1\nfail r8.1\nfailed\n' + SECOND[SECOND.index('log 2:2'):]), THIRD], '')
+    trimmed = TRIMMED['a tail that was lost']
+    yield 'cut, and the tail left out', partial(try_cut, '--trim', LOST_TAIL, [trimmed[2]], trimmed[3])
+    yield 'a configuration that comes again in another part', partial(
+        try_cut, '--entries 3', {'1.log': 'conf r4.1 1\nconf t8.1/1 1\nconf r8.1 1\nconf t4.1/1 1\nconf r4.1 1\n'},
+        ['totem-run 1\nlog 1\nconf r4.1 1\nconf t8.1/1 1\nconf r8.1 1\nopen\nend\n',
+         'totem-run 1\nlog 1\nconf r8.1 1\nconf t4.1/1 1\nconf r4.1 1\nopen\nend\n'],
+        'logs: 1.log: changes to r4.1, which stands in part 1 too: a name came again, and no part shows it\n')
+    for folder, (words, told) in ASKED.items():
+        yield 'the folder %s' % folder, partial(try_asked, folder, words, told)
+    yield 'parts that are judged', try_parts
+    yield 'long logs', try_long
+    yield 'a long table', try_table
+    yield 'no folder where logs are not cut', try_nothing_made

@@ -1,0 +1,205 @@
+"""Where logs can be cut: at regular configurations to which all processes that are still there change."""
+from typing import NamedTuple
+
+from joining.entries import MOST_LOGS
+from joining.folder import blocks
+from joining.texts import Part
+from joining.trouble import Refused, tell, tell_each
+
+
+class Cut(NamedTuple):
+    """A common change: for each log how many of its changes stand up to it (all of them, where the log ended before; none, where it begins
+    behind), and how many entries."""
+
+    configuration: bytes
+    changes: tuple
+    entries: tuple
+
+
+class Places:
+    """Where each log changes to what, and what any two logs share."""
+
+    def __init__(self, logs):
+        self.logs = logs
+        self.at = []
+        for log in logs:
+            places = {}
+            for index, change in enumerate(log.changes):
+                places.setdefault(change.configuration, index)
+            self.at.append(places)
+        count = range(len(logs))
+        self.shared = {(one, other): self._span(one, other) for one in count for other in count if one != other}
+
+    def _span(self, one, other):
+        """The first and the last change of the other log to what both change to, or None."""
+        common = [self.at[other][name] for name in self.at[one].keys() & self.at[other].keys()]
+        return (min(common), max(common)) if common else None
+
+    def side(self, log, configuration, came):
+        """Where a log lies that doesn't change to this configuration, as those in `came` do: 'before', 'behind', or None if it lies on
+        both sides, or is still there."""
+        has_before = has_behind = False
+        for other in came:
+            span = self.shared[log, other]
+            if span:
+                has_before |= span[0] < self.at[other][configuration]
+                has_behind |= span[1] > self.at[other][configuration]
+        if self.logs[log].ending == 'failed' and not has_behind:
+            return 'before'
+        begins_later = has_behind or self._has_earlier_life(log)
+        return 'behind' if begins_later and not has_before else None
+
+    def _has_earlier_life(self, log):
+        this = self.logs[log]
+        return any(other.process == this.process and (other.life or 1) < (this.life or 1) for other in self.logs)
+
+    def cut_at(self, configuration):
+        """The cut at this configuration, or None if not all that are still there change to it."""
+        came = [log for log, places in enumerate(self.at) if configuration in places]
+        sides = {log: self.side(log, configuration, came) for log in range(len(self.logs)) if log not in came}
+        before = [log for log, side in sides.items() if side == 'before']
+        behind = [log for log, side in sides.items() if side == 'behind']
+        if None in sides.values() or any(self.shared[one, other] for one in before for other in behind):
+            return None
+        changes, entries = [], []
+        for index, log in enumerate(self.logs):
+            if index in sides:
+                whole = sides[index] == 'before'
+                changes.append(len(log.changes) if whole else 0)
+                entries.append(log.entries if whole else 0)
+            else:
+                place = self.at[index][configuration]
+                changes.append(place + 1)
+                entries.append(log.changes[place].before + 1)
+        return Cut(configuration, tuple(changes), tuple(entries))
+
+
+def _is_before(one, other):
+    return all(low <= high for low, high in zip(one.entries, other.entries)) and one.entries != other.entries
+
+
+def common_changes(logs):
+    """The cuts at common changes, in their order. Each log has its changes."""
+    places = Places(logs)
+    regular = {change.configuration: None for log in logs for change in log.changes if change.configuration.startswith(b'r')}
+    cuts = [cut for cut in map(places.cut_at, regular) if cut]
+    cuts.sort(key=lambda cut: sum(cut.entries))
+    in_order = []
+    for cut in cuts:
+        if not in_order or _is_before(in_order[-1], cut):
+            in_order.append(cut)
+    return in_order
+
+
+class Cutting:
+    """Logs that are cut into parts, in each of which no log has more than so many entries. `life_of` tells the life of a member."""
+
+    def __init__(self, logs, most, life_of):
+        self.logs = logs
+        self.most = most
+        self.life_of = life_of
+        self.cuts = common_changes(logs)
+        self.begin = Cut(b'', (0,) * len(logs), (0,) * len(logs))
+        self.end = Cut(b'', tuple(len(log.changes) for log in logs), tuple(log.entries for log in logs))
+
+    def _range(self, index, begin, end):
+        """The changes of a log in a part, from the first, and how many entries it has there: the change of a cut stands in both."""
+        first = begin.changes[index] - 1 if self._is_cut_through(index, begin) else begin.changes[index]
+        entries = end.entries[index] - begin.entries[index] + (begin.changes[index] - first)
+        return first, end.changes[index], entries
+
+    def _is_cut_through(self, index, cut):
+        """Whether a log changes to the configuration of a cut and goes on."""
+        changes = self.logs[index].changes
+        place = cut.changes[index] - 1
+        return place >= 0 and changes[place].configuration == cut.configuration
+
+    def _is_there(self, index, begin, end):
+        return self._range(index, begin, end)[2] > 0
+
+    def flaw(self, begin, end):
+        """What keeps the entries between two cuts from being a part, or None."""
+        there = [index for index in range(len(self.logs)) if self._is_there(index, begin, end)]
+        for index in there:
+            entries = self._range(index, begin, end)[2] + bool(self.logs[index].added)
+            if entries > self.most:
+                return '%s has %d entries' % (self.logs[index].name, entries)
+        if len(there) > MOST_LOGS:
+            return 'there are %d logs' % len(there)
+        have = {(self.logs[index].process, self.logs[index].life) for index in there}
+        for index in there:
+            first, last, _ = self._range(index, begin, end)
+            log = self.logs[index]
+            for change in log.changes[first:last]:
+                for process, life in change.members:
+                    if (process, life or self.life_of(log, change.configuration, process)) not in have:
+                        return '%s has the member %d, whose log is all before or behind it' % (change.configuration.decode(), process)
+        return None
+
+    def parts(self, end=None):
+        """The cuts that end the parts, as few as there can be; the last is the end of the logs, or that which is given."""
+        end = end or self.end
+        begin, chosen = self.begin, []
+        while begin is not end:
+            later = [cut for cut in self.cuts if _is_before(begin, cut) and _is_before(cut, end)]
+            fit = next((cut for cut in [end] + later[::-1] if not self.flaw(begin, cut)), None)
+            if fit is None:
+                raise Refused(self._stuck(begin, (later + [end])[0]))
+            chosen.append((begin, fit))
+            begin = fit
+        return chosen
+
+    def _stuck(self, begin, end):
+        return 'no part fits between %s and %s, the next change of all that are still there: %s' % (
+            begin.configuration.decode() or 'the beginning', end.configuration.decode() or 'the end', self.flaw(begin, end))
+
+    def tell_again(self, chosen):
+        """Tells of configurations that come again in a later part: what is wrong with that no part shows."""
+        part_of, again = {}, []
+        for number, (begin, end) in enumerate(chosen, 1):
+            for index, log in enumerate(self.logs):
+                for change in log.changes[begin.changes[index]:end.changes[index]]:
+                    first = part_of.setdefault(change.configuration, number)
+                    if first != number:
+                        again.append('%s: changes to %s, which stands in part %d too: a name came again, and no part shows it' % (
+                            log.name, change.configuration.decode(), first))
+        tell_each(again)
+
+    def all_up_to(self, end):
+        """One part, from the beginning up to a cut."""
+        flaw = self.flaw(self.begin, end)
+        if flaw:
+            raise Refused('what stands up to %s is no run: %s' % (end.configuration.decode(), flaw))
+        return self.begin, end
+
+    def of_part(self, begin, end):
+        """The parts of the logs between two cuts."""
+        parts = []
+        for index, log in enumerate(self.logs):
+            if self._is_there(index, begin, end):
+                first, last, _ = self._range(index, begin, end)
+                start = log.changes[first].offset if begin.entries[index] else 0
+                is_last = end.entries[index] == log.entries and not self._is_cut_through(index, end)
+                parts.append(Part(log, start, log.size if end.entries[index] == log.entries else _end_of(log, last), is_last))
+        return parts
+
+    def trimmed(self):
+        """The last common change; what stands behind it is left out, and told."""
+        if not self.cuts:
+            raise Refused('there is no regular configuration to which all that are still there change')
+        end = self.cuts[-1]
+        name = end.configuration.decode()
+        for log, kept in zip(self.logs, end.entries):
+            if not kept:
+                tell('%s: begins behind %s, and is left out' % (log.name, name))
+            elif kept < log.entries:
+                tell('%s: entries that are left out behind its change to %s: %d' % (log.name, name, log.entries - kept))
+        return end
+
+
+def _end_of(log, changes):
+    """The offset behind the last of so many changes."""
+    offset = log.changes[changes - 1].offset
+    for block in blocks(log.path, offset, log.size):
+        return offset + block.index(b'\n') + 1
+    return offset

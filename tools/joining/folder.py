@@ -1,0 +1,136 @@
+"""The logs of a folder: a file P.log for each process P, or P.L.log for each life L of it."""
+import os
+import re
+from dataclasses import dataclass, field
+from typing import NamedTuple, Optional
+
+from joining.entries import MOST_PROCESS
+from joining.trouble import Refused, tell
+
+NAME = re.compile(r'([1-9][0-9]{0,19})(?:\.([1-9][0-9]{0,19}))?\.log')
+# How many bytes are read at once, and how many a line may have before it is surely none.
+BLOCK = 1 << 17
+MOST_OF_A_LINE = 1 << 20
+
+
+class Change(NamedTuple):
+    """A change of configuration: where its line begins in the file, how many entries stand before it, and what it says."""
+
+    offset: int
+    before: int
+    configuration: bytes
+    members: tuple
+
+
+@dataclass
+class Log:
+    """The log of a process, or of one life of it."""
+
+    name: str
+    path: str
+    process: int
+    life: Optional[int]
+    # How many bytes its entries have, and how many there are.
+    size: int = 0
+    entries: int = 0
+    # `open`, `failed` or `quiet`.
+    ending: str = 'open'
+    # The configuration of its last change, and all of its changes where they are asked for.
+    last: bytes = b''
+    changes: list = field(default_factory=list)
+    # What a word of the call adds behind its entries.
+    added: bytes = b''
+
+    @property
+    def who(self):
+        """The process as the call names it: 3, or 3:2 with its life."""
+        return str(self.process) if self.life is None else '%d:%d' % (self.process, self.life)
+
+
+def blocks(path, begin, end):
+    """The bytes of a file from one offset up to another, in blocks of whole lines."""
+    with open(path, 'rb') as it:
+        it.seek(begin)
+        left = end - begin
+        rest = b''
+        while left:
+            block = it.read(min(BLOCK, left))
+            if not block:
+                raise Refused('%s became shorter while it was read' % path)
+            left -= len(block)
+            block = rest + block
+            is_whole = not left or len(rest) > MOST_OF_A_LINE
+            cut = len(block) if is_whole else block.rfind(b'\n') + 1
+            rest = block[cut:]
+            if cut:
+                yield block[:cut]
+
+
+def _last_line_end(it, size):
+    """How many bytes the whole lines of a file have."""
+    end = size
+    while end:
+        begin = max(0, end - BLOCK)
+        it.seek(begin)
+        found = it.read(end - begin).rfind(b'\n')
+        if found >= 0:
+            return begin + found + 1
+        end = begin
+    return 0
+
+
+def measure(log):
+    """Finds where the entries of a log end, and whether it says that it is quiet."""
+    with open(log.path, 'rb') as it:
+        size = os.fstat(it.fileno()).st_size
+        log.size = _last_line_end(it, size)
+        if log.size < size:
+            tell('%s: the last line was cut off, and is left out' % log.name)
+            return
+        claim = b'quiet\n'
+        it.seek(max(0, size - len(claim) - 1))
+        if it.read() in (claim, b'\n' + claim):
+            log.size -= len(claim)
+            log.ending = 'quiet'
+
+
+def _read_name(name, is_numbered_anew):
+    """The process and the life that a file's name tells."""
+    found = NAME.fullmatch(name)
+    if not found:
+        raise Refused('%s: the name is no process: a log is called P.log, or P.L.log for life L of P, such as 3.log or 3.2.log' % name)
+    process, life = int(found[1]), int(found[2]) if found[2] else None
+    if process > MOST_PROCESS and not is_numbered_anew:
+        raise Refused('%s: process %d is past %d; --renumber numbers processes anew' % (name, process, MOST_PROCESS))
+    if life and life > MOST_PROCESS:
+        raise Refused('%s: life %d is past %d' % (name, life, MOST_PROCESS))
+    return process, life
+
+
+def _refuse_twins(logs):
+    """Two logs of one life are refused: P.log is life 1 of P."""
+    first = {}
+    for log in logs:
+        other = first.setdefault((log.process, log.life or 1), log)
+        if other is not log:
+            raise Refused('%s and %s are two logs of one life' % (other.name, log.name))
+
+
+def find(folder, is_numbered_anew, adds_lives):
+    """The logs of a folder in the order of a run: by process, then by life. Where lives are added, P.log is that of life 1."""
+    names = sorted(name for name in os.listdir(folder) if name.endswith('.log'))
+    if not names:
+        raise Refused('%s has no file P.log or P.L.log' % folder)
+    logs = []
+    for name in names:
+        process, life = _read_name(name, is_numbered_anew)
+        logs.append(Log(name, os.path.join(folder, name), process, life))
+    _refuse_twins(logs)
+    if len({log.life is None for log in logs}) == 2 and not adds_lives:
+        with_life = next(log for log in logs if log.life is not None)
+        without = next(log for log in logs if log.life is None)
+        raise Refused('%s has a life, and %s has none: give each of them its life, or say --lives' % (with_life.name, without.name))
+    if adds_lives:
+        for log in logs:
+            log.life = log.life or 1
+    return sorted(logs, key=lambda log: (log.process, log.life or 1))

@@ -1,0 +1,105 @@
+"""Reads logs from their first line to their last: whether each line is an entry, how many there are, and where they change."""
+from joining import entries
+from joining.folder import Change, blocks, measure
+from joining.trouble import Refused, tell
+
+
+def _refuse(log, line, what):
+    raise Refused('%s, line %d: %s' % (log.name, line, what))
+
+
+def _check_lines(log, block, before, is_numbered_anew):
+    """Looks at the lines of a block one by one."""
+    for number, line in enumerate(block.removesuffix(b'\n').split(b'\n'), before + 1):
+        what = entries.flaw(line + b'\n', is_numbered_anew)
+        if what:
+            _refuse(log, number, what)
+
+
+def change_lines(block):
+    """Where the lines of a block that begin with conf begin."""
+    at = 0 if block.startswith(b'conf ') else block.find(b'\nconf ') + 1
+    while at or block.startswith(b'conf ', at):
+        yield at
+        found = block.find(b'\nconf ', at)
+        if found < 0:
+            return
+        at = found + 1
+
+
+def read_members(words):
+    """Members as pairs of a process and a life, which is None where none is written."""
+    members = []
+    for word in words:
+        process, _, life = word.partition(b':')
+        members.append((int(process), int(life) if life else None))
+    return tuple(members)
+
+
+def _check_change(log, line, members, adds_lives):
+    """Whether the members of a change rise, and have lives just where the log's file has one."""
+    what = entries.flaw_of_members(members)
+    if what:
+        _refuse(log, line, what)
+    with_life = [life is not None for _, life in members]
+    if adds_lives and any(with_life):
+        _refuse(log, line, 'a member has a life already: leave --lives out')
+    if log.life is None and any(with_life):
+        _refuse(log, line, 'a member has a life, and the name of the file has none: call it P.L.log, such as %d.1.log' % log.process)
+    if log.life is not None and not adds_lives and not all(with_life):
+        _refuse(log, line, 'a member has no life, and the name of the file has one: --lives adds lives to members')
+
+
+class Scan:
+    """How logs are read. `keeps_changes`: each log gets the list of its changes. `sees(block)` is called with each block, if given.
+    `is_known`: each line is known to be an entry."""
+
+    def __init__(self, is_numbered_anew=False, adds_lives=False, keeps_changes=False, sees=None, is_known=False):
+        self.is_numbered_anew = is_numbered_anew
+        self.adds_lives = adds_lives
+        self.keeps_changes = keeps_changes
+        self.sees = sees
+        self.is_known = is_known
+        self.plain = entries.PLAIN_TO_NUMBER if is_numbered_anew else entries.PLAIN
+
+    def _take_changes(self, log, block, offset):
+        """Takes note of the changes of a block, which begins at this offset."""
+        counted, line = 0, log.entries
+        for at in change_lines(block):
+            line += block.count(b'\n', counted, at)
+            counted = at
+            words = block[at:block.index(b'\n', at)].split(b' ')
+            members = read_members(words[2:])
+            _check_change(log, line + 1, members, self.adds_lives)
+            log.last = words[1]
+            if self.keeps_changes:
+                log.changes.append(Change(offset + at, line, words[1], members))
+
+    def read(self, log):
+        """Reads one log."""
+        offset, block = 0, b''
+        for block in blocks(log.path, 0, log.size):
+            if not self.is_known and self.plain.match(block).end() != len(block):
+                _check_lines(log, block, log.entries, self.is_numbered_anew)
+            self._take_changes(log, block, offset)
+            if self.sees:
+                self.sees(block)
+            log.entries += block.count(b'\n')
+            offset += len(block)
+        if block[block.rfind(b'\n', 0, -1) + 1:].startswith(b'fail '):
+            if log.ending == 'quiet':
+                _refuse(log, log.entries + 1, 'quiet stands behind a failure')
+            log.ending = 'failed'
+
+    def read_all(self, logs):
+        """Reads all logs, and returns those that have an entry."""
+        for log in logs:
+            measure(log)
+            self.read(log)
+        for log in logs:
+            if not log.entries:
+                tell('%s has no entry, and is left out' % log.name)
+        with_entries = [log for log in logs if log.entries]
+        if not with_entries:
+            raise Refused('no log has an entry')
+        return with_entries

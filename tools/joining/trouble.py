@@ -1,0 +1,32 @@
+"""What is told to whoever calls the tool."""
+import sys
+
+# How many lines are told of one kind of change; of more than that only how many there are.
+MOST_TOLD = 20
+
+
+class Refused(Exception):
+    """What was given can't be joined. The text says which file, which line, and what is wrong."""
+
+
+class WriteFailed(Exception):
+    """The output took no more."""
+
+
+def tell(text):
+    """Tells what was changed or left out, on standard error."""
+    print('logs: ' + text, file=sys.stderr)
+
+
+def tell_each(lines):
+    """Tells each of these, or the first ones and how many more there are."""
+    for line in lines[:MOST_TOLD]:
+        tell(line)
+    if len(lines) > MOST_TOLD:
+        tell('.. and %d more of the same kind' % (len(lines) - MOST_TOLD))
+
+
+def some(names):
+    """A few of these names, for a person."""
+    shown = ', '.join(name.decode() if isinstance(name, bytes) else name for name in names[:5])
+    return shown + (', ..' if len(names) > 5 else '')

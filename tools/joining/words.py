@@ -1,0 +1,207 @@
+"""The words of `tools/logs`, and what is done of them in which order."""
+import argparse
+import os
+import shutil
+import sys
+import tempfile
+
+from joining import endings, folder, texts
+from joining.cuts import Cutting
+from joining.entries import MOST_ENTRIES, MOST_LOGS
+from joining.lives import Lives, add_lives
+from joining.numbers import Numbers
+from joining.scan import Scan
+from joining.sends import move_sends
+from joining.trouble import Refused, WriteFailed, tell
+
+DESCRIPTION = """Makes one run of the logs of several processes:
+
+    tools/logs join FOLDER > my.run
+    ./totem audit < my.run
+
+FOLDER has a file P.log for each process P, with one line for each entry, as docs/OWN-LOGS.md tells. Where processes come back, it has
+a file P.L.log for each life L of process P. A last line that was cut off is left out. A log is closed with `failed` where its last
+entry is a failure, with `quiet` where that is its last line, else with `open`."""
+EXAMPLES = """For example, of a cluster in which process 2 was killed and the others were shut down in order:
+
+    tools/logs join --failed 2 --quiet all FOLDER
+
+of processes that came back, whose layer names members without lives, and whose sends were recorded when the layer took them:
+
+    tools/logs join --lives --own-sends FOLDER
+
+and of logs that are too long for one run:
+
+    tools/logs join --cut parts FOLDER; for part in parts/*.run; do ./totem audit < $part | head -n 1; done
+
+What is changed or left out is told on standard error. The status is 0, or 1 where the logs can't be joined (nothing is written then), 4
+where the output fails, 64 where the words ask for nothing that there is."""
+
+
+class Words(argparse.ArgumentParser):
+    """Words that ask for nothing that there is have the status 64, as those of totem have."""
+
+    def error(self, message):
+        self.print_usage(sys.stderr)
+        self.exit(64, 'logs: %s\n' % message)
+
+
+def _add_words_of_join(join):
+    join.add_argument('folder', metavar='FOLDER')
+    join.add_argument('--failed', action='append', metavar='LIST',
+                      help='these processes are known to have failed (they crashed, or were killed): their logs get `fail`. '
+                      'A list is 2, or 2,3:1 with lives')
+    join.add_argument('--quiet', action='append', metavar='LIST',
+                      help='for these nothing more was to come (they were shut down in order): their logs are closed as quiet. '
+                      '`all` are those that did not fail')
+    join.add_argument('--lives', action='store_true',
+                      help='add to each member the life that it is: the life whose log changes to the configuration')
+    join.add_argument('--member', action='append', metavar='CONF=P:L', default=[],
+                      help='with --lives: member P of a configuration, which never came there, is life L, as in r26.1=3:2')
+    join.add_argument('--clock', metavar='FILE',
+                      help='with --lives: when lives began and ended, for members that never came. Lines are TIME start P:L, '
+                      'TIME end P:L, TIME conf CONF')
+    join.add_argument('--own-sends', action='store_true',
+                      help="put each send in front of its sender's own delivery: for logs in which a message counts as sent "
+                      'when the layer takes it (the logs are written anew into the folder for temporary files)')
+    join.add_argument('--renumber', action='store_true',
+                      help='number processes past 65535 and rings past 4294967295 anew, alike in all logs')
+    join.add_argument('--table', metavar='FILE', help='with --renumber: write which number became which')
+    join.add_argument('--cut', metavar='NEW_FOLDER',
+                      help='write several runs, NEW_FOLDER/part-1.run and so on, cut where all that are still there change to one '
+                      'regular configuration')
+    join.add_argument('--entries', type=int, metavar='N', help='with --cut: no log of a part has more entries (1000000)')
+    join.add_argument('--trim', action='store_true',
+                      help='leave out what stands behind the last regular configuration to which all that are still there change: '
+                      'for logs whose ends were lost')
+
+
+def read_words(words):
+    """What the words ask for."""
+    form = argparse.RawDescriptionHelpFormatter
+    parser = Words(prog='logs', allow_abbrev=False, formatter_class=form,
+                   description='Works on folders of logs. `logs join --help` tells how.')
+    commands = parser.add_subparsers(dest='command', metavar='join', required=True)
+    join = commands.add_parser('join', allow_abbrev=False, help='make one run of the logs of several processes',
+                               description=DESCRIPTION, epilog=EXAMPLES, formatter_class=form)
+    _add_words_of_join(join)
+    asked = parser.parse_args(words)
+    if not os.path.isdir(asked.folder):
+        join.error('%s is no folder' % asked.folder)
+    for word, needs in (('member', 'lives'), ('clock', 'lives'), ('table', 'renumber'), ('entries', 'cut')):
+        if getattr(asked, word) and not getattr(asked, needs):
+            join.error('--%s goes with --%s' % (word, needs))
+    if asked.cut and os.path.exists(asked.cut):
+        join.error('%s is there already: --cut makes a new folder' % asked.cut)
+    if asked.entries is not None and not 2 <= asked.entries <= MOST_ENTRIES:
+        join.error('--entries is 2 to %d' % MOST_ENTRIES)
+    return asked
+
+
+class Joining:
+    """Logs of a folder, and what was asked of them."""
+
+    def __init__(self, asked, working):
+        self.asked = asked
+        self.numbers = Numbers() if asked.renumber else None
+        keeps = asked.lives or asked.own_sends or asked.renumber or asked.trim or bool(asked.cut)
+        words = {'is_numbered_anew': asked.renumber, 'adds_lives': asked.lives, 'keeps_changes': keeps}
+        found = folder.find(asked.folder, asked.renumber, asked.lives)
+        self.logs = Scan(sees=self.numbers.see if self.numbers else None, **words).read_all(found)
+        if asked.failed:
+            endings.fail(self.logs, asked.failed)
+        if asked.quiet:
+            endings.be_quiet(self.logs, asked.quiet)
+        self.lives = Lives(self.logs, asked.member, asked.clock) if asked.lives else None
+        if asked.own_sends:
+            self.logs = move_sends(self.logs, working, words)
+        if self.numbers:
+            self.numbers.settle(self.logs)
+            if asked.table:
+                self.numbers.write_table(asked.table)
+
+    def life_of(self, log, configuration, process):
+        """The life of a member that is written without one."""
+        return self.lives.of(log, configuration, process) if self.lives else log.life
+
+    def steps(self, version):
+        """What is done to each block when it is written."""
+        steps = []
+        if self.lives:
+            steps.append(lambda log, block: add_lives(block, lambda name, process: self.lives.of(log, name, process)))
+        elif version == 3 and self.logs[0].life is None:
+            steps.append(lambda log, block: add_lives(block, lambda name, process: 1))
+        if self.numbers:
+            steps.append(lambda log, block: self.numbers.renumber(block))
+        return steps
+
+    def runs(self):
+        """The parts of logs of each run that is written."""
+        if not self.asked.cut and not self.asked.trim:
+            self._check_limits()
+            return [[texts.whole(log) for log in self.logs]]
+        cutting = Cutting(self.logs, self.asked.entries or MOST_ENTRIES, self.life_of)
+        end = cutting.trimmed() if self.asked.trim else None
+        chosen = cutting.parts(end) if self.asked.cut else [cutting.all_up_to(end)]
+        cutting.tell_again(chosen)
+        return [cutting.of_part(*part) for part in chosen]
+
+    def _check_limits(self):
+        if len(self.logs) > MOST_LOGS:
+            raise Refused('there are %d logs, and a run has %d at most: --cut makes several runs' % (len(self.logs), MOST_LOGS))
+        for log in self.logs:
+            if log.entries + bool(log.added) > MOST_ENTRIES:
+                raise Refused('%s has %d entries, and a run has %d of a log at most: --cut makes several runs' % (
+                    log.name, log.entries, MOST_ENTRIES))
+
+    def write(self):
+        """Writes the run, or the runs."""
+        runs = self.runs()
+        version = max(map(texts.version_of, runs))
+        number = self.numbers.process if self.numbers else lambda process: process
+        steps = self.steps(version)
+        if self.asked.cut:
+            self._write_parts(lambda out, parts: texts.write(out, version, parts, steps, number), runs)
+            return
+        out = sys.stdout.buffer
+        try:
+            texts.write(out, version, runs[0], steps, number)
+            out.flush()
+        except OSError as error:
+            raise WriteFailed from error
+
+    def _write_parts(self, write, runs):
+        """Writes each run into a file of the new folder, which is there only once it has them all."""
+        made = tempfile.mkdtemp(dir=os.path.dirname(os.path.abspath(self.asked.cut)))
+        try:
+            for number, parts in enumerate(runs, 1):
+                path = os.path.join(made, 'part-%d.run' % number)
+                with open(path, 'wb') as out:
+                    write(out, parts)
+            os.chmod(made, 0o755)
+            os.rename(made, self.asked.cut)
+        except BaseException:
+            shutil.rmtree(made)
+            raise
+        for number, parts in enumerate(runs, 1):
+            tell('%s: %d logs' % (os.path.join(self.asked.cut, 'part-%d.run' % number), len(parts)))
+
+
+def main(words):
+    """Does what the words ask for, and returns the status."""
+    asked = read_words(words)
+    try:
+        with tempfile.TemporaryDirectory() as working:
+            Joining(asked, working).write()
+    except Refused as refused:
+        tell(str(refused))
+        return 1
+    except WriteFailed:
+        tell('write failed')
+        sys.stderr.flush()
+        os.dup2(os.open(os.devnull, os.O_WRONLY), sys.stdout.fileno())
+        return 4
+    except OSError as error:
+        tell('%s: %s' % (error.filename, error.strerror))
+        return 1
+    return 0
