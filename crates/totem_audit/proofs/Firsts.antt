@@ -5,7 +5,7 @@ use Rattle.totem_evs.specs.declared.log.Log.{Log}
 use Rattle.totem_evs.specs.declared.fault.Fault.{Fault}
 use Rattle.totem_evs.specs.Answers.{No, IsAnswered, Lists, MeetsPasses, pass_a, pass_b}
 use Rattle.totem_evs.specs.RunRecord.{RunRecord}
-use Rattle.totem_cert.specs.CertRecord.{CertRecord}
+use Rattle.totem_certificate.specs.CertRecord.{CertRecord}
 use Rattle.totem_evs.specs.ClosedLists.{IsCycle}
 use Rattle.totem_evs.specs.Certificates.{Numbering}
 use Rattle.totem_evs.proofs.Synchronous.{meets_passes}

@@ -6,7 +6,7 @@ use Rattle.totem_evs.specs.Answers.{Lists, ListsCycle, MeetsPasses, HasCertifica
 use Rattle.totem_evs.specs.RunRecord.{RunRecord}
 use Rattle.totem_evs.specs.Certificates.{Numbering}
 use Rattle.totem_evs.specs.Positions.{IsPositions}
-use Rattle.totem_cert.specs.Keeping.{certificate_version}
+use Rattle.totem_certificate.specs.Keeping.{certificate_version}
 use Rattle.totem_audit.specs.declared.first_passes.FirstPasses.{FirstPasses}
 use Rattle.totem_audit.specs.declared.first_passes.FirstPasses.TheVariants.{Broken, Ordered}
 

@@ -4,7 +4,7 @@ ghost use Rattle.totem_evs.specs.Answers.{ListsConfigurations, IsAnswered};
 ghost use Rattle.totem_evs.specs.Meanings.{IsSound};
 ghost use Rattle.totem_agreement.specs.Findings.{AreComplete};
 ghost use Rattle.totem_agreement.specs.Jobs.{AreJobs};
-ghost use Rattle.totem_cert.specs.Keeping.{certificate_version};
+ghost use Rattle.totem_certificate.specs.Keeping.{certificate_version};
 ghost use Rattle.totem_audit.specs.Verdicts.{answer_of, HasVersion};
 ghost use Rattle.totem_audit.specs.Early.{IsOrdered};
 

@@ -9,7 +9,7 @@ use Rattle.totem_evs.specs.declared.log.Log.{Log}
 use Rattle.totem_evs.specs.Runs.{IsRunIn, IsLogIn}
 use Rattle.totem_evs.specs.Certificates.{Numbering, number_at}
 use Rattle.totem_cert.specs.Search.{place}
-use Rattle.totem_cert.specs.Keeping.{IsLineIn, IsCertificateIn, IsOfText, certificate_version}
+use Rattle.totem_certificate.specs.Keeping.{IsLineIn, IsCertificateIn, IsOfText, certificate_version}
 use Rattle.totem_cert.specs.Progress.{IsSound, IsFull}
 use Rattle.totem_evs.proofs.LogOf.{in_order}
 use Rattle.totem_cert.proofs.LineFacts.{stands_at}

@@ -1,15 +1,3 @@
-pub mod WrittenLives
-pub mod LinesFromLeft
-pub mod CertLoops
-pub mod GrownLines
-pub mod SpelledNumbers
-pub mod SpelledCert
-pub mod SteadyCert
-pub mod OwnFaults
-pub mod CertParts
-pub mod RestFaults
-pub mod CertGoesOn
-pub mod CertAnswers
 pub mod Classmates
 pub mod Sound
 pub mod LineFacts

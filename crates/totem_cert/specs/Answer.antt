@@ -3,7 +3,7 @@ use Rattle.std.specs.Prelude.{◌≡◌}
 use Rattle.totem_evs.specs.RunRecord.{RunRecord}
 use Rattle.totem_cert.specs.declared.order.Order.{Order}
 use Rattle.totem_cert.specs.declared.order.Order.TheVariants.{Positions, Cycle}
-use Rattle.totem_cert.specs.Keeping.{certificate_version}
+use Rattle.totem_certificate.specs.Keeping.{certificate_version}
 use Rattle.totem_evs.specs.Positions.{IsPositions}
 use Rattle.totem_evs.specs.ClosedLists.{IsCycle}
 

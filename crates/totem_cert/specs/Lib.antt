@@ -1,12 +1,3 @@
-pub mod CertRecord
-pub mod Keeping
-pub mod CertLives
-pub mod CertText
-pub mod CertGrammar
-pub mod CertFronts
-pub mod CertFaults
-pub mod CertPlaces
-pub mod Reading
 pub mod Search
 pub mod Progress
 pub mod Answer

@@ -7,10 +7,10 @@ ghost use Rattle.totem_cert.specs.Progress.{IsSound, NoneReady, IsFirstLeft};
 
 use crate::closed::{forward, turned};
 use crate::index::Index;
-use crate::open_line::OpenLine;
 use crate::twins::has_twins;
 use crate::walk::walk_round;
 use std::alloc::{AllocError, Global};
+use totem_certificate::OpenLine;
 use totem_evs::{Fault, Places, Run, SpecNo};
 use totem_ids::Place;
 

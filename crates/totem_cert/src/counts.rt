@@ -5,8 +5,8 @@ ghost use Rattle.totem_table.specs.Tables.{IsTable};
 ghost use Rattle.totem_cert.specs.Progress.{empty_line};
 ghost use Rattle.totem_cert.specs.Counts.{Adds, AtMost, Counts, CountsTo, HasHead, IsKept, Pushes, Takes, class_fed, class_in, kept_in, one, passed};
 
-use crate::open_line::OpenLine;
 use std::alloc::{AllocError, Global};
+use totem_certificate::OpenLine;
 use totem_evs::{Entry, Log, Run};
 use totem_table::Table;
 

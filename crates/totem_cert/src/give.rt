@@ -3,8 +3,8 @@ ghost use Rattle.totem_evs.specs.Events.{log_of};
 ghost use Rattle.totem_cert.specs.Search.{place};
 ghost use Rattle.totem_cert.specs.Progress.{IsSound, Sound, IsNext, IsNextHead, Fits, Gives, HeadIsMate, IsMate, entries_left};
 
-use crate::open_line::OpenLine;
 use std::alloc::AllocError;
+use totem_certificate::OpenLine;
 use totem_evs::{Entry, Log, Run};
 use totem_ids::Proc;
 

@@ -5,7 +5,7 @@ ghost use Rattle.totem_cert.specs.Keepers.{given_at, StandsBehind, EntryKeeps, K
 
 use crate::index::Index;
 use crate::key::{Key, KeyedEntry};
-use crate::open_line::OpenLine;
+use totem_certificate::OpenLine;
 
 /// Returns how many entries of the log at this index have a number.
 pub fn given_at(lines: &[OpenLine], log: usize) -> usize

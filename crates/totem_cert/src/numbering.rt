@@ -5,9 +5,9 @@ ghost use Rattle.totem_cert.specs.Progress.{IsSound, NoneReady, IsFirstLeft, IsF
 
 use crate::give::give_next;
 use crate::index::Index;
-use crate::open_line::OpenLine;
 use crate::ready::first_ready;
 use std::alloc::{AllocError, Global};
+use totem_certificate::OpenLine;
 use totem_evs::{Log, Run};
 
 /// Returns a line without numbers for each log, with room for all of them.

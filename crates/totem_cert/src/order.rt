@@ -1,18 +1,15 @@
 ghost use Rattle.std.specs.Prelude.{◌≡◌, IfOk, IfSome};
 ghost use Rattle.totem_cert.specs.Answer.{IsOrder};
-ghost use Rattle.totem_cert.specs.Keeping.{certificate_version};
+ghost use Rattle.totem_certificate.specs.Keeping.{certificate_version};
 ghost use Rattle.totem_cert.specs.Progress.{IsSound, IsFull};
 ghost use Rattle.totem_table.specs.Tables.{IsTable};
 
-use crate::certificate::Certificate;
 use crate::closed_list::closed_list;
 use crate::counted::number_by_counts;
 use crate::index::Index;
-use crate::line::Line;
-use crate::lines::Lines;
 use crate::numbering::{first_left, number_all};
-use crate::open_line::OpenLine;
 use std::alloc::{AllocError, Global};
+use totem_certificate::{Certificate, Line, Lines, OpenLine};
 use totem_evs::{Fault, Run};
 use totem_ids::Version;
 use totem_table::Table;

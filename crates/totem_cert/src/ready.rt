@@ -9,7 +9,7 @@ ghost use Rattle.totem_cert.specs.Progress.{Fits, IsReady, IsSound, IsNextHead, 
 use crate::index::Index;
 use crate::keeper::keeper;
 use crate::key::Key;
-use crate::open_line::OpenLine;
+use totem_certificate::OpenLine;
 use totem_evs::{Log, Run};
 
 /// Returns what kept the head of a log back last. Where that is not known it may be any number.

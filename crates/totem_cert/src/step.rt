@@ -10,9 +10,9 @@ ghost use Rattle.totem_cert.specs.Progress.{Fits, IsSound, NoneReady, IsOpenSend
 
 use crate::index::Index;
 use crate::key::Key;
-use crate::open_line::OpenLine;
 use crate::wanted::{Wanted, first_place};
 use std::marker::Model;
+use totem_certificate::OpenLine;
 use totem_evs::{Entry, Run};
 use totem_ids::{Place, Proc};
 

@@ -7,10 +7,10 @@ ghost use Rattle.totem_cert.specs.Progress.{IsSound, NoneReady, IsRound};
 ghost use Rattle.totem_cert.specs.Visited.{place_order};
 
 use crate::index::Index;
-use crate::open_line::OpenLine;
 use crate::step::{Step, step_of};
 use std::alloc::{AllocError, Global};
 use std::collections::BTreeMap;
+use totem_certificate::OpenLine;
 use totem_evs::Run;
 use totem_ids::Place;
 

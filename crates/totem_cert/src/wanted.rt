@@ -7,7 +7,7 @@ ghost use Rattle.totem_cert.specs.Keepers.{IsWanted, Wants, IsNoLater, IsEarlier
 use crate::index::Index;
 use crate::keeper::{end_of, given_at};
 use crate::key::{Key, KeyedEntry};
-use crate::open_line::OpenLine;
+use totem_certificate::OpenLine;
 use totem_evs::Run;
 use totem_ids::Place;
 

@@ -8,7 +8,7 @@ use crate::accepted::Accepted;
 use crate::check_fault::CheckFault;
 use std::alloc::{AllocError, Global};
 use totem_agreement::{Jobs, Judged, pass_d_of, pending_of, waiting};
-use totem_cert::Certificate;
+use totem_certificate::Certificate;
 use totem_evs::{Fault, Run};
 use totem_passes::pass_a_and_b;
 use totem_sweep::certified;

@@ -8,9 +8,9 @@ use Rattle.totem_script.specs.declared.script_fault.ScriptFault.{ScriptFault}
 use Rattle.totem_script.specs.declared.script_fault.ScriptFaultKind.{ScriptFaultKind}
 use Rattle.totem_script.specs.declared.script_fault.ScriptFaultKind.TheVariants as script_faults
 use Rattle.totem_script.specs.ScriptFaults.{fault_number as script_fault_number, fault_name as script_fault_name}
-use Rattle.totem_cert.specs.declared.cert_fault.CertFault.{CertFault}
-use Rattle.totem_cert.specs.declared.cert_fault.CertFault.TheVariants as cert_faults
-use Rattle.totem_cert.specs.CertFaults.{fault_number as cert_fault_number, fault_name as cert_fault_name}
+use Rattle.totem_certificate.specs.declared.cert_fault.CertFault.{CertFault}
+use Rattle.totem_certificate.specs.declared.cert_fault.CertFault.TheVariants as cert_faults
+use Rattle.totem_certificate.specs.CertFaults.{fault_number as cert_fault_number, fault_name as cert_fault_name}
 use Rattle.totem_cluster.specs.Endings.{refusal_text, missing_text, run_line, cert_line, script_line, script_line_of}
 
 pub run_not_read : (fault : RunFault) → (fault ≡ run_faults.Read → ⊥)

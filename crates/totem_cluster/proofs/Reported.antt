@@ -13,10 +13,10 @@ use Rattle.totem_evs.specs.RunText.{run_text}
 use Rattle.totem_evs.specs.WriteRun.{WritesText}
 use Rattle.totem_evs.specs.Reading.{FitsRun}
 use Rattle.totem_evs.specs.Answers.{No}
-use Rattle.totem_cert.specs.declared.cert_fault.CertFault.{CertFault}
-use Rattle.totem_cert.specs.declared.cert_fault.CertFault.TheVariants as cert_faults
-use Rattle.totem_cert.specs.CertRecord.{CertRecord}
-use Rattle.totem_cert.specs.CertText.{cert_text}
+use Rattle.totem_certificate.specs.declared.cert_fault.CertFault.{CertFault}
+use Rattle.totem_certificate.specs.declared.cert_fault.CertFault.TheVariants as cert_faults
+use Rattle.totem_certificate.specs.CertRecord.{CertRecord}
+use Rattle.totem_certificate.specs.CertText.{cert_text}
 use Rattle.totem_cluster.specs.IoFaults.{cert_io_fault, write_io_fault}
 use Rattle.totem_cluster.specs.AuditIo.{IsWhole, Audits}
 use Rattle.totem_explain.specs.declared.no.ExplainedNo.{ExplainedNo}

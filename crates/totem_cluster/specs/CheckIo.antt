@@ -12,13 +12,13 @@ use Rattle.totem_evs.specs.RunText.{run_text}
 use Rattle.totem_evs.specs.Missing.{EachHasLog, all_members}
 use Rattle.totem_evs.specs.Reading.{ReadsRun, FitsRun}
 use Rattle.totem_evs.specs.Certificates.{Certified}
-use Rattle.totem_cert.specs.declared.certificate.Certificate.{Certificate}
-use Rattle.totem_cert.specs.declared.cert_fault.CertFault.{CertFault}
-use Rattle.totem_cert.specs.declared.cert_fault.CertFault.TheVariants as cert_faults
-use Rattle.totem_cert.specs.CertRecord.{CertRecord}
-use Rattle.totem_cert.specs.Keeping.{IsCertificateOf}
-use Rattle.totem_cert.specs.CertText.{cert_text}
-use Rattle.totem_cert.specs.Reading.{ReadsCert, IsRead}
+use Rattle.totem_certificate.specs.declared.certificate.Certificate.{Certificate}
+use Rattle.totem_certificate.specs.declared.cert_fault.CertFault.{CertFault}
+use Rattle.totem_certificate.specs.declared.cert_fault.CertFault.TheVariants as cert_faults
+use Rattle.totem_certificate.specs.CertRecord.{CertRecord}
+use Rattle.totem_certificate.specs.Keeping.{IsCertificateOf}
+use Rattle.totem_certificate.specs.CertText.{cert_text}
+use Rattle.totem_certificate.specs.Reading.{ReadsCert, IsRead}
 use Rattle.totem_check.specs.declared.accepted.Accepted.{Accepted}
 use Rattle.totem_check.specs.declared.check_fault.CheckFault.{CheckFault}
 use Rattle.totem_check.specs.declared.check_fault.CheckFault.TheVariants as check_faults

@@ -10,9 +10,9 @@ use Rattle.totem_evs.specs.declared.run_fault.RunFault.{RunFault}
 use Rattle.totem_evs.specs.declared.run_fault.RunFault.TheVariants as run_faults
 use Rattle.totem_evs.specs.RunText.{line}
 use Rattle.totem_evs.specs.RunFaults.{fault_number, fault_name}
-use Rattle.totem_cert.specs.declared.cert_fault.CertFault.{CertFault}
-use Rattle.totem_cert.specs.declared.cert_fault.CertFault.TheVariants as cert_faults
-use Rattle.totem_cert.specs.CertFaults.{fault_number as cert_fault_number, fault_name as cert_fault_name}
+use Rattle.totem_certificate.specs.declared.cert_fault.CertFault.{CertFault}
+use Rattle.totem_certificate.specs.declared.cert_fault.CertFault.TheVariants as cert_faults
+use Rattle.totem_certificate.specs.CertFaults.{fault_number as cert_fault_number, fault_name as cert_fault_name}
 use Rattle.totem_check.specs.CheckFaults.{fault_number as check_fault_number, fault_name as check_fault_name}
 use Rattle.totem_script.specs.declared.script_fault.ScriptFault.{ScriptFault}
 use Rattle.totem_script.specs.declared.script_fault.ScriptFaultKind.{ScriptFaultKind}

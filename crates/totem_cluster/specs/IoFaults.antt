@@ -1,8 +1,8 @@
 -- The faults of calls from stream to stream.
 use Rattle.totem_evs.specs.declared.run_fault.RunFault.{RunFault}
 use Rattle.totem_evs.specs.declared.run_fault.RunFault.TheVariants as run_faults
-use Rattle.totem_cert.specs.declared.cert_fault.CertFault.{CertFault}
-use Rattle.totem_cert.specs.declared.cert_fault.CertFault.TheVariants as cert_faults
+use Rattle.totem_certificate.specs.declared.cert_fault.CertFault.{CertFault}
+use Rattle.totem_certificate.specs.declared.cert_fault.CertFault.TheVariants as cert_faults
 use Rattle.totem_evs.specs.declared.writing.WriteFault.{WriteFault}
 use Rattle.totem_evs.specs.declared.writing.WriteFault.TheVariants as write_faults
 use Rattle.totem_threads.specs.declared.fault.ThreadsFault.{ThreadsFault}

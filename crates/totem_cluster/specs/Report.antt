@@ -9,8 +9,8 @@ use Rattle.totem_evs.specs.declared.pending.Waiting.{Waiting}
 use Rattle.totem_evs.specs.ReportText.{fault_text, pending_text, waiting_text}
 use Rattle.totem_evs.specs.RunText.{line}
 use Rattle.totem_evs.specs.Answers.{Answer, Yes, No}
-use Rattle.totem_cert.specs.Keeping.{certificate_version}
-use Rattle.totem_cert.specs.CertText.{cert_text}
+use Rattle.totem_certificate.specs.Keeping.{certificate_version}
+use Rattle.totem_certificate.specs.CertText.{cert_text}
 
 -- a no: a line for each fault
 abbrev pub no_text : Version → List Fault → List ℕ

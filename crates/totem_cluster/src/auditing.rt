@@ -4,7 +4,7 @@ ghost use Rattle.totem_ids.specs.Sources.{seen};
 ghost use Rattle.totem_ids.specs.Writing.{held};
 ghost use Rattle.totem_evs.specs.Answers.{IsAnswered};
 ghost use Rattle.totem_evs.specs.Meanings.{IsSound};
-ghost use Rattle.totem_cert.specs.Keeping.{certificate_version};
+ghost use Rattle.totem_certificate.specs.Keeping.{certificate_version};
 ghost use Rattle.totem_audit.specs.Verdicts.{answer_of, HasVersion};
 ghost use Rattle.totem_cluster.specs.AuditIo.{Audits, ReadsWhole, Says};
 

@@ -7,7 +7,7 @@ ghost use Rattle.totem_evs.specs.SpecNo.{spec_text};
 ghost use Rattle.totem_evs.specs.ReportText.{places_text, fault_text};
 ghost use Rattle.totem_evs.specs.RunText.{line};
 ghost use Rattle.totem_evs.specs.WriteRun.{WritesText};
-ghost use Rattle.totem_cert.specs.Keeping.{certificate_version};
+ghost use Rattle.totem_certificate.specs.Keeping.{certificate_version};
 ghost use Rattle.totem_audit.specs.Verdicts.{answer_of, HasVersion};
 ghost use Rattle.totem_cluster.specs.Report.{no_text, report_text, accepted_text};
 

@@ -8,7 +8,7 @@ use Rattle.totem_evs.specs.declared.log.Log.{Log}
 use Rattle.totem_evs.specs.Events.{entry_at, IsEvent}
 use Rattle.totem_evs.specs.Steps.{SameClass}
 use Rattle.totem_evs.specs.Certificates.{Numbering, numbers_of, IsBelow, Matches, Certified}
-use Rattle.totem_cert.specs.Keeping.{IsCertificate}
+use Rattle.totem_certificate.specs.Keeping.{IsCertificate}
 use Rattle.totem_sweep.specs.Numbered.{Stands, place}
 use Rattle.totem_sweep.specs.Each.{EachPair, SomePair}
 use Rattle.totem_evs.specs.Classes.{AreOfOneClass, AreSendAndDelivery}

@@ -4,7 +4,7 @@ use Rattle.std.specs.Prelude.{OnErr}
 use Rattle.totem_evs.specs.declared.log.Log.{Log}
 use Rattle.totem_evs.specs.Certificates.{Numbering, Matches, Certified}
 use Rattle.totem_evs.proofs.LogOf.{Rising}
-use Rattle.totem_cert.specs.Keeping.{IsCertificate}
+use Rattle.totem_certificate.specs.Keeping.{IsCertificate}
 use Rattle.totem_sweep.specs.declared.certificate_fault.CertificateFault.{CertificateFault}
 use Rattle.totem_sweep.specs.declared.certificate_fault.CertificateFault.TheVariants as faults
 use Rattle.totem_sweep.specs.declared.spread.Spread.{Spread}

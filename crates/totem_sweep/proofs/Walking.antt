@@ -10,7 +10,7 @@ use Rattle.totem_evs.specs.declared.log.Log.{Log}
 use Rattle.totem_evs.specs.Runs.{IsLog, IsRun}
 use Rattle.totem_evs.specs.Certificates.{Numbering, Matches}
 use Rattle.totem_evs.proofs.LogOf.{Rising, less_or_not}
-use Rattle.totem_cert.specs.Keeping.{IsLine, IsCertificate}
+use Rattle.totem_certificate.specs.Keeping.{IsLine, IsCertificate}
 use Rattle.totem_sweep.specs.declared.walk.Head.{Head}
 use Rattle.totem_sweep.specs.Numbered.{Stands, place}
 use Rattle.totem_sweep.specs.Each.{SomePair}

@@ -14,7 +14,7 @@ use crate::sends::Sends;
 use crate::spread::Spread;
 use crate::walk::is_ordered;
 use std::alloc::{AllocError, Global};
-use totem_cert::{Certificate, Line};
+use totem_certificate::{Certificate, Line};
 use totem_evs::{Log, Run};
 
 /// Returns the first fault of numbers that rise but do not order the run, by what is known of the classes.

@@ -3,7 +3,7 @@ ghost use Rattle.std.specs.Prelude.{◌↔◌, IsTrue, MatchBool};
 ghost use Rattle.totem_evs.specs.Certificates.{Matches};
 ghost use Rattle.totem_sweep.specs.Counts.{IsLineOf};
 
-use totem_cert::Line;
+use totem_certificate::Line;
 use totem_evs::Log;
 
 fn is_line_of(log: &Log, line: &Line) -> bool

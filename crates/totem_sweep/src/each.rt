@@ -7,7 +7,7 @@ ghost use Rattle.totem_evs.specs.Runs.{IsRun};
 ghost use Rattle.totem_sweep.specs.Numbered.{EachBefore, SomeIn};
 ghost use Rattle.totem_sweep.specs.Each.{EachEvent, SomeEvent};
 
-use totem_cert::Line;
+use totem_certificate::Line;
 use totem_evs::{Entry, Log};
 use totem_ids::{Place, Proc};
 

@@ -2,7 +2,7 @@
 ghost use Rattle.std.specs.Prelude.{MatchBool, length};
 ghost use Rattle.totem_sweep.specs.Rising.{RisesBefore, FallsSomewhere, LinesRise, LineFalls};
 
-use totem_cert::Line;
+use totem_certificate::Line;
 
 fn rises(numbers: &[u32]) -> bool
     ensures { MatchBool result (RisesBefore numbers.now (length numbers.now)) (FallsSomewhere numbers.now) }

@@ -6,7 +6,7 @@ ghost use Rattle.totem_sweep.specs.Spreads.{Knows};
 use crate::class::Class;
 use crate::each::{Numbered, Question};
 use crate::spread::Spread;
-use totem_cert::Line;
+use totem_certificate::Line;
 use totem_evs::{Entry, Log};
 
 /// The question whether a send is below the deliveries of its message, of which the spread knows the least number.

@@ -9,7 +9,7 @@ ghost use Rattle.totem_sweep.specs.Spreads.{least_of, Differs, IsLeastOf, IsEnte
 use crate::class::Class;
 use std::alloc::{AllocError, Global};
 use std::collections::BTreeMap;
-use totem_cert::Line;
+use totem_certificate::Line;
 use totem_evs::Log;
 
 /// The least number of each class, and whether some class has more than one.

@@ -2,7 +2,7 @@
 ghost use Rattle.std.specs.Prelude.{◌≡◌, ◌+◌, ◌^◌, ◌<◌, ◌≤◌, MatchBool, IfSome, IfOk, OnOk, length, slice_get};
 ghost use Rattle.totem_evs.specs.Certificates.{Matches};
 ghost use Rattle.totem_evs.specs.Runs.{IsRun};
-ghost use Rattle.totem_cert.specs.Keeping.{IsCertificate};
+ghost use Rattle.totem_certificate.specs.Keeping.{IsCertificate};
 ghost use Rattle.totem_sweep.specs.Each.{SomePair};
 ghost use Rattle.totem_sweep.specs.Kinds.{NumberIsOwn, NumberIsShared};
 ghost use Rattle.totem_sweep.specs.Numbered.{Stands};
@@ -13,7 +13,7 @@ use crate::class::Class;
 use crate::each::Numbered;
 use std::alloc::{AllocError, Global};
 use std::collections::BTreeSet;
-use totem_cert::Line;
+use totem_certificate::Line;
 use totem_evs::{Entry, Log};
 use totem_ids::Place;
 

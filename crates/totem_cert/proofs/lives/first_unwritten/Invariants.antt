@@ -1,6 +1,0 @@
-use Rattle.std.proofs.Common.{All, take}
-use Rattle.totem_cert.specs.CertLives.{HasFirstLife}
-use Rattle.totem_cert.proofs.lives.first_unwritten.Given as goal
-
-abbrev pub invariant-loop-at : goal.invariant-loop-at
-invariant-loop-at l = All HasFirstLife (take l.at l.lines)

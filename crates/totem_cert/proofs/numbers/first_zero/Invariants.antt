@@ -1,6 +1,0 @@
-use Rattle.std.proofs.Common.{All, take}
-use Rattle.totem_cert.specs.Keeping.{IsNumber}
-use Rattle.totem_cert.proofs.numbers.first_zero.Given as goal
-
-abbrev pub invariant-loop-at : goal.invariant-loop-at
-invariant-loop-at l = All IsNumber (take l.at l.list)

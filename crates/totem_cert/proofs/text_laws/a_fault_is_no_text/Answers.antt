@@ -1,5 +1,0 @@
-use Rattle.totem_cert.proofs.SpelledCert.{no_cert}
-use Rattle.totem_cert.proofs.text_laws.a_fault_is_no_text.Goals as goal
-
-pub returns : goal.returns
-returns c = no_cert

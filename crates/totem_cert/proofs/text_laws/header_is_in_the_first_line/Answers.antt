@@ -1,5 +1,0 @@
-use Rattle.totem_cert.proofs.CertParts.{header_exactly}
-use Rattle.totem_cert.proofs.text_laws.header_is_in_the_first_line.Goals as goal
-
-pub returns : goal.returns
-returns c = header_exactly

@@ -1,5 +1,0 @@
-use Rattle.totem_cert.proofs.SpelledCert.{cert_is}
-use Rattle.totem_cert.proofs.text_laws.read_is_spelled.Goals as goal
-
-pub returns : goal.returns
-returns c = cert_is

@@ -1,5 +1,0 @@
-use Rattle.totem_cert.proofs.RestFaults.{word_is_the_rest}
-use Rattle.totem_cert.proofs.text_laws.word_is_the_rest.Goals as goal
-
-pub returns : goal.returns
-returns c = word_is_the_rest

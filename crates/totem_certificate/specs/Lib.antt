@@ -1,0 +1,9 @@
+pub mod CertRecord
+pub mod Keeping
+pub mod CertLives
+pub mod CertText
+pub mod CertGrammar
+pub mod CertFronts
+pub mod CertFaults
+pub mod CertPlaces
+pub mod Reading

@@ -1,0 +1,78 @@
+//! The reader of certificates.
+ghost use Rattle.totem_ids.specs.Sources.{Reads, seen};
+ghost use Rattle.totem_certificate.specs.CertGrammar.{numbers_at, lines_at, cert_at};
+ghost use Rattle.totem_certificate.specs.Reading.{ReadsCert};
+
+use crate::cert_fault::CertFault;
+use crate::certificate::Certificate;
+use crate::form::CertText;
+use crate::line::Line;
+use crate::lines::Lines;
+use crate::numbers::Numbers;
+use std::alloc::Global;
+use totem_evs::{read_head, read_header};
+use totem_ids::{ReadError, Source, TextFault, Version, number};
+
+// Numbers up to the line end.
+fn read_numbers<S: Source>(alloc: Global, source: &mut S) -> Result<Numbers, ReadError>
+    ensures { Reads (seen S.remaining S.failures source.old)
+        (seen S.remaining S.failures source.new) result (numbers_at 1000000) }
+{
+    let mut list = Vec::new(alloc);
+    for _ in 0..1_000_000u32 {
+        let (number, byte) = number(source, u32::MAX)?;
+        list.push(number)?;
+        if byte == b'\n' {
+            return Ok(Numbers::of(list));
+        }
+        if byte != b' ' {
+            return Err(ReadError::Text(TextFault::Word));
+        }
+    }
+    Err(ReadError::Text(TextFault::TooMany))
+}
+
+// Lines up to the last one.
+fn read_lines<S: Source>(
+    alloc: Global,
+    source: &mut S,
+    version: Version,
+) -> Result<Lines, ReadError>
+    ensures { Reads (seen S.remaining S.failures source.old)
+        (seen S.remaining S.failures source.new) result (lines_at version 33 0) }
+{
+    let mut lines = Vec::new(alloc);
+    let mut last = 0u32;
+    'lines: for count in 0..33u32 {
+        match read_head::<CertText, S>(source, version, count == 32, last)? {
+            None => return Ok(Lines::of(lines)),
+            Some(proc) => {
+                let numbers = read_numbers(alloc, source)?;
+                let line = Line { proc, numbers };
+                line.keeps_its_rules();
+                lines.push(line)?;
+                last = proc.rank();
+            }
+        }
+    }
+    Err(ReadError::Text(TextFault::TooMany))
+}
+
+// A certificate, from its first line on.
+fn read_text<S: Source>(alloc: Global, source: &mut S) -> Result<Certificate, ReadError>
+    ensures { Reads (seen S.remaining S.failures source.old)
+        (seen S.remaining S.failures source.new) result cert_at }
+{
+    let version = read_header::<CertText, S>(source)?;
+    let lines = read_lines(alloc, source, version)?;
+    Ok(Certificate { version, lines })
+}
+
+/// Reads a certificate from the first byte to the line `end`, and leaves unread what follows.
+pub fn read_cert<S: Source>(alloc: Global, source: &mut S) -> Result<Certificate, CertFault>
+    ensures { ReadsCert (seen S.remaining S.failures source.old)
+        (seen S.remaining S.failures source.new) result }
+{
+    let certificate = read_text(alloc, source)?;
+    Ok(certificate)
+}
