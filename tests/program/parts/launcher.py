@@ -15,10 +15,13 @@ REPOSITORY = os.path.dirname(os.path.dirname(os.path.dirname(os.path.dirname(os.
 STAND_IN = os.path.join(REPOSITORY, 'tests', 'harness', 'rt_stand_in')
 LOGIC = next(line.partition('=')[2].strip() for line in open(os.path.join(REPOSITORY, 'totem'), encoding='utf-8')
              if line.startswith('logic='))
-CRATES = 'low: itoa\nhigh: low\ntotem: low high\n# A crate that no program stands on.\nother: low\n'
-# What the stand-in builds: it tells its words and its input, and ends with a status that nothing else here has.
-PROGRAM = '#!/bin/sh\necho "proved $*"\ncat\nexit 9\n'
+CRATES = 'low: itoa\ntotem_auditor: low\nhigh: low\ntotem: low high\n# A crate that no program stands on.\nother: low\n'
+# What the stand-in builds: it tells its name, its words and its input, and ends with a status that nothing else here has.
+PROGRAM = '#!/bin/sh\necho "${0##*/} $*"\ncat\nexit 9\n'
 ANSWERED = 'a line of the program\nchecked: ended status=1\nraces: not looked for\nrun=ended status=1 runners=1 races=unchecked proved=no\n'
+# Words that the auditor alone answers, and those that want the whole program.
+FOR_AUDITOR = (['audit', '--workers', '2'], ['check'], ['explain', '--svg'], ['help', 'run'], ['--version'], ['sim', '--help'], ['no-verb'])
+FOR_WHOLE = (['sim'], ['run', '--nodes', '3'], ['explain', '--script'])
 SECONDS = 30
 
 
@@ -31,16 +34,16 @@ class Scene:
         for it in (self.stand_in, os.path.join(folder, 'bin'), os.path.join(folder, 'room')):
             os.mkdir(it)
         os.makedirs(os.path.join(self.top, 'tools'))
-        for it in ('totem', 'tools/prove', 'HANDLES'):
+        for it in ('totem', 'tools/prove', 'tools/release', 'HANDLES'):
             shutil.copy(os.path.join(REPOSITORY, it), os.path.join(self.top, it))
         shutil.copy(STAND_IN, os.path.join(folder, 'bin', 'rt'))
         self.write('crates.txt', CRATES)
-        for name in ('low', 'high', 'totem', 'other'):
+        for name in ('low', 'totem_auditor', 'high', 'totem', 'other'):
             self.write('crates/%s/src/lib.rt' % name, 'fn f() {}\n')
         self.say(version='rattle-kit-0 logic %s\n' % LOGIC, built=PROGRAM, tried=ANSWERED, **{'tried-output': 'verdict no\n'})
         paths = [os.path.join(folder, 'bin'), os.path.dirname(sys.executable), '/usr/bin', '/bin']
         self.environment = {**process.ENVIRONMENT, 'PATH': ':'.join(paths), 'STAND_IN': self.stand_in,
-                            'TMPDIR': os.path.join(folder, 'room'), 'TOTEM_MEMORY_MB': '1', 'TOTEM_DISK_MB': '1'}
+                            'TMPDIR': os.path.join(folder, 'room'), 'TOTEM_MEMORY_MB': '1', 'TOTEM_DISK_MB': '1', 'TOTEM_AHEAD_MB': '999999999'}
 
     def write(self, path, text):
         """Writes a file of the repository."""
@@ -71,6 +74,11 @@ class Scene:
     def run(self, *words, **environment):
         """Runs the launcher to its end."""
         return end(self.start(*words, **environment))
+
+    def run_tool(self, name, *words):
+        """Runs one of the tools to its end."""
+        return end(subprocess.Popen([os.path.join(self.top, 'tools', name), *words], stdin=subprocess.PIPE, stdout=subprocess.PIPE,
+                                    stderr=subprocess.PIPE, env=self.environment, start_new_session=True))
 
     def is_slow_at(self):
         """Waits until the stand-in is at the crate that it takes long for. Its process."""
@@ -111,7 +119,8 @@ def differs(came, status, output, *parts):
     return None if (came.status, came.output) == (status, output.encode()) else 'came: %s' % came
 
 
-PROVED = 'proved audit\nthe input\n'
+AUDITED, MADE = 'totem_auditor audit\nthe input\n', 'totem run\nthe input\n'
+WHOLE = 'totem audit\nthe input\n'
 
 
 # ---- the first look
@@ -136,12 +145,16 @@ def look_at_refusal(said, _program):
 
 
 def look_at_proved(_program):
-    """Where the proved program is there, `try` runs it, and nothing else."""
+    """Where a proved program is there that answers these words, `try` runs it, and nothing else."""
     with scene() as it:
-        it.run('prove')
+        it.run('audit')
         calls = it.told('calls')
         came = it.run('try', 'audit')
-        return differs(came, 9, PROVED) or (came.errors or it.told('calls') != calls) and 'more was done: %s' % came
+        wrong = differs(came, 9, AUDITED) or (came.errors or it.told('calls') != calls) and 'more was done: %s' % came
+        if wrong or differs(it.run('try', 'run'), 1, 'verdict no\n', 'totem: NOT PROVED', 'totem: NOT PROVED'):
+            return wrong or 'the auditor makes no run'
+        it.run('prove')
+        return differs(it.run('try', 'audit'), 9, WHOLE) or differs(it.run('try', 'run'), 9, MADE)
 
 
 # ---- the proved build
@@ -149,23 +162,30 @@ def look_at_proved(_program):
 def build_first(_program):
     """The first line names the first look; each crate has a line; the program gets words and streams."""
     with scene() as it:
-        wrong = differs(it.run('audit'), 9, PROVED, '3 crates', './totem try', '1 of 3 proved: low', '2 of 3 proved: high', '3 of 3 proved: totem')
+        wrong = differs(it.run('run'), 9, MADE, '3 crates', './totem try', '1 of 3 proved: low', '2 of 3 proved: high', '3 of 3 proved: totem')
         calls = it.told('calls')
         again = it.run('audit')
-        if wrong or again.errors or it.told('calls') != calls or os.listdir(it.environment['TMPDIR']):
+        if wrong or differs(again, 9, WHOLE) or again.errors or it.told('calls') != calls or os.listdir(it.environment['TMPDIR']):
             return wrong or 'a second call did more: %s' % again
     return None
+
+
+def build_auditor(words, is_enough, _program):
+    """The auditor is proved where it answers these words, else the whole program."""
+    with scene() as it:
+        name = 'totem_auditor' if is_enough else 'totem'
+        return differs(it.run(*words), 9, '%s\nthe input\n' % ' '.join([name, *words]), '%d crates' % (2 if is_enough else 3), 'proved: ' + name)
 
 
 def build_after_change(_program):
     """A source that is newer has all proved again; one of a crate that the program does not stand on has not."""
     with scene() as it:
-        it.run('prove')
-        it.write('crates/other/src/lib.rt', 'fn g() {}\n')
-        if it.told('calls').count('ci') != 1 or differs(it.run('audit'), 9, PROVED) or it.told('calls').count('ci') != 1:
+        it.run('audit')
+        it.write('crates/high/src/lib.rt', 'fn g() {}\n')
+        if it.told('calls').count('ci') != 1 or differs(it.run('audit'), 9, AUDITED) or it.told('calls').count('ci') != 1:
             return 'a crate that the program does not stand on was proved'
         it.write('crates/low/src/lib.rt', 'fn g() {}\n')
-        return differs(it.run('audit'), 9, PROVED, '3 of 3') or (it.told('calls').count('ci') != 2 and 'nothing was proved again')
+        return differs(it.run('audit'), 9, AUDITED, '2 of 2') or (it.told('calls').count('ci') != 2 and 'nothing was proved again')
 
 
 def build_anew(_program):
@@ -177,14 +197,14 @@ def build_anew(_program):
 
 
 def build_refused(_program):
-    """A crate that is not proved ends it at once, with the last lines, and no program is there, old or new."""
+    """A crate that is not proved ends it at once, with the last lines, and no program answers, old or new."""
     with scene() as it:
         it.run('prove')
         it.write('crates/high/src/lib.rt', 'fn g() {}\n')
         it.say(kept='', refused='high\n')
-        wrong = differs(it.run('audit'), 70, '', '1 of 3 proved: low', 'what is wrong with high', 'totem: high was not proved')
+        wrong = differs(it.run('run'), 70, '', '1 of 3 proved: low', 'what is wrong with high', 'totem: high was not proved')
         it.say(refused='')
-        return wrong or differs(it.run('audit'), 9, PROVED, 'low, earlier', '3 of 3')
+        return wrong or differs(it.run('run'), 9, MADE, 'low, earlier', '3 of 3')
 
 
 def build_none(_program):
@@ -198,27 +218,38 @@ def build_interrupted(_program):
     """An interrupt ends `rt` too, leaves no program, and the next call goes on from what is kept."""
     with scene() as it:
         it.say(slow='high\n', seconds='60')
-        started = it.start('audit')
+        started = it.start('run')
         slow = it.is_slow_at()
         os.killpg(started.pid, signal.SIGINT)
         wrong = differs(end(started), 130, '', 'totem: interrupted: 1 of 3')
         if wrong or os.path.exists(it.program) or os.path.exists('/proc/%d' % slow) or os.listdir(it.environment['TMPDIR']):
             return wrong or 'something was left'
         it.say(slow='')
-        return differs(it.run('audit'), 9, PROVED, '1 of 3 proved: low, earlier', '3 of 3')
+        return differs(it.run('run'), 9, MADE, '1 of 3 proved: low, earlier', '3 of 3')
 
 
 def build_twice_at_once(_program):
     """The second call says that it waits, proves nothing, and answers by the program of the first."""
     with scene() as it:
         it.say(slow='high\n', seconds='2')
-        first = it.start('audit')
+        first = it.start('run')
         it.is_slow_at()
-        second = it.start('audit')
-        wrong = differs(end(first), 9, PROVED, '3 of 3')
+        second = it.start('run')
+        wrong = differs(end(first), 9, MADE, '3 of 3')
         came = end(second)
-        wrong = wrong or differs(came, 9, PROVED, 'totem: another call is proving here; waiting')
+        wrong = wrong or differs(came, 9, MADE, 'totem: another call is proving here; waiting')
         return wrong or (it.told('calls').count('ci') != 1 and 'both proved')
+
+
+def build_ahead(kept, _program):
+    """A second run goes ahead on the chain: the crates that it proved are told once, and where nothing is shared it is ended."""
+    with scene() as it:
+        it.say(**kept)
+        came = it.run('run', TOTEM_AHEAD_MB='1')
+        wrong = differs(came, 9, MADE, '1 of 3 proved: low', '2 of 3 proved: high', '3 of 3 proved: totem')
+        if wrong or came.errors.count(b'proved: ') != 3 or it.told('calls').count('ci') != 2:
+            return wrong or 'came: %s, and rt was called so: %r' % (came, it.told('calls'))
+        return b'earlier' in came.errors and 'nothing is from earlier: %s' % came
 
 
 def build_changed_meanwhile(_program):
@@ -230,7 +261,7 @@ def build_changed_meanwhile(_program):
         it.write('crates/low/src/lib.rt', 'fn g() {}\n')
         end(first)
         it.say(slow='')
-        return differs(it.run('audit'), 9, PROVED, '3 of 3 proved')
+        return differs(it.run('run'), 9, MADE, '3 of 3 proved')
 
 
 # ---- what stops both
@@ -263,6 +294,33 @@ def stop_at_word(_program):
         return differs(it.run('audit', TOTEM_DISK_MB='many'), 70, '', 'TOTEM_DISK_MB=many is no number')
 
 
+# ---- a release
+
+def release(_program):
+    """The archive has the program, the examples, the lines of what was proved, and sums that are right."""
+    with scene() as it:
+        it.write('examples/first.run', 'totem-run 1\nend\n')
+        # (`strip` takes no script)
+        strip = os.path.join(os.path.dirname(it.stand_in), 'bin', 'strip')
+        with open(strip, 'w', encoding='ascii') as file:
+            file.write('#!/bin/sh\ncp "$4" "$3"\n')
+        os.chmod(strip, 0o755)
+        it.say(built='#!/bin/sh\necho totem 1.2.3\n', kept='low\n')
+        folder = os.path.join(it.top, 'released')
+        came = it.run_tool('release', folder)
+        name = 'totem-1.2.3-x86_64-linux'
+        wrong = differs(came, 0, os.path.join(folder, name + '.tar.gz') + '\n', '3 of 3 proved')
+        if wrong or it.told('calls')[-2:] != ['ci --anew', 'version']:
+            return wrong or 'rt was called so: %r' % it.told('calls')
+        took = subprocess.run('sha256sum -c --quiet %s.tar.gz.sha256 && tar xzf %s.tar.gz && cd %s && sha256sum -c --quiet SHA256SUMS && '
+                              './totem && cat PROVED.txt && cat examples/first.run' % (name, name, name), shell=True, cwd=folder,
+                              env=it.environment, capture_output=True, text=True, check=False)
+        lines = took.stdout.splitlines()
+        wanted = ['%s: logic=proved functions=1' % crate for crate in ('low', 'high', 'totem')]
+        is_right = lines[0] == 'totem 1.2.3' and lines[4:7] == wanted and lines[-2:] == ['totem-run 1', 'end'] and not took.returncode
+        return None if is_right else 'it has: %r' % took
+
+
 def launcher():
     """The launcher's words, refusals and builds."""
     yield 'the first look', look_first
@@ -271,12 +329,18 @@ def launcher():
         yield 'the first look, ' + what, partial(look_at_refusal, said)
     yield 'the first look, where the proved program is there', look_at_proved
     yield 'the first build', build_first
+    for words in FOR_AUDITOR:
+        yield 'the auditor first: ' + ' '.join(words), partial(build_auditor, words, True)
+    for words in FOR_WHOLE:
+        yield 'the whole program: ' + ' '.join(words), partial(build_auditor, words, False)
     yield 'a build after a change', build_after_change
     yield 'a build that takes nothing', build_anew
     yield 'a crate that is not proved', build_refused
     yield 'no program', build_none
     yield 'an interrupt', build_interrupted
     yield 'two calls at once', build_twice_at_once
+    yield 'a run ahead', partial(build_ahead, {})
+    yield 'a run ahead, and nothing is shared', partial(build_ahead, {'alone': '', 'slow': 'totem\n', 'seconds': '1'})
     yield 'a change meanwhile', build_changed_meanwhile
     for words in (['audit'], ['try', 'audit'], ['prove']):
         yield 'no rt, ' + ' '.join(words), partial(stop_without_rt, words)
@@ -285,3 +349,4 @@ def launcher():
     yield 'too little memory', partial(stop_for_want, 'TOTEM_MEMORY_MB', 'memory')
     yield 'too little disk', partial(stop_for_want, 'TOTEM_DISK_MB', 'disk')
     yield 'a want that is no number', stop_at_word
+    yield 'a release', release
