@@ -281,17 +281,17 @@ def stop_at_kit(words, version, _program):
         return differs(came, 70, '', LOGIC, version.strip() or 'nothing') or (it.told('calls') != ['version'] and 'rt did more')
 
 
-def stop_for_want(name, what, _program):
+def stop_for_want(words, name, what, _program):
     """Too little memory or disk is told, with how much there is and is wanted."""
     with scene() as it:
-        came = it.run('audit', **{name: '999999999'})
-        return differs(came, 70, '', 'totem: too little ' + what, 'MB are free', '999999999') or ('ci' in it.told('calls') and 'it was begun')
+        came = it.run(*words, **{name: '999999999'})
+        return differs(came, 70, '', 'totem: too little ' + what, 'MB are free', '999999999') or (it.told('calls') != ['version'] and 'it was begun')
 
 
-def stop_at_word(_program):
+def stop_at_word(words, name, _program):
     """A want that is no number is refused."""
     with scene() as it:
-        return differs(it.run('audit', TOTEM_DISK_MB='many'), 70, '', 'TOTEM_DISK_MB=many is no number')
+        return differs(it.run(*words, **{name: 'many'}), 70, '', name + '=many is no number')
 
 
 # ---- a release
@@ -346,7 +346,9 @@ def launcher():
         yield 'no rt, ' + ' '.join(words), partial(stop_without_rt, words)
         yield 'another logic, ' + ' '.join(words), partial(stop_at_kit, words, 'rattle-kit-9 logic 0123456789abcdef\n')
     yield 'a kit that says nothing', partial(stop_at_kit, ['audit'], '')
-    yield 'too little memory', partial(stop_for_want, 'TOTEM_MEMORY_MB', 'memory')
-    yield 'too little disk', partial(stop_for_want, 'TOTEM_DISK_MB', 'disk')
-    yield 'a want that is no number', stop_at_word
+    for words in (['audit'], ['try', 'audit']):
+        yield 'too little memory, ' + ' '.join(words), partial(stop_for_want, words, 'TOTEM_MEMORY_MB', 'memory')
+        yield 'a want that is no number, ' + ' '.join(words), partial(stop_at_word, words, 'TOTEM_MEMORY_MB')
+    yield 'too little disk', partial(stop_for_want, ['audit'], 'TOTEM_DISK_MB', 'disk')
+    yield 'a disk that is no number', partial(stop_at_word, ['audit'], 'TOTEM_DISK_MB')
     yield 'a release', release
