@@ -1,18 +1,23 @@
 """The auditor alone, asked what the whole program is asked."""
 import os
+import tempfile
 from functools import partial
 
 from harness import process
 from harness import rows as row_files
 
 REPOSITORY = os.path.dirname(os.path.dirname(os.path.dirname(os.path.dirname(os.path.abspath(__file__)))))
-AUDITOR = os.path.join(REPOSITORY, 'crates', 'totem_auditor', 'out', 'totem_auditor')
+BUILT = os.path.join(REPOSITORY, 'crates', 'totem_auditor', 'out', 'totem_auditor')
+# Help tells the name by which a program is called, so it is called by that of the whole one, as `./totem` does.
+ROOM = tempfile.TemporaryDirectory()
+AUDITOR = os.path.join(ROOM.name, 'totem')
+os.symlink(BUILT, AUDITOR)
 LACKING = process.Answer(64, b'', b'totem: this is the auditor alone: sim, run and explain --script want the whole program\n')
 
 
 def asks_for_run(words):
     """Whether these words, if they are right, ask for a run or a script."""
-    return words[:1] in (('sim',), ('run',)) or (words[:1] == ('explain',) and '--script' in words)
+    return '--help' not in words and (words[:1] in (('sim',), ('run',)) or (words[:1] == ('explain',) and '--script' in words))
 
 
 def try_words(words, given, program):
@@ -21,8 +26,7 @@ def try_words(words, given, program):
     if asks_for_run(words) and came == LACKING:
         return None
     wanted, _ = process.run([program, *words], given)
-    is_right = came == wanted and (wanted.status == 64 or not asks_for_run(words))
-    return None if is_right else 'came:   %s\n  wanted: %s' % (came, LACKING if asks_for_run(words) else wanted)
+    return None if came == wanted else 'came:   %s\n  wanted: %s' % (came, LACKING if asks_for_run(words) else wanted)
 
 
 def try_lacking(words, _program):
@@ -33,8 +37,8 @@ def try_lacking(words, _program):
 
 def auditor():
     """The words and the input of each row, help for each verb, and the words that ask for a run."""
-    if not os.access(AUDITOR, os.X_OK):
-        yield 'it is there', lambda _program: '%s is not there: `rt ci` builds it' % AUDITOR
+    if not os.access(BUILT, os.X_OK):
+        yield 'it is there', lambda _program: '%s is not there: `rt ci` builds it' % BUILT
         return
     for name in row_files.names():
         for row in row_files.read_asked(name):
