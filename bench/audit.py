@@ -5,7 +5,7 @@ For each family and each size it makes a run, lets the program judge it, and pri
 wall time of a few tries, the peak memory, what that is for an entry, and how often the time of the size before it was needed.
 A family whose time grows much faster than its entries is a defect.
 
-    ./totem help > /dev/null                       # proves and builds the program, once
+    ./totem prove                                  # proves and builds the program, once
     bench/audit.py                                 # the table
     bench/audit.py --families well8,fails --sizes 10000,40000,160000
     bench/audit.py --workers 4                     # the last pass by four threads
@@ -284,7 +284,7 @@ def main():
         sys.stdout.write(text_of(FAMILIES[arguments.write][1](random.Random(arguments.seed), arguments.sizes[0])))
         return
     if not os.access(arguments.program, os.X_OK):
-        parser.error(f"{arguments.program} is not built: ./totem help builds it")
+        parser.error(f"{arguments.program} is not built: ./totem prove builds it")
     print("| Run | Entries | Verdict | Time | Peak memory | Bytes an entry | Times the time, for times the entries |")
     print("|---|---|---|---|---|---|---|")
     for name in names:

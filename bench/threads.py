@@ -4,7 +4,7 @@
 It prints a line for each of these words: the least, the middle and the greatest share of several seeds, and the most time and
 memory. Which run comes out is open, also where the seed is the same.
 
-    ./totem help > /dev/null                          # proves and builds the program, once
+    ./totem prove                                      # proves and builds the program, once
     bench/threads.py                                  # the table
     bench/threads.py --seeds 1                        # one run for each line
     taskset -c 0,1 bench/threads.py                   # on two cores
@@ -117,7 +117,7 @@ def main():
     parser.add_argument("--keep", type=Path, help="a folder for the runs whose verdict is no")
     arguments = parser.parse_args()
     if not os.access(arguments.program, os.X_OK):
-        parser.error(f"{arguments.program} is not built: ./totem help builds it")
+        parser.error(f"{arguments.program} is not built: ./totem prove builds it")
     print("| `totem run` | Sent (middle) | Delivered by all (least, middle, most) | Rings | Verdicts | Time | Peak memory |")
     print("|---|---|---|---|---|---|---|")
     for words in arguments.words or WORDS:

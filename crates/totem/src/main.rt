@@ -4,34 +4,14 @@
 mod progress_line;
 
 use progress_line::ProgressLine;
-use std::alloc::{AllocError, Global};
-use std::env::Args;
-use std::io;
 use std::io::IsTerminal;
 use std::process::ExitCode;
-use totem_cluster::{IoFault, program_with_progress, tell_fault};
+use totem_cluster::program_with_progress;
 use totem_ids::{Buffered, Sink, ToWrite};
+use totem_verdicts::{VerdictFault, listed, no_words, tell_fault};
 
 fn out_of_memory<E: Sink>(errors: &mut E) -> ExitCode {
-    ExitCode::from(tell_fault(errors, &IoFault::Memory))
-}
-
-/// Answers words that are no text, or for which there was no memory.
-fn no_words<E: Sink>(error: &io::Error, errors: &mut E) -> ExitCode {
-    if error.kind() == io::ErrorKind::OutOfMemory {
-        return out_of_memory(errors);
-    }
-    let _ = errors.put(b"totem: the words are no UTF-8\n");
-    ExitCode::from(64)
-}
-
-/// Returns the words in a list. (`collect` would ask again for less where it is refused its first growth.)
-fn listed(alloc: Global, words: Args) -> Result<Vec<String>, AllocError> {
-    let mut list = Vec::new(alloc);
-    for word in words {
-        list.push(word)?;
-    }
-    Ok(list)
+    ExitCode::from(tell_fault(errors, &VerdictFault::Memory))
 }
 
 fn main(rt: HostRuntime) -> ExitCode {
@@ -39,7 +19,7 @@ fn main(rt: HostRuntime) -> ExitCode {
     let mut errors = ToWrite::new(rt.stderr());
     let words = match std::env::args(&rt) {
         Ok(words) => words,
-        Err(error) => return no_words(&error, &mut errors),
+        Err(error) => return ExitCode::from(no_words(&error, &mut errors)),
     };
     let Ok(words) = listed(alloc, words) else {
         return out_of_memory(&mut errors);

@@ -1,43 +1,12 @@
 -- Lines for the stream of errors.
-use Rattle.std.proofs.Common.{◌≡◌, ◌++◌, codes, refl}
-use Rattle.totem_evs.specs.declared.run_fault.RunFault.{RunFault}
-use Rattle.totem_evs.specs.declared.run_fault.RunFault.TheVariants as run_faults
+use Rattle.std.proofs.Common.{◌≡◌, codes, refl}
 use Rattle.totem_evs.specs.RunText.{line}
-use Rattle.totem_evs.specs.RunFaults.{fault_number, fault_name}
 use Rattle.totem_script.specs.declared.script_fault.ScriptFault.{ScriptFault}
 use Rattle.totem_script.specs.declared.script_fault.ScriptFaultKind.{ScriptFaultKind}
 use Rattle.totem_script.specs.declared.script_fault.ScriptFaultKind.TheVariants as script_faults
 use Rattle.totem_script.specs.ScriptFaults.{fault_number as script_fault_number, fault_name as script_fault_name}
-use Rattle.totem_certificate.specs.declared.cert_fault.CertFault.{CertFault}
-use Rattle.totem_certificate.specs.declared.cert_fault.CertFault.TheVariants as cert_faults
-use Rattle.totem_certificate.specs.CertFaults.{fault_number as cert_fault_number, fault_name as cert_fault_name}
-use Rattle.totem_cluster.specs.Endings.{refusal_text, missing_text, run_line, cert_line, script_line, script_line_of}
-
-pub run_not_read : (fault : RunFault) → (fault ≡ run_faults.Read → ⊥)
-    → line (refusal_text (codes "totem: run refused: ") (fault_number fault) (fault_name fault) ++ missing_text fault) ≡ run_line fault
-run_not_read run_faults.Header no_read = refl
-run_not_read run_faults.Word no_read = refl
-run_not_read run_faults.Number no_read = refl
-run_not_read run_faults.Order no_read = refl
-run_not_read run_faults.Members no_read = refl
-run_not_read run_faults.End no_read = refl
-run_not_read run_faults.Truncated no_read = refl
-run_not_read run_faults.TooMany no_read = refl
-run_not_read (run_faults.MissingLog p) no_read = refl
-run_not_read run_faults.Read no_read = absurd (no_read refl)
-run_not_read run_faults.Memory no_read = refl
-
-pub cert_not_read : (fault : CertFault) → (fault ≡ cert_faults.Read → ⊥)
-    → line (refusal_text (codes "totem: certificate unreadable: ") (cert_fault_number fault) (cert_fault_name fault)) ≡ cert_line fault
-cert_not_read cert_faults.Header no_read = refl
-cert_not_read cert_faults.Word no_read = refl
-cert_not_read cert_faults.Number no_read = refl
-cert_not_read cert_faults.Order no_read = refl
-cert_not_read cert_faults.Truncated no_read = refl
-cert_not_read cert_faults.TooMany no_read = refl
-cert_not_read cert_faults.End no_read = refl
-cert_not_read cert_faults.Read no_read = absurd (no_read refl)
-cert_not_read cert_faults.Memory no_read = refl
+use Rattle.totem_verdicts.specs.Endings.{refusal_text}
+use Rattle.totem_cluster.specs.Endings.{script_line, script_line_of}
 
 pub script_not_read : (fault : ScriptFault) → (fault.kind ≡ script_faults.Read → ⊥)
     → line (refusal_text (codes "totem: script refused: ") (script_fault_number fault.kind) (script_fault_name fault.kind)) ≡ script_line fault

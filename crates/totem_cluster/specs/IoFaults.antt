@@ -1,26 +1,24 @@
--- The faults of calls from stream to stream.
-use Rattle.totem_evs.specs.declared.run_fault.RunFault.{RunFault}
-use Rattle.totem_evs.specs.declared.run_fault.RunFault.TheVariants as run_faults
-use Rattle.totem_certificate.specs.declared.cert_fault.CertFault.{CertFault}
-use Rattle.totem_certificate.specs.declared.cert_fault.CertFault.TheVariants as cert_faults
+-- The faults of calls from stream to stream, and what the calls of totem_verdicts answer in their words.
+use Rattle.std.specs.Prelude.{◌≡◌, Result, Ok, Err}
 use Rattle.totem_evs.specs.declared.writing.WriteFault.{WriteFault}
 use Rattle.totem_evs.specs.declared.writing.WriteFault.TheVariants as write_faults
 use Rattle.totem_threads.specs.declared.fault.ThreadsFault.{ThreadsFault}
 use Rattle.totem_threads.specs.declared.fault.ThreadsFault.TheVariants as threads_faults
+use Rattle.totem_verdicts.specs.declared.outcome.Outcome.{Outcome}
+use Rattle.totem_verdicts.specs.declared.verdict_fault.VerdictFault.{VerdictFault}
+use Rattle.totem_verdicts.specs.declared.verdict_fault.VerdictFault.TheVariants as verdict_faults
 use Rattle.totem_cluster.specs.declared.io_fault.IoFault.{IoFault}
 use Rattle.totem_cluster.specs.declared.io_fault.IoFault.TheVariants as faults
 
--- what a fault of the run is for the whole call: want of memory is told as such
-abbrev pub run_io_fault : RunFault → IoFault
-run_io_fault run_faults.Memory = faults.Memory
-run_io_fault fault = faults.Run fault
+-- what a fault of a verdict is
+abbrev pub verdict_io_fault : VerdictFault → IoFault
+verdict_io_fault (verdict_faults.Run fault) = faults.Run fault
+verdict_io_fault (verdict_faults.Cert fault) = faults.Cert fault
+verdict_io_fault (verdict_faults.Refused fault) = faults.Refused fault
+verdict_io_fault verdict_faults.Memory = faults.Memory
+verdict_io_fault verdict_faults.Write = faults.Write
 
--- what a fault of the certificate's text is
-abbrev pub cert_io_fault : CertFault → IoFault
-cert_io_fault cert_faults.Memory = faults.Memory
-cert_io_fault fault = faults.Cert fault
-
--- what a fault of a report is
+-- what a fault of a text that is written is
 abbrev pub write_io_fault : WriteFault → IoFault
 write_io_fault write_faults.Memory = faults.Memory
 write_io_fault write_faults.Write = faults.Write
@@ -29,3 +27,12 @@ write_io_fault write_faults.Write = faults.Write
 abbrev pub threads_io_fault : ThreadsFault → IoFault
 threads_io_fault threads_faults.Memory = faults.Memory
 threads_io_fault (threads_faults.Book trouble) = faults.Book trouble
+
+-- an answer with its fault as one of all faults
+abbrev pub among_all : Result Outcome VerdictFault → Result Outcome IoFault
+among_all (Ok outcome) = Ok outcome
+among_all (Err fault) = Err (verdict_io_fault fault)
+
+-- the answer is one that holds, with its fault as one of all
+abbrev pub Gives : (Result Outcome VerdictFault → Type 0) → Result Outcome IoFault → Type 0
+Gives holds answer = (verdict : Result Outcome VerdictFault) × holds verdict × (answer ≡ among_all verdict)

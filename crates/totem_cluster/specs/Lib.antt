@@ -1,9 +1,4 @@
-pub mod Report
 pub mod IoFaults
-pub mod AuditIo
-pub mod ExplainIo
-pub mod DrawIo
-pub mod CheckIo
 pub mod SimIo
 pub mod RunIo
 pub mod RunWords

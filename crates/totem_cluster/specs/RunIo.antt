@@ -7,8 +7,8 @@ use Rattle.totem_evs.specs.Lives.{IsFirstVersion}
 use Rattle.totem_evs.specs.RunText.{run_text}
 use Rattle.totem_books.specs.Seats.{Closed}
 use Rattle.totem_threads.specs.Books.{IsRunOf}
-use Rattle.totem_cluster.specs.declared.outcome.Outcome.{Outcome}
-use Rattle.totem_cluster.specs.declared.outcome.Outcome.TheVariants as outcomes
+use Rattle.totem_verdicts.specs.declared.outcome.Outcome.{Outcome}
+use Rattle.totem_verdicts.specs.declared.outcome.Outcome.TheVariants as outcomes
 use Rattle.totem_cluster.specs.declared.io_fault.IoFault.{IoFault}
 use Rattle.totem_cluster.specs.declared.io_fault.IoFault.TheVariants as faults
 

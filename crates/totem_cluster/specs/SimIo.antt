@@ -12,8 +12,8 @@ use Rattle.totem_script.specs.declared.script_fault.ScriptFaultKind.TheVariants.
 use Rattle.totem_script.specs.Simulation.{Told, simulate}
 use Rattle.totem_cluster.specs.declared.simulating.Reading.{Reading}
 use Rattle.totem_cluster.specs.declared.simulating.Unmade.{Unmade}
-use Rattle.totem_cluster.specs.declared.outcome.Outcome.{Outcome}
-use Rattle.totem_cluster.specs.declared.outcome.Outcome.TheVariants as outcomes
+use Rattle.totem_verdicts.specs.declared.outcome.Outcome.{Outcome}
+use Rattle.totem_verdicts.specs.declared.outcome.Outcome.TheVariants as outcomes
 use Rattle.totem_cluster.specs.declared.io_fault.IoFault.{IoFault}
 use Rattle.totem_cluster.specs.declared.io_fault.IoFault.TheVariants as faults
 

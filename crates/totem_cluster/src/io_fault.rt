@@ -1,5 +1,5 @@
 ghost use Rattle.std.specs.Prelude.{◌≡◌};
-ghost use Rattle.totem_cluster.specs.IoFaults.{run_io_fault, cert_io_fault, write_io_fault, threads_io_fault};
+ghost use Rattle.totem_cluster.specs.IoFaults.{verdict_io_fault, write_io_fault, threads_io_fault};
 
 use thiserror::Error;
 use totem_cert::CertFault;
@@ -7,6 +7,7 @@ use totem_check::CheckFault;
 use totem_evs::{RunFault, WriteFault};
 use totem_script::ScriptFault;
 use totem_threads::{BookTrouble, ThreadsFault};
+use totem_verdicts::VerdictFault;
 
 /// Why a call from stream to stream gave no outcome. At every fault but `Write` nothing was written.
 #[derive(Debug, Drop, Error)]
@@ -34,24 +35,16 @@ pub enum IoFault {
     Write,
 }
 
-impl From<RunFault> for IoFault {
-    ghost from_gives = { λ f e. e ≡ run_io_fault f };
+impl From<VerdictFault> for IoFault {
+    ghost from_gives = { λ f e. e ≡ verdict_io_fault f };
 
-    fn from(fault: RunFault) -> IoFault {
+    fn from(fault: VerdictFault) -> IoFault {
         match fault {
-            RunFault::Memory => IoFault::Memory,
-            other => IoFault::Run(other),
-        }
-    }
-}
-
-impl From<CertFault> for IoFault {
-    ghost from_gives = { λ f e. e ≡ cert_io_fault f };
-
-    fn from(fault: CertFault) -> IoFault {
-        match fault {
-            CertFault::Memory => IoFault::Memory,
-            other => IoFault::Cert(other),
+            VerdictFault::Run(fault) => IoFault::Run(fault),
+            VerdictFault::Cert(fault) => IoFault::Cert(fault),
+            VerdictFault::Refused(fault) => IoFault::Refused(fault),
+            VerdictFault::Memory => IoFault::Memory,
+            VerdictFault::Write => IoFault::Write,
         }
     }
 }

@@ -7,7 +7,6 @@ ghost use Rattle.totem_threads.specs.Books.{IsRunOf};
 ghost use Rattle.totem_cluster.specs.RunIo.{Records, IsOfThreads};
 
 use crate::io_fault::IoFault;
-use crate::outcome::Outcome;
 use std::alloc::Global;
 use std::sync::Wait;
 use std::thread::Threads;
@@ -16,6 +15,7 @@ use totem_evs::{Run, write_run};
 use totem_ids::Sink;
 use totem_net::{Progress, Quiet, Start, Unwatched};
 use totem_threads::{RunPlan, run_nodes};
+use totem_verdicts::Outcome;
 
 /// Runs so many nodes in threads, on ring 4.1, over a network that does what the plan says, until the ticks are used up
 /// (docs/PROTOCOL.md, "A run in threads"). The receiving thread of each node calls `start.begun` before it receives. Waits for

@@ -1,80 +1,25 @@
 //! The program (docs/SPECIFICATIONS.md, "The program").
 ghost use Rattle.std.specs.Prelude.{◌≡◌, []};
-ghost use Rattle.clap.specs.Values.{kind_of};
 ghost use Rattle.totem_ids.specs.Sources.{seen};
 ghost use Rattle.totem_ids.specs.Writing.{held};
 ghost use Rattle.totem_threads.specs.Starts.{IsInRange};
-ghost use Rattle.totem_cluster.specs.Endings.{Answers, Ends, Points, Shows, Plays, bare};
+ghost use Rattle.totem_verdicts.specs.Endings.{bare};
+ghost use Rattle.totem_cluster.specs.Endings.{Ends, Points, Plays};
 
-use crate::auditing::audit_io;
-use crate::checking::check_io;
-use crate::drawing::draw_io;
-use crate::explaining::explain_io;
 use crate::io_fault::IoFault;
+use crate::planning::plan_of;
 use crate::recording::run_io_with_progress;
-use crate::report::write_text;
-use crate::run_words::RunWords;
 use crate::script_words::explain_line;
 use crate::simulating::{Unmade, follow_io, sim_io};
-use crate::telling::{tell, tell_fault, tell_with_words};
+use crate::telling::{tell_fault, tell_with_words};
 use crate::weaving::weave_io_with_progress;
-use crate::words::{Words, read_words};
-use clap::Error;
-use clap::error::ErrorKind;
 use std::alloc::{AllocError, Global};
 use std::sync::Wait;
 use std::thread::Threads;
-use totem_audit::Workers;
-use totem_evs::WriteFault;
-use totem_explain::explain_refusal;
 use totem_ids::{Sink, Source};
 use totem_net::{Progress, Unwatched};
 use totem_threads::RunPlan;
-
-/// Returns the text for the person who typed the words.
-fn text_of(alloc: Global, error: &Error) -> Result<String, AllocError> {
-    if error.kind() == ErrorKind::OutOfMemory {
-        return Err(AllocError);
-    }
-    error.to_string(alloc)
-}
-
-/// Writes help or the version, and returns the status.
-fn show<W: Sink, E: Sink>(alloc: Global, text: &[u8], output: &mut W, errors: &mut E) -> u8
-    ensures { Shows (held W.contents W.failures [] output.old) (held W.contents W.failures [] output.new)
-        (bare E.contents E.failures errors.old) (bare E.contents E.failures errors.new) text.now result }
-{
-    match write_text(alloc, text, output) {
-        Ok(()) => 0,
-        Err(WriteFault::Memory) => tell_fault(errors, &IoFault::Memory),
-        Err(WriteFault::Write) => tell_fault(errors, &IoFault::Write),
-    }
-}
-
-/// Answers words that ask for help or the version, or for nothing that there is, and returns the status.
-fn answer<W: Sink, E: Sink>(alloc: Global, error: &Error, output: &mut W, errors: &mut E) -> u8
-    ensures { Answers (kind_of error.now)
-        (held W.contents W.failures [] output.old) (held W.contents W.failures [] output.new)
-        (bare E.contents E.failures errors.old) (bare E.contents E.failures errors.new) result }
-{
-    let Ok(text) = text_of(alloc, error) else {
-        return tell_fault(errors, &IoFault::Memory);
-    };
-    match error.kind() {
-        ErrorKind::DisplayHelp | ErrorKind::DisplayVersion => {
-            show(alloc, text.as_bytes(), output, errors)
-        }
-        _ => {
-            tell(errors, text.as_bytes());
-            64
-        }
-    }
-}
-
-/// Returns so many workers, or one if there can't be so many.
-fn as_many(workers: u32) -> Workers {
-    Workers::new(workers).unwrap_or(Workers::one())
-}
+use totem_verdicts::{RunWords, Words, answer, judge_io, read_words, tell};
 
 /// What the person is told whose numbers for a run don't fit together.
 const UNFIT: &str = "\
@@ -114,7 +59,7 @@ fn play<T: Threads + Wait + Sync, W: Sink, E: Sink, P: Progress>(
     ensures { Plays (held W.contents W.failures [] output.old) (held W.contents W.failures [] output.new)
         (bare E.contents E.failures errors.old) (bare E.contents E.failures errors.new) result }
 {
-    let Some(plan) = words.plan() else {
+    let Some(plan) = plan_of(words) else {
         tell(errors, UNFIT.as_bytes());
         return 64;
     };
@@ -124,24 +69,6 @@ fn play<T: Threads + Wait + Sync, W: Sink, E: Sink, P: Progress>(
     match run_io_with_progress(rt, alloc, plan, output, progress) {
         Ok(outcome) => outcome.status(),
         Err(fault) => tell_fault(errors, &fault),
-    }
-}
-
-/// Returns what a person is told of a fault behind its line.
-fn words_of<R: Source>(alloc: Global, fault: &IoFault, input: &R) -> Result<String, AllocError> {
-    match fault {
-        IoFault::Run(fault) => explain_refusal(alloc, fault, input.text_place()),
-        _ => Ok(String::new(alloc)),
-    }
-}
-
-/// Tells why a run can't be explained, and where in its text the fault is. Returns the status.
-fn point<R: Source, E: Sink>(alloc: Global, fault: &IoFault, input: &R, errors: &mut E) -> u8
-    ensures { Points fault.now (bare E.contents E.failures errors.old) (bare E.contents E.failures errors.new) result }
-{
-    match words_of(alloc, fault, input) {
-        Ok(words) => tell_with_words(errors, fault, words.as_str()),
-        Err(_) => tell_fault(errors, &IoFault::Memory),
     }
 }
 
@@ -195,33 +122,16 @@ pub fn program_with_progress<T: Threads + Wait + Sync, R: Source, W: Sink, E: Si
 {
     match read_words(alloc, words) {
         Err(error) => answer(alloc, &error, output, errors),
-        Ok(Words::Check) => match check_io(alloc, input, output) {
-            Ok(outcome) => outcome.status(),
-            Err(fault) => tell_fault(errors, &fault),
-        },
+        Ok(Words::Verdict(asked)) => judge_io(rt, alloc, asked, input, output, errors),
         Ok(Words::Sim) => match sim_io(alloc, input, output) {
             Ok(outcome) => outcome.status(),
             Err(fault) => tell_fault(errors, &fault),
         },
         Ok(Words::Run(words)) => play(rt, alloc, &words, output, errors, progress),
         Ok(Words::RunQuietly(words)) => { play(rt, alloc, &words, output, errors, &mut Unwatched) }
-        Ok(Words::Explain { workers }) => {
-            match explain_io(rt, alloc, input, output, as_many(workers)) {
-                Ok(outcome) => outcome.status(),
-                Err(fault) => point(alloc, &fault, input, errors),
-            }
-        }
-        Ok(Words::Draw { workers }) => match draw_io(rt, alloc, input, output, as_many(workers)) {
-            Ok(outcome) => outcome.status(),
-            Err(fault) => point(alloc, &fault, input, errors),
-        },
         Ok(Words::ExplainScript) => match follow_io(alloc, input, output) {
             Ok(outcome) => outcome.status(),
             Err(unmade) => point_line(alloc, &unmade, errors),
-        },
-        Ok(Words::Audit { workers }) => match audit_io(rt, alloc, input, output, as_many(workers)) {
-            Ok(outcome) => outcome.status(),
-            Err(fault) => tell_fault(errors, &fault),
         },
     }
 }

@@ -5,11 +5,11 @@ ghost use Rattle.totem_ids.specs.Writing.{held};
 ghost use Rattle.totem_cluster.specs.SimIo.{ReadsScript, Simulates, MakesRun, TellsBehind, fault_alone, unread};
 
 use crate::io_fault::IoFault;
-use crate::outcome::Outcome;
 use std::alloc::{AllocError, Global};
 use totem_evs::{Run, write_run};
 use totem_ids::{Sink, Source};
 use totem_script::{ScriptFault, ScriptFaultKind, simulate};
+use totem_verdicts::Outcome;
 
 /// How many bytes are read: one more than a script may have.
 const MOST: usize = 65_537;

@@ -1,100 +1,18 @@
-//! What the program tells on its stream of errors. Telling takes no memory, and passes over a failure of that stream.
-ghost use Rattle.std.specs.Prelude.{◌≡◌, ◌++◌, decimal};
-ghost use Rattle.totem_ids.specs.Processes.{process_text};
+//! What the program tells of scripts and of runs in threads, and of each fault. Telling takes no memory, and passes over a failure of the
+//! stream of errors.
+ghost use Rattle.std.specs.Prelude.{◌≡◌, ◌++◌};
 ghost use Rattle.totem_ids.specs.Writing.{Writes};
+ghost use Rattle.totem_verdicts.specs.Endings.{Tells, bare};
 ghost use Rattle.totem_cluster.specs.declared.io_fault.IoFault.TheVariants.{Book};
-ghost use Rattle.totem_cluster.specs.Endings.{Tells, bare, refusal_text, missing_text, run_line, cert_line, script_line, fault_line, script_status, fault_status};
+ghost use Rattle.totem_cluster.specs.Endings.{script_line, fault_line, script_status, fault_status};
 
 use crate::io_fault::IoFault;
 use totem_cert::CertFault;
 use totem_evs::RunFault;
-use totem_ids::{Failed, Sink, WrittenProc};
+use totem_ids::{Failed, Sink};
 use totem_script::{ScriptFault, ScriptFaultKind};
 use totem_threads::BookTrouble;
-
-fn put_bytes<E: Sink>(errors: &mut E, bytes: &[u8]) -> Result<(), Failed>
-    ensures { Writes (bare E.contents E.failures errors.old) (bare E.contents E.failures errors.new) result bytes.now }
-{
-    errors.put(bytes)
-}
-
-fn put_number<E: Sink>(errors: &mut E, number: u16) -> Result<(), Failed>
-    ensures { Writes (bare E.contents E.failures errors.old) (bare E.contents E.failures errors.new) result (decimal number) }
-{
-    let mut digits = itoa::Buffer::new();
-    put_bytes(errors, digits.format(number).as_bytes())
-}
-
-fn put_text<E: Sink>(errors: &mut E, text: &str) -> Result<(), Failed>
-    ensures { Writes (bare E.contents E.failures errors.old) (bare E.contents E.failures errors.new) result text.now }
-{
-    put_bytes(errors, text.as_bytes())
-}
-
-/// Writes what was refused, the number of the fault and its name.
-#[tactic(auto, using(totem_ids::proofs::Writers::wrote_then, totem_ids::proofs::Writers::wrote_failed))]
-fn put_refusal<E: Sink>(errors: &mut E, front: &str, number: u8, name: &str) -> Result<(), Failed>
-    ensures { Writes (bare E.contents E.failures errors.old) (bare E.contents E.failures errors.new)
-        result (refusal_text front.now number name.now) }
-{
-    put_text(errors, front)?;
-    put_number(errors, u16::from(number))?;
-    put_text(errors, " ")?;
-    put_text(errors, name)
-}
-
-/// Writes a process as the texts do in which it is named.
-#[tactic(auto, using(totem_ids::proofs::Writers::wrote_then, totem_ids::proofs::Writers::wrote_failed))]
-fn put_process<E: Sink>(errors: &mut E, proc: WrittenProc) -> Result<(), Failed>
-    ensures { Writes (bare E.contents E.failures errors.old) (bare E.contents E.failures errors.new)
-        result (process_text proc.version proc.process) }
-{
-    let process = proc.process;
-    if !proc.version.lives() {
-        return put_number(errors, process.id().number());
-    }
-    put_number(errors, process.id().number())?;
-    put_text(errors, ":")?;
-    put_number(errors, process.life())
-}
-
-/// Writes the end of the line of a run's fault: the process that has no log, if it is that.
-#[tactic(auto, using(totem_ids::proofs::Writers::wrote_then, totem_ids::proofs::Writers::wrote_failed))]
-fn put_missing<E: Sink>(errors: &mut E, fault: &RunFault) -> Result<(), Failed>
-    ensures { Writes (bare E.contents E.failures errors.old) (bare E.contents E.failures errors.new) result (missing_text fault.now) }
-{
-    if let RunFault::MissingLog(proc) = fault {
-        put_text(errors, " ")?;
-        return put_process(errors, *proc);
-    }
-    Ok(())
-}
-
-fn put_run_fault<E: Sink>(errors: &mut E, fault: &RunFault) -> Result<(), Failed>
-    ensures { Writes (bare E.contents E.failures errors.old) (bare E.contents E.failures errors.new) result (run_line fault.now) }
-{
-    if let RunFault::Read = fault {
-        return put_text(errors, "totem: read failed\n");
-    }
-    put_refusal(errors, "totem: run refused: ", fault.number(), fault.name())?;
-    put_missing(errors, fault)?;
-    put_text(errors, "\n")
-}
-
-fn put_cert_fault<E: Sink>(errors: &mut E, fault: &CertFault) -> Result<(), Failed>
-    ensures { Writes (bare E.contents E.failures errors.old) (bare E.contents E.failures errors.new) result (cert_line fault.now) }
-{
-    if let CertFault::Read = fault {
-        return put_text(errors, "totem: read failed\n");
-    }
-    put_refusal(
-        errors,
-        "totem: certificate unreadable: ",
-        fault.number(),
-        fault.name(),
-    )?;
-    put_text(errors, "\n")
-}
+use totem_verdicts::{put_cert_fault, put_check_fault, put_refusal, put_run_fault, put_text};
 
 fn put_script_fault<E: Sink>(errors: &mut E, fault: &ScriptFault) -> Result<(), Failed>
     ensures { Writes (bare E.contents E.failures errors.old) (bare E.contents E.failures errors.new) result (script_line fault.now) }
@@ -129,15 +47,7 @@ fn put_fault<E: Sink>(errors: &mut E, fault: &IoFault) -> Result<(), Failed>
     match fault {
         IoFault::Run(fault) => put_run_fault(errors, fault),
         IoFault::Cert(fault) => put_cert_fault(errors, fault),
-        IoFault::Refused(fault) => {
-            put_refusal(
-                errors,
-                "totem: certificate refused: ",
-                fault.number(),
-                fault.name(),
-            )?;
-            put_text(errors, "\n")
-        }
+        IoFault::Refused(fault) => put_check_fault(errors, fault),
         IoFault::Script(fault) => put_script_fault(errors, fault),
         IoFault::Book(trouble) => put_book_trouble(errors, trouble),
         IoFault::Memory => put_text(errors, "totem: out of memory\n"),
@@ -163,13 +73,6 @@ fn script_status(kind: ScriptFaultKind) -> u8
         ScriptFaultKind::Read => 4,
         _ => 2,
     }
-}
-
-/// Writes these bytes to the stream of errors.
-pub fn tell<E: Sink>(errors: &mut E, bytes: &[u8])
-    ensures { Tells (bare E.contents E.failures errors.old) (bare E.contents E.failures errors.new) bytes.now }
-{
-    let _ = put_bytes(errors, bytes);
 }
 
 /// Tells a fault, and returns its status.

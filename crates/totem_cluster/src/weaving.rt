@@ -8,7 +8,6 @@ ghost use Rattle.totem_threads.specs.Starts.{IsInRange};
 ghost use Rattle.totem_cluster.specs.WeaveIo.{names_text, handed_text, steps_text, woven_text, orphan_text, weave_status, TellsRefusal, WeavesBooks, WeavesRun};
 
 use crate::io_fault::IoFault;
-use crate::outcome::Outcome;
 use crate::recording::run_watched;
 use std::alloc::Global;
 use std::sync::Wait;

@@ -1,8 +1,0 @@
-use Rattle.std.proofs.Common.{ap}
-use Rattle.totem_evs.specs.RunRecord.{RunRecord}
-use Rattle.totem_cluster.proofs.Reported.{no_told}
-use Rattle.totem_cluster.proofs.explaining.write_told.Goals as goal
-
-pub returns-in-Ok-explain_no : goal.returns-in-Ok-explain_no
-returns-in-Ok-explain_no g c =
-    rw (← ap (λ (r : RunRecord). r.version) c.run.view_is, c.in-No.is, ← c.deref-in-No.ensures.value) (no_told _ _ _ _ c.in-Ok-explain_no.words _ c.in-Ok-explain_no.ensures c.write_no.ensures)

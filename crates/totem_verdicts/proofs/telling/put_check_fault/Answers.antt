@@ -1,0 +1,7 @@
+use Rattle.totem_ids.proofs.Writers.{wrote_then}
+use Rattle.totem_verdicts.proofs.telling.put_check_fault.Goals as goal
+
+pub returns : goal.returns
+returns g c =
+    let refusal = rw (c.number.ensures, c.name.ensures) at c.in_ok-put_refusal.ensures in
+    wrote_then _ _ _ _ _ _ refusal c.put_text.ensures

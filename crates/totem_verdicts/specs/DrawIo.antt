@@ -1,0 +1,32 @@
+-- What drawing the run of a stream answers, and what it leaves (docs/SPECIFICATIONS.md, "Pictures").
+use Rattle.std.specs.Prelude.{List, [], ℕ, Result, Ok, Err}
+use Rattle.totem_ids.specs.Sources.{Seen}
+use Rattle.totem_ids.specs.Writing.{Held, Wrote}
+use Rattle.totem_evs.specs.RunRecord.{RunRecord}
+use Rattle.totem_evs.specs.declared.writing.WriteFault.{WriteFault}
+use Rattle.totem_evs.specs.WriteRun.{WritesText}
+use Rattle.totem_evs.specs.Answers.{Answer, IsAnswered}
+use Rattle.totem_evs.specs.Meanings.{IsSound}
+use Rattle.totem_verdicts.specs.AuditIo.{IsWhole, Says, Audits}
+use Rattle.totem_verdicts.specs.declared.outcome.Outcome.{Outcome}
+use Rattle.totem_verdicts.specs.declared.verdict_fault.VerdictFault.{VerdictFault}
+
+-- a text was written, and nothing is said of it here; or nothing was; or the sink failed in this call
+abbrev pub WritesDrawn : {A : Type 0} → Held → Held → Result A WriteFault → Type 0
+WritesDrawn was is (Ok a) = (text : List ℕ) × Wrote was is text
+WritesDrawn was is (Err e) = WritesText {A = Unit {0}} was is (Err e) []
+
+-- a whole run was read, and a text was written and nothing else; the outcome is that of the run's answer
+pub record IsDrawn (old new : Seen) (was is : Held) (outcome : Outcome) : Type 0 where
+  pub run : RunRecord
+  pub whole : IsWhole old new run
+  pub answer : Answer
+  pub written : IsAnswered run.logs answer
+  pub sound : IsSound run.logs answer
+  pub drawn : WritesDrawn {A = Unit {0}} was is (Ok tt)
+  pub says : Says answer outcome
+
+-- a picture of the run was written; where that failed, the same holds as of an audit
+abbrev pub DrawsRun : Seen → Seen → Held → Held → Result Outcome VerdictFault → Type 0
+DrawsRun old new was is (Ok outcome) = IsDrawn old new was is outcome
+DrawsRun old new was is (Err fault) = Audits old new was is (Err fault)

@@ -1,0 +1,24 @@
+-- The faults of calls from stream to stream that give a verdict.
+use Rattle.totem_evs.specs.declared.run_fault.RunFault.{RunFault}
+use Rattle.totem_evs.specs.declared.run_fault.RunFault.TheVariants as run_faults
+use Rattle.totem_certificate.specs.declared.cert_fault.CertFault.{CertFault}
+use Rattle.totem_certificate.specs.declared.cert_fault.CertFault.TheVariants as cert_faults
+use Rattle.totem_evs.specs.declared.writing.WriteFault.{WriteFault}
+use Rattle.totem_evs.specs.declared.writing.WriteFault.TheVariants as write_faults
+use Rattle.totem_verdicts.specs.declared.verdict_fault.VerdictFault.{VerdictFault}
+use Rattle.totem_verdicts.specs.declared.verdict_fault.VerdictFault.TheVariants as faults
+
+-- what a fault of the run is for the whole call: want of memory is told as such
+abbrev pub run_verdict_fault : RunFault → VerdictFault
+run_verdict_fault run_faults.Memory = faults.Memory
+run_verdict_fault fault = faults.Run fault
+
+-- what a fault of the certificate's text is
+abbrev pub cert_verdict_fault : CertFault → VerdictFault
+cert_verdict_fault cert_faults.Memory = faults.Memory
+cert_verdict_fault fault = faults.Cert fault
+
+-- what a fault of a report is
+abbrev pub write_verdict_fault : WriteFault → VerdictFault
+write_verdict_fault write_faults.Memory = faults.Memory
+write_verdict_fault write_faults.Write = faults.Write

@@ -1,0 +1,43 @@
+//! The auditor: the program without what makes runs.
+ghost use Rattle.std.specs.Prelude.{◌≡◌, []};
+ghost use Rattle.totem_ids.specs.Sources.{seen};
+ghost use Rattle.totem_ids.specs.Writing.{held};
+ghost use Rattle.totem_verdicts.specs.Endings.{Ends, bare};
+
+use crate::answering::answer;
+use crate::judging::judge_io;
+use crate::telling::tell;
+use crate::words::{Words, read_words};
+use std::alloc::Global;
+use std::sync::Wait;
+use std::thread::Threads;
+use totem_ids::{Sink, Source};
+
+/// What the person is told who asks the auditor alone for a run.
+const LACKING: &str = "\
+totem: this is the auditor alone: sim, run and explain --script want the whole program
+";
+
+/// The auditor over any three streams: what the whole program answers, where the words ask for a verdict, for help or for the version. The
+/// first of `words` is the program's name. Returns the status with which to exit.
+pub fn auditor<T: Threads + Wait + Sync, R: Source, W: Sink, E: Sink>(
+    rt: &T,
+    alloc: Global,
+    words: &[String],
+    input: &mut R,
+    output: &mut W,
+    errors: &mut E,
+) -> u8
+    ensures { Ends (seen R.remaining R.failures input.old) (seen R.remaining R.failures input.new)
+        (held W.contents W.failures [] output.old) (held W.contents W.failures [] output.new)
+        (bare E.contents E.failures errors.old) (bare E.contents E.failures errors.new) result }
+{
+    match read_words(alloc, words) {
+        Err(error) => answer(alloc, &error, output, errors),
+        Ok(Words::Verdict(asked)) => judge_io(rt, alloc, asked, input, output, errors),
+        Ok(_) => {
+            tell(errors, LACKING.as_bytes());
+            64
+        }
+    }
+}

@@ -1,0 +1,52 @@
+//! From the text of a run and of its certificate to the checker's report.
+ghost use Rattle.std.specs.Prelude.{◌≡◌, []};
+ghost use Rattle.totem_ids.specs.Sources.{seen};
+ghost use Rattle.totem_ids.specs.Writing.{held};
+ghost use Rattle.totem_verdicts.specs.CheckIo.{ReadsLast, ChecksText};
+
+use crate::outcome::Outcome;
+use crate::report::{write_accepted, write_no};
+use crate::verdict_fault::VerdictFault;
+use std::alloc::Global;
+use totem_cert::{CertFault, Certificate, read_cert};
+use totem_check::{CheckFault, check};
+use totem_evs::read_run;
+use totem_ids::{Sink, Source};
+
+/// Reads a certificate that has nothing behind it.
+fn read_last<R: Source>(alloc: Global, input: &mut R) -> Result<Certificate, CertFault>
+    ensures { ReadsLast (seen R.remaining R.failures input.old) (seen R.remaining R.failures input.new) result }
+{
+    let certificate = read_cert(alloc, input)?;
+    match input.byte() {
+        Ok(None) => Ok(certificate),
+        Ok(Some(_)) => Err(CertFault::End),
+        Err(_) => Err(CertFault::Read),
+    }
+}
+
+/// Reads the text of a run and, directly behind it, that of a certificate, to the end of the input. Checks both, and
+/// writes the report.
+pub fn check_io<R: Source, W: Sink>(
+    alloc: Global,
+    input: &mut R,
+    output: &mut W,
+) -> Result<Outcome, VerdictFault>
+    ensures { ChecksText (seen R.remaining R.failures input.old) (seen R.remaining R.failures input.new)
+        (held W.contents W.failures [] output.old) (held W.contents W.failures [] output.new) result }
+{
+    let run = read_run(alloc, input)?;
+    let certificate = read_last(alloc, input)?;
+    match check(alloc, &run, &certificate) {
+        Ok(accepted) => {
+            write_accepted(alloc, run.version, &accepted, output)?;
+            Ok(Outcome::Yes)
+        }
+        Err(CheckFault::Broken(fault)) => {
+            write_no(alloc, run.version, &[fault], output)?;
+            Ok(Outcome::No)
+        }
+        Err(CheckFault::Memory) => Err(VerdictFault::Memory),
+        Err(fault) => Err(VerdictFault::Refused(fault)),
+    }
+}

@@ -1,0 +1,135 @@
+//! From the text of a run to what a person is told of its verdict.
+ghost use Rattle.std.specs.Prelude.{◌≡◌, []};
+ghost use Rattle.std.specs.List.{flat_map};
+ghost use Rattle.totem_ids.specs.Sources.{seen};
+ghost use Rattle.totem_ids.specs.Writing.{Writes, held};
+ghost use Rattle.totem_evs.specs.WriteRun.{WritesText};
+ghost use Rattle.totem_audit.specs.Verdicts.{answer_of};
+ghost use Rattle.totem_verdicts.specs.ExplainIo.{ExplainsRun, WritesTold, explained_text, explained_no_text};
+
+use crate::auditing::{judge, outcome, read_whole};
+use crate::outcome::Outcome;
+use crate::report::{put_fault, write_text};
+use crate::verdict_fault::VerdictFault;
+use std::alloc::Global;
+use std::sync::Wait;
+use std::thread::Threads;
+use totem_audit::{Verdict, Workers};
+use totem_evs::{Run, WriteFault};
+use totem_explain::{Explained, ExplainedNo, explain_no, explain_yes};
+use totem_ids::{Failed, Pieces, Sink, Source, Version};
+
+#[tactic(auto, using(totem_ids::proofs::Writers::wrote_then, totem_ids::proofs::Writers::wrote_failed))]
+fn put_explained<S: Sink>(
+    pieces: &mut Pieces,
+    sink: &mut S,
+    version: Version,
+    one: &Explained,
+) -> Result<(), Failed>
+    ensures { Writes (held S.contents S.failures pieces.old sink.old)
+        (held S.contents S.failures pieces.new sink.new) result (explained_text version one.now) }
+{
+    pieces.put(sink, b"\n")?;
+    put_fault(pieces, sink, version, &one.fault)?;
+    pieces.put(sink, b"\n")?;
+    pieces.put(sink, one.text.as_bytes())
+}
+
+fn put_each_explained<S: Sink>(
+    pieces: &mut Pieces,
+    sink: &mut S,
+    version: Version,
+    list: &[Explained],
+) -> Result<(), Failed>
+    ensures { Writes (held S.contents S.failures pieces.old sink.old)
+        (held S.contents S.failures pieces.new sink.new) result (flat_map (explained_text version) list.now) }
+{
+    for one in list {
+        put_explained(pieces, sink, version, one)?;
+    }
+    Ok(())
+}
+
+#[tactic(auto, using(totem_ids::proofs::Writers::wrote_then, totem_ids::proofs::Writers::wrote_failed))]
+fn put_no<S: Sink>(
+    pieces: &mut Pieces,
+    sink: &mut S,
+    version: Version,
+    words: &ExplainedNo,
+) -> Result<(), Failed>
+    ensures { Writes (held S.contents S.failures pieces.old sink.old)
+        (held S.contents S.failures pieces.new sink.new) result (explained_no_text version words.now) }
+{
+    pieces.put(sink, words.heading.as_bytes())?;
+    put_each_explained(pieces, sink, version, &words.faults)
+}
+
+/// Writes a no in words.
+fn write_no<S: Sink>(
+    alloc: Global,
+    version: Version,
+    words: &ExplainedNo,
+    sink: &mut S,
+) -> Result<(), WriteFault>
+    ensures { WritesText (held S.contents S.failures [] sink.old)
+        (held S.contents S.failures [] sink.new) result (explained_no_text version words.now) }
+{
+    let Ok(mut pieces) = Pieces::new(alloc) else {
+        return Err(WriteFault::Memory);
+    };
+    if put_no(&mut pieces, sink, version, words).is_err() || pieces.flush(sink).is_err() {
+        return Err(WriteFault::Write);
+    }
+    Ok(())
+}
+
+/// Writes what a person is told of a verdict on the run.
+fn write_told<S: Sink>(
+    alloc: Global,
+    run: &Run,
+    verdict: &Verdict,
+    sink: &mut S,
+) -> Result<(), WriteFault>
+    ensures { WritesTold run.now.version (held S.contents S.failures [] sink.old)
+        (held S.contents S.failures [] sink.new) result (answer_of verdict.now) }
+{
+    match verdict {
+        Verdict::Yes {
+            pending,
+            waiting,
+            ..
+        } => {
+            let Ok(text) = explain_yes(alloc, run, pending, waiting) else {
+                return Err(WriteFault::Memory);
+            };
+            write_text(alloc, text.as_bytes(), sink)
+        }
+        Verdict::No { faults } => {
+            let Ok(words) = explain_no(alloc, run, faults) else {
+                return Err(WriteFault::Memory);
+            };
+            write_no(alloc, run.version, &words, sink)
+        }
+    }
+}
+
+/// Reads the text of a run to the end of the input, judges the run, and writes what a person is told of the verdict
+/// (docs/SPECIFICATIONS.md, "Explanations"). The outcome is that of `audit_io`, and the text is the same for every number
+/// of workers.
+pub fn explain_io<T: Threads + Wait + Sync, R: Source, W: Sink>(
+    rt: &T,
+    alloc: Global,
+    input: &mut R,
+    output: &mut W,
+    workers: Workers,
+) -> Result<Outcome, VerdictFault>
+    ensures { ExplainsRun (seen R.remaining R.failures input.old) (seen R.remaining R.failures input.new)
+        (held W.contents W.failures [] output.old) (held W.contents W.failures [] output.new) result }
+{
+    let run = read_whole(alloc, input)?;
+    let Ok(verdict) = judge(rt, alloc, &run, workers) else {
+        return Err(VerdictFault::Memory);
+    };
+    write_told(alloc, &run, &verdict, output)?;
+    Ok(outcome(&verdict))
+}

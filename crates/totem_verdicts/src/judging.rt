@@ -1,0 +1,81 @@
+//! The answer to words that ask for a verdict (docs/SPECIFICATIONS.md, "The program").
+ghost use Rattle.std.specs.Prelude.{◌≡◌, []};
+ghost use Rattle.totem_ids.specs.Sources.{seen};
+ghost use Rattle.totem_ids.specs.Writing.{held};
+ghost use Rattle.totem_verdicts.specs.Endings.{Judges, Points, bare};
+
+use crate::auditing::audit_io;
+use crate::checking::check_io;
+use crate::drawing::draw_io;
+use crate::explaining::explain_io;
+use crate::telling::{tell_fault, tell_with_words};
+use crate::verdict_fault::VerdictFault;
+use crate::words::Asked;
+use std::alloc::{AllocError, Global};
+use std::sync::Wait;
+use std::thread::Threads;
+use totem_audit::Workers;
+use totem_explain::explain_refusal;
+use totem_ids::{Sink, Source};
+
+/// Returns so many workers, or one if there can't be so many.
+fn as_many(workers: u32) -> Workers {
+    Workers::new(workers).unwrap_or(Workers::one())
+}
+
+/// Returns what a person is told of a fault behind its line.
+fn words_of<R: Source>(
+    alloc: Global,
+    fault: &VerdictFault,
+    input: &R,
+) -> Result<String, AllocError> {
+    match fault {
+        VerdictFault::Run(fault) => explain_refusal(alloc, fault, input.text_place()),
+        _ => Ok(String::new(alloc)),
+    }
+}
+
+/// Tells why a run can't be explained, and where in its text the fault is. Returns the status.
+fn point<R: Source, E: Sink>(alloc: Global, fault: &VerdictFault, input: &R, errors: &mut E) -> u8
+    ensures { Points fault.now (bare E.contents E.failures errors.old) (bare E.contents E.failures errors.new) result }
+{
+    match words_of(alloc, fault, input) {
+        Ok(words) => tell_with_words(errors, fault, words.as_str()),
+        Err(_) => tell_fault(errors, &VerdictFault::Memory),
+    }
+}
+
+/// Gives the verdict that is asked for, and returns the status.
+pub fn judge_io<T: Threads + Wait + Sync, R: Source, W: Sink, E: Sink>(
+    rt: &T,
+    alloc: Global,
+    asked: Asked,
+    input: &mut R,
+    output: &mut W,
+    errors: &mut E,
+) -> u8
+    ensures { Judges (seen R.remaining R.failures input.old) (seen R.remaining R.failures input.new)
+        (held W.contents W.failures [] output.old) (held W.contents W.failures [] output.new)
+        (bare E.contents E.failures errors.old) (bare E.contents E.failures errors.new) result }
+{
+    match asked {
+        Asked::Check => match check_io(alloc, input, output) {
+            Ok(outcome) => outcome.status(),
+            Err(fault) => tell_fault(errors, &fault),
+        },
+        Asked::Explain { workers } => {
+            match explain_io(rt, alloc, input, output, as_many(workers)) {
+                Ok(outcome) => outcome.status(),
+                Err(fault) => point(alloc, &fault, input, errors),
+            }
+        }
+        Asked::Draw { workers } => match draw_io(rt, alloc, input, output, as_many(workers)) {
+            Ok(outcome) => outcome.status(),
+            Err(fault) => point(alloc, &fault, input, errors),
+        },
+        Asked::Audit { workers } => match audit_io(rt, alloc, input, output, as_many(workers)) {
+            Ok(outcome) => outcome.status(),
+            Err(fault) => tell_fault(errors, &fault),
+        },
+    }
+}

@@ -1,0 +1,128 @@
+//! The words of the command line that ask for a run in threads.
+use clap::builder::ValueParser;
+use clap::{Arg, ArgAction, ArgMatches, Command};
+use std::alloc::{AllocError, Global};
+
+/// What is asked of a run in threads: its numbers (docs/PROTOCOL.md, "A run in threads"), and whether its ring is woven.
+#[derive(Clone, Copy)]
+pub struct RunWords {
+    pub nodes: u16,
+    pub ticks: u32,
+    pub seed: u64,
+    pub lose: u8,
+    pub repeat: u8,
+    pub hold: u8,
+    pub weave: bool,
+}
+
+/// An option of the command line that takes a number in a range.
+struct NumberOption {
+    name: &'static str,
+    letter: &'static str,
+    least: u64,
+    most: u64,
+    default: &'static str,
+    help: &'static str,
+}
+
+const OPTIONS: [NumberOption; 6] = [
+    NumberOption {
+        name: "nodes",
+        letter: "N",
+        least: 1,
+        most: 32,
+        default: "3",
+        help: "How many nodes, from 1 to 32",
+    },
+    NumberOption {
+        name: "ticks",
+        letter: "T",
+        least: 1,
+        most: 1_000_000,
+        default: "4000",
+        help: "How many ticks, from 1 to 1000000; at every eighth a node's timer runs out and its client sends; a run that could need more memory than there is, 4 KB for each tick and node, does not begin",
+    },
+    NumberOption {
+        name: "seed",
+        letter: "S",
+        least: 0,
+        most: u64::MAX,
+        default: "1",
+        help: "What the fates of packets are drawn from",
+    },
+    NumberOption {
+        name: "lose",
+        letter: "L",
+        least: 0,
+        most: 100,
+        default: "0",
+        help: "Of a hundred packets, how many are lost",
+    },
+    NumberOption {
+        name: "repeat",
+        letter: "R",
+        least: 0,
+        most: 100,
+        default: "0",
+        help: "Of a hundred packets, how many go on twice; with those that are lost at most 100",
+    },
+    NumberOption {
+        name: "hold",
+        letter: "H",
+        least: 0,
+        most: 255,
+        default: "0",
+        help: "By how many further packets a copy is held back at most, up to 255; from 2 on a lone token waits for packets that do not come, and nodes mostly gather",
+    },
+];
+
+impl NumberOption {
+    fn arg<'a>(&self, alloc: Global) -> Arg<'a> {
+        Arg::new(alloc, self.name)
+            .long(self.name)
+            .value_name(self.letter)
+            .value_parser(ValueParser::Unsigned(self.least, self.most))
+            .default_value(self.default)
+            .help(self.help)
+    }
+}
+
+fn weave_option<'a>(alloc: Global) -> Arg<'a> {
+    Arg::new(alloc, "weave")
+        .long("weave")
+        .action(ArgAction::SetTrue)
+        .help(
+            "Writes no run, but the schedule of ring 4.1: how many steps it has, and what each member handed up; or the call that fits none",
+        )
+}
+
+fn quiet_option<'a>(alloc: Global) -> Arg<'a> {
+    Arg::new(alloc, "quiet")
+        .long("quiet")
+        .action(ArgAction::SetTrue)
+        .help("Shows no line on a terminal that tells how far the run is")
+}
+
+/// Returns the command that runs nodes in threads.
+pub fn run_command<'a>(alloc: Global) -> Result<Command<'a>, AllocError> {
+    let mut command = Command::new(alloc, "run")
+        .about("Runs nodes in threads, and writes the run that they record")
+        .after_help("Example: totem run --lose 1 --repeat 5 --hold 1 | totem audit");
+    for option in &OPTIONS {
+        command = command.arg(option.arg(alloc))?;
+    }
+    command.arg(weave_option(alloc))?.arg(quiet_option(alloc))
+}
+
+/// Returns what the words of a run ask for.
+pub fn run_words(matches: &ArgMatches<'_>) -> RunWords {
+    RunWords {
+        nodes: matches.get_one::<u16>("nodes").unwrap_or(3),
+        ticks: matches.get_one::<u32>("ticks").unwrap_or(4000),
+        seed: matches.get_one::<u64>("seed").unwrap_or(1),
+        lose: matches.get_one::<u8>("lose").unwrap_or(0),
+        repeat: matches.get_one::<u8>("repeat").unwrap_or(0),
+        hold: matches.get_one::<u8>("hold").unwrap_or(0),
+        weave: matches.get_flag("weave"),
+    }
+}

@@ -1,0 +1,60 @@
+ghost use Rattle.std.specs.Prelude.{◌≡◌};
+ghost use Rattle.totem_verdicts.specs.VerdictFaults.{run_verdict_fault, cert_verdict_fault, write_verdict_fault};
+
+use thiserror::Error;
+use totem_cert::CertFault;
+use totem_check::CheckFault;
+use totem_evs::{RunFault, WriteFault};
+
+/// Why a call from stream to stream gave no verdict. At every fault but `Write` nothing was written.
+#[derive(Debug, Drop, Error)]
+pub enum VerdictFault {
+    /// The run was refused, or its source failed. Never with `RunFault::Memory`.
+    #[error("the run was refused: {0}")]
+    Run(RunFault),
+    /// The certificate could not be read, or its source failed. Never with `CertFault::Memory`.
+    #[error("the certificate could not be read: {0}")]
+    Cert(CertFault),
+    /// The certificate does not certify the run. Never with `CheckFault::Broken` or `CheckFault::Memory`.
+    #[error("the certificate was refused: {0}")]
+    Refused(CheckFault),
+    /// Memory was refused.
+    #[error("out of memory")]
+    Memory,
+    /// The output failed. How much went out is not known.
+    #[error("write failed")]
+    Write,
+}
+
+impl From<RunFault> for VerdictFault {
+    ghost from_gives = { λ f e. e ≡ run_verdict_fault f };
+
+    fn from(fault: RunFault) -> VerdictFault {
+        match fault {
+            RunFault::Memory => VerdictFault::Memory,
+            other => VerdictFault::Run(other),
+        }
+    }
+}
+
+impl From<CertFault> for VerdictFault {
+    ghost from_gives = { λ f e. e ≡ cert_verdict_fault f };
+
+    fn from(fault: CertFault) -> VerdictFault {
+        match fault {
+            CertFault::Memory => VerdictFault::Memory,
+            other => VerdictFault::Cert(other),
+        }
+    }
+}
+
+impl From<WriteFault> for VerdictFault {
+    ghost from_gives = { λ f e. e ≡ write_verdict_fault f };
+
+    fn from(fault: WriteFault) -> VerdictFault {
+        match fault {
+            WriteFault::Memory => VerdictFault::Memory,
+            WriteFault::Write => VerdictFault::Write,
+        }
+    }
+}

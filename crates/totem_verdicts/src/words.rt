@@ -1,0 +1,147 @@
+//! The words of a command line.
+use crate::run_words::{RunWords, run_command, run_words};
+use clap::builder::ValueParser;
+use clap::{Arg, ArgAction, ArgMatches, Command, Error};
+use std::alloc::{AllocError, Global};
+
+/// What is asked of the run on the standard input.
+#[derive(Clone, Copy)]
+pub enum Asked {
+    /// Its audit, by 1 to 64 workers.
+    Audit { workers: u32 },
+    /// The same audit, told in words, by 1 to 64 workers.
+    Explain { workers: u32 },
+    /// The same audit, drawn as a picture, by 1 to 64 workers.
+    Draw { workers: u32 },
+    /// The check of the run and the certificate behind it.
+    Check,
+}
+
+/// What the words of a command line ask for.
+#[derive(Clone, Copy)]
+pub enum Words {
+    /// A verdict on the run on the standard input.
+    Verdict(Asked),
+    /// The run that the script on the standard input makes, or the line for which it makes none.
+    ExplainScript,
+    /// The run that the script on the standard input makes.
+    Sim,
+    /// The run that nodes in threads record.
+    Run(RunWords),
+    /// The same, and nobody is told how far it is.
+    RunQuietly(RunWords),
+}
+
+const ENDINGS: &str = "\
+Status: 0 yes, or a run was made, 1 no, or an orphan, 2 the input was refused, 3 out of memory, 4 a stream failed, 64 wrong words.";
+
+const AUDIT_EXAMPLE: &str = "\
+A log ends with the line open, with failed behind a failure, or from version 3 on with quiet, which says that nothing more was to come.
+Example: totem audit < examples/first-yes.run";
+
+const EXPLAIN_EXAMPLE: &str = "Example: totem explain < examples/first-no.run";
+
+const SIM_EXAMPLE: &str = "Example: totem sim < examples/partition-that-heals.script | totem audit";
+
+const CHECK_EXAMPLE: &str = "Example: totem check < examples/first-yes.checked";
+
+fn workers_option<'a>(alloc: Global) -> Arg<'a> {
+    Arg::new(alloc, "workers")
+        .long("workers")
+        .value_name("W")
+        .value_parser(ValueParser::Unsigned(1, 64))
+        .default_value("1")
+        .help("How many threads judge the run, from 1 to 64; what is written is the same")
+}
+
+fn audit_command<'a>(alloc: Global) -> Result<Command<'a>, AllocError> {
+    Command::new(alloc, "audit")
+        .about("Judges the run on the standard input, and writes a report")
+        .after_help(AUDIT_EXAMPLE)
+        .arg(workers_option(alloc))
+}
+
+fn svg_option<'a>(alloc: Global) -> Arg<'a> {
+    Arg::new(alloc, "svg")
+        .long("svg")
+        .action(ArgAction::SetTrue)
+        .help(
+            "Draws a picture in SVG: the run around its first fault, or a run that meets the specifications",
+        )
+}
+
+fn script_option<'a>(alloc: Global) -> Arg<'a> {
+    Arg::new(alloc, "script")
+        .long("script")
+        .action(ArgAction::SetTrue)
+        .help("Follows a script as sim does, and shows the line for which it is refused")
+}
+
+fn explain_command<'a>(alloc: Global) -> Result<Command<'a>, AllocError> {
+    Command::new(alloc, "explain")
+        .about(
+            "Judges the run on the standard input, and tells in words what is broken, by what, and where; or where its text is refused",
+        )
+        .after_help(EXPLAIN_EXAMPLE)
+        .arg(workers_option(alloc))?
+        .arg(svg_option(alloc))?
+        .arg(script_option(alloc).conflicts_with("svg")?)
+}
+
+/// Returns what the words behind `explain` ask for.
+fn explain_words(matches: &ArgMatches<'_>) -> Words {
+    let workers = workers_of(matches);
+    if matches.get_flag("script") {
+        return Words::ExplainScript;
+    }
+    if matches.get_flag("svg") {
+        return Words::Verdict(Asked::Draw { workers });
+    }
+    Words::Verdict(Asked::Explain { workers })
+}
+
+/// Returns how many workers the words of an audit or an explanation ask for.
+fn workers_of(matches: &ArgMatches<'_>) -> u32 {
+    matches.get_one::<u32>("workers").unwrap_or(1)
+}
+
+fn check_command<'a>(alloc: Global) -> Command<'a> {
+    Command::new(alloc, "check")
+        .about("Judges a run and its certificate, one after the other on the standard input")
+        .after_help(CHECK_EXAMPLE)
+}
+
+fn sim_command<'a>(alloc: Global) -> Command<'a> {
+    Command::new(alloc, "sim")
+        .about("Follows the script on the standard input, and writes the run that its nodes record")
+        .after_help(SIM_EXAMPLE)
+}
+
+fn command<'a>(alloc: Global) -> Result<Command<'a>, AllocError> {
+    Command::new(alloc, "totem")
+        .version("0.2.0")
+        .about("Audits the logs of a process group: what was sent, delivered and installed")
+        .after_help(ENDINGS)
+        .subcommand_required(true)
+        .subcommand(audit_command(alloc)?)?
+        .subcommand(explain_command(alloc)?)?
+        .subcommand(check_command(alloc))?
+        .subcommand(sim_command(alloc))?
+        .subcommand(run_command(alloc)?)
+}
+
+/// Reads the words, of which the first is the program's name. An error has the text for the person who typed them.
+pub fn read_words(alloc: Global, words: &[String]) -> Result<Words, Error> {
+    let matches = command(alloc)?.try_get_matches_from(words)?;
+    Ok(match matches.subcommand() {
+        Some(("check", _)) => Words::Verdict(Asked::Check),
+        Some(("sim", _)) => Words::Sim,
+        Some(("run", run)) if run.get_flag("quiet") => Words::RunQuietly(run_words(run)),
+        Some(("run", run)) => Words::Run(run_words(run)),
+        Some(("explain", explain)) => explain_words(explain),
+        Some((_, audit)) => Words::Verdict(Asked::Audit {
+            workers: workers_of(audit),
+        }),
+        None => Words::Verdict(Asked::Audit { workers: 1 }),
+    })
+}

@@ -1,0 +1,49 @@
+"""The auditor alone, asked what the whole program is asked."""
+import os
+import tempfile
+from functools import partial
+
+from harness import process
+from harness import rows as row_files
+
+REPOSITORY = os.path.dirname(os.path.dirname(os.path.dirname(os.path.dirname(os.path.abspath(__file__)))))
+BUILT = os.path.join(REPOSITORY, 'crates', 'totem_auditor', 'out', 'totem_auditor')
+# Help tells the name by which a program is called, so it is called by that of the whole one, as `./totem` does.
+ROOM = tempfile.TemporaryDirectory()
+AUDITOR = os.path.join(ROOM.name, 'totem')
+os.symlink(BUILT, AUDITOR)
+LACKING = process.Answer(64, b'', b'totem: this is the auditor alone: sim, run and explain --script want the whole program\n')
+
+
+def asks_for_run(words):
+    """Whether these words, if they are right, ask for a run or a script."""
+    return '--help' not in words and (words[:1] in (('sim',), ('run',)) or (words[:1] == ('explain',) and '--script' in words))
+
+
+def try_words(words, given, program):
+    """The auditor answers as the program does; where a run is wanted it says that it makes none."""
+    came, _ = process.run([AUDITOR, *words], given)
+    if asks_for_run(words) and came == LACKING:
+        return None
+    wanted, _ = process.run([program, *words], given)
+    return None if came == wanted else 'came:   %s\n  wanted: %s' % (came, LACKING if asks_for_run(words) else wanted)
+
+
+def try_lacking(words, _program):
+    """These words get the auditor's line."""
+    came, _ = process.run([AUDITOR, *words])
+    return None if came == LACKING else 'came: %s' % came
+
+
+def auditor():
+    """The words and the input of each row, help for each verb, and the words that ask for a run."""
+    if not os.access(BUILT, os.X_OK):
+        yield 'it is there', lambda _program: '%s is not there: `rt ci` builds it' % BUILT
+        return
+    for name in row_files.names():
+        for row in row_files.read_asked(name):
+            yield '%s: totem_auditor %s' % (name, ' '.join(row.words)), partial(try_words, row.words, row.given)
+    for verb in ('audit', 'check', 'explain', 'sim', 'run', 'help'):
+        yield 'help ' + verb, partial(try_words, ('help', verb), b'')
+    for words in (('sim',), ('run', '--nodes', '3'), ('run', '--lose', '60', '--repeat', '60'), ('explain', '--script')):
+        yield 'no run: ' + ' '.join(words), partial(try_lacking, words)
