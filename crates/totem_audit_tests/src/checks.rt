@@ -67,7 +67,7 @@ fn push_both(
     run: &Run,
     certificate: &Certificate,
 ) -> Result<(), AllocError> {
-    push_certified(text, certified(run, certificate))?;
+    push_certified(text, certified(alloc, run, certificate)?)?;
     push_checked(alloc, text, &check(alloc, run, certificate))
 }
 
@@ -119,7 +119,7 @@ struct Row {
     told: &'static str,
 }
 
-const ROWS: [Row; 15] = [
+const ROWS: [Row; 17] = [
     Row {
         about: "a certificate",
         logs: DELIVERED,
@@ -197,6 +197,18 @@ const ROWS: [Row; 15] = [
         logs: TWO_SENDS,
         lines: "pos 1 1 2\npos 2 1 2\n",
         told: "SharedPosition SharedPosition 5; SharedPosition 5",
+    },
+    Row {
+        about: "a late send before twins that differ",
+        logs: DELIVERED,
+        lines: "pos 1 1 4 5\npos 2 2 3\n",
+        told: "SendNotBefore SendNotBefore 3; SendNotBefore 3",
+    },
+    Row {
+        about: "twins that differ before numbers that are shared",
+        logs: TWO_SENDS,
+        lines: "pos 1 1 3\npos 2 2 3\n",
+        told: "TwinsDiffer TwinsDiffer 4; TwinsDiffer 4",
     },
     Row {
         about: "a delivery of what was not sent",
