@@ -39,16 +39,19 @@ number_ahead run lines passed i at n line matches at_line at_passed at_number =
     let found = log_at run lines i line matches at_line in
     let both = matches_at run lines i found.0 line matches found.1 at_line in
     let within = slice_get_within line.numbers at n at_number in
-    let entry = at_index found.0.entries at (omega (arith, both.1)) in
-    (place found.0.proc at, entry.0, record {
-      log = found.0;
-      line = line;
-      at = at;
-      log_is = found.1;
-      line_is = at_line;
-      at_is = at_passed;
-      is = record { entry_is = entry.1; number_is = at_number; place_is = refl };
-    })
+    let entry = at_index found.0.entries at (omega (arith, both.1)) in (
+      place found.0.proc at,
+      entry.0,
+      record {
+        log = found.0;
+        line = line;
+        at = at;
+        log_is = found.1;
+        line_is = at_line;
+        at_is = at_passed;
+        is = record { entry_is = entry.1; number_is = at_number; place_is = refl };
+      },
+    )
 
 -- ---- what has been passed
 
@@ -111,7 +114,8 @@ module _ (lines : List Numbering) (passed : List ℕ) (last : ℕ) (rise : Lines
         | inr same ↦ let one : n ≡ head.number = (let here : slice_get line.numbers a ≡ Some n = rw same at at_number in cc) in omega arith
       ]
     ],
-    λ le. later_number i a j n line at_line at_passed at_number (omega arith))
+    λ le. later_number i a j n line at_line at_passed at_number (omega arith),
+  )
   step_of i a b j n line at_line at_passed at_number (inr (never, same)) = (
     λ lt. let before = h.before i a j n line at_line at_passed at_number (omega arith) in let above = head_is_above in omega arith,
     λ le. elim (less_or_not a j) [
@@ -129,7 +133,8 @@ module _ (lines : List Numbering) (passed : List ℕ) (last : ℕ) (rise : Lines
               ]
             ]
       ]
-    ])
+    ],
+  )
 
   -- where each line has made the step, the numbers up to that of the head have been passed
   pub step_passed : (new : List ℕ) → IsStepped lines head.number passed new (length lines) → IsPassed lines new head.number
@@ -155,7 +160,11 @@ module _ (lines : List Numbering) (passed : List ℕ) (last : ℕ) (rise : Lines
       let at = at_index passed l.index (omega arith) in
       elim (place_of_number l.index at.0 l.at n l.line l.line_is at.1 l.number_is le) [
         | inl before ↦ inl before
-        | inr (same, here) ↦ inr (same, l.index, within, record {
+        | inr (same, here) ↦ inr (
+          same,
+          l.index,
+          within,
+          record {
             log = l.log;
             line = l.line;
             at = at.0;
@@ -163,7 +172,8 @@ module _ (lines : List Numbering) (passed : List ℕ) (last : ℕ) (rise : Lines
             line_is = l.line_is;
             at_is = at.1;
             is = record { entry_is = rw here at l.entry_is; number_is = rw here at l.number_is; place_is = rw (← here) (place_is run lines f y n l) };
-          })
+          },
+        )
       ]
 
 -- where no line has a number left, all have been passed

@@ -14,7 +14,7 @@ pub returns-then-not-branch : goal.returns-then-not-branch
 returns-then-not-branch c = elim c.then-not-branch.branch [
   | then-not-branch-via-then-not-branch w ↦
       too_late _ _ _ _ _ _ _ (ahead_stands _ _ _ _ _ _ _ c.requires.run.rising c.requires.matches c.event_at-first.ensures.ahead) (head_is_above _ _ _ c.requires.rise c.loop-head.invariant.passed _ c.in-Some.ensures) c.loop-head.invariant.classes
-          (rw w.if-not-branch.true at c.in_ok-note.ensures.new)
+      (rw w.if-not-branch.true at c.in_ok-note.ensures.new)
   | then-not-branch-via-else-not-branch+then-not-are_one w ↦ inr (inr (others_share _ _ w.if-not-are_one.ensures))
 ]
 
