@@ -1,8 +1,9 @@
 #!/usr/bin/env python3
-"""Times `totem audit` on families of runs.
+"""Times `totem audit` on families of runs, and `totem check` on the certificates that it gives.
 
 For each family and each size it makes a run, lets the program judge it, and prints a line: the entries, the verdict, the least
-wall time of a few tries, the peak memory, what that is for an entry, and how often the time of the size before it was needed.
+wall time of a few tries, the peak memory, what that is for an entry, and how often the time of the size before it was needed; of
+a yes also the time and the memory of the check of its certificate, and of a check of the same certificate with its last number moved.
 A family whose time grows much faster than its entries is a defect.
 
     ./totem prove                                  # proves and builds the program, once
@@ -221,20 +222,44 @@ print(os.waitstatus_to_exitcode(status), time.perf_counter() - start, used.ru_ma
 
 
 def judged(words, run, limit):
-    """The verdict, the wall time and the peak memory in MiB of one audit; no verdict where it takes longer than the limit."""
+    """The verdict, the wall time and the peak memory in MiB of one audit or check; no verdict where it takes longer than the limit, or
+    where a certificate is refused."""
     with tempfile.TemporaryFile() as out:
         run.seek(0)
         started = [sys.executable, "-S", "-c", STARTER, str(limit), *words]
         told = subprocess.run(started, stdin=run, stdout=out, stderr=subprocess.PIPE, text=True, check=True).stderr.split()
         status, took, memory = int(told[0]), float(told[1]), int(told[2])
-        if status == 124:
-            return None, took, 0
+        if status in (2, 124):
+            return None, took, memory / 1024
         if status not in (0, 1):
             sys.exit(f"audit.py: {' '.join(words)} ended with status {status}")
         out.seek(0)
         verdict, first = out.readline().decode().strip(), out.readline().decode().strip()
         fault = f" ({' '.join(first.split()[1:2])})" if verdict == "verdict no" else ""
         return verdict.removeprefix("verdict ") + fault, took, memory / 1024
+
+
+def moved(certificate):
+    """The certificate with the last number of its last log moved by one."""
+    body, last, end = certificate.rpartition(b" ")
+    number, _, rest = end.partition(b"\n")
+    return body + last + str(int(number) + 1).encode() + b"\n" + rest
+
+
+def checks_of(run, arguments):
+    """The check of the run with the certificate that its audit gives, and with that one changed: times and peak memory."""
+    run.seek(0)
+    told = subprocess.run([str(arguments.program), "audit"], stdin=run, capture_output=True, check=True).stdout
+    certificate = told[told.index(b"totem-cert") :]
+    columns = []
+    for text in (certificate, moved(certificate)):
+        with tempfile.TemporaryFile() as both:
+            run.seek(0)
+            both.write(run.read() + text)
+            tries = [judged([str(arguments.program), "check"], both, arguments.limit) for _ in range(arguments.tries)]
+        took, memory = min(it[1] for it in tries), max(it[2] for it in tries)
+        columns.append(f"{took:.3f} s, {memory:.0f} MiB")
+    return columns
 
 
 def lines_of(name, arguments):
@@ -251,13 +276,14 @@ def lines_of(name, arguments):
                 tries.append(judged(words, run, arguments.limit))
                 if tries[-1][0] is None or tries[-1][1] > 5:
                     break
+            checks = checks_of(run, arguments) if tries[-1][0] == "yes" else ["", ""]
         verdict, took, _ = min(tries, key=lambda it: it[1])
         if verdict is None:
-            yield f"| {what} | {entries:,} | - | above {arguments.limit} s | | | |"
+            yield f"| {what} | {entries:,} | - | above {arguments.limit} s | | | | | |"
             return
         memory = max(it[2] for it in tries)
         growth = f"{took / before[1]:.1f} for {entries / before[0]:.1f}" if before else ""
-        yield f"| {what} | {entries:,} | {verdict} | {took:.3f} s | {memory:.0f} MiB | {memory * 2**20 / entries:.0f} | {growth} |"
+        yield f"| {what} | {entries:,} | {verdict} | {took:.3f} s | {memory:.0f} MiB | {memory * 2**20 / entries:.0f} | {growth} | {' | '.join(checks)} |"
         before = entries, took
 
 
@@ -285,8 +311,8 @@ def main():
         return
     if not os.access(arguments.program, os.X_OK):
         parser.error(f"{arguments.program} is not built: ./totem prove builds it")
-    print("| Run | Entries | Verdict | Time | Peak memory | Bytes an entry | Times the time, for times the entries |")
-    print("|---|---|---|---|---|---|---|")
+    print("| Run | Entries | Verdict | Time | Peak memory | Bytes an entry | Times the time, for times the entries | Check | Refusal |")
+    print("|---|---|---|---|---|---|---|---|---|")
     for name in names:
         for line in lines_of(name, arguments):
             print(line, flush=True)
