@@ -34,7 +34,6 @@ fn early_fault(alloc: Global, run: &Run, changes: &Changes) -> Result<Option<Fau
 }
 
 /// Judges a certified run that has passed A and B by the last pass.
-#[tactic(auto, using(crate::proofs::Checking::has_met))]
 fn settle(alloc: Global, run: &Run, changes: Changes) -> Result<Accepted, CheckFault>
     requires certificate { HasCertificate run.now.logs }
     requires passed { HasPassed run.now.logs }
