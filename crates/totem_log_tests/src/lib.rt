@@ -1,4 +1,4 @@
-//! Tests of runs and certificates, by public calls.
+//! Tests of runs, certificates and the rules of one configuration, by public calls.
 #![tactic(auto)]
 
 #[cfg(test)]
@@ -15,6 +15,8 @@ mod made_texts;
 mod names;
 #[cfg(test)]
 mod positions;
+#[cfg(test)]
+mod rules;
 #[cfg(test)]
 mod sources;
 #[cfg(test)]

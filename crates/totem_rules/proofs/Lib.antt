@@ -1,0 +1,12 @@
+pub mod Sets
+pub mod Facts
+pub mod Owned
+pub mod AllCome
+pub mod Safe
+pub mod Together
+pub mod Gapless
+pub mod Caused
+pub mod Agreeing
+pub mod Missing
+pub mod Rowing
+pub mod InSequence

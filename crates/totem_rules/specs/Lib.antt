@@ -1,0 +1,5 @@
+pub mod LogSets
+pub mod Traffics
+pub mod Clean
+pub mod Lacking
+pub mod Pending
