@@ -78,7 +78,7 @@ def changed(rng, lines):
             numbers[at] = rng.choice(everything)
         elif kind == 2 and at:
             numbers[at - 1], numbers[at] = numbers[at], numbers[at - 1]
-        elif kind == 3:
+        elif kind == 3 and len(everything) > 1:
             pair = rng.sample(everything, 2)
             other = dict(zip(pair, pair[::-1]))
             lines = [(name, [other.get(number, number) for number in some]) for name, some in lines]
