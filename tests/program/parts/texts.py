@@ -9,6 +9,12 @@ EXAMPLES = os.path.join(os.path.dirname(row_files.FOLDER), '..', 'examples')
 # Scripts of the folder `examples`, and the report of the run that each makes.
 AUDITS = {
     'ring-entered-twice.script': b'verdict no\nfault 4 2@3 2@4 1@3\nend\n',
+    'broken/2.2.script': b'verdict no\nfault 2.2 3@3\nend\n',
+    'broken/4.script': b'verdict no\nfault 4 3@5 3@6 2@5\nend\n',
+    'broken/4-7.1.script': b'verdict no\nfault 4 3@5 3@6 2@5\nfault 7.1 3@5\nend\n',
+    'broken/5.script': b'verdict no\nfault 5 3@2 3@3 2@5\nend\n',
+    'broken/4-5-6.3.script': b'verdict no\nfault 4 3@6 3@8 2@6\nfault 5 3@2 3@3 2@5\nfault 6.3 3@6 3@7 2@5\nend\n',
+    'broken/4-5-6.3-7.1.script': b'verdict no\nfault 4 3@6 3@8 2@6\nfault 5 3@2 3@3 2@5\nfault 6.3 3@6 3@7 2@5\nfault 7.1 3@6\nend\n',
 }
 # Scripts of that folder, and the specifications that the runs which they make break.
 BROKEN = {

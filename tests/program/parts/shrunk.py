@@ -1,0 +1,175 @@
+"""Broken runs made small by `tools/shrink`, and looked for by `tools/hunt`."""
+import hashlib
+import os
+import signal
+import subprocess
+import tempfile
+import time
+from functools import partial
+
+from harness import process
+from harness import rows as row_files
+from parts.texts import EXAMPLES
+
+TOOLS = os.path.join(row_files.REPOSITORY, 'tools')
+
+# What becomes of the recording in which a message is delivered on two rings.
+DELIVERED_TWICE = b"""totem-run 1
+log 1
+conf r4.1 1
+dlv r4.1 8.1#1
+conf t8.1/1 1
+conf r8.1 1
+dlv r8.1 8.1#1
+open
+end
+"""
+# A run that breaks 3, 4 and 7.1, and what becomes of it where all three have to stay broken, or 3 alone.
+THREE = b"""totem-run 1
+log 3
+conf r4.3 3 5 7
+send r4.3 s 4.3#2
+dlv r4.3 4.3#2
+send r4.3 a 4.3#5
+conf t8.3/3 3 5
+conf r8.3 3 5
+open
+log 5
+conf r4.3 3 5 7
+conf t8.3/3 3 5
+conf r8.3 3 5
+open
+log 7
+conf r4.3 3 5 7
+fail r4.3
+failed
+end
+"""
+SMALL_THREE = b"""totem-run 1
+log 1
+conf r4.1 1 2
+send r4.1 s 4.1#1
+dlv r4.1 4.1#1
+send r4.1 a 4.1#2
+conf t8.1/1 1 2
+conf r8.1 1 2
+open
+log 2
+conf r4.1 1 2
+conf t8.1/1 1 2
+conf r8.1 1 2
+open
+end
+"""
+SMALL_OWN = b'totem-run 1\nlog 1\nconf r4.1 1\nsend r4.1 a 4.1#1\nconf t8.1/1 1\nconf r8.1 1\nopen\nend\n'
+YES = b'totem-run 1\nlog 1\nconf r4.1 1\nopen\nend\n'
+# What is refused: the words, the input, and what is said.
+REFUSED = {
+    'a run that is a yes': ('', YES, 'shrink: the verdict on this run is yes'),
+    'a run that is none': ('', b'totem-run 1\nlog 1\n', 'shrink: totem: run refused: 7 Truncated'),
+    'another specification': ('--specification 5', THREE, 'shrink: this run does not break 5, but 3, 4, 7.1'),
+    'a script whose run is a yes': (
+        '--script', b'totem-script 1\nring 4.1 1\nend\n', 'shrink: the verdict on the run of this script is yes'),
+    'a script that is none': ('--script', b'totem-script 1\nring 4.1 1\nrun x\nend\n', 'shrink: totem: script refused: 3 Number'),
+    'a program that is missing': ('--program /no/such/program', YES, 'shrink: the program /no/such/program is not there'),
+    'a file that is missing': ('/no/such/file', b'', 'shrink: /no/such/file: No such file or directory'),
+}
+# The first seeds: how many, what is told of them, and the scripts that they make.
+SEEDS = 120
+SEEN = b'120 runs: 21879 packets came, 180 rings were installed; 120 yes, 0 no\n'
+SCRIPTS = '235cf057428cbc520a059d6d847b71ccaf64d70d97c9acc2d1bc679ce090a1d4'
+
+
+def call(tool, words, given=b'', output=subprocess.PIPE):
+    """The status, the output and the errors of a tool."""
+    came = subprocess.run([os.path.join(TOOLS, tool), *words], input=given, stdout=output, stderr=subprocess.PIPE,
+                          env=process.ENVIRONMENT, timeout=process.allowed(process.SECONDS), check=False)
+    return process.Answer(came.returncode, came.stdout, came.stderr)
+
+
+def try_shrunk(words, given, wanted, told, program):
+    """A run becomes this one, and this is told of it."""
+    came = call('shrink', [*words, '--jobs', '1', '--program', program], given)
+    is_right = (came.status, came.output) == (0, wanted) and told in came.errors
+    return None if is_right else 'came: %s\n  wanted: %r, and told %r' % (came, wanted, told)
+
+
+def try_recording(program):
+    """A recording becomes nine lines, which are audited and explained."""
+    folder = os.path.join(EXAMPLES, 'corosync', 'delivered-twice')
+    given = call('logs', ['join', folder]).output
+    told = b'lines became one of 9\nfault 1.4 1@2 1@5\n\nNo: the run breaks extended virtual synchrony.\n'
+    return try_shrunk([], given, DELIVERED_TWICE, told, program)
+
+
+def try_refused(words, given, said, program):
+    """What is refused is told in a line, with nothing written."""
+    came = call('shrink', [*words.split(), *([] if '--program' in words else ['--program', program])], given)
+    is_right = (came.status, came.output, came.errors.count(b'\n')) == (1, b'', 1) and came.errors.startswith(said.encode())
+    return None if is_right else 'came: %s\n  wanted: %r' % (came, said)
+
+
+def try_words(tool, words, _program):
+    """Words that ask for nothing that there is are told how the tool is called."""
+    came = call(tool, words.split())
+    is_right = (came.status, came.output) == (64, b'') and came.errors.startswith(b'usage: %s ' % tool.encode())
+    return None if is_right else 'came: %s' % came
+
+
+def try_full(program):
+    """Where the output takes no more, the status says so."""
+    with open('/dev/full', 'wb') as full:
+        came = call('shrink', ['--program', program], THREE, output=full)
+    return None if came.status == 4 and came.errors.endswith(b'shrink: write failed\n') else 'came: %s' % came
+
+
+def try_hunt(program):
+    """A small hunt sees what it saw before, and keeps nothing, as it finds nothing."""
+    with tempfile.TemporaryDirectory() as folder:
+        kept = os.path.join(folder, 'found')
+        came = call('hunt', ['--seeds', '0', str(SEEDS - 1), '--keep', kept, '--jobs', '1', '--program', program])
+        is_right = (came.status, came.output, came.errors) == (0, SEEN, b'') and not os.path.exists(kept)
+    return None if is_right else 'came: %s' % came
+
+
+def try_seeds(_program):
+    """The same seeds make the same scripts everywhere."""
+    made = b''.join(call('hunt', ['--show', str(seed)]).output for seed in (0, 17, SEEDS - 1))
+    came = hashlib.sha256(made).hexdigest()
+    return None if came == SCRIPTS else 'came: scripts of the sum %s' % came
+
+
+def try_interrupt(program):
+    """An interrupt ends a hunt, which tells what it has seen."""
+    with tempfile.TemporaryDirectory() as kept:
+        words = [os.path.join(TOOLS, 'hunt'), '--seeds', '0', '999999', '--keep', kept, '--jobs', '2', '--program', program]
+        with subprocess.Popen(words, stdout=subprocess.PIPE, stderr=subprocess.PIPE, env=process.ENVIRONMENT) as hunt:
+            time.sleep(process.allowed(2))
+            hunt.send_signal(signal.SIGINT)
+            output, errors = hunt.communicate(timeout=process.allowed(process.SECONDS))
+    is_right = hunt.returncode == 0 and b' runs: ' in output and errors.endswith(b'hunt: interrupted\n')
+    return None if is_right else 'came: status %s, output %r, errors %r' % (hunt.returncode, output, errors)
+
+
+def try_lost_program(_program):
+    """A hunt without a program says so."""
+    came = call('hunt', ['--seeds', '0', '9', '--program', '/no/such/program'])
+    is_right = (came.status, came.output, came.errors) == (1, b'', b'hunt: the program /no/such/program is not there\n')
+    return None if is_right else 'came: %s' % came
+
+
+def shrunk():
+    """Runs made small, and a small hunt."""
+    yield 'a recording', try_recording
+    yield 'three specifications', partial(try_shrunk, [], THREE, SMALL_THREE, b'\nfault 7.1 1@3\n')
+    yield 'one of them', partial(try_shrunk, ['--specification', '3'], THREE, SMALL_OWN, b'\nfault 3 1@2\n')
+    for what, (words, given, said) in REFUSED.items():
+        yield what, partial(try_refused, words, given, said)
+    for tool, words in (('shrink', '--nothing'), ('shrink', '--jobs 0'), ('hunt', ''), ('hunt', '--seeds 7'), ('hunt', '--seeds 7 3'),
+                        ('hunt', '--show -1')):
+        yield 'the words %s %s' % (tool, words), partial(try_words, tool, words)
+    yield 'a full device', try_full
+    yield 'the first seeds', try_seeds
+    yield 'a small hunt', try_hunt
+    yield 'a hunt that is interrupted', try_interrupt
+    yield 'a hunt without a program', try_lost_program

@@ -1,0 +1,93 @@
+"""The built program: its verbs, each asked of a text, and what it answers."""
+import os
+from typing import NamedTuple
+
+TOP = os.path.dirname(os.path.dirname(os.path.dirname(os.path.abspath(__file__))))
+# Where the launcher leaves the whole program, and the auditor alone, which answers `audit` and `explain`.
+WHOLE, AUDITOR = (os.path.join(TOP, 'crates', name, 'out', name) for name in ('totem', 'totem_auditor'))
+ENVIRONMENT = {'PATH': '/usr/bin:/bin', 'LANG': 'C.UTF-8'}
+MOST_READ = 1 << 30
+
+
+class Refused(Exception):
+    """What was given can't be used. The text says what, where, and why."""
+
+
+class Answer(NamedTuple):
+    """The status of the program, what it wrote, and what it told."""
+
+    status: int
+    output: bytes
+    errors: bytes
+
+
+class Verdict(NamedTuple):
+    """What an audit says: whether it is a no, and the faults, each as its specification and its places."""
+
+    is_no: bool
+    faults: tuple
+
+    @property
+    def broken(self):
+        """The specifications that are broken, in the order of the report, each once."""
+        return tuple(dict.fromkeys(specification for specification, _ in self.faults))
+
+
+def _verdict_of(report):
+    words = [line.split() for line in report.decode('ascii').splitlines()]
+    return Verdict(words[0] == ['verdict', 'no'], tuple((line[1], tuple(line[2:])) for line in words if line[0] == 'fault'))
+
+
+class Program:
+    """The program at a path."""
+
+    def __init__(self, path, makes_runs=False):
+        places = [path] if path else [WHOLE] if makes_runs else [WHOLE, AUDITOR]
+        self.path = next((os.path.abspath(place) for place in places if os.access(place, os.X_OK) and os.path.isfile(place)), None)
+        if not self.path:
+            builds = '' if path else ': `./totem prove` builds it, and --program takes another one'
+            raise Refused('the program %s is not there%s' % (places[0], builds))
+
+    def ask(self, words, given):
+        """Runs the program to its end. Its streams are files in memory."""
+        files = [os.memfd_create(name) for name in ('input', 'output', 'errors')]
+        try:
+            with open(files[0], 'wb', closefd=False) as it:
+                it.write(given)
+            os.lseek(files[0], 0, os.SEEK_SET)
+            actions = [(os.POSIX_SPAWN_DUP2, file, number) for number, file in enumerate(files)]
+            _, code = os.waitpid(os.posix_spawn(self.path, [self.path, *words], ENVIRONMENT, file_actions=actions), 0)
+            status = os.WEXITSTATUS(code) if os.WIFEXITED(code) else 128 + os.WTERMSIG(code)
+            return Answer(status, *(os.pread(file, MOST_READ, 0) for file in files[1:]))
+        finally:
+            for file in files:
+                os.close(file)
+
+    def audit(self, text):
+        """The verdict on the text of a run, or None where it is refused."""
+        return self._judged(self.ask(['audit'], text), 'audit')
+
+    def play(self, script):
+        """The text of the run that a script makes, or None where the script is refused."""
+        answer = self.ask(['sim'], script)
+        if answer.status not in (0, 2):
+            raise Refused('`%s sim` ended with status %d: %s' % (self.path, answer.status, self._told(answer)))
+        return answer.output if answer.status == 0 else None
+
+    def explain(self, text):
+        """The verdict in words."""
+        return self.ask(['explain'], text).output.decode('utf-8', 'replace')
+
+    def flaw(self, text, is_script):
+        """Why the program refuses a text, in a line."""
+        return self._told(self.ask(['sim' if is_script else 'audit'], text))
+
+    def _judged(self, answer, verb):
+        if answer.status not in (0, 1, 2):
+            raise Refused('`%s %s` ended with status %d: %s' % (self.path, verb, answer.status, self._told(answer)))
+        return None if answer.status == 2 else _verdict_of(answer.output)
+
+    @staticmethod
+    def _told(answer):
+        lines = answer.errors.decode('utf-8', 'replace').splitlines()
+        return lines[0] if lines else 'it told nothing'

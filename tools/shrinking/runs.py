@@ -1,0 +1,100 @@
+"""Broken runs made small."""
+import hashlib
+
+from shrinking import leaving_out, naming
+from shrinking.program import Refused
+from shrinking.reducing import Trials, fewest
+from shrinking.run_text import entry_at, read, write
+
+# In which order parts are left out: the large ones first.
+KINDS = (leaving_out.processes, leaving_out.configurations, leaving_out.messages, leaving_out.claims, leaving_out.entries,
+         leaving_out.members)
+NAMINGS = (naming.of_least_version, naming.with_small_processes, naming.with_small_rings, naming.with_small_messages)
+
+
+def digest(text):
+    """Tells texts apart."""
+    return hashlib.blake2b(text, digest_size=16).digest()
+
+
+def kind_of(entry):
+    """What an event is: a change and to which kind of configuration, a send or a delivery, or a failure."""
+    return entry.kind + ' ' + entry.configuration[0] if entry.kind == 'conf' else entry.kind
+
+
+def kinds_of(run, verdict):
+    """For each specification that is broken the kinds of the events of its first fault."""
+    told = {}
+    for specification, places in verdict.faults:
+        told.setdefault(specification, tuple(kind_of(entry_at(run, place)) for place in places))
+    return told
+
+
+class Aim:
+    """What has to stay: the specifications that are broken; or that this one is among them; and, if it is asked, the kinds of the events
+    that the first fault of each names."""
+
+    def __init__(self, run, verdict, specification=None, same_places=False):
+        self.broken = (specification,) if specification else verdict.broken
+        self.is_among = bool(specification)
+        self.kinds = self._kinds(run, verdict) if same_places else None
+
+    def _kinds(self, run, verdict):
+        told = kinds_of(run, verdict)
+        return {specification: told[specification] for specification in self.broken}
+
+    def is_met_by(self, run, verdict):
+        """Whether a run with this verdict will do."""
+        if not verdict or not verdict.is_no:
+            return False
+        if not (set(self.broken) <= set(verdict.broken) if self.is_among else self.broken == verdict.broken):
+            return False
+        return self.kinds is None or self.kinds == self._kinds(run, verdict)
+
+
+class RunShrinker:
+    """Makes a broken run small. `tell` is told how far it is."""
+
+    def __init__(self, program, text, jobs=1, tell=None, **asked):
+        verdict = program.audit(text)
+        if verdict is None:
+            raise Refused(program.flaw(text, is_script=False))
+        if not verdict.is_no:
+            raise Refused('the verdict on this run is yes: nothing is broken that could be made small')
+        if asked.get('specification') not in (None, *verdict.broken):
+            raise Refused('this run does not break %s, but %s' % (asked['specification'], ', '.join(verdict.broken)))
+        self.program = program
+        self.run = read(text)
+        self.verdict = verdict
+        self.aim = Aim(self.run, verdict, **asked)
+        self.trials = Trials(self._holds, lambda run: digest(write(run)), jobs, self._take)
+        self.tell = tell or (lambda lines, tried: None)
+
+    def _holds(self, run):
+        return bool(run.logs) and self.aim.is_met_by(run, self.program.audit(write(run)))
+
+    def _take(self, candidate):
+        self.run = candidate
+        self.tell(candidate.lines, len(self.trials.known))
+
+    @property
+    def text(self):
+        """The text of the smallest run that was found so far."""
+        return write(self.run)
+
+    def _begin(self):
+        """First what the faults name is tried alone: the first one of each specification that has to stay."""
+        first = {specification: places for specification, places in reversed(self.verdict.faults)}
+        places = [place for name in self.aim.broken for place in first[name]]
+        self.trials.first([lambda: leaving_out.around(self.run, places)])
+
+    def shrink(self):
+        """Looks for the smallest run."""
+        self._begin()
+        before = None
+        while before != self.run.lines:
+            before = self.run.lines
+            for kind in KINDS:
+                fewest(*kind(self.run), self.trials)
+        for with_small_numbers in NAMINGS:
+            self.trials.first([lambda: with_small_numbers(self.run)])
