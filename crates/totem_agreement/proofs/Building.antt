@@ -13,11 +13,12 @@ use Rattle.totem_evs.proofs.LogOf.{log_of_at, log_of_cases, in_order}
 use Rattle.totem_agreement.specs.declared.comings.Arrival.{Arrival}
 use Rattle.totem_agreement.specs.declared.stay.Stay.{Stay}
 use Rattle.totem_agreement.specs.Arrivals.{IsArrival, AreArrivals}
-use Rattle.totem_agreement.specs.Stays.{AreNextTwo, IsStay, IsStayOf, HasStay, AreStays}
-use Rattle.totem_agreement.proofs.Staying.{is_stay}
+use Rattle.totem_rules.specs.Stays.{AreNextTwo, IsStay}
+use Rattle.totem_agreement.specs.Stays.{IsStayOf, HasStay, AreStays}
+use Rattle.totem_rules.proofs.Staying.{is_stay}
 use Rattle.totem_table.proofs.Pushing.{nothing, before_push}
-use Rattle.totem_passes.proofs.LogEnds.{ending_of_at}
-use Rattle.totem_agreement.proofs.Excusing.{quiet_never_fails}
+use Rattle.totem_rules.proofs.LogEnds.{ending_of_at}
+use Rattle.totem_judge.proofs.Endings.{quiet_never_fails}
 use Rattle.totem_agreement.proofs.KnownStays.{keeps_rules}
 
 -- the stay is the one that begins at this change

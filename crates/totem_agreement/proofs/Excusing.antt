@@ -17,16 +17,6 @@ use Rattle.totem_agreement.specs.declared.stay.Stay.{Stay}
 use Rattle.totem_agreement.specs.Stays.{IsExcused, IsStayOf}
 use Rattle.totem_agreement.proofs.Deciding.{both_or_not}
 
--- a quiet log has no failure: that would be its last entry
-pub quiet_never_fails : (entries : List Entry) (ending : Ending) → StaysInPlace entries → IsClosedBy entries ending → ending ≡ Quiet → NeverFails entries
-quiet_never_fails entries ending placed closed quiet i x fails = (let failed : ending ≡ Failed = closed.1 (i, Fail x, whole, fails, tt) in cc)
-  where
-    whole : length entries ≡ i + 1
-    whole = elim (less_or_not (i + 1) (length entries)) [
-      | inl lt ↦ absurd (placed.final i (i + 1) x fails (omega arith) lt)
-      | inr rest ↦ elim rest [ inl gt ↦ omega (arith, slice_get_within entries i (Fail x) fails) | inr same ↦ omega arith ]
-    ]
-
 pub excused_or_not : (stay : Stay) → IsExcused stay ⊎ (IsExcused stay → ⊥)
 excused_or_not stay = both_or_not (cases_eq stay.end (length stay.log.now)) (loud_or_not stay.quiet)
   where

@@ -12,9 +12,10 @@ use Rattle.totem_evs.specs.Events.{Sends, log_of}
 use Rattle.totem_evs.specs.Answers.{MeetsPasses}
 use Rattle.totem_evs.proofs.LogOf.{less_or_not}
 use Rattle.totem_agreement.specs.declared.stay.Stay.{Stay}
-use Rattle.totem_agreement.specs.Stays.{IsStay, HasStay, AreStays}
+use Rattle.totem_rules.specs.Stays.{IsStay}
+use Rattle.totem_agreement.specs.Stays.{HasStay, AreStays}
 use Rattle.totem_agreement.specs.Acts.{NeverComes, NobodySent}
-use Rattle.totem_agreement.proofs.Staying.{names_no_change}
+use Rattle.totem_rules.proofs.Staying.{names_no_change}
 use Rattle.totem_agreement.proofs.KnownStays as known
 
 -- none of the stays before the n-th is p's

@@ -28,7 +28,7 @@ use Rattle.totem_agreement.specs.Search.{IsInside, EachBeginsWithin, NoneWithin,
 use Rattle.totem_agreement.specs.Reached.{AreMembersAt}
 use Rattle.totem_agreement.specs.Gaps.{IsLack, IsOneLack, IsLater, IsEverywhere, TellsMember}
 use Rattle.totem_agreement.proofs.Deciding.{has_delivered_or_not}
-use Rattle.totem_agreement.proofs.Staying.{same_change}
+use Rattle.totem_rules.proofs.Staying.{same_change}
 use Rattle.totem_agreement.proofs.Reaching.{is_among_members, is_member}
 use Rattle.totem_agreement.proofs.Facts.{Facts, StayFacts, here_delivers}
 use Rattle.totem_agreement.proofs.Rests.{none_rest, least_rest, nothing_here, only_here, begins_at}

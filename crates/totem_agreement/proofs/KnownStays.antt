@@ -14,14 +14,16 @@ use Rattle.totem_evs.specs.Changes.{StandsIn, StaysInPlace, IsOneConfiguration, 
 use Rattle.totem_evs.specs.Delivery.{DeliversOnce}
 use Rattle.totem_evs.specs.Answers.{MeetsPasses}
 use Rattle.totem_evs.proofs.LogOf.{less_or_not}
-use Rattle.totem_table.specs.Changes.{IsNextOrEnd}
-use Rattle.totem_passes.proofs.Decisions.{contains_or_not, all_or_not, same_list_or_not, same_ring_or_not}
+use Rattle.totem_rules.specs.Stays.{IsNextOrEnd}
+use Rattle.totem_rules.proofs.Decisions.{contains_or_not, all_or_not, same_list_or_not, same_ring_or_not}
 use Rattle.totem_passes.proofs.SentOrNot.{first_or_none, transitional_or_not, change_to_or_not, change_of, IsAnyChange, any_change_or_not, any_change_of, sent_or_not}
 use Rattle.totem_agreement.specs.declared.stay.Stay.{Stay}
-use Rattle.totem_agreement.specs.Stays.{IsStay, IsStayOf, HasStay, AreStays}
+use Rattle.totem_rules.specs.Stays.{IsStay}
+use Rattle.totem_agreement.specs.Stays.{IsStayOf, HasStay, AreStays}
 use Rattle.totem_agreement.specs.Acts.{IsAmong}
 use Rattle.totem_agreement.proofs.Deciding.{both_or_not, below_or_not, same_log_or_not, is_quiet_or_not, shares_end_or_not}
-use Rattle.totem_agreement.proofs.Staying.{KeepsRules, Bounds, is_stay}
+use Rattle.totem_rules.specs.Stays.{Bounds}
+use Rattle.totem_rules.proofs.Staying.{KeepsRules, is_stay}
 
 -- what is decided, and follows from what is known, holds
 pub recovered : {K A : Type 0} → ∥ K ∥₁ → A ⊎ (A → ⊥) → (K → A) → A

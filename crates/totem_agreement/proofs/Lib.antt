@@ -1,5 +1,4 @@
 pub mod Deciding
-pub mod Staying
 pub mod Excusing
 pub mod KnownStays
 pub mod Building
@@ -19,12 +18,8 @@ pub mod Coming
 pub mod Arriving
 pub mod Listing
 pub mod Rings
-pub mod Gathering
-pub mod Ending
-pub mod WhoWaits
 pub mod Adding
 pub mod WhatIsPending
-pub mod PendingOrder
 pub mod Suspecting
 pub mod LastCommonDeliveries
 pub mod Ranks

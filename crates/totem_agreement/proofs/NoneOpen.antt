@@ -10,7 +10,7 @@ use Rattle.totem_evs.specs.Following.{OpenIn, NeverFails}
 use Rattle.totem_evs.specs.Answers.{MeetsPasses}
 use Rattle.totem_agreement.specs.declared.stay.Stay.{Stay}
 use Rattle.totem_agreement.specs.Stays.{IsStayOf}
-use Rattle.totem_agreement.specs.Endings.{HasFailed}
+use Rattle.totem_rules.specs.Endings.{HasFailed}
 use Rattle.totem_agreement.specs.Pendings.{IsPendingIn, IsPlacedStay, EndsClosed, HasNonePending}
 use Rattle.totem_agreement.proofs.Excusing.{not_excused}
 use Rattle.totem_agreement.proofs.Facts.{Facts, StayFacts}

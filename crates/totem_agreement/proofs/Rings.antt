@@ -19,29 +19,9 @@ use Rattle.totem_evs.specs.Events.{log_of}
 use Rattle.totem_evs.specs.Answers.{IsRing, AreRings}
 use Rattle.totem_evs.proofs.LogOf.{less_or_not}
 use Rattle.totem_passes.specs.declared.keys.Change.{Change}
-use Rattle.totem_passes.proofs.Exact.{exact_ring}
+use Rattle.totem_rules.proofs.Exact.{exact_ring}
+use Rattle.totem_judge.proofs.PendingOrder.{below_from_less}
 use Rattle.totem_agreement.specs.Comings.{HoldsComings}
-
-pub less_first : (a b : Ordering) → ordering_then a b ≡ Less → (a ≡ Less) ⊎ ((a ≡ Equal) × (b ≡ Less))
-less_first Less b e = inl refl
-less_first Equal b e = inr (refl, e)
-less_first Greater b e = absurd cc
-
--- what the comparison of numbers answers, and what holds
-pub compared : (a b : ℕ) (r : Ordering) → r ≡ nat_cmp a b → MatchOrdering r (a < b) (a ≡ b) (b < a)
-compared a b r e = elim (less_or_not a b) [
-  | inl lt ↦ rw (e ∙ sym (nat_cmp_is a b Less lt)) lt
-  | inr rest ↦ elim rest [
-    | inl gt ↦ rw (e ∙ sym (nat_cmp_is a b Greater gt)) gt
-    | inr same ↦ rw (e ∙ sym (nat_cmp_is a b Equal same)) same
-  ]
-]
-
-pub below_from_less : (c d : RingId) → ring.cmp-value.it c d ≡ Less → RingBelow c d
-below_from_less c d e = elim (less_first (nat_cmp c.seq d.seq) (nat_cmp c.rep d.rep) e) [
-  | inl lt ↦ inl (compared c.seq d.seq Less (sym lt))
-  | inr (same, lt) ↦ inr (compared c.seq d.seq Equal (sym same), compared c.rep d.rep Less (sym lt))
-]
 
 pub are_rings : (by_change : Change → Change → Ordering) (rings : BTreeSet RingId) (indices : BTreeMap Change ℕ) (run : List Log) → HoldsComings ring.cmp-value.it by_change rings indices run
     → IsOrdered ring.cmp-value.it rings → AreRings run rings.keys

@@ -19,7 +19,7 @@ use Rattle.totem_agreement.specs.Uniform.{rank, HasPlace, IsPlaceOf, IsReplay}
 use Rattle.totem_agreement.specs.Owed.{IsUniform, GoAlikeBy, TellsTail}
 use Rattle.totem_agreement.proofs.Ranks.{IsNth, nth, rank_below, rank_rises}
 use Rattle.totem_agreement.proofs.Facts.{Facts, StayFacts}
-use Rattle.totem_agreement.proofs.Staying.{same_change}
+use Rattle.totem_rules.proofs.Staying.{same_change}
 use Rattle.totem_agreement.proofs.AtomicityFaults.{turn_of, goes_along, next_of_from, next_of_turn}
 use Rattle.totem_agreement.proofs.Placing.{IsUniformStay, uniform_stay, IsPlaced, placed, delivers_place, delivers_as, in_regular, not_regular}
 

@@ -19,11 +19,13 @@ use Rattle.totem_evs.specs.Unsettled.{IsPending}
 use Rattle.totem_evs.specs.Answers.{MeetsPasses, AreRings}
 use Rattle.totem_evs.proofs.LogOf.{less_or_not}
 use Rattle.totem_evs.proofs.Originating.{sent_in}
+use Rattle.totem_judge.specs.Judged.{HoldsPending}
 use Rattle.totem_agreement.specs.declared.stay.Stay.{Stay}
-use Rattle.totem_agreement.specs.Stays.{TurnsAt, IsExcused, IsStayOf, HasStay, AreStays}
+use Rattle.totem_rules.specs.Stays.{TurnsAt}
+use Rattle.totem_agreement.specs.Stays.{IsExcused, IsStayOf, HasStay, AreStays}
 use Rattle.totem_agreement.specs.Acts.{IsAmong, DeliversHere, DeliversNot}
-use Rattle.totem_passes.specs.Ends.{GoesOn}
-use Rattle.totem_agreement.specs.Endings.{HasFailed}
+use Rattle.totem_rules.specs.Ends.{GoesOn}
+use Rattle.totem_rules.specs.Endings.{HasFailed}
 use Rattle.totem_agreement.specs.Pendings.{Adds, MissesAt, MissesNothingAt, MissesFrom, Misses, IsPendingIn, IsPendingFor}
 use Rattle.totem_agreement.specs.Completeness.{HasNonePendingOf}
 use Rattle.totem_agreement.proofs.Excusing.{excused, not_excused}
@@ -238,10 +240,6 @@ of_one_ring run logs rings c ring k s t at same is h = adds_alike (IsPendingIn r
   where
     other : (x : Pending) → PendingAt run rings k x → IsPendingIn run ring x
     other x m = (let rings_are : m.ring ≡ ring = (let e : Some m.ring ≡ Some ring = sym m.stands ∙ at in cc) in rw rings_are at m.pending)
-
--- all that is pending is in the list
-pub record HoldsPending (run : List Log) (list : List Pending) : Type 0 where
-  pub each : (x : Pending) → Contains list x ↔ IsPending run x.proc x.msg
 
 pub all_rings : (run : List Log) (rings : List RingId) (n : ℕ) (s t : List Pending) → AreRings run rings → length rings ≤ n → ((x : Pending) → Contains s x → ⊥)
     → Adds (Between (PendingAt run rings) 0 n) s t → HoldsPending run t

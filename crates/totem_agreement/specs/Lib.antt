@@ -1,6 +1,5 @@
 pub mod Arrivals
 pub mod Comings
-pub mod Endings
 pub mod Pendings
 pub mod Stays
 pub mod Acts

@@ -1,5 +1,5 @@
 -- What is pending, gathered configuration by configuration (docs/SPECIFICATIONS.md, "Pending and waiting").
-use Rattle.std.specs.Prelude.{◌≡◌, ◌↔◌, ◌⊎◌, ℕ, ◌<◌, List, AllPairs, Contains, slice_get, Some}
+use Rattle.std.specs.Prelude.{◌≡◌, ◌↔◌, ◌⊎◌, ℕ, ◌<◌, List, Contains, slice_get, Some}
 use Rattle.totem_ids.specs.declared.ring.RingId.{RingId}
 use Rattle.totem_ids.specs.declared.conf.ConfId.{ConfId}
 use Rattle.totem_ids.specs.declared.conf.ConfId.TheVariants.{Regular}
@@ -11,11 +11,10 @@ use Rattle.totem_evs.specs.declared.log.Log.{Log}
 use Rattle.totem_evs.specs.declared.pending.Pending.{Pending}
 use Rattle.totem_evs.specs.Events.{WasSentIn, log_of}
 use Rattle.totem_evs.specs.Following.{HasDelivered, OpenIn}
-use Rattle.totem_evs.specs.Unsettled.{PendingBelow}
 use Rattle.totem_evs.specs.Changes.{StaysInPlace}
 use Rattle.totem_agreement.specs.declared.stay.Stay.{Stay}
 use Rattle.totem_agreement.specs.Stays.{IsExcused}
-use Rattle.totem_agreement.specs.Endings.{HasFailed}
+use Rattle.totem_rules.specs.Endings.{HasFailed}
 
 -- the new list has what the old one had and all of which this holds
 pub record Adds (P : Pending → Type 0) (old new : List Pending) : Type 0 where
@@ -72,8 +71,3 @@ IsPlacedStay stay = StaysInPlace stay.log.now
 -- where the end of a stay excuses its process, that has failed
 abbrev pub EndsClosed : Stay → Type 0
 EndsClosed stay = IsExcused stay → HasFailed stay.log.now
-
--- the elements of a list, each once, in rising order
-pub record IsInOrder (list ordered : List Pending) : Type 0 where
-  pub rising : AllPairs PendingBelow ordered
-  pub same : (x : Pending) → Contains ordered x ↔ Contains list x

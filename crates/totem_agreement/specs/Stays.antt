@@ -1,48 +1,13 @@
 -- The parts of the logs that stand in one regular configuration and in what follows it
 -- (docs/SPECIFICATIONS.md, "Following", "Passes").
-use Rattle.std.specs.Prelude.{◌≡◌, ◌↔◌, ◌⊎◌, ℕ, ◌<◌, ◌≤◌, false, IsTrue, List, length, slice_get, Some, All, AllPairs}
+use Rattle.std.specs.Prelude.{◌≡◌, ◌↔◌, ℕ, ◌<◌, ◌≤◌, false, IsTrue, List, length, slice_get, Some, All, AllPairs}
 use Rattle.totem_ids.specs.declared.ring.RingId.{RingId}
-use Rattle.totem_ids.specs.declared.conf.ConfId.{ConfId}
 use Rattle.totem_ids.specs.declared.conf.ConfId.TheVariants.{Regular}
-use Rattle.totem_evs.specs.declared.entry.Entry.{Entry}
 use Rattle.totem_evs.specs.declared.log.Log.{Log}
-use Rattle.totem_evs.specs.Events.{IsChange, ChangesTo, IsQuiet, log_of}
-use Rattle.totem_evs.specs.Changes.{Names}
-use Rattle.totem_evs.specs.Following.{IsNextChange, Follows, Com, NeverFails, FailedIn, StaysIn}
-use Rattle.totem_table.specs.Changes.{IsNextOrEnd}
+use Rattle.totem_evs.specs.Events.{ChangesTo, IsQuiet, log_of}
+use Rattle.totem_evs.specs.Following.{NeverFails}
+use Rattle.totem_rules.specs.Stays.{IsStay}
 use Rattle.totem_agreement.specs.declared.stay.Stay.{Stay}
-
--- from i on the next change stands at j, and the one after that at k; where there is no next one, k is j
-pub record AreNextTwo (log : List Entry) (i j k : ℕ) : Type 0 where
-  pub first : IsNextOrEnd log i j
-  pub second : j < length log → IsNextOrEnd log j k
-  pub whole : length log ≤ j → k ≡ j
-
--- what follows c in the log, at the change at `turn`
-pub record TurnsAt (log : List Entry) (c : RingId) (turn : ℕ) : Type 0 where
-  pub conf : ConfId
-  pub change : ChangesTo log turn conf
-  pub follows : Follows log c conf
-
--- the log changes to c at `from` and to what follows it at `turn`, and its entries up to `end` are those that stand in
--- these two; where nothing follows, `turn` is `end`
-pub record IsStay (log : List Entry) (c : RingId) (from turn end : ℕ) : Type 0 where
-  pub before : from < turn
-  pub until : turn ≤ end
-  pub within : end ≤ length log
-  pub change : ChangesTo log from (Regular c)
-  pub turns : turn < end → TurnsAt log c turn
-  -- what stands in c or in what follows it stands here, and the other way round
-  pub here : (i : ℕ) (d : ConfId) → Names log i d → Com log c d → (from < i) × (i < end)
-  pub regular : (i : ℕ) (d : ConfId) → from < i → i < turn → Names log i d → d ≡ Regular c
-  pub following : (i : ℕ) (d : ConfId) → turn < i → i < end → Names log i d → Follows log c d
-  pub changes : (i : ℕ) → from < i → i < end → IsChange log i → i ≡ turn
-  -- the next change after that to c, and the one after what follows it
-  pub next : turn < length log → (turn < end) × IsNextChange log from turn
-  pub last : turn < end → end < length log → IsNextChange log turn end
-  -- it goes up to the end of the log where the process failed in these two or the log stays there
-  pub ends : end ≡ length log → FailedIn log c ⊎ StaysIn log c
-  pub goes_on : end < length log → FailedIn log c ⊎ StaysIn log c → ⊥
 
 -- it lies within its log, which is not too long
 pub record IsShortStay (stay : Stay) : Type 0 where

@@ -7,10 +7,10 @@ ghost use Rattle.totem_agreement.specs.Stays.{AreStays};
 ghost use Rattle.totem_agreement.specs.Completeness.{AreCompleteIn, AreCompleteOf};
 ghost use Rattle.totem_agreement.specs.Pendings.{IsPlacedStay, EndsClosed};
 
-use crate::standing::has_failed;
 use crate::stay::Stay;
 use totem_evs::Run;
 use totem_ids::{Proc, RingId};
+use totem_rules::has_failed;
 
 /// The processes for which nothing is pending in a configuration, as far as is known. Of others nothing is said.
 #[derive(Debug, Drop)]

@@ -25,16 +25,13 @@ mod row;
 mod safety;
 mod search;
 mod sequence;
-mod standing;
 mod stay;
 mod stays;
 mod suspects;
 mod uniform;
-mod waitings;
 
 pub use complete::Complete;
 pub use findings::Findings;
 pub use jobs::Jobs;
 pub use pass::{Found, Judged, pass_d, pass_d_of};
-pub use pendings::{pending, pending_of};
-pub use waitings::waiting;
+pub use pendings::{pending, pending_of, waiting};

@@ -1,12 +1,12 @@
-//! What is pending (docs/SPECIFICATIONS.md, "Pending and waiting").
+//! What is left open (docs/SPECIFICATIONS.md, "Pending and waiting").
 ghost use Rattle.std.specs.Prelude.{◌≡◌, ◌↔◌, ◌<◌, All, IsTrue, IfSome, IfNone, IfOk, OnOk, length};
 ghost use Rattle.totem_evs.specs.Answers.{MeetsPasses};
 ghost use Rattle.totem_evs.specs.Following.{OpenIn};
-ghost use Rattle.totem_evs.specs.Unsettled.{ArePending, IsPending};
+ghost use Rattle.totem_evs.specs.Unsettled.{ArePending, AreWaiting, IsPending};
 ghost use Rattle.totem_agreement.specs.Acts.{IsAmong};
 ghost use Rattle.totem_agreement.specs.Jobs.{AreJobs};
 ghost use Rattle.totem_agreement.specs.Indexes.{index_told, Tells};
-ghost use Rattle.totem_agreement.specs.Pendings.{Adds, MissesAt, MissesNothingAt, MissesFrom, Misses, IsPendingIn, IsPendingFor, IsInOrder};
+ghost use Rattle.totem_agreement.specs.Pendings.{Adds, MissesAt, MissesNothingAt, MissesFrom, Misses, IsPendingIn, IsPendingFor};
 ghost use Rattle.totem_agreement.specs.Completeness.{AreCompleteIn, HasNonePendingOf};
 ghost use Rattle.totem_agreement.specs.Findings.{AreComplete};
 
@@ -15,11 +15,12 @@ use crate::complete::Complete;
 use crate::indexes::Indexes;
 use crate::jobs::Jobs;
 use crate::ring_stays::RingStays;
-use crate::standing::has_failed;
 use crate::stay::Stay;
 use std::alloc::{AllocError, Global};
-use totem_evs::{Entry, Pending, Run};
+use totem_evs::{Entry, Pending, Run, Waiting};
 use totem_ids::{MsgId, Proc, RingId};
+use totem_judge::in_order;
+use totem_rules::has_failed;
 
 /// Whether the process of this stay is open in it.
 fn is_open(stays: &RingStays, stay: &Stay) -> bool
@@ -139,15 +140,6 @@ fn add_pending(
     Ok(())
 }
 
-/// The elements of the list in their order, each once.
-fn in_order(mut list: Vec<Pending>) -> Result<Vec<Pending>, AllocError>
-    ensures { IfOk result (λ ordered. IsInOrder list.items ordered.items) }
-{
-    list.sort()?;
-    list.dedup();
-    Ok(list)
-}
-
 /// Adds what is pending in the configuration of this ring. Nothing is for those that are complete.
 fn add_ring(
     alloc: Global,
@@ -209,4 +201,13 @@ pub fn pending(alloc: Global, run: &Run) -> Result<Vec<Pending>, AllocError>
 {
     let jobs = Jobs::build(alloc, run)?;
     pending_of(alloc, &jobs, &[])
+}
+
+/// Returns who waits in a run that has passed the first two passes, and for whom: by process and then by the other process.
+#[tactic(auto, using(totem_rules::proofs::Orderliness::passed_is_orderly))]
+pub fn waiting(alloc: Global, run: &Run) -> Result<Vec<Waiting>, AllocError>
+    requires { MeetsPasses run.now.logs }
+    ensures { IfOk result (λ list. AreWaiting run.now.logs list.items) }
+{
+    totem_rules::waiting(alloc, run)
 }

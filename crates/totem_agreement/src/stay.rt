@@ -1,12 +1,15 @@
 //! The part of a log that stands in a regular configuration and in what follows it.
 ghost use Rattle.std.specs.Prelude.{◌≡◌, ◌↔◌, ◌<◌, IsTrue, length};
-ghost use Rattle.totem_table.specs.Changes.{ListsChanges, IsNextOrEnd};
-ghost use Rattle.totem_agreement.specs.Stays.{AreNextTwo, IsExcused};
+ghost use Rattle.totem_rules.specs.Stays.{IsNextOrEnd};
+ghost use Rattle.totem_table.specs.Changes.{ListsChanges};
+ghost use Rattle.totem_rules.specs.Stays.{AreNextTwo};
+ghost use Rattle.totem_agreement.specs.Stays.{IsExcused};
 ghost use Rattle.totem_agreement.specs.Acts.{IsActAt, message_at, service_at};
 
 use crate::act::{Act, service_of};
 use totem_evs::{Ending, Entry, Log};
 use totem_ids::{MsgId, Proc, Service};
+use totem_judge::walk_to_change;
 use totem_table::next_change;
 
 /// The stay of a process: its log changes to the regular configuration at `from` and to what follows that at `turn`, and
@@ -56,19 +59,6 @@ impl Stay<'_> {
     {
         self.from < at && at < self.end && self.message_at(act, at) == Some(*message)
     }
-}
-
-/// The index of the next change after this index, or the length of the log where none follows, found entry by entry.
-fn walk_to_change(log: &[Entry], at: usize) -> usize
-    requires { at < length log.now }
-    ensures { IsNextOrEnd log.now at result }
-{
-    for next in at + 1..log.len() {
-        if let Entry::Conf(_, _) = &log[next] {
-            return next;
-        }
-    }
-    log.len()
 }
 
 /// Where among the changes the one at this index is likely to stand, counted from 0. Nothing is claimed of it: whoever takes it looks

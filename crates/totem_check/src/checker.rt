@@ -1,6 +1,7 @@
 //! The checker of runs and certificates.
 ghost use Rattle.std.specs.Prelude.{IfOk};
 ghost use Rattle.totem_evs.specs.Answers.{HasCertificate};
+ghost use Rattle.totem_evs.specs.Certificates.{Certified};
 ghost use Rattle.totem_table.specs.Changes.{AreChanges};
 ghost use Rattle.totem_check.specs.Checks.{HasPassed, IsEarlyFault, Judges, Checks, RefusesRightly, BeginsWith};
 
@@ -10,6 +11,7 @@ use std::alloc::{AllocError, Global};
 use totem_agreement::{Jobs, Judged, pass_d_of, pending_of, waiting};
 use totem_certificate::Certificate;
 use totem_evs::{Fault, Run};
+use totem_judge::judge;
 use totem_passes::pass_a_and_b;
 use totem_sweep::certified;
 use totem_table::{Changes, Table};
@@ -51,8 +53,8 @@ fn settle(alloc: Global, run: &Run, changes: Changes) -> Result<Accepted, CheckF
     })
 }
 
-/// Judges a certified run. Its certificate orders the events, so pass C has no fault.
-fn judge(alloc: Global, run: &Run) -> Result<Accepted, CheckFault>
+/// Names what a certified run breaks, by the passes of the audit. Its certificate orders the events, so pass C has no fault.
+fn search(alloc: Global, run: &Run) -> Result<Accepted, CheckFault>
     requires { HasCertificate run.now.logs }
     ensures { Judges run.now.logs result }
 {
@@ -63,6 +65,20 @@ fn judge(alloc: Global, run: &Run) -> Result<Accepted, CheckFault>
     settle(alloc, run, changes)
 }
 
+/// Judges a certified run. A yes is the judge's; where it has none, a search names what is broken.
+fn judged(alloc: Global, run: &Run, certificate: &Certificate) -> Result<Accepted, CheckFault>
+    requires { Certified run.now.logs certificate.now.lines }
+    ensures { Judges run.now.logs result }
+{
+    if let Some(left) = judge(alloc, run, certificate)? {
+        return Ok(Accepted {
+            pending: left.pending,
+            waiting: left.waiting,
+        });
+    }
+    search(alloc, run)
+}
+
 /// Checks that the certificate certifies the run and that the run meets specifications 1 to 7 (docs/SPECIFICATIONS.md,
 /// "The checker"). It does not matter who made the certificate, or what an audit said.
 pub fn check(alloc: Global, run: &Run, certificate: &Certificate) -> Result<Accepted, CheckFault>
@@ -70,5 +86,5 @@ pub fn check(alloc: Global, run: &Run, certificate: &Certificate) -> Result<Acce
     ensures exact { RefusesRightly run.now.logs certificate.now.lines result }
 {
     certified(alloc, run, certificate)??;
-    judge(alloc, run)
+    judged(alloc, run, certificate)
 }

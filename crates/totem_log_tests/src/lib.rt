@@ -1,6 +1,8 @@
-//! Tests of runs, certificates and the rules of one configuration, by public calls.
+//! Tests of runs, certificates, the rules of the judge and the judge itself, by public calls.
 #![tactic(auto)]
 
+#[cfg(test)]
+mod judging;
 #[cfg(test)]
 mod lists;
 #[cfg(test)]
@@ -13,6 +15,8 @@ mod made_lists;
 mod made_texts;
 #[cfg(test)]
 mod names;
+#[cfg(test)]
+mod orders;
 #[cfg(test)]
 mod positions;
 #[cfg(test)]

@@ -1,8 +1,8 @@
 //! The rules of one regular configuration: each says yes to good traffic, and no where it is broken.
 use std::alloc::{AllocError, Global};
 use std::process::Abort;
-use totem_ids::{MsgId, ProcId, RingId};
-use totem_rules::{
+use totem_ids::{MsgId, Proc, ProcId, RingId};
+use totem_traffic::{
     Following, Got, LogSet, MemberLogs, Sent, Traffic, atomicity_is_met, causality_is_met,
     installed_is_met, is_agreed, no_gap_is_left, own_delivery_is_met, push_pending, safety_is_met,
 };
@@ -157,11 +157,12 @@ fn what_an_open_log_lacks_is_pending(rt: HostRuntime) {
     let alloc = rt.alloc();
     let mut traffic = traffic(alloc, both(), second()).expect(&rt, "memory");
     let mut out = Vec::new(alloc);
-    push_pending(&traffic, 0, &mut out).expect(&rt, "memory");
+    let first = Proc::first(ProcId::of(1));
+    push_pending(&traffic, 0, first, &mut out).expect(&rt, "memory");
     assert!(rt; out.is_empty());
     traffic.open = both();
-    push_pending(&traffic, 0, &mut out).expect(&rt, "memory");
-    push_pending(&traffic, 1, &mut out).expect(&rt, "memory");
+    push_pending(&traffic, 0, first, &mut out).expect(&rt, "memory");
+    push_pending(&traffic, 1, Proc::first(ProcId::of(2)), &mut out).expect(&rt, "memory");
     assert_eq!(rt; out.len(), 1);
-    assert!(rt; out[0] == message(2));
+    assert!(rt; out[0].msg == message(2));
 }

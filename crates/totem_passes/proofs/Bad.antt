@@ -16,7 +16,7 @@ use Rattle.totem_evs.specs.Answers.{Meets, Finds, IsLeast}
 use Rattle.totem_passes.specs.Search.{place, HoldsOfNone}
 use Rattle.totem_passes.specs.Pairs.{IsOneOrTwo}
 use Rattle.totem_passes.specs.Bad.{IsForeignChange, AreTwoForms, IsSendBetween, AreTwice}
-use Rattle.totem_passes.proofs.Decisions.{contains_or_not, same_list_or_not, regular_or_transitional}
+use Rattle.totem_rules.proofs.Decisions.{contains_or_not, same_list_or_not, regular_or_transitional}
 
 -- what is least under one of two names is so under the other
 pub finds : {F : Type 0} (run : List Log) (k : SpecNo) (H : List Place → Type 0) (r : Result (Option (List Place)) F) → (HoldsOfNone H → Meets run k) → ((ps : List Place) → H ps → Breaks run k ps)

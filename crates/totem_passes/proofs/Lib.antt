@@ -1,8 +1,6 @@
 pub mod Searching
-pub mod Walk
 pub mod Placed
 pub mod Starting
-pub mod Decisions
 pub mod Bad
 pub mod Turning
 pub mod TurnFaults
@@ -20,5 +18,3 @@ pub mod Exact
 pub mod QuickSends
 pub mod QuickTest
 pub mod KnownSending
-pub mod LogEnds
-pub mod EndsTogether

@@ -1,6 +1,5 @@
--- What a run's logs have in place, up to one of them.
-use Rattle.std.proofs.Common.{◌≡◌, ℕ, ◌+◌, ◌<◌, ◌≤◌, inl, inr, List, [], ◌∷◌, length, slice_get, Some, refl, sym, ◌∙◌, ap, arith}
-use Rattle.std.proofs.lemmas.Option.{slice_get_within}
+-- What stands out of place first.
+use Rattle.std.proofs.Common.{◌≡◌, ℕ, ◌+◌, ◌<◌, inl, inr, List, [], ◌∷◌, slice_get, Some, sym, ◌∙◌, ap, arith}
 use Rattle.totem_ids.specs.declared.place.Place.{Place}
 use Rattle.totem_evs.specs.declared.entry.Entry.{Entry}
 use Rattle.totem_evs.specs.declared.log.Log.{Log}
@@ -10,44 +9,13 @@ use Rattle.totem_evs.specs.Changes.{StaysInPlace}
 use Rattle.totem_evs.specs.ChangeFaults.{IsMisplaced, BreaksPlace}
 use Rattle.totem_evs.specs.Answers.{ComesFirst, IsLeastBreak}
 use Rattle.totem_evs.proofs.LogOf.{Rising, log_of_cases, log_of_at, in_order, less_or_not}
-
--- the logs before the k-th stay in place
-pub record PlacedBefore (run : List Log) (k : ℕ) : Type 0 where
-  pub each : (j : ℕ) (log : Log) → j < k → slice_get run j ≡ Some log → StaysInPlace log.entries
-
-pub one_more : (run : List Log) (k : ℕ) (log : Log) → slice_get run k ≡ Some log → StaysInPlace log.entries → PlacedBefore run k → PlacedBefore run (k + 1)
-one_more run k log at here before = record {
-  each = λ j l lt at_j. elim (less_or_not j k) [
-    | inl under ↦ before.each j l under at_j
-    | inr rest ↦ elim rest [
-      | inl over ↦ absurd (omega arith)
-      | inr same ↦ let same_log : log ≡ l = (let h : slice_get run k ≡ Some l = rw same at at_j in cc) in rw same_log at here
-    ]
-  ];
-}
+use Rattle.totem_rules.proofs.Placed.{PlacedBefore, same_place}
 
 -- what stays in place has nothing out of place
 pub placed_contradicts : (log : List Entry) (i : ℕ) → StaysInPlace log → IsMisplaced log i → ⊥
 placed_contradicts log i ok (lt, inl (zero, never)) = never (rw zero (ok.begins (omega arith)))
 placed_contradicts log i ok (lt, inr (inl (x, names, never))) = never (ok.named i x names)
 placed_contradicts log i ok (lt, inr (inr (k, x, before, fails))) = ok.final k i x fails before lt
-
--- places of one process and one number are one
-pub same_place : (p n : ℕ) (f : Place) → p ≡ f.proc → n ≡ f.at → record { proc = p; at = n } ≡ f
-same_place p n f procs ats = rw (procs, ats) refl
-
-empty_placed : StaysInPlace []
-empty_placed = record {
-  begins = λ lt. absurd (omega arith);
-  named = λ i x (e, at, names). absurd cc;
-  final = λ i j x fails lt below. omega arith;
-}
-
-pub all_logs : (run : List Log) (k : ℕ) → length run ≤ k → PlacedBefore run k → (p : ℕ) → StaysInPlace (log_of run p)
-all_logs run k end placed p = elim (log_of_cases run p) [
-  | inl none ↦ rw none empty_placed
-  | inr found ↦ rw found.4 (placed.each found.0 found.1 (omega (arith, slice_get_within run found.0 found.1 found.2)) found.2)
-]
 
 -- the first that is out of place, in a log after those that stay in place, comes first
 pub least_at : (run : List Log) (k i n : ℕ) (log : Log) → Rising run → slice_get run k ≡ Some log → IsMisplaced log.entries i → PlacedBefore run k

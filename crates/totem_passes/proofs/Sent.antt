@@ -16,7 +16,8 @@ use Rattle.totem_evs.specs.DeliveryFaults.{IsUnsent, BreaksUnsent}
 use Rattle.totem_passes.specs.Search.{place, NoneFrom, IsLeastFrom, NoneOf, IsLeastOf, HoldsOfNone}
 use Rattle.totem_passes.specs.Pairs.{IsOne}
 use Rattle.totem_passes.specs.Turns.{HasNoSuccession}
-use Rattle.totem_passes.specs.Sent.{IsChangeTo, NeverChangesTo, WasSentTo, IsSendTo}
+use Rattle.totem_rules.specs.Ends.{IsChangeTo, NeverChangesTo}
+use Rattle.totem_passes.specs.Sent.{WasSentTo, IsSendTo}
 use Rattle.totem_evs.proofs.LogOf.{less_or_not}
 use Rattle.totem_passes.proofs.Starting.{Begins, EachBegins, begins_at, one_begins, none_of_all}
 use Rattle.totem_passes.proofs.Turning.{one_succession}

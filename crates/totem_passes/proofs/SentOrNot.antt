@@ -14,9 +14,11 @@ use Rattle.totem_evs.specs.Following.{IsFirstChange, IsNextChange, Follows, Com}
 use Rattle.totem_evs.specs.Delivery.{DeliversWhatWasSent}
 use Rattle.totem_evs.specs.DeliveryFaults.{BreaksUnsent}
 use Rattle.totem_passes.specs.Search.{place, HoldsOfNone}
-use Rattle.totem_passes.specs.Sent.{IsChangeTo, WasSentTo, IsSendTo}
+use Rattle.totem_rules.specs.Ends.{IsChangeTo}
+use Rattle.totem_passes.specs.Sent.{WasSentTo, IsSendTo}
 use Rattle.totem_evs.proofs.LogOf.{less_or_not, log_of_cases}
-use Rattle.totem_passes.proofs.Decisions.{same_ring_or_not}
+use Rattle.totem_rules.proofs.Staying.{one_next}
+use Rattle.totem_rules.proofs.Decisions.{same_ring_or_not}
 use Rattle.totem_passes.proofs.Sent.{same_first}
 
 pub same_conf_or_not : (x y : ConfId) → (x ≡ y) ⊎ (x ≡ y → ⊥)
@@ -141,12 +143,6 @@ next_change_or_not log i = elim (first_or_none log (λ j e. (i < j) × IsAnyChan
 pub transitional_or_not : (x : ConfId) → IsTransitional x ⊎ (IsTransitional x → ⊥)
 transitional_or_not (Regular c) = inr (λ h. h)
 transitional_or_not (Transitional n l) = inl tt
-
-pub one_next : (log : List Entry) (i j k : ℕ) → IsNextChange log i j → IsNextChange log i k → j ≡ k
-one_next log i j k a b = elim (less_or_not j k) [
-  | inl lt ↦ absurd (b.none_between j a.later lt a.change)
-  | inr rest ↦ elim rest [ inl gt ↦ absurd (a.none_between k b.later gt b.change) | inr same ↦ same ]
-]
 
 next_is : (log : List Entry) (c : RingId) (d : ConfId) (i j : ℕ) → IsFirstChange log (Regular c) i → IsNextChange log i j → Follows log c d → ChangesTo log j d
 next_is log c d i j first next f =

@@ -14,28 +14,12 @@ use Rattle.totem_evs.specs.Changes.{ChangesNext}
 use Rattle.totem_evs.specs.ChangeFaults.{BeginsTransitional, AreWrongNeighbours}
 use Rattle.totem_evs.specs.Answers.{ComesFirst, IsLeast}
 use Rattle.totem_passes.specs.Search.{place, NoneFrom, IsLeastFrom, HoldsOfNone}
-use Rattle.totem_table.specs.Changes.{IsNextOrEnd}
-use Rattle.totem_passes.specs.Turns.{IsWrongSuccession, HasNoSuccession, IsOfOtherRing, ComesFromElsewhere, IsOtherOrigin, IsTurnRest, IsTurnFault}
+use Rattle.totem_rules.specs.Stays.{IsNextOrEnd}
+use Rattle.totem_rules.proofs.Staying.{NoneBetween, no_change}
+use Rattle.totem_rules.specs.Succession.{IsWrongSuccession}
+use Rattle.totem_passes.specs.Turns.{HasNoSuccession, IsOfOtherRing, ComesFromElsewhere, IsOtherOrigin, IsTurnRest, IsTurnFault}
 use Rattle.totem_evs.proofs.LogOf.{less_or_not}
 use Rattle.totem_passes.proofs.Starting.{Begins, EachBegins, begins_at}
-
--- no change stands after i and before n
-pub record NoneBetween (log : List Entry) (i n : ℕ) : Type 0 where
-  pub none : (k : ℕ) → i < k → k < n → IsChange log k → ⊥
-
-pub none_between_yet : (log : List Entry) (i : ℕ) → NoneBetween log i (i + 1)
-none_between_yet log i = record { none = λ k lt below h. omega arith }
-
-no_change : (log : List Entry) (i : ℕ) (e : Entry) → slice_get log i ≡ Some e → ((x : ConfId) (ms : List ℕ) → e ≡ Conf x ms → ⊥) → IsChange log i → ⊥
-no_change log i e at other (x, (ms, h)) = other x ms cc
-
-pub none_between_more : (log : List Entry) (i n : ℕ) (e : Entry) → slice_get log n ≡ Some e → ((x : ConfId) (ms : List ℕ) → e ≡ Conf x ms → ⊥) → NoneBetween log i n → NoneBetween log i (n + 1)
-none_between_more log i n e at other before = record {
-  none = λ k lt below h. elim (less_or_not k n) [
-    | inl under ↦ before.none k lt under h
-    | inr more ↦ elim more [ inl over ↦ omega arith | inr same ↦ no_change log n e at other (rw same at h) ]
-  ];
-}
 
 pub succession_here : (log : List Entry) (i j : ℕ) (x y : ConfId) (ms ns : List ℕ) → slice_get log i ≡ Some (Conf x ms) → slice_get log j ≡ Some (Conf y ns) → i < j → NoneBetween log i j → ChangesNext log i j x y ms ns
 succession_here log i j x y ms ns at_i at_j lt before = record { first = at_i; second = at_j; next = record { change = (y, (ns, at_j)); later = lt; none_between = before.none } }

@@ -1,5 +1,4 @@
 pub mod Search
-pub mod Misplaced
 pub mod Pairs
 pub mod Bad
 pub mod Turns
@@ -12,4 +11,3 @@ pub mod Forms
 pub mod Origins
 pub mod Sendings
 pub mod Followed
-pub mod Ends

@@ -8,20 +8,9 @@ use Rattle.totem_ids.specs.declared.ring.RingId.{RingId}
 use Rattle.totem_evs.specs.declared.entry.Entry.{Entry}
 use Rattle.totem_evs.specs.declared.entry.Entry.TheVariants.{Conf, Send, Deliver, Fail}
 use Rattle.totem_evs.specs.declared.log.Log.{Log}
-use Rattle.totem_evs.specs.Events.{ChangesTo, Delivers, WasSentIn, log_of}
+use Rattle.totem_evs.specs.Events.{Delivers, WasSentIn, log_of}
 use Rattle.totem_evs.specs.Following.{Com}
 use Rattle.totem_passes.specs.declared.known_sends.KnownSend.{KnownSend}
-
--- a change to x
-abbrev pub IsChangeTo : Entry → ConfId → Type 0
-IsChangeTo (Conf y ms) x = y ≡ x
-IsChangeTo (Send m y service) x = ⊥
-IsChangeTo (Deliver m y) x = ⊥
-IsChangeTo (Fail y) x = ⊥
-
--- the log has no change to x
-pub record NeverChangesTo (log : List Entry) (x : ConfId) : Type 0 where
-  pub none : (i : ℕ) → ChangesTo log i x → ⊥
 
 -- m was sent in d, or in the regular configuration that d follows in this log
 abbrev pub WasSentTo : List Log → List Entry → MsgId → ConfId → Type 0

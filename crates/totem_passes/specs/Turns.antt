@@ -1,6 +1,6 @@
 -- 2.4, as it is searched: neighbours in their order, and after p's two changes those of another log
 -- (docs/SPECIFICATIONS.md, "Faults").
-use Rattle.std.specs.Prelude.{◌≡◌, ◌≢◌, ◌⊎◌, ℕ, ◌<◌, List, [], ◌∷◌, All, Contains}
+use Rattle.std.specs.Prelude.{◌≡◌, ◌≢◌, ℕ, ◌<◌, List, [], ◌∷◌}
 use Rattle.totem_ids.specs.declared.ring.RingId.{RingId}
 use Rattle.totem_ids.specs.declared.conf.ConfId.{ConfId}
 use Rattle.totem_ids.specs.declared.conf.ConfId.TheVariants.{Regular, Transitional}
@@ -11,13 +11,6 @@ use Rattle.totem_evs.specs.Events.{log_of, IsTransitional}
 use Rattle.totem_evs.specs.Changes.{ChangesNext}
 use Rattle.totem_evs.specs.ChangeFaults.{BeginsTransitional, AreWrongNeighbours}
 use Rattle.totem_evs.specs.Places.{At}
-
--- the second of these may not come next after the first
-abbrev pub IsWrongSuccession : ConfId → List ℕ → ConfId → List ℕ → Type 0
-IsWrongSuccession (Regular c) ms (Regular d) ns = Unit {0}
-IsWrongSuccession (Regular c) ms (Transitional next least) ns = All (Contains ms) ns → ⊥
-IsWrongSuccession (Transitional next least) ms (Regular c) ns = (All (Contains ns) ms → ⊥) ⊎ (c ≢ next)
-IsWrongSuccession (Transitional next least) ms (Transitional later other) ns = Unit {0}
 
 -- the entry at i is no change, or none comes after it
 pub record HasNoSuccession (log : List Entry) (i : ℕ) : Type 0 where

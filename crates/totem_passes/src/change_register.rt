@@ -3,7 +3,8 @@ ghost use Rattle.std.specs.Prelude.{ℕ, ◌<◌, ◌≤◌, List, OnOk, length}
 ghost use Rattle.totem_evs.specs.declared.entry.Entry.{Entry};
 ghost use Rattle.totem_evs.specs.declared.log.Log.{Log};
 ghost use Rattle.totem_evs.specs.Events.{IsChange};
-ghost use Rattle.totem_table.specs.Changes.{ListsChanges, AreChanges, IsNextOrEnd};
+ghost use Rattle.totem_rules.specs.Stays.{IsNextOrEnd};
+ghost use Rattle.totem_table.specs.Changes.{ListsChanges, AreChanges};
 ghost use Rattle.totem_passes.specs.Registers.{Keeps, StaysSound, KnowsLog, KnowsRun};
 
 use std::alloc::{AllocError, Global};

@@ -1,7 +1,7 @@
 //! What follows a regular configuration in a log (docs/SPECIFICATIONS.md, "Following").
 ghost use Rattle.std.specs.Prelude.{◌≡◌, ◌↔◌, ◌<◌, IsTrue, IfSome, IfNone, length};
 ghost use Rattle.totem_evs.specs.Following.{IsFirstChange, Follows, Com};
-ghost use Rattle.totem_passes.specs.Sent.{IsChangeTo, NeverChangesTo};
+ghost use Rattle.totem_rules.specs.Ends.{IsChangeTo, NeverChangesTo};
 
 use crate::kinds::is_transitional;
 use crate::succession::succession_at;

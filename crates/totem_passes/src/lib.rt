@@ -26,7 +26,6 @@ mod twice;
 mod unsent;
 
 pub use change_register::{ChangeRegister, enter_changes};
-pub use ends::{ends_in, index_of, last_change};
 pub use keys::Change;
 pub use pass::{pass_a, pass_a_and_b, pass_b, with_found};
 pub use search::{begin_at, places_of};

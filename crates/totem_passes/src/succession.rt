@@ -1,9 +1,9 @@
 //! A change and the next one of its log.
-ghost use Rattle.std.specs.Prelude.{◌≡◌, ◌↔◌, ◌<◌, All, Contains, IsTrue, IfSome, IfNone, length};
+ghost use Rattle.std.specs.Prelude.{◌≡◌, ◌<◌, IfSome, IfNone, length};
 ghost use Rattle.totem_evs.specs.Events.{IsChange};
 ghost use Rattle.totem_evs.specs.Changes.{ChangesNext};
-ghost use Rattle.totem_table.specs.Changes.{IsNextOrEnd};
-ghost use Rattle.totem_passes.specs.Turns.{HasNoSuccession, IsWrongSuccession};
+ghost use Rattle.totem_rules.specs.Stays.{IsNextOrEnd};
+ghost use Rattle.totem_passes.specs.Turns.{HasNoSuccession};
 
 use totem_evs::{Entry, Members};
 use totem_ids::ConfId;
@@ -65,28 +65,4 @@ pub fn succession_between(log: &[Entry], at: usize, next_at: usize) -> Option<Su
         next,
         next_members,
     })
-}
-
-fn contains_all(members: &Members, others: &Members) -> bool
-    ensures { IsTrue result ↔ All (Contains members.now) others.now }
-{
-    for proc in others.as_slice() {
-        if !members.contains(*proc) {
-            return false;
-        }
-    }
-    true
-}
-
-/// Returns whether the second change may not come next after the first.
-pub fn is_wrong(conf: &ConfId, members: &Members, next: &ConfId, next_members: &Members) -> bool
-    ensures { IsTrue result ↔ IsWrongSuccession conf.now members.now next.now next_members.now }
-{
-    match (conf, next) {
-        (ConfId::Regular(_), ConfId::Transitional { .. }) => !contains_all(members, next_members),
-        (ConfId::Transitional { next: named, .. }, ConfId::Regular(ring)) => {
-            !contains_all(next_members, members) || *ring != *named
-        }
-        _ => true,
-    }
 }

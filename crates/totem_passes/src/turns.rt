@@ -13,10 +13,11 @@ use crate::change_search::{ChangeRelation, least_change};
 use crate::kinds::is_transitional;
 use crate::origins::Origins;
 use crate::search::{Relation, begin_at, least, places_of};
-use crate::succession::{is_wrong, succession_at, succession_between};
+use crate::succession::{succession_at, succession_between};
 use std::alloc::{AllocError, Global};
 use totem_evs::{Entry, Places, Run, SpecNo};
 use totem_ids::{ConfId, Place, Proc, RingId};
+use totem_rules::is_wrong;
 use totem_table::Changes;
 
 /// Returns whether the change at this index is the first of its log, and to a transitional configuration. `is_later` says

@@ -1,5 +1,9 @@
-pub mod LogSets
-pub mod Traffics
-pub mod Clean
-pub mod Lacking
-pub mod Pending
+pub mod Past
+pub mod Orderly
+pub mod SendsKnown
+pub mod Misplaced
+pub mod Succession
+pub mod FirstChanges
+pub mod Ends
+pub mod Endings
+pub mod Stays

@@ -1,25 +1,20 @@
-//! The rules of the judge: what specifications 3 to 7 ask of one regular configuration, over the logs that deliver each message.
+//! The rules of the judge for a whole run: what specifications 1.4 and 2 ask of it, and who waits for whom.
 #![tactic(auto)]
 
-mod agreed;
-mod atomicity;
-mod causality;
-mod gap;
-mod installed;
-mod log_set;
-mod own;
-mod pending;
-mod rows;
-mod safety;
-mod traffic;
+mod changes;
+mod ends;
+mod misplaced;
+mod orderly;
+mod sends;
+mod standing;
+mod succession;
+mod waitings;
 
-pub use agreed::is_agreed;
-pub use atomicity::atomicity_is_met;
-pub use causality::causality_is_met;
-pub use gap::no_gap_is_left;
-pub use installed::installed_is_met;
-pub use log_set::LogSet;
-pub use own::own_delivery_is_met;
-pub use pending::push_pending;
-pub use safety::safety_is_met;
-pub use traffic::{Following, Got, MemberLogs, Sent, Traffic};
+pub use changes::changes_agree;
+pub use ends::{end_together, first_end_alone};
+pub use misplaced::{all_stay_in_place, first_misplaced};
+pub use orderly::is_orderly;
+pub use sends::sends_are_once;
+pub use standing::has_failed;
+pub use succession::is_wrong;
+pub use waitings::waiting;

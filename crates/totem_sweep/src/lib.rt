@@ -13,3 +13,5 @@ mod walk;
 
 pub use certificate_fault::CertificateFault;
 pub use certification::certified;
+pub use rising::rises;
+pub use walk::{Head, least_head};

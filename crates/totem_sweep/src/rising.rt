@@ -4,7 +4,8 @@ ghost use Rattle.totem_sweep.specs.Rising.{RisesBefore, FallsSomewhere, LinesRis
 
 use totem_certificate::Line;
 
-fn rises(numbers: &[u32]) -> bool
+/// Returns whether the numbers rise strictly.
+pub fn rises(numbers: &[u32]) -> bool
     ensures { MatchBool result (RisesBefore numbers.now (length numbers.now)) (FallsSomewhere numbers.now) }
 {
     for at in 1..numbers.len() {

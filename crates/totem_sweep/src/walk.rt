@@ -43,7 +43,7 @@ fn lesser(first: Option<Head>, second: Head) -> Head
 
 /// Returns the first of the heads with the least number, or `None` where all logs have been passed. `passed` says how many
 /// entries of each log have been.
-fn least_head(lines: &[Line], passed: &[usize]) -> Option<Head>
+pub fn least_head(lines: &[Line], passed: &[usize]) -> Option<Head>
     requires { length passed.now ≡ length lines.now }
     ensures { IsLeastTo lines.now passed.now (length lines.now) result }
 {

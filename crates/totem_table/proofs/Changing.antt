@@ -6,7 +6,8 @@ use Rattle.totem_evs.specs.declared.entry.Entry.TheVariants.{Conf, Send, Deliver
 use Rattle.totem_evs.specs.declared.log.Log.{Log}
 use Rattle.totem_evs.specs.Events.{IsChange}
 use Rattle.totem_evs.proofs.LogOf.{less_or_not}
-use Rattle.totem_table.specs.Changes.{IsListed, ListsChanges, AreChanges, IsNextOrEnd}
+use Rattle.totem_rules.specs.Stays.{IsNextOrEnd}
+use Rattle.totem_table.specs.Changes.{IsListed, ListsChanges, AreChanges}
 use Rattle.totem_table.proofs.Pushing.{nothing, before_push, stands_before, stands_last, Along, along_none, along_more}
 
 -- an index is that of a change, or not

@@ -19,10 +19,3 @@ pub record ListsChanges (log : List Entry) (n : ℕ) (list : List ℕ) : Type 0 
 pub record AreChanges (run : List Log) (rows : List (List ℕ)) : Type 0 where
   pub long : length rows ≡ length run
   pub each : (k : ℕ) (log : Log) (row : List ℕ) → slice_get run k ≡ Some log → slice_get rows k ≡ Some row → ListsChanges log.entries (length log.entries) row
-
--- j is the next change after i, or the end of the log where no change follows
-pub record IsNextOrEnd (log : List Entry) (i j : ℕ) : Type 0 where
-  pub later : i < j
-  pub within : j ≤ length log
-  pub change : j < length log → IsChange log j
-  pub none_between : (k : ℕ) → i < k → k < j → IsChange log k → ⊥

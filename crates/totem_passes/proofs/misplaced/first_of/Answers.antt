@@ -2,7 +2,8 @@ use Rattle.std.proofs.Common.{refl, ◌∙◌, ap}
 use Rattle.std.proofs.lemmas.Option.{slice_get_read}
 use Rattle.totem_evs.specs.LogRecord.{LogRecord}
 use Rattle.totem_evs.specs.RunRecord.{RunRecord}
-use Rattle.totem_passes.proofs.Placed.{one_more, all_logs, least_at}
+use Rattle.totem_rules.proofs.Placed.{one_more, all_logs}
+use Rattle.totem_passes.proofs.Placed.{least_at}
 use Rattle.totem_passes.proofs.misplaced.first_of.Goals as goal
 
 pub returns-in-Some-clause-least : goal.returns-in-Some-clause-least
@@ -25,4 +26,4 @@ loop-log-preserved c =
 pub returns-clause-none : goal.returns-clause-none
 returns-clause-none c =
     let runs = ap (λ (r : RunRecord). r.logs) c.run.view_is in
-    rw (← (c.as_slice-log-items.ensures.value ∙ runs)) (all_logs _ _ c.loop-log-test.false c.loop-log.invariant)
+    rw (← (c.as_slice-log-items.ensures.value ∙ runs)) (all_logs _ _ c.loop-log-test.false c.loop-log.invariant).each

@@ -1,4 +1,4 @@
-use Rattle.totem_passes.proofs.Placed.{PlacedBefore}
+use Rattle.totem_rules.proofs.Placed.{PlacedBefore}
 use Rattle.totem_passes.proofs.misplaced.first_of.Given as goal
 
 abbrev pub invariant-loop-log : goal.invariant-loop-log

@@ -1,6 +1,7 @@
 use Rattle.std.proofs.Common.{refl}
 use Rattle.std.proofs.lemmas.Option.{slice_get_read}
-use Rattle.totem_passes.proofs.Turning.{none_between_more, no_succession_at_end}
+use Rattle.totem_rules.proofs.Staying.{none_between_more}
+use Rattle.totem_passes.proofs.Turning.{no_succession_at_end}
 use Rattle.totem_passes.proofs.succession.succession_at.Goals as goal
 
 pub loop-next_at-preserved : goal.loop-next_at-preserved

@@ -1,0 +1,13 @@
+pub mod Numbers
+pub mod Listed
+pub mod Told
+pub mod Endings
+pub mod Placed
+pub mod Viewed
+pub mod Whole
+pub mod Unsent
+pub mod PendingOrder
+pub mod Asked
+pub mod Steps
+pub mod OneByOne
+pub mod Settled

@@ -1,0 +1,95 @@
+-- From settled configurations to the run: it meets the specifications in each, and what is pending is known.
+use Rattle.std.proofs.Common.{◌≡◌, ℕ, ◌<◌, List, length, slice_get, Some, sym, subst}
+use Rattle.std.specs.Prelude.{Contains}
+use Rattle.std.proofs.lemmas.Option.{slice_get_within}
+use Rattle.totem_ids.specs.declared.ring.RingId.{RingId}
+use Rattle.totem_ids.specs.declared.conf.ConfId.TheVariants.{Regular}
+use Rattle.totem_ids.specs.declared.message.MsgId.{MsgId}
+use Rattle.totem_evs.specs.declared.entry.Entry.{Entry}
+use Rattle.totem_evs.specs.declared.entry.Entry.TheVariants.{Conf}
+use Rattle.totem_evs.specs.declared.log.Log.{Log}
+use Rattle.totem_evs.specs.declared.pending.Pending.{Pending}
+use Rattle.totem_evs.specs.Runs.{IsRun}
+use Rattle.totem_evs.specs.Events.{ChangesTo, log_of}
+use Rattle.totem_evs.specs.Changes.{EndsTogether}
+use Rattle.totem_evs.specs.Answers.{IsRing, MeetsPasses}
+use Rattle.totem_evs.specs.Unsettled.{IsPending}
+use Rattle.totem_evs.specs.Certificates.{Numbering, Certified}
+use Rattle.totem_evs.proofs.Synchronous.{MeetsConfigurations, synchronous}
+use Rattle.totem_evs.proofs.Originating.{ring_of_send}
+use Rattle.totem_traffic.specs.declared.traffic.Traffic.{Traffic}
+use Rattle.totem_traffic.specs.Clean.{AgreesIn}
+use Rattle.totem_traffic.specs.Pending.{IsPendingIn}
+use Rattle.totem_traffic.proofs.Facts.{has_log}
+use Rattle.totem_judge.specs.declared.gathered.Gathered.{Gathered}
+use Rattle.totem_judge.specs.Arrivals.{AllHaveCome, AreRisingTo}
+use Rattle.totem_judge.specs.Seen.{IsSeen}
+use Rattle.totem_judge.specs.Pending.{IsPendingFrom, IsInOrder}
+use Rattle.totem_rules.specs.Orderly.{IsOrderly}
+use Rattle.totem_judge.specs.Judged.{AllAreTraffic, AreJudged, HoldsPending, Settles}
+use Rattle.totem_judge.proofs.Whole as place
+use Rattle.totem_judge.proofs.Viewed.{traffic_is}
+use Rattle.totem_judge.proofs.Unsent.{unsent_met}
+use Rattle.totem_judge.proofs.PendingOrder.{are_pending}
+
+module _ (run : List Log) (lines : List Numbering) (list : List Gathered) (pending : List Pending) (is_run : IsRun run) (orderly : IsOrderly run) (together : EndsTogether run) (certified : Certified run lines)
+    (come : AllHaveCome run lines list (length run)) (rise : AreRisingTo list (length list)) (judged : AreJudged run lines list (length list) pending) where
+  all_seen : (k : ℕ) (g : Gathered) → slice_get list k ≡ Some g → (traffic : Traffic) × IsSeen run lines g traffic
+  all_seen k g at = let settled = judged.each k g (slice_get_within list k g at) at in (settled.traffic, settled.seen)
+
+  -- with 1.3 the run has passed A and B
+  pub meets : MeetsPasses run
+  meets = record {
+    sent = unsent_met run lines list is_run orderly certified come rise all_seen;
+    once = orderly.once;
+    together = together;
+    placed = orderly.placed;
+    one = orderly.one;
+    turns = orderly.turns;
+  }
+
+  all_traffic : AllAreTraffic run lines list
+  all_traffic = record {
+    each = λ k g traffic at seen. traffic_is run lines g traffic is_run meets certified seen (place.whole run lines list is_run certified come rise k g traffic at seen);
+  }
+
+  covers : (c : RingId) → IsRing run c → place.Covers run lines list is_run certified come rise c
+  covers c ring =
+      let log = has_log run ring.proc ring.index (Conf (Regular c) ring.change.0) ring.change.1 in
+      place.covers run lines list is_run certified come rise log.0 ring.proc ring.index c all_seen log.1 ring.change
+
+  agrees : (c : RingId) → IsRing run c → AgreesIn run c
+  agrees c ring =
+      let here = covers c ring in
+      let settled = judged.each here.at here.gathered (slice_get_within list here.at here.gathered here.stands) here.stands in
+      subst (λ (d : RingId). AgreesIn run d) here.ring (settled.agrees.met run here.gathered.ring meets (all_traffic.each here.at here.gathered settled.traffic here.stands settled.seen))
+
+  pub configurations : MeetsConfigurations run
+  configurations = record {
+    own = record { each = λ c ring. (agrees c ring).own };
+    atomicity = record { each = λ c ring. (agrees c ring).atomicity };
+    causality = record { each = λ c ring. (agrees c ring).causality };
+    gap = record { each = λ c ring. (agrees c ring).gap };
+    safety = record { each = λ c ring. (agrees c ring).safety };
+    installed = record { each = λ c ring. (agrees c ring).installed };
+  }
+
+  pub holds_pending : HoldsPending run pending
+  holds_pending = record { each = λ x. (λ has. from x ((judged.exact all_traffic x).0 has), λ h. (judged.exact all_traffic x).1 (to x h)) }
+    where
+      from : (x : Pending) → IsPendingFrom run list (length list) x → IsPending run x.proc x.msg
+      from x h = record { ring = h.gathered.ring; sent = h.is.sent; still_open = h.is.still_open; missing = h.is.missing }
+
+      to : (x : Pending) → IsPending run x.proc x.msg → IsPendingFrom run list (length list) x
+      to x h =
+          let here = covers h.ring (ring_of_send run h.sent.0 h.sent.1 h.ring x.msg meets h.sent.2) in
+          record {
+            at = here.at;
+            gathered = here.gathered;
+            before = slice_get_within list here.at here.gathered here.stands;
+            stands = here.stands;
+            is = subst (λ (d : RingId). IsPendingIn run d x.proc x.msg) (sym here.ring) (record { sent = h.sent; still_open = h.still_open; missing = h.missing });
+          }
+
+  pub settles : (ordered : List Pending) → IsInOrder pending ordered → Settles run ordered
+  settles ordered sorted = (synchronous run lines meets certified configurations, are_pending run pending ordered holds_pending sorted)

@@ -1,0 +1,10 @@
+pub mod Events
+pub mod StaysIn
+pub mod Lists
+pub mod Ends
+pub mod Members
+pub mod Turns
+pub mod Arrivals
+pub mod Seen
+pub mod Pending
+pub mod Judged

@@ -1,0 +1,59 @@
+-- What is seen of the traffic that was gathered of one regular configuration.
+use Rattle.std.specs.Prelude.{◌≡◌, ℕ, ◌<◌, List, length, slice_get, Some}
+use Rattle.totem_ids.specs.declared.conf.ConfId.{ConfId}
+use Rattle.totem_evs.specs.declared.log.Log.{Log}
+use Rattle.totem_evs.specs.Events.{ChangesWith}
+use Rattle.totem_evs.specs.Certificates.{Numbering}
+use Rattle.totem_sweep.specs.Rising.{RisesBefore}
+use Rattle.totem_traffic.specs.declared.log_set.LogSet.{LogSet}
+use Rattle.totem_traffic.specs.declared.traffic.MemberLogs.{MemberLogs}
+use Rattle.totem_traffic.specs.declared.traffic.Traffic.{Traffic}
+use Rattle.totem_judge.specs.declared.gathered.Gathered.{Gathered}
+use Rattle.totem_judge.specs.declared.gathered.Stay.{Stay}
+use Rattle.totem_judge.specs.Arrivals.{AreStaysAt}
+use Rattle.totem_judge.specs.Ends.{AreEnds}
+use Rattle.totem_judge.specs.Members.{AreMemberLogs}
+use Rattle.totem_judge.specs.Turns.{HasFollowings}
+use Rattle.totem_judge.specs.Lists.{EachBelow, IsSentAt, IsGotAt, AreListed, IsDelivered}
+
+-- the lists and the entries of the stay tell the same
+pub record IsReplayed (run : List Log) (lines : List Numbering) (g : Gathered) (stay : Stay) : Type 0 where
+  pub listed : AreListed run lines g stay stay.end
+  pub delivered : EachBelow (IsDelivered run lines g stay) (length g.got.items)
+
+-- so do those of the first n stays
+pub record AreReplayed (run : List Log) (lines : List Numbering) (g : Gathered) (stays : List Stay) (n : ℕ) : Type 0 where
+  pub each : (k : ℕ) (stay : Stay) → k < n → slice_get stays k ≡ Some stay → IsReplayed run lines g stay
+
+-- the lists tell what was sent and delivered in these stays
+pub record AreTrue (run : List Log) (lines : List Numbering) (g : Gathered) (stays : List Stay) (logs : LogSet) : Type 0 where
+  pub got_many : length g.got.items ≡ length g.got_numbers.items
+  pub got_rise : RisesBefore g.got_numbers.items (length g.got_numbers.items)
+  pub sent_many : length g.sent.items ≡ length g.sent_numbers.items
+  pub sent_rise : RisesBefore g.sent_numbers.items (length g.sent_numbers.items)
+  pub sent : EachBelow (IsSentAt run lines g) (length g.sent.items)
+  pub got : EachBelow (IsGotAt g logs) (length g.got.items)
+  pub replayed : AreReplayed run lines g stays (length stays)
+
+-- they are the members of the configuration in which one of the stays begins
+pub record HasMembers (run : List Log) (stays : List Stay) (found : MemberLogs) : Type 0 where
+  pub at : ℕ
+  pub stay : Stay
+  pub stands : slice_get stays at ≡ Some stay
+  pub log : Log
+  pub log_is : slice_get run stay.log ≡ Some log
+  pub conf : ConfId
+  pub members : List ℕ
+  pub change : ChangesWith log.entries stay.from conf members
+  pub are : AreMemberLogs run members found
+
+-- the traffic is what was gathered, and it is so
+pub record IsSeen (run : List Log) (lines : List Numbering) (g : Gathered) (traffic : Traffic) : Type 0 where
+  pub sent : traffic.sent.items ≡ g.sent.items
+  pub got : traffic.got.items ≡ g.got.items
+  pub stays : List Stay
+  pub are : AreStaysAt run lines g stays
+  pub lists : AreTrue run lines g stays traffic.logs
+  pub ends : AreEnds run stays (length stays) traffic.logs traffic.ended traffic.open
+  pub members : HasMembers run stays traffic.members
+  pub following : HasFollowings run stays (length stays) traffic.following.items

@@ -1,0 +1,305 @@
+//! Gathers the traffic of all regular configurations in one walk along the numbers of a certificate.
+//!
+//! Nothing is claimed of what is gathered: whoever takes it looks whether it is so.
+ghost use Rattle.std.specs.Prelude.{◌≡◌, ◌≤◌, ◌<◌, length};
+
+use crate::gathered::{Arrival, Gathered, Origin};
+use std::alloc::{AllocError, Global};
+use std::collections::BTreeMap;
+use totem_certificate::Line;
+use totem_evs::{Entry, Log};
+use totem_ids::{ConfId, MsgId, RingId, Service};
+use totem_sweep::least_head;
+use totem_traffic::{Got, LogSet, Sent};
+
+/// Where a message that was sent is listed: in which configuration, and at which index.
+#[derive(Clone, Copy)]
+struct Spot {
+    configuration: usize,
+    index: u32,
+}
+
+/// Where the messages are listed that were sent.
+#[derive(Drop)]
+struct Spots {
+    /// The configurations of the rings, by index.
+    rings: BTreeMap<RingId, usize>,
+    /// For each configuration, the indices of the messages that bear its ring, by their numbers; `ABSENT` where none was sent.
+    numbered: Vec<Vec<u32>>,
+    /// Messages of other rings, and those whose numbers leave too many out.
+    others: BTreeMap<MsgId, Spot>,
+    /// The ring that was looked up last, and its configuration.
+    last: Option<(RingId, usize)>,
+}
+
+const ABSENT: u32 = u32::MAX;
+
+/// How many numbers a list may leave out before its first message, and for each message.
+const LEFT_OUT: usize = 16;
+
+const LEFT_OUT_EACH: usize = 3;
+
+/// The next events of all logs that share a number: the first log that has one, and all that have.
+#[derive(Clone, Copy)]
+struct Next {
+    log: u32,
+    number: u32,
+    logs: LogSet,
+    ghost in_range: { log < 32 },
+}
+
+/// What has been gathered so far.
+#[derive(Drop)]
+struct Gatherer {
+    list: Vec<Gathered>,
+    spots: Spots,
+    /// For each log, the configuration in which it stands, by index.
+    standing: Vec<usize>,
+    /// The logs that stand in a transitional configuration.
+    behind: LogSet,
+}
+
+/// Goes past the next events with this number. Returns whose they are.
+fn go_past(lines: &[Line], passed: &mut [usize], number: u32) -> LogSet
+    requires as_many { length passed.old ≡ length lines.now }
+    requires few { length lines.now ≤ 32 }
+    ensures { length passed.new ≡ length passed.old }
+{
+    let mut logs = LogSet::none();
+    for log in 0..lines.len() {
+        let line = &lines[log];
+        let numbers = line.numbers.as_slice();
+        if passed[log] < numbers.len() && numbers[passed[log]] == number {
+            passed[log] += 1;
+            logs = logs.with(log as u32);
+        }
+    }
+    logs
+}
+
+fn index_of(at: usize) -> u32 {
+    u32::try_from(at).unwrap_or(u32::MAX)
+}
+
+impl Spots {
+    fn new(alloc: Global) -> Spots {
+        Spots {
+            rings: BTreeMap::new(alloc),
+            numbered: Vec::new(alloc),
+            others: BTreeMap::new(alloc),
+            last: None,
+        }
+    }
+
+    /// Enters the next configuration.
+    fn begin(&mut self, alloc: Global, ring: RingId) -> Result<(), AllocError> {
+        self.rings.insert(ring, self.numbered.len())?;
+        self.numbered.push(Vec::new(alloc))?;
+        Ok(())
+    }
+
+    /// Returns the configuration of a ring.
+    fn configuration(&mut self, ring: RingId) -> Option<usize> {
+        if let Some((last, configuration)) = self.last
+            && last == ring
+        {
+            return Some(configuration);
+        }
+        let configuration = self.rings.get(&ring).copied()?;
+        self.last = Some((ring, configuration));
+        Some(configuration)
+    }
+
+    /// Enters a message that was sent.
+    fn insert(&mut self, message: MsgId, spot: Spot) -> Result<(), AllocError> {
+        let number = message.number as usize;
+        let most = LEFT_OUT_EACH
+            .saturating_mul(spot.index as usize)
+            .saturating_add(LEFT_OUT);
+        if self.configuration(message.ring) != Some(spot.configuration)
+            || number > most
+            || spot.configuration >= self.numbered.len()
+        {
+            self.others.insert(message, spot)?;
+            return Ok(());
+        }
+        let indices = &mut self.numbered[spot.configuration];
+        for _ in indices.len()..=number {
+            indices.push(ABSENT)?;
+        }
+        if number < indices.len() {
+            indices[number] = spot.index;
+        }
+        Ok(())
+    }
+
+    /// Returns where a message is listed.
+    fn get(&mut self, message: &MsgId) -> Option<Spot> {
+        if let Some(configuration) = self.configuration(message.ring)
+            && let Some(indices) = self.numbered.get(configuration)
+            && let Some(index) = indices.get(message.number as usize).copied()
+            && index != ABSENT
+        {
+            return Some(Spot {
+                configuration,
+                index,
+            });
+        }
+        self.others.get(message).copied()
+    }
+}
+
+impl Gatherer {
+    fn new(alloc: Global) -> Result<Gatherer, AllocError> {
+        Ok(Gatherer {
+            list: Vec::new(alloc),
+            spots: Spots::new(alloc),
+            standing: vec![in alloc; usize::MAX; 32]?,
+            behind: LogSet::none(),
+        })
+    }
+
+    /// Enters the changes of these logs to a regular configuration. Each has passed so many entries, this one with them.
+    fn change(
+        &mut self,
+        alloc: Global,
+        ring: RingId,
+        next: &Next,
+        passed: &[usize],
+    ) -> Result<(), AllocError> {
+        let mut gathered = Gathered::new(alloc, ring, next.number);
+        for log in 0..32u32 {
+            let index = log as usize;
+            if next.logs.contains(log) && index < passed.len() && index < self.standing.len() {
+                let at = passed[index].saturating_sub(1);
+                gathered.arrivals.push(Arrival { log, at })?;
+                self.standing[index] = self.list.len();
+            }
+        }
+        self.behind = self.behind.minus(next.logs);
+        self.spots.begin(alloc, ring)?;
+        self.list.push(gathered)?;
+        Ok(())
+    }
+
+    fn send(
+        &mut self,
+        message: MsgId,
+        service: Service,
+        next: &Next,
+        at: usize,
+    ) -> Result<(), AllocError> {
+        let sender = next.log;
+        let log = sender as usize;
+        if log >= self.standing.len() || self.standing[log] >= self.list.len() {
+            return Ok(());
+        }
+        let configuration = self.standing[log];
+        let gathered = &mut self.list[configuration];
+        let index = index_of(gathered.sent.len());
+        gathered.sent.push(Sent {
+            message,
+            sender,
+            before: index_of(gathered.got.len()),
+            by: LogSet::none(),
+        })?;
+        gathered.origins.push(Origin {
+            at: index_of(at),
+            safe: matches!(service, Service::Safe),
+            got: None,
+        })?;
+        gathered.sent_numbers.push(next.number)?;
+        self.spots.insert(
+            message,
+            Spot {
+                configuration,
+                index,
+            },
+        )
+    }
+
+    fn deliver(&mut self, message: MsgId, next: &Next) -> Result<(), AllocError> {
+        let Some(spot) = self.spots.get(&message) else {
+            return Ok(());
+        };
+        if spot.configuration >= self.list.len() {
+            return Ok(());
+        }
+        let gathered = &mut self.list[spot.configuration];
+        let index = spot.index as usize;
+        if index >= gathered.sent.len() || index >= gathered.origins.len() {
+            return Ok(());
+        }
+        let got = index_of(gathered.got.len());
+        gathered.sent[index].by = next.logs;
+        gathered.origins[index].got = Some(got);
+        gathered.got.push(Got {
+            sent: spot.index,
+            sender: gathered.sent[index].sender,
+            safe: gathered.origins[index].safe,
+            regular: next.logs.minus(self.behind),
+            transitional: next.logs.intersection(self.behind),
+        })?;
+        gathered.got_numbers.push(next.number)?;
+        Ok(())
+    }
+
+    /// Enters the next events, of which this is the first log's, at this index.
+    fn enter(
+        &mut self,
+        alloc: Global,
+        entry: &Entry,
+        at: usize,
+        next: &Next,
+        passed: &[usize],
+    ) -> Result<(), AllocError> {
+        match entry {
+            Entry::Conf(ConfId::Regular(ring), _) => self.change(alloc, *ring, next, passed),
+            Entry::Conf(ConfId::Transitional { .. }, _) => {
+                self.behind = self.behind.union(next.logs);
+                Ok(())
+            }
+            Entry::Send(message, _, service) => self.send(*message, *service, next, at),
+            Entry::Deliver(message, _) => self.deliver(*message, next),
+            Entry::Fail(_) => Ok(()),
+        }
+    }
+}
+
+/// Returns how many entries the logs have.
+fn entries_of(logs: &[Log]) -> usize {
+    let mut count: usize = 0;
+    for log in logs {
+        count = count.saturating_add(log.entries.as_slice().len());
+    }
+    count
+}
+
+/// Returns what is gathered of each regular configuration, in the order of their numbers.
+pub fn gather(alloc: Global, logs: &[Log], lines: &[Line]) -> Result<Vec<Gathered>, AllocError>
+    requires few { length lines.now ≤ 32 }
+{
+    let mut gatherer = Gatherer::new(alloc)?;
+    let mut passed = vec![in alloc; 0usize; lines.len()]?;
+    for _ in 0..entries_of(logs) {
+        let Some(head) = least_head(lines, &passed) else {
+            break;
+        };
+        if head.log >= logs.len() || head.log >= passed.len() || head.log >= 32 {
+            break;
+        }
+        let at = passed[head.log];
+        let log = &logs[head.log];
+        let entries = log.entries.as_slice();
+        if at >= entries.len() {
+            break;
+        }
+        let next = Next {
+            log: head.log as u32,
+            number: head.number,
+            logs: go_past(lines, &mut passed, head.number),
+        };
+        gatherer.enter(alloc, &entries[at], at, &next, &passed)?;
+    }
+    Ok(gatherer.list)
+}

@@ -1,0 +1,107 @@
+//! What is gathered of a regular configuration, and by which it is seen that it is so.
+ghost use Rattle.std.specs.Prelude.{◌<◌};
+
+use std::alloc::Global;
+use totem_ids::RingId;
+use totem_traffic::{Got, Sent};
+
+/// A log's change to the configuration.
+#[derive(Clone, Copy)]
+pub struct Arrival {
+    /// The log, by index.
+    pub log: u32,
+    /// The index of the change in the log.
+    pub at: usize,
+    ghost in_range: { log < 32 },
+}
+
+/// A stay: the log changes to the regular configuration at `from` and to what follows that at `turn`, and the entries before `end` are
+/// those that stand in these two. Where nothing follows, `turn` is `end`.
+#[derive(Clone, Copy)]
+pub struct Stay {
+    /// The log, by index.
+    pub log: u32,
+    pub from: usize,
+    pub turn: usize,
+    pub end: usize,
+    ghost in_range: { log < 32 },
+}
+
+/// Where a message was sent, and whether it is delivered.
+#[derive(Clone, Copy)]
+pub struct Origin {
+    /// The index of the send in the log of the sender.
+    pub at: u32,
+    pub safe: bool,
+    /// Its index in the list of what is delivered, or `None` if nobody delivers it.
+    pub got: Option<u32>,
+}
+
+/// What is gathered of a regular configuration and of what follows it, in the order of the numbers of a certificate.
+#[derive(Drop)]
+pub struct Gathered {
+    pub ring: RingId,
+    /// The number of the changes to it.
+    pub number: u32,
+    pub arrivals: Vec<Arrival>,
+    pub sent: Vec<Sent>,
+    /// For each message sent, where.
+    pub origins: Vec<Origin>,
+    /// For each message sent, the number of the send.
+    pub sent_numbers: Vec<u32>,
+    pub got: Vec<Got>,
+    /// For each message delivered, the number of its deliveries.
+    pub got_numbers: Vec<u32>,
+}
+
+impl Gathered {
+    ghost use Rattle.std.specs.Prelude.{◌≡◌, slice_get};
+
+    pub fn new(alloc: Global, ring: RingId, number: u32) -> Gathered {
+        Gathered {
+            ring,
+            number,
+            arrivals: Vec::new(alloc),
+            sent: Vec::new(alloc),
+            origins: Vec::new(alloc),
+            sent_numbers: Vec::new(alloc),
+            got: Vec::new(alloc),
+            got_numbers: Vec::new(alloc),
+        }
+    }
+
+    /// Returns the message at this index of those that were sent.
+    pub fn sent_at(&self, index: usize) -> Option<Sent>
+        ensures { result ≡ slice_get self.now.sent.items index }
+    {
+        self.sent.get(index).copied()
+    }
+
+    /// Returns where the message at this index was sent.
+    pub fn origin_at(&self, index: usize) -> Option<Origin>
+        ensures { result ≡ slice_get self.now.origins.items index }
+    {
+        self.origins.get(index).copied()
+    }
+
+    /// Returns the number of the send at this index.
+    pub fn sent_number_at(&self, index: usize) -> Option<u32>
+        ensures { result ≡ slice_get self.now.sent_numbers.items index }
+    {
+        self.sent_numbers.get(index).copied()
+    }
+
+    /// Returns the message at this index of those that are delivered.
+    pub fn got_at(&self, index: usize) -> Option<Got>
+        ensures { result ≡ slice_get self.now.got.items index }
+    {
+        self.got.get(index).copied()
+    }
+
+    /// Returns the number of the deliveries of the message at this index.
+    pub fn got_number_at(&self, index: usize) -> Option<u32>
+        ensures { result ≡ slice_get self.now.got_numbers.items index }
+    {
+        self.got_numbers.get(index).copied()
+    }
+}

@@ -1,0 +1,20 @@
+//! The judge: whether a run that its certificate orders meets the specifications, by the traffic of each regular configuration.
+#![tactic(auto)]
+
+mod arrivals;
+mod deliveries;
+mod ends;
+mod event;
+mod following;
+mod gather;
+mod gathered;
+mod judging;
+mod members;
+mod pending;
+mod sends;
+mod stay;
+mod traffic;
+
+pub use judging::{Unsettled, judge};
+pub use pending::in_order;
+pub use stay::walk_to_change;

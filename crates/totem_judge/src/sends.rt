@@ -1,0 +1,154 @@
+//! Whether the lists of a configuration tell what was sent and delivered there as the logs have it.
+ghost use Rattle.std.specs.Prelude.{◌≡◌, ◌<◌, length};
+ghost use Rattle.std.specs.Bool.{OnTrue};
+ghost use Rattle.totem_judge.specs.Lists.{EachBelow, is_safe, IsSendOf, ComesBefore, IsLinked, IsSentAt, IsGotAt};
+
+use crate::event::event_at;
+use crate::gathered::Gathered;
+use totem_certificate::Line;
+use totem_evs::{Entry, Log};
+use totem_ids::{ConfId, MsgId, RingId, Service};
+use totem_traffic::{LogSet, Sent};
+
+fn is_safe(service: Service) -> bool
+    ensures { result ≡ is_safe service }
+{
+    matches!(service, Service::Safe)
+}
+
+/// Returns whether both hold, or neither.
+fn are_same(first: bool, second: bool) -> bool
+    ensures { OnTrue result (first ≡ second) }
+{
+    first == second
+}
+
+/// Returns whether the entry sends the message in the ring's regular configuration, as a safe one or not.
+fn is_send_of(entry: &Entry, ring: &RingId, message: &MsgId, safe: bool) -> bool
+    ensures { OnTrue result (IsSendOf entry.now ring.now message.now safe) }
+{
+    match entry {
+        Entry::Send(other, ConfId::Regular(conf), service) => {
+            *other == *message && *conf == *ring && is_safe(*service) == safe
+        }
+        _ => false,
+    }
+}
+
+/// Returns whether a send with this number comes before the messages that are delivered from this index on.
+fn comes_before(numbers: &[u32], before: u32, number: u32) -> bool
+    ensures { OnTrue result (ComesBefore numbers.now before number) }
+{
+    let before = before as usize;
+    if before < numbers.len() {
+        number < numbers[before]
+    } else {
+        before == numbers.len()
+    }
+}
+
+/// Returns whether the logs that deliver the message are among those of its place in the list of what is delivered.
+fn is_linked(sent: &Sent, index: usize, place: Option<u32>, gathered: &Gathered) -> bool
+    ensures { OnTrue result (IsLinked gathered.now.got.items index sent.now) }
+{
+    let Some(at) = place else {
+        return sent.by.is_empty();
+    };
+    let Some(got) = gathered.got_at(at as usize) else {
+        return false;
+    };
+    if got.sent as usize != index {
+        return false;
+    }
+    if !sent.by.is_within(got.by()) {
+        return false;
+    }
+    true
+}
+
+/// Returns whether the message at this index of the list was sent as the lists tell.
+fn is_sent(logs: &[Log], lines: &[Line], gathered: &Gathered, index: usize) -> bool
+    ensures { OnTrue result (IsSentAt logs.now lines.now gathered.now index) }
+{
+    let Some(sent) = gathered.sent_at(index) else {
+        return false;
+    };
+    let Some(origin) = gathered.origin_at(index) else {
+        return false;
+    };
+    let Some(event) = event_at(logs, lines, sent.sender as usize, origin.at as usize) else {
+        return false;
+    };
+    let Some(number) = gathered.sent_number_at(index) else {
+        return false;
+    };
+    if event.number != number {
+        return false;
+    }
+    if !is_send_of(event.entry, &gathered.ring, &sent.message, origin.safe) {
+        return false;
+    }
+    if !comes_before(&gathered.got_numbers, sent.before, number) {
+        return false;
+    }
+    if !is_linked(&sent, index, origin.got, gathered) {
+        return false;
+    }
+    true
+}
+
+/// Returns whether each message of the list was sent as the lists tell.
+pub fn all_are_sent(logs: &[Log], lines: &[Line], gathered: &Gathered) -> bool
+    ensures { OnTrue result (EachBelow (IsSentAt logs.now lines.now gathered.now) (length gathered.now.sent.items)) }
+{
+    for index in 0..gathered.sent.len() {
+        if !is_sent(logs, lines, gathered, index) {
+            return false;
+        }
+    }
+    true
+}
+
+/// Returns whether the message at this index of what is delivered is one that was sent, and some of these logs alone deliver it.
+fn is_got(gathered: &Gathered, logs: LogSet, index: usize) -> bool
+    ensures { OnTrue result (IsGotAt gathered.now logs index) }
+{
+    let Some(got) = gathered.got_at(index) else {
+        return false;
+    };
+    let Some(sent) = gathered.sent_at(got.sent as usize) else {
+        return false;
+    };
+    let Some(origin) = gathered.origin_at(got.sent as usize) else {
+        return false;
+    };
+    let by = got.by();
+    let Some(_) = by.least() else {
+        return false;
+    };
+    if got.sender != sent.sender {
+        return false;
+    }
+    if !are_same(got.safe, origin.safe) {
+        return false;
+    }
+    if sent.before as usize > index {
+        return false;
+    }
+    if !by.is_within(sent.by) || !by.is_within(logs) {
+        return false;
+    }
+    true
+}
+
+/// Returns whether each message of what is delivered is one that was sent, and some of these logs alone deliver it.
+pub fn all_are_got(gathered: &Gathered, logs: LogSet) -> bool
+    ensures { OnTrue result (EachBelow (IsGotAt gathered.now logs) (length gathered.now.got.items)) }
+{
+    for index in 0..gathered.got.len() {
+        if !is_got(gathered, logs, index) {
+            return false;
+        }
+    }
+    true
+}

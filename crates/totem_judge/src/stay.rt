@@ -1,0 +1,63 @@
+//! The part of a log that stands in a regular configuration and in what follows it (docs/SPECIFICATIONS.md, "Following").
+ghost use Rattle.std.specs.Prelude.{◌↔◌, ◌<◌, ◌≡◌, IsTrue, IfSome, length};
+ghost use Rattle.totem_evs.specs.Runs.{IsRun};
+ghost use Rattle.totem_rules.specs.Stays.{IsNextOrEnd};
+ghost use Rattle.totem_judge.specs.StaysIn.{IsChangeToRing, IsStayIn};
+
+use crate::gathered::{Arrival, Stay};
+use totem_evs::{Entry, Log};
+use totem_ids::{ConfId, RingId};
+
+fn is_change_to(entry: &Entry, ring: &RingId) -> bool
+    ensures { IsTrue result ↔ IsChangeToRing entry.now ring.now }
+{
+    match entry {
+        Entry::Conf(ConfId::Regular(other), _) => *other == *ring,
+        _ => false,
+    }
+}
+
+/// Returns the index of the next change, or the length of the log where none follows, entry by entry.
+pub fn walk_to_change(log: &[Entry], at: usize) -> usize
+    requires { at < length log.now }
+    ensures { IsNextOrEnd log.now at result }
+{
+    for next in at + 1..log.len() {
+        if let Entry::Conf(_, _) = &log[next] {
+            return next;
+        }
+    }
+    log.len()
+}
+
+impl Stay {
+    /// Returns the stay that begins here, or `None` unless the log changes to the ring's regular configuration here.
+    pub fn at(logs: &[Log], ring: &RingId, arrival: &Arrival) -> Option<Stay>
+        ensures stay { IfSome result (IsStayIn logs.now ring.now) }
+        ensures log { IfSome result (λ stay. stay.log ≡ arrival.now.log) }
+        ensures from { IfSome result (λ stay. stay.from ≡ arrival.now.at) }
+    {
+        let index = arrival.log as usize;
+        if index >= logs.len() {
+            return None;
+        }
+        let log = &logs[index];
+        let entries = log.entries.as_slice();
+        let from = arrival.at;
+        if from >= entries.len() || !is_change_to(&entries[from], ring) {
+            return None;
+        }
+        let turn = walk_to_change(entries, from);
+        let end = if turn < entries.len() {
+            walk_to_change(entries, turn)
+        } else {
+            turn
+        };
+        Some(Stay {
+            log: arrival.log,
+            from,
+            turn,
+            end,
+        })
+    }
+}

@@ -1,0 +1,163 @@
+//! The judge: it tells what a good run leaves open, and says yes to no run that breaks a specification.
+use crate::values::is_told;
+use std::alloc::{AllocError, Global};
+use std::process::Abort;
+use totem_cert::{Order, positions};
+use totem_evs::{Pending, Run, read_run};
+use totem_ids::{FromRead, MsgId, Proc, ProcId, RingId};
+use totem_judge::{in_order, judge, walk_to_change};
+
+/// Adds what the judge says of a run, along the certificate that the auditor makes of it.
+fn push_judged(alloc: Global, text: &mut String, run: &Run) -> Result<(), AllocError> {
+    let Order::Positions(certificate) = positions(alloc, run)? else {
+        return text.push_str("no certificate");
+    };
+    match judge(alloc, run, &certificate)? {
+        Some(left) => write!(
+            text,
+            "{} pending, {} wait",
+            left.pending.len(),
+            left.waiting.len()
+        ),
+        None => text.push_str("no"),
+    }
+}
+
+/// What the judge says of a run of these logs, or why there is no such run.
+fn told(alloc: Global, logs: &str) -> Result<String, AllocError> {
+    let bytes = format!(in alloc; "totem-run 1\n{logs}end\n")?;
+    let mut text = String::new(alloc);
+    match read_run(alloc, &mut FromRead::new(bytes.as_bytes())) {
+        Ok(run) => push_judged(alloc, &mut text, &run)?,
+        Err(fault) => text.push_str(fault.name())?,
+    }
+    Ok(text)
+}
+
+/// What a run shows, its logs, and what the judge says of it.
+struct Row {
+    shows: &'static str,
+    logs: &'static str,
+    told: &'static str,
+}
+
+const RUNS: [Row; 10] = [
+    Row {
+        shows: "a message that both deliver",
+        logs: "log 1\nconf r4.1 1 2\nsend r4.1 s 4.1#1\ndlv r4.1 4.1#1\nopen\n\
+        log 2\nconf r4.1 1 2\ndlv r4.1 4.1#1\nopen\n",
+        told: "0 pending, 0 wait",
+    },
+    Row {
+        shows: "a partition: one goes on alone, and one may still come",
+        logs: "log 1\nconf r4.1 1 2\nsend r4.1 a 4.1#1\ndlv r4.1 4.1#1\nconf t8.1/1 1\nconf r8.1 1\nopen\n\
+        log 2\nconf r4.1 1 2\nopen\n",
+        told: "1 pending, 1 wait",
+    },
+    Row {
+        shows: "deliveries in a transitional configuration",
+        logs: "log 1\nconf r4.1 1 2\nsend r4.1 s 4.1#1\nconf t8.1/1 1\ndlv t8.1/1 4.1#1\nconf r8.1 1\nopen\n\
+        log 2\nconf r4.1 1 2\nfail r4.1\nfailed\n",
+        told: "0 pending, 0 wait",
+    },
+    Row {
+        shows: "1.3: nobody sent the message",
+        logs: "log 1\nconf r4.1 1\ndlv r4.1 4.1#1\nopen\n",
+        told: "no",
+    },
+    Row {
+        shows: "3: a process goes on without its own message",
+        logs: "log 1\nconf r4.1 1\nsend r4.1 a 4.1#1\nconf t8.1/1 1\nconf r8.1 1\nopen\n",
+        told: "no",
+    },
+    Row {
+        shows: "4: two go on together, and one delivers",
+        logs: "log 1\nconf r4.1 1 2\nsend r4.1 a 4.1#1\ndlv r4.1 4.1#1\nconf t8.1/1 1 2\nconf r8.1 1 2\nopen\n\
+        log 2\nconf r4.1 1 2\nconf t8.1/1 1 2\nconf r8.1 1 2\nopen\n",
+        told: "no",
+    },
+    Row {
+        shows: "5: a second message without the first of its sender",
+        logs: "log 1\nconf r4.1 1 2\nsend r4.1 a 4.1#1\nsend r4.1 a 4.1#2\ndlv r4.1 4.1#1\ndlv r4.1 4.1#2\nopen\n\
+        log 2\nconf r4.1 1 2\ndlv r4.1 4.1#2\nopen\n",
+        told: "no",
+    },
+    Row {
+        shows: "6.3: a later message, and not the earlier one, whose sender is there",
+        logs: "log 1\nconf r4.1 1 2 3\nsend r4.1 a 4.1#1\ndlv r4.1 4.1#1\ndlv r4.1 4.1#2\nopen\n\
+        log 2\nconf r4.1 1 2 3\nsend r4.1 a 4.1#2\ndlv r4.1 4.1#1\ndlv r4.1 4.1#2\nopen\n\
+        log 3\nconf r4.1 1 2 3\ndlv r4.1 4.1#2\nopen\n",
+        told: "no",
+    },
+    Row {
+        shows: "7.1: a safe message that a member goes on without",
+        logs: "log 1\nconf r4.1 1 2\nsend r4.1 s 4.1#1\ndlv r4.1 4.1#1\nopen\n\
+        log 2\nconf r4.1 1 2\nconf t8.2/2 2\nconf r8.2 2\nopen\n",
+        told: "no",
+    },
+    Row {
+        shows: "7.2: a safe message where a member never came",
+        logs: "log 1\nconf r4.1 1 2\nsend r4.1 s 4.1#1\ndlv r4.1 4.1#1\nopen\n\
+        log 2\nconf r8.2 2\nopen\n",
+        told: "no",
+    },
+];
+
+#[test]
+fn the_judge_says_yes_to_good_runs_alone(rt: HostRuntime) -> Result<(), AllocError> {
+    for row in &RUNS {
+        let told = told(rt.alloc(), row.logs)?;
+        is_told(&rt, &told, row.told, row.shows);
+    }
+    Ok(())
+}
+
+fn pending(proc: Proc, seq: u32) -> Pending {
+    let ring = RingId {
+        seq: seq.max(1),
+        rep: ProcId::of(1),
+    };
+    Pending {
+        proc,
+        msg: MsgId { ring, number: 1 },
+    }
+}
+
+#[test]
+fn a_list_is_put_in_order(rt: HostRuntime) -> Result<(), AllocError> {
+    let first = Proc::first(ProcId::of(1));
+    let second = Proc::first(ProcId::of(2));
+    let mut list = Vec::new(rt.alloc());
+    list.push(pending(second, 4))?;
+    list.push(pending(first, 8))?;
+    list.push(pending(first, 4))?;
+    list.push(pending(first, 8))?;
+    let list = in_order(list)?;
+    assert_eq!(rt; list.len(), 3);
+    assert!(rt; list.first() == Some(&pending(first, 4)));
+    assert!(rt; list.last() == Some(&pending(second, 4)));
+    Ok(())
+}
+
+/// Where the next change is found from each entry of these logs.
+fn next_changes(alloc: Global, logs: &str) -> Result<String, AllocError> {
+    let bytes = format!(in alloc; "totem-run 1\n{logs}end\n")?;
+    let mut text = String::new(alloc);
+    if let Ok(run) = read_run(alloc, &mut FromRead::new(bytes.as_bytes())) {
+        for log in run.logs.as_slice() {
+            let entries = log.entries.as_slice();
+            for at in 0..entries.len() {
+                write!(text, "{} ", walk_to_change(entries, at))?;
+            }
+        }
+    }
+    Ok(text)
+}
+
+#[test]
+fn the_next_change_is_found(rt: HostRuntime) -> Result<(), AllocError> {
+    let logs = "log 1\nconf r4.1 1\nsend r4.1 a 4.1#1\nconf t8.1/1 1\nopen\n";
+    let told = next_changes(rt.alloc(), logs)?;
+    is_told(&rt, &told, "2 2 3 ", "the next change");
+    Ok(())
+}

@@ -1,0 +1,122 @@
+//! The rules of a whole run: each says yes to a good run, and no to one that breaks it.
+use crate::values::is_told;
+use std::alloc::{AllocError, Global};
+use totem_cert::{Order, positions};
+use totem_evs::{Run, read_run};
+use totem_ids::FromRead;
+use totem_rules::{
+    all_stay_in_place, changes_agree, end_together, is_orderly, sends_are_once, waiting,
+};
+
+/// Adds how many wait in a run that has a certificate and is orderly.
+fn push_waiting(alloc: Global, text: &mut String, run: &Run) -> Result<(), AllocError> {
+    let Order::Positions(_) = positions(alloc, run)? else {
+        return text.push_str("no certificate");
+    };
+    if is_orderly(alloc, run)? {
+        let waiting = waiting(alloc, run)?;
+        write!(text, "orderly, {} wait", waiting.len())?;
+    }
+    Ok(())
+}
+
+/// Adds which rules say no.
+fn push_broken(alloc: Global, text: &mut String, run: &Run) -> Result<(), AllocError> {
+    let logs = run.logs.as_slice();
+    if !sends_are_once(alloc, logs)? {
+        text.push_str("1.4 ")?;
+    }
+    if !end_together(alloc, run)? {
+        text.push_str("2.1 ")?;
+    }
+    if !all_stay_in_place(logs) {
+        text.push_str("2.2 ")?;
+    }
+    if !changes_agree(alloc, logs)? {
+        text.push_str("2.3 or 2.4 ")?;
+    }
+    push_waiting(alloc, text, run)
+}
+
+/// What the rules say of a run of these logs, or why there is no such run.
+fn told(alloc: Global, logs: &str) -> Result<String, AllocError> {
+    let bytes = format!(in alloc; "totem-run 3\n{logs}end\n")?;
+    let mut text = String::new(alloc);
+    match read_run(alloc, &mut FromRead::new(bytes.as_bytes())) {
+        Ok(run) => push_broken(alloc, &mut text, &run)?,
+        Err(fault) => text.push_str(fault.name())?,
+    }
+    Ok(text)
+}
+
+/// The rule that a row shows, the logs of a run, and what is told of it.
+struct Row {
+    rule: &'static str,
+    logs: &'static str,
+    told: &'static str,
+}
+
+const RUNS: [Row; 10] = [
+    Row {
+        rule: "who is left behind waits",
+        logs: "log 1:1\nconf r4.1 1:1 2:1\nsend r4.1 a 4.1#1\ndlv r4.1 4.1#1\nconf t8.1/1 1:1\nconf r8.1 1:1\nopen\n\
+        log 2:1\nconf r4.1 1:1 2:1\ndlv r4.1 4.1#1\nopen\n",
+        told: "orderly, 1 wait",
+    },
+    Row {
+        rule: "a message is sent twice",
+        logs: "log 1:1\nconf r4.1 1:1\nsend r4.1 a 4.1#1\nsend r4.1 a 4.1#1\nopen\n",
+        told: "1.4 ",
+    },
+    Row {
+        rule: "a message is sent in a transitional configuration",
+        logs: "log 1:1\nconf r4.1 1:1\nconf t8.1/1 1:1\nsend t8.1/1 a 4.1#1\nopen\n",
+        told: "1.4 ",
+    },
+    Row {
+        rule: "a quiet log ends without a member",
+        logs: "log 1:1\nconf r4.1 1:1 2:1\nquiet\n\
+        log 2:1\nconf r4.1 1:1 2:1\nfail r4.1\nfailed\n",
+        told: "2.1 orderly, 1 wait",
+    },
+    Row {
+        rule: "a delivery out of place",
+        logs: "log 1:1\nconf r4.1 1:1\ndlv r8.1 4.1#1\nopen\n",
+        told: "2.2 ",
+    },
+    Row {
+        rule: "two lists of members",
+        logs: "log 1:1\nconf r4.1 1:1\nopen\nlog 2:1\nconf r4.1 1:1 2:1\nopen\n",
+        told: "2.3 or 2.4 ",
+    },
+    Row {
+        rule: "a change by another than its members",
+        logs: "log 1:1\nconf r4.1 2:1\nopen\nlog 2:1\nconf r4.1 2:1\nopen\n",
+        told: "2.3 or 2.4 ",
+    },
+    Row {
+        rule: "two regular configurations in a row",
+        logs: "log 1:1\nconf r4.1 1:1\nconf r8.1 1:1\nopen\n",
+        told: "2.3 or 2.4 ",
+    },
+    Row {
+        rule: "one transitional configuration behind two regular ones",
+        logs: "log 1:1\nconf r4.1 1:1 2:1\nconf t8.1/1 1:1 2:1\nopen\n\
+        log 2:1\nconf r4.2 1:1 2:1\nconf t8.1/1 1:1 2:1\nopen\n",
+        told: "2.3 or 2.4 ",
+    },
+    Row {
+        rule: "two changes of one log to one configuration",
+        logs: "log 1:1\nconf r4.1 1:1\nconf t8.1/1 1:1\nconf r8.1 1:1\nconf t4.1/1 1:1\nconf r4.1 1:1\nopen\n",
+        told: "no certificate",
+    },
+];
+
+#[test]
+fn rules_say_which_runs_are_orderly(rt: HostRuntime) -> Result<(), AllocError> {
+    for row in &RUNS {
+        let told = told(rt.alloc(), row.logs)?;
+        is_told(&rt, &told, row.told, row.rule);
+    }
+    Ok(())
+}

@@ -1,0 +1,30 @@
+-- A list that grows along another one.
+use Rattle.std.proofs.Common.{◌≡◌, ℕ, zero, suc, ◌+◌, ◌⊎◌, inl, inr, List, [], ◌∷◌, ◌++◌, length, slice_get, Some, refl, ◌∙◌, ap, arith}
+use Rattle.std.proofs.lemmas.List.{length_push}
+
+nothing : {X : Type 0} (k : ℕ) (x : X) → slice_get [] k ≡ Some x → ⊥
+nothing k x at = cc
+
+-- the element that is put behind the others, or one of these
+before_push : {X : Type 0} (xs : List X) (x : X) (k : ℕ) (y : X) → slice_get (xs ++ (x ∷ [])) k ≡ Some y → (slice_get xs k ≡ Some y) ⊎ ((k ≡ length xs) × (x ≡ y))
+before_push [] x zero y at = inr (refl, cc)
+before_push [] x (suc k) y at = absurd (nothing k y at)
+before_push (z ∷ xs) x zero y at = inl at
+before_push (z ∷ xs) x (suc k) y at = elim (before_push xs x k y at) [ inl h ↦ inl h | inr (same, is) ↦ inr (omega (arith, same), is) ]
+
+-- the elements of ys belong to the first n of xs, each to that at its index
+pub record Along {X Y : Type 0} (P : X → Y → Type 0) (xs : List X) (ys : List Y) (n : ℕ) : Type 0 where
+  pub long : length ys ≡ n
+  pub each : (k : ℕ) (x : X) (y : Y) → slice_get xs k ≡ Some x → slice_get ys k ≡ Some y → P x y
+
+pub along_none : {X Y : Type 0} (P : X → Y → Type 0) (xs : List X) → Along P xs [] 0
+along_none P xs = record { long = refl; each = λ k x y at here. absurd (nothing k y here) }
+
+pub along_more : {X Y : Type 0} (P : X → Y → Type 0) (xs : List X) (ys : List Y) (n : ℕ) (x : X) (y : Y) → slice_get xs n ≡ Some x → P x y → Along P xs ys n → Along P xs (ys ++ (y ∷ [])) (n + 1)
+along_more P xs ys n x y at holds before = record {
+  long = length_push ys y ∙ ap (λ m. m + 1) before.long;
+  each = λ k a b at_k here. elim (before_push ys y k b here) [
+    | inl old ↦ before.each k a b at_k old
+    | inr (last, same) ↦ (let there : slice_get xs n ≡ Some a = rw (last, before.long) at at_k in let one : x ≡ a = cc in rw (← one, ← same) holds)
+  ];
+}

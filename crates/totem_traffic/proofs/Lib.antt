@@ -1,0 +1,12 @@
+pub mod Agreeing
+pub mod AllCome
+pub mod Caused
+pub mod Facts
+pub mod Gapless
+pub mod InSequence
+pub mod Missing
+pub mod Owned
+pub mod Rowing
+pub mod Safe
+pub mod Sets
+pub mod Together

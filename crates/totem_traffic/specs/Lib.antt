@@ -1,0 +1,5 @@
+pub mod Clean
+pub mod Lacking
+pub mod LogSets
+pub mod Pending
+pub mod Traffics
