@@ -14,8 +14,8 @@ use Rattle.totem_evs.specs.declared.log.Log.{Log}
 use Rattle.totem_evs.specs.Events.{log_of, ChangesTo}
 use Rattle.totem_evs.specs.Answers.{MeetsPasses}
 use Rattle.totem_evs.proofs.LogOf.{Rising, log_of_at, less_or_not}
-use Rattle.totem_passes.specs.declared.keys.Change.{Change}
-use Rattle.totem_passes.proofs.Exact.{change_by}
+use Rattle.totem_table.specs.declared.keys.Change.{Change}
+use Rattle.totem_table.proofs.Exact.{change_by}
 use Rattle.totem_agreement.specs.declared.comings.Arrival.{Arrival}
 use Rattle.totem_agreement.specs.Arrivals.{IsArrival, IsBelowArrival, AreArrivals}
 use Rattle.totem_agreement.specs.Comings.{HoldsComings}

@@ -18,8 +18,8 @@ use Rattle.totem_evs.specs.RingFaults.{BreaksAtomicityIn}
 use Rattle.totem_evs.specs.AgreementFaults.{GoesAt}
 use Rattle.totem_evs.specs.Answers.{ComesFirst, IsLeast}
 use Rattle.totem_evs.proofs.LogOf.{less_or_not}
-use Rattle.totem_passes.specs.Search.{place, NoneFrom, IsLeastFrom, HoldsOfNone}
-use Rattle.totem_rules.proofs.Staying.{one_next}
+use Rattle.totem_table.specs.Search.{place, NoneFrom, IsLeastFrom, HoldsOfNone}
+use Rattle.totem_rules.proofs.Staying.{one_next, same_change, change_within}
 use Rattle.totem_agreement.specs.declared.stay.Stay.{Stay}
 use Rattle.totem_rules.specs.Stays.{IsStay}
 use Rattle.totem_agreement.specs.Acts.{IsAmong, DeliversHere, DeliversNot}
@@ -27,7 +27,6 @@ use Rattle.totem_agreement.specs.Search.{IsInside, EachBeginsWithin, BeginsWithi
 use Rattle.totem_agreement.specs.Partings.{IsAnywhere, IsSpan, IsNoChange, NeverDelivers, IsPartner, IsOnePartner}
 use Rattle.totem_agreement.proofs.Deciding.{below_or_not, delivers_or_not}
 use Rattle.totem_agreement.proofs.KnownStays.{any_change_at_or_not}
-use Rattle.totem_rules.proofs.Staying.{same_change, change_within}
 use Rattle.totem_agreement.proofs.Facts.{Facts, StayFacts}
 use Rattle.totem_agreement.proofs.Rests.{nothing_here, only_here, begins_at}
 use Rattle.totem_agreement.proofs.CausalityFaults.{not_delivered_in}

@@ -17,8 +17,7 @@ use Rattle.totem_rules.specs.Stays.{AreNextTwo, IsStay}
 use Rattle.totem_agreement.specs.Stays.{IsStayOf, HasStay, AreStays}
 use Rattle.totem_rules.proofs.Staying.{is_stay}
 use Rattle.totem_table.proofs.Pushing.{nothing, before_push}
-use Rattle.totem_rules.proofs.LogEnds.{ending_of_at}
-use Rattle.totem_judge.proofs.Endings.{quiet_never_fails}
+use Rattle.totem_rules.proofs.LogEnds.{ending_of_at, quiet_never_fails}
 use Rattle.totem_agreement.proofs.KnownStays.{keeps_rules}
 
 -- the stay is the one that begins at this change

@@ -14,10 +14,10 @@ use Rattle.totem_evs.specs.declared.entry.Entry.TheVariants.{Conf}
 use Rattle.totem_evs.specs.declared.log.Log.{Log}
 use Rattle.totem_evs.specs.Events.{log_of, ChangesTo, IsChange}
 use Rattle.totem_evs.specs.Answers.{IsRing}
-use Rattle.totem_passes.specs.declared.keys.Change.{Change}
-use Rattle.totem_passes.specs.Registers.{Keeps, StaysSound}
-use Rattle.totem_passes.proofs.Knowing.{equal_at, apart_or_at}
-use Rattle.totem_passes.proofs.Exact.{change_by}
+use Rattle.totem_table.specs.declared.keys.Change.{Change}
+use Rattle.totem_table.specs.Registers.{Keeps, StaysSound}
+use Rattle.totem_ids.proofs.Exact.{equal_at, apart_or_at}
+use Rattle.totem_table.proofs.Exact.{change_by}
 use Rattle.totem_agreement.specs.Comings.{KnowsComing, AreComings}
 
 -- what is no change comes nowhere

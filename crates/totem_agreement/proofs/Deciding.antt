@@ -18,7 +18,7 @@ use Rattle.totem_evs.specs.Changes.{SharesEnd}
 use Rattle.totem_evs.specs.Missing.{HasLog}
 use Rattle.totem_evs.proofs.LogOf.{less_or_not}
 use Rattle.totem_rules.proofs.Decisions.{same_list_or_not}
-use Rattle.totem_passes.proofs.SentOrNot.{first_or_none, same_conf_or_not, same_message_or_not, change_to_or_not, change_of, IsAnyChange, any_change_or_not, in_or_not}
+use Rattle.totem_rules.proofs.SentOrNot.{first_or_none, same_conf_or_not, same_message_or_not, change_to_or_not, change_of, IsAnyChange, any_change_or_not, in_or_not}
 
 -- both facts hold, or not both
 pub both_or_not : {A B : Type 0} → A ⊎ (A → ⊥) → B ⊎ (B → ⊥) → (A × B) ⊎ (A × B → ⊥)

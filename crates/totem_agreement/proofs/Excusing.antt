@@ -1,17 +1,10 @@
 -- Whom the end of a stay excuses: where its log is not quiet, the process failed or is open there.
-use Rattle.std.proofs.Common.{◌≡◌, ◌+◌, ◌⊎◌, inl, inr, List, length, Bool, true, false, refl, arith}
+use Rattle.std.proofs.Common.{◌≡◌, ◌⊎◌, inl, inr, List, length, Bool, true, false, refl, arith}
 use Rattle.std.proofs.lemmas.Bool.{cases_eq}
-use Rattle.std.proofs.lemmas.Option.{slice_get_within}
 use Rattle.totem_ids.specs.declared.ring.RingId.{RingId}
-use Rattle.totem_evs.specs.declared.entry.Entry.{Entry}
-use Rattle.totem_evs.specs.declared.entry.Entry.TheVariants.{Fail}
 use Rattle.totem_evs.specs.declared.log.Log.{Log}
-use Rattle.totem_evs.specs.declared.ending.Ending.{Ending}
-use Rattle.totem_evs.specs.declared.ending.Ending.TheVariants.{Failed, Quiet}
-use Rattle.totem_evs.specs.Runs.{IsClosedBy}
 use Rattle.totem_evs.specs.Events.{IsQuiet, log_of}
-use Rattle.totem_evs.specs.Following.{NeverFails, FailedIn, StaysIn, OpenIn}
-use Rattle.totem_evs.specs.Changes.{StaysInPlace}
+use Rattle.totem_evs.specs.Following.{FailedIn, StaysIn, OpenIn}
 use Rattle.totem_evs.proofs.LogOf.{less_or_not}
 use Rattle.totem_agreement.specs.declared.stay.Stay.{Stay}
 use Rattle.totem_agreement.specs.Stays.{IsExcused, IsStayOf}

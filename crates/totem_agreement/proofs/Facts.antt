@@ -12,15 +12,13 @@ use Rattle.totem_evs.specs.Changes.{Names}
 use Rattle.totem_evs.specs.Following.{Follows, Com, DeliversIn}
 use Rattle.totem_evs.specs.Answers.{MeetsPasses}
 use Rattle.totem_evs.proofs.LogOf.{less_or_not}
-use Rattle.totem_passes.proofs.Sent.{same_first}
-use Rattle.totem_rules.proofs.Staying.{one_next}
+use Rattle.totem_rules.proofs.Staying.{same_first, one_next, names_no_change, same_change}
 use Rattle.totem_agreement.specs.declared.stay.Stay.{Stay}
 use Rattle.totem_agreement.specs.declared.stays.Stays.{Stays}
 use Rattle.totem_rules.specs.Stays.{IsStay}
 use Rattle.totem_agreement.specs.Stays.{IsStayOf, HasStay, AreStays}
 use Rattle.totem_agreement.specs.Acts.{IsAmong, DeliversHere}
 use Rattle.totem_agreement.specs.Search.{IsInside, StandsInside}
-use Rattle.totem_rules.proofs.Staying.{names_no_change, same_change}
 use Rattle.totem_agreement.proofs.KnownStays.{meets, stays}
 use Rattle.totem_agreement.proofs.Searching.{stay_of}
 

@@ -14,9 +14,9 @@ use Rattle.totem_evs.specs.Changes.{StandsIn, StaysInPlace, IsOneConfiguration, 
 use Rattle.totem_evs.specs.Delivery.{DeliversOnce}
 use Rattle.totem_evs.specs.Answers.{MeetsPasses}
 use Rattle.totem_evs.proofs.LogOf.{less_or_not}
-use Rattle.totem_rules.specs.Stays.{IsNextOrEnd}
+use Rattle.totem_evs.specs.Following.{IsNextOrEnd}
 use Rattle.totem_rules.proofs.Decisions.{contains_or_not, all_or_not, same_list_or_not, same_ring_or_not}
-use Rattle.totem_passes.proofs.SentOrNot.{first_or_none, transitional_or_not, change_to_or_not, change_of, IsAnyChange, any_change_or_not, any_change_of, sent_or_not}
+use Rattle.totem_rules.proofs.SentOrNot.{first_or_none, transitional_or_not, change_to_or_not, change_of, IsAnyChange, any_change_or_not, any_change_of, sent_or_not}
 use Rattle.totem_agreement.specs.declared.stay.Stay.{Stay}
 use Rattle.totem_rules.specs.Stays.{IsStay}
 use Rattle.totem_agreement.specs.Stays.{IsStayOf, HasStay, AreStays}

@@ -14,7 +14,7 @@ use Rattle.totem_evs.specs.Following.{HasDelivered}
 use Rattle.totem_evs.specs.AgreementFaults.{IsGap}
 use Rattle.totem_evs.specs.RingFaults.{BreaksGapIn}
 use Rattle.totem_evs.proofs.LogOf.{less_or_not}
-use Rattle.totem_passes.specs.Search.{NoneFrom}
+use Rattle.totem_table.specs.Search.{NoneFrom}
 use Rattle.totem_agreement.specs.declared.stay.Stay.{Stay}
 use Rattle.totem_agreement.specs.Acts.{IsAmong, DeliversNot}
 use Rattle.totem_agreement.specs.Gaps.{IsApart, IsBeyond, AreLasts, IsSettled}

@@ -7,7 +7,7 @@ use Rattle.totem_evs.specs.declared.spec.SpecNo.{SpecNo}
 use Rattle.totem_evs.specs.Places.{At}
 use Rattle.totem_evs.specs.Answers.{IsLeast, FindsIn}
 use Rattle.totem_evs.specs.RingFaults.{BreaksIn, MeetsIn}
-use Rattle.totem_passes.specs.Search.{place, NoneFrom, IsLeastFrom, HoldsOfNone}
+use Rattle.totem_table.specs.Search.{place, NoneFrom, IsLeastFrom, HoldsOfNone}
 use Rattle.totem_agreement.specs.declared.stay.Stay.{Stay}
 use Rattle.totem_agreement.specs.Search.{IsOneEvent, EachStandsInside, IsInside, BeginsWithin, EachBeginsWithin}
 

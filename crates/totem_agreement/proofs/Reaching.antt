@@ -16,13 +16,11 @@ use Rattle.totem_evs.specs.Delivery.{WasSentFor}
 use Rattle.totem_evs.specs.Following.{Follows, Com}
 use Rattle.totem_evs.specs.Answers.{MeetsPasses}
 use Rattle.totem_evs.proofs.LogOf.{less_or_not}
-use Rattle.totem_passes.proofs.Sent.{same_first}
-use Rattle.totem_rules.proofs.Staying.{one_next}
+use Rattle.totem_rules.proofs.Staying.{same_first, one_next, names_no_change, same_change}
 use Rattle.totem_agreement.specs.declared.stays.Sending.{Sending}
 use Rattle.totem_rules.specs.Stays.{IsStay}
 use Rattle.totem_agreement.specs.Acts.{IsSendingOf}
 use Rattle.totem_agreement.specs.Reached.{IsSafeIn, AreMembersAt}
-use Rattle.totem_rules.proofs.Staying.{names_no_change, same_change}
 use Rattle.totem_agreement.proofs.KnownStays as known
 
 -- a message that is sent with another service is not safe

@@ -1,26 +1,21 @@
 -- The rings that are gathered are those of the run, in their order.
-use Rattle.std.proofs.Common.{◌≡◌, ◌⊎◌, ◌<◌, ℕ, inl, inr, List, IsTrue, refl, sym, ◌∙◌}
+use Rattle.std.proofs.Common.{ℕ, List, IsTrue}
 use Rattle.std.specs.declared.cmp.Ordering.{Ordering}
-use Rattle.std.specs.declared.cmp.Ordering.TheVariants.{Less, Equal, Greater}
-use Rattle.std.specs.Ordering.{nat_cmp, ordering_then, MatchOrdering}
-use Rattle.std.specs.Cmp.{nat_cmp_is}
 use Rattle.std.specs.BTreeSet.{BTreeSet, IsOrdered}
 use Rattle.std.specs.BTreeSet as sorted
 use Rattle.std.specs.BTreeMap.{BTreeMap}
 use Rattle.std.proofs.lemmas.Option.{slice_get_within}
 use Rattle.std.proofs.lemmas.Map.Keys.{Less-from_sorted}
 use Rattle.std.proofs.lemmas.Map.Views.{btree_set_contains_iff}
-use Rattle.totem_ids.specs.Orders.{RingBelow}
 use Rattle.totem_ids.specs.declared.ring.RingId.{RingId}
 use Rattle.totem_ids.specs.contracts.ring.RingIdOrd.TheImpl as ring
 use Rattle.totem_ids.specs.contracts.ring.RingIdOrd.TheImpl.Laws.{total-law}
 use Rattle.totem_evs.specs.declared.log.Log.{Log}
 use Rattle.totem_evs.specs.Events.{log_of}
 use Rattle.totem_evs.specs.Answers.{IsRing, AreRings}
-use Rattle.totem_evs.proofs.LogOf.{less_or_not}
-use Rattle.totem_passes.specs.declared.keys.Change.{Change}
-use Rattle.totem_rules.proofs.Exact.{exact_ring}
-use Rattle.totem_judge.proofs.PendingOrder.{below_from_less}
+use Rattle.totem_table.specs.declared.keys.Change.{Change}
+use Rattle.totem_ids.proofs.Exact.{exact_ring}
+use Rattle.totem_rules.proofs.PendingOrder.{below_from_less}
 use Rattle.totem_agreement.specs.Comings.{HoldsComings}
 
 pub are_rings : (by_change : Change → Change → Ordering) (rings : BTreeSet RingId) (indices : BTreeMap Change ℕ) (run : List Log) → HoldsComings ring.cmp-value.it by_change rings indices run

@@ -21,8 +21,8 @@ use Rattle.totem_evs.specs.Changes.{Names}
 use Rattle.totem_evs.specs.Following.{DeliversIn}
 use Rattle.totem_evs.specs.RingFaults.{BreaksCausalityIn}
 use Rattle.totem_evs.proofs.LogOf.{less_or_not}
-use Rattle.totem_passes.specs.Search.{place, NoneFrom}
-use Rattle.totem_passes.proofs.Knowing.{equal_at, apart_or_at}
+use Rattle.totem_table.specs.Search.{place, NoneFrom}
+use Rattle.totem_ids.proofs.Exact.{equal_at, apart_or_at}
 use Rattle.totem_agreement.specs.declared.stay.Stay.{Stay}
 use Rattle.totem_agreement.specs.Acts.{IsAmong, DeliversHere, DeliversNot}
 use Rattle.totem_agreement.specs.Suspects.{Handles, HandlesNothing, ComesBefore, ComesNotBefore, IsEarlier, IsSuspect, HasAllOf, IsNoted, AreNotedFrom, AreNoted, AllNoted, AreSuspects}

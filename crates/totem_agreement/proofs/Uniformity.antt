@@ -24,7 +24,7 @@ use Rattle.totem_agreement.specs.Findings.{AreNone, AreFindings}
 use Rattle.totem_agreement.specs.Uniform.{rank, HasPlace, HasAll, IsTurnMember, IsBeyond}
 use Rattle.totem_agreement.specs.Owed.{JoinsBy, IsUniform}
 use Rattle.totem_agreement.proofs.Ranks.{rank_below, rank_rises}
-use Rattle.totem_passes.specs.Search.{place}
+use Rattle.totem_table.specs.Search.{place}
 use Rattle.totem_agreement.proofs.Excusing.{excused_or_not}
 use Rattle.totem_agreement.proofs.Facts.{Facts, StayFacts}
 use Rattle.totem_agreement.proofs.Rests.{index_of}

@@ -19,13 +19,12 @@ use Rattle.totem_evs.specs.Unsettled.{IsPending}
 use Rattle.totem_evs.specs.Answers.{MeetsPasses, AreRings}
 use Rattle.totem_evs.proofs.LogOf.{less_or_not}
 use Rattle.totem_evs.proofs.Originating.{sent_in}
-use Rattle.totem_judge.specs.Judged.{HoldsPending}
+use Rattle.totem_rules.specs.Endings.{HoldsPending, HasFailed}
 use Rattle.totem_agreement.specs.declared.stay.Stay.{Stay}
 use Rattle.totem_rules.specs.Stays.{TurnsAt}
 use Rattle.totem_agreement.specs.Stays.{IsExcused, IsStayOf, HasStay, AreStays}
 use Rattle.totem_agreement.specs.Acts.{IsAmong, DeliversHere, DeliversNot}
 use Rattle.totem_rules.specs.Ends.{GoesOn}
-use Rattle.totem_rules.specs.Endings.{HasFailed}
 use Rattle.totem_agreement.specs.Pendings.{Adds, MissesAt, MissesNothingAt, MissesFrom, Misses, IsPendingIn, IsPendingFor}
 use Rattle.totem_agreement.specs.Completeness.{HasNonePendingOf}
 use Rattle.totem_agreement.proofs.Excusing.{excused, not_excused}

@@ -11,7 +11,7 @@ use Rattle.totem_evs.specs.declared.entry.Entry.{Entry}
 use Rattle.totem_evs.specs.declared.log.Log.{Log}
 use Rattle.totem_evs.specs.Events.{ChangesTo, log_of}
 use Rattle.totem_evs.specs.Answers.{IsRing}
-use Rattle.totem_passes.specs.declared.keys.Change.{Change}
+use Rattle.totem_table.specs.declared.keys.Change.{Change}
 
 module _ (by_ring : RingId → RingId → Ordering) (by_change : Change → Change → Ordering) (rings : BTreeSet RingId) (indices : BTreeMap Change ℕ) where
   -- p's change at i to a regular configuration is among them

@@ -6,7 +6,7 @@ use Rattle.totem_evs.specs.declared.log.Log.{Log}
 use Rattle.totem_evs.specs.declared.spec.SpecNo.TheVariants as spec
 use Rattle.totem_evs.specs.declared.fault.Fault.{Fault}
 use Rattle.totem_evs.specs.Answers.{FindsIn, ListsRings}
-use Rattle.totem_passes.specs.Listed.{listed}
+use Rattle.totem_table.specs.Search.{listed}
 use Rattle.totem_agreement.specs.declared.findings.Findings.{Findings}
 use Rattle.totem_agreement.specs.declared.complete.Complete.{Complete}
 use Rattle.totem_agreement.specs.declared.pass.Found.{Found}

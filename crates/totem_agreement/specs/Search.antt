@@ -2,7 +2,7 @@
 use Rattle.std.specs.Prelude.{◌≡◌, ℕ, ◌<◌, ◌≤◌, List, [], ◌∷◌}
 use Rattle.totem_ids.specs.declared.place.Place.{Place}
 use Rattle.totem_evs.specs.Places.{At}
-use Rattle.totem_passes.specs.Search.{place, IsLeastFrom}
+use Rattle.totem_table.specs.Search.{place, IsLeastFrom}
 use Rattle.totem_agreement.specs.declared.stay.Stay.{Stay}
 use Rattle.totem_agreement.specs.Acts.{IsAmong}
 

@@ -14,7 +14,7 @@ use crate::stays::Stays;
 use std::alloc::{AllocError, Global};
 use totem_evs::{Entry, Places, SpecNo};
 use totem_ids::{ConfId, MsgId, Place};
-use totem_passes::begin_at;
+use totem_table::begin_at;
 
 /// Where a stay changes to one of its two configurations, and where to the next one: there its log may have ended.
 #[derive(Clone, Copy)]

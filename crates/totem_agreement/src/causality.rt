@@ -1,7 +1,7 @@
 //! 5: what a process sent or delivered before it sent a message is delivered before that message, one hop at a time
 //! (docs/SPECIFICATIONS.md, "5 Causal delivery", "Passes").
 ghost use Rattle.std.specs.Prelude.{◌≡◌, ◌↔◌, ◌<◌, IsTrue, IfOk, length};
-ghost use Rattle.totem_passes.specs.Search.{place};
+ghost use Rattle.totem_table.specs.Search.{place};
 ghost use Rattle.totem_evs.specs.RingFaults.{BreaksCausalityIn};
 ghost use Rattle.totem_evs.specs.RingAgreement.{IsHop};
 ghost use Rattle.totem_evs.specs.Answers.{FindsIn};

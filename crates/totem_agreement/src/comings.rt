@@ -6,8 +6,7 @@ use std::alloc::{AllocError, Global};
 use std::collections::{BTreeMap, BTreeSet};
 use totem_evs::{Entry, Run};
 use totem_ids::{ConfId, Proc, RingId};
-use totem_passes::{Change, ChangeRegister, enter_changes};
-use totem_table::Changes;
+use totem_table::{Change, ChangeRegister, Changes, enter_changes};
 
 /// A change to a regular configuration: in which log of the run, counted from 0, and at which index of that log.
 #[derive(Clone, Copy, PartialEq, Eq, PartialOrd, Ord)]

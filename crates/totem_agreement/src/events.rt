@@ -2,7 +2,7 @@
 ghost use Rattle.std.specs.Prelude.{◌≡◌, ℕ, IfOk, MatchOption, List};
 ghost use Rattle.std.specs.Bool.{OnTrue, OnFalse};
 ghost use Rattle.totem_evs.specs.Answers.{IsLeast};
-ghost use Rattle.totem_passes.specs.Search.{HoldsOfNone};
+ghost use Rattle.totem_table.specs.Search.{HoldsOfNone};
 ghost use Rattle.totem_agreement.specs.declared.stay.Stay.{Stay};
 ghost use Rattle.totem_agreement.specs.Acts.{IsAmong};
 ghost use Rattle.totem_agreement.specs.Search.{IsInside, EachStandsInside, IsOneEvent};

@@ -4,7 +4,7 @@ ghost use Rattle.std.specs.Prelude.{◌≡◌, ◌↔◌, ◌⊎◌, ◌<◌, �
 ghost use Rattle.std.specs.Bool.{OnTrue, OnFalse};
 ghost use Rattle.totem_evs.specs.Events.{log_of};
 ghost use Rattle.totem_evs.specs.Following.{HasDelivered};
-ghost use Rattle.totem_passes.specs.Search.{NoneFrom, IsLeastFrom};
+ghost use Rattle.totem_table.specs.Search.{NoneFrom, IsLeastFrom};
 ghost use Rattle.totem_evs.specs.RingFaults.{BreaksGapIn};
 ghost use Rattle.totem_evs.specs.Answers.{FindsIn};
 ghost use Rattle.totem_agreement.specs.Acts.{IsAmong};
@@ -17,7 +17,7 @@ use crate::stays::Stays;
 use std::alloc::{AllocError, Global};
 use totem_evs::{Entry, Places, SpecNo};
 use totem_ids::{MsgId, Place, Proc};
-use totem_passes::begin_at;
+use totem_table::begin_at;
 
 fn is_among(members: &[Proc], proc: Proc) -> bool
     ensures { IsTrue result ↔ Contains members.now proc }

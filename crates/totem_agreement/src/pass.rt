@@ -9,7 +9,7 @@ use crate::findings::Findings;
 use crate::jobs::Jobs;
 use std::alloc::{AllocError, Global};
 use totem_evs::{Fault, Run, SpecNo};
-use totem_passes::with_found;
+use totem_table::with_found;
 
 /// What the jobs of the pass come to.
 #[derive(Drop)]

@@ -19,8 +19,7 @@ use crate::stay::Stay;
 use std::alloc::{AllocError, Global};
 use totem_evs::{Entry, Pending, Run, Waiting};
 use totem_ids::{MsgId, Proc, RingId};
-use totem_judge::in_order;
-use totem_rules::has_failed;
+use totem_rules::{has_failed, in_order};
 
 /// Whether the process of this stay is open in it.
 fn is_open(stays: &RingStays, stay: &Stay) -> bool

@@ -1,7 +1,7 @@
 //! The least list of events of a run that begins in a regular configuration or in what follows it.
 ghost use Rattle.std.specs.Prelude.{◌≡◌, ◌<◌, ℕ, IfOk, MatchOption, List, [], ◌∷◌};
 ghost use Rattle.totem_ids.specs.declared.place.Place.{Place};
-ghost use Rattle.totem_passes.specs.Search.{place, NoneFrom, IsLeastFrom, HoldsOfNone};
+ghost use Rattle.totem_table.specs.Search.{place, NoneFrom, IsLeastFrom, HoldsOfNone};
 ghost use Rattle.totem_evs.specs.Answers.{IsLeast};
 ghost use Rattle.totem_agreement.specs.declared.stay.Stay.{Stay};
 ghost use Rattle.totem_agreement.specs.Acts.{IsAmong};
@@ -12,7 +12,7 @@ use crate::stays::Stays;
 use std::alloc::{AllocError, Global};
 use totem_evs::Places;
 use totem_ids::{Place, Proc};
-use totem_passes::{begin_at, places_of};
+use totem_table::{begin_at, places_of};
 
 /// A relation on lists of events that begin in one of the stays.
 pub trait Relation {

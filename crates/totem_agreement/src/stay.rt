@@ -1,6 +1,6 @@
 //! The part of a log that stands in a regular configuration and in what follows it.
 ghost use Rattle.std.specs.Prelude.{◌≡◌, ◌↔◌, ◌<◌, IsTrue, length};
-ghost use Rattle.totem_rules.specs.Stays.{IsNextOrEnd};
+ghost use Rattle.totem_evs.specs.Following.{IsNextOrEnd};
 ghost use Rattle.totem_table.specs.Changes.{ListsChanges};
 ghost use Rattle.totem_rules.specs.Stays.{AreNextTwo};
 ghost use Rattle.totem_agreement.specs.Stays.{IsExcused};
@@ -9,7 +9,7 @@ ghost use Rattle.totem_agreement.specs.Acts.{IsActAt, message_at, service_at};
 use crate::act::{Act, service_of};
 use totem_evs::{Ending, Entry, Log};
 use totem_ids::{MsgId, Proc, Service};
-use totem_judge::walk_to_change;
+use totem_rules::walk_to_change;
 use totem_table::next_change;
 
 /// The stay of a process: its log changes to the regular configuration at `from` and to what follows that at `turn`, and

@@ -1,6 +1,6 @@
 -- What follows a regular configuration in a log, and who failed or is open there
 -- (docs/SPECIFICATIONS.md, "Following", "Failed and open").
-use Rattle.std.specs.Prelude.{◌≡◌, ◌⊎◌, ℕ, ◌<◌, List}
+use Rattle.std.specs.Prelude.{◌≡◌, ◌⊎◌, ℕ, ◌<◌, ◌≤◌, List, length}
 use Rattle.totem_ids.specs.declared.ring.RingId.{RingId}
 use Rattle.totem_ids.specs.declared.conf.ConfId.{ConfId}
 use Rattle.totem_ids.specs.declared.conf.ConfId.TheVariants.{Regular}
@@ -13,6 +13,13 @@ use Rattle.totem_evs.specs.Events.{ChangesTo, ChangesWith, IsChange, Delivers, F
 pub record IsNextChange (log : List Entry) (i j : ℕ) : Type 0 where
   pub change : IsChange log j
   pub later : i < j
+  pub none_between : (k : ℕ) → i < k → k < j → IsChange log k → ⊥
+
+-- j is the next change after i, or the end of the log where no change follows
+pub record IsNextOrEnd (log : List Entry) (i j : ℕ) : Type 0 where
+  pub later : i < j
+  pub within : j ≤ length log
+  pub change : j < length log → IsChange log j
   pub none_between : (k : ℕ) → i < k → k < j → IsChange log k → ⊥
 
 -- i is the first change to x

@@ -11,3 +11,4 @@ pub mod AtHand
 pub mod Each
 pub mod Rises
 pub mod Kept
+pub mod Exact

@@ -1,5 +1,5 @@
 -- Answers that are handed on, and loops that ask one after the other.
-use Rattle.std.proofs.Common.{◌≡◌, ◌⊎◌, inl, inr, ℕ, ◌+◌, ◌<◌, ◌≤◌, Bool, true, false, List, length, slice_get, Some, arith}
+use Rattle.std.proofs.Common.{◌≡◌, ◌⊎◌, inl, inr, ℕ, ◌+◌, ◌<◌, ◌≤◌, Bool, true, false, arith}
 use Rattle.std.specs.Bool.{OnTrue}
 use Rattle.totem_traffic.proofs.Rowing.{before_or_at}
 use Rattle.totem_judge.specs.Lists.{EachBelow}

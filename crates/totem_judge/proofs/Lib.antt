@@ -6,7 +6,6 @@ pub mod Placed
 pub mod Viewed
 pub mod Whole
 pub mod Unsent
-pub mod PendingOrder
 pub mod Asked
 pub mod Steps
 pub mod OneByOne

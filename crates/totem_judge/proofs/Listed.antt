@@ -1,8 +1,7 @@
 -- What the lists of a configuration tell of the logs, where they were seen to be true.
 use Rattle.std.proofs.Common.{◌≡◌, ◌⊎◌, inl, inr, ℕ, ◌+◌, ◌<◌, ◌≤◌, List, length, slice_get, Some, refl, sym, ◌∙◌, ap, subst, arith}
-use Rattle.std.specs.Prelude.{◌↔◌, IsTrue}
+use Rattle.std.specs.Prelude.{◌↔◌}
 use Rattle.std.proofs.lemmas.Option.{slice_get_within}
-use Rattle.totem_ids.specs.declared.ring.RingId.{RingId}
 use Rattle.totem_ids.specs.declared.conf.ConfId.{ConfId}
 use Rattle.totem_ids.specs.declared.conf.ConfId.TheVariants.{Regular}
 use Rattle.totem_ids.specs.declared.message.MsgId.{MsgId}
@@ -20,7 +19,6 @@ use Rattle.totem_sweep.proofs.Walking.{at_index}
 use Rattle.totem_traffic.specs.declared.traffic.Sent.{Sent}
 use Rattle.totem_traffic.specs.declared.traffic.Got.{Got}
 use Rattle.totem_traffic.specs.declared.traffic.Traffic.{Traffic}
-use Rattle.totem_traffic.specs.LogSets.{Has}
 use Rattle.totem_traffic.specs.Clean.{IsBy}
 use Rattle.totem_traffic.specs.Traffics.{IsLogAt}
 use Rattle.totem_rules.specs.Stays.{Bounds, IsStay}
@@ -33,7 +31,7 @@ use Rattle.totem_judge.specs.declared.gathered.Stay.{Stay}
 use Rattle.totem_judge.specs.Events.{IsEventAt}
 use Rattle.totem_judge.specs.Ends.{HasSuch, IsAny}
 use Rattle.totem_judge.specs.Arrivals.{IsArrivedAs}
-use Rattle.totem_judge.specs.Lists.{is_safe, ComesBefore, IsLinked, IsThere, IsGotAt, IsSentAt, IsDeliveryOf, IsDeliveredAt, IsOriginAt}
+use Rattle.totem_judge.specs.Lists.{is_safe, ComesBefore, IsLinked, IsThere, IsGotAt, IsSentAt}
 use Rattle.totem_judge.specs.Seen.{IsReplayed, IsSeen}
 use Rattle.totem_rules.specs.Orderly.{IsOrderly}
 use Rattle.totem_judge.proofs.Numbers.{one_at, entries_of, entry_of, event_of, one_event, one_number, same_index}

@@ -1,16 +1,14 @@
 -- Events by the index of their log, and the order of their numbers.
-use Rattle.std.proofs.Common.{◌≡◌, ◌⊎◌, inl, inr, ℕ, ◌+◌, ◌<◌, ◌≤◌, List, length, slice_get, Some, refl, sym, ◌∙◌, ap, subst, add-one, arith}
+use Rattle.std.proofs.Common.{◌≡◌, ◌⊎◌, inl, inr, ℕ, ◌+◌, ◌<◌, ◌≤◌, List, length, slice_get, Some, refl, sym, ◌∙◌, ap, subst, arith}
 use Rattle.std.specs.Prelude.{◌↔◌}
 use Rattle.std.proofs.lemmas.Option.{slice_get_within}
 use Rattle.totem_ids.specs.declared.conf.ConfId.{ConfId}
 use Rattle.totem_ids.specs.declared.message.MsgId.{MsgId}
-use Rattle.totem_ids.specs.declared.message.Service.{Service}
 use Rattle.totem_evs.specs.declared.entry.Entry.{Entry}
-use Rattle.totem_evs.specs.declared.entry.Entry.TheVariants.{Conf, Send, Deliver}
+use Rattle.totem_evs.specs.declared.entry.Entry.TheVariants.{Conf, Deliver}
 use Rattle.totem_evs.specs.declared.log.Log.{Log}
-use Rattle.totem_evs.specs.Events.{IsEvent, IsBefore, log_of}
-use Rattle.totem_evs.specs.Steps.{SameClass}
-use Rattle.totem_evs.specs.Certificates.{Numbering, number_at, Matches, Certified}
+use Rattle.totem_evs.specs.Events.{log_of}
+use Rattle.totem_evs.specs.Certificates.{Numbering, Matches, Certified}
 use Rattle.totem_evs.proofs.LogOf.{Rising, log_of_at, less_or_not}
 use Rattle.totem_sweep.specs.Numbered.{Stands, place}
 use Rattle.totem_sweep.specs.Rising.{RisesBefore}

@@ -1,5 +1,5 @@
 -- Judging one configuration after the other.
-use Rattle.std.proofs.Common.{◌≡◌, ◌⊎◌, inl, inr, ℕ, zero, suc, ◌+◌, ◌<◌, ◌≤◌, List, [], ◌∷◌, ◌++◌, length, slice_get, Some, refl, sym, ◌∙◌, ap, subst, length-append, arith}
+use Rattle.std.proofs.Common.{◌≡◌, ◌⊎◌, inl, inr, ℕ, ◌+◌, ◌<◌, ◌≤◌, List, [], ◌∷◌, ◌++◌, length, slice_get, Some, refl, sym, ◌∙◌, subst, arith}
 use Rattle.std.specs.Prelude.{◌↔◌, Contains}
 use Rattle.std.proofs.lemmas.Option.{slice_get_within}
 use Rattle.totem_ids.specs.declared.ring.RingId.{RingId}
@@ -10,9 +10,8 @@ use Rattle.totem_evs.specs.Following.{StaysIn}
 use Rattle.totem_evs.specs.declared.pending.Pending.{Pending}
 use Rattle.totem_evs.specs.Certificates.{Numbering}
 use Rattle.totem_traffic.proofs.Facts.{has_log}
-use Rattle.totem_traffic.proofs.Rowing.{one_at}
 use Rattle.totem_judge.specs.declared.gathered.Gathered.{Gathered}
-use Rattle.totem_judge.specs.Pending.{IsPendingFrom, IsPendingTo, AddsAll}
+use Rattle.totem_judge.specs.Pending.{IsPendingFrom, IsPendingTo}
 use Rattle.totem_judge.specs.Judged.{IsJudged, IsSettled, AllAreTraffic, AreJudged}
 use Rattle.totem_traffic.specs.Pending.{IsPendingIn}
 use Rattle.totem_judge.proofs.Steps.{append_get, push_cases, at_end}

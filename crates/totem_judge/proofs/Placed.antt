@@ -1,8 +1,7 @@
 -- The logs of a configuration as parts of its traffic: its members, how they end, and what follows it.
 use Rattle.std.proofs.Common.{◌≡◌, ◌⊎◌, inl, inr, ℕ, ◌+◌, ◌-◌, ◌<◌, ◌≤◌, List, length, slice_get, Some, refl, sym, ◌∙◌, ap, subst, arith}
-use Rattle.std.specs.Prelude.{◌↔◌, IsTrue, Contains}
+use Rattle.std.specs.Prelude.{◌↔◌, Contains}
 use Rattle.std.proofs.lemmas.Option.{slice_get_within, slice_get-get_or}
-use Rattle.totem_ids.specs.declared.ring.RingId.{RingId}
 use Rattle.totem_ids.specs.declared.conf.ConfId.{ConfId}
 use Rattle.totem_ids.specs.declared.conf.ConfId.TheVariants.{Regular}
 use Rattle.totem_evs.specs.declared.entry.Entry.{Entry}
@@ -17,7 +16,6 @@ use Rattle.totem_evs.specs.Answers.{MeetsPasses}
 use Rattle.totem_evs.specs.Certificates.{Numbering, Certified}
 use Rattle.totem_evs.proofs.LogOf.{less_or_not}
 use Rattle.totem_traffic.specs.declared.traffic.MemberLogs.{MemberLogs}
-use Rattle.totem_traffic.specs.declared.traffic.Following.{Following}
 use Rattle.totem_traffic.specs.declared.traffic.Traffic.{Traffic}
 use Rattle.totem_traffic.specs.LogSets.{Has}
 use Rattle.totem_traffic.specs.Traffics.{IsLogAt, AreLogsOf, AreMembers, IsFollowingAs, HasFollowing}
@@ -26,13 +24,14 @@ use Rattle.totem_rules.proofs.Staying.{one_next, same_change, change_within}
 use Rattle.totem_traffic.proofs.Together.{one_following, follows_too}
 use Rattle.totem_judge.specs.declared.gathered.Gathered.{Gathered}
 use Rattle.totem_judge.specs.declared.gathered.Stay.{Stay}
-use Rattle.totem_judge.specs.Ends.{HasSuch, IsAny, IsExcusedIn, GoesOnAt, IsOpenAt}
+use Rattle.totem_judge.specs.Ends.{HasSuch, IsAny, IsExcusedIn, IsOpenAt}
 use Rattle.totem_judge.specs.Members.{AreMemberLogs}
-use Rattle.totem_judge.specs.Turns.{TurnsTo, TurnsToConf, GoesFurther, LeavesFrom, HasFollowingOf}
+use Rattle.totem_judge.specs.Turns.{TurnsToConf, LeavesFrom, HasFollowingOf}
 use Rattle.totem_judge.specs.Seen.{IsSeen}
 use Rattle.totem_rules.specs.Orderly.{IsOrderly}
 use Rattle.totem_judge.proofs.Numbers.{one_at, entries_of}
-use Rattle.totem_judge.proofs.Endings.{ending_at, quiet_never_fails}
+use Rattle.totem_judge.proofs.Endings.{ending_at}
+use Rattle.totem_rules.proofs.LogEnds.{quiet_never_fails}
 use Rattle.totem_judge.proofs.Listed as view
 
 module _ (run : List Log) (lines : List Numbering) (g : Gathered) (traffic : Traffic) (is_run : IsRun run) (orderly : IsOrderly run) (meets : MeetsPasses run) (certified : Certified run lines) (seen : IsSeen run lines g traffic)

@@ -1,16 +1,12 @@
 -- From settled configurations to the run: it meets the specifications in each, and what is pending is known.
 use Rattle.std.proofs.Common.{◌≡◌, ℕ, ◌<◌, List, length, slice_get, Some, sym, subst}
-use Rattle.std.specs.Prelude.{Contains}
 use Rattle.std.proofs.lemmas.Option.{slice_get_within}
 use Rattle.totem_ids.specs.declared.ring.RingId.{RingId}
 use Rattle.totem_ids.specs.declared.conf.ConfId.TheVariants.{Regular}
-use Rattle.totem_ids.specs.declared.message.MsgId.{MsgId}
-use Rattle.totem_evs.specs.declared.entry.Entry.{Entry}
 use Rattle.totem_evs.specs.declared.entry.Entry.TheVariants.{Conf}
 use Rattle.totem_evs.specs.declared.log.Log.{Log}
 use Rattle.totem_evs.specs.declared.pending.Pending.{Pending}
 use Rattle.totem_evs.specs.Runs.{IsRun}
-use Rattle.totem_evs.specs.Events.{ChangesTo, log_of}
 use Rattle.totem_evs.specs.Changes.{EndsTogether}
 use Rattle.totem_evs.specs.Answers.{IsRing, MeetsPasses}
 use Rattle.totem_evs.specs.Unsettled.{IsPending}
@@ -24,13 +20,14 @@ use Rattle.totem_traffic.proofs.Facts.{has_log}
 use Rattle.totem_judge.specs.declared.gathered.Gathered.{Gathered}
 use Rattle.totem_judge.specs.Arrivals.{AllHaveCome, AreRisingTo}
 use Rattle.totem_judge.specs.Seen.{IsSeen}
-use Rattle.totem_judge.specs.Pending.{IsPendingFrom, IsInOrder}
+use Rattle.totem_judge.specs.Pending.{IsPendingFrom}
+use Rattle.totem_rules.specs.Endings.{IsInOrder, HoldsPending}
 use Rattle.totem_rules.specs.Orderly.{IsOrderly}
-use Rattle.totem_judge.specs.Judged.{AllAreTraffic, AreJudged, HoldsPending, Settles}
+use Rattle.totem_judge.specs.Judged.{AllAreTraffic, AreJudged, Settles}
 use Rattle.totem_judge.proofs.Whole as place
 use Rattle.totem_judge.proofs.Viewed.{traffic_is}
 use Rattle.totem_judge.proofs.Unsent.{unsent_met}
-use Rattle.totem_judge.proofs.PendingOrder.{are_pending}
+use Rattle.totem_rules.proofs.PendingOrder.{are_pending}
 
 module _ (run : List Log) (lines : List Numbering) (list : List Gathered) (pending : List Pending) (is_run : IsRun run) (orderly : IsOrderly run) (together : EndsTogether run) (certified : Certified run lines)
     (come : AllHaveCome run lines list (length run)) (rise : AreRisingTo list (length list)) (judged : AreJudged run lines list (length list) pending) where

@@ -7,7 +7,6 @@ use Rattle.totem_ids.specs.declared.conf.ConfId.{ConfId}
 use Rattle.totem_evs.specs.declared.log.Log.{Log}
 use Rattle.totem_evs.specs.declared.pending.Pending.{Pending}
 use Rattle.totem_evs.specs.Certificates.{Numbering}
-use Rattle.totem_evs.proofs.LogOf.{less_or_not}
 use Rattle.totem_traffic.specs.declared.log_set.LogSet.{LogSet}
 use Rattle.totem_traffic.specs.declared.traffic.Following.{Following}
 use Rattle.totem_traffic.specs.declared.traffic.Traffic.{Traffic}
@@ -19,7 +18,7 @@ use Rattle.totem_judge.specs.declared.gathered.Gathered.{Gathered}
 use Rattle.totem_judge.specs.declared.gathered.Stay.{Stay}
 use Rattle.totem_judge.specs.Ends.{HasSuch, Selects}
 use Rattle.totem_judge.specs.Members.{IsLogOfMember, AreLogsOfMembers}
-use Rattle.totem_judge.specs.Turns.{TurnsTo, TurnsNowhere, TurnsToConf, IsFollowing, HasFollowingOf, HasFollowings}
+use Rattle.totem_judge.specs.Turns.{TurnsTo, IsFollowing, HasFollowingOf, HasFollowings}
 use Rattle.totem_judge.specs.Seen.{IsReplayed, AreReplayed}
 use Rattle.totem_judge.specs.Pending.{IsPendingTo, AddsAll}
 

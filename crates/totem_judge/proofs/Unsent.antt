@@ -4,8 +4,7 @@ use Rattle.totem_ids.specs.declared.ring.RingId.{RingId}
 use Rattle.totem_ids.specs.declared.conf.ConfId.{ConfId}
 use Rattle.totem_ids.specs.declared.conf.ConfId.TheVariants.{Regular, Transitional}
 use Rattle.totem_ids.specs.declared.message.MsgId.{MsgId}
-use Rattle.totem_evs.specs.declared.entry.Entry.{Entry}
-use Rattle.totem_evs.specs.declared.entry.Entry.TheVariants.{Conf, Deliver}
+use Rattle.totem_evs.specs.declared.entry.Entry.TheVariants.{Deliver}
 use Rattle.totem_evs.specs.declared.log.Log.{Log}
 use Rattle.totem_evs.specs.Runs.{IsRun}
 use Rattle.totem_evs.specs.Events.{ChangesTo, IsChange, IsRegular, IsTransitional, Sends, Delivers, log_of}
@@ -14,7 +13,6 @@ use Rattle.totem_evs.specs.Delivery.{WasSentFor, DeliversWhatWasSent}
 use Rattle.totem_evs.specs.Certificates.{Numbering, Certified}
 use Rattle.totem_evs.proofs.Originating.{LastBefore, last_before}
 use Rattle.totem_traffic.specs.declared.traffic.Traffic.{Traffic}
-use Rattle.totem_traffic.specs.Traffics.{IsLogAt}
 use Rattle.totem_traffic.proofs.Facts.{has_log}
 use Rattle.totem_judge.specs.declared.gathered.Gathered.{Gathered}
 use Rattle.totem_judge.specs.Arrivals.{AllHaveCome, AreRisingTo}

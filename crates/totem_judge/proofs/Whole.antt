@@ -2,7 +2,6 @@
 use Rattle.std.proofs.Common.{◌≡◌, ◌⊎◌, inl, inr, ℕ, ◌<◌, ◌≤◌, List, length, slice_get, Some, refl, sym, ◌∙◌, ap, subst, arith}
 use Rattle.std.proofs.lemmas.Option.{slice_get_within}
 use Rattle.totem_ids.specs.declared.ring.RingId.{RingId}
-use Rattle.totem_ids.specs.declared.conf.ConfId.{ConfId}
 use Rattle.totem_ids.specs.declared.conf.ConfId.TheVariants.{Regular}
 use Rattle.totem_evs.specs.declared.entry.Entry.{Entry}
 use Rattle.totem_evs.specs.declared.entry.Entry.TheVariants.{Conf}
@@ -19,7 +18,7 @@ use Rattle.totem_judge.specs.Events.{IsEventAt}
 use Rattle.totem_judge.specs.Ends.{HasSuch, IsAny}
 use Rattle.totem_judge.specs.Arrivals.{HasArrival, IsComeTo, AllHaveCome, AreRisingTo}
 use Rattle.totem_judge.specs.Seen.{IsSeen}
-use Rattle.totem_judge.proofs.Numbers.{one_at, entries_of, one_event, one_change_number, one_configuration}
+use Rattle.totem_judge.proofs.Numbers.{one_at, entries_of, one_change_number, one_configuration}
 
 module _ (run : List Log) (lines : List Numbering) (list : List Gathered) (is_run : IsRun run) (certified : Certified run lines) (come : AllHaveCome run lines list (length run)) (rise : AreRisingTo list (length list)) where
   -- a change to the configuration that was gathered, with its number

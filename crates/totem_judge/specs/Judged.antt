@@ -5,7 +5,7 @@ use Rattle.totem_evs.specs.declared.pending.Pending.{Pending}
 use Rattle.totem_evs.specs.declared.pending.Waiting.{Waiting}
 use Rattle.totem_evs.specs.Certificates.{Numbering}
 use Rattle.totem_evs.specs.Synchrony.{IsVirtuallySynchronous}
-use Rattle.totem_evs.specs.Unsettled.{IsPending, ArePending, AreWaiting}
+use Rattle.totem_evs.specs.Unsettled.{ArePending, AreWaiting}
 use Rattle.totem_traffic.specs.declared.traffic.Traffic.{Traffic}
 use Rattle.totem_traffic.specs.Clean.{ShowsAgreement}
 use Rattle.totem_traffic.specs.Traffics.{IsTrafficOf}
@@ -34,10 +34,6 @@ pub record AllAreTraffic (run : List Log) (lines : List Numbering) (list : List 
 pub record AreJudged (run : List Log) (lines : List Numbering) (list : List Gathered) (n : ℕ) (pending : List Pending) : Type 0 where
   pub each : (k : ℕ) (g : Gathered) → k < n → slice_get list k ≡ Some g → IsSettled run lines g
   pub exact : AllAreTraffic run lines list → (x : Pending) → Contains pending x ↔ IsPendingFrom run list n x
-
--- all that is pending, in some order
-pub record HoldsPending (run : List Log) (list : List Pending) : Type 0 where
-  pub each : (x : Pending) → Contains list x ↔ IsPending run x.proc x.msg
 
 -- the run meets specifications 1 to 7, and this is what is pending
 abbrev pub Settles : List Log → List Pending → Type 0

@@ -1,9 +1,8 @@
 -- What is pending in a run, by the traffic of its configurations (docs/SPECIFICATIONS.md, "Pending and waiting").
-use Rattle.std.specs.Prelude.{◌≡◌, ◌⊎◌, ◌↔◌, ℕ, ◌<◌, List, slice_get, Some, AllPairs, Contains}
+use Rattle.std.specs.Prelude.{◌≡◌, ◌⊎◌, ◌↔◌, ℕ, ◌<◌, List, slice_get, Some, Contains}
 use Rattle.totem_ids.specs.declared.ring.RingId.{RingId}
 use Rattle.totem_evs.specs.declared.log.Log.{Log}
 use Rattle.totem_evs.specs.declared.pending.Pending.{Pending}
-use Rattle.totem_evs.specs.Unsettled.{PendingBelow}
 use Rattle.totem_traffic.specs.declared.traffic.Traffic.{Traffic}
 use Rattle.totem_traffic.specs.Traffics.{IsLogAt, IsTrafficOf}
 use Rattle.totem_traffic.specs.Pending.{IsPendingIn}
@@ -19,11 +18,6 @@ pub record IsPendingTo (run : List Log) (c : RingId) (n : ℕ) (x : Pending) : T
 -- if this is the traffic of c, the list has gained what is pending there for the processes of the first n logs
 pub record AddsAll (traffic : Traffic) (run : List Log) (n : ℕ) (old new : List Pending) : Type 0 where
   pub exact : (c : RingId) → IsTrafficOf run c traffic → (x : Pending) → Contains new x ↔ (Contains old x ⊎ IsPendingTo run c n x)
-
--- the elements of a list, each once, in rising order
-pub record IsInOrder (list ordered : List Pending) : Type 0 where
-  pub rising : AllPairs PendingBelow ordered
-  pub same : (x : Pending) → Contains ordered x ↔ Contains list x
 
 -- it is pending in one of the first n configurations
 pub record IsPendingFrom (run : List Log) (list : List Gathered) (n : ℕ) (x : Pending) : Type 0 where

@@ -9,12 +9,12 @@ ghost use Rattle.totem_judge.specs.Judged.{IsJudged, AreJudged, Settles, LeavesO
 use crate::arrivals::{all_have_come, rise};
 use crate::gather::gather;
 use crate::gathered::Gathered;
-use crate::pending::{add_pending, in_order};
+use crate::pending::add_pending;
 use crate::traffic::traffic_of;
 use std::alloc::{AllocError, Global};
 use totem_certificate::{Certificate, Line};
 use totem_evs::{Log, Pending, Run, Waiting};
-use totem_rules::{end_together, is_orderly, waiting};
+use totem_rules::{end_together, in_order, is_orderly, waiting};
 use totem_traffic::is_agreed;
 
 /// Judges one configuration, and appends what is pending there. Returns `true` only where all its rules are met.

@@ -16,5 +16,3 @@ mod stay;
 mod traffic;
 
 pub use judging::{Unsettled, judge};
-pub use pending::in_order;
-pub use stay::walk_to_change;

@@ -1,6 +1,6 @@
 //! What is pending in a run, by the traffic of its configurations (docs/SPECIFICATIONS.md, "Pending and waiting").
-ghost use Rattle.std.specs.Prelude.{◌≤◌, IfOk, OnOk, length};
-ghost use Rattle.totem_judge.specs.Pending.{AddsAll, IsInOrder};
+ghost use Rattle.std.specs.Prelude.{◌≤◌, OnOk, length};
+ghost use Rattle.totem_judge.specs.Pending.{AddsAll};
 
 use std::alloc::AllocError;
 use totem_evs::{Log, Pending};
@@ -20,13 +20,4 @@ pub fn add_pending(
         push_pending(traffic, index as u32, log.proc, out)?;
     }
     Ok(())
-}
-
-/// Returns the elements of the list in their order, each once.
-pub fn in_order(mut list: Vec<Pending>) -> Result<Vec<Pending>, AllocError>
-    ensures { IfOk result (λ ordered. IsInOrder list.items ordered.items) }
-{
-    list.sort()?;
-    list.dedup();
-    Ok(list)
 }

@@ -1,12 +1,12 @@
 //! The part of a log that stands in a regular configuration and in what follows it (docs/SPECIFICATIONS.md, "Following").
-ghost use Rattle.std.specs.Prelude.{◌↔◌, ◌<◌, ◌≡◌, IsTrue, IfSome, length};
+ghost use Rattle.std.specs.Prelude.{◌↔◌, ◌≡◌, IsTrue, IfSome};
 ghost use Rattle.totem_evs.specs.Runs.{IsRun};
-ghost use Rattle.totem_rules.specs.Stays.{IsNextOrEnd};
 ghost use Rattle.totem_judge.specs.StaysIn.{IsChangeToRing, IsStayIn};
 
 use crate::gathered::{Arrival, Stay};
 use totem_evs::{Entry, Log};
 use totem_ids::{ConfId, RingId};
+use totem_rules::walk_to_change;
 
 fn is_change_to(entry: &Entry, ring: &RingId) -> bool
     ensures { IsTrue result ↔ IsChangeToRing entry.now ring.now }
@@ -15,19 +15,6 @@ fn is_change_to(entry: &Entry, ring: &RingId) -> bool
         Entry::Conf(ConfId::Regular(other), _) => *other == *ring,
         _ => false,
     }
-}
-
-/// Returns the index of the next change, or the length of the log where none follows, entry by entry.
-pub fn walk_to_change(log: &[Entry], at: usize) -> usize
-    requires { at < length log.now }
-    ensures { IsNextOrEnd log.now at result }
-{
-    for next in at + 1..log.len() {
-        if let Entry::Conf(_, _) = &log[next] {
-            return next;
-        }
-    }
-    log.len()
 }
 
 impl Stay {

@@ -13,7 +13,7 @@ use Rattle.totem_evs.specs.DeliveryFaults.{BreaksTwice}
 use Rattle.totem_evs.specs.ChangeFaults.{BreaksConfiguration}
 use Rattle.totem_evs.specs.Faults.{Breaks}
 use Rattle.totem_evs.specs.Answers.{Meets, Finds, IsLeast}
-use Rattle.totem_passes.specs.Search.{place, HoldsOfNone}
+use Rattle.totem_table.specs.Search.{place, HoldsOfNone}
 use Rattle.totem_passes.specs.Pairs.{IsOneOrTwo}
 use Rattle.totem_passes.specs.Bad.{IsForeignChange, AreTwoForms, IsSendBetween, AreTwice}
 use Rattle.totem_rules.proofs.Decisions.{contains_or_not, same_list_or_not, regular_or_transitional}

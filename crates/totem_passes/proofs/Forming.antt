@@ -11,15 +11,15 @@ use Rattle.totem_evs.specs.declared.entry.Entry.{Entry}
 use Rattle.totem_evs.specs.declared.entry.Entry.TheVariants.{Conf, Send, Deliver, Fail}
 use Rattle.totem_evs.specs.declared.log.Log.{Log}
 use Rattle.totem_evs.specs.Events.{log_of, IsChange}
-use Rattle.totem_passes.specs.declared.keys.Change.{Change}
+use Rattle.totem_table.specs.declared.keys.Change.{Change}
 use Rattle.totem_passes.specs.Met.{IsMet}
-use Rattle.totem_passes.specs.Registers.{Keeps, KnowsRun}
+use Rattle.totem_table.specs.Registers.{Keeps, KnowsRun}
 use Rattle.totem_passes.specs.Forms.{KnowsChange}
-use Rattle.totem_passes.specs.Search.{place, NoneFrom, HoldsOfNone}
+use Rattle.totem_table.specs.Search.{place, NoneFrom, HoldsOfNone}
 use Rattle.totem_passes.specs.Pairs.{IsOne, IsOneOrTwo}
 use Rattle.totem_passes.specs.Bad.{IsForeignChange, AreTwoForms}
 use Rattle.totem_passes.proofs.Knowing.{meets_keeps}
-use Rattle.totem_passes.proofs.Exact.{change_by}
+use Rattle.totem_table.proofs.Exact.{change_by}
 
 module _ (by_change : Change → Change → Ordering) (by_conf : ConfId → ConfId → Ordering) where
   -- of what is no change there is nothing to know

@@ -1,18 +1,12 @@
 -- What is known of the values that were met under a key stays known.
-use Rattle.std.proofs.Common.{◌≡◌, ◌⊎◌, inl, inr, List, [], ◌∷◌, Option, Some, None, Bool, true, false, refl, ◌∙◌}
+use Rattle.std.proofs.Common.{◌≡◌, inl, inr, List, [], ◌∷◌, Option, Some, None, Bool, true, refl, ◌∙◌}
 use Rattle.std.specs.declared.cmp.Ordering.{Ordering}
-use Rattle.std.specs.declared.cmp.Ordering.TheVariants.{Less, Equal, Greater}
-use Rattle.std.specs.Ordering.{is_eq}
 use Rattle.std.specs.Cmp.{IsTotalOrder}
 use Rattle.std.specs.Map.{lookup}
 use Rattle.std.specs.BTreeMap.{BTreeMap, is_at, IsUnchanged}
 use Rattle.std.specs.BTreeMap as tree
+use Rattle.totem_ids.proofs.Exact.{equal_at, apart_or_at}
 use Rattle.totem_passes.specs.Met.{IsMet, Knows}
-
-pub equal_at : (o : Ordering) → is_eq o ≡ true → o ≡ Equal
-equal_at Less e = absurd cc
-equal_at Equal e = refl
-equal_at Greater e = absurd cc
 
 lookup_alike : {K X : Type 0} (f g : K → Bool) (es : List (K × X)) → ((x : K) → f x ≡ g x) → lookup f es ≡ lookup g es
 lookup_alike f g [] same = refl
@@ -21,13 +15,6 @@ lookup_alike f g (e ∷ es) same = rw (same e.0, lookup_alike f g es same) refl
 -- equal keys have one value
 pub same_get : {K X : Type 0} (cmp : K → K → Ordering) → IsTotalOrder cmp → (m : BTreeMap K X) (k q : K) → is_at (cmp k) q ≡ true → tree.get cmp m q ≡ tree.get cmp m k
 same_get cmp total m k q e = lookup_alike (is_at (cmp q)) (is_at (cmp k)) m.entries (λ x. let same = total.congr k q x (equal_at (cmp k q) e) in cc)
-
-pub apart_or_at : {K : Type 0} (cmp : K → K → Ordering) (k q : K) → (is_at (cmp k) q ≡ true) ⊎ (is_at (cmp k) q ≡ false)
-apart_or_at cmp k q = go (is_at (cmp k) q) refl
-  where
-    go : (b : Bool) → is_at (cmp k) q ≡ b → (is_at (cmp k) q ≡ true) ⊎ (is_at (cmp k) q ≡ false)
-    go true e = inl e
-    go false e = inr e
 
 module _ {K V : Type 0} (cmp : K → K → Ordering) (total : IsTotalOrder cmp) where
   unchanged : (m n : BTreeMap K (Option V)) → IsUnchanged m n → (q : K) → tree.get cmp n q ≡ tree.get cmp m q

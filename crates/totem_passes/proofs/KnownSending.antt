@@ -9,8 +9,9 @@ use Rattle.totem_evs.specs.declared.entry.Entry.TheVariants.{Deliver}
 use Rattle.totem_evs.specs.declared.log.Log.{Log}
 use Rattle.totem_evs.specs.Events.{log_of}
 use Rattle.totem_evs.specs.Delivery.{DeliversWhatWasSent}
-use Rattle.totem_passes.specs.Registers.{KnowsRun}
-use Rattle.totem_passes.specs.Sent.{WasSentTo, IsSentBy, IsSentHere}
+use Rattle.totem_table.specs.Registers.{KnowsRun}
+use Rattle.totem_passes.specs.Sent.{IsSentBy, IsSentHere}
+use Rattle.totem_rules.specs.Sent.{WasSentTo}
 
 -- what it delivers, if it delivers anything
 pub delivers_known : (run : List Log) (p : ℕ) (m : MsgId) (d : ConfId) (b : Bool) → OnTrue b (WasSentTo run (log_of run p) m d) → OnTrue b (IsSentBy run p (Deliver m d))

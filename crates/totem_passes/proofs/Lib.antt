@@ -1,14 +1,10 @@
-pub mod Searching
 pub mod Placed
 pub mod Starting
 pub mod Bad
 pub mod Turning
 pub mod TurnFaults
 pub mod Sent
-pub mod SentOrNot
 pub mod Passes
-pub mod Entering
-pub mod Listing
 pub mod Knowing
 pub mod Repeating
 pub mod Forming

@@ -16,8 +16,8 @@ use Rattle.totem_evs.specs.Events.{log_of, IsChange}
 use Rattle.totem_evs.specs.Changes.{ChangesNext}
 use Rattle.totem_passes.specs.Met.{IsMet}
 use Rattle.totem_passes.specs.Origins.{KnowsOrigin}
-use Rattle.totem_passes.specs.Registers.{Keeps, KnowsRun}
-use Rattle.totem_passes.specs.Search.{HoldsOfNone}
+use Rattle.totem_table.specs.Registers.{Keeps, KnowsRun}
+use Rattle.totem_table.specs.Search.{HoldsOfNone}
 use Rattle.totem_passes.specs.Turns.{IsOtherOrigin}
 use Rattle.totem_passes.proofs.Knowing.{meets_knows, meets_keeps}
 use Rattle.totem_passes.proofs.Turning.{one_succession}

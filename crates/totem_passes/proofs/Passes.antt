@@ -6,7 +6,7 @@ use Rattle.totem_evs.specs.declared.fault.Fault.{Fault}
 use Rattle.totem_evs.specs.declared.spec.SpecNo.{SpecNo}
 use Rattle.totem_evs.specs.declared.spec.SpecNo.TheVariants as spec
 use Rattle.totem_evs.specs.Answers.{Finds, Lists, pass_a, pass_b}
-use Rattle.totem_passes.specs.Listed.{listed}
+use Rattle.totem_table.specs.Search.{listed}
 
 pub lists_more : (run : List Log) (k : SpecNo) (ks : List SpecNo) (found : Option (List Place)) (rest : List Fault) → Finds run k found → Lists run ks rest → Lists run (k ∷ ks) (listed k found ++ rest)
 lists_more run k ks None rest h more = inl (h, more)

@@ -18,12 +18,12 @@ use Rattle.totem_evs.specs.Events.{log_of, IsChange, IsTransitional, WasSentIn}
 use Rattle.totem_evs.specs.Following.{IsFirstChange, Follows}
 use Rattle.totem_evs.specs.Changes.{ChangesNext}
 use Rattle.totem_passes.specs.declared.keys.Sending.{Sending}
-use Rattle.totem_passes.specs.declared.keys.Change.{Change}
-use Rattle.totem_passes.specs.Registers.{StaysSound, KnowsLog}
+use Rattle.totem_table.specs.declared.keys.Change.{Change}
+use Rattle.totem_table.specs.Registers.{StaysSound, KnowsLog}
 use Rattle.totem_passes.specs.Sendings.{WereSent}
 use Rattle.totem_passes.specs.Followed.{KnowsRegularChange, AreFollowed}
-use Rattle.totem_passes.proofs.Knowing.{equal_at, apart_or_at}
-use Rattle.totem_passes.proofs.Exact.{change_by}
+use Rattle.totem_ids.proofs.Exact.{equal_at, apart_or_at}
+use Rattle.totem_table.proofs.Exact.{change_by}
 
 abbrev pub sending : MsgId → RingId → Sending
 sending m c = record { message = m; ring = c }

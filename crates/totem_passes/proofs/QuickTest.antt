@@ -15,13 +15,13 @@ use Rattle.totem_evs.specs.declared.entry.Entry.{Entry}
 use Rattle.totem_evs.specs.declared.log.Log.{Log}
 use Rattle.totem_evs.specs.Events.{log_of, WasSentIn}
 use Rattle.totem_passes.specs.declared.keys.Sending.{Sending}
-use Rattle.totem_passes.specs.declared.keys.Change.{Change}
-use Rattle.totem_passes.specs.Sent.{WasSentTo}
+use Rattle.totem_table.specs.declared.keys.Change.{Change}
+use Rattle.totem_rules.specs.Sent.{WasSentTo}
 use Rattle.totem_passes.specs.Sendings.{WereSent}
 use Rattle.totem_passes.specs.Followed.{AreFollowed}
-use Rattle.totem_passes.proofs.Exact.{change_by}
+use Rattle.totem_table.proofs.Exact.{change_by}
 use Rattle.totem_passes.proofs.QuickSends.{sending}
-use Rattle.totem_passes.proofs.SentOrNot.{sent_or_not}
+use Rattle.totem_rules.proofs.SentOrNot.{sent_or_not}
 
 -- what can't be unsent was sent
 sent_if_there : (run : List Log) (log : List Entry) (m : MsgId) (d : ConfId) → ((WasSentTo run log m d → ⊥) → ⊥) → WasSentTo run log m d

@@ -15,9 +15,9 @@ use Rattle.totem_evs.specs.declared.log.Log.{Log}
 use Rattle.totem_evs.specs.Events.{log_of}
 use Rattle.totem_passes.specs.declared.keys.Delivery.{Delivery}
 use Rattle.totem_passes.specs.Met.{IsMet, Knows}
-use Rattle.totem_passes.specs.Registers.{Keeps, KnowsRun}
+use Rattle.totem_table.specs.Registers.{Keeps, KnowsRun}
 use Rattle.totem_passes.specs.Repeats.{KnowsAct}
-use Rattle.totem_passes.specs.Search.{place, HoldsOfNone}
+use Rattle.totem_table.specs.Search.{place, HoldsOfNone}
 use Rattle.totem_passes.specs.Pairs.{IsOne}
 use Rattle.totem_passes.specs.Bad.{AreTwice}
 use Rattle.totem_passes.proofs.Knowing.{meets_knows, meets_keeps}

@@ -12,13 +12,16 @@ use Rattle.totem_evs.specs.declared.log.Log.{Log}
 use Rattle.totem_evs.specs.Events.{log_of, ChangesTo, IsTransitional}
 use Rattle.totem_evs.specs.Following.{IsFirstChange, Follows, Com}
 use Rattle.totem_evs.specs.Changes.{ChangesNext}
+use Rattle.totem_evs.specs.Delivery.{DeliversWhatWasSent}
 use Rattle.totem_evs.specs.DeliveryFaults.{IsUnsent, BreaksUnsent}
-use Rattle.totem_passes.specs.Search.{place, NoneFrom, IsLeastFrom, NoneOf, IsLeastOf, HoldsOfNone}
+use Rattle.totem_table.specs.Search.{place, NoneFrom, IsLeastFrom, NoneOf, IsLeastOf, HoldsOfNone}
 use Rattle.totem_passes.specs.Pairs.{IsOne}
 use Rattle.totem_passes.specs.Turns.{HasNoSuccession}
 use Rattle.totem_rules.specs.Ends.{IsChangeTo, NeverChangesTo}
-use Rattle.totem_passes.specs.Sent.{WasSentTo, IsSendTo}
+use Rattle.totem_rules.specs.Sent.{WasSentTo, IsSendTo}
 use Rattle.totem_evs.proofs.LogOf.{less_or_not}
+use Rattle.totem_rules.proofs.Staying.{same_first}
+use Rattle.totem_rules.proofs.SentOrNot.{sent_or_not}
 use Rattle.totem_passes.proofs.Starting.{Begins, EachBegins, begins_at, one_begins, none_of_all}
 use Rattle.totem_passes.proofs.Turning.{one_succession}
 
@@ -55,12 +58,6 @@ not_without_change log c d never = (λ t. absurd cc, λ f. absurd (never.none f.
 
 pub not_regular : (log : List Entry) (c : RingId) (d : ConfId) (b : Bool) → b ≡ false → IsTrue b ↔ IsTransitional d → IsTrue false ↔ Follows log c d
 not_regular log c d b e decides = (λ t. absurd cc, λ f. absurd (let t : b ≡ true = decides.1 f.transitional in cc))
-
-pub same_first : (log : List Entry) (x : ConfId) (i j : ℕ) → IsFirstChange log x i → IsFirstChange log x j → i ≡ j
-same_first log x i j a b = elim (less_or_not i j) [
-  | inl lt ↦ absurd (b.none_before i lt a.change)
-  | inr more ↦ elim more [ inl gt ↦ absurd (a.none_before j gt b.change) | inr e ↦ e ]
-]
 
 succession_of : (log : List Entry) (c : RingId) (d : ConfId) (i : ℕ) (f : Follows log c d) → IsFirstChange log (Regular c) i → (ms ns : List ℕ) × ChangesNext log i f.to (Regular c) d ms ns
 succession_of log c d i f first = let same = same_first log (Regular c) f.from i f.first first in
@@ -126,3 +123,9 @@ sent_here run p i m d at sent = none_unsent run p i (λ (n, x, at', never). let 
 
 pub no_delivery : (run : List Log) (p i : ℕ) (e : Entry) → slice_get (log_of run p) i ≡ Some e → ((m : MsgId) (d : ConfId) → e ≡ Deliver m d → ⊥) → NoneFrom (BreaksUnsent run) p i
 no_delivery run p i e at other = none_unsent run p i (λ (n, x, at', never). other n x cc)
+
+pub delivers_what_was_sent : (run : List Log) → HoldsOfNone (BreaksUnsent run) → DeliversWhatWasSent run
+delivers_what_was_sent run never p i m d at = elim (sent_or_not run (log_of run p) m d) [
+  | inl sent ↦ sent
+  | inr not_sent ↦ absurd (never.none (place p i ∷ []) (i, refl, (m, d, at, not_sent)))
+]

@@ -3,7 +3,7 @@ use Rattle.std.proofs.Common.{List, Bool, true, false, not, IsTrue, ◌↔◌, r
 use Rattle.std.specs.Bool.{OnFalse}
 use Rattle.std.proofs.lemmas.Grind.{not_there}
 use Rattle.totem_ids.specs.declared.place.Place.{Place}
-use Rattle.totem_passes.specs.Search.{HoldsOfNone}
+use Rattle.totem_table.specs.Search.{HoldsOfNone}
 
 -- what a fact shows that is known to have a proof
 pub none_known : {K : Type 0} (H : List Place → Type 0) → ∥ K ∥₁ → (K → HoldsOfNone H) → HoldsOfNone H

@@ -1,12 +1,12 @@
 -- Lists that begin with an event of the run, and what follows from a search among them.
-use Rattle.std.proofs.Common.{◌≡◌, ℕ, ◌+◌, ◌<◌, List, [], ◌∷◌, length, slice_get, Option, Some, None, Result, Ok, Err, IfOk, MatchOption, Bool, true, false, IsTrue, ◌↔◌, refl, ap, arith}
+use Rattle.std.proofs.Common.{◌≡◌, ℕ, ◌+◌, ◌<◌, List, [], ◌∷◌, length, slice_get, Option, Some, None, MatchOption, Bool, true, false, IsTrue, ◌↔◌, refl, ap, arith}
 use Rattle.std.proofs.lemmas.Option.{slice_get_within}
 use Rattle.totem_ids.specs.declared.place.Place.{Place}
 use Rattle.totem_evs.specs.declared.entry.Entry.{Entry}
 use Rattle.totem_evs.specs.declared.log.Log.{Log}
 use Rattle.totem_evs.specs.Events.{log_of}
 use Rattle.totem_evs.specs.Answers.{ComesFirst, IsLeast}
-use Rattle.totem_passes.specs.Search.{place, NoneFrom, IsLeastFrom, NoneOf, IsLeastOf, HoldsOfNone}
+use Rattle.totem_table.specs.Search.{place, NoneFrom, IsLeastFrom, NoneOf, IsLeastOf, HoldsOfNone}
 use Rattle.totem_passes.specs.Pairs.{Has, IsOne, IsOneOrTwo}
 
 -- the list begins at an entry of p's log
@@ -85,12 +85,6 @@ pub least_places : {V : Type 0} (items : V → List Place) (run : List Log) (H :
     → MatchOption found (NoneOf run H) (λ v. IsLeastOf run H (items v)) → MatchOption places (HoldsOfNone H) (IsLeast H)
 least_places items run H found places begins is = told_as_places items found places (λ told. MatchOption told (HoldsOfNone H) (IsLeast H)) (NoneOf run H) (λ v. IsLeastOf run H (items v)) is
     (none_of_all run H begins) (λ v. least_of_all run H (items v) begins)
-
--- what a search answers, in other words
-pub reworded : {X F : Type 0} (r : Result (Option X) F) (A B : Type 0) (P Q : X → Type 0) → (A → B) → ((x : X) → P x → Q x) → IfOk r (λ found. MatchOption found A P) → IfOk r (λ found. MatchOption found B Q)
-reworded (Err e) A B P Q f g h = tt
-reworded (Ok None) A B P Q f g h = f h
-reworded (Ok (Some x)) A B P Q f g h = g x h
 
 -- what is known of the entry at a place is known of the entry there
 pub moved : (log : List Entry) (i j : ℕ) (x y : Entry) (Q : ℕ → Entry → Type 0) → slice_get log i ≡ Some x → i + 1 ≡ j + 1 → slice_get log j ≡ Some y → Q j y → Q i x

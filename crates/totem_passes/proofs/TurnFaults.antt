@@ -14,7 +14,7 @@ use Rattle.totem_evs.specs.Events.{log_of, IsRegular, IsTransitional}
 use Rattle.totem_evs.specs.Changes.{ChangesNext, TakesTurns}
 use Rattle.totem_evs.specs.ChangeFaults.{AreWrongNeighbours, BreaksTurns}
 use Rattle.totem_evs.specs.Answers.{ComesFirst, IsLeast, TakeTurns}
-use Rattle.totem_passes.specs.Search.{place, HoldsOfNone}
+use Rattle.totem_table.specs.Search.{place, HoldsOfNone}
 use Rattle.totem_rules.specs.Succession.{IsWrongSuccession}
 use Rattle.totem_passes.specs.Turns.{IsTurnFault}
 use Rattle.totem_rules.proofs.Decisions.{all_or_not, same_ring_or_not, regular_or_transitional}

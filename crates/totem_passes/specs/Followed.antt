@@ -11,7 +11,7 @@ use Rattle.totem_evs.specs.declared.entry.Entry.{Entry}
 use Rattle.totem_evs.specs.declared.log.Log.{Log}
 use Rattle.totem_evs.specs.Events.{log_of, ChangesTo}
 use Rattle.totem_evs.specs.Following.{Follows}
-use Rattle.totem_passes.specs.declared.keys.Change.{Change}
+use Rattle.totem_table.specs.declared.keys.Change.{Change}
 
 -- p's change at i to a regular configuration is among the changes
 pub record KnowsRegularChange (by_change : Change → Change → Ordering) (changes : BTreeSet Change) (p : ℕ) (log : List Entry) (i : ℕ) : Type 0 where

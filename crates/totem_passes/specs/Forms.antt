@@ -6,9 +6,9 @@ use Rattle.totem_ids.specs.declared.conf.ConfId.{ConfId}
 use Rattle.totem_ids.specs.declared.place.Place.{Place}
 use Rattle.totem_evs.specs.declared.entry.Entry.{Entry}
 use Rattle.totem_evs.specs.Events.{ChangesWith}
-use Rattle.totem_passes.specs.declared.keys.Change.{Change}
+use Rattle.totem_table.specs.declared.keys.Change.{Change}
 use Rattle.totem_passes.specs.Met.{Knows}
-use Rattle.totem_passes.specs.Search.{place}
+use Rattle.totem_table.specs.Search.{place}
 
 -- the place of p's change is met under p and its configuration, and its members under the configuration
 pub record KnowsChange (by_change : Change → Change → Ordering) (by_conf : ConfId → ConfId → Ordering) (changes : BTreeMap Change (Option Place)) (members : BTreeMap ConfId (Option (List ℕ)))

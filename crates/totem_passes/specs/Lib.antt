@@ -1,11 +1,9 @@
-pub mod Search
 pub mod Pairs
 pub mod Bad
 pub mod Turns
 pub mod Sent
 pub mod Listed
 pub mod Met
-pub mod Registers
 pub mod Repeats
 pub mod Forms
 pub mod Origins

@@ -1,15 +1,8 @@
 -- What one search adds to the faults of a pass, and what two passes come to (docs/SPECIFICATIONS.md, "Passes").
-use Rattle.std.specs.Prelude.{◌≢◌, ◌⊎◌, List, [], ◌∷◌, Option, Some, None}
-use Rattle.totem_ids.specs.declared.place.Place.{Place}
+use Rattle.std.specs.Prelude.{◌≢◌, ◌⊎◌, List, []}
 use Rattle.totem_evs.specs.declared.fault.Fault.{Fault}
-use Rattle.totem_evs.specs.declared.spec.SpecNo.{SpecNo}
 use Rattle.totem_evs.specs.declared.log.Log.{Log}
 use Rattle.totem_evs.specs.Answers.{Lists, pass_a, pass_b}
-
--- the fault of a specification, if places are found for it
-abbrev pub listed : SpecNo → Option (List Place) → List Fault
-listed k None = []
-listed k (Some places) = record { spec = k; places = places } ∷ []
 
 -- the faults of pass A, where it has some, and else those of pass B
 abbrev pub ListsFirst : List Log → List Fault → Type 0

@@ -9,7 +9,7 @@ use Rattle.totem_evs.specs.declared.entry.Entry.{Entry}
 use Rattle.totem_evs.specs.Events.{Sends, Delivers}
 use Rattle.totem_passes.specs.declared.keys.Delivery.{Delivery}
 use Rattle.totem_passes.specs.Met.{Knows}
-use Rattle.totem_passes.specs.Search.{place}
+use Rattle.totem_table.specs.Search.{place}
 
 -- the place of p's entry is met under the message that it sends, or under its delivery by p
 pub record KnowsAct (by_message : MsgId → MsgId → Ordering) (by_delivery : Delivery → Delivery → Ordering) (sends : BTreeMap MsgId (Option Place)) (deliveries : BTreeMap Delivery (Option Place))

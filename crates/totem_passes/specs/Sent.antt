@@ -1,20 +1,16 @@
 -- 1.3, as it is searched: the sends for a delivery (docs/SPECIFICATIONS.md, "1 Basic delivery").
 use Rattle.std.specs.Prelude.{◌≡◌, ℕ, List, All, Option, None, Some}
 use Rattle.totem_ids.specs.declared.conf.ConfId.{ConfId}
-use Rattle.totem_ids.specs.declared.conf.ConfId.TheVariants.{Regular, Transitional}
+use Rattle.totem_ids.specs.declared.conf.ConfId.TheVariants.{Regular}
 use Rattle.totem_ids.specs.declared.message.MsgId.{MsgId}
 use Rattle.totem_ids.specs.declared.message.Service.{Service}
 use Rattle.totem_ids.specs.declared.ring.RingId.{RingId}
 use Rattle.totem_evs.specs.declared.entry.Entry.{Entry}
-use Rattle.totem_evs.specs.declared.entry.Entry.TheVariants.{Conf, Send, Deliver, Fail}
+use Rattle.totem_evs.specs.declared.entry.Entry.TheVariants.{Send, Deliver}
 use Rattle.totem_evs.specs.declared.log.Log.{Log}
+use Rattle.totem_rules.specs.Sent.{WasSentTo}
 use Rattle.totem_evs.specs.Events.{Delivers, WasSentIn, log_of}
-use Rattle.totem_evs.specs.Following.{Com}
 use Rattle.totem_passes.specs.declared.known_sends.KnownSend.{KnownSend}
-
--- m was sent in d, or in the regular configuration that d follows in this log
-abbrev pub WasSentTo : List Log → List Entry → MsgId → ConfId → Type 0
-WasSentTo run log m d = (c : RingId) × WasSentIn run m (Regular c) × Com log c d
 
 -- the entry sends m in the regular configuration c
 pub record IsSendIn (entry : Entry) (m : MsgId) (c : RingId) : Type 0 where
@@ -36,11 +32,3 @@ pub record IsSentBy (run : List Log) (p : ℕ) (entry : Entry) : Type 0 where
 -- what the entry at i of the log delivers was sent for it
 pub record IsSentHere (run : List Log) (p : ℕ) (log : List Entry) (i : ℕ) : Type 0 where
   pub each : (m : MsgId) (d : ConfId) → Delivers log i m d → WasSentTo run log m d
-
--- a send of m in d, or in the regular configuration that d follows in this log
-abbrev pub IsSendTo : List Entry → MsgId → ConfId → ℕ → ℕ → Entry → Type 0
-IsSendTo log m d q j (Conf x ms) = ⊥
-IsSendTo log m d q j (Send n (Regular c) service) = (n ≡ m) × Com log c d
-IsSendTo log m d q j (Send n (Transitional next least) service) = ⊥
-IsSendTo log m d q j (Deliver n x) = ⊥
-IsSendTo log m d q j (Fail x) = ⊥

@@ -3,15 +3,14 @@ ghost use Rattle.std.specs.Prelude.{◌≡◌, ◌↔◌, ℕ, ◌<◌, ◌≤�
 ghost use Rattle.totem_ids.specs.declared.place.Place.{Place};
 ghost use Rattle.totem_evs.specs.declared.log.Log.{Log};
 ghost use Rattle.totem_evs.specs.Events.{log_of, IsChange};
-ghost use Rattle.totem_rules.specs.Stays.{IsNextOrEnd};
+ghost use Rattle.totem_evs.specs.Following.{IsNextOrEnd};
 ghost use Rattle.totem_table.specs.Changes.{ListsChanges, AreChanges};
-ghost use Rattle.totem_passes.specs.Search.{NoneFrom, IsLeastFrom, NoneInLog, IsLeastInLog, NoneOf, IsLeastOf};
+ghost use Rattle.totem_table.specs.Search.{NoneFrom, IsLeastFrom, NoneInLog, IsLeastInLog, NoneOf, IsLeastOf};
 
-use crate::search::begin_at;
 use std::alloc::{AllocError, Global};
 use totem_evs::{Entry, Run};
 use totem_ids::{Place, Proc};
-use totem_table::{Changes, next_change};
+use totem_table::{Changes, begin_at, next_change};
 
 /// A relation on lists of events of one run, each of which begins with a change.
 pub trait ChangeRelation {

@@ -4,20 +4,17 @@ ghost use Rattle.totem_evs.specs.Answers.{Finds, IsLeast};
 ghost use Rattle.totem_table.specs.Changes.{AreChanges};
 ghost use Rattle.totem_passes.specs.Bad.{IsForeignChange, AreTwoForms};
 ghost use Rattle.totem_passes.specs.Pairs.{IsOneOrTwo};
-ghost use Rattle.totem_passes.specs.Search.{HoldsOfNone};
-ghost use Rattle.totem_passes.specs.Registers.{KnowsRun};
+ghost use Rattle.totem_table.specs.Search.{HoldsOfNone};
+ghost use Rattle.totem_table.specs.Registers.{KnowsRun};
 ghost use Rattle.totem_passes.specs.Forms.{KnowsChange};
 
-use crate::change_register::enter_changes;
 use crate::change_search::{ChangeRelation, least_change};
 use crate::forms::Forms;
-use crate::keys::Change;
 use crate::pairs::{Standing, Test, bad_from};
-use crate::search::places_of;
 use std::alloc::{AllocError, Global};
 use totem_evs::{Entry, Places, Run, SpecNo};
 use totem_ids::{ConfId, Place, Proc};
-use totem_table::Changes;
+use totem_table::{Change, Changes, enter_changes, places_of};
 
 /// Looks for changes by processes that are no members, for two changes of one log to one configuration, and for two
 /// forms of a configuration.

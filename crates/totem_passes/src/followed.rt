@@ -2,14 +2,13 @@
 ghost use Rattle.std.specs.Prelude.{◌≡◌, ◌↔◌, IsTrue};
 ghost use Rattle.totem_passes.specs.Followed.{KnowsRegularChange, AreFollowed};
 
-use crate::change_register::ChangeRegister;
-use crate::keys::Change;
 use crate::kinds::is_transitional;
 use crate::succession::succession_between;
 use std::alloc::{AllocError, Global};
 use std::collections::{BTreeMap, BTreeSet};
 use totem_evs::Entry;
 use totem_ids::{ConfId, Proc, RingId};
+use totem_table::{Change, ChangeRegister};
 
 /// Which process changed to which regular configuration, and, for each process and transitional configuration, the ring
 /// of the regular one that it follows there.

@@ -2,12 +2,11 @@
 ghost use Rattle.std.specs.Prelude.{◌≡◌, ℕ, ◌<◌, List};
 ghost use Rattle.totem_passes.specs.Forms.{KnowsChange};
 
-use crate::change_register::ChangeRegister;
-use crate::keys::Change;
 use crate::met::{Met, Same};
 use std::alloc::{AllocError, Global};
 use totem_evs::{Entry, Members};
 use totem_ids::{ConfId, Place, Proc};
+use totem_table::{Change, ChangeRegister};
 
 impl Same for Members {
     fn is_same(&self, other: &Members) -> bool {

@@ -14,10 +14,3 @@ pub struct Sending {
     pub message: MsgId,
     pub ring: RingId,
 }
-
-/// A change of configuration: who changes, and to what.
-#[derive(Clone, Copy, Debug, PartialEq, Eq, PartialOrd, Ord)]
-pub struct Change {
-    pub proc: Proc,
-    pub conf: ConfId,
-}

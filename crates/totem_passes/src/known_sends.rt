@@ -6,16 +6,15 @@ ghost use Rattle.totem_evs.specs.Delivery.{DeliversWhatWasSent};
 ghost use Rattle.totem_evs.specs.Events.{log_of, WasSentIn};
 ghost use Rattle.totem_table.specs.Changes.{AreChanges};
 ghost use Rattle.totem_passes.specs.Followed.{AreFollowed};
-ghost use Rattle.totem_passes.specs.Registers.{KnowsLog};
-ghost use Rattle.totem_passes.specs.Sent.{WasSentTo, IsSendIn, IsSentBy, IsSentHere, AreKnownSends};
+ghost use Rattle.totem_table.specs.Registers.{KnowsLog};
+ghost use Rattle.totem_passes.specs.Sent.{IsSendIn, IsSentBy, IsSentHere, AreKnownSends};
+ghost use Rattle.totem_rules.specs.Sent.{WasSentTo};
 
-use crate::change_register::enter_changes;
 use crate::followed::Followed;
-use crate::keys::Change;
 use std::alloc::{AllocError, Global};
 use totem_evs::{Entry, Log, Run};
 use totem_ids::{ConfId, MsgId, Proc, RingId};
-use totem_table::{Changes, Row, Table};
+use totem_table::{Change, Changes, Row, Table, enter_changes};
 
 /// A send in the regular configuration of a ring.
 #[derive(Clone, Copy)]

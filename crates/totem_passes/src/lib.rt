@@ -1,7 +1,6 @@
 //! The first passes of the audit. The room of each specification finds the least events that break it.
 #![tactic(auto)]
 
-mod change_register;
 mod change_search;
 mod configuration;
 mod ends;
@@ -16,16 +15,11 @@ mod misplaced;
 mod origins;
 mod pairs;
 mod pass;
-mod register;
 mod repeats;
-mod search;
 mod sendings;
 mod succession;
 mod turns;
 mod twice;
 mod unsent;
 
-pub use change_register::{ChangeRegister, enter_changes};
-pub use keys::Change;
-pub use pass::{pass_a, pass_a_and_b, pass_b, with_found};
-pub use search::{begin_at, places_of};
+pub use pass::{pass_a, pass_a_and_b, pass_b};

@@ -1,12 +1,12 @@
 //! From which rings logs come to each configuration.
 ghost use Rattle.totem_passes.specs.Origins.{KnowsOrigin};
 
-use crate::change_register::ChangeRegister;
 use crate::met::{Met, Same};
 use crate::succession::succession_between;
 use std::alloc::{AllocError, Global};
 use totem_evs::Entry;
 use totem_ids::{ConfId, Proc, RingId};
+use totem_table::ChangeRegister;
 
 impl Same for RingId {
     fn is_same(&self, other: &RingId) -> bool {

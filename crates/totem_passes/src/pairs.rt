@@ -6,13 +6,13 @@ ghost use Rattle.totem_evs.specs.declared.entry.Entry.{Entry};
 ghost use Rattle.totem_evs.specs.declared.log.Log.{Log};
 ghost use Rattle.totem_evs.specs.Events.{log_of};
 ghost use Rattle.totem_evs.specs.Answers.{IsLeast};
-ghost use Rattle.totem_passes.specs.Search.{NoneFrom, IsLeastFrom, HoldsOfNone};
+ghost use Rattle.totem_table.specs.Search.{NoneFrom, IsLeastFrom, HoldsOfNone};
 ghost use Rattle.totem_passes.specs.Pairs.{IsOne, IsOneOrTwo};
 
-use crate::search::{Relation, least, places_of};
 use std::alloc::{AllocError, Global};
 use totem_evs::{Entry, Places, Run};
 use totem_ids::{Place, Proc};
+use totem_table::{Relation, least, places_of};
 
 /// An entry, with the process and the index at which it stands.
 #[derive(Clone, Copy)]

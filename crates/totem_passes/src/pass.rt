@@ -1,28 +1,14 @@
 //! The passes of the audit (docs/SPECIFICATIONS.md, "Passes").
-ghost use Rattle.std.specs.Prelude.{◌≡◌, ◌++◌, IfOk, IfSome};
+ghost use Rattle.std.specs.Prelude.{IfOk, IfSome};
 ghost use Rattle.totem_evs.specs.Answers.{Lists, pass_a, pass_b};
 ghost use Rattle.totem_table.specs.Tables.{IsTable};
 ghost use Rattle.totem_table.specs.Changes.{AreChanges};
-ghost use Rattle.totem_passes.specs.Listed.{listed, ListsFirst};
+ghost use Rattle.totem_passes.specs.Listed.{ListsFirst};
 
 use crate::{configuration, ends, misplaced, turns, twice, unsent};
 use std::alloc::{AllocError, Global};
-use totem_evs::{Fault, Places, Run, SpecNo};
-use totem_table::{Changes, Table};
-
-/// Appends a fault to the list, if one was found.
-pub fn with_found(
-    mut faults: Vec<Fault>,
-    spec: SpecNo,
-    found: Option<Places>,
-) -> Result<Vec<Fault>, AllocError>
-    ensures { IfOk result (λ list. list.items ≡ faults.items ++ listed spec found) }
-{
-    if let Some(places) = found {
-        faults.push(Fault { spec, places })?;
-    }
-    Ok(faults)
-}
+use totem_evs::{Fault, Run, SpecNo};
+use totem_table::{Changes, Table, with_found};
 
 /// Pass A, made quick by a table of the run.
 fn pass_a_over(

@@ -4,10 +4,10 @@ ghost use Rattle.totem_passes.specs.Repeats.{KnowsAct};
 
 use crate::keys::Delivery;
 use crate::met::{Met, Same};
-use crate::register::Register;
 use std::alloc::{AllocError, Global};
 use totem_evs::Entry;
 use totem_ids::{MsgId, Place, Proc};
+use totem_table::Register;
 
 impl Same for Place {
     fn is_same(&self, other: &Place) -> bool {

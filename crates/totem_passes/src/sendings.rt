@@ -4,11 +4,11 @@ ghost use Rattle.std.specs.BTreeSet.{contains};
 ghost use Rattle.totem_passes.specs.Sendings.{KnowsSend, WereSent};
 
 use crate::keys::Sending;
-use crate::register::Register;
 use std::alloc::{AllocError, Global};
 use std::collections::BTreeSet;
 use totem_evs::Entry;
 use totem_ids::{ConfId, Proc};
+use totem_table::Register;
 
 /// The sends in regular configurations: each message, with the ring.
 #[derive(Drop)]

@@ -2,7 +2,7 @@
 ghost use Rattle.std.specs.Prelude.{◌≡◌, ◌<◌, IfSome, IfNone, length};
 ghost use Rattle.totem_evs.specs.Events.{IsChange};
 ghost use Rattle.totem_evs.specs.Changes.{ChangesNext};
-ghost use Rattle.totem_rules.specs.Stays.{IsNextOrEnd};
+ghost use Rattle.totem_evs.specs.Following.{IsNextOrEnd};
 ghost use Rattle.totem_passes.specs.Turns.{HasNoSuccession};
 
 use totem_evs::{Entry, Members};

@@ -4,21 +4,19 @@ ghost use Rattle.totem_evs.specs.Events.{log_of, IsChange, IsTransitional};
 ghost use Rattle.totem_evs.specs.ChangeFaults.{BeginsTransitional};
 ghost use Rattle.totem_evs.specs.Answers.{Finds};
 ghost use Rattle.totem_table.specs.Changes.{AreChanges};
-ghost use Rattle.totem_passes.specs.Registers.{KnowsRun};
+ghost use Rattle.totem_table.specs.Registers.{KnowsRun};
 ghost use Rattle.totem_passes.specs.Origins.{KnowsOrigin};
 ghost use Rattle.totem_passes.specs.Turns.{IsTurnFault, IsOtherOrigin, IsOfOtherRing};
 
-use crate::change_register::enter_changes;
 use crate::change_search::{ChangeRelation, least_change};
 use crate::kinds::is_transitional;
 use crate::origins::Origins;
-use crate::search::{Relation, begin_at, least, places_of};
 use crate::succession::{succession_at, succession_between};
 use std::alloc::{AllocError, Global};
 use totem_evs::{Entry, Places, Run, SpecNo};
 use totem_ids::{ConfId, Place, Proc, RingId};
 use totem_rules::is_wrong;
-use totem_table::Changes;
+use totem_table::{Changes, Relation, begin_at, enter_changes, least, places_of};
 
 /// Returns whether the change at this index is the first of its log, and to a transitional configuration. `is_later` says
 /// whether a change stands before it.

@@ -6,18 +6,17 @@ ghost use Rattle.totem_evs.specs.Answers.{Finds};
 ghost use Rattle.totem_evs.specs.Delivery.{DeliversOnce};
 ghost use Rattle.totem_table.specs.Tables.{IsTable};
 ghost use Rattle.totem_passes.specs.Bad.{IsSendBetween, AreTwice};
-ghost use Rattle.totem_passes.specs.Registers.{KnowsRun};
+ghost use Rattle.totem_table.specs.Registers.{KnowsRun};
 ghost use Rattle.totem_passes.specs.Repeats.{KnowsAct};
 
 use crate::keys::Delivery;
 use crate::kinds::is_transitional;
 use crate::pairs::{Standing, Test, least_bad};
-use crate::register::enter_run;
 use crate::repeats::Repeats;
 use std::alloc::{AllocError, Global};
 use totem_evs::{Entry, Places, Run, SpecNo};
 use totem_ids::{MsgId, Place};
-use totem_table::{Table, is_once};
+use totem_table::{Table, enter_run, is_once};
 
 /// Looks for sends in transitional configurations, and for what is sent or delivered twice.
 #[derive(Drop)]

@@ -6,22 +6,19 @@ ghost use Rattle.totem_evs.specs.Answers.{Finds};
 ghost use Rattle.totem_evs.specs.DeliveryFaults.{BreaksUnsent};
 ghost use Rattle.totem_table.specs.Changes.{AreChanges};
 ghost use Rattle.totem_passes.specs.Pairs.{IsOne};
-ghost use Rattle.totem_passes.specs.Sent.{IsSendTo, WasSentTo};
+ghost use Rattle.totem_rules.specs.Sent.{IsSendTo, WasSentTo};
 ghost use Rattle.totem_passes.specs.Sendings.{WereSent};
 ghost use Rattle.totem_passes.specs.Followed.{AreFollowed};
 
-use crate::change_register::enter_changes;
 use crate::follow::is_in;
 use crate::followed::Followed;
-use crate::keys::{Change, Sending};
+use crate::keys::Sending;
 use crate::known_sends::is_met;
-use crate::register::enter_run;
-use crate::search::{Relation, least, places_of};
 use crate::sendings::Sendings;
 use std::alloc::{AllocError, Global};
 use totem_evs::{Entry, Places, Run, SpecNo};
 use totem_ids::{ConfId, MsgId, Place, Proc, RingId};
-use totem_table::{Changes, Table};
+use totem_table::{Change, Changes, Relation, Table, enter_changes, enter_run, least, places_of};
 
 /// Looks for the sends for which one delivery may stand.
 #[derive(Clone, Copy)]

@@ -1,49 +1,9 @@
--- Names that compare as equal are the same.
-use Rattle.std.proofs.Common.{◌≡◌, ℕ, true, refl, ap, ◌∙◌}
-use Rattle.std.specs.declared.cmp.Ordering.{Ordering}
-use Rattle.std.specs.declared.cmp.Ordering.TheVariants.{Less, Equal, Greater}
-use Rattle.std.specs.Ordering.{ordering_then, nat_cmp, is_eq}
+-- A configuration that compares as equal to another is that one.
+use Rattle.std.proofs.Common.{◌≡◌, true}
 use Rattle.std.specs.BTreeMap.{is_at}
-use Rattle.std.proofs.lemmas.Map.Lookups.{CmpEqualImpliesEq, exact_unsigned}
-use Rattle.totem_ids.specs.declared.ring.RingId.{RingId}
 use Rattle.totem_ids.specs.declared.conf.ConfId.{ConfId}
-use Rattle.totem_ids.specs.declared.conf.ConfId.TheVariants.{Regular, Transitional}
-use Rattle.totem_ids.specs.declared.message.MsgId.{MsgId}
-use Rattle.totem_ids.specs.contracts.ring.RingIdOrd.TheImpl as ring
-use Rattle.totem_ids.specs.contracts.conf.ConfIdOrd.TheImpl as conf
-use Rattle.totem_ids.specs.contracts.message.MsgIdOrd.TheImpl as message
+use Rattle.totem_ids.proofs.Exact.{exact_conf, equal_at}
 use Rattle.totem_rules.specs.FirstChanges.{conf_order}
-
-pub both_equal : (a b : Ordering) → ordering_then a b ≡ Equal → (a ≡ Equal) × (b ≡ Equal)
-both_equal Less b e = absurd cc
-both_equal Equal b e = (refl, e)
-both_equal Greater b e = absurd cc
-
-abbrev ring_of : ℕ → ℕ → RingId
-ring_of s r = record { seq = s; rep = r }
-
-pub exact_ring : CmpEqualImpliesEq ring.cmp-value.it
-exact_ring c d e = let h = both_equal (nat_cmp c.seq d.seq) (nat_cmp c.rep d.rep) e in
-    ap (λ (x : ℕ). ring_of x c.rep) (exact_unsigned c.seq d.seq h.0) ∙ ap (ring_of d.seq) (exact_unsigned c.rep d.rep h.1)
-
-abbrev message_of : RingId → ℕ → MsgId
-message_of c n = record { ring = c; number = n }
-
-pub exact_message : CmpEqualImpliesEq message.cmp-value.it
-exact_message m n e = let h = both_equal (ring.cmp-value.it m.ring n.ring) (nat_cmp m.number n.number) e in
-    ap (λ (x : RingId). message_of x m.number) (exact_ring m.ring n.ring h.0) ∙ ap (message_of n.ring) (exact_unsigned m.number n.number h.1)
-
-pub exact_conf : CmpEqualImpliesEq conf.cmp-value.it
-exact_conf (Regular c) (Regular d) e = ap (λ (x : RingId). Regular x) (exact_ring c d e)
-exact_conf (Regular c) (Transitional n l) e = absurd cc
-exact_conf (Transitional n l) (Regular c) e = absurd cc
-exact_conf (Transitional n l) (Transitional m k) e = let h = both_equal (ring.cmp-value.it n m) (nat_cmp l k) e in
-    ap (λ (x : RingId). Transitional x l) (exact_ring n m h.0) ∙ ap (λ (x : ℕ). Transitional m x) (exact_unsigned l k h.1)
-
-equal_at : (o : Ordering) → is_eq o ≡ true → o ≡ Equal
-equal_at Less e = absurd cc
-equal_at Equal e = refl
-equal_at Greater e = absurd cc
 
 -- a configuration that is at another is that one
 pub same_conf : (x y : ConfId) → is_at (conf_order x) y ≡ true → x ≡ y

@@ -14,3 +14,5 @@ pub mod EndsTogether
 pub mod Ending
 pub mod Gathering
 pub mod WhoWaits
+pub mod PendingOrder
+pub mod SentOrNot

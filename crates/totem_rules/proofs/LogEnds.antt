@@ -5,10 +5,13 @@ use Rattle.std.proofs.lemmas.Option.{slice_get_within}
 use Rattle.totem_ids.specs.declared.conf.ConfId.{ConfId}
 use Rattle.totem_evs.specs.declared.entry.Entry.{Entry}
 use Rattle.totem_evs.specs.declared.entry.Entry.TheVariants.{Conf, Send, Deliver, Fail}
+use Rattle.totem_evs.specs.declared.ending.Ending.{Ending}
+use Rattle.totem_evs.specs.declared.ending.Ending.TheVariants.{Failed, Quiet}
 use Rattle.totem_evs.specs.declared.log.Log.{Log}
-use Rattle.totem_evs.specs.Runs.{IsFailure}
+use Rattle.totem_evs.specs.Runs.{IsFailure, IsClosedBy}
+use Rattle.totem_evs.specs.Changes.{StaysInPlace}
 use Rattle.totem_evs.specs.Events.{ChangesTo, IsChange, Fails, ending_of}
-use Rattle.totem_evs.specs.Following.{LastChange}
+use Rattle.totem_evs.specs.Following.{LastChange, NeverFails}
 use Rattle.totem_evs.proofs.LogOf.{Rising, Rising-tail, in_order, less_or_not}
 use Rattle.totem_rules.specs.Ends.{IsChangeTo, NeverChangesTo, GoesOn, HasNoChange, StandsLast, IsLast}
 
@@ -145,3 +148,13 @@ ends_decided log i e x b stands at decides = (λ t. ends (change_is e x (decides
 
 pub ends_nowhere : (log : List Entry) (x : ConfId) → HasNoChange log → IsTrue false ↔ LastChange log x
 ends_nowhere log x nowhere = (λ t. absurd cc, λ h. absurd (nowhere.none h.index (x, h.change)))
+
+-- a quiet log has no failure: that would be its last entry
+pub quiet_never_fails : (entries : List Entry) (ending : Ending) → StaysInPlace entries → IsClosedBy entries ending → ending ≡ Quiet → NeverFails entries
+quiet_never_fails entries ending placed closed quiet i x fails = (let failed : ending ≡ Failed = closed.1 (i, Fail x, whole, fails, tt) in cc)
+  where
+    whole : length entries ≡ i + 1
+    whole = elim (less_or_not (i + 1) (length entries)) [
+      | inl lt ↦ absurd (placed.final i (i + 1) x fails (omega arith) lt)
+      | inr rest ↦ elim rest [ inl gt ↦ omega (arith, slice_get_within entries i (Fail x) fails) | inr same ↦ omega arith ]
+    ]

@@ -7,10 +7,10 @@ use Rattle.totem_ids.specs.declared.conf.ConfId.TheVariants.{Regular}
 use Rattle.totem_evs.specs.declared.entry.Entry.{Entry}
 use Rattle.totem_evs.specs.declared.entry.Entry.TheVariants.{Conf, Send, Deliver, Fail}
 use Rattle.totem_evs.specs.Events.{ChangesTo, IsChange}
-use Rattle.totem_evs.specs.Following.{IsNextChange, IsFirstChange, LastChange, Follows, Com, NeverFails, FailedIn, StaysIn}
+use Rattle.totem_evs.specs.Following.{IsNextChange, IsFirstChange, LastChange, Follows, Com, NeverFails, FailedIn, StaysIn, IsNextOrEnd}
 use Rattle.totem_evs.specs.Changes.{Names, NamesOnly, StandsIn, StaysInPlace, TakesTurns}
 use Rattle.totem_evs.proofs.LogOf.{less_or_not}
-use Rattle.totem_rules.specs.Stays.{IsNextOrEnd, AreNextTwo, Bounds, TurnsAt, IsStay}
+use Rattle.totem_rules.specs.Stays.{Bounds, TurnsAt, IsStay}
 
 -- what a log keeps of the specifications of the first two passes
 pub record KeepsRules (log : List Entry) : Type 0 where
@@ -288,3 +288,10 @@ next_is_end log i n lt end before = record {
   change = λ below. absurd (omega arith);
   none_between = λ k after below h. before.none k after (omega arith) h;
 }
+
+-- one change comes first
+pub same_first : (log : List Entry) (x : ConfId) (i j : ℕ) → IsFirstChange log x i → IsFirstChange log x j → i ≡ j
+same_first log x i j a b = elim (less_or_not i j) [
+  | inl lt ↦ absurd (b.none_before i lt a.change)
+  | inr more ↦ elim more [ inl gt ↦ absurd (a.none_before j gt b.change) | inr e ↦ e ]
+]

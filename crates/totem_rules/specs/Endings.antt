@@ -3,10 +3,11 @@ use Rattle.std.specs.Prelude.{◌≡◌, ◌↔◌, ℕ, ◌<◌, List, length, 
 use Rattle.totem_ids.specs.declared.conf.ConfId.{ConfId}
 use Rattle.totem_evs.specs.declared.entry.Entry.{Entry}
 use Rattle.totem_evs.specs.declared.log.Log.{Log}
+use Rattle.totem_evs.specs.declared.pending.Pending.{Pending}
 use Rattle.totem_evs.specs.declared.pending.Waiting.{Waiting}
 use Rattle.totem_evs.specs.Events.{IsChange, Fails}
 use Rattle.totem_evs.specs.Following.{NeverFails}
-use Rattle.totem_evs.specs.Unsettled.{EndsIn, IsWaiting, WaitingBelow}
+use Rattle.totem_evs.specs.Unsettled.{EndsIn, IsWaiting, WaitingBelow, PendingBelow, IsPending}
 
 -- the log has a failure
 pub record HasFailed (log : List Entry) : Type 0 where
@@ -38,3 +39,12 @@ pub record AreEnds (run : List Log) (ends : List (Option ℕ)) : Type 0 where
 pub record AreWaitingAt (run : List Log) (p : ℕ) (list : List Waiting) : Type 0 where
   pub rising : AllPairs WaitingBelow list
   pub exact : (w : Waiting) → Contains list w ↔ (IsWaiting run w.proc w.conf w.other × (w.proc ≡ p))
+
+-- the elements of a list, each once, in rising order
+pub record IsInOrder (list ordered : List Pending) : Type 0 where
+  pub rising : AllPairs PendingBelow ordered
+  pub same : (x : Pending) → Contains ordered x ↔ Contains list x
+
+-- all that is pending, in some order
+pub record HoldsPending (run : List Log) (list : List Pending) : Type 0 where
+  pub each : (x : Pending) → Contains list x ↔ IsPending run x.proc x.msg

@@ -7,3 +7,4 @@ pub mod FirstChanges
 pub mod Ends
 pub mod Endings
 pub mod Stays
+pub mod Sent

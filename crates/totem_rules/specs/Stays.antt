@@ -6,14 +6,7 @@ use Rattle.totem_ids.specs.declared.conf.ConfId.TheVariants.{Regular}
 use Rattle.totem_evs.specs.declared.entry.Entry.{Entry}
 use Rattle.totem_evs.specs.Events.{IsChange, ChangesTo}
 use Rattle.totem_evs.specs.Changes.{Names}
-use Rattle.totem_evs.specs.Following.{IsNextChange, Follows, Com, FailedIn, StaysIn}
-
--- j is the next change after i, or the end of the log where no change follows
-pub record IsNextOrEnd (log : List Entry) (i j : ℕ) : Type 0 where
-  pub later : i < j
-  pub within : j ≤ length log
-  pub change : j < length log → IsChange log j
-  pub none_between : (k : ℕ) → i < k → k < j → IsChange log k → ⊥
+use Rattle.totem_evs.specs.Following.{IsNextChange, IsNextOrEnd, Follows, Com, FailedIn, StaysIn}
 
 -- from i on the next change stands at j, and the one after that at k; where there is no next one, k is j
 pub record AreNextTwo (log : List Entry) (i j k : ℕ) : Type 0 where

@@ -16,5 +16,5 @@ pub use misplaced::{all_stay_in_place, first_misplaced};
 pub use orderly::is_orderly;
 pub use sends::sends_are_once;
 pub use standing::has_failed;
-pub use succession::is_wrong;
-pub use waitings::waiting;
+pub use succession::{is_wrong, walk_to_change};
+pub use waitings::{in_order, waiting};

@@ -1,8 +1,9 @@
-//! Which change may come next after which (docs/SPECIFICATIONS.md, "2 Changes of configuration").
-ghost use Rattle.std.specs.Prelude.{◌↔◌, All, Contains, IsTrue};
+//! Which change comes next, and which may (docs/SPECIFICATIONS.md, "2 Changes of configuration").
+ghost use Rattle.std.specs.Prelude.{◌↔◌, ◌<◌, All, Contains, IsTrue, length};
+ghost use Rattle.totem_evs.specs.Following.{IsNextOrEnd};
 ghost use Rattle.totem_rules.specs.Succession.{IsWrongSuccession};
 
-use totem_evs::Members;
+use totem_evs::{Entry, Members};
 use totem_ids::ConfId;
 
 fn contains_all(members: &Members, others: &Members) -> bool
@@ -27,4 +28,17 @@ pub fn is_wrong(conf: &ConfId, members: &Members, next: &ConfId, next_members: &
         }
         _ => true,
     }
+}
+
+/// Returns the index of the next change, or the length of the log where none follows, entry by entry.
+pub fn walk_to_change(log: &[Entry], at: usize) -> usize
+    requires { at < length log.now }
+    ensures { IsNextOrEnd log.now at result }
+{
+    for next in at + 1..log.len() {
+        if let Entry::Conf(_, _) = &log[next] {
+            return next;
+        }
+    }
+    log.len()
 }

@@ -1,14 +1,14 @@
-//! Who waits, and for whom (docs/SPECIFICATIONS.md, "Pending and waiting").
+//! What is left open: who waits, and for whom; and what is pending, in order (docs/SPECIFICATIONS.md, "Pending and waiting").
 ghost use Rattle.std.specs.Prelude.{◌≡◌, ◌↔◌, IsTrue, IfOk};
 ghost use Rattle.totem_evs.specs.Events.{log_of};
 ghost use Rattle.totem_evs.specs.Unsettled.{EndsIn, AreWaiting};
 ghost use Rattle.totem_rules.specs.Orderly.{IsOrderly};
-ghost use Rattle.totem_rules.specs.Endings.{IsEnd, AreEnds, AreWaitingAt};
+ghost use Rattle.totem_rules.specs.Endings.{IsEnd, AreEnds, AreWaitingAt, IsInOrder};
 
 use crate::ends::index_of;
 use crate::standing::{ends_in, standing_change};
 use std::alloc::{AllocError, Global};
-use totem_evs::{Entry, Run, Waiting};
+use totem_evs::{Entry, Pending, Run, Waiting};
 use totem_ids::{ConfId, Proc};
 
 /// The index of the last change of each log, but for those that have a failure.
@@ -81,5 +81,14 @@ pub fn waiting(alloc: Global, run: &Run) -> Result<Vec<Waiting>, AllocError>
         let others = waiting_of(alloc, run, &ends, log.proc, entries, last)?;
         list.extend_from_slice(&others)?;
     }
+    Ok(list)
+}
+
+/// Returns the elements of the list in their order, each once.
+pub fn in_order(mut list: Vec<Pending>) -> Result<Vec<Pending>, AllocError>
+    ensures { IfOk result (λ ordered. IsInOrder list.items ordered.items) }
+{
+    list.sort()?;
+    list.dedup();
     Ok(list)
 }

@@ -1,5 +1,5 @@
 -- The first fault of numbers that do not order a run.
-use Rattle.std.proofs.Common.{◌≡◌, ◌<◌, inl, inr, List, length, Result, Ok, Err, true, false}
+use Rattle.std.proofs.Common.{◌≡◌, ◌<◌, inl, inr, List, Result, Ok, Err, true, false}
 use Rattle.std.specs.Prelude.{OnErr}
 use Rattle.totem_evs.specs.declared.log.Log.{Log}
 use Rattle.totem_evs.specs.Certificates.{Numbering, Matches, Certified}
@@ -10,7 +10,7 @@ use Rattle.totem_sweep.specs.declared.certificate_fault.CertificateFault.TheVari
 use Rattle.totem_sweep.specs.declared.spread.Spread.{Spread}
 use Rattle.totem_sweep.specs.Each.{EachPair}
 use Rattle.totem_sweep.specs.Kinds.{SendIsBelow}
-use Rattle.totem_sweep.specs.Certifying.{Answers, Rise, SendsAreBelow, SendIsLate, ClassesAreOne, TwinsAreApart, OthersShare}
+use Rattle.totem_sweep.specs.Certifying.{Answers, Rise, SendsAreBelow, ClassesAreOne, TwinsAreApart, OthersShare}
 use Rattle.totem_sweep.specs.Spreads.{Knows}
 use Rattle.totem_sweep.specs.Walks.{IsClean, IsUnclean, NamesFault}
 use Rattle.totem_sweep.proofs.Certain.{sends_below, is_certified}

@@ -1,5 +1,5 @@
 -- From one class to the next: what a walk shows of the events that it has passed.
-use Rattle.std.proofs.Common.{◌≡◌, ◌≢◌, ℕ, ◌+◌, ◌<◌, ◌≤◌, ◌⊎◌, inl, inr, List, length, slice_get, Option, Some, Bool, true, false, refl, sym, ◌∙◌, ap, subst, arith}
+use Rattle.std.proofs.Common.{◌≡◌, ◌≢◌, ℕ, ◌+◌, ◌<◌, ◌≤◌, ◌⊎◌, inl, inr, List, length, Some, false, refl, sym, ◌∙◌, subst, arith}
 use Rattle.std.specs.BTreeSet.{BTreeSet}
 use Rattle.std.specs.BTreeSet as sorted
 use Rattle.totem_certificate.specs.Keeping.{IsCertificate}
@@ -16,11 +16,10 @@ use Rattle.totem_sweep.specs.declared.class.Class.TheVariants.{Change, Delivery}
 use Rattle.totem_sweep.specs.declared.walk.Head.{Head}
 use Rattle.totem_sweep.specs.ClassOf.{class_of, has}
 use Rattle.totem_sweep.specs.Numbered.{Stands}
-use Rattle.totem_sweep.specs.Each.{SomeEvent, SomePair}
-use Rattle.totem_sweep.specs.Kinds.{SendIsNotBelow, ClassIsSplit, NumberIsOwn, NumberIsShared}
+use Rattle.totem_sweep.specs.Each.{SomeEvent}
 use Rattle.totem_sweep.specs.Rising.{LinesRise}
-use Rattle.totem_sweep.specs.Walks.{AreOne, IsAhead, IsLeastHead, IsPassed, AreClasses, class_barred_by, IsNew, IsOld, Adds, IsCleanTo, IsClean, IsUnclean}
-use Rattle.totem_sweep.proofs.Certain.{sends_below, send_late, classes_one, class_split, others_apart, others_share}
+use Rattle.totem_sweep.specs.Walks.{AreOne, IsLeastHead, IsPassed, AreClasses, class_barred_by, IsNew, IsOld, Adds, IsCleanTo, IsClean, IsUnclean}
+use Rattle.totem_sweep.proofs.Certain.{sends_below, send_late, classes_one, class_split, others_apart}
 use Rattle.totem_sweep.proofs.Naming.{through, back, class_shared, shares_class, own_class_bars}
 use Rattle.totem_sweep.proofs.Walking.{positive_number, head_is_above, passed_or_next}
 

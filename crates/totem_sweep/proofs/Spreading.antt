@@ -1,5 +1,5 @@
 -- Entering the numbers of classes, event by event.
-use Rattle.std.proofs.Common.{◌≡◌, ◌≢◌, ℕ, ◌+◌, ◌<◌, ◌≤◌, ◌⊎◌, inl, inr, List, length, slice_get, Option, Some, None, Bool, true, false, nat_lt, refl, sym, ◌∙◌, ap, subst, arith}
+use Rattle.std.proofs.Common.{◌≡◌, ◌≢◌, ℕ, ◌+◌, ◌<◌, ◌≤◌, ◌⊎◌, inl, inr, List, length, slice_get, Option, Some, None, Bool, true, false, nat_lt, refl, sym, ◌∙◌, subst, arith}
 use Rattle.std.proofs.lemmas.Option.{slice_get_within}
 use Rattle.std.specs.Bool.{MatchBool}
 use Rattle.std.proofs.lemmas.Bool.{ltb-true, lt-ltb}
@@ -19,9 +19,8 @@ use Rattle.totem_sweep.specs.ClassOf.{class_of, class_order}
 use Rattle.totem_sweep.specs.Numbered.{Stands, place}
 use Rattle.totem_sweep.specs.Each.{EachEvent, SomeEvent}
 use Rattle.totem_sweep.specs.Kinds.{SendIsBelow, SendIsNotBelow}
-use Rattle.totem_sweep.specs.Walks.{IsEntryOf}
 use Rattle.totem_sweep.specs.Certifying.{ClassesAreOne, TwinsAreApart}
-use Rattle.totem_sweep.specs.Spreads.{least_of, Differs, IsLeastOf, IsEntered, IsKnown, IsIn, IsPast, IsTrueOf, KnowsTo, Knows}
+use Rattle.totem_sweep.specs.Spreads.{least_of, Differs, IsLeastOf, IsEntered, IsKnown, IsIn, IsTrueOf, KnowsTo, Knows}
 use Rattle.totem_sweep.proofs.Certain.{class_split, classes_one}
 use Rattle.totem_sweep.proofs.Naming.{is_or_not, same_class, class_shared, shares_class}
 use Rattle.totem_sweep.proofs.Standing.{stands_at, locate, place_is}

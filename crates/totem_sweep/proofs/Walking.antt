@@ -1,5 +1,5 @@
 -- Where a walk stands, and what a step of it passes.
-use Rattle.std.proofs.Common.{◌≡◌, ◌≢◌, ℕ, zero, suc, ◌+◌, ◌^◌, ◌<◌, ◌≤◌, ◌⊎◌, inl, inr, List, [], ◌∷◌, length, slice_get, slice_set, replicate, Bool, true, false, nat_eq, eq-eqb, Option, Some, None, refl, sym, ◌∙◌, ap, subst, arith}
+use Rattle.std.proofs.Common.{◌≡◌, ◌≢◌, ℕ, zero, suc, ◌+◌, ◌^◌, ◌<◌, ◌≤◌, ◌⊎◌, inl, inr, List, [], ◌∷◌, length, slice_get, slice_set, replicate, true, false, nat_eq, eq-eqb, Option, Some, None, refl, sym, ◌∙◌, ap, subst, arith}
 use Rattle.std.proofs.lemmas.Option.{slice_get_within, get_or_from_slice_get}
 use Rattle.std.proofs.lemmas.List.{length-set}
 use Rattle.std.proofs.lemmas.Bool.{eqb-true}
@@ -17,8 +17,8 @@ use Rattle.totem_sweep.specs.Each.{SomePair}
 use Rattle.totem_sweep.specs.Kinds.{NumberIsOwn, NumberIsShared}
 use Rattle.totem_sweep.specs.Rising.{LinesRise}
 use Rattle.totem_sweep.specs.Walks.{IsEntryOf, IsAhead, IsHead, IsPassed, NoneLeftTo, IsLeastHead, IsLeastTo, IsLesser, IsStepOf, IsStepped, AreOneBefore}
-use Rattle.totem_sweep.proofs.Matching.{as_many, line_at, log_at, matches_at}
-use Rattle.totem_sweep.proofs.Standing.{stands_at, Located, locate, place_is}
+use Rattle.totem_sweep.proofs.Matching.{as_many, log_at, matches_at}
+use Rattle.totem_sweep.proofs.Standing.{stands_at, locate, place_is}
 
 -- what stands at an index of a list
 pub at_index : {A : Type 0} → (xs : List A) (i : ℕ) → i < length xs → (x : A) × (slice_get xs i ≡ Some x)

@@ -1,12 +1,12 @@
 -- The changes of a log, in a list of their indices.
-use Rattle.std.proofs.Common.{◌≡◌, ℕ, zero, suc, ◌+◌, ◌<◌, ◌≤◌, ◌⊎◌, inl, inr, List, [], ◌∷◌, ◌++◌, length, slice_get, Option, Some, None, refl, sym, arith}
+use Rattle.std.proofs.Common.{◌≡◌, ℕ, ◌+◌, ◌<◌, ◌≤◌, ◌⊎◌, inl, inr, List, [], ◌∷◌, ◌++◌, length, slice_get, Option, Some, None, refl, sym, arith}
 use Rattle.std.proofs.lemmas.Option.{slice_get_within}
 use Rattle.totem_evs.specs.declared.entry.Entry.{Entry}
 use Rattle.totem_evs.specs.declared.entry.Entry.TheVariants.{Conf, Send, Deliver, Fail}
 use Rattle.totem_evs.specs.declared.log.Log.{Log}
 use Rattle.totem_evs.specs.Events.{IsChange}
 use Rattle.totem_evs.proofs.LogOf.{less_or_not}
-use Rattle.totem_rules.specs.Stays.{IsNextOrEnd}
+use Rattle.totem_evs.specs.Following.{IsNextOrEnd}
 use Rattle.totem_table.specs.Changes.{IsListed, ListsChanges, AreChanges}
 use Rattle.totem_table.proofs.Pushing.{nothing, before_push, stands_before, stands_last, Along, along_none, along_more}
 

@@ -1,7 +1,7 @@
 //! Where the logs of a run change their configuration. Changes are few among the entries: whoever asks for them alone need not walk along
 //! all of these.
 ghost use Rattle.std.specs.Prelude.{◌≡◌, ◌≤◌, ◌<◌, IfOk, length, slice_index_or};
-ghost use Rattle.totem_rules.specs.Stays.{IsNextOrEnd};
+ghost use Rattle.totem_evs.specs.Following.{IsNextOrEnd};
 ghost use Rattle.totem_table.specs.Changes.{ListsChanges, AreChanges};
 
 use crate::row::Row;

@@ -242,8 +242,9 @@ def build_twice_at_once(_program):
 
 
 def build_ahead(kept, _program):
-    """A second run goes ahead on the chain: the crates that it proved are told once, and where nothing is shared it is ended."""
+    """A second run goes ahead on the dearest crate: the crates that it proved are told once, and where nothing is shared it is ended."""
     with scene() as it:
+        it.write('crates/high/src/lib.rt', 'fn f() {}\nfn g() {}\n')
         it.say(**kept)
         came = it.run('run', TOTEM_AHEAD_MB='1')
         wrong = differs(came, 9, MADE, '1 of 3 proved: low', '2 of 3 proved: high', '3 of 3 proved: totem')

@@ -1,6 +1,6 @@
 use Rattle.std.proofs.Common.{sym, ◌∙◌, arith}
 use Rattle.totem_ids.specs.contracts.message.MsgIdOrd.TheImpl as message
-use Rattle.totem_rules.proofs.Exact.{exact_message}
+use Rattle.totem_ids.proofs.Exact.{exact_message}
 use Rattle.totem_agreement.proofs.Indexing.{one_entered, nothing_told}
 use Rattle.totem_agreement.proofs.indexes.by_message.Goals.{in-Some+in_ok-insert, in_default}
 use Rattle.totem_agreement.proofs.indexes.by_message.Goals as goal

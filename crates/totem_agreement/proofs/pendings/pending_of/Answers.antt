@@ -2,7 +2,7 @@ use Rattle.std.proofs.Common.{◌≡◌, Some, slice_get, refl, arith}
 use Rattle.std.proofs.lemmas.Option.{slice_get_read}
 use Rattle.totem_agreement.proofs.Adding.{between_more}
 use Rattle.totem_agreement.proofs.WhatIsPending.{PendingAt, of_one_ring, all_rings}
-use Rattle.totem_judge.proofs.PendingOrder.{are_pending_if_ok, empty_has_none}
+use Rattle.totem_rules.proofs.PendingOrder.{are_pending_if_ok, empty_has_none}
 use Rattle.totem_agreement.proofs.pendings.pending_of.Goals as goal
 
 pub loop-k-preserved : goal.loop-k-preserved

@@ -1,4 +1,4 @@
-use Rattle.std.proofs.Common.{◌≡◌, refl, sym, ◌∙◌, subst}
+use Rattle.std.proofs.Common.{◌≡◌, sym, ◌∙◌, subst}
 use Rattle.totem_traffic.specs.declared.traffic.Got.{Got}
 use Rattle.totem_traffic.specs.Clean.{IsBy}
 use Rattle.totem_traffic.proofs.Rowing.{one_at}

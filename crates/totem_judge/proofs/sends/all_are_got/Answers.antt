@@ -1,5 +1,5 @@
 use Rattle.totem_judge.specs.Lists.{IsGotAt}
-use Rattle.totem_judge.proofs.Asked.{each_none, each_more}
+use Rattle.totem_judge.proofs.Asked.{each_more}
 use Rattle.totem_judge.proofs.sends.all_are_got.Goals as goal
 
 pub loop-index-preserved : goal.loop-index-preserved

@@ -1,5 +1,5 @@
 use Rattle.totem_judge.specs.Lists.{IsSentAt}
-use Rattle.totem_judge.proofs.Asked.{each_none, each_more}
+use Rattle.totem_judge.proofs.Asked.{each_more}
 use Rattle.totem_judge.proofs.sends.all_are_sent.Goals as goal
 
 pub loop-index-preserved : goal.loop-index-preserved

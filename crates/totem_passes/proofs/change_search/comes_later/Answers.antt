@@ -2,7 +2,7 @@ use Rattle.std.proofs.Common.{◌≡◌, ℕ, ◌<◌, nat_lt, true, arith}
 use Rattle.std.proofs.lemmas.Bool.{ltb-true}
 use Rattle.std.proofs.lemmas.Bool.Decides.{nat_tests}
 use Rattle.std.proofs.lemmas.Option.{slice_get-get_or}
-use Rattle.totem_passes.proofs.Listing.{later_has_one, later_if_one}
+use Rattle.totem_table.proofs.Listing.{later_has_one, later_if_one}
 use Rattle.totem_passes.proofs.change_search.comes_later.Goals as goal
 
 is_later : (n : ℕ) → 0 < n → nat_lt 0 n ≡ true

@@ -4,8 +4,8 @@ use Rattle.totem_evs.specs.LogRecord.{LogRecord}
 use Rattle.totem_evs.specs.RunRecord.{RunRecord}
 use Rattle.totem_evs.specs.Events.{log_of}
 use Rattle.totem_evs.proofs.LogOf.{log_of_at}
-use Rattle.totem_passes.proofs.Listing.{lists_at}
-use Rattle.totem_passes.proofs.Searching.{none_before_more, none_at_end, least_here}
+use Rattle.totem_table.proofs.Listing.{lists_at}
+use Rattle.totem_table.proofs.Searching.{none_before_more, none_at_end, least_here}
 use Rattle.totem_passes.proofs.change_search.least_change.Goals as goal
 
 pub least_in-requires-clause-log : goal.least_in-requires-clause-log

@@ -1,4 +1,4 @@
-use Rattle.totem_passes.proofs.Searching.{NoneBeforeLog}
+use Rattle.totem_table.proofs.Searching.{NoneBeforeLog}
 use Rattle.totem_passes.proofs.change_search.least_change.Given as goal
 
 abbrev pub invariant-loop-k : goal.invariant-loop-k

@@ -1,8 +1,8 @@
 use Rattle.std.proofs.Common.{ℕ, ◌<◌, length}
 use Rattle.std.proofs.lemmas.Option.{slice_get-get_or}
 use Rattle.totem_evs.specs.Events.{IsChange}
-use Rattle.totem_passes.specs.Search.{NoneFrom}
-use Rattle.totem_passes.proofs.Listing.{least_at_change, none_more, none_to_end}
+use Rattle.totem_table.specs.Search.{NoneFrom}
+use Rattle.totem_table.proofs.Listing.{least_at_change, none_more, none_to_end}
 use Rattle.totem_passes.proofs.change_search.least_in.Goals as goal
 
 pub returns-in-Some : goal.returns-in-Some

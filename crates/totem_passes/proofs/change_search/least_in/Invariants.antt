@@ -1,4 +1,4 @@
-use Rattle.totem_passes.proofs.Listing.{NoneListed}
+use Rattle.totem_table.proofs.Listing.{NoneListed}
 use Rattle.totem_passes.proofs.change_search.least_in.Given as goal
 
 abbrev pub invariant-loop-number : goal.invariant-loop-number

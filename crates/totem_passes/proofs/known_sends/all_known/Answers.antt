@@ -4,7 +4,7 @@ use Rattle.totem_evs.specs.LogRecord.{LogRecord}
 use Rattle.totem_evs.specs.RunRecord.{RunRecord}
 use Rattle.totem_evs.proofs.LogOf.{log_of_at}
 use Rattle.totem_passes.specs.Sent.{IsSentHere}
-use Rattle.totem_passes.proofs.Entering.{keeps_itself, before_more, before_end}
+use Rattle.totem_table.proofs.Entering.{keeps_itself, before_more, before_end}
 use Rattle.totem_passes.proofs.KnownSending.{delivers_what_was_sent}
 use Rattle.totem_passes.proofs.known_sends.all_known.Goals as goal
 

@@ -1,7 +1,7 @@
 use Rattle.std.proofs.Common.{refl}
 use Rattle.std.proofs.lemmas.Option.{slice_get_read}
 use Rattle.totem_passes.specs.Sent.{IsSentHere}
-use Rattle.totem_passes.proofs.Entering.{keeps_itself, log_more}
+use Rattle.totem_table.proofs.Entering.{keeps_itself, log_more}
 use Rattle.totem_passes.proofs.KnownSending.{sent_at}
 use Rattle.totem_passes.proofs.known_sends.log_is_known.Goals as goal
 

@@ -1,4 +1,4 @@
-use Rattle.totem_passes.specs.Registers.{KnowsLog}
+use Rattle.totem_table.specs.Registers.{KnowsLog}
 use Rattle.totem_passes.specs.Sent.{IsSentHere}
 use Rattle.totem_passes.proofs.known_sends.log_is_known.Given as goal
 

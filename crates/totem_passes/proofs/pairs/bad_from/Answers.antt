@@ -1,6 +1,7 @@
 use Rattle.std.proofs.Common.{refl}
 use Rattle.std.proofs.lemmas.Option.{slice_get_read}
-use Rattle.totem_passes.proofs.Starting.{reworded, bad_with_nothing, bad_with_none, bad_with_some}
+use Rattle.totem_passes.proofs.Starting.{bad_with_nothing, bad_with_none, bad_with_some}
+use Rattle.totem_table.proofs.Searching.{reworded}
 use Rattle.totem_passes.proofs.pairs.bad_from.Goals as goal
 
 pub returns-then-not-may_pair : goal.returns-then-not-may_pair

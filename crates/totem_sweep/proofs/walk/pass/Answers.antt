@@ -1,4 +1,4 @@
-use Rattle.std.proofs.Common.{slice_index_or, refl, sym, ◌∙◌, subst, arith}
+use Rattle.std.proofs.Common.{slice_index_or, refl, sym, ◌∙◌, arith}
 use Rattle.std.proofs.lemmas.Option.{slice_get_read, slice_get-get_or}
 use Rattle.totem_sweep.proofs.Walking.{steps, stays, told, not_told, room_of}
 use Rattle.totem_sweep.proofs.walk.pass.Goals as goal

@@ -1,6 +1,4 @@
-use Rattle.std.proofs.Common.{◌≡◌, ◌<◌, ℕ, length, refl, sym, ◌∙◌, inl, inr, subst, arith}
-use Rattle.totem_sweep.specs.Numbered.{Stands}
-use Rattle.totem_sweep.specs.Walks.{AreOne}
+use Rattle.std.proofs.Common.{◌≡◌, ◌<◌, ℕ, ◌∙◌, inr, arith}
 use Rattle.totem_sweep.proofs.Certain.{others_share}
 use Rattle.totem_sweep.proofs.Walking.{ahead_stands, head_is_above, step_passed, all_passed}
 use Rattle.totem_sweep.proofs.Passing.{is_next, too_late, clean_more, classes_more, all_clean}

@@ -1,5 +1,5 @@
 use Rattle.std.proofs.Common.{sym, ◌∙◌}
-use Rattle.totem_passes.proofs.Starting.{reworded}
+use Rattle.totem_table.proofs.Searching.{reworded}
 use Rattle.totem_agreement.proofs.Facts.{facts_of}
 use Rattle.totem_agreement.proofs.CausalityFaults.{send_here, effects_begin, none_without_effect, least_effect}
 use Rattle.totem_agreement.proofs.Suspecting.{none_unsuspected}

@@ -1,5 +1,5 @@
 use Rattle.std.proofs.Common.{refl}
-use Rattle.totem_passes.proofs.Starting.{reworded}
+use Rattle.totem_table.proofs.Searching.{reworded}
 use Rattle.totem_agreement.proofs.Facts.{facts_of}
 use Rattle.totem_agreement.proofs.CausalityFaults.{send_here, surprises_begin, none_surprised, least_surprised}
 use Rattle.totem_agreement.proofs.causality.EffectsRelation.rest.Goals as goal

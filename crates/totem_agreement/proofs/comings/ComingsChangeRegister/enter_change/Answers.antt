@@ -1,7 +1,7 @@
 use Rattle.std.proofs.Common.{refl}
 use Rattle.std.proofs.lemmas.Option.{slice_get_read}
-use Rattle.totem_rules.proofs.Exact.{exact_ring}
-use Rattle.totem_passes.proofs.Exact.{exact_change}
+use Rattle.totem_ids.proofs.Exact.{exact_ring}
+use Rattle.totem_table.proofs.Exact.{exact_change}
 use Rattle.totem_agreement.proofs.Coming.{one_more, keeps_comings}
 use Rattle.totem_agreement.proofs.comings.ComingsChangeRegister.enter_change.Goals as goal
 

@@ -1,4 +1,4 @@
-use Rattle.totem_passes.proofs.Starting.{reworded}
+use Rattle.totem_table.proofs.Searching.{reworded}
 use Rattle.totem_agreement.proofs.Searching.{short}
 use Rattle.totem_agreement.proofs.Facts.{facts_of}
 use Rattle.totem_agreement.proofs.GapFaults.{none_everywhere, none_unsent, none_after, least_after}

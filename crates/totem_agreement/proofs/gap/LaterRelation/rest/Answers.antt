@@ -1,4 +1,4 @@
-use Rattle.totem_passes.proofs.Starting.{reworded}
+use Rattle.totem_table.proofs.Searching.{reworded}
 use Rattle.totem_agreement.proofs.Facts.{facts_of}
 use Rattle.totem_agreement.proofs.GapFaults.{lacks_begin, none_without_lack, least_lack}
 use Rattle.totem_agreement.proofs.gap.LaterRelation.rest.Goals as goal

@@ -1,6 +1,6 @@
 use Rattle.std.proofs.Common.{◌≡◌, Bool, true, false, not, refl}
 use Rattle.std.proofs.lemmas.Option.{slice_get_read}
-use Rattle.totem_passes.proofs.Exact.{exact_change}
+use Rattle.totem_table.proofs.Exact.{exact_change}
 use Rattle.totem_passes.proofs.QuickSends.{enters_regular_change, follows_first, one_more_followed}
 use Rattle.totem_passes.proofs.followed.FollowedChangeRegister.enter_change.Goals as goal
 

@@ -1,5 +1,5 @@
 use Rattle.totem_ids.specs.contracts.conf.ConfIdOrd.TheImpl.Laws as conf
-use Rattle.totem_passes.specs.contracts.keys.ChangeOrd.TheImpl.Laws as change
+use Rattle.totem_table.specs.contracts.keys.ChangeOrd.TheImpl.Laws as change
 use Rattle.totem_passes.proofs.Forming.{keeps_changes}
 use Rattle.totem_passes.proofs.forms.FormsChangeRegister.enter_change.Goals as goal
 

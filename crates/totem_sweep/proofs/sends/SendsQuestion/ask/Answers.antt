@@ -1,4 +1,4 @@
-use Rattle.std.proofs.Common.{◌≡◌, ◌<◌, ℕ, Some, sym, ◌∙◌}
+use Rattle.std.proofs.Common.{◌≡◌, ◌<◌, ℕ, sym, ◌∙◌}
 use Rattle.totem_sweep.proofs.Spreading.{below_or_not, is_below}
 use Rattle.totem_sweep.proofs.sends.SendsQuestion.ask.Goals as goal
 

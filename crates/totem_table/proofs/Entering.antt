@@ -1,0 +1,56 @@
+-- Entering a run in a register, log by log and entry by entry.
+use Rattle.std.proofs.Common.{◌≡◌, ℕ, ◌+◌, ◌<◌, ◌≤◌, ◌⊎◌, inl, inr, List, [], length, slice_get, Some, arith}
+use Rattle.std.proofs.lemmas.Option.{slice_get_within}
+use Rattle.totem_evs.specs.declared.entry.Entry.{Entry}
+use Rattle.totem_evs.specs.declared.log.Log.{Log}
+use Rattle.totem_evs.specs.Events.{log_of}
+use Rattle.totem_table.specs.Registers.{Keeps, KnowsLog, KnowsRun}
+use Rattle.totem_evs.proofs.LogOf.{log_of_cases, less_or_not}
+
+pub keeps_itself : (P : ℕ → List Entry → ℕ → Type 0) → Keeps P P
+keeps_itself P = record { each = λ p log i h. h }
+
+pub keeps_on : (P Q R : ℕ → List Entry → ℕ → Type 0) → Keeps P Q → Keeps Q R → Keeps P R
+keeps_on P Q R first second = record { each = λ p log i h. second.each p log i (first.each p log i h) }
+
+pub log_yet : (P : ℕ → List Entry → ℕ → Type 0) (p : ℕ) (log : List Entry) → KnowsLog P p log 0
+log_yet P p log = record { each = λ i lt. absurd (omega arith) }
+
+pub log_more : (P Q : ℕ → List Entry → ℕ → Type 0) (p : ℕ) (log : List Entry) (n : ℕ) → Keeps P Q → Q p log n → KnowsLog P p log n → KnowsLog Q p log (n + 1)
+log_more P Q p log n kept here before = record {
+  each = λ i lt. elim (less_or_not i n) [
+    | inl under ↦ kept.each p log i (before.each i under)
+    | inr more ↦ elim more [ inl over ↦ absurd (omega arith) | inr same ↦ rw same here ]
+  ];
+}
+
+pub log_end : (P : ℕ → List Entry → ℕ → Type 0) (p : ℕ) (log : List Entry) (n : ℕ) → length log ≤ n → KnowsLog P p log n → KnowsLog P p log (length log)
+log_end P p log n end known = record { each = λ i lt. known.each i (omega arith) }
+
+-- the logs before the k-th are known
+pub record KnowsBefore (P : ℕ → List Entry → ℕ → Type 0) (run : List Log) (k : ℕ) : Type 0 where
+  pub each : (j : ℕ) (log : Log) → j < k → slice_get run j ≡ Some log → KnowsLog P log.proc log.entries (length log.entries)
+
+pub before_yet : (P : ℕ → List Entry → ℕ → Type 0) (run : List Log) → KnowsBefore P run 0
+before_yet P run = record { each = λ j log lt at. absurd (omega arith) }
+
+pub before_more : (P Q : ℕ → List Entry → ℕ → Type 0) (run : List Log) (k : ℕ) (log : Log) → slice_get run k ≡ Some log → Keeps P Q → KnowsLog Q log.proc log.entries (length log.entries)
+    → KnowsBefore P run k → KnowsBefore Q run (k + 1)
+before_more P Q run k log at kept here before = record {
+  each = λ j l lt at_j. elim (less_or_not j k) [
+    | inl under ↦ (let old = before.each j l under at_j in record { each = λ i within. kept.each l.proc l.entries i (old.each i within) })
+    | inr more ↦ elim more [
+      | inl over ↦ absurd (omega arith)
+      | inr same ↦ let same_log : log ≡ l = (let h : slice_get run k ≡ Some l = rw same at at_j in cc) in rw same_log at here
+    ]
+  ];
+}
+
+pub before_end : (P : ℕ → List Entry → ℕ → Type 0) (run : List Log) (k : ℕ) → length run ≤ k → KnowsBefore P run k → KnowsRun P run
+before_end P run k end before = record { each = λ p i within. go p i (log_of_cases run p) within }
+  where
+    go : (p i : ℕ) → (log_of run p ≡ []) ⊎ ((j : ℕ) × (log : Log) × (slice_get run j ≡ Some log) × (log.proc ≡ p) × (log_of run p ≡ log.entries)) → i < length (log_of run p) → P p (log_of run p) i
+    go p i (inl none) within = let w : i < length {A = Entry} [] = rw none at within in absurd (omega arith)
+    go p i (inr (j, log, at, same, is)) within =
+        let known = before.each j log (omega (arith, slice_get_within run j log at)) at in
+        rw (is, ← same) (known.each i (rw is at within))
