@@ -15,7 +15,7 @@ use Rattle.totem_stitch.specs.Followers.{NothingFollows, IsFollower, FollowsFirs
 use Rattle.totem_stitch.specs.Building.{IsNoRegular, NoneComesNext, MovesNext, HasNotCome, HasCome, KnowsFollower, HasNoOrigin, KnowsOrigin, KnowsLog, IsTable}
 use Rattle.totem_stitch.specs.Tables.{ring_order, conf_order}
 use Rattle.totem_stitch.specs.declared.table.Table.{Table}
-use Rattle.totem_stitch.proofs.Exact.{exact_ring, exact_conf}
+use Rattle.totem_ids.proofs.Exact.{exact_ring, exact_conf}
 use Rattle.totem_stitch.proofs.Updating.{everywhere}
 use Rattle.totem_stitch.proofs.NextChanges.{one_change, one_next, one_first}
 

@@ -1,5 +1,4 @@
 pub mod NextChanges
-pub mod Exact
 pub mod Updating
 pub mod Entering
 pub mod Tabled

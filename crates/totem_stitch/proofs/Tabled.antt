@@ -15,7 +15,7 @@ use Rattle.totem_stitch.specs.Followers.{IsFollower, IsOrigin}
 use Rattle.totem_stitch.specs.Tables.{process_order}
 use Rattle.totem_stitch.specs.Building.{IsTable}
 use Rattle.totem_stitch.specs.Stitched.{follower_by, origin_by, IsStitch}
-use Rattle.totem_stitch.proofs.Exact.{exact_process}
+use Rattle.totem_evs.proofs.ProcOrder.{exact_proc}
 use Rattle.totem_stitch.proofs.Updating.{everywhere}
 
 -- p has no log among the first k of the run
@@ -57,7 +57,7 @@ knows_more run k p log (Some table) at never h = let before = h.before in record
 pub one_more_log : (tables more : BTreeMap ℕ Table) (run : List Log) (k : ℕ) (log : Log) (table : Table) → slice_get run k ≡ Some log → IsTable table log.entries → tree.Updates process_order tables more log.proc (Some table)
     → KnowsLogs tables run k → KnowsLogs more run (k + 1)
 one_more_log tables more run k log table at is added before = record {
-  each = everywhere process_order exact_process (λ p o. KnowsProcess run (k + 1) p o) tables more log.proc table added
+  each = everywhere process_order exact_proc (λ p o. KnowsProcess run (k + 1) p o) tables more log.proc table added
       (record { index = k; log = log; before = omega arith; at = at; process = refl; is = is })
       (λ p known. knows_more run k p log _ at (λ none same. (let some = known (sym same) in cc)) (before.each p));
 }
