@@ -8,17 +8,12 @@ from harness import rows as row_files
 EXAMPLES = os.path.join(os.path.dirname(row_files.FOLDER), '..', 'examples')
 # Scripts of the folder `examples`, and the report of the run that each makes.
 AUDITS = {
-    'ring-entered-twice.script': b'verdict no\nfault 4 2@3 2@4 1@3\nend\n',
     'broken/2.2.script': b'verdict no\nfault 2.2 3@3\nend\n',
     'broken/4.script': b'verdict no\nfault 4 3@5 3@6 2@5\nend\n',
     'broken/4-7.1.script': b'verdict no\nfault 4 3@5 3@6 2@5\nfault 7.1 3@5\nend\n',
     'broken/5.script': b'verdict no\nfault 5 3@2 3@3 2@5\nend\n',
     'broken/4-5-6.3.script': b'verdict no\nfault 4 3@6 3@8 2@6\nfault 5 3@2 3@3 2@5\nfault 6.3 3@6 3@7 2@5\nend\n',
     'broken/4-5-6.3-7.1.script': b'verdict no\nfault 4 3@6 3@8 2@6\nfault 5 3@2 3@3 2@5\nfault 6.3 3@6 3@7 2@5\nfault 7.1 3@6\nend\n',
-}
-# Scripts of that folder, and the specifications that the runs which they make break.
-BROKEN = {
-    'safe-message-lost.script': [b'4', b'7.1'],
 }
 # Runs of that folder, and their reports.
 REPORTS = {
@@ -60,18 +55,6 @@ def try_example(script, wanted, program):
     return None if is_right else 'came:   %s, then %s\n  wanted: %r' % (made, came, wanted)
 
 
-def try_broken(script, wanted, program):
-    """Runs a script, and has the run judged: which specifications it breaks."""
-    with open(os.path.join(EXAMPLES, script), 'rb') as it:
-        made, _ = process.run([program, 'sim'], it.read())
-    came, _ = process.run([program, 'audit'], made.output)
-    lines = came.output.splitlines()
-    broken = [line.split()[1] for line in lines if line.startswith(b'fault ')]
-    is_no = came.status == 1 and lines[:1] == [b'verdict no'] and lines[-1:] == [b'end'] and not came.errors
-    is_right = is_no and broken == wanted and len(lines) == len(broken) + 2
-    return None if is_right else 'came:   %s, then %s\n  wanted: faults of %r' % (made, came, wanted)
-
-
 def try_example_run(run, wanted, program):
     """Has a run judged."""
     with open(os.path.join(EXAMPLES, run), 'rb') as it:
@@ -111,7 +94,5 @@ def examples():
     """What scripts of the examples make, and their runs, are judged as it is written."""
     for script, wanted in AUDITS.items():
         yield script, partial(try_example, script, wanted)
-    for script, wanted in BROKEN.items():
-        yield script, partial(try_broken, script, wanted)
     for run, wanted in REPORTS.items():
         yield run, partial(try_example_run, run, wanted)
