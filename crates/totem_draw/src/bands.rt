@@ -1,5 +1,5 @@
 //! The bands of configurations, and the names of processes in front of them.
-use crate::frame::{Frame, STEP};
+use crate::frame::Frame;
 use crate::shapes::{Point, push_band, push_label, push_words};
 use std::alloc::{AllocError, Global};
 use totem_evs::Ending;
@@ -34,12 +34,12 @@ fn push_one(
     let x = frame.x(band.from);
     let steps = band.to.saturating_sub(band.from).saturating_add(1);
     let top = y.saturating_sub(14);
-    let width = steps.saturating_mul(STEP).saturating_sub(4);
+    let width = steps.saturating_mul(frame.step).saturating_sub(4);
     let is_transitional = matches!(conf, ConfId::Transitional { .. });
     let name = format!(in alloc; "{conf}")?;
     push_band(text, Point { x, y: top }, width, n, is_transitional)?;
     let above = Point {
-        x: x.saturating_add(STEP / 2),
+        x: x.saturating_add(frame.step / 2),
         y: y.saturating_sub(20),
     };
     push_label(text, above, name.as_str())

@@ -22,6 +22,31 @@ fn push_name(
     push_label(text, below, name.as_str())
 }
 
+/// Returns how many letters the name has that is written at a spot: of a message, or of a configuration.
+fn letters_at(alloc: Global, spot: &Spot) -> Result<usize, AllocError> {
+    match spot.what {
+        What::Send(message) | What::Delivery(message) => {
+            Ok(format!(in alloc; "{message}")?.len())
+        }
+        What::Change => match spot.conf {
+            Some(conf) => Ok(format!(in alloc; "{conf}")?.len()),
+            None => Ok(0),
+        },
+        What::Failure | What::LeftOut(_) => Ok(0),
+    }
+}
+
+/// Returns how many letters the longest name in the lanes has.
+pub fn most_letters(alloc: Global, lanes: &[Lane]) -> Result<usize, AllocError> {
+    let mut most = 0usize;
+    for lane in lanes {
+        for spot in lane.spots.as_slice() {
+            most = most.max(letters_at(alloc, spot)?);
+        }
+    }
+    Ok(most)
+}
+
 /// Adds the shape of what happens at a spot.
 fn push_shape(alloc: Global, text: &mut String, at: Point, what: What) -> Result<(), AllocError> {
     match what {

@@ -1,7 +1,12 @@
 //! The measures of a picture, in pixels.
 
-/// How far one slot is from the next.
-pub const STEP: u32 = 46;
+/// How far one slot is from the next at least.
+const STEP: u32 = 46;
+
+/// How wide a letter of a name is, and what is left free between two names.
+const LETTER: u32 = 7;
+
+const BETWEEN: u32 = 4;
 
 /// Where the first slot lies.
 const LEFT: u32 = 110;
@@ -22,17 +27,28 @@ pub struct Frame {
     pub top: u32,
     pub lanes: u32,
     pub slots: u32,
+    /// How far one slot is from the next.
+    pub step: u32,
+}
+
+/// Returns how far one slot has to be from the next, so that names with so many letters don't overlap.
+pub fn step_for(letters: usize) -> u32 {
+    let letters = u32::try_from(letters).unwrap_or(u32::MAX);
+    letters
+        .saturating_mul(LETTER)
+        .saturating_add(BETWEEN)
+        .max(STEP)
 }
 
 impl Frame {
     /// Returns where a slot begins from left to right.
     pub fn x(&self, slot: u32) -> u32 {
-        LEFT.saturating_add(slot.saturating_mul(STEP))
+        LEFT.saturating_add(slot.saturating_mul(self.step))
     }
 
     /// Returns where the middle of a slot lies from left to right.
     pub fn middle(&self, slot: u32) -> u32 {
-        self.x(slot).saturating_add(STEP / 2)
+        self.x(slot).saturating_add(self.step / 2)
     }
 
     /// Returns where a lane, counted from 0, lies from top to bottom.
@@ -47,7 +63,7 @@ impl Frame {
     }
 
     pub fn width(&self) -> u32 {
-        self.behind().saturating_add(STEP).max(LEAST)
+        self.behind().saturating_add(self.step).max(LEAST)
     }
 
     /// Returns where a line of text below the lanes lies.

@@ -1,8 +1,8 @@
 //! A whole picture (docs/SPECIFICATIONS.md, "Pictures").
 use crate::bands::push_bands;
 use crate::choice::lanes_of;
-use crate::events::push_events;
-use crate::frame::{Frame, LINE};
+use crate::events::{most_letters, push_events};
+use crate::frame::{Frame, LINE, step_for};
 use crate::lines::{push_lines, push_pending};
 use crate::marks::lines_of;
 use crate::shapes::{Point, push_words};
@@ -73,6 +73,7 @@ fn draw(alloc: Global, subject: &Subject<'_>) -> Result<String, AllocError> {
         top: LINE.saturating_mul(lines.saturating_add(1)),
         lanes: u32::try_from(lanes.len()).unwrap_or(u32::MAX),
         slots,
+        step: step_for(most_letters(alloc, lanes.as_slice())?),
     };
     let lines = u32::try_from(below.len()).unwrap_or(u32::MAX);
     let height = frame.line_below(lines);
