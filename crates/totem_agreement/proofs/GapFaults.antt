@@ -195,7 +195,7 @@ pub none_unsent : (run : List Log) (c : RingId) (stays : List Stay) (stay : Stay
 none_unsent run c stays stay m d i facts among inside at nobody = nothing_here (BreaksGapIn run c) stay.proc i (λ rest h.
     nobody.never (sent_in run c stays m stay.proc i facts (d, at, (facts.each stay among).stands i d inside (Deliver m d, at, refl))))
 
--- from the list behind the earlier delivery to the whole
+-- from the list after the earlier delivery to the whole
 later_of : (run : List Log) (c : RingId) (stays : List Stay) (m : MsgId) (d : ConfId) (p i : ℕ) (sending : Sending) → Facts run c stays → slice_get (log_of run p) i ≡ Some (Deliver m d) → IsSendingOf run c m sending
     → (j q k : ℕ) → IsGap run c p i j q k → IsLater run c sending.proc m i (place p j ∷ place q k ∷ [])
 later_of run c stays m d p i sending facts at of j q k (o, n, x, y, s, l, (z, at', b'), later, lt, at_k, belongs, send, member, lacks) =

@@ -6,7 +6,7 @@ use Rattle.totem_agreement.specs.declared.stay.Stay.{Stay}
 use Rattle.totem_agreement.specs.declared.replay.Replay.{Replay}
 use Rattle.totem_agreement.specs.Owed.{TellsTail, DiffersAt, GoAlikeBy, AllGoAlikeTo, IsJoinedBy, JoinsBy}
 
--- the list has what the stay delivers behind the regular configuration, as far as its n-th delivery
+-- the list has what the stay delivers after the regular configuration, as far as its n-th delivery
 pub record TailTo (first : Replay) (has : List Bool) (n : ℕ) : Type 0 where
   pub each : (k u : ℕ) → first.regular ≤ k → k < n → slice_get first.places.items k ≡ Some u → slice_get has u ≡ Some true
 

@@ -18,7 +18,7 @@ rank_next stay i lt =
     let here : stay.from + suc (i - (stay.from + 1)) ≡ i = omega arith in
     rw one_more (ap (λ k. delivered stay.log.now stay.from (i - (stay.from + 1)) + one_if_delivered (slice_get stay.log.now k)) here)
 
--- behind a delivery there is one more, and behind another entry there are as many
+-- after a delivery there is one more, and after another entry there are as many
 pub rank_more : (stay : Stay) (i : ℕ) (m : MsgId) (x : ConfId) → stay.from < i → Delivers stay.log.now i m x → rank stay (i + 1) ≡ rank stay i + 1
 rank_more stay i m x lt at = rank_next stay i lt ∙ ap (λ o. rank stay i + one_if_delivered o) at
 

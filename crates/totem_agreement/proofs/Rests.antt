@@ -19,7 +19,7 @@ use Rattle.totem_agreement.specs.declared.stay.Stay.{Stay}
 use Rattle.totem_agreement.specs.Search.{IsLeastWithin, IsInside, BeginsWithin}
 use Rattle.totem_agreement.proofs.Facts.{Facts}
 
--- what holds of a list and what holds of the rest behind a place
+-- what holds of a list and what holds of the rest after a place
 pub none_rest : (A B : List Place → Type 0) (p i : ℕ) → ((rest : List Place) → B (place p i ∷ rest) → A rest) → HoldsOfNone A → NoneFrom B p i
 none_rest A B p i from none = record { none = λ rest h. none.none rest (from rest h) }
 

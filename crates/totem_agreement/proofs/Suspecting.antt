@@ -103,7 +103,7 @@ module _ (cmp : MsgId → MsgId → Ordering) where
 pub record Earliest (run : List Log) (c : RingId) (sender receiver : Stay) (i early : ℕ) : Type 0 where
   pub each : (j k : ℕ) (n : MsgId) (x : ConfId) (service : Service) → i ≤ j → j < sender.turn → slice_get (log_of run sender.proc) j ≡ Some (Send n x service) → DeliversIn (log_of run receiver.proc) c n k → early ≤ k
 
--- what is known behind the entries from `next` on
+-- what is known after the entries from `next` on
 pub record SoFar (cmp : MsgId → MsgId → Ordering) (old now : BTreeSet MsgId) (run : List Log) (c : RingId) (sender receiver : Stay) (next early : ℕ) : Type 0 where
   pub noted : AreNotedFrom cmp now run c sender receiver next
   pub earliest : Earliest run c sender receiver next early
@@ -166,7 +166,7 @@ noted_still cmp now then run c sender receiver has noted = record {
   from = λ i above. record { each = λ h j k e m n x v from lt until at_h handles at_j d never. has.each m ((noted.from i above).each h j k e m n x v from lt until at_h handles at_j d never) };
 }
 
--- behind the first n receivers
+-- after the first n receivers
 pub record ReceiversSoFar (cmp : MsgId → MsgId → Ordering) (old now : BTreeSet MsgId) (run : List Log) (c : RingId) (stays : List Stay) (sender : Stay) (n : ℕ) : Type 0 where
   pub noted : AllNoted cmp now run c stays sender n
   pub kept : HasAllOf cmp now old

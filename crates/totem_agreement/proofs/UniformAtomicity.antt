@@ -23,7 +23,7 @@ use Rattle.totem_rules.proofs.Staying.{same_change}
 use Rattle.totem_agreement.proofs.AtomicityFaults.{turn_of, goes_along, next_of_from, next_of_turn}
 use Rattle.totem_agreement.proofs.Placing.{IsUniformStay, uniform_stay, IsPlaced, placed, delivers_place, delivers_as, in_regular, not_regular}
 
--- what a stay delivers behind the regular configuration stands at a place behind those of that
+-- what a stay delivers after the regular configuration stands at a place after those of that
 tail_above : (run : List Log) (c : RingId) (messages : List MsgId) (stay : Stay) (replay : Replay) (k u : ℕ) → StayFacts run c stay → IsReplay messages stay replay → replay.regular ≤ k → slice_get replay.places.items k ≡ Some u → replay.regular ≤ u
 tail_above run c messages stay replay k u known is above at = elim (less_or_not 0 replay.regular) [
   | inl some ↦ (

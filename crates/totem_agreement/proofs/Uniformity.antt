@@ -315,7 +315,7 @@ reached run c stays facts uniform = record { each = λ m p i d q safe at belongs
             let both : Some (Send m from.conf from.origin.sent.service) ≡ Some (Send m x Safe) = sym there ∙ sends in
             cc
 
-        -- in the regular configuration nothing is delivered beyond it; behind it members join
+        -- in the regular configuration nothing is delivered beyond it; after it members join
         regular : i < the.stay.turn → IsBeyond uniform.replays one.place → ⊥
         regular early beyond =
             let front = one.front early in

@@ -40,7 +40,7 @@ pub record IsNothing (found : Found) : Type 0 where
   pub installed : found.installed.items ≡ []
   pub complete : found.complete.items ≡ []
 
--- each list has what was found for its specification behind what it had, and who is complete stands behind the others
+-- each list has what was found for its specification after what it had, and who is complete stands after the others
 pub record GrowsBy (old : Found) (findings : Findings) (new : Found) : Type 0 where
   pub own : new.own.items ≡ old.own.items ++ listed spec.OwnDelivery findings.own
   pub atomicity : new.atomicity.items ≡ old.atomicity.items ++ listed spec.Atomicity findings.atomicity
@@ -50,7 +50,7 @@ pub record GrowsBy (old : Found) (findings : Findings) (new : Found) : Type 0 wh
   pub installed : new.installed.items ≡ old.installed.items ++ listed spec.Installed findings.installed
   pub complete : new.complete.items ≡ old.complete.items ++ findings.complete ∷ []
 
--- all lists, one behind the other
+-- all lists, one after the other
 abbrev pub all_found : Found → List Fault
 all_found found = found.own.items ++ (found.atomicity.items ++ (found.causality.items ++ (found.gap.items ++ (found.safety.items ++ found.installed.items))))
 

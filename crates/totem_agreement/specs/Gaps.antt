@@ -42,15 +42,15 @@ pub record TellsMember (run : List Log) (log : List Entry) (i q : ℕ) (test : B
 pub record IsApart (run : List Log) (c : RingId) (p q j : ℕ) : Type 0 where
   pub never : (n : MsgId) → DeliversIn (log_of run p) c n j → HasDelivered (log_of run q) c n → ⊥
 
--- nor what p delivers anywhere behind i
+-- nor what p delivers anywhere after i
 pub record IsBeyond (run : List Log) (c : RingId) (p q i : ℕ) : Type 0 where
   pub each : (j : ℕ) → i < j → IsApart run c p q j
 
--- for each stay an index behind which its process delivers nothing that p delivers
+-- for each stay an index after which its process delivers nothing that p delivers
 pub record AreLasts (run : List Log) (c : RingId) (stays : List Stay) (p : ℕ) (lasts : List ℕ) : Type 0 where
   pub long : length stays ≡ length lasts
   pub each : (k : ℕ) (stay : Stay) → slice_get stays k ≡ Some stay → IsBeyond run c p stay.proc (slice_index_or lasts k 0)
 
--- the process of each stay delivers m, or nothing that p delivers behind i
+-- the process of each stay delivers m, or nothing that p delivers after i
 pub record IsSettled (run : List Log) (c : RingId) (stays : List Stay) (p : ℕ) (m : MsgId) (i : ℕ) : Type 0 where
   pub each : (stay : Stay) → IsAmong stays stay → IsBeyond run c p stay.proc i ⊎ HasDelivered (log_of run stay.proc) c m

@@ -25,7 +25,7 @@ pub record IsNoted (old new : List Bool) (k : ℕ) : Type 0 where
   pub others : (i : ℕ) → slice_get new i ≡ Some false → slice_get old i ≡ Some false
   pub here : slice_get new k ≡ Some false → ⊥
 
--- 5, as the list tells it
+-- 5, as the list says it
 pub record OrderlyBy (origins : List Origin) (has : List Bool) : Type 0 where
   pub each : (u v : ℕ) (o p : Origin) → u < v → slice_get has v ≡ Some true → slice_get origins u ≡ Some o → slice_get origins v ≡ Some p → (o.stay ≡ p.stay) ⊎ (u < p.sent.before) → slice_get has u ≡ Some true
 
@@ -41,19 +41,19 @@ pub record IsNoTurnMember (stay : Stay) (q : ℕ) : Type 0 where
 pub record IsGone (stays : List Stay) (origin : Origin) (stay : Stay) : Type 0 where
   pub never : (s : Stay) → slice_get stays origin.stay ≡ Some s → IsTurnMember stay s.proc → ⊥
 
--- 6.3, as the list tells it
+-- 6.3, as the list says it
 pub record FullBy (stays : List Stay) (origins : List Origin) (stay : Stay) (has : List Bool) (last : ℕ) : Type 0 where
   pub each : (u : ℕ) (o : Origin) (s : Stay) → u < last → slice_get origins u ≡ Some o → slice_get stays o.stay ≡ Some s → IsTurnMember stay s.proc → slice_get has u ≡ Some true
 
--- 3, as the list tells it
+-- 3, as the list says it
 pub record OwnBy (origins : List Origin) (k : ℕ) (has : List Bool) : Type 0 where
   pub each : (u : ℕ) (o : Origin) → slice_get origins u ≡ Some o → o.stay ≡ k → slice_get has u ≡ Some true
 
--- 7.1, as the list tells it
+-- 7.1, as the list says it
 pub record SafeBy (origins : List Origin) (replays : List Replay) (has : List Bool) (joins : Bool) : Type 0 where
   pub each : (u : ℕ) (o : Origin) → slice_get origins u ≡ Some o → o.sent.service ≡ Safe → (slice_get has u ≡ Some true) ⊎ ((joins ≡ true) × IsBeyond replays u)
 
--- the list has what the stay delivers behind the regular configuration
+-- the list has what the stay delivers after the regular configuration
 pub record TellsTail (first : Replay) (has : List Bool) : Type 0 where
   pub each : (k u : ℕ) → first.regular ≤ k → slice_get first.places.items k ≡ Some u → slice_get has u ≡ Some true
 
@@ -61,7 +61,7 @@ pub record TellsTail (first : Replay) (has : List Bool) : Type 0 where
 pub record DiffersAt (stay : Stay) (i : ℕ) (other : Stay) (j : ℕ) : Type 0 where
   pub never : (x : ConfId) → ChangesTo stay.log.now i x → ChangesTo other.log.now j x → ⊥
 
--- 4, as the list tells it
+-- 4, as the list says it
 pub record GoAlikeBy (stay other : Stay) (replay another : Replay) (has : List Bool) : Type 0 where
   pub regular : (x : ConfId) → ChangesTo stay.log.now stay.turn x → ChangesTo other.log.now other.turn x → replay.regular ≡ another.regular
   pub following : (x y : ConfId) → ChangesTo stay.log.now stay.turn x → ChangesTo other.log.now other.turn x → ChangesTo stay.log.now stay.end y → ChangesTo other.log.now other.end y → TellsTail replay has
@@ -69,7 +69,7 @@ pub record GoAlikeBy (stay other : Stay) (replay another : Replay) (has : List B
 pub record AllGoAlikeTo (stays : List Stay) (replays : List Replay) (other : Stay) (another : Replay) (has : List Bool) : Type 0 where
   pub each : (k : ℕ) (s : Stay) (r : Replay) → slice_get stays k ≡ Some s → slice_get replays k ≡ Some r → GoAlikeBy s other r another has
 
--- 7.1 behind the regular configuration, as the list tells it
+-- 7.1 after the regular configuration, as the list says it
 pub record IsJoinedBy (stay : Stay) (replay : Replay) (other : Stay) (has : List Bool) : Type 0 where
   pub joined : stay.turn < stay.end → IsTurnMember stay other.proc → TellsTail replay has
 
@@ -81,7 +81,7 @@ pub record IsAlignment (stays : List Stay) (found : Alignment) : Type 0 where
   pub are : AreReplays found.messages.items stays found.replays.items
   pub order : AreOrigins found.replays.items found.messages.items found.origins.list.items found.origins.taken.items
 
--- 3 and 7.1, as the list tells it
+-- 3 and 7.1, as the list says it
 pub record PaysBy (stays : List Stay) (replays : List Replay) (origins : List Origin) (taken k : ℕ) (has : List Bool) : Type 0 where
   pub sent : (r : Replay) → slice_get replays k ≡ Some r → length r.sends.items ≤ taken
   pub own : OwnBy origins k has

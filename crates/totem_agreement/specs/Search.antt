@@ -6,7 +6,7 @@ use Rattle.totem_table.specs.Search.{place, IsLeastFrom}
 use Rattle.totem_agreement.specs.declared.stay.Stay.{Stay}
 use Rattle.totem_agreement.specs.Acts.{IsAmong}
 
--- the index stands in the stay, behind the change to the regular configuration
+-- the index stands in the stay, after the change to the regular configuration
 pub record IsInside (stay : Stay) (i : ℕ) : Type 0 where
   pub after : stay.from < i
   pub until : i < stay.end

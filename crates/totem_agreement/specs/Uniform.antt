@@ -21,7 +21,7 @@ one_if_delivered (Some (Send m x service)) = 0
 one_if_delivered (Some (Deliver m x)) = 1
 one_if_delivered (Some (Fail x)) = 0
 
--- how many of the first n entries behind `from` are deliveries
+-- how many of the first n entries after `from` are deliveries
 abbrev pub delivered : List Entry → ℕ → ℕ → ℕ
 delivered log from zero = 0
 delivered log from (suc n) = delivered log from n + one_if_delivered (slice_get log (from + suc n))
@@ -90,7 +90,7 @@ pub record AreReplays (messages : List MsgId) (stays : List Stay) (replays : Lis
   pub long : length stays ≡ length replays
   pub each : (k : ℕ) (stay : Stay) (replay : Replay) → slice_get stays k ≡ Some stay → slice_get replays k ≡ Some replay → IsReplay messages stay replay
 
--- the send behind the first ones is one of m, and no more than n deliveries stand before it
+-- the send after the first ones is one of m, and no more than n deliveries stand before it
 pub record IsNextSend (replay : Replay) (taken n : ℕ) (m : MsgId) (sent : Sent) : Type 0 where
   pub stands : slice_get replay.sends.items taken ≡ Some sent
   pub message : sent.message ≡ m

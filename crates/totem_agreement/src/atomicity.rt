@@ -69,7 +69,7 @@ struct Partings<'s, 'r, 'm> {
 }
 
 impl Partings<'_, '_, '_> {
-    /// Whether the process of this stay delivers the message in this configuration.
+    /// Returns whether the process of this stay delivers the message in this configuration.
     fn is_delivered(&self, stay: &Stay) -> bool
         requires { IsAmong self.now.stays.now.list.items stay.now }
         ensures there { OnTrue result ((l : ℕ) × Delivers (log_of self.now.stays.now.run.now.logs stay.now.proc) l self.now.message.now self.now.conf.now) }

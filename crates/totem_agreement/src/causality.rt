@@ -57,7 +57,7 @@ struct Effects<'s, 'r, 'm> {
 }
 
 impl Effects<'_, '_, '_> {
-    /// Whether a send at this index of a stay comes one hop after the cause: its process sent the cause, or delivered it.
+    /// Returns whether a send at this index of a stay comes one hop after the cause: its process sent the cause, or delivered it.
     fn is_hop(&self, stay: &Stay, at: usize) -> bool
         requires among { IsAmong self.now.stays.now.list.items stay.now }
         requires before { at < stay.now.turn }

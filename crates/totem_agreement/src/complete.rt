@@ -19,7 +19,7 @@ pub enum Complete {
     Only(Vec<Proc>),
 }
 
-/// Whether none of these processes is open in its stay: each goes on, is quiet, or has failed.
+/// Returns whether none of these processes is open in its stay: each goes on, is quiet, or has failed.
 fn none_is_open(stays: &[Stay]) -> bool
     requires { All IsPlacedStay stays.now }
     ensures { OnTrue result (All EndsClosed stays.now) }

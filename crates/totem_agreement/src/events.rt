@@ -22,7 +22,7 @@ pub trait EventTest {
     /// What it means that the event at an index of a process's log breaks it.
     ghost breaks: { Self → ℕ → ℕ → Type 0 };
 
-    /// Whether the event at this index of a stay breaks it.
+    /// Returns whether the event at this index of a stay breaks it.
     fn breaks_at(&self, stay: &Stay, at: usize) -> bool
         requires among { IsAmong (among self.now) stay.now }
         requires inside { IsInside stay.now at }

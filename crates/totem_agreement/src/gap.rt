@@ -35,7 +35,7 @@ struct Lacks<'s, 'r, 'm> {
 }
 
 impl Lacks<'_, '_, '_> {
-    /// Whether the sender is a member of the configuration that the entry at this index of a stay names.
+    /// Returns whether the sender is a member of the configuration that the entry at this index of a stay names.
     fn has_sender(&self, stay: &Stay, at: usize) -> bool
         requires among { IsAmong self.now.stays.now.list.items stay.now }
         requires inside { IsInside stay.now at }
@@ -152,7 +152,7 @@ impl Relation for Gaps<'_, '_> {
     }
 }
 
-/// Whether the follower delivers the message that stands at this index of the leader's stay, if one does.
+/// Returns whether the follower delivers the message that stands at this index of the leader's stay, if one does.
 fn is_common(stays: &Stays, leader: &Stay, follower: &Stay, at: usize) -> bool
     requires leader { IsAmong stays.now.list.items leader.now }
     requires follower { IsAmong stays.now.list.items follower.now }
@@ -168,7 +168,7 @@ fn is_common(stays: &Stays, leader: &Stay, follower: &Stay, at: usize) -> bool
     }
 }
 
-/// Returns an index behind which the leader delivers nothing that the follower delivers too.
+/// Returns an index after which the leader delivers nothing that the follower delivers too.
 fn last_common(stays: &Stays, leader: &Stay, follower: &Stay) -> usize
     requires leader { IsAmong stays.now.list.items leader.now }
     requires follower { IsAmong stays.now.list.items follower.now }
@@ -197,7 +197,7 @@ fn lasts_of(alloc: Global, stays: &Stays, leader: &Stay) -> Result<Vec<usize>, A
     Ok(lasts)
 }
 
-/// Whether the follower delivers the leader's message, or delivers nothing that the leader delivers after it.
+/// Returns whether the follower delivers the leader's message, or delivers nothing that the leader delivers after it.
 fn keeps_up(stays: &Stays, follower: &Stay, last: usize, message: &MsgId, at: usize) -> bool
     requires { IsAmong stays.now.list.items follower.now }
     ensures { OnTrue result ((last ≤ at) ⊎ HasDelivered (log_of stays.now.run.now.logs follower.now.proc) stays.now.ring message.now) }

@@ -13,14 +13,14 @@ use std::alloc::{AllocError, Global};
 use std::collections::BTreeMap;
 use totem_ids::MsgId;
 
-/// The index of each send, or of each delivery, of a stay: in a row by number where that tells all of them, else by message.
+/// The index of each send, or of each delivery, of a stay: in a row by number where that has all of them, else by message.
 #[derive(Drop)]
 pub enum Indexes {
     ByNumber(Row),
     ByMessage(BTreeMap<MsgId, usize>),
 }
 
-/// Whether the row tells each index at which the stay does this.
+/// Returns whether the row has each index at which the stay does this.
 fn tells_all(row: &Row, stay: &Stay, act: Act) -> bool
     requires { IsShortStay stay.now }
     ensures { OnTrue result (Tells (noted row.now) stay.now act stay.now.end) }
@@ -63,7 +63,7 @@ impl Indexes {
         Ok(Indexes::ByMessage(by_message(alloc, stay, act)?))
     }
 
-    /// What is told of the message.
+    /// What is noted for the message.
     fn told(&self, message: &MsgId) -> Option<usize>
         ensures { result ≡ index_told ⟦<MsgId as Ord>⟧.cmp self.now message.now }
     {

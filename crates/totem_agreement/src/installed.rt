@@ -21,7 +21,7 @@ struct Uninstalled<'s, 'r> {
 }
 
 impl Uninstalled<'_, '_> {
-    /// Whether the log of this process changes to the regular configuration.
+    /// Returns whether the log of this process changes to the regular configuration.
     fn has_come(&self, proc: Proc) -> bool
         ensures { IsTrue result ↔ HasCome self.now.stays.now.run.now.logs self.now.stays.now.ring proc }
     {
@@ -31,7 +31,7 @@ impl Uninstalled<'_, '_> {
         }
     }
 
-    /// Whether the log of each of these members changes to it.
+    /// Returns whether the log of each of these members changes to it.
     fn have_come(&self, members: &[Proc]) -> bool
         ensures all { OnTrue result (All (HasCome self.now.stays.now.run.now.logs self.now.stays.now.ring) members.now) }
         ensures not_all { OnFalse result (HoldsNotOfAll (HasCome self.now.stays.now.run.now.logs self.now.stays.now.ring) members.now) }

@@ -1,4 +1,4 @@
-//! The last pass of the audit: what processes owe themselves and one another in each regular configuration and in what
+//! The last pass of the audit: what processes have to deliver for themselves and for one another in each regular configuration and in what
 //! follows it; and what a run leaves open (docs/SPECIFICATIONS.md, "Passes", "Pending and waiting").
 #![tactic(auto)]
 

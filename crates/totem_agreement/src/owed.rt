@@ -34,7 +34,8 @@ fn note_lost(lost: &mut [bool], stay: usize)
     }
 }
 
-/// Whether the stay lacks nothing that comes before a message that it delivers and was sent or delivered by the sender of that before.
+/// Returns whether the stay lacks nothing that comes before a message that it delivers and was sent or delivered by the sender of that
+/// before.
 pub fn is_orderly(
     alloc: Global,
     origins: &[Origin],
@@ -75,7 +76,7 @@ pub fn last_place(places: &[usize]) -> usize
     last
 }
 
-/// Whether the process is a member of what follows the regular configuration in this stay.
+/// Returns whether the process is a member of what follows the regular configuration in this stay.
 pub fn is_turn_member(stay: &Stay, proc: Proc) -> bool
     ensures { OnFalse result (IsNoTurnMember stay.now proc) }
 {
@@ -85,7 +86,7 @@ pub fn is_turn_member(stay: &Stay, proc: Proc) -> bool
     }
 }
 
-/// Whether the sender is no member of what follows the regular configuration in this stay.
+/// Returns whether the sender is no member of what follows the regular configuration in this stay.
 fn is_gone(stays: &[Stay], origin: &Origin, stay: &Stay) -> bool
     ensures { OnTrue result (IsGone stays.now origin.now stay.now) }
 {
@@ -95,7 +96,7 @@ fn is_gone(stays: &[Stay], origin: &Origin, stay: &Stay) -> bool
     }
 }
 
-/// Whether the stay lacks nothing before the last place that was sent by a member of what follows the regular configuration in it.
+/// Returns whether the stay lacks nothing before the last place that was sent by a member of what follows the regular configuration in it.
 pub fn is_full(stays: &[Stay], origins: &[Origin], stay: &Stay, has: &[bool], last: usize) -> bool
     requires { length origins.now ≡ length has.now }
     ensures { OnTrue result (FullBy stays.now origins.now stay.now has.now last) }
@@ -108,7 +109,7 @@ pub fn is_full(stays: &[Stay], origins: &[Origin], stay: &Stay, has: &[bool], la
     true
 }
 
-/// Whether the stay with this index lacks nothing that it sent.
+/// Returns whether the stay with this index lacks nothing that it sent.
 pub fn has_own(origins: &[Origin], index: usize, has: &[bool]) -> bool
     requires { length origins.now ≡ length has.now }
     ensures { OnTrue result (OwnBy origins.now index has.now) }
@@ -121,7 +122,7 @@ pub fn has_own(origins: &[Origin], index: usize, has: &[bool]) -> bool
     true
 }
 
-/// Whether none of the stays delivers what stands at this place in the regular configuration.
+/// Returns whether none of the stays delivers what stands at this place in the regular configuration.
 fn is_beyond(replays: &[Replay], place: usize) -> bool
     ensures { OnTrue result (IsBeyond replays.now place) }
 {
@@ -133,8 +134,8 @@ fn is_beyond(replays: &[Replay], place: usize) -> bool
     true
 }
 
-/// Whether the stay lacks no safe message, or, where it joins with those that are with it behind the regular configuration, none that is
-/// delivered in the regular one.
+/// Returns whether the stay lacks no safe message, or, where it joins with those that are with it after the regular configuration, none
+/// that is delivered in the regular one.
 pub fn has_safe(origins: &[Origin], replays: &[Replay], has: &[bool], joins: bool) -> bool
     requires { length origins.now ≡ length has.now }
     ensures { OnTrue result (SafeBy origins.now replays.now has.now joins) }

@@ -32,7 +32,7 @@ pub struct Found {
     pub complete: Vec<Complete>,
 }
 
-/// Returns the list with the other behind it.
+/// Returns the list with the other after it.
 fn joined(mut faults: Vec<Fault>, others: Vec<Fault>) -> Result<Vec<Fault>, AllocError>
     ensures { IfOk result (λ list. list.items ≡ faults.items ++ others.items) }
 {

@@ -21,7 +21,7 @@ use totem_evs::{Entry, Pending, Run, Waiting};
 use totem_ids::{MsgId, Proc, RingId};
 use totem_rules::{has_failed, in_order};
 
-/// Whether the process of this stay is open in it.
+/// Returns whether the process of this stay is open in it.
 fn is_open(stays: &RingStays, stay: &Stay) -> bool
     requires { IsAmong stays.now.list.items stay.now }
     ensures { IsTrue result ↔ OpenIn stays.now.run.now.logs stay.now.proc stays.now.ring }

@@ -38,7 +38,7 @@ fn place_from(messages: &[MsgId], first: usize, message: &MsgId) -> usize {
     messages.len()
 }
 
-/// Whether the message stands at this place, and the place is no less than the next one; in the regular configuration no place is
+/// Returns whether the message stands at this place, and the place is no less than the next one; in the regular configuration no place is
 /// left out, so that `count` places come before it.
 fn is_next(
     messages: &[MsgId],
@@ -56,7 +56,7 @@ fn is_next(
     next <= place && place < messages.len() && messages[place] == *message
 }
 
-/// How many deliveries stand in the regular configuration, behind one that makes them so many.
+/// How many deliveries stand in the regular configuration, after one that makes them so many.
 fn regular_count(is_regular: bool, count: usize, before: usize) -> usize
     ensures regular { IsTrue is_regular → result ≡ count }
     ensures following { (IsTrue is_regular → ⊥) → result ≡ before }

@@ -60,7 +60,7 @@ impl Row {
     ghost use Rattle.std.specs.Prelude.{◌≡◌};
     ghost use Rattle.totem_agreement.specs.Indexes.{noted};
 
-    /// Notes this of the message, where there is room for it.
+    /// Notes this for the message, where there is space for it.
     fn note(&mut self, message: &MsgId, note: u32) {
         let place = message.number.saturating_sub(self.first) as usize;
         if let Some(found) = self.notes.get_mut(place) {

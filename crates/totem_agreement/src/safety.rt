@@ -21,7 +21,7 @@ struct Unreached<'s, 'r> {
 }
 
 impl Unreached<'_, '_> {
-    /// Whether this process delivers the message, or is excused from it.
+    /// Returns whether this process delivers the message, or is excused from it.
     fn is_reached(&self, proc: Proc, message: &MsgId) -> bool
         ensures { IsTrue result ↔ DeliversOrEnds self.now.stays.now.run.now.logs proc self.now.stays.now.ring message.now }
     {
@@ -37,7 +37,7 @@ impl Unreached<'_, '_> {
         }
     }
 
-    /// Whether each of these members delivers the message, or is excused from it.
+    /// Returns whether each of these members delivers the message, or is excused from it.
     fn are_reached(&self, members: &[Proc], message: &MsgId) -> bool
         ensures all { OnTrue result (All (λ q. DeliversOrEnds self.now.stays.now.run.now.logs q self.now.stays.now.ring message.now) members.now) }
         ensures not_all { OnFalse result (HoldsNotOfAll (λ q. DeliversOrEnds self.now.stays.now.run.now.logs q self.now.stays.now.ring message.now) members.now) }

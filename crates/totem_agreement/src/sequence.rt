@@ -71,7 +71,7 @@ pub fn longest_sequence_of(alloc: Global, stays: &[Stay]) -> Result<Vec<MsgId>, 
     }
 }
 
-/// Whether these are the same messages in the same order.
+/// Returns whether these are the same messages in the same order.
 fn are_same(messages: &[MsgId], others: &[MsgId]) -> bool {
     if messages.len() != others.len() {
         return false;
@@ -102,7 +102,7 @@ pub fn fullest_sequence_of(
     Ok(Some(messages))
 }
 
-/// What the stays deliver behind the regular configuration, in the order of the messages, each as often as it is delivered there.
+/// What the stays deliver after the regular configuration, in the order of the messages, each as often as it is delivered there.
 fn delivered_later(alloc: Global, stays: &[Stay]) -> Result<Vec<MsgId>, AllocError> {
     let mut later = Vec::new(alloc);
     for stay in stays {
@@ -116,8 +116,8 @@ fn delivered_later(alloc: Global, stays: &[Stay]) -> Result<Vec<MsgId>, AllocErr
     Ok(later)
 }
 
-/// What the stay that delivers most in the regular configuration delivers there, and then what comes behind that in the order of the
-/// messages and is delivered by any stay behind the regular configuration.
+/// What the stay that delivers most in the regular configuration delivers there, and then what comes after that in the order of the
+/// messages and is delivered by any stay after the regular configuration.
 pub fn ordered_sequence(alloc: Global, stays: &[Stay]) -> Result<Vec<MsgId>, AllocError> {
     let mut messages = Vec::new(alloc);
     let mut last = None;

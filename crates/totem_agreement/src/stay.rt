@@ -14,7 +14,7 @@ use totem_table::next_change;
 
 /// The stay of a process: its log changes to the regular configuration at `from` and to what follows that at `turn`, and
 /// the entries before `end` are those that stand in these two. Where nothing follows, `turn` is `end`. A log may be quiet: nothing
-/// more was to come behind it.
+/// more was to come after it.
 #[derive(Clone, Copy)]
 pub struct Stay<'r> {
     pub proc: Proc,
@@ -26,7 +26,7 @@ pub struct Stay<'r> {
 }
 
 impl Stay<'_> {
-    /// Whether the stay goes up to the end of a log that is not quiet: there the process failed, or it is open.
+    /// Returns whether the stay goes up to the end of a log that is not quiet: there the process failed, or it is open.
     pub fn is_excused(&self) -> bool
         ensures { IsTrue result ↔ IsExcused self.now }
     {
@@ -53,7 +53,7 @@ impl Stay<'_> {
         }
     }
 
-    /// Whether the entry at this index stands in the stay and does this with the message.
+    /// Returns whether the entry at this index stands in the stay and does this with the message.
     pub fn does_at(&self, act: Act, at: usize, message: &MsgId) -> bool
         ensures { IsTrue result ↔ IsActAt self.now act message.now at }
     {
@@ -68,7 +68,7 @@ fn number_of(changes: &[u32], at: usize) -> usize {
 }
 
 /// The index of the next change after this index, or the length of the log where none follows. Where the change of this number stands at
-/// this index, the list of the changes tells it.
+/// this index, the list of the changes has it.
 fn change_after(log: &[Entry], changes: &[u32], at: usize, number: usize) -> usize
     requires lists { ListsChanges log.now (length log.now) changes.now }
     requires within { at < length log.now }

@@ -161,7 +161,7 @@ impl<'r> Stays<'r> {
         None
     }
 
-    /// Whether the message was sent in the regular configuration as a safe one.
+    /// Returns whether the message was sent in the regular configuration as a safe one.
     pub fn is_safe(&self, message: &MsgId) -> bool
         ensures { IsTrue result ↔ IsSafeIn self.now.run.now.logs self.now.ring message.now }
     {

@@ -23,7 +23,7 @@ fn handled(entry: &Entry) -> Option<MsgId>
     }
 }
 
-/// Whether the receiver delivers the message before this index of its log.
+/// Returns whether the receiver delivers the message before this index of its log.
 fn comes_before(stays: &Stays, receiver: &Stay, message: &MsgId, index: usize) -> bool
     requires { IsAmong stays.now.list.items receiver.now }
     ensures { OnTrue result (ComesBefore stays.now.run.now.logs stays.now.ring receiver.now.proc message.now index) }

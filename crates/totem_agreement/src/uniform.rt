@@ -29,7 +29,7 @@ fn has_stay(stays: &[Stay], proc: Proc) -> bool
     false
 }
 
-/// Whether there is a stay of each of these.
+/// Returns whether there is a stay of each of these.
 fn have_stays(stays: &[Stay], members: &[Proc]) -> bool
     ensures { OnTrue result (HasAll stays.now members.now) }
 {
@@ -41,7 +41,7 @@ fn have_stays(stays: &[Stay], members: &[Proc]) -> bool
     true
 }
 
-/// Whether there is a stay of each member of the configurations of this stay.
+/// Returns whether there is a stay of each member of the configurations of this stay.
 fn has_members(stays: &[Stay], stay: &Stay) -> bool
     requires { IsShortStay stay.now }
     ensures { OnTrue result (HasMembers stays.now stay.now) }
@@ -80,7 +80,7 @@ fn aligned(
     }))
 }
 
-/// Whether a stay that is not excused lacks nothing that its process owes: what it sent itself, and safe messages.
+/// Returns whether a stay that is not excused lacks nothing that its process has to deliver: what it sent itself, and safe messages.
 fn pays(stays: &[Stay], replays: &[Replay], origins: &Origins, index: usize, has: &[bool]) -> bool
     requires replays { length stays.now ≡ length replays.now }
     requires taken { length stays.now ≡ length origins.now.taken.items }
@@ -99,7 +99,7 @@ fn pays(stays: &[Stay], replays: &[Replay], origins: &Origins, index: usize, has
         )
 }
 
-/// Whether the stay at this index lacks nothing that its process owes.
+/// Returns whether the stay at this index lacks nothing that its process has to deliver.
 fn is_settled(
     alloc: Global,
     stays: &[Stay],
@@ -129,7 +129,7 @@ fn is_settled(
     Ok(stay.is_excused() || pays(stays, replays, origins, index, &has))
 }
 
-/// Whether no stay lacks anything that its process owes.
+/// Returns whether no stay lacks anything that its process has to deliver.
 fn all_settled(
     alloc: Global,
     stays: &[Stay],
@@ -149,7 +149,7 @@ fn all_settled(
     Ok(true)
 }
 
-/// Whether all sends of each replay are taken.
+/// Returns whether all sends of each replay are taken.
 fn are_taken(replays: &[Replay], taken: &[usize]) -> bool
     requires { length replays.now ≡ length taken.now }
     ensures { OnTrue result (AllTaken replays.now taken.now) }
@@ -162,7 +162,7 @@ fn are_taken(replays: &[Replay], taken: &[usize]) -> bool
     true
 }
 
-/// Whether each replay has all of the messages, and all of its sends are taken.
+/// Returns whether each replay has all of the messages, and all of its sends are taken.
 fn are_complete(replays: &[Replay], messages: usize, taken: &[usize]) -> bool
     requires { length replays.now ≡ length taken.now }
     ensures { OnTrue result (EachComplete replays.now messages taken.now) }
@@ -227,7 +227,7 @@ pub struct Uniformity {
 }
 
 impl Uniformity {
-    /// Whether nothing is seen.
+    /// Returns whether nothing is seen.
     fn is_blank(&self) -> bool {
         !self.uniform && matches!(&self.complete, Complete::Only(procs) if procs.is_empty())
     }

@@ -44,7 +44,7 @@ same_first a b xs ys rising others same = elim (first_or_rest b ys a (same.into 
   ]
 ]
 
--- what the one list has behind its first, the other has behind its first
+-- what the one list has after its first, the other has after its first
 behind_both : (a b : RingId) (xs ys : List RingId) (c : RingId) → AllPairs RingBelow (a ∷ xs) → a ≡ b → ((d : RingId) → Contains (a ∷ xs) d → Contains (b ∷ ys) d) → Contains xs c → Contains ys c
 behind_both a b xs ys c rising first into h = elim (first_or_rest b ys c (into c (in_rest a xs c h))) [
   | inl is ↦

@@ -87,7 +87,7 @@ fn pass_all_with<T: Threads + Wait + Sync, G: Gate>(
     }
 }
 
-/// Judges a run by passes A, B, C and D (docs/SPECIFICATIONS.md, "Passes"). Want of memory is no verdict.
+/// Judges a run by passes A, B, C and D (docs/SPECIFICATIONS.md, "Passes"). Running out of memory is no verdict.
 pub fn audit(alloc: Global, run: &Run) -> Result<Verdict, AllocError>
     ensures answer { IfOk result (λ verdict. IsAnswered run.now.logs (answer_of verdict)) }
     ensures sound { IfOk result (λ verdict. IsSound run.now.logs (answer_of verdict)) }
@@ -97,7 +97,7 @@ pub fn audit(alloc: Global, run: &Run) -> Result<Verdict, AllocError>
 }
 
 /// The same, by as many threads as there are workers: each takes jobs of the last pass from a channel whenever it is idle, and sends
-/// what it found through another. The gate is told of each job. Want of memory is answered only where the thread that asks meets it
+/// what it found through another. The gate is notified of each job. Out of memory is answered only where the thread that asks meets it
 /// itself.
 pub fn audit_with<T: Threads + Wait + Sync, G: Gate>(
     rt: &T,

@@ -1,6 +1,6 @@
-//! Who is told of the jobs of an audit.
+//! Who is notified of the jobs of an audit.
 
-/// Each thread tells the gate of a job that it does, before and after. A job that has to be done again is told again. Jobs are
+/// Each thread notifies the gate before and after a job that it does, and again if the job has to be done again. Jobs are
 /// counted from 1, in the order of their configurations.
 pub trait Gate: Sync {
     fn before(&self, job: u32);

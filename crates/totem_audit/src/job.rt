@@ -1,4 +1,4 @@
-//! One job of an audit, of which its gate is told.
+//! One job of an audit, of which its gate is notified.
 ghost use Rattle.std.specs.Prelude.{◌≡◌, ◌<◌, IfOk, vec_len};
 ghost use Rattle.totem_agreement.specs.Jobs.{AreJobs};
 ghost use Rattle.totem_audit.specs.Jobs.{IsRight};
@@ -15,7 +15,7 @@ pub struct DoneJob {
     pub findings: Findings,
 }
 
-/// Does the job at this index, and tells the gate before and after.
+/// Does the job at this index, and notifies the gate before and after.
 pub fn perform_job<G: Gate>(
     alloc: Global,
     jobs: &Jobs<'_>,

@@ -53,7 +53,7 @@ fn by_job<N: JobsName, T: Wait>(
 }
 
 /// What is known of each job, by so many workers, and no more than there are jobs. The workers take jobs from one channel and send
-/// what they found through another, which has room for all of it.
+/// what they found through another, which has space for all of it.
 fn shared<N: JobsName + Send + Sync, T: Threads + Wait + Sync, G: Gate>(
     rt: &T,
     alloc: Global,

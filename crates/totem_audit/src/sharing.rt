@@ -13,7 +13,7 @@ use std::sync::Wait;
 use std::thread::{Threads, join};
 use totem_agreement::Jobs;
 
-/// A channel that holds these spans, in their order, and ends behind them. Nothing waits for room, and no more memory is taken.
+/// A channel that holds these spans, in their order, and ends after them. Nothing waits for space, and no more memory is taken.
 pub fn channel_of<T: Wait>(
     rt: &T,
     alloc: Global,
@@ -28,7 +28,7 @@ pub fn channel_of<T: Wait>(
     Ok(receiver)
 }
 
-/// Does the jobs of a span, in turn. Whatever span it is, no job is taken beyond the last. Where memory is wanting, the rest is
+/// Does the jobs of a span, in turn. Whatever span it is, no job is taken beyond the last. When memory runs out, the rest is
 /// left out.
 fn do_span<G: Gate>(
     alloc: Global,
@@ -47,7 +47,7 @@ fn do_span<G: Gate>(
     Ok(())
 }
 
-/// Takes spans, does their jobs and sends what was found, until none is left, or memory is wanting.
+/// Takes spans, does their jobs and sends what was found, until none is left, or memory runs out.
 #[tactic(auto, using(crate::proofs::KnownJobs::none_right, crate::proofs::KnownJobs::right_by_name))]
 fn work<N: JobsName, T: Wait, G: Gate>(
     rt: &T,

@@ -12,7 +12,7 @@ pub struct Span {
 }
 
 /// How many jobs are taken at a time at most. So what a message costs is shared by the jobs where these are cheap, and where one is
-/// dear, few wait behind it.
+/// dear, few wait after it.
 const MOST: usize = 16;
 
 /// How many jobs are taken next, when so many are left: half a worker's equal share of them, but one at least, and not too many.

@@ -45,7 +45,7 @@ fn push_passes(alloc: Global, text: &mut String, run: &Run) -> Result<(), AllocE
     push_faults(text, &pass_b(alloc, run)?)
 }
 
-/// Whether each message is sent once and delivered once in each log, and the numbers of the entries, log by log.
+/// Returns whether each message is sent once and delivered once in each log, and the numbers of the entries, log by log.
 fn push_numbers(alloc: Global, text: &mut String, run: &Run) -> Result<(), AllocError> {
     let Some(table) = Table::build(alloc, run)? else {
         return text.push_str("no table");

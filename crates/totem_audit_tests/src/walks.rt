@@ -50,14 +50,14 @@ fn text_of(alloc: Global, logs: &Logs) -> Result<String, AllocError> {
     Ok(text)
 }
 
-/// Whether the run has no fault of the first three passes.
+/// Returns whether the run has no fault of the first three passes.
 fn has_passed(alloc: Global, run: &Run) -> Result<bool, AllocError>
     ensures { IfOk result (λ passed. OnTrue passed (MeetsPasses run.now.logs)) }
 {
     Ok(early(alloc, run)?.is_empty())
 }
 
-/// Whether the walk is true, and if it took more looks than it may, how many.
+/// Returns whether the walk is true, and if it took more looks than it may, how many.
 fn push_walk(alloc: Global, text: &mut String, run: &Run, row: &Row) -> Result<(), AllocError> {
     if !has_passed(alloc, run)? {
         return text.push_str("faults of the first passes");

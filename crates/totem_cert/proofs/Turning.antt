@@ -121,7 +121,7 @@ module _ (run : List Log) (start : Place) (xs : List Step) (again : ℕ) (last :
     at : slice_get xs i ≡ Some step
     is : e ≡ step.from
 
-  -- e is where the step at i led, and not what stands behind it
+  -- e is where the step at i led, and not what stands after it
   record IsTo (i : ℕ) (e : Place) : Type 0 where
     step : Step
     at : slice_get xs i ≡ Some step

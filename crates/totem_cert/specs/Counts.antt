@@ -15,7 +15,7 @@ abbrev pub sum_to : ℕ → (ℕ → ℕ) → ℕ
 sum_to zero f = 0
 sum_to (suc n) f = sum_to n f + f n
 
--- the class of an entry whose number in the table is n: that of its message, or behind all messages that of its configuration
+-- the class of an entry whose number in the table is n: that of its message, or after all messages that of its configuration
 abbrev pub class_in : ℕ → Entry → ℕ → Option ℕ
 class_in messages (Conf x ms) n = Some (messages + n)
 class_in messages (Send m x s) n = None

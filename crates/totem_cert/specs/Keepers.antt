@@ -17,7 +17,7 @@ count_of None = 0
 abbrev pub given_at : List Numbering → ℕ → ℕ
 given_at lines k = count_of (slice_get lines k)
 
--- an entry of the class stands behind the first one of its log without a number, or a send has no number
+-- an entry of the class stands after the first one of its log without a number, or a send has no number
 abbrev pub StandsBehind : Bool → ℕ → ℕ → Type 0
 StandsBehind shares given at = (IsTrue shares × (given < at)) ⊎ ((shares ≡ false) × (given ≤ at))
 

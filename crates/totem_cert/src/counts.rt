@@ -1,4 +1,4 @@
-//! Counts for each class of a run how many entries keep it from being ready: those behind the first entry of their log without a
+//! Counts for each class of a run how many entries keep it from being ready: those after the first entry of their log without a
 //! number, and sends without a number. The classes go by the numbers of a table, those of messages before those of configurations.
 ghost use Rattle.std.specs.Prelude.{◌≡◌, ◌↔◌, ◌+◌, ◌<◌, ◌≤◌, ◌^◌, IfOk, IsTrue, OnOk, Some, length, map, slice_get, slice_index_or};
 ghost use Rattle.totem_table.specs.Tables.{IsTable};

@@ -16,7 +16,7 @@ use totem_ids::Place;
 pub enum Wanted {
     /// Sends without a number.
     Sends,
-    /// Entries of the class that are held up: all of them if the class waits for a send, and otherwise those behind an
+    /// Entries of the class that are held up: all of them if the class waits for a send, and otherwise those after an
     /// entry without a number.
     Mates { waits: bool },
 }

@@ -42,7 +42,7 @@ first_cut bytes = record {
   ];
 }
 
--- numbers behind a space, up to the line end
+-- numbers after a space, up to the line end
 abbrev pub NumbersTo : ℕ → List ℕ → Type 0
 NumbersTo room t = (ns : List ℕ) × NumbersFrom room ns × (32 ∷ t ≡ numbers_text ns ++ 10 ∷ [])
 
@@ -168,7 +168,7 @@ cert_cut bytes =
 pub cut_front : (bytes : List ℕ) → cert_at bytes ≡ Err faults.Truncated → IsLooseFront bytes
 cut_front bytes e = let found = (cert_cut bytes).goes e in (found.1.0, found.0, found.1.1, found.1.2, found.1.3)
 
--- behind a byte that breaks a rule no certificate's text goes on
+-- after a byte that breaks a rule no certificate's text goes on
 no_front : (bytes : List ℕ) (fault : TextFault) → cert_at bytes ≡ Err fault → is_short fault ≡ false → IsFront bytes → ⊥
 no_front bytes fault e long h =
     let stays : Follows h.1 (cert_at bytes) (cert_at (bytes ++ h.1)) = cert_steady.stays bytes h.1 in

@@ -58,7 +58,7 @@ lines_first version room last bytes = none_before (lines_at version room last by
 
 -- ---- the steps of the reader of lines
 
--- behind a line up to its numbers, or the last line, this is still read
+-- after a line up to its numbers, or the last line, this is still read
 abbrev pub behind : Version → List Numbering → ℕ → Option ℕ → List ℕ → Parsed (List Numbering)
 behind version front room head more = by_head head (gives front more) (λ p. numbers_at 1000000 more >>= λ numbers. with_lines version (front ++ numbering p numbers.0 ∷ []) room p numbers.1)
 

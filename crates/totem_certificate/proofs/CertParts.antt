@@ -99,7 +99,7 @@ breaks_lines f version (suc room) last (l ∷ lines) left rest count rises here 
     let text : flat_map (line_text (process_text version)) (l ∷ lines) ++ rest ≡ head_text cert_words version (Some l.proc) ++ t.0 = append_assoc (line_text (process_text version) l) (flat_map (line_text (process_text version)) lines) rest ∙ line_parts version l t.0 (flat_map (line_text (process_text version)) lines ++ rest) (sym t.1) in
     rw (text, head_again cert_words version (room == 0) last (Some l.proc) t.0 cert_clear head, t.2, breaks_lines f version room l.proc lines left rest (omega arith) rises.2 here) refl
 
--- behind the first line, a certificate's fault is that of a line
+-- after the first line, a certificate's fault is that of a line
 cert_breaks : {P : Type 0} (bytes : List ℕ) (f : TextFault) → cert_at bytes ≡ Err f → (header_at cert_words bytes ≡ Err f → P) → (IsBehindLines bytes (HasFault f) → P) → P
 unfolding cert_at
 cert_breaks bytes f e first then =

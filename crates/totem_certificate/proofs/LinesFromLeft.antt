@@ -1,4 +1,4 @@
--- Rising lines and their numbers, from left to right.
+-- Ascending lines and their numbers, from left to right.
 use Rattle.std.specs.List.{AllByRecursion}
 use Rattle.std.proofs.Common.{ℕ, ◌<◌, ◌≤◌, List, ◌∷◌, length, arith}
 use Rattle.std.proofs.lemmas.List.Elements.{All-from_recursion, recursion_from_All}

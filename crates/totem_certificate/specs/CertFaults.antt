@@ -31,7 +31,7 @@ fault_name faults.End = codes "End"
 fault_name faults.Read = codes "Read"
 fault_name faults.Memory = codes "Memory"
 
--- a fault that the grammar of a certificate can give: none of members, and none of bytes behind the last line
+-- a fault that the grammar of a certificate can give: none of members, and none of bytes after the last line
 abbrev pub IsOwnFault : TextFault → Type 0
 IsOwnFault text.Header = Unit {0}
 IsOwnFault text.Word = Unit {0}

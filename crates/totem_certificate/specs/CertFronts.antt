@@ -12,9 +12,9 @@ abbrev pub IsFront : List ℕ → Type 0
 IsFront bytes = (cert : CertRecord) × (more : List ℕ) × IsCertificateOf cert × (cert_text cert ≡ bytes ++ more)
 
 -- ---- certificates whose last process need not rise: whether a process is above the one before is judged only at the
--- byte behind it, so that until then any process may be meant. All else is as in a certificate
+-- byte after it, so that until then any process may be meant. All else is as in a certificate
 
--- 0 to 32 lines, their processes strictly rising but for the last
+-- 0 to 32 lines, their processes strictly ascending but for the last
 pub record IsLooseCertificate (version : Version) (lines : List Numbering) : Type 0 where
   pub few : length lines ≤ 32
   pub rising : AllPairs IsBelowLine (but_last lines)

@@ -49,7 +49,7 @@ HasOrder version count last rest = BeginsBelow cert_words version (count == 32) 
 
 -- ---- TooMany
 
--- a line with a space behind its 1,000,000th number
+-- a line with a space after its 1,000,000th number
 pub record HasManyNumbers (version : Version) (count last : ℕ) (rest : List ℕ) : Type 0 where
   pub proc : ℕ
   pub numbers : List ℕ

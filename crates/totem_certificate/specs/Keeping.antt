@@ -32,7 +32,7 @@ IsLine = IsLineIn Two
 abbrev pub IsBelowLine : Numbering → Numbering → Type 0
 IsBelowLine a b = a.proc < b.proc
 
--- the lines of a certificate that texts of this version can write: 0 to 32, their processes strictly rising. Where a
+-- the lines of a certificate that texts of this version can write: 0 to 32, their processes strictly ascending. Where a
 -- version writes no lives, each process has life 1
 pub record IsCertificateIn (version : Version) (lines : List Numbering) : Type 0 where
   pub few : length lines ≤ 32

@@ -18,7 +18,7 @@ pub record IsRead (old new : Seen) (cert : CertRecord) : Type 0 where
   pub text : Consumes old.remaining new.remaining (cert_text cert)
 
 -- a certificate was read; the text is faulty as the grammar says, whatever follows the bytes that were taken, the last
--- of which is the first that breaks a rule; it was at its end and too short; the source failed in this call, behind
+-- of which is the first that breaks a rule; it was at its end and too short; the source failed in this call, after
 -- bytes that begin a text; or memory was refused
 abbrev pub ReadsCert : Seen → Seen → Result Certificate CertFault → Type 0
 ReadsCert old new (Ok c) = IsRead old new c

@@ -10,7 +10,7 @@ use totem_ids::{Refused, are_same, copied, rising};
 /// How many lines a certificate may have at most.
 const MOST: usize = 32;
 
-/// The lines of one certificate: 0 to 32 of them, their processes strictly rising.
+/// The lines of one certificate: 0 to 32 of them, their processes strictly ascending.
 #[derive(Debug, Drop)]
 pub struct Lines {
     list: Vec<Line>,

@@ -32,7 +32,7 @@ pub fn a_fault_is_no_text()
     ensures { (bytes : List ℕ) (fault : TextFault) → cert_at bytes ≡ Err fault → (cert : CertRecord) (rest : List ℕ) → IsCertificateOf cert → bytes ≡ cert_text cert ++ rest → ⊥ }
 {}
 
-/// The grammar gives neither a fault of members nor one of bytes behind the last line.
+/// The grammar gives neither a fault of members nor one of bytes after the last line.
 pub fn faults_are_its_own()
     ensures { (bytes : List ℕ) (fault : TextFault) → cert_at bytes ≡ Err fault → IsOwnFault fault }
 {}
@@ -43,7 +43,7 @@ pub fn fault_is_first()
 {}
 
 /// Where the grammar finds the input too short, some text of a certificate goes on from it, but for this: its last process
-/// need not be above the one before. Whether a process rises is judged only at the byte behind it.
+/// need not be above the one before. Whether a process is above the one before is judged only at the byte after it.
 pub fn cut_text_goes_on()
     ensures { (bytes : List ℕ) → cert_at bytes ≡ Err Truncated → IsLooseFront bytes }
 {}
@@ -73,7 +73,7 @@ pub fn number_is_of_a_number()
 {}
 
 /// Order is the fault exactly where fewer than 32 lines have come and a line begins whose process, complete at the byte
-/// behind it, is not above the last one.
+/// after it, is not above the last one.
 #[tactic(auto, using(crate::proofs::CertParts::cert_order))]
 pub fn order_is_of_a_line_that_does_not_rise()
     ensures { (bytes : List ℕ) → (cert_at bytes ≡ Err Order) ↔ IsBehindLines bytes HasOrder }

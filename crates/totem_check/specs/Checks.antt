@@ -58,7 +58,7 @@ Checks run lines (Err faults.SharedPosition) = Answers run lines (Err certificat
 Checks run lines (Err (faults.Broken fault)) = Certified run lines × IsFirstFault run fault
 Checks run lines (Err faults.Memory) = Matches run lines × Rise run lines
 
--- of what was refused nothing is acceptable, want of memory aside
+-- of what was refused nothing is acceptable, but for out of memory
 abbrev pub RefusesRightly : List Log → List Numbering → Result Accepted CheckFault → Type 0
 RefusesRightly run lines (Ok accepted) = Unit {0}
 RefusesRightly run lines (Err faults.Memory) = Unit {0}

@@ -4,7 +4,7 @@ use std::alloc::{AllocError, Global};
 use totem_evs::{Pending, Waiting};
 
 /// What the checker accepts: the certificate certifies the run, the run meets the specifications, and these lists, in
-/// rising order, say what is pending and who waits.
+/// ascending order, say what is pending and who waits.
 #[derive(Debug, Drop)]
 pub struct Accepted {
     pub pending: Vec<Pending>,

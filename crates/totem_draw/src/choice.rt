@@ -16,7 +16,7 @@ const PLACES: usize = 32;
 /// How many further entries are drawn, at most, of the messages at the places.
 const FOLLOWED: usize = 150;
 
-/// What is drawn: all, or what lies around these places and tells of these messages.
+/// What is drawn: all, or what lies around these places and concerns these messages.
 #[derive(Drop)]
 struct Choice<'a> {
     is_whole: bool,
@@ -63,7 +63,7 @@ impl<'a> Choice<'a> {
         places.any(|near| near.proc == place.proc && near.at.abs_diff(place.at) <= AROUND)
     }
 
-    /// Returns whether an entry tells of one of the messages, and notes that it is drawn if so.
+    /// Returns whether an entry concerns one of the messages, and notes that it is drawn if so.
     fn is_followed(&mut self, entry: &Entry) -> bool {
         if self.left == 0 {
             return false;

@@ -57,7 +57,7 @@ impl Frame {
         self.top.saturating_add(LANE / 2).saturating_add(lanes)
     }
 
-    /// Returns where a delivery that is pending lies: behind all slots.
+    /// Returns where a delivery that is pending lies: after all slots.
     pub fn behind(&self) -> u32 {
         self.middle(self.slots)
     }

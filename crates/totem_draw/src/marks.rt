@@ -4,7 +4,7 @@ use totem_evs::Run;
 use totem_explain::{entry_at, event_of, place_name};
 use totem_ids::Place;
 
-/// How many places are told of in words.
+/// How many places are described in words.
 const TOLD: usize = 12;
 
 /// Returns the number of a place among those that are marked, counted from 1, or `None` if it is not.
@@ -21,7 +21,7 @@ pub fn told(alloc: Global, run: &Run, place: Place) -> Result<String, AllocError
     }
 }
 
-/// Returns a line for each place: its number, the place, and what happened there. Of many places the first are told.
+/// Returns a line for each place: its number, the place, and what happened there. Of many places the first are described.
 pub fn lines_of(alloc: Global, run: &Run, places: &[Place]) -> Result<Vec<String>, AllocError> {
     let mut lines = Vec::new(alloc);
     let mut number = 0u32;

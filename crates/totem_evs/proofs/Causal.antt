@@ -90,7 +90,7 @@ module _ (run : List Log) (lines : List Numbering) (cert : Certified run lines) 
       start : StandsIn (log_of run p₀) i₀ (Regular c)
       start = stands_send p₀ i₀ m (Regular c) first
 
-      -- the change to c behind the first send
+      -- the change to c after the first send
       abbrev origin : Place
       origin = place p₀ (stands_send p₀ i₀ m (Regular c) first).from
 

@@ -15,7 +15,7 @@ use Rattle.totem_evs.proofs.ExampleSteps.{InLog, in_log, in_run, open_ended}
 use Rattle.totem_evs.proofs.ExampleGood.{one_or_two}
 use Rattle.totem_evs.proofs.ExampleOpen.{never_fails as never_fails_in, open_in, missing}
 
--- the entry is no change behind the first
+-- the entry is no change after the first
 abbrev Alone : ℕ → Entry → Type 0
 Alone i (Conf x members) = i ≡ 0
 Alone i (Send m x service) = Unit {0}

@@ -101,7 +101,7 @@ breaks_rest (part ∷ ps) stage g bytes end rest f h reads fault =
     ∙ ap (λ (r : Parsed (Option Part)). r >>= λ x. behind stage g x.0 x.1) reads.1
     ∙ breaks_rest ps (next_stage stage part) (gathered g part) reads.0 end rest f (stands_next stage g part h (comes stage (Some part) bytes reads.0 reads.1)) reads.2 fault
 
--- behind the first line, a run's fault is that of a part
+-- after the first line, a run's fault is that of a part
 run_breaks : {P : Type 0} (bytes : List ℕ) (f : TextFault) → run_at bytes ≡ Err f → (header_at run_words bytes ≡ Err f → P) → (IsInPart bytes (HasFault f) → P) → P
 run_breaks bytes f e first then =
     bind_case (header_at run_words bytes) (λ v. rest_at (first_stage v.0) none_gathered v.1) f (sym (first_step bytes) ∙ e) first

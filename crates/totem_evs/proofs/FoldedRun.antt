@@ -24,7 +24,7 @@ use Rattle.totem_evs.proofs.PassedOn.{run_none}
 use Rattle.totem_evs.proofs.Folding.{rest_at, behind, step, first_step}
 use Rattle.totem_evs.proofs.Gathers.{GathersIn, limits, goes_gathers, least_lacks}
 
--- what was read so far comes to what is still read behind these logs
+-- what was read so far comes to what is still read after these logs
 pub record Folded (a b : Seen) (s : ReadState) (g : GatheredLogs) : Type 0 where
   pub so_far : Comes a b run_at (rest_at s.stage g)
   pub gathers : GathersIn s g

@@ -26,16 +26,16 @@ rest_in version logs last (Some log) g bytes = with_entries version last g.entri
 abbrev logs_left : Stage → GatheredLogs → List ℕ → Parsed (List Log)
 logs_left stage g bytes = rest_in stage.version stage.logs stage.last stage.log g bytes
 
--- the same behind this part, or behind the last line
+-- the same after this part, or after the last line
 abbrev logs_behind : Stage → GatheredLogs → Option Part → List ℕ → Parsed (List Log)
 logs_behind stage g None rest = Ok (g.logs, rest)
 logs_behind stage g (Some part) rest = logs_left (next_stage stage part) (gathered g part) rest
 
--- what is still read behind these logs
+-- what is still read after these logs
 abbrev pub rest_at : Stage → GatheredLogs → List ℕ → Parsed RunRecord
 rest_at stage g bytes = logs_left stage g bytes >>= as_run stage.version
 
--- what is still read behind this part, or behind the last line
+-- what is still read after this part, or after the last line
 abbrev pub behind : Stage → GatheredLogs → Option Part → List ℕ → Parsed RunRecord
 behind stage g None rest = Ok (record { version = stage.version; logs = g.logs }, rest)
 behind stage g (Some part) rest = rest_at (next_stage stage part) (gathered g part) rest
@@ -71,7 +71,7 @@ step_between version logs last g le bytes =
     go (Ok head) = headed head.0 head.1
     go (Err f) = refl
 
--- the logs behind the one that is open
+-- the logs after the one that is open
 abbrev finish : Version → ℕ → ℕ → GatheredLogs → Log × List ℕ → Parsed (List Log)
 finish version logs last g l = with_logs version (g.logs ++ l.0 ∷ []) (33 - logs) last l.1
 
@@ -105,7 +105,7 @@ step_in : (version : Version) (logs last : ℕ) (log : Option OpenLog) (g : Gath
 step_in version logs last None g few entries proc bytes = step_between version logs last g few bytes
 step_in version logs last (Some log) g few entries proc bytes = step_within version logs last log g entries proc bytes
 
--- the next part, and what is still read behind it
+-- the next part, and what is still read after it
 pub step : (stage : Stage) (g : GatheredLogs) → stage.logs ≤ 32 → FewEntries stage.log → OfLast stage.log stage.last g.proc → (bytes : List ℕ) → rest_at stage g bytes ≡ (part_at stage bytes >>= λ x. behind stage g x.0 x.1)
 step stage g few entries proc bytes = ap (λ (r : Parsed (List Log)). r >>= as_run stage.version) (step_in stage.version stage.logs stage.last stage.log g few entries proc bytes) ∙ go (part_at stage bytes)
   where
@@ -125,6 +125,6 @@ version_kept stage (parts.Log p) = refl
 version_kept stage (parts.Entry e) = refl
 version_kept stage (parts.Close ending) = refl
 
--- the first line, and what is still read behind it
+-- the first line, and what is still read after it
 pub first_step : (bytes : List ℕ) → run_at bytes ≡ (header_at run_words bytes >>= λ v. rest_at (first_stage v.0) none_gathered v.1)
 first_step bytes = run_first bytes

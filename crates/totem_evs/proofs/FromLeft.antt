@@ -1,4 +1,4 @@
--- Rising lists, from left to right.
+-- Ascending lists, from left to right.
 use Rattle.std.proofs.Common.{ℕ, ◌<◌, ◌≤◌, List, length, arith}
 use Rattle.std.proofs.lemmas.List.Elements.{All-from_recursion, recursion_from_All}
 use Rattle.totem_ids.specs.declared.version.Version.{Version}

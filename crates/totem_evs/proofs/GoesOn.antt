@@ -138,7 +138,7 @@ number_cut max (b ∷ bytes) nine fits e = inr (go (is_digit b) (b == 48) refl r
         (found.0, found.1, ap (λ (t : List ℕ). t ++ bytes) (sym text) ∙ found.2)
     go false u digit zero' k = absurd cc
 
--- a number in range, and a byte behind it
+-- a number in range, and a byte after it
 abbrev pub NumberTo : ℕ → ℕ → List ℕ → Type 0
 NumberTo max end t = (n : ℕ) × IsUpTo max n × (t ≡ decimal n ++ end ∷ [])
 

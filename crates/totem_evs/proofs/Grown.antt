@@ -1,4 +1,4 @@
--- Rising lists that grow at their end.
+-- Ascending lists that grow at their end.
 use Rattle.std.specs.Prelude.{All, AllPairs}
 use Rattle.std.proofs.Common.{ℕ, ◌<◌, ◌≤◌, List, [], ◌∷◌, ◌++◌, length, arith}
 use Rattle.std.proofs.lemmas.List.Quantifiers.{all_pairs_push}

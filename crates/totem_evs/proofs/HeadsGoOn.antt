@@ -93,7 +93,7 @@ head_cut words version full last bytes =
 abbrev pub HeaderTo : Words → List ℕ → Type 0
 HeaderTo words t = (version : Version) × HasVersion words version × (t ≡ first_line words version)
 
--- the first line, by what is behind its words
+-- the first line, by what is after its words
 header_to : (words : Words) (version : Version) (u : List ℕ) → HasVersion words version → u ≡ version_digit version ∷ 10 ∷ [] → HeaderTo words (words.title ++ u)
 header_to words version u has e = (version, has, ap (λ (k : List ℕ). words.title ++ k) e ∙ sym (append_assoc words.title (version_digit version ∷ []) (10 ∷ [])))
 

@@ -212,7 +212,7 @@ message_end = message_text first_message ++ 10 ∷ []
 send_whole : (x s m : List ℕ) → 115 ∷ (codes "end " ++ ((x ++ 32 ∷ []) ++ (s ++ (codes " " ++ (m ++ 10 ∷ []))))) ≡ (codes "send " ++ x ++ codes " " ++ s ++ codes " " ++ m) ++ 10 ∷ []
 send_whole x s m = simp append_assoc
 
--- what is behind the configuration of a send
+-- what is after the configuration of a send
 send_tail : (version : Version) (full some failed : Bool) (x : ConfId) (rest : List ℕ) → full ≡ false → IsConf x
     → Cut (service_at rest >>= λ service. word_at faults.Word (codes " ") service.1 >>= λ space. message_at 10 space.1 >>= λ m. Ok (lines.Entry (Send m.0 x service.0), m.1)) (λ u. LineTo version full some failed (115 ∷ (codes "end " ++ ((conf_text x ++ 32 ∷ []) ++ u)))) rest
 unfolding message_end

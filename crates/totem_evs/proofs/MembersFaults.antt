@@ -43,7 +43,7 @@ NotMany faults.TooMany = ⊥
 pub names_not_many : OfNames NotMany
 names_not_many = record { word = tt; number = tt; short = tt }
 
--- rising members, as many as there may be, and a space
+-- ascending members, as many as there may be, and a space
 record IsFull (version : Version) (room last : ℕ) (bytes : List ℕ) : Type 0 where
   members : List ℕ
   rest : List ℕ
@@ -216,7 +216,7 @@ unfolding last_from
 last_from_end last x [] = refl
 last_from_end last x (p ∷ front) = last_from_end (id_of p) x front
 
--- rising members, and one that is not above them
+-- ascending members, and one that is not above them
 record Falls (version : Version) (room last : ℕ) (bytes : List ℕ) : Type 0 where
   members : List ℕ
   member : ℕ

@@ -1,5 +1,5 @@
 -- In a run that the first two passes let through, each transitional configuration follows a regular one, and what stands
--- in a configuration stands behind a change to it.
+-- in a configuration stands after a change to it.
 use Rattle.std.proofs.Common.{◌≡◌, ◌⊎◌, inl, inr, ℕ, zero, suc, ◌<◌, List, slice_get, Option, Some, None, refl, arith}
 use Rattle.totem_ids.specs.declared.ring.RingId.{RingId}
 use Rattle.totem_ids.specs.declared.conf.ConfId.{ConfId}

@@ -54,7 +54,7 @@ line_case {P = P} version full some failed bytes f long fits e change send deliv
     byte_pick b 113 (quiet_at (writes_quiet version) some failed rest) (Err faults.Word) (Err f) k (λ h. quiet rest (is ∙ ap (λ (c : ℕ). c ∷ rest) h)) (λ k.
     absurd (fits (let same : faults.Word ≡ f = cc in sym same)))))))))
 
--- a failure, or the closing word of a log that ends in one, by the byte behind `fail`
+-- a failure, or the closing word of a log that ends in one, by the byte after `fail`
 pub ail_case : {P : Type 0} (full failed : Bool) (bytes : List ℕ) (f : TextFault) → f ≢ faults.Truncated → f ≢ faults.Word → ail_at full failed bytes ≡ Err f
     → ((rest : List ℕ) → bytes ≡ codes "aile" ++ rest → failed_at failed rest ≡ Err f → P)
     → ((rest : List ℕ) → bytes ≡ codes "ail " ++ rest → fail_at full rest ≡ Err f → P)

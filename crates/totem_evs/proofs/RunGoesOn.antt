@@ -174,7 +174,7 @@ run_cut bytes =
 pub cut_front : (bytes : List ℕ) → run_at bytes ≡ Err faults.Truncated → IsLooseFront bytes
 cut_front bytes e = let found = (run_cut bytes).goes e in (found.1.0, found.0, found.1.1, found.1.2)
 
--- behind a byte that breaks a rule no run's text goes on
+-- after a byte that breaks a rule no run's text goes on
 no_front : (bytes : List ℕ) (fault : TextFault) → run_at bytes ≡ Err fault → is_short fault ≡ false → IsFront bytes → ⊥
 no_front bytes fault e long h =
     let stays : Follows h.1 (run_at bytes) (run_at (bytes ++ h.1)) = run_steady.stays bytes h.1 in

@@ -107,7 +107,7 @@ change_parts x ms rest = simp append_assoc
 pub fail_parts : (x rest : List ℕ) → (codes "fail " ++ x ++ 10 ∷ []) ++ rest ≡ 102 ∷ (codes "ail" ++ 32 ∷ (x ++ 10 ∷ rest))
 fail_parts x rest = simp append_assoc
 
--- what a part of a line is read as, behind its first letter
+-- what a part of a line is read as, after its first letter
 pub record Fits (version : Version) (full some failed : Bool) (letter : ℕ) (bytes : List ℕ) (l : Line) (rest : List ℕ) : Type 0 where
   pub is : IsLine version full some failed l
   pub spelled : letter ∷ bytes ≡ line_text version l ++ rest

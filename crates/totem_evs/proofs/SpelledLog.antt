@@ -172,7 +172,7 @@ lines_again version (suc room) some failed (e ∷ es) ending rest is =
 
 -- ---- logs
 
--- the lines of a log behind its first one
+-- the lines of a log after its first one
 abbrev pub body_text : Version → List Entry → Ending → List ℕ → List ℕ
 body_text version entries ending rest = entries_text version entries ++ (line (ending_text ending) ++ rest)
 

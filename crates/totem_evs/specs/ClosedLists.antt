@@ -85,7 +85,7 @@ abbrev pub unless : Place → Place → List Place
 unless e f = if same_place e f then [] else e ∷ []
 
 -- the steps of a walk in forward order, the last one first: of each what it came from and where it led. An entry that
--- equals what is written behind it is left out; p stands behind the whole
+-- equals what is written after it is left out; p stands after the whole
 abbrev pub forward : Place → List Step → List Place
 forward p [] = []
 forward p (v ∷ vs) = forward v.from vs ++ (v.from ∷ unless v.to p)

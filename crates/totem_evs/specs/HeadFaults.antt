@@ -20,7 +20,7 @@ pub record Differs (word bytes : List ℕ) : Type 0 where
   pub is_bytes : bytes ≡ front ++ byte ∷ rest
   pub differs : byte ≢ wanted
 
--- the words of the first line differ; or the digit of its version is of none; or no line end is behind it
+-- the words of the first line differ; or the digit of its version is of none; or no line end is after it
 abbrev pub BreaksFirstLine : Words → List ℕ → Type 0
 BreaksFirstLine words bytes =
     Differs words.title bytes
@@ -29,7 +29,7 @@ BreaksFirstLine words bytes =
 
 -- ---- a record
 
--- a record begins whose process is complete at the byte behind it and not above `last`, where a record may begin
+-- a record begins whose process is complete at the byte after it and not above `last`, where a record may begin
 pub record BeginsBelow (words : Words) (version : Version) (full : Bool) (last : ℕ) (bytes : List ℕ) : Type 0 where
   pub proc : ℕ
   pub byte : ℕ

@@ -11,7 +11,7 @@ use Rattle.totem_ids.specs.Processes.{process_then}
 use Rattle.totem_evs.specs.RunText.{line, version_digit}
 
 -- what differs: the words of the first line, up to its version; whether there is a third version; and of the line with
--- which a record begins the first letter, what is behind it up to the process, and the byte behind the process
+-- which a record begins the first letter, what is after it up to the process, and the byte after the process
 pub record Words : Type 0 where
   pub title : List ℕ
   pub third : Bool
@@ -29,14 +29,14 @@ HasVersion words Three = words.third ≡ true
 abbrev pub first_line : Words → Version → List ℕ
 first_line words version = line (words.title ++ version_digit version ∷ [])
 
--- the process of a record, above `last`, and the byte behind it
+-- the process of a record, above `last`, and the byte after it
 unfoldable pub proc_at : Words → Version → ℕ → List ℕ → Parsed ℕ
 proc_at words version last bytes = do
   w ← word_at faults.Word words.word bytes
   p ← process_then version w.1
   if nat_le p.0.0 last then Err faults.Order else if p.0.1 == words.behind then Ok (p.0.0, p.1) else Err faults.Word
 
--- a record up to what is behind its process; full: no further record is allowed
+-- a record up to what is after its process; full: no further record is allowed
 unfoldable pub begin_at : Words → Version → Bool → ℕ → List ℕ → Parsed (Option ℕ)
 begin_at words version full last bytes = if full then Err faults.TooMany else do
   p ← proc_at words version last bytes
@@ -59,7 +59,7 @@ abbrev pub by_head : {Y : Type 0} → Option ℕ → Y → (ℕ → Y) → Y
 by_head None ends begins = ends
 by_head (Some p) ends begins = begins p
 
--- the further records, one less than room of them, and the last line; rest_at reads what is behind the process of a record,
+-- the further records, one less than room of them, and the last line; rest_at reads what is after the process of a record,
 -- which is made of both
 unfoldable pub records_at : {X R : Type 0} → Words → (Version → ℕ → List ℕ → Parsed X) → (ℕ → X → R) → Version → ℕ → ℕ → List ℕ → Parsed (List R)
 records_at words rest_at made version zero last bytes = Err faults.TooMany

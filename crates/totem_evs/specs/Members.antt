@@ -9,7 +9,7 @@ use Rattle.totem_ids.specs.Ranks.{id_of}
 abbrev pub IsBelow : ℕ → ℕ → Type 0
 IsBelow p q = id_of p < id_of q
 
--- 1 to 32 processes that texts of this version can write, their identifiers strictly rising: of an identifier there is
+-- 1 to 32 processes that texts of this version can write, their identifiers strictly ascending: of an identifier there is
 -- one life at most
 pub record IsMembersIn (version : Version) (members : List ℕ) : Type 0 where
   pub some : 0 < length members

@@ -6,7 +6,7 @@ use Rattle.totem_evs.specs.declared.stage.OpenLog.{OpenLog}
 use Rattle.totem_evs.specs.declared.lines.Line.TheVariants as lines
 
 -- in a log that is full or not and has some entries, the last a failure or not: an entry while it is not full, `open`
--- behind an entry that is no failure, so also `quiet` where that is written, and `failed` behind a failure
+-- after an entry that is no failure, so also `quiet` where that is written, and `failed` after a failure
 abbrev pub MayFollow : Bool → Bool → Bool → Bool → Line → Type 0
 MayFollow written full some failed (lines.Entry e) = full ≡ false
 MayFollow written full some failed (lines.Close Standing) = (some ≡ true) × (failed ≡ false)

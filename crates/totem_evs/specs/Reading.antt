@@ -22,7 +22,7 @@ use Rattle.totem_evs.specs.ReadState.{ReadState, IsFirst, IsPart, Goes, MayCome}
 
 -- the answer fits; a log is missing; the text is faulty as the grammar says, whatever follows the bytes that were
 -- taken, the last of which is the first that breaks a rule; it was at its end and too short; the source failed in this
--- call, behind bytes that begin a text; or memory was refused
+-- call, after bytes that begin a text; or memory was refused
 abbrev pub ReadsAs : {X Y : Type 0} → Seen → Seen → (List ℕ → Parsed X) → (Y → Type 0) → (WrittenProc → Type 0) → Result Y RunFault → Type 0
 ReadsAs old new parse Fits Lacks (Ok y) = Fits y
 ReadsAs old new parse Fits Lacks (Err faults.Header) = BreaksAt old new parse text.Header
@@ -61,7 +61,7 @@ pub record HasEnded (old new : Seen) (s : ReadState) : Type 0 where
   pub taken : Comes old new (part_at s.stage) (λ more. Ok (None, more))
   pub comes : MayCome s.stage None
 
--- a part with the state behind it, or the end, where no member waits
+-- a part with the state after it, or the end, where no member waits
 abbrev pub FitsNext : Seen → Seen → ReadState → Next → Type 0
 FitsNext old new s (next.Part part t) = HasPart old new s part t
 FitsNext old new s next.End = HasEnded old new s × ((q : ℕ) → Contains s.waiting q → ⊥)
@@ -70,7 +70,7 @@ FitsNext old new s next.End = HasEnded old new s × ((q : ℕ) → Contains s.wa
 abbrev pub LacksLog : Seen → Seen → ReadState → WrittenProc → Type 0
 LacksLog old new s p = HasEnded old new s × (p.version ≡ s.stage.version) × Contains s.waiting p.process × ((q : ℕ) → Contains s.waiting q → p.process ≤ q)
 
--- a part with the state behind it, or the end, where no member waits
+-- a part with the state after it, or the end, where no member waits
 abbrev pub FitsPart : Seen → Seen → ReadState → ReadState → Option Part → Type 0
 FitsPart old new s t (Some part) = HasPart old new s part t
 FitsPart old new s t None = HasEnded old new s × ((q : ℕ) → Contains s.waiting q → ⊥)

@@ -28,7 +28,7 @@ is_failure (Send m x service) = false
 is_failure (Deliver m x) = false
 is_failure (Fail x) = true
 
--- members above the identifier `last`, and the line end behind them; at most room of them
+-- members above the identifier `last`, and the line end after them; at most room of them
 unfoldable pub members_at : Version → ℕ → ℕ → List ℕ → Parsed (List ℕ)
 members_at version zero last bytes = Err faults.TooMany
 members_at version (suc room) last bytes = do
@@ -38,7 +38,7 @@ members_at version (suc room) last bytes = do
       else if p.0.1 == 32 then (members_at version room (id_of p.0.0) p.1 >>= λ others. Ok (p.0.0 ∷ others.0, others.1))
       else Err faults.Word
 
--- ---- the lines of a log, behind their first letters; full: no further entry is allowed
+-- ---- the lines of a log, after their first letters; full: no further entry is allowed
 
 -- a change
 unfoldable pub change_at : Version → Bool → List ℕ → Parsed Line
@@ -125,13 +125,13 @@ lines_at version (suc room) some failed bytes = do
   l ← line_at version (room == 0) some failed bytes
   by_line l.0 (λ ending. Ok (([], ending), l.1)) (λ e. lines_at version room true (is_failure e) l.1 >>= λ others. Ok ((e ∷ others.0.0, others.0.1), others.1))
 
--- the log of p, behind its first line
+-- the log of p, after its first line
 unfoldable pub log_at : Version → ℕ → List ℕ → Parsed Log
 log_at version p bytes = do
   body ← lines_at version 1000001 false false bytes
   Ok (record { proc = p; entries = body.0.0; ending = body.0.1 }, body.1)
 
--- the words of a run's text: `totem-run`, in three versions, and `log`, behind whose process the line ends
+-- the words of a run's text: `totem-run`, in three versions, and `log`, after whose process the line ends
 abbrev pub run_words : Words
 run_words = record { title = codes "totem-run "; third = true; letter = 108; word = codes "og "; behind = 10 }
 

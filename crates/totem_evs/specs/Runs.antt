@@ -60,7 +60,7 @@ IsLog = IsLogIn Three
 abbrev pub IsBelowLog : LogRecord → LogRecord → Type 0
 IsBelowLog a b = a.proc < b.proc
 
--- the logs of a run that texts of this version can write: 0 to 32, their processes strictly rising. Where a version
+-- the logs of a run that texts of this version can write: 0 to 32, their processes strictly ascending. Where a version
 -- writes no lives, each process has life 1, and where it has no word for it, no log is quiet
 pub record IsRunIn (version : Version) (logs : List LogRecord) : Type 0 where
   pub few : length logs ≤ 32

@@ -63,7 +63,7 @@ pub record IsPast (max : ℕ) (bytes : List ℕ) : Type 0 where
 abbrev pub IsNoNumber : ℕ → List ℕ → Type 0
 IsNoNumber max bytes = ((byte : ℕ) × (rest : List ℕ) × (bytes ≡ byte ∷ rest) × ((is_digit byte ≡ false) ⊎ (byte ≡ 48))) ⊎ IsPast max bytes
 
--- behind some of the bytes a grammar reads a number up to `max`, whatever comes there, and none begins
+-- after some of the bytes a grammar reads a number up to `max`, whatever comes there, and none begins
 pub record BreaksNumber {Y : Type 0} (parse : List ℕ → Parsed Y) (bytes : List ℕ) : Type 0 where
   pub front : List ℕ
   pub max : ℕ
@@ -86,7 +86,7 @@ HasOrder stage rest = OrderIn stage.version stage.logs stage.last stage.log rest
 
 -- ---- Members
 
--- a change with a member that is complete at the byte behind it and whose identifier is not above that of the one before
+-- a change with a member that is complete at the byte after it and whose identifier is not above that of the one before
 pub record IsMemberBelow (version : Version) (full : Bool) (bytes : List ℕ) : Type 0 where
   pub conf : ConfId
   pub front : List ℕ
@@ -132,14 +132,14 @@ HasEnd stage rest = EndIn stage.version stage.log rest
 -- ---- TooMany
 
 -- an entry begins in a log that may have none: by its first letter; where the last entry is a failure, `f` may still
--- become `failed`, and the space behind `fail` is too many
+-- become `failed`, and the space after `fail` is too many
 abbrev pub BeginsEntry : Bool → List ℕ → Type 0
 BeginsEntry failed bytes =
     ((rest : List ℕ) × ((bytes ≡ codes "c" ++ rest) ⊎ (bytes ≡ codes "s" ++ rest) ⊎ (bytes ≡ codes "d" ++ rest)))
     ⊎ ((rest : List ℕ) × (failed ≡ false) × (bytes ≡ codes "f" ++ rest))
     ⊎ ((rest : List ℕ) × (failed ≡ true) × (bytes ≡ codes "fail " ++ rest))
 
--- a change with a space behind its 32nd member
+-- a change with a space after its 32nd member
 pub record HasManyMembers (version : Version) (bytes : List ℕ) : Type 0 where
   pub conf : ConfId
   pub members : List ℕ

@@ -16,7 +16,7 @@ use Rattle.totem_evs.specs.RunText.{run_text}
 abbrev pub IsFront : List ℕ → Type 0
 IsFront bytes = (run : RunRecord) × (more : List ℕ) × IsRunOf run × (run_text run ≡ bytes ++ more)
 
--- ---- runs whose last process need not rise: whether a process is above the one before is judged only at the byte behind
+-- ---- runs whose last process need not rise: whether a process is above the one before is judged only at the byte after
 -- it, so that until then any process may be meant. The last log need not be above the one before, nor the last member of
 -- the last entry; all else is as in a run
 

@@ -38,12 +38,12 @@ PendingBelow a b = (a.proc < b.proc) ⊎ ((a.proc ≡ b.proc) × MessageBelow a.
 abbrev pub WaitingBelow : Waiting → Waiting → Type 0
 WaitingBelow a b = (a.proc < b.proc) ⊎ ((a.proc ≡ b.proc) × ConfBelow a.conf b.conf) ⊎ ((a.proc ≡ b.proc) × (a.conf ≡ b.conf) × (a.other < b.other))
 
--- all that is pending, in rising order
+-- all that is pending, in ascending order
 pub record ArePending (run : List Log) (list : List Pending) : Type 0 where
   pub rising : AllPairs PendingBelow list
   pub exact : (q : ℕ) (m : MsgId) → Contains list (record { proc = q; msg = m }) ↔ IsPending run q m
 
--- all who wait, and for whom, in rising order
+-- all who wait, and for whom, in ascending order
 pub record AreWaiting (run : List Log) (list : List Waiting) : Type 0 where
   pub rising : AllPairs WaitingBelow list
   pub exact : (p : ℕ) (x : ConfId) (q : ℕ) → Contains list (record { proc = p; conf = x; other = q }) ↔ IsWaiting run p x q

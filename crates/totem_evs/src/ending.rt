@@ -6,7 +6,7 @@ use totem_ids::Version;
 /// How a log ends.
 #[derive(Clone, Copy, Debug, PartialEq, Eq, PartialOrd, Ord, Hash)]
 pub enum Ending {
-    /// `open`: more may have come behind it.
+    /// `open`: more may have come after it.
     Standing,
     /// `failed`: the last entry is a failure.
     Failed,
@@ -14,7 +14,7 @@ pub enum Ending {
     Quiet,
 }
 
-/// Whether a text of this version can close a log as quiet.
+/// Returns whether a text of this version can close a log as quiet.
 pub(crate) fn may_be_quiet(version: Version) -> bool
     ensures { result ≡ writes_quiet version }
 {

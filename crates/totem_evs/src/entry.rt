@@ -21,7 +21,7 @@ pub enum Entry {
 }
 
 impl Entry {
-    /// Tells contracts that names are in range and members rise: the types of the entry's parts see to that.
+    /// Lets contracts know that names are in range and members are ascending: the types of the entry's parts see to that.
     pub(crate) fn keeps_its_rule(&self)
         ensures { IsEntry self.now }
     {

@@ -1,4 +1,4 @@
-//! What a text of records is made of: a first line with its version, records that rise by their processes, and a last line.
+//! What a text of records is made of: a first line with its version, records that are ascending by their processes, and a last line.
 ghost use Rattle.std.specs.Prelude.{◌≡◌};
 ghost use Rattle.totem_evs.specs.Heads.{Words};
 ghost use Rattle.totem_evs.specs.RunGrammar.{run_words};
@@ -24,7 +24,7 @@ pub trait Form {
     fn word() -> &'static [u8]
         ensures { result.now ≡ words.word };
 
-    /// Returns the byte behind the process of a record.
+    /// Returns the byte after the process of a record.
     fn behind() -> u8
         ensures { result ≡ words.behind };
 }

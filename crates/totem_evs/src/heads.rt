@@ -94,7 +94,7 @@ fn read_last<S: Source>(source: &mut S) -> Result<Option<Proc>, ReadError>
     Ok(None)
 }
 
-/// Reads the next record up to what is behind its process and returns the process, whose rank has to be above `last`, or
+/// Reads the next record up to what is after its process and returns the process, whose rank has to be above `last`, or
 /// reads the last line and returns `None`. If the text is `full`, no record may begin.
 #[tactic(auto, using(crate::proofs::ReaderSteps::reader_steps), unfolding(crate::specs::Heads::head_at))]
 pub fn read_head<F: Form, S: Source>(

@@ -10,7 +10,7 @@ use totem_ids::{Refused, are_same, copied, rising};
 /// How many logs a run may have at most.
 const MOST: usize = 32;
 
-/// The logs of one run: 0 to 32 of them, their processes strictly rising.
+/// The logs of one run: 0 to 32 of them, their processes strictly ascending.
 #[derive(Debug, Drop)]
 pub struct Logs {
     list: Vec<Log>,

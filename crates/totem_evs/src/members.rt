@@ -9,7 +9,7 @@ use totem_ids::{Proc, Refused, are_same, rising};
 /// How many members a configuration may have at most.
 const MOST: usize = 32;
 
-/// The members of a configuration: 1 to 32 processes whose identifiers strictly rise, so that there is one life of each.
+/// The members of a configuration: 1 to 32 processes whose identifiers are strictly ascending, so that there is one life of each.
 #[derive(Debug, Drop)]
 pub struct Members {
     procs: Vec<Proc>,

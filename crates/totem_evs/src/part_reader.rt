@@ -115,7 +115,7 @@ impl PartReader {
     ghost use Rattle.totem_evs.specs.Reading.{ReadsPart};
     ghost use Rattle.totem_evs.specs.declared.part.Part.TheVariants as parts;
 
-    /// Returns the reader behind the first line of a run of this version.
+    /// Returns the reader after the first line of a run of this version.
     pub fn new(alloc: Global, version: Version) -> PartReader
         ensures first { IsFirst version result }
         ensures limits { IsReadState result }

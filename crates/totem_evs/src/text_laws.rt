@@ -36,8 +36,8 @@ pub fn fault_is_first()
 {}
 
 /// Where the grammar finds the input too short, some text of a run goes on from it, but for this: its last log need not be
-/// above the one before, nor the last member of its last entry. Whether a process rises is judged only at the byte
-/// behind it.
+/// above the one before, nor the last member of its last entry. Whether a process ascends is judged only at the byte
+/// after it.
 pub fn cut_text_goes_on()
     ensures { (bytes : List ℕ) → run_at bytes ≡ Err Truncated → IsLooseFront bytes }
 {}
@@ -68,13 +68,13 @@ pub fn number_is_of_a_number()
 {}
 
 /// Order is the fault exactly where fewer than 32 logs have come and a log begins whose process, complete at the byte
-/// behind it, is not above the last one.
+/// after it, is not above the last one.
 #[tactic(auto, using(crate::proofs::FaultParts::run_order))]
 pub fn order_is_of_a_log_that_does_not_rise()
     ensures { (bytes : List ℕ) → (run_at bytes ≡ Err Order) ↔ IsInPart bytes HasOrder }
 {}
 
-/// Members is the fault exactly where a change has a member, at most its 32nd, that is complete at the byte behind it
+/// Members is the fault exactly where a change has a member, at most its 32nd, that is complete at the byte after it
 /// and not above the one before.
 #[tactic(auto, using(crate::proofs::FaultParts::run_members))]
 pub fn members_is_of_a_member_that_does_not_rise()

@@ -7,7 +7,7 @@ use std::alloc::{AllocError, Global};
 use totem_evs::{Ending, Log, Run};
 use totem_ids::{Place, Version};
 
-/// How many entries are shown in front of a place, and behind it.
+/// How many entries are shown in front of a place, and after it.
 const AROUND: u32 = 2;
 
 /// How many letters a row has at most, unless one column alone has more.
@@ -196,7 +196,7 @@ fn push_rows(text: &mut String, columns: &mut [Column], last: u32) -> Result<(),
     Ok(())
 }
 
-/// Adds the columns side by side, as many as there is room for, and the others below them.
+/// Adds the columns side by side, as many as there is space for, and the others below them.
 fn push_columns(
     alloc: Global,
     text: &mut String,

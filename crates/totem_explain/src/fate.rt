@@ -1,4 +1,4 @@
-//! What became of a process that owes something.
+//! What became of a process that has to deliver something.
 use crate::event::place_name;
 use crate::lookup::{change_behind, change_in, log_of};
 use std::alloc::{AllocError, Global};
@@ -23,7 +23,7 @@ impl Fate {
         !matches!(self, Fate::Failed(_) | Fate::StillThere(_))
     }
 
-    /// Returns what is told of it, behind the process.
+    /// Returns what is said about it, after the process.
     pub fn told(&self, alloc: Global, version: Version) -> Result<String, AllocError> {
         match self {
             Fate::WithoutLog => format!(in alloc; "has no log"),
@@ -48,7 +48,7 @@ fn end_of(log: &Log, conf: ConfId) -> Fate {
     }
 }
 
-/// Returns what comes behind the transitional configuration that follows, to which entry `at` changes.
+/// Returns what comes after the transitional configuration that follows, to which entry `at` changes.
 fn behind_following(log: &Log, conf: ConfId, at: u32) -> Fate {
     match change_behind(log, at) {
         Some((place, next)) => Fate::WentOn(next, place),
@@ -56,7 +56,7 @@ fn behind_following(log: &Log, conf: ConfId, at: u32) -> Fate {
     }
 }
 
-/// Returns what a process did behind entry `at` of its log, with which it stands in `conf`. The transitional configuration
+/// Returns what a process did after entry `at` of its log, with which it stands in `conf`. The transitional configuration
 /// that follows still counts as there.
 pub fn next_of(log: &Log, conf: ConfId, at: u32) -> Fate {
     match change_behind(log, at) {

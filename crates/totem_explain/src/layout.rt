@@ -27,7 +27,7 @@ impl Sends {
         })
     }
 
-    /// Returns whether a spot may lie here: a delivery lies behind its send, if that is shown.
+    /// Returns whether a spot may lie here: a delivery lies after its send, if that is shown.
     fn let_through(&self, spot: &Spot) -> bool {
         match spot.delivers() {
             Some(message) => self.placed.contains(&message) || !self.shown.contains(&message),
@@ -86,7 +86,7 @@ fn place_first(lanes: &mut [Lane], slot: u32, sends: &mut Sends) -> Result<bool,
     Ok(false)
 }
 
-/// Gives each spot its slot. The spots of a lane keep their order, and a delivery lies behind its send where that is shown; where
+/// Gives each spot its slot. The spots of a lane keep their order, and a delivery lies after its send where that is shown; where
 /// that can't be, since events come before themselves, the first lane goes on. Returns how many slots there are.
 pub fn lay_out(alloc: Global, lanes: &mut [Lane]) -> Result<u32, AllocError> {
     let mut sends = Sends::of(alloc, lanes)?;

@@ -80,7 +80,7 @@ pub fn change_before<'r>(log: &'r Log, at: u32) -> Option<(ConfId, &'r [Proc])> 
     last
 }
 
-/// Returns the first change of a log behind entry `at`, and its place.
+/// Returns the first change of a log after entry `at`, and its place.
 pub fn change_behind(log: &Log, at: u32) -> Option<(Place, ConfId)> {
     for (index, entry) in log.entries.as_slice().iter().enumerate() {
         if index < at as usize {

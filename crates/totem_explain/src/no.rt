@@ -11,7 +11,7 @@ use std::alloc::{AllocError, Global};
 use totem_evs::{Fault, Run, SpecNo};
 use totem_ids::Place;
 
-/// A fault, and what a person is told of it: lines, each with its end.
+/// A fault and its explanation: lines, each with its end.
 #[derive(Debug, Drop)]
 pub struct Explained {
     pub fault: Fault,
@@ -42,7 +42,7 @@ fn events(alloc: Global, run: &Run, places: &[Place]) -> Result<String, AllocErr
     Ok(text)
 }
 
-/// Returns what a person is told of a fault first: what is asked, and what happened at its places.
+/// Returns the beginning of a fault's explanation: what is required, and what happened at its places.
 fn beginning(alloc: Global, run: &Run, fault: &Fault) -> Result<String, AllocError> {
     let spec = fault.spec;
     let rule = rule_of(spec);
@@ -50,7 +50,7 @@ fn beginning(alloc: Global, run: &Run, fault: &Fault) -> Result<String, AllocErr
     format!(in alloc; "Specification {spec}: {rule}\n{events}")
 }
 
-/// Returns what a person is told of a fault.
+/// Returns the explanation of a fault.
 fn told(alloc: Global, run: &Run, fault: &Fault) -> Result<String, AllocError> {
     let beginning = beginning(alloc, run, fault)?;
     let reason = reason(alloc, run, fault)?;

@@ -15,7 +15,7 @@ fn failure_in(log: &Log) -> Option<Place> {
     None
 }
 
-/// Returns what a process did behind this place, at which it came to the configuration, or `None` if it changed no more.
+/// Returns what a process did after this place, at which it came to the configuration, or `None` if it changed no more.
 fn behind(
     alloc: Global,
     version: Version,
@@ -31,7 +31,7 @@ fn behind(
     }
 }
 
-/// Whether the last change of a log is to the configuration.
+/// Returns whether the last change of a log is to the configuration.
 fn ends_in(log: &Log, conf: &ConfId) -> bool {
     match change_before(log, u32::MAX) {
         Some((last, _)) => last.is(conf),

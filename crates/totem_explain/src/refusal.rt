@@ -30,7 +30,7 @@ const BEHIND: [(&[u8], &str); 5] = [
     ),
 ];
 
-/// What is told where a process stands without its life.
+/// What is printed where a process stands without its life.
 const WANT_OF_A_LIFE: &str =
     "A process without its life stands here: from version 2 on each is written with it, as in `2:1`. `tools/logs join --lives` adds lives to members.\n";
 
@@ -196,8 +196,8 @@ fn is_for_want_of_a_life(
     Ok(lacks_life(line.as_slice(), *refused))
 }
 
-/// Returns what a person is told of a text that is no run: its line with a caret under the byte that is refused, if the source knew its
-/// place, and what is wanted there. Nothing is told of a failed source or of want of memory.
+/// Returns the explanation of a text that is no run: its line with a caret under the byte that is refused, if the source knew its
+/// place, and what is expected there. Nothing is printed about a failed source or out of memory.
 pub fn explain_refusal(
     alloc: Global,
     fault: &RunFault,

@@ -26,7 +26,7 @@ fn push_sends(
 }
 
 /// Returns the entry in front of which the last change is to the configuration where a message had to be sent that entry `at` of the log
-/// delivers: behind a transitional change it is the regular one before it.
+/// delivers: after a transitional change it is the regular one before it.
 fn origin(log: &Log, at: u32) -> u32 {
     let Some((conf, _)) = change_before(log, at) else {
         return at;
@@ -46,7 +46,7 @@ fn last_of(log: &Log) -> Option<Place> {
     Some(place_of(log, index))
 }
 
-/// Returns what is told of a log that ends in the configuration, or before it came there, so that its last lines may be missing; nothing
+/// Returns what is said about a log that ends in the configuration, or before it came there, so that its last lines may be missing; nothing
 /// of another log, nor of one that is quiet.
 fn cut_off(
     alloc: Global,

@@ -88,7 +88,7 @@ fn push_headed(text: &mut String, heading: &str, lines: &str) -> Result<(), Allo
     write!(text, "{heading}\n{lines}")
 }
 
-/// Explains the yes of a run: how much was judged, what is pending and who waits for whom. Both lists rise, as the audit
+/// Explains the yes of a run: how much was judged, what is pending and who waits for whom. Both lists are ascending, as the audit
 /// gives them.
 pub fn explain_yes(
     alloc: Global,

@@ -41,7 +41,7 @@ life_strict = record {
 
 -- ---- what is read
 
--- a process that was read, with its life or of life 1, and the byte behind it
+-- a process that was read, with its life or of life 1, and the byte after it
 pub record IsProcessRead (lives : Bool) (rank b : ℕ) (bytes rest : List ℕ) : Type 0 where
   pub id_fits : IsProcess (id_of rank)
   pub life_fits : IsUpTo 65535 (life_of rank)

@@ -111,14 +111,14 @@ number_again max n b rest pos small fits other = reads_decimal n max n (b ∷ re
 digit_bounds : (b : ℕ) → is_digit b ≡ true → (48 ≤ b) × (b ≤ 57)
 digit_bounds b h = (grind arith, grind arith)
 
--- a number that was read, and the byte behind it
+-- a number that was read, and the byte after it
 pub record IsRead (max m b : ℕ) (bytes rest : List ℕ) : Type 0 where
   pub positive : 0 < m
   pub small : m ≤ max
   pub behind : is_digit b ≡ false
   pub spelled : bytes ≡ decimal m ++ b ∷ rest
 
--- the digits that were read, and the byte behind them, are the text of the number
+-- the digits that were read, and the byte after them, are the text of the number
 digits_are : (max n m b' : ℕ) (bytes rest : List ℕ) → max < 2 ^ 32 → 0 < n → n ≤ max → digits_at max n bytes ≡ Ok ((m, b'), rest)
     → IsRead max m b' (decimal n ++ bytes) rest
 unfolding digits_at

@@ -3,7 +3,7 @@ use Rattle.std.specs.Prelude.{◌≡◌, ℕ, ◌+◌, ◌<◌, ◌≤◌, List,
 use Rattle.totem_ids.specs.declared.refused.ListFault.{ListFault}
 use Rattle.totem_ids.specs.declared.refused.ListFault.TheVariants.{Empty, TooMany, NotRising, Life, Silence}
 
--- least to greatest elements, each of which is below all behind it and keeps its rule
+-- least to greatest elements, each of which is below all after it and keeps its rule
 pub record IsListOf {X : Type 0} (least greatest : ℕ) (Below : X → X → Type 0) (Keeps : X → Type 0) (xs : List X) : Type 0 where
   pub some : least ≤ length xs
   pub few : length xs ≤ greatest
@@ -16,7 +16,7 @@ pub record FallsAt {X : Type 0} (Below : X → X → Type 0) (xs : List X) (at :
   pub before : AllPairs Below (take at xs)
   pub falls : AllPairs Below (take (at + 1) xs) → ⊥
 
--- the first rule of a rising list of least to greatest elements that this list breaks
+-- the first rule of a ascending list of least to greatest elements that this list breaks
 abbrev pub Refuses : {X : Type 0} → ℕ → ℕ → (X → X → Type 0) → List X → ListFault → Type 0
 Refuses least greatest Below xs Empty = (0 < least) × (xs ≡ [])
 Refuses least greatest Below xs (TooMany limit) = (limit ≡ greatest) × (greatest < length xs)

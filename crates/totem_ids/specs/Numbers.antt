@@ -20,7 +20,7 @@ word_at fault (w ∷ word) bytes = do
 abbrev pub is_digit : ℕ → Bool
 is_digit b = nat_le 48 b && nat_le b 57
 
--- the further digits of a number of at most max whose digits so far give n, and the byte behind it
+-- the further digits of a number of at most max whose digits so far give n, and the byte after it
 unfoldable pub digits_at : ℕ → ℕ → List ℕ → Parsed (ℕ × ℕ)
 digits_at max n [] = Err Truncated
 digits_at max n (b ∷ bytes) =
@@ -28,17 +28,17 @@ digits_at max n (b ∷ bytes) =
     then (if nat_le (10 * n + (b - 48)) max then digits_at max (10 * n + (b - 48)) bytes else Err Number)
     else Ok ((n, b), bytes)
 
--- a number from 1 to max, with no zero in front, and the byte behind it
+-- a number from 1 to max, with no zero in front, and the byte after it
 unfoldable pub number_at : ℕ → List ℕ → Parsed (ℕ × ℕ)
 number_at max [] = Err Truncated
 number_at max (b ∷ bytes) = if is_digit b then (if b == 48 then Err Number else digits_at max (b - 48) bytes) else Err Number
 
--- a number with this byte behind it
+-- a number with this byte after it
 unfoldable pub number_to : ℕ → ℕ → List ℕ → Parsed ℕ
 number_to max end bytes = do
   n ← number_at max bytes
   if n.0.1 == end then Ok (n.0.0, n.1) else Err Word
 
--- a process, and the byte end behind it
+-- a process, and the byte end after it
 abbrev pub proc_at : ℕ → List ℕ → Parsed ℕ
 proc_at end bytes = number_to 65535 end bytes

@@ -7,14 +7,14 @@ use Rattle.totem_ids.specs.Names.{RingName, MessageName}
 use Rattle.totem_ids.specs.Sources.{Parsed, ◌>>=◌}
 use Rattle.totem_ids.specs.Numbers.{byte_at, number_to, proc_at}
 
--- a ring's number, a dot, its representative, and the byte end behind
+-- a ring's number, a dot, its representative, and the byte end after it
 unfoldable pub ring_at : ℕ → List ℕ → Parsed RingName
 ring_at end bytes = do
   seq ← number_to 4294967295 46 bytes
   rep ← proc_at end seq.1
   Ok (record { seq = seq.0; rep = rep.0 }, rep.1)
 
--- a message: a ring, a hash, its number, and the byte end behind
+-- a message: a ring, a hash, its number, and the byte end after it
 unfoldable pub message_at : ℕ → List ℕ → Parsed MessageName
 message_at end bytes = do
   ring ← ring_at 35 bytes

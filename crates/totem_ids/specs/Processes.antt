@@ -50,30 +50,30 @@ pub record IsPlaceIn (version : Version) (e : PlaceName) : Type 0 where
 
 -- ---- parsers
 
--- a process of life 1, which is not written, and the byte behind it
+-- a process of life 1, which is not written, and the byte after it
 unfoldable pub first_life_then : List ℕ → Parsed (ℕ × ℕ)
 first_life_then bytes = do
   id ← number_at 65535 bytes
   Ok ((rank_of id.0.0 1, id.0.1), id.1)
 
--- a process with its life, and the byte behind it
+-- a process with its life, and the byte after it
 unfoldable pub life_then : List ℕ → Parsed (ℕ × ℕ)
 life_then bytes = do
   id ← number_to 65535 58 bytes
   life ← number_at 65535 id.1
   Ok ((rank_of id.0 life.0.0, life.0.1), life.1)
 
--- a process of a text of this version, and the byte behind it
+-- a process of a text of this version, and the byte after it
 unfoldable pub process_then : Version → List ℕ → Parsed (ℕ × ℕ)
 process_then version bytes = if writes_lives version then life_then bytes else first_life_then bytes
 
--- a process of a text of this version, with this byte behind it
+-- a process of a text of this version, with this byte after it
 unfoldable pub process_to : Version → ℕ → List ℕ → Parsed ℕ
 process_to version end bytes = do
   p ← process_then version bytes
   if p.0.1 == end then Ok (p.0.0, p.1) else Err Word
 
--- a place in a text of this version: a process, an at sign, its entry, and the byte end behind
+-- a place in a text of this version: a process, an at sign, its entry, and the byte end after it
 unfoldable pub place_at : Version → ℕ → List ℕ → Parsed PlaceName
 place_at version end bytes = do
   proc ← process_to version 64 bytes

@@ -9,7 +9,7 @@ use Rattle.totem_ids.specs.declared.fault.ReadError.TheVariants as errors
 
 -- ---- parsers
 
--- a value and the bytes behind it, or a fault
+-- a value and the bytes after it, or a fault
 abbrev pub Parsed : Type 0 → Type 0
 Parsed Y = Result (Y × List ℕ) TextFault
 
@@ -75,7 +75,7 @@ pub record Seen : Type 0 where
 abbrev pub seen : {S : Type 0} → (S → Option (List ℕ)) → (S → ℕ) → S → Seen
 seen remaining failures s = record { remaining = remaining s; failures = failures s }
 
--- some bytes were taken, none behind the one that settled the answer; whatever follows them, parsing the whole comes to
+-- some bytes were taken, none after the one that settled the answer; whatever follows them, parsing the whole comes to
 -- parsing what follows by rest
 pub record Comes {Y : Type 0} (old new : Seen) (parse rest : List ℕ → Result Y TextFault) : Type 0 where
   pub read : List ℕ
@@ -84,7 +84,7 @@ pub record Comes {Y : Type 0} (old new : Seen) (parse rest : List ℕ → Result
   pub left : (more : List ℕ) → parse (read ++ more) ≡ rest more
   pub before : WantsLast parse read
 
--- some bytes were taken, none behind the one that broke a rule, and parsing them gives a fault: whatever follows them, or
+-- some bytes were taken, none after the one that broke a rule, and parsing them gives a fault: whatever follows them, or
 -- they are all that was left
 pub record Breaks {Y : Type 0} (old new : Seen) (parse : List ℕ → Result Y TextFault) (fault : TextFault) : Type 0 where
   pub read : List ℕ

@@ -55,7 +55,7 @@ impl Listed for Proc {
     }
 }
 
-/// A list of processes rises by identifier, so that there is one life of each at most.
+/// A list of processes is ascending by identifier, so that there is one life of each at most.
 impl Keyed for Proc {
     ghost key_of = { λ p. id_of p };
 

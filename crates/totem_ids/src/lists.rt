@@ -1,4 +1,4 @@
-//! Lists whose elements keep a rule of their own: how many there are, whether they rise, whether two are the same, and copies.
+//! Lists with a rule for their elements: how many there are, whether they are ascending, whether two are the same, and copies.
 ghost use Rattle.std.specs.Prelude.{◌≡◌, ◌↔◌, ℕ, ◌<◌, ◌≤◌, length, All, AllPairs, IsTrue, IfSome, IfNone, IfOk, MatchResult, []};
 ghost use Rattle.totem_ids.specs.Lists.{Anyhow, FallsAt, IsListOf, Refuses};
 
@@ -22,7 +22,7 @@ pub trait Listed {
         ensures { IfOk result (λ x. x ≡ self.now) };
 }
 
-/// A type whose values have a key by which lists of them rise.
+/// A type whose values have a key by which lists of them are ordered.
 pub trait Keyed: Listed {
     ghost key_of: { Self → ℕ };
 
@@ -31,7 +31,7 @@ pub trait Keyed: Listed {
         ensures positive { 0 < result };
 }
 
-/// Returns the index of the first element whose key is not above the one before it, or `None` if the keys rise strictly.
+/// Returns the index of the first element whose key is not above the one before it, or `None` if the keys are strictly ascending.
 fn first_fall<T: Keyed>(list: &[T]) -> Option<usize>
     ensures found { IfSome result (λ at. FallsAt (λ a b. T.key_of a < T.key_of b) list.now at) }
     ensures rising { IfNone result (AllPairs (λ a b. T.key_of a < T.key_of b) list.now) }
@@ -77,7 +77,7 @@ pub fn bounded<T: Listed>(
     Err(Refused { fault, value: list })
 }
 
-/// Returns the list if it has `least` to `most` elements and they rise strictly. A refusal gives it back with the first rule
+/// Returns the list if it has `least` to `most` elements and they are strictly ascending. A refusal gives it back with the first rule
 /// that it breaks.
 pub fn rising<T: Keyed>(least: usize, most: usize, list: Vec<T>) -> Result<Vec<T>, Refused<Vec<T>>>
     requires { least ≤ 1 }

@@ -44,7 +44,7 @@ impl MsgId {
     }
 }
 
-/// When a message may be handed up: an agreed one in its turn, a safe one in its turn and only once all members are
+/// When a message may be delivered: an agreed one in its turn, a safe one in its turn and only once all members are
 /// known to hold it.
 #[derive(Clone, Copy, Debug, PartialEq, Eq, PartialOrd, Ord, Hash)]
 pub enum Service {

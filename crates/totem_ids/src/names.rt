@@ -1,4 +1,4 @@
-//! Readers of names. Each also takes the byte `end` behind the name, and leaves unread what follows that byte.
+//! Readers of names. Each also takes the byte `end` after the name, and leaves unread what follows that byte.
 ghost use Rattle.std.specs.Prelude.{◌≢◌, IfErr};
 ghost use Rattle.totem_ids.specs.Sources.{Reads, seen};
 ghost use Rattle.totem_ids.specs.Parsers.{ring_at, message_at, regular_at, transitional_at, conf_at};
@@ -11,7 +11,7 @@ use crate::reading::{next, number_to, read_proc};
 use crate::ring::RingId;
 use crate::source::Source;
 
-/// Reads a ring and the byte `end` behind it.
+/// Reads a ring and the byte `end` after it.
 #[tactic(auto, using(crate::proofs::Readers::called, crate::proofs::Readers::failed, crate::proofs::Readers::begins), unfolding(crate::specs::Parsers::ring_at))]
 pub fn read_ring<S: Source>(source: &mut S, end: u8) -> Result<RingId, ReadError>
     ensures read { Reads (seen S.remaining S.failures source.old)
@@ -23,7 +23,7 @@ pub fn read_ring<S: Source>(source: &mut S, end: u8) -> Result<RingId, ReadError
     Ok(RingId { seq, rep })
 }
 
-/// Reads a message and the byte `end` behind it.
+/// Reads a message and the byte `end` after it.
 #[tactic(auto, using(crate::proofs::Readers::called, crate::proofs::Readers::failed, crate::proofs::Readers::begins), unfolding(crate::specs::Parsers::message_at))]
 pub fn read_message<S: Source>(source: &mut S, end: u8) -> Result<MsgId, ReadError>
     ensures read { Reads (seen S.remaining S.failures source.old)
@@ -56,7 +56,7 @@ fn read_transitional<S: Source>(source: &mut S, end: u8) -> Result<ConfId, ReadE
     Ok(ConfId::Transitional { next, least })
 }
 
-/// Reads a configuration and the byte `end` behind it.
+/// Reads a configuration and the byte `end` after it.
 #[tactic(auto, using(crate::proofs::Readers::called, crate::proofs::Readers::failed, crate::proofs::Readers::begins, crate::proofs::Readers::chosen, crate::proofs::Readers::passed, crate::proofs::Readers::stops), unfolding(crate::specs::Parsers::conf_at))]
 pub fn read_conf<S: Source>(source: &mut S, end: u8) -> Result<ConfId, ReadError>
     ensures read { Reads (seen S.remaining S.failures source.old)

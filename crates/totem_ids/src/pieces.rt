@@ -7,7 +7,7 @@ use crate::source::Failed;
 use std::alloc::{AllocError, Global};
 use std::marker::Model;
 
-/// How many bytes are gathered before they are handed to the sink.
+/// How many bytes are gathered before they are written to the sink.
 const PIECE: usize = 65536;
 
 /// Gathers bytes and hands them to a sink in pieces of about 64 KiB. Whoever gathers has to flush at the end.
@@ -45,7 +45,7 @@ impl Pieces {
         Ok(())
     }
 
-    /// Gathers these bytes, and first hands on what is gathered if that fills a piece. If memory for the bytes is
+    /// Gathers these bytes, and first writes what is gathered if that fills a piece. If memory for the bytes is
     /// refused, they go to the sink at once.
     pub fn put<S: Sink>(&mut self, sink: &mut S, bytes: &[u8]) -> Result<(), Failed>
         ensures { Writes (held S.contents S.failures self.old sink.old)

@@ -79,7 +79,7 @@ fn begins_number(byte: u8) -> bool
     is_digit(byte) && byte != b'0'
 }
 
-// The number from 1 to `max` that these bytes begin with, the byte behind it, and how many bytes that are. `None` where they
+// The number from 1 to `max` that these bytes begin with, the byte after it, and how many bytes that are. `None` where they
 // begin with no such number, or end before it does.
 fn number_within(bytes: &[u8], max: u32) -> Option<(u32, u8, usize)>
     requires { 9 ≤ max }
@@ -111,7 +111,7 @@ fn number_within(bytes: &[u8], max: u32) -> Option<(u32, u8, usize)>
     None
 }
 
-// Takes the number and the byte behind it, where both are at hand. Otherwise it takes nothing.
+// Takes the number and the byte after it, where both are at hand. Otherwise it takes nothing.
 fn number_at_hand<S: Source>(source: &mut S, max: u32) -> Option<(u32, u8)>
     requires { 9 ≤ max }
     ensures taken { let old = seen S.remaining S.failures source.old in
@@ -160,7 +160,7 @@ fn number_by_bytes<S: Source>(source: &mut S, max: u32) -> Result<(u32, u8), Rea
     }
 }
 
-/// Reads a number from 1 to `max`, without leading zeros, and returns it with the byte behind it. The fault is `Number`
+/// Reads a number from 1 to `max`, without leading zeros, and returns it with the byte after it. The fault is `Number`
 /// at the first byte with which no such number can go on.
 pub fn number<S: Source>(source: &mut S, max: u32) -> Result<(u32, u8), ReadError>
     requires { 9 ≤ max }
@@ -175,7 +175,7 @@ pub fn number<S: Source>(source: &mut S, max: u32) -> Result<(u32, u8), ReadErro
     }
 }
 
-/// Reads a number from 1 to `max` and the byte `end` behind it. If another byte stands there, the fault is `Word`.
+/// Reads a number from 1 to `max` and the byte `end` after it. If another byte stands there, the fault is `Word`.
 #[tactic(auto, using(crate::proofs::Readers::called, crate::proofs::Readers::failed, crate::proofs::Readers::begins, crate::proofs::Readers::chosen, crate::proofs::Readers::passed, crate::proofs::Readers::stops), unfolding(crate::specs::Numbers::number_to))]
 pub fn number_to<S: Source>(source: &mut S, max: u32, end: u8) -> Result<u32, ReadError>
     requires { 9 ≤ max }
@@ -191,7 +191,7 @@ pub fn number_to<S: Source>(source: &mut S, max: u32, end: u8) -> Result<u32, Re
     Ok(number)
 }
 
-/// Reads a process and the byte `end` behind it.
+/// Reads a process and the byte `end` after it.
 pub fn read_proc<S: Source>(source: &mut S, end: u8) -> Result<ProcId, ReadError>
     ensures read { Reads (seen S.remaining S.failures source.old)
         (seen S.remaining S.failures source.new) result (proc_at end) }

@@ -12,7 +12,7 @@ use crate::reading::next;
 use crate::sink::Sink;
 use crate::source::{Failed, Source};
 
-/// Reads a service. No byte behind it is read.
+/// Reads a service. No byte after it is read.
 #[tactic(auto, using(crate::proofs::Readers::called, crate::proofs::Readers::failed, crate::proofs::Readers::begins, crate::proofs::Readers::chosen, crate::proofs::Readers::passed, crate::proofs::Readers::stops), unfolding(crate::specs::Services::service_at))]
 pub fn read_service<S: Source>(source: &mut S) -> Result<Service, ReadError>
     ensures read { Reads (seen S.remaining S.failures source.old)

@@ -1,6 +1,6 @@
-//! Where in its text a source is, for people who are told what is wrong there.
+//! Where in its text a source is, for people who have to find what is wrong there.
 
-/// How many bytes behind the last one are shown.
+/// How many bytes after the last one are shown.
 const REST: usize = 40;
 
 /// How many bytes of a line are kept when a buffer is filled anew.
@@ -9,7 +9,7 @@ pub(crate) const FRONT: usize = 128;
 /// How many bytes are counted at a time: few enough for a count of one byte, which a processor makes of many side by side.
 const PART: usize = 128;
 
-/// Where the byte stands that a source was asked for last, which is behind its last byte if it had ended; and the line of that byte, as
+/// Where the byte stands that a source was asked for last, which is after its last byte if it had ended; and the line of that byte, as
 /// far as the source has it at hand.
 #[derive(Clone, Copy, Debug)]
 pub struct TextPlace<'a> {
@@ -21,7 +21,7 @@ pub struct TextPlace<'a> {
     pub front: &'a [u8],
     /// Bytes of its line up to itself. There are none if the source had ended.
     pub read: &'a [u8],
-    /// Bytes of its line behind it, 40 at most.
+    /// Bytes of its line after it, 40 at most.
     pub rest: &'a [u8],
 }
 
@@ -38,7 +38,7 @@ fn is_end(byte: &u8) -> bool {
     *byte == b'\n'
 }
 
-/// Returns the bytes behind the last line's end, or `None` if no line ends.
+/// Returns the bytes after the last line's end, or `None` if no line ends.
 fn behind_last_end(bytes: &[u8]) -> Option<&[u8]> {
     bytes
         .iter()
@@ -94,7 +94,7 @@ pub(crate) fn keep_front(front: &mut Vec<u8>, given: &[u8]) {
     let _ = front.extend_from_slice(tail);
 }
 
-/// Returns the place of the last byte of `given`, before which `passed` went by and `front` is known of its line; `rest` is behind it.
+/// Returns the place of the last byte of `given`, before which `passed` went by and `front` is known of its line; `rest` is after it.
 pub(crate) fn place_of<'a>(
     passed: Passed,
     front: &'a [u8],

@@ -104,7 +104,7 @@ pub fn all_have_come(logs: &[Log], lines: &[Line], list: &[Gathered]) -> bool
     true
 }
 
-/// Returns whether the numbers of the configurations rise.
+/// Returns whether the numbers of the configurations are ascending.
 pub fn rise(list: &[Gathered]) -> bool
     ensures { OnTrue result (AreRisingTo list.now (length list.now)) }
 {

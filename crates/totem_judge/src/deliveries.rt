@@ -1,4 +1,4 @@
-//! Whether the lists of a configuration and the entries of a stay tell the same.
+//! Whether the lists of a configuration and the entries of a stay agree.
 ghost use Rattle.std.specs.Prelude.{◌≡◌, ◌<◌, IfSome, length};
 ghost use Rattle.std.specs.Bool.{OnTrue};
 ghost use Rattle.totem_judge.specs.Lists.{EachBelow, IsThere, IsDeliveryOfMessage, IsDeliveryOf, IsOriginAt, AreListed, IsDelivered, IsDeliveredAt};

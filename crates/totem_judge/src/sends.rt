@@ -1,4 +1,4 @@
-//! Whether the lists of a configuration tell what was sent and delivered there as the logs have it.
+//! Whether the lists of a configuration have what was sent and delivered there as the logs have it.
 ghost use Rattle.std.specs.Prelude.{◌≡◌, ◌<◌, length};
 ghost use Rattle.std.specs.Bool.{OnTrue};
 ghost use Rattle.totem_judge.specs.Lists.{EachBelow, is_safe, IsSendOf, ComesBefore, IsLinked, IsSentAt, IsGotAt};
@@ -66,7 +66,7 @@ fn is_linked(sent: &Sent, index: usize, place: Option<u32>, gathered: &Gathered)
     true
 }
 
-/// Returns whether the message at this index of the list was sent as the lists tell.
+/// Returns whether the message at this index of the list was sent as the lists say.
 fn is_sent(logs: &[Log], lines: &[Line], gathered: &Gathered, index: usize) -> bool
     ensures { OnTrue result (IsSentAt logs.now lines.now gathered.now index) }
 {
@@ -97,7 +97,7 @@ fn is_sent(logs: &[Log], lines: &[Line], gathered: &Gathered, index: usize) -> b
     true
 }
 
-/// Returns whether each message of the list was sent as the lists tell.
+/// Returns whether each message of the list was sent as the lists say.
 pub fn all_are_sent(logs: &[Log], lines: &[Line], gathered: &Gathered) -> bool
     ensures { OnTrue result (EachBelow (IsSentAt logs.now lines.now gathered.now) (length gathered.now.sent.items)) }
 {

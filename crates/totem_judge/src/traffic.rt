@@ -16,7 +16,7 @@ use totem_evs::{Entry, Log};
 use totem_sweep::rises;
 use totem_traffic::{LogSet, MemberLogs, Traffic};
 
-/// Returns whether the lists and the entries of each stay tell the same.
+/// Returns whether the lists and the entries of each stay agree.
 fn are_replayed(logs: &[Log], lines: &[Line], gathered: &Gathered, stays: &[Stay]) -> bool
     ensures { OnTrue result (AreReplayed logs.now lines.now gathered.now stays.now (length stays.now)) }
 {
@@ -31,7 +31,7 @@ fn are_replayed(logs: &[Log], lines: &[Line], gathered: &Gathered, stays: &[Stay
     true
 }
 
-/// Returns whether the lists tell what was sent and delivered as the logs have it, which stay in the configuration.
+/// Returns whether the lists have what was sent and delivered as the logs that stay in the configuration have it.
 fn are_true(logs: &[Log], lines: &[Line], gathered: &Gathered, stays: &[Stay], set: LogSet) -> bool
     ensures { OnTrue result (AreTrue logs.now lines.now gathered.now stays.now set) }
 {

@@ -1,4 +1,4 @@
--- Two rising lists of the same elements are one list.
+-- Two ascending lists of the same elements are one list.
 use Rattle.std.proofs.Common.{◌≡◌, zero, suc, ◌⊎◌, inl, inr, List, [], ◌∷◌, refl, sym, ◌∙◌, subst, arith}
 use Rattle.std.specs.Prelude.{AllPairs, Contains}
 
@@ -31,7 +31,7 @@ same_heads R a b xs ys way rise_a rise_b (inl same) h = sym same
 same_heads R a b xs ys way rise_a rise_b h (inl same) = same
 same_heads R a b xs ys way rise_a rise_b (inr in_b) (inr in_a) = absurd (way.never a b (head_below R a xs b rise_a in_a) (head_below R b ys a rise_b in_b))
 
--- what stands behind the head of one list stands behind the same head of the other
+-- what stands after the head of one list stands after the same head of the other
 behind : {X : Type 0} (R : X → X → Type 0) (a b : X) (xs ys : List X) → IsOneWay R → AllPairs R (a ∷ xs) → a ≡ b
     → ((x : X) → Contains (a ∷ xs) x → Contains (b ∷ ys) x) → (x : X) → Contains xs x → Contains ys x
 behind R a b xs ys way rise same each x here = elim (contains_cases b ys x (each x (contains_more a xs x here))) [

@@ -145,7 +145,7 @@ fn unsettled_told(alloc: Global) -> Result<String, AllocError> {
     format!(in alloc; "{}; {}; {later}", pending(3, 1), waiting(2))
 }
 
-/// Tells whether what is pending and who waits is ordered first by the process, and then by what stands behind it.
+/// Tells whether what is pending and who waits is ordered first by the process, and then by what stands after it.
 fn order_told(alloc: Global) -> Result<String, AllocError> {
     let pending = pending(1, 9) < pending(2, 1);
     let waiting = waiting(2) < waiting(3);

@@ -115,7 +115,7 @@ fn push_parts<S: Source>(
     text.push_str("more")
 }
 
-/// The parts of a text, and what stands behind them.
+/// The parts of a text, and what stands after them.
 fn parts_told(alloc: Global, given: &str) -> Result<String, AllocError> {
     let mut source = FromRead::new(given.as_bytes());
     let mut text = String::new(alloc);

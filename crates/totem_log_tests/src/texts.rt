@@ -19,7 +19,7 @@ fn push_run_fault(text: &mut String, fault: &RunFault) -> Result<(), AllocError>
     }
 }
 
-/// Adds what stands behind a run.
+/// Adds what stands after a run.
 pub fn push_end<S: Source>(text: &mut String, source: &mut S) -> Result<(), AllocError> {
     match read_end(source) {
         Ok(()) => text.push_str("end "),
@@ -27,7 +27,7 @@ pub fn push_end<S: Source>(text: &mut String, source: &mut S) -> Result<(), Allo
     }
 }
 
-/// Adds a run's logs, or only how many there are if they are more than eight, and twice what stands behind them.
+/// Adds a run's logs, or only how many there are if they are more than eight, and twice what stands after them.
 fn push_run<S: Source>(text: &mut String, run: &Run, source: &mut S) -> Result<(), AllocError> {
     let logs = run.logs.as_slice();
     if logs.len() > 8 {
@@ -50,7 +50,7 @@ pub fn run_told<S: Source>(alloc: Global, source: &mut S) -> Result<String, Allo
     Ok(text)
 }
 
-/// Adds a certificate's lines, or only how many there are if they are more than eight, and the byte behind them.
+/// Adds a certificate's lines, or only how many there are if they are more than eight, and the byte after them.
 fn push_certificate<S: Source>(
     text: &mut String,
     certificate: &Certificate,
@@ -88,7 +88,7 @@ pub fn read(alloc: Global, text: &str) -> Result<String, AllocError> {
     }
 }
 
-/// A text, and what has to be read of it: values and what stands behind them, or a fault.
+/// A text, and what has to be read of it: values and what stands after them, or a fault.
 struct Example {
     text: &'static str,
     told: &'static str,

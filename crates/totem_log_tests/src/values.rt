@@ -22,7 +22,7 @@ fn push_numbers(text: &mut String, numbers: &[u32]) -> Result<(), AllocError> {
     text.push_str(";")
 }
 
-/// Adds each line of a certificate with `;` behind it, or only how many numbers it has if they are more than twenty.
+/// Adds each line of a certificate with `;` after it, or only how many numbers it has if they are more than twenty.
 pub fn push_lines(text: &mut String, lines: &[Line]) -> Result<(), AllocError> {
     for line in lines {
         write!(text, "pos {}", named(line.proc))?;

@@ -34,7 +34,7 @@ above last [] x up had = absurd (false≢true had)
 above last (p ∷ ps) x up had =
     ⊎_elim (λ (here : (p == x) ≡ true). omega (arith, up.0, eqb-true p x here)) (λ there. omega (arith, up.0, above p ps x up.1 there)) (or_cases (p == x) (has ps x) had)
 
--- what is above the first and there is behind it
+-- what is above the first and there is after it
 behind : (q : ℕ) (qs : List ℕ) (x : ℕ) → q < x → has (q ∷ qs) x ≡ true → has qs x ≡ true
 behind q qs x lt had = ⊎_elim (λ (here : (q == x) ≡ true). absurd (omega (arith, lt, eqb-true q x here))) (λ there. there) (or_cases (q == x) (has qs x) had)
 
@@ -55,7 +55,7 @@ not_before p q ps qs lt others part = ⊎_elim
     (λ there. omega (arith, lt, above q qs p others there))
     (or_cases (q == p) (has qs p) (part.had p (first_had p ps)))
 
--- a rising list within another is no longer
+-- a ascending list within another is no longer
 pub no_longer : (last least : ℕ) (ps qs : List ℕ) → Up last ps → Up least qs → IsPart ps qs → length ps ≤ length qs
 no_longer last least [] qs up others part = omega arith
 no_longer last least (p ∷ ps) [] up others part = absurd (false≢true (part.had p (first_had p ps)))

@@ -18,7 +18,7 @@ IsStep old new (Err Stranger) step = (step ≡ Err Stranger) × (new ≡ old)
 IsStep old new (Err Stale) step = (step ≡ Err Stale) × (new ≡ old)
 IsStep old new (Err Range) step = (step ≡ Err Range) × (new ≡ old)
 
--- The call answers what is written, and want of memory only where that is no refusal.
+-- The call answers what is written, and out of memory only where that is no refusal.
 abbrev pub IsAnswer : {A : Type 0} → Result A MemberFault → Result A MemberFault → Type 0
 IsAnswer (Ok out) written = written ≡ Ok out
 IsAnswer (Err Memory) written = IsOk written

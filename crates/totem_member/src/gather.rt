@@ -35,7 +35,7 @@ impl Model for Gather {
     ghost invariant = { λ g. IsStanding g.me g.sets };
 }
 
-/// Drops the fault `TooMany` from the making of a set for which there is room, so that only want of memory is left.
+/// Drops the fault `TooMany` from the making of a set for which there is room, so that only out of memory is left.
 fn with_room(made: Result<Processes, SetFault>) -> Result<Processes, AllocError>
     requires { made ≡ Err TooMany → ⊥ }
     ensures { IfOk result (λ p. made ≡ Ok p) }

@@ -60,7 +60,7 @@ kept_one m n c cs false e more =
     ap (λ (xs : List HeldCopy). kept n xs) (kept_not m c cs e)
     ∙ (more ∙ sym (kept_not (m + n) c cs (le-ltb (m + n) c.left above)))
 
--- n further packets, behind m
+-- n further packets, after m
 kept-kept : (m n : ℕ) (cs : List HeldCopy) → kept n (kept m cs) ≡ kept (m + n) cs
 kept-kept m n [] = refl
 kept-kept m n (c ∷ cs) = kept_one m n c cs (nat_lt m c.left) refl (kept-kept m n cs)

@@ -9,7 +9,7 @@ use Rattle.totem_net.specs.Wires.{still_held}
 use Rattle.totem_net.specs.Ways.{next_fate, drawn, past, handed_at, all_handed, all_held, past_all}
 use Rattle.totem_net.specs.Settling.{changed_at, all_changed, settled}
 
--- the ways from the i-th on are that one and those behind it
+-- the ways from the i-th on are that one and those after it
 pub drop_next :
     (i : ℕ) (ws : List (List HeldCopy)) (d : List HeldCopy) → i < length ws
     → drop i ws ≡ get_or ws i d ∷ drop (i + 1) ws

@@ -9,7 +9,7 @@ pub record Count : Type 0 where
   pub ticks : ℕ
   pub passed : ℕ
 
--- the n-th turn, counted from 0: nodes in rising order, and again from the first; services by turns
+-- the n-th turn, counted from 0: nodes in ascending order, and again from the first; services by turns
 abbrev pub nth_turn : ℕ → ℕ → Turn
 nth_turn nodes n = record {
   node = n % nodes + 1;

@@ -14,7 +14,7 @@ abbrev pub held_after : List Arrival → List HeldCopy → List HeldCopy
 held_after [] held = held
 held_after (a ∷ more) held = held_after more (still_held a.fate a.packet held)
 
--- when one or more further packets arrived, just those copies are still held that let more than these by; behind them
+-- when one or more further packets arrived, just those copies are still held that let more than these by; after them
 -- stand newer ones
 abbrev pub WaitTheirTime : Type 0
 WaitTheirTime =

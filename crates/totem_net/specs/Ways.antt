@@ -23,7 +23,7 @@ next_fate fates = fate_of (pcg32 fates.generator).0 fates.plan
 abbrev pub drawn : ToCome → ToCome
 drawn fates = record fates { generator = (pcg32 fates.generator).1 }
 
--- the fates to come behind a node, which draws one only where the packet is for it
+-- the fates to come after a node, which draws one only where the packet is for it
 abbrev pub past : Address → ℕ → ToCome → ToCome
 past address node fates = (if is_for address node then drawn fates else fates)
 
@@ -41,7 +41,7 @@ abbrev pub held_at : Address → List ℕ → ℕ → ToCome → List HeldCopy �
 held_at address packet node fates held =
     (if is_for address node then still_held (next_fate fates) packet held else held)
 
--- what the nodes from this one on are handed, in rising order
+-- what the nodes from this one on are handed, in ascending order
 abbrev pub all_handed : Address → List ℕ → ℕ → ToCome → List (List HeldCopy) → List Delivery
 all_handed address packet node fates [] = []
 all_handed address packet node fates (held ∷ more) =
@@ -53,7 +53,7 @@ all_held address packet node fates [] = []
 all_held address packet node fates (held ∷ more) =
     held_at address packet node fates held ∷ all_held address packet (node + 1) (past address node fates) more
 
--- the fates to come behind the nodes from this one on
+-- the fates to come after the nodes from this one on
 abbrev pub past_all : Address → ℕ → ToCome → List (List HeldCopy) → ToCome
 past_all address node fates [] = fates
 past_all address node fates (_ ∷ more) = past_all address (node + 1) (past address node fates) more

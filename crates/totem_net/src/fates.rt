@@ -59,7 +59,7 @@ impl Fates {
         fate(self.words.next_word(), self.plan)
     }
 
-    /// Returns the fate that comes behind `before` others. Draws them all: the n-th fate is that of the generator's n-th word.
+    /// Returns the fate that comes after `before` others. Draws them all: the n-th fate is that of the generator's n-th word.
     #[tactic(auto, using(crate::proofs::Drawing::word_less, crate::proofs::Drawing::word_last))]
     pub fn nth(seed: u64, plan: Plan, before: u32) -> Fate
         ensures { result ≡ fate_of (word_at before (begun_with seed)) plan }

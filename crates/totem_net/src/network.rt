@@ -24,7 +24,7 @@ const INBOUND: usize = 1024;
 pub struct Network {
     pub switch: Switch,
     pub pacer: Pacer,
-    /// The ends of the nodes in rising order. The nodes have the numbers from 1 on.
+    /// The ends of the nodes in ascending order. The nodes have the numbers from 1 on.
     pub nodes: Vec<NodeEnds>,
 }
 

@@ -84,7 +84,7 @@ impl Port {
         self.debt = self.debt.less_one(of_turn);
     }
 
-    /// Gives each thread a stop word. A thread that can't be sent one, for want of memory, sees its channel end.
+    /// Gives each thread a stop word. A thread that can't be sent one because memory ran out sees its channel end.
     pub fn stop<R: Wait>(self, rt: &R) {
         let _ = give(rt, &self.packets, PacketWord::Stop);
         let _ = give(rt, &self.timer, TimerWord::Stop);

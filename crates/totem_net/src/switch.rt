@@ -20,7 +20,7 @@ use totem_ids::ProcId;
 pub struct Switch {
     pub(crate) inbound: Receiver<Inbound>,
     pub(crate) paces: Sender<Pace>,
-    /// The ports of the nodes, in rising order.
+    /// The ports of the nodes, in ascending order.
     pub(crate) ports: Vec<Port>,
     pub(crate) ways: Ways,
     pub(crate) turns: Turns,

@@ -31,7 +31,7 @@ impl Model for Ways {
     ghost invariant = { λ w. length w.wires.items < 2 ^ 16 };
 }
 
-/// What a packet does: the deliveries that it causes, the ways that it changes, in rising order, and the fates to come.
+/// What a packet does: the deliveries that it causes, the ways that it changes, in ascending order, and the fates to come.
 #[derive(Drop)]
 struct Effects {
     handed: Vec<Delivery>,
@@ -123,7 +123,7 @@ impl Ways {
         handed
     }
 
-    /// Sends a packet to each node that it is for, in rising order, with a fate for each. Returns what is handed on. If
+    /// Sends a packet to each node that it is for, in ascending order, with a fate for each. Returns what is handed on. If
     /// memory is refused, nothing changes.
     #[tactic(auto, using(crate::proofs::Walking::settled_of_changed))]
     pub fn carry(

@@ -49,13 +49,13 @@ fn write_lives(alloc: Global) -> Result<String, AllocError> {
     format!(in alloc; "{} {} {}", one.lives(), two.lives(), three.lives())
 }
 
-/// Reads a process with the byte behind it.
+/// Reads a process with the byte after it.
 fn process_then(alloc: Global, version: Version, text: &mut Text) -> Result<String, ReadError> {
     let (process, byte) = read_process(text, version)?;
     Ok(format!(in alloc; "{process} {byte}")?)
 }
 
-/// Whether the first process is below the second, and the second below the first.
+/// Returns whether the first process is below the second, and the second below the first.
 fn relation(alloc: Global, text: &mut Text) -> Result<String, ReadError> {
     let left = read_process_to(text, Version::Two, b' ')?;
     let right = read_process_to(text, Version::Two, b' ')?;

@@ -105,27 +105,27 @@ fn read_words(alloc: Global, text: &mut Text) -> Result<String, ReadError> {
     Ok(format!(in alloc; "{behind} {number} {end} {:?}", next(text))?)
 }
 
-/// Whether the first configuration is the second, and whether it is below.
+/// Returns whether the first configuration is the second, and whether it is below.
 fn conf_relation(alloc: Global, text: &mut Text) -> Result<String, ReadError> {
     let left = read_conf(text, b' ')?;
     let right = read_conf(text, b' ')?;
     Ok(format!(in alloc; "{} {}", left.is(&right), left.is_below(&right))?)
 }
 
-/// Whether the first ring is below the second, and the second below the first.
+/// Returns whether the first ring is below the second, and the second below the first.
 fn ring_relation(alloc: Global, text: &mut Text) -> Result<String, ReadError> {
     let left = read_ring(text, b' ')?;
     let right = read_ring(text, b' ')?;
     Ok(format!(in alloc; "{} {}", left.is_below(&right), right.is_below(&left))?)
 }
 
-/// Whether the first message is below the second.
+/// Returns whether the first message is below the second.
 fn message_relation(text: &mut Text) -> Result<bool, ReadError> {
     let left = read_message(text, b' ')?;
     Ok(left.is_below(&read_message(text, b' ')?))
 }
 
-/// Whether the first place is below the second.
+/// Returns whether the first place is below the second.
 fn place_relation(text: &mut Text) -> Result<bool, ReadError> {
     let left = read_place(text, Version::Two, b' ')?;
     Ok(left.is_below(&read_place(text, Version::Two, b' ')?))

@@ -103,7 +103,7 @@ fn push_from(
     push_procs(alloc, text, from.as_slice())
 }
 
-/// Whether these are the members.
+/// Returns whether these are the members.
 fn push_are(
     alloc: Global,
     text: &mut String,
@@ -149,7 +149,7 @@ fn answers(alloc: Global, members: &CommitMembers, words: &str) -> Result<String
     Ok(text)
 }
 
-/// Answers what is asked, behind a `?`, of the members in front of it.
+/// Answers what is asked, after a `?`, of the members in front of it.
 pub(crate) fn told(alloc: Global, words: &str) -> Result<String, AllocError> {
     let (given, asked) = words.split_once('?').unwrap_or((words, ""));
     match CommitMembers::new(member_list(alloc, given)?) {

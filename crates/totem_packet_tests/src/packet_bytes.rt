@@ -239,7 +239,7 @@ fn fault_of(alloc: Global, bytes: &[u8]) -> Option<PacketFault> {
     Packet::decode(alloc, bytes).err()
 }
 
-/// Whether each proper beginning of the bytes is Short.
+/// Returns whether each proper beginning of the bytes is Short.
 fn is_short_before(alloc: Global, bytes: &[u8]) -> bool {
     for end in 0..bytes.len() {
         if fault_of(alloc, &bytes[..end]) != Some(PacketFault::Short) {
@@ -249,7 +249,7 @@ fn is_short_before(alloc: Global, bytes: &[u8]) -> bool {
     true
 }
 
-/// Whether the bytes with one byte more are Trailing.
+/// Returns whether the bytes with one byte more are Trailing.
 fn is_trailing_behind(alloc: Global, bytes: &[u8]) -> Result<bool, AllocError> {
     let mut more = bytes.to_vec(alloc)?;
     more.push(0)?;
@@ -290,7 +290,7 @@ fn is_commit_token_copied(alloc: Global, token: &CommitToken) -> Result<bool, Al
     Ok(token.is(&token.try_clone(alloc)?))
 }
 
-/// Whether the copy of what the packet carries, and of each of its parts, is equal to it.
+/// Returns whether the copy of what the packet carries, and of each of its parts, is equal to it.
 fn is_part_copied(alloc: Global, packet: &Packet) -> Result<bool, AllocError> {
     match packet {
         Packet::Message(message) => is_message_copied(message),

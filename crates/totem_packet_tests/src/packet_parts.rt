@@ -44,7 +44,7 @@ fn token_seq(alloc: Global, value: u64) -> Result<String, AllocError> {
     }
 }
 
-/// Whether the copy of a payload has its bytes.
+/// Returns whether the copy of a payload has its bytes.
 fn is_payload_copied(payload: &Payload) -> Result<bool, AllocError> {
     let copy = payload.try_clone()?;
     Ok(copy.as_slice() == payload.as_slice())

@@ -25,7 +25,7 @@ fn place(alloc: Global, processes: &Processes, proc: ProcId) -> Result<String, A
     format!(in alloc; "{is_there} {is_least} {}", processes.next_after(proc))
 }
 
-/// Whether the left set is within the right one, and whether it is the right one.
+/// Returns whether the left set is within the right one, and whether it is the right one.
 fn relation(alloc: Global, left: &Processes, right: &Processes) -> Result<String, AllocError> {
     format!(in alloc; "{} {}", left.is_within(right), left.is(right))
 }
@@ -84,7 +84,7 @@ fn named(alloc: Global, text: &str) -> Result<Processes, AllocError> {
     }
 }
 
-/// Answers a word, behind which stand a set and then a process or another set.
+/// Answers a word, after which stand a set and then a process or another set.
 pub(crate) fn told(alloc: Global, words: &str) -> Result<String, AllocError> {
     let (asked, rest) = words.split_once(' ').unwrap_or((words, ""));
     let (left, right) = rest.split_once(' ').unwrap_or((rest, ""));

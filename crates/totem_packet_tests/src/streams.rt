@@ -134,7 +134,7 @@ fn many_bytes(alloc: Global) -> Result<Vec<u8>, AllocError> {
     Ok(bytes)
 }
 
-/// Whether a source gives these bytes.
+/// Returns whether a source gives these bytes.
 fn gives<S: Source>(source: &mut S, bytes: &[u8]) -> bool {
     for byte in bytes {
         if source.byte() != Ok(Some(*byte)) {
@@ -144,7 +144,7 @@ fn gives<S: Source>(source: &mut S, bytes: &[u8]) -> bool {
     true
 }
 
-/// Whether a buffered source gives all of many bytes, and then twice the end.
+/// Returns whether a buffered source gives all of many bytes, and then twice the end.
 fn filled_again(alloc: Global) -> Result<String, AllocError> {
     let bytes = many_bytes(alloc)?;
     let mut source = Buffered::new(alloc, bytes.as_slice())?;
@@ -164,7 +164,7 @@ fn put_name<S: Sink>(sink: &mut S, pieces: &mut Pieces, at: u8) -> Result<(), Fa
     }
 }
 
-/// Puts them all, each with a space behind it.
+/// Puts them all, each with a space after it.
 fn put_names<S: Sink>(sink: &mut S, pieces: &mut Pieces) -> Result<(), Failed> {
     for at in 0..6u8 {
         put_name(sink, pieces, at)?;

@@ -35,7 +35,7 @@ whole_more : (bytes : List ℕ) (p : packet.Packet) (b : ℕ) (rest : List ℕ) 
 unfolding decode_packet
 whole_more bytes p b rest e = let test : (length (b ∷ rest) == 0) ≡ false = ne_eqb _ _ (λ h. omega (arith, h)) in rw (e, test) refl
 
--- a fault of the whole: that of the packet, or more behind it
+-- a fault of the whole: that of the packet, or more after it
 data WhichFault (bytes : List ℕ) (f : PacketFault) : Type 0 where
   of_packet : packet_at bytes ≡ Err f → WhichFault bytes f
   of_rest : (p : packet.Packet) (b : ℕ) (rest : List ℕ) → packet_at bytes ≡ Ok (p, b ∷ rest) → f ≡ Trailing → WhichFault bytes f

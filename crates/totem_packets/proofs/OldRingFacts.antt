@@ -23,7 +23,7 @@ abbrev pub least_since : Option ℕ → List Report → ℕ
 least_since None rs = least_aru_of rs
 least_since (Some n) rs = fold (λ least s. min least s.aru) n rs
 
--- the processes of rising members rise
+-- the processes of ascending members rise
 rising_of : (last : ℕ) (members : List CommitMember) → Rises (λ m. m.proc) last members → Up last (processes_of members)
 rising_of last [] up = tt
 rising_of last (m ∷ ms) up = (up.0, rising_of m.proc ms up.1)

@@ -157,7 +157,7 @@ pub commit_field : (lives : Lives) → IsField (commit_at lives)
 unfolding commit_at
 commit_field lives = bind_field _ _ ring_field (λ ring. bind_field _ _ round_field (λ round. bind_field _ _ (members_field lives) (λ members. gives_field _)))
 
--- a test behind a parser: it is made as soon as the last field is read, and what follows changes nothing
+-- a test after a parser: it is made as soon as the last field is read, and what follows changes nothing
 pub later_commit_field : IsField later_commit_at
 unfolding later_commit_at
 later_commit_field = bind_field _ _ (commit_field Told) (λ token. cond_field _ _ _ (gives_field token) range_field)

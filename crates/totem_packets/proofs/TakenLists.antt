@@ -49,7 +49,7 @@ row_again one_above number_of spell Fits reading last (y ∷ ys) rest rises fits
     ap (rising_at one_above number_of (suc (length ys)) last) regrouped
     ∙ rw (reading.again last y (flat_map spell ys ++ rest) fits.0 rises.0, row_again one_above number_of spell Fits reading (number_of y) ys rest rises.1 fits.1) refl
 
--- ---- numbers behind their count
+-- ---- numbers after their count
 
 number_reading : (w : Width) (limit : ℕ) → IsWide w limit → IsReading (above_at w) (λ n. n) (number_bytes w) (λ n. n < limit)
 number_reading w limit wide = record {
@@ -80,7 +80,7 @@ list_again w limit wide most ns rest low few rises small =
 
 -- ---- what a token asks for, and sets of processes
 
--- rising numbers below a limit are from 1 to the number before it
+-- ascending numbers below a limit are from 1 to the number before it
 each_up_to : (max limit last : ℕ) (ns : List ℕ) → limit ≤ max + 1 → Rises (λ n. n) last ns → AllByRecursion (λ n. n < limit) ns → AllByRecursion (IsUpTo max) ns
 each_up_to max limit last [] le rises small = tt
 each_up_to max limit last (n ∷ ns) le rises small = (record { positive = omega (arith, rises.0); small = omega (arith, small.0) }, each_up_to max limit n ns le rises.1 small.1)

@@ -82,7 +82,7 @@ body_takes bytes b rest fits e =
     after (number_at w8 bytes) (λ kind. body_of kind.0 kind.1) (b, rest) e (λ kind mid e1 more.
     body_of_takes bytes kind mid b rest (number_takes w8 (2 ^ 8) wide8 bytes kind mid fits e1).0 more)
 
--- the fields of an old message, behind its byte
+-- the fields of an old message, after its byte
 old_again : (service : Service) (ring : RingName) (number sender : ℕ) (payload rest : List ℕ) → IsBody (Old ring number sender service payload)
     → old_at service (ring_bytes ring ++ (number_bytes w32 number ++ (number_bytes w16 sender ++ (payload_bytes payload ++ rest)))) ≡ Ok (Old ring number sender service payload, rest)
 unfolding old_at

@@ -23,7 +23,7 @@ pub record IsCommitMember (m : CommitMember) : Type 0 where
 abbrev pub IsBelowMember : CommitMember → CommitMember → Type 0
 IsBelowMember a b = a.proc < b.proc
 
--- 1 to 32 members, their processes strictly rising
+-- 1 to 32 members, their processes strictly ascending
 pub record IsCommitMembers (members : List CommitMember) : Type 0 where
   pub some : 0 < length members
   pub few : length members ≤ 32

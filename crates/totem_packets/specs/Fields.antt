@@ -54,7 +54,7 @@ maybe_at bytes = do
   n ← number_at w16 bytes
   Ok ((if n.0 == 0 then None else Some n.0), n.1)
 
--- rising numbers of one width, at most that many, behind their count
+-- ascending numbers of one width, at most that many, after their count
 unfoldable pub list_at : Width → ℕ → List ℕ → Parsed (List ℕ)
 list_at w most bytes = do
   count ← up_to_at w8 most bytes

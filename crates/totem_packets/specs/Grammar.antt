@@ -177,13 +177,13 @@ packet_of kind bytes =
     else if kind == 5 then later_commit_packet_at bytes
     else Err Kind
 
--- a packet, and the bytes behind it
+-- a packet, and the bytes after it
 unfoldable pub packet_at : List ℕ → Parsed packet.Packet
 packet_at bytes = do
   kind ← number_at w8 bytes
   packet_of kind.0 kind.1
 
--- a packet, and nothing behind it
+-- a packet, and nothing after it
 unfoldable pub decode_packet : List ℕ → Result packet.Packet PacketFault
 decode_packet bytes = do
   packet ← packet_at bytes

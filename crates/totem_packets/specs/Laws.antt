@@ -26,7 +26,7 @@ TellsLaterLife (packets.Message m) = ⊥
 TellsLaterLife (packets.Token t) = ⊥
 TellsLaterLife (packets.Join j) = ⊥
 
--- a packet's spelling, and one byte or more behind it
+-- a packet's spelling, and one byte or more after it
 pub record HasMore (bytes : List ℕ) : Type 0 where
   pub packet : packet.Packet
   pub byte : ℕ

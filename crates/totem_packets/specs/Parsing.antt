@@ -3,7 +3,7 @@ use Rattle.std.specs.Prelude.{◌≡◌, ◌≢◌, ℕ, ◌<◌, List, slice_in
 use Rattle.totem_packets.specs.declared.fault.PacketFault.{PacketFault}
 use Rattle.totem_packets.specs.declared.fault.PacketFault.TheVariants.{Memory}
 
--- a value and the bytes behind it, or a fault
+-- a value and the bytes after it, or a fault
 abbrev pub Parsed : Type 0 → Type 0
 Parsed Y = Result (Y × List ℕ) PacketFault
 
@@ -17,12 +17,12 @@ abbrev pub ◌>>=◌ : {A B : Type 0} → Result A PacketFault → (A → Result
 pub record Fails {Y : Type 0} (fault : PacketFault) (parsed : Result Y PacketFault) : Type 0 where
   pub is : fault ≢ Memory → parsed ≡ Err fault
 
--- what was answered is what the parser gives, want of memory aside
+-- what was answered is what the parser gives, but for out of memory
 abbrev pub Gives : {Y : Type 0} → Result Y PacketFault → Result Y PacketFault → Type 0
 Gives (Ok y) parsed = parsed ≡ Ok y
 Gives (Err fault) parsed = Fails fault parsed
 
--- what a reader answered, seen by `view`, and what it left are what the parser gives, want of memory aside
+-- what a reader answered, seen by `view`, and what it left are what the parser gives, but for out of memory
 abbrev pub Reads : {X Y : Type 0} → (X → Y) → Result X PacketFault → List ℕ → Parsed Y → Type 0
 Reads view (Ok x) left parsed = parsed ≡ Ok (view x, left)
 Reads view (Err fault) left parsed = Fails fault parsed

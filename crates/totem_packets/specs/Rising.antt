@@ -9,13 +9,13 @@ IsBelow p q = p < q
 abbrev pub IsNumber : ℕ → Type 0
 IsNumber = IsUpTo 4294967295
 
--- 0 to 64 numbers, strictly rising
+-- 0 to 64 numbers, strictly ascending
 pub record IsRequests (numbers : List ℕ) : Type 0 where
   pub few : length numbers ≤ 64
   pub rising : AllPairs IsBelow numbers
   pub each : All IsNumber numbers
 
--- 0 to 32 processes, strictly rising
+-- 0 to 32 processes, strictly ascending
 pub record IsProcesses (procs : List ℕ) : Type 0 where
   pub few : length procs ≤ 32
   pub rising : AllPairs IsBelow procs

@@ -40,7 +40,7 @@ abbrev pub number_or_zero : Option ℕ → ℕ
 number_or_zero None = 0
 number_or_zero (Some n) = n
 
--- numbers of one width, behind their count
+-- numbers of one width, after their count
 unfoldable pub list_bytes : Width → List ℕ → List ℕ
 list_bytes w numbers = number_bytes w8 (length numbers) ++ flat_map (number_bytes w) numbers
 
@@ -56,7 +56,7 @@ abbrev pub old_kind : Service → ℕ
 old_kind Agreed = 2
 old_kind Safe = 3
 
--- what a message says, behind its byte; 4 is a mark
+-- what a message says, after its byte; 4 is a mark
 unfoldable pub body_bytes : Body → List ℕ
 body_bytes (App service payload) = number_bytes w8 (app_kind service) ++ payload_bytes payload
 body_bytes (Old ring number sender service payload) =
@@ -83,7 +83,7 @@ abbrev pub life_bytes : Lives → ℕ → List ℕ
 life_bytes Untold life = []
 life_bytes Told life = number_bytes w16 life
 
--- a report, behind the byte that says whether there is one
+-- a report, after the byte that says whether there is one
 unfoldable pub report_bytes : Lives → Option Report → List ℕ
 report_bytes lives None = number_bytes w8 0
 report_bytes lives (Some r) =

@@ -10,7 +10,7 @@ use totem_ids::{Refused, are_same, copied, rising};
 /// How many members a commit token may have at most.
 const MOST: usize = 32;
 
-/// The members of a commit token: 1 to 32, their processes strictly rising.
+/// The members of a commit token: 1 to 32, their processes strictly ascending.
 #[derive(Debug, Drop)]
 pub struct CommitMembers {
     list: Vec<CommitMember>,

@@ -51,7 +51,7 @@ fn join(alloc: Global, reader: &mut Reader) -> Result<Join, PacketFault>
     })
 }
 
-/// Reads a packet, behind which more bytes may follow.
+/// Reads a packet, after which more bytes may follow.
 #[tactic(auto, using(crate::proofs::Falling::passes_on), unfolding(crate::specs::Grammar::packet_at, crate::specs::Grammar::packet_of, crate::specs::Grammar::message_packet_at, crate::specs::Grammar::token_packet_at, crate::specs::Grammar::join_packet_at, crate::specs::Grammar::commit_packet_at, crate::specs::Grammar::later_commit_packet_at))]
 fn packet(alloc: Global, reader: &mut Reader) -> Result<Packet, PacketFault>
     ensures reads { Reads (λ x. x) result reader.new (packet_at reader.old) }

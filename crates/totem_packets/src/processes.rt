@@ -9,7 +9,7 @@ use totem_ids::{ProcId, Refused, rising};
 /// How many processes a set may have at most.
 pub const MOST: usize = 32;
 
-/// A set of 0 to 32 processes, kept as a strictly rising list.
+/// A set of 0 to 32 processes, kept as a strictly ascending list.
 #[derive(Debug, Drop)]
 pub struct Processes {
     procs: Vec<ProcId>,

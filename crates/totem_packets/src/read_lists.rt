@@ -1,4 +1,4 @@
-//! Strictly rising lists of numbers and of processes, read from left to right.
+//! Strictly ascending lists of numbers and of processes, read from left to right.
 ghost use Rattle.std.specs.Prelude.{All, IfOk};
 ghost use Rattle.std.specs.Int.{w16, w32};
 ghost use Rattle.totem_ids.specs.Texts.{IsProcess};

@@ -10,7 +10,7 @@ use totem_ids::{Refused, are_same, rising};
 /// How many numbers a token may ask for at most.
 const MOST: usize = 64;
 
-/// The numbers that a token asks for: 0 to 64, strictly rising.
+/// The numbers that a token asks for: 0 to 64, strictly ascending.
 #[derive(Debug, Drop)]
 pub struct Requests {
     numbers: Vec<Number>,

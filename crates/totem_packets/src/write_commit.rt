@@ -1,4 +1,4 @@
-//! Commit tokens, written from left to right behind the bytes that are there.
+//! Commit tokens, written from left to right after the bytes that are there.
 ghost use Rattle.std.specs.Prelude.{◌≡◌, ◌++◌, OnOk};
 ghost use Rattle.std.specs.Int.{w8};
 ghost use Rattle.totem_packets.specs.Spelling.{round_number, number_bytes, life_bytes, report_bytes, member_bytes, commit_bytes};

@@ -1,4 +1,4 @@
-//! The fields of packets, written from left to right behind the bytes that are there.
+//! The fields of packets, written from left to right after the bytes that are there.
 ghost use Rattle.std.specs.Prelude.{◌≡◌, ◌≤◌, ◌<◌, ◌^◌, ◌++◌, length, OnOk};
 ghost use Rattle.std.specs.Int.{w8, w16, w32, w64};
 ghost use Rattle.totem_packets.specs.Spelling.{number_bytes, ring_bytes, payload_bytes, number_or_zero, list_bytes};

@@ -25,7 +25,7 @@ pub trait ChangeRelation {
         ensures { (p i : ℕ) → i < length (log_of (of self.now) p) → (IsChange (log_of (of self.now) p) i → ⊥) → NoneFrom (holds self.now) p i };
 
     /// Returns how the least list goes on that begins with the change at index `at` of a process's log, or `None` if none
-    /// does. `next` is the index of the change behind it, or the length of the log, and `is_later` says whether a change
+    /// does. `next` is the index of the change after it, or the length of the log, and `is_later` says whether a change
     /// stands before it.
     fn rest(
         &self,

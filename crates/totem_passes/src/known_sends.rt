@@ -83,7 +83,7 @@ fn known_sends(
     Ok(sends)
 }
 
-/// Whether the message is noted under this number as one that is sent in the regular configuration of this ring.
+/// Returns whether the message is noted under this number as one that is sent in the regular configuration of this ring.
 fn is_sent(
     run: &Run,
     sends: &[Option<KnownSend>],
@@ -112,7 +112,7 @@ fn number_at(row: &[u32], at: usize) -> u32 {
     }
 }
 
-/// Whether what this process delivers in this configuration was sent for it, as far as what is noted under the number tells.
+/// Whether what this process delivers in this configuration was sent for it, as far as can be seen from what is noted under the number.
 fn is_known(
     run: &Run,
     sends: &[Option<KnownSend>],
@@ -138,7 +138,7 @@ fn is_known(
     }
 }
 
-/// Whether what an entry of this process delivers was sent for it, as far as what is noted under the number tells.
+/// Returns whether what an entry of this process delivers was sent for it, as far as can be seen from what is noted under the number.
 fn entry_is_known(
     run: &Run,
     sends: &[Option<KnownSend>],
@@ -159,7 +159,7 @@ fn entry_is_known(
     }
 }
 
-/// Whether all that this log delivers is known to be sent for it.
+/// Returns whether all that this log delivers is known to be sent for it.
 fn log_is_known(
     run: &Run,
     sends: &[Option<KnownSend>],
@@ -181,7 +181,7 @@ fn log_is_known(
     true
 }
 
-/// Whether all that the logs of the run deliver is known to be sent for it.
+/// Returns whether all that the logs of the run deliver is known to be sent for it.
 fn all_known(run: &Run, sends: &[Option<KnownSend>], followed: &Followed, rows: &[Row]) -> bool
     requires sends { AreKnownSends run.now.logs sends.now }
     requires followed { AreFollowed ⟦<Change as Ord>⟧.cmp followed.now.rings run.now.logs }
@@ -205,7 +205,7 @@ fn all_known(run: &Run, sends: &[Option<KnownSend>], followed: &Followed, rows: 
     true
 }
 
-/// Whether all that a run delivers is known to be sent for it. A no is not to be trusted.
+/// Returns whether all that a run delivers is known to be sent for it. A no is not to be trusted.
 pub fn is_met(
     alloc: Global,
     run: &Run,

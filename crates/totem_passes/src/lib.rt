@@ -1,4 +1,4 @@
-//! The first passes of the audit. The room of each specification finds the least events that break it.
+//! The first passes of the audit. The module of each specification finds the least events that break it.
 #![tactic(auto)]
 
 mod change_search;

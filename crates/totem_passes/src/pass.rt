@@ -57,7 +57,7 @@ pub fn pass_a(alloc: Global, run: &Run) -> Result<Vec<Fault>, AllocError>
     pass_a_over(alloc, run, table.as_ref(), &changes)
 }
 
-/// Pass B: the least event that breaks 1.3, if one does. `Err` is want of memory, and says nothing of the run. The pass is made
+/// Pass B: the least event that breaks 1.3, if one does. `Err` means out of memory, and says nothing about the run. The pass is made
 /// for runs that have passed A, which it judges in one walk; in a run that breaks 2.3 or 2.4 each delivery may cost a search.
 pub fn pass_b(alloc: Global, run: &Run) -> Result<Vec<Fault>, AllocError>
     ensures { IfOk result (λ faults. Lists run.now.logs pass_b faults.items) }

@@ -5,7 +5,7 @@ use Rattle.std.proofs.lemmas.List.{length_push}
 nothing : {X : Type 0} (k : ℕ) (x : X) → slice_get [] k ≡ Some x → ⊥
 nothing k x at = cc
 
--- the element that is put behind the others, or one of these
+-- the element that is put after the others, or one of these
 before_push : {X : Type 0} (xs : List X) (x : X) (k : ℕ) (y : X) → slice_get (xs ++ (x ∷ [])) k ≡ Some y → (slice_get xs k ≡ Some y) ⊎ ((k ≡ length xs) × (x ≡ y))
 before_push [] x zero y at = inr (refl, cc)
 before_push [] x (suc k) y at = absurd (nothing k y at)

@@ -1,4 +1,4 @@
--- The change before another one, and what may come behind it.
+-- The change before another one, and what may come after it.
 use Rattle.std.proofs.Common.{◌≡◌, ◌↔◌, ℕ, ◌+◌, inl, inr, List, slice_get, Option, Some, None, sym, ◌∙◌, arith}
 use Rattle.std.specs.Prelude.{All, Contains}
 use Rattle.totem_ids.specs.declared.ring.RingId.{RingId}
@@ -40,7 +40,7 @@ still_before log at (Some i) e here not_conf last = record {
 pub now_before : (log : List Entry) (at : ℕ) (e : Entry) (x : ConfId) (ms : List ℕ) → slice_get log at ≡ Some e → e ≡ Conf x ms → StandsBefore log (at + 1) at
 now_before log at e x ms here is = record { change = (x, (ms, rw is at here)); earlier = omega arith; none_between = λ k later lt change. omega arith }
 
--- ---- what may come behind it
+-- ---- what may come after it
 
 -- the change before a change is the one that it comes next after
 pub one_before : (log : List Entry) (at i j : ℕ) (w x : ConfId) (ls ms : List ℕ) → StandsBefore log at i → ChangesNext log j at w x ls ms → i ≡ j

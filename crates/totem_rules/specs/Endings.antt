@@ -35,12 +35,12 @@ pub record AreEnds (run : List Log) (ends : List (Option ℕ)) : Type 0 where
   pub many : length ends ≡ length run
   pub each : (k : ℕ) (log : Log) (last : Option ℕ) → slice_get run k ≡ Some log → slice_get ends k ≡ Some last → IsEnd log.entries last
 
--- for whom p waits, in rising order
+-- for whom p waits, in ascending order
 pub record AreWaitingAt (run : List Log) (p : ℕ) (list : List Waiting) : Type 0 where
   pub rising : AllPairs WaitingBelow list
   pub exact : (w : Waiting) → Contains list w ↔ (IsWaiting run w.proc w.conf w.other × (w.proc ≡ p))
 
--- the elements of a list, each once, in rising order
+-- the elements of a list, each once, in ascending order
 pub record IsInOrder (list ordered : List Pending) : Type 0 where
   pub rising : AllPairs PendingBelow ordered
   pub same : (x : Pending) → Contains ordered x ↔ Contains list x

@@ -40,7 +40,7 @@ IsLastBefore log at (Some i) = StandsBefore log at i
 
 -- ---- from which ring a log comes to a configuration
 
--- behind a change to w: its own for a regular configuration, that of w for a transitional one
+-- after a change to w: its own for a regular configuration, that of w for a transitional one
 abbrev pub IsOrigin : ConfId → ConfId → RingId → Type 0
 IsOrigin w (Regular d) c = c ≡ d
 IsOrigin w (Transitional next least) c = w ≡ Regular c
@@ -53,7 +53,7 @@ pub record ComesBehind (log : List Entry) (i : ℕ) (x : ConfId) (ms : List ℕ)
   pub right : IsWrongSuccession conf members x ms → ⊥
   pub origin : IsOrigin conf x c
 
--- a log may come to x behind this change, or as its first, and c is the origin
+-- a log may come to x after this change, or as its first, and c is the origin
 abbrev pub ComesFrom : List Entry → Option ℕ → ConfId → List ℕ → RingId → Type 0
 ComesFrom log None x ms c = x ≡ Regular c
 ComesFrom log (Some i) x ms c = ComesBehind log i x ms c

@@ -24,7 +24,7 @@ pub struct FirstChange {
     pub from: RingId,
 }
 
-/// Returns the ring from which a log comes to the second configuration, right behind the first.
+/// Returns the ring from which a log comes to the second configuration, right after the first.
 fn origin(before: &ConfId, conf: &ConfId) -> Option<RingId>
     ensures { IfSome result (IsOrigin before.now conf.now) }
 {
@@ -35,7 +35,7 @@ fn origin(before: &ConfId, conf: &ConfId) -> Option<RingId>
     }
 }
 
-/// Returns the ring from which a log comes to this configuration behind the change at `before`, or as its first one. Returns
+/// Returns the ring from which a log comes to this configuration after the change at `before`, or as its first one. Returns
 /// `None` where it may not come there so.
 fn came_from(
     log: &[Entry],
@@ -119,7 +119,7 @@ fn meet(
     Ok(first.from == change.from && has_members(logs, &first, members))
 }
 
-/// Enters the change at this index of a log, behind the one at `before`. Returns whether it may stand there.
+/// Enters the change at this index of a log, after the one at `before`. Returns whether it may stand there.
 fn enter(
     firsts: &mut BTreeMap<ConfId, FirstChange>,
     logs: &[Log],

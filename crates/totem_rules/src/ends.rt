@@ -27,7 +27,7 @@ fn is_quiet(log: &Log) -> bool
     matches!(log.ending, Ending::Quiet)
 }
 
-/// Whether a run has a quiet log. Where it has none, it meets 2.1.
+/// Returns whether a run has a quiet log. Where it has none, it meets 2.1.
 fn has_quiet(run: &Run) -> bool
     ensures { OnFalse result (EndsTogether run.now.logs) }
 {
@@ -39,7 +39,7 @@ fn has_quiet(run: &Run) -> bool
     false
 }
 
-/// Whether a log has no failure. One may stand anywhere.
+/// Returns whether a log has no failure. One may stand anywhere.
 fn goes_on(log: &[Entry]) -> bool
     ensures { IsTrue result ↔ GoesOn log.now }
 {
@@ -99,7 +99,7 @@ fn never_changes_to(log: &[Entry], conf: &ConfId) -> bool
     true
 }
 
-/// Whether the last change of a log is to the configuration.
+/// Returns whether the last change of a log is to the configuration.
 pub fn ends_in(log: &[Entry], last: Option<usize>, conf: &ConfId) -> bool
     requires { IsLast log.now last }
     ensures { IsTrue result ↔ LastChange log.now conf.now }
@@ -110,14 +110,14 @@ pub fn ends_in(log: &[Entry], last: Option<usize>, conf: &ConfId) -> bool
     is_change_to(&log[at], conf)
 }
 
-/// Whether the process of a log may still come to the configuration: the log is not quiet, and never changes to it.
+/// Returns whether the process of a log may still come to the configuration: the log is not quiet, and never changes to it.
 fn may_come(log: &Log, conf: &ConfId) -> bool
     ensures { IsTrue result ↔ MayCome log.now conf.now }
 {
     !is_quiet(log) && never_changes_to(log.entries.as_slice(), conf)
 }
 
-/// Whether a log ends in the configuration, or its process may still come to it.
+/// Returns whether a log ends in the configuration, or its process may still come to it.
 fn shares(log: &Log, end: &LogEnd, conf: &ConfId) -> bool
     requires { IsLogEnd log.now.entries end.now }
     ensures { IsTrue result ↔ LogShares log.now conf.now }
@@ -138,7 +138,7 @@ pub fn index_of(run: &Run, proc: Proc) -> Option<usize>
     None
 }
 
-/// Whether this process has a log that ends in the configuration, or from which it may still come to it.
+/// Returns whether this process has a log that ends in the configuration, or from which it may still come to it.
 fn shares_end(run: &Run, ends: &[LogEnd], conf: &ConfId, proc: Proc) -> bool
     requires { AreLogEnds run.now.logs ends.now }
     ensures { IsTrue result ↔ SharesEnd run.now.logs conf.now proc }
@@ -149,7 +149,7 @@ fn shares_end(run: &Run, ends: &[LogEnd], conf: &ConfId, proc: Proc) -> bool
     }
 }
 
-/// Whether all these members end in the configuration, or may still come to it.
+/// Returns whether all these members end in the configuration, or may still come to it.
 fn all_share(run: &Run, ends: &[LogEnd], conf: &ConfId, members: &[Proc]) -> bool
     requires { AreLogEnds run.now.logs ends.now }
     ensures all { OnTrue result (AllShare run.now.logs conf.now members.now) }

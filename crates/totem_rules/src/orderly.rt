@@ -1,4 +1,4 @@
-//! What the judge asks of a run before its configurations: 1.4, and 2.2 to 2.4.
+//! What the judge requires of a run before it looks at its configurations: 1.4, and 2.2 to 2.4.
 ghost use Rattle.std.specs.Prelude.{IfOk};
 ghost use Rattle.std.specs.Bool.{OnTrue};
 ghost use Rattle.totem_evs.specs.Answers.{HasCertificate};

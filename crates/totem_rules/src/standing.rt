@@ -10,7 +10,7 @@ use crate::ends;
 use totem_evs::Entry;
 use totem_ids::ConfId;
 
-/// Whether the log has a failure, which can stand only at its end.
+/// Returns whether the log has a failure, which can stand only at its end.
 pub fn has_failed(log: &[Entry]) -> bool
     requires { StaysInPlace log.now }
     ensures failed { OnTrue result (HasFailed log.now) }
@@ -33,7 +33,7 @@ pub fn standing_change(log: &[Entry]) -> Option<usize>
     ends::last_change(log)
 }
 
-/// Whether the log ends in the configuration: it has no failure, and its last change, at index `last`, is to it.
+/// Returns whether the log ends in the configuration: it has no failure, and its last change, at index `last`, is to it.
 pub fn ends_in(log: &[Entry], last: Option<usize>, conf: &ConfId) -> bool
     requires { IsEnd log.now last }
     ensures { IsTrue result ↔ EndsIn log.now conf.now }

@@ -24,7 +24,7 @@ fn last_changes(alloc: Global, run: &Run) -> Result<Vec<Option<usize>>, AllocErr
     Ok(ends)
 }
 
-/// Whether this process ends in the configuration; one without a log doesn't.
+/// Returns whether this process ends in the configuration; one without a log doesn't.
 fn is_there(run: &Run, ends: &[Option<usize>], proc: Proc, conf: &ConfId) -> bool
     requires { AreEnds run.now.logs ends.now }
     ensures { IsTrue result ↔ EndsIn (log_of run.now.logs proc) conf.now }

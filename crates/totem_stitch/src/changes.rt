@@ -18,7 +18,7 @@ pub fn regular_at(log: &[Entry], at: usize) -> Option<RingId>
     }
 }
 
-/// Returns the configuration of the next change behind this index, if that is transitional.
+/// Returns the configuration of the next change after this index, if that is transitional.
 pub fn moves_next(log: &[Entry], at: usize) -> Option<ConfId>
     requires { at < length log.now }
     ensures found { IfSome result (MovesNext log.now at) }

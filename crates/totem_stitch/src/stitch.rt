@@ -28,7 +28,7 @@ impl Stitch {
     }
 
     /// Returns what follows the regular configuration of this ring in the log of this process: the configuration of the next change
-    /// behind the first change to it, if that is transitional. It takes no memory and reads no log.
+    /// after the first change to it, if that is transitional. It takes no memory and reads no log.
     pub fn follow(&self, proc: Proc, ring: RingId) -> Option<ConfId>
         ensures { result ≡ follower_of self.now proc ring }
     {

@@ -30,7 +30,7 @@ not_below run lines e f x y n m at_e at_f never (i, j, is_i, is_j, lt) =
     let second : j ≡ m = (let h = sym is_j ∙ at_f.number in cc) in
     never (rw (first, second) at lt)
 
--- ---- rising numbers
+-- ---- ascending numbers
 
 pub all_rise : (run : List Log) (lines : List Numbering) → Rising run → Matches run lines → LinesRise lines (length lines) → Rise run lines
 all_rise run lines rising matches h e f (x, at_e) (y, at_f) (same, lt) =

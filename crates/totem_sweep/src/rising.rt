@@ -1,4 +1,4 @@
-//! Tests whether the numbers of each log rise.
+//! Tests whether the numbers of each log are ascending.
 ghost use Rattle.std.specs.Prelude.{MatchBool, length};
 ghost use Rattle.totem_sweep.specs.Rising.{RisesBefore, FallsSomewhere, LinesRise, LineFalls};
 

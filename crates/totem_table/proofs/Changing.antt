@@ -108,7 +108,7 @@ next_listed log list j a b lists at_a at_b = record {
       ]
     ]
 
--- behind the last one of the list no change follows
+-- after the last one of the list no change follows
 pub none_follows : (log : List Entry) (list : List ℕ) (j a : ℕ) → ListsChanges log (length log) list → slice_get list j ≡ Some a → length list ≤ j + 1 → IsNextOrEnd log a (length log)
 none_follows log list j a lists at_a end = record {
   later = (lists.each j a at_a).0;

@@ -1,4 +1,4 @@
--- What stands in a list behind which one more element was put.
+-- What stands in a list after which one more element was put.
 use Rattle.std.proofs.Common.{◌≡◌, ℕ, zero, suc, ◌+◌, ◌⊎◌, inl, inr, List, [], ◌∷◌, ◌++◌, length, slice_get, Some, refl, ◌∙◌, ap, arith}
 use Rattle.std.proofs.lemmas.List.{length_push}
 
@@ -6,7 +6,7 @@ use Rattle.std.proofs.lemmas.List.{length_push}
 pub nothing : {X : Type 0} (k : ℕ) (x : X) → slice_get [] k ≡ Some x → ⊥
 nothing k x at = cc
 
--- the element that is put behind the others, or one of these
+-- the element that is put after the others, or one of these
 pub before_push : {X : Type 0} (xs : List X) (x : X) (k : ℕ) (y : X) → slice_get (xs ++ (x ∷ [])) k ≡ Some y → (slice_get xs k ≡ Some y) ⊎ ((k ≡ length xs) × (x ≡ y))
 before_push [] x zero y at = inr (refl, cc)
 before_push [] x (suc k) y at = absurd (nothing k y at)

@@ -24,7 +24,7 @@ pub trait ChangeRegister {
     fn spares(&self)
         ensures { (p : ℕ) (log : List Entry) (i : ℕ) → (IsChange log i → ⊥) → knows self.now p log i };
 
-    /// Enters the change at this index; `next` is the index of the change behind it, or the length of the log. Those
+    /// Enters the change at this index; `next` is the index of the change after it, or the length of the log. Those
     /// before it in the log have been entered. If memory is refused, the register is of no more use.
     fn enter_change(
         &mut self,

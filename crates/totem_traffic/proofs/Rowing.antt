@@ -136,7 +136,7 @@ no_gaps_none logs list gots = record { each = λ j k a b before lt at_j at_k. ab
 pub lacks_behind_none : (logs : LogSet) (list : List Following) (gots : List Got) (rows : Rows) → LacksBehindTo logs list gots 0 rows
 lacks_behind_none logs list gots rows = record { each = λ k got lt at log other few by lacks behind. absurd (omega arith) }
 
--- ---- who stands behind
+-- ---- who stands after
 
 pub behind_none : (list : List Following) (sender : ℕ) (logs : LogSet) → HasAllBehind list sender 0 logs
 behind_none list sender logs = record { each = λ k f other lt at member has. absurd (omega arith) }

@@ -50,7 +50,7 @@ IsNotSafeThere got = (got.safe ≡ true) → IsEmpty got.regular
 abbrev pub AreAllAmong : LogSet → MemberLogs → Type 0
 AreAllAmong logs members = IsTrue members.all × IsWithin members.logs logs
 
--- none of these delivers it behind c in this configuration, or it reaches all its members
+-- none of these delivers it after c in this configuration, or it reaches all its members
 abbrev pub IsSafeBehind : LogSet → LogSet → Following → Type 0
 IsSafeBehind behind reached following = AreApart following.logs behind ⊎ AreAllAmong reached following.members
 

@@ -105,7 +105,7 @@ pub record HeardBefore (run : List Log) (c : RingId) (sents : List Sent) (gots :
   pub each : (j k : ℕ) (a : Got) (s t : Sent) (p h i : ℕ) → slice_get gots j ≡ Some a → IsOf sents a s → slice_get sents k ≡ Some t
       → Delivers (log_of run p) h s.message (Regular c) → Sends (log_of run p) i t.message (Regular c) → h < i → j < t.before
 
--- a message is delivered behind those that stand before its send
+-- a message is delivered after those that stand before its send
 pub record GotBehind (sents : List Sent) (gots : List Got) : Type 0 where
   pub each : (j : ℕ) (a : Got) (s : Sent) → slice_get gots j ≡ Some a → IsOf sents a s → s.before ≤ j
 

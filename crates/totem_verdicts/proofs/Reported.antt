@@ -1,4 +1,4 @@
--- A run and a certificate behind it, reports that were not written, and a no in words.
+-- A run and a certificate after it, reports that were not written, and a no in words.
 use Rattle.std.proofs.Common.{◌≡◌, inl, inr, ℕ, List, ◌++◌, Option, Some, None, Result, Ok, Err, map, refl, sym, ap, ◌∙◌, IfSome, append_assoc}
 use Rattle.std.specs.Io.KnownBytes.{Consumes}
 use Rattle.totem_ids.specs.Sources.{Seen}
@@ -45,7 +45,7 @@ whole_pair a b c run cert fits last = record {
   failures = last.failures ∙ fits.0.taken.failures;
 }
 
--- behind the run no certificate was read
+-- after the run no certificate was read
 pub certificate_failed : (a b c : Seen) (was : Held) (run : Run) (e : CertFault) → FitsRun a b run → IsUnreadable b c e → ChecksText a c was was (Err (cert_verdict_fault e))
 certificate_failed a b c was run cert_faults.Memory fits (inl h) = (refl, h ∙ fits.0.taken.failures)
 certificate_failed a b c was run cert_faults.Memory fits (inr (between, lines, is, ends)) = absurd ends

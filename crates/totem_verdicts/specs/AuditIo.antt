@@ -56,7 +56,7 @@ ReadsWhole old new (Ok run) = IsWhole old new run
 ReadsWhole old new (Err fault) = IsRefused old new fault
 
 -- the report was written; or nothing was: the input was refused or failed, or memory was refused; or the sink failed
--- in this call, behind a whole run
+-- in this call, after a whole run
 abbrev pub Audits : Seen → Seen → Held → Held → Result Outcome VerdictFault → Type 0
 Audits old new was is (Ok outcome) = IsAudited old new was is outcome
 Audits old new was is (Err (faults.Run fault)) = (is ≡ was) × (fault ≢ run_faults.Memory) × IsRefused old new fault

@@ -65,7 +65,7 @@ pub record IsWholePair (old new : Seen) (run : RunRecord) (cert : CertRecord) : 
   pub taken : Consumes old.remaining new.remaining (run_text run ++ cert_text cert)
   pub failures : new.failures ≡ old.failures
 
--- a run was read, and behind it no certificate
+-- a run was read, and after it no certificate
 abbrev pub LacksCertificate : Seen → Seen → CertFault → Type 0
 LacksCertificate old new fault = (between : Seen) × (run : Run) × FitsRun old between run × IsUnreadable between new fault
 
@@ -98,7 +98,7 @@ pub record IsRefusedFor (old new : Seen) (fault : CheckFault) : Type 0 where
   pub of_certificate : IsOfCertificate fault
 
 -- the report was written; or nothing was: the input was refused or failed, or memory was refused; or the sink failed
--- in this call, behind a whole run and its certificate
+-- in this call, after a whole run and its certificate
 abbrev pub ChecksText : Seen → Seen → Held → Held → Result Outcome VerdictFault → Type 0
 ChecksText old new was is (Ok outcome) = IsChecked old new was is outcome
 ChecksText old new was is (Err (faults.Run fault)) = (is ≡ was) × (fault ≢ run_faults.Memory) × ReadsRun old new (Err fault)

@@ -116,7 +116,7 @@ pub data Answers (kind : ErrorKind) (was is quiet said : Held) : ℕ → Type 0 
 
 -- ---- verdicts
 
--- what is told of a fault: its line with words behind it, or that memory was refused for these; and the status
+-- what is told of a fault: its line with words after it, or that memory was refused for these; and the status
 pub data Points (fault : VerdictFault) (quiet said : Held) : ℕ → Type 0 where
   pointed : (words : List ℕ) → Tells quiet said (fault_line fault ++ words) → Points fault quiet said (fault_status fault)
   wordless : Tells quiet said memory_line → Points fault quiet said 3
@@ -129,11 +129,11 @@ pub data Judges (old new : Seen) (was is quiet said : Held) : ℕ → Type 0 whe
   failed : (fault : VerdictFault) → Audits old new was is (Err fault) → Tells quiet said (fault_line fault) → Judges old new was is quiet said (fault_status fault)
   -- a run was judged, and told of in words
   told : (outcome : Outcome) → ExplainsRun old new was is (Ok outcome) → said ≡ quiet → Judges old new was is quiet said (outcome_status outcome)
-  -- it was not, and the fault is told with words behind it
+  -- it was not, and the fault is told with words after it
   untold : (fault : VerdictFault) (status : ℕ) → ExplainsRun old new was is (Err fault) → Points fault quiet said status → Judges old new was is quiet said status
   -- a run was judged, and drawn
   drawn : (outcome : Outcome) → DrawsRun old new was is (Ok outcome) → said ≡ quiet → Judges old new was is quiet said (outcome_status outcome)
-  -- it was not, and the fault is told with words behind it
+  -- it was not, and the fault is told with words after it
   undrawn : (fault : VerdictFault) (status : ℕ) → DrawsRun old new was is (Err fault) → Points fault quiet said status → Judges old new was is quiet said status
   -- a run was checked with its certificate
   checked : (outcome : Outcome) → ChecksText old new was is (Ok outcome) → said ≡ quiet → Judges old new was is quiet said (outcome_status outcome)

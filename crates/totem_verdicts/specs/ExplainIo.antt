@@ -19,7 +19,7 @@ use Rattle.totem_verdicts.specs.AuditIo.{IsWhole, Says, Audits}
 use Rattle.totem_verdicts.specs.declared.outcome.Outcome.{Outcome}
 use Rattle.totem_verdicts.specs.declared.verdict_fault.VerdictFault.{VerdictFault}
 
--- a fault behind an empty line: its line as the report has it, and what is told of it
+-- a fault after an empty line: its line as the report has it, and what is told of it
 abbrev pub explained_text : Version → Explained → List ℕ
 explained_text version one = line [] ++ line (fault_text (process_text version) one.fault) ++ string_bytes one.text
 

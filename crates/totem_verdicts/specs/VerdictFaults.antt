@@ -8,7 +8,7 @@ use Rattle.totem_evs.specs.declared.writing.WriteFault.TheVariants as write_faul
 use Rattle.totem_verdicts.specs.declared.verdict_fault.VerdictFault.{VerdictFault}
 use Rattle.totem_verdicts.specs.declared.verdict_fault.VerdictFault.TheVariants as faults
 
--- what a fault of the run is for the whole call: want of memory is told as such
+-- what a fault of the run is for the whole call: out of memory is told as such
 abbrev pub run_verdict_fault : RunFault → VerdictFault
 run_verdict_fault run_faults.Memory = faults.Memory
 run_verdict_fault fault = faults.Run fault

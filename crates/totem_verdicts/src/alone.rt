@@ -13,7 +13,7 @@ use std::sync::Wait;
 use std::thread::Threads;
 use totem_ids::{Sink, Source};
 
-/// What the person is told who asks the auditor alone for a run.
+/// What is printed for a person who asks the auditor alone for a run.
 const LACKING: &str = "\
 totem: this is the auditor alone: sim, run and explain --script want the whole program
 ";

@@ -18,7 +18,7 @@ use totem_audit::{OpenGate, Verdict, Workers, audit, audit_with};
 use totem_evs::{Run, RunFault, read_end, read_run};
 use totem_ids::{Sink, Source};
 
-/// Reads a run that has nothing behind it.
+/// Reads a run that has nothing after it.
 pub(crate) fn read_whole<R: Source>(alloc: Global, input: &mut R) -> Result<Run, RunFault>
     ensures { ReadsWhole (seen R.remaining R.failures input.old) (seen R.remaining R.failures input.new) result }
 {

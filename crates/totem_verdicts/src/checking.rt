@@ -13,7 +13,7 @@ use totem_check::{CheckFault, check};
 use totem_evs::read_run;
 use totem_ids::{Sink, Source};
 
-/// Reads a certificate that has nothing behind it.
+/// Reads a certificate that has nothing after it.
 fn read_last<R: Source>(alloc: Global, input: &mut R) -> Result<Certificate, CertFault>
     ensures { ReadsLast (seen R.remaining R.failures input.old) (seen R.remaining R.failures input.new) result }
 {
@@ -25,7 +25,7 @@ fn read_last<R: Source>(alloc: Global, input: &mut R) -> Result<Certificate, Cer
     }
 }
 
-/// Reads the text of a run and, directly behind it, that of a certificate, to the end of the input. Checks both, and
+/// Reads the text of a run and, directly after it, that of a certificate, to the end of the input. Checks both, and
 /// writes the report.
 pub fn check_io<R: Source, W: Sink>(
     alloc: Global,

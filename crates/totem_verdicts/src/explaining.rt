@@ -1,4 +1,4 @@
-//! From the text of a run to what a person is told of its verdict.
+//! From the text of a run to the explanation of its verdict.
 ghost use Rattle.std.specs.Prelude.{◌≡◌, []};
 ghost use Rattle.std.specs.List.{flat_map};
 ghost use Rattle.totem_ids.specs.Sources.{seen};
@@ -83,7 +83,7 @@ fn write_no<S: Sink>(
     Ok(())
 }
 
-/// Writes what a person is told of a verdict on the run.
+/// Writes the explanation of a verdict on the run.
 fn write_told<S: Sink>(
     alloc: Global,
     run: &Run,
@@ -113,7 +113,7 @@ fn write_told<S: Sink>(
     }
 }
 
-/// Reads the text of a run to the end of the input, judges the run, and writes what a person is told of the verdict
+/// Reads the text of a run to the end of the input, judges the run, and writes the explanation of the verdict
 /// (docs/SPECIFICATIONS.md, "Explanations"). The outcome is that of `audit_io`, and the text is the same for every number
 /// of workers.
 pub fn explain_io<T: Threads + Wait + Sync, R: Source, W: Sink>(

@@ -23,7 +23,7 @@ fn as_many(workers: u32) -> Workers {
     Workers::new(workers).unwrap_or(Workers::one())
 }
 
-/// Returns what a person is told of a fault behind its line.
+/// Returns what is printed about a fault after its line.
 fn words_of<R: Source>(
     alloc: Global,
     fault: &VerdictFault,

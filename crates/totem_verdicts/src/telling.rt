@@ -1,4 +1,4 @@
-//! What the program tells on its stream of errors. Telling takes no memory, and passes over a failure of that stream.
+//! What the program prints on standard error. Printing takes no memory, and ignores a failure of that stream.
 ghost use Rattle.std.specs.Prelude.{◌≡◌, ◌++◌, decimal};
 ghost use Rattle.totem_ids.specs.Processes.{process_text};
 ghost use Rattle.totem_ids.specs.Writing.{Writes};
@@ -127,7 +127,7 @@ fn put_fault<E: Sink>(errors: &mut E, fault: &VerdictFault) -> Result<(), Failed
     }
 }
 
-/// Writes the line of a fault, and words behind it.
+/// Writes the line of a fault, and words after it.
 #[tactic(auto, using(totem_ids::proofs::Writers::wrote_then, totem_ids::proofs::Writers::wrote_failed))]
 fn put_with_words<E: Sink>(errors: &mut E, fault: &VerdictFault, words: &str) -> Result<(), Failed>
     ensures { Writes (bare E.contents E.failures errors.old) (bare E.contents E.failures errors.new) result
@@ -153,7 +153,7 @@ pub fn tell_fault<E: Sink>(errors: &mut E, fault: &VerdictFault) -> u8
     status_of(fault)
 }
 
-/// Tells a fault with words behind its line, and returns its status.
+/// Prints a fault with words after its line, and returns its status.
 pub fn tell_with_words<E: Sink>(errors: &mut E, fault: &VerdictFault, words: &str) -> u8
     ensures line { Tells (bare E.contents E.failures errors.old) (bare E.contents E.failures errors.new) (fault_line fault.now ++ words.now) }
     ensures status { result ≡ fault_status fault.now }

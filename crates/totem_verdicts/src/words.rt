@@ -9,11 +9,11 @@ use std::alloc::{AllocError, Global};
 pub enum Asked {
     /// Its audit, by 1 to 64 workers.
     Audit { workers: u32 },
-    /// The same audit, told in words, by 1 to 64 workers.
+    /// The same audit, explained in words, by 1 to 64 workers.
     Explain { workers: u32 },
     /// The same audit, drawn as a picture, by 1 to 64 workers.
     Draw { workers: u32 },
-    /// The check of the run and the certificate behind it.
+    /// The check of the run and the certificate after it.
     Check,
 }
 
@@ -28,7 +28,7 @@ pub enum Words {
     Sim,
     /// The run that nodes in threads record.
     Run(RunWords),
-    /// The same, and nobody is told how far it is.
+    /// The same, without progress.
     RunQuietly(RunWords),
 }
 
@@ -88,7 +88,7 @@ fn explain_command<'a>(alloc: Global) -> Result<Command<'a>, AllocError> {
         .arg(script_option(alloc).conflicts_with("svg")?)
 }
 
-/// Returns what the words behind `explain` ask for.
+/// Returns what the words after `explain` ask for.
 fn explain_words(matches: &ArgMatches<'_>) -> Words {
     let workers = workers_of(matches);
     if matches.get_flag("script") {

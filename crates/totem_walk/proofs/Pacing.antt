@@ -1,4 +1,4 @@
--- A walk along the sender's log: the pace behind its first entries, and the order that is kept so far.
+-- A walk along the sender's log: the pace after its first entries, and the order that is kept so far.
 use Rattle.std.proofs.Common.{◌≡◌, ℕ, ◌+◌, ◌<◌, ◌≤◌, ◌⊎◌, max, inl, inr, List, length, slice_get, Option, Some, None, refl, sym, ◌∙◌, subst, arith}
 use Rattle.std.proofs.lemmas.Option.{slice_get_within}
 use Rattle.totem_ids.specs.declared.conf.ConfId.{ConfId}

@@ -9,7 +9,7 @@ use Rattle.totem_walk.specs.declared.pace.Pace.TheVariants.{Anywhere, Behind, No
 use Rattle.totem_walk.specs.Acts.{SendsIn, HandlesIn, HandlesNothing, Handles}
 use Rattle.totem_walk.specs.Deliveries.{index_in}
 
--- a delivery at k does not come behind all that was handled before
+-- a delivery at k does not come after all that was handled before
 abbrev pub IsEarly : Pace → ℕ → Type 0
 IsEarly Anywhere k = ⊥
 IsEarly (Behind last) k = k ≤ last
@@ -73,7 +73,7 @@ pub record IsLacking (log : List Entry) (x : ConfId) (deliveries : Deliveries) (
   pub handled : HandlesBefore log x n message
   pub lacks : index_in deliveries message ≡ None
 
--- this is the pace behind the first n entries
+-- this is the pace after the first n entries
 abbrev pub IsPace : List Entry → ConfId → Deliveries → ℕ → Pace → Type 0
 IsPace log x deliveries n Anywhere = HandlesNothingBefore log x n
 IsPace log x deliveries n (Behind last) = AreReached log x deliveries n last

@@ -44,9 +44,9 @@ fn is_causal(
     Ok(keeps_order(&deliveries, sending, &ConfId::Regular(ring), looks))
 }
 
-/// Returns whether the receiver delivers what the sender sends in the regular configuration of this ring only behind all that the
+/// Returns whether the receiver delivers what the sender sends in the regular configuration of this ring only after all that the
 /// sender sent or delivered there before (docs/SPECIFICATIONS.md, "5 Causal delivery"). What the receiver delivers in the
-/// configuration that follows counts too. `looks` rises by one for each entry that is read: the receiver's log is read whole, the
+/// configuration that follows counts too. `looks` grows by one for each entry that is read: the receiver's log is read whole, the
 /// sender's up to the first send that breaks 5. It takes n log n steps.
 pub fn walk(
     alloc: Global,

@@ -8,7 +8,7 @@ use crate::deliveries::Deliveries;
 use totem_evs::Entry;
 use totem_ids::ConfId;
 
-/// From where on the receiver may deliver what the sender sends next: behind all that the sender sent and delivered so far.
+/// From where on the receiver may deliver what the sender sends next: after all that the sender sent and delivered so far.
 #[derive(Clone, Copy)]
 pub enum Pace {
     /// Anywhere: there was nothing yet.
@@ -60,7 +60,7 @@ impl Pace {
         }
     }
 
-    /// Returns the pace behind the sender's next entry.
+    /// Returns the pace after the sender's next entry.
     pub fn behind(&self, deliveries: &Deliveries, conf: &ConfId, entry: &Entry) -> Pace
         ensures { GoesOn deliveries.now conf.now entry.now self.now result }
     {
