@@ -19,7 +19,8 @@ use Rattle.totem_evs.specs.AgreementFaults.{GoesAt}
 use Rattle.totem_evs.specs.Answers.{ComesFirst, IsLeast}
 use Rattle.totem_evs.proofs.LogOf.{less_or_not}
 use Rattle.totem_table.specs.Search.{place, NoneFrom, IsLeastFrom, HoldsOfNone}
-use Rattle.totem_rules.proofs.Staying.{one_next, same_change, change_within}
+use Rattle.totem_rules.proofs.Staying.{same_change, change_within}
+use Rattle.totem_evs.proofs.NextChanges.{one_next}
 use Rattle.totem_agreement.specs.declared.stay.Stay.{Stay}
 use Rattle.totem_rules.specs.Stays.{IsStay}
 use Rattle.totem_agreement.specs.Acts.{IsAmong, DeliversHere, DeliversNot}

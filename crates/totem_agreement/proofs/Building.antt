@@ -16,7 +16,7 @@ use Rattle.totem_agreement.specs.Arrivals.{IsArrival, AreArrivals}
 use Rattle.totem_rules.specs.Stays.{AreNextTwo, IsStay}
 use Rattle.totem_agreement.specs.Stays.{IsStayOf, HasStay, AreStays}
 use Rattle.totem_rules.proofs.Staying.{is_stay}
-use Rattle.totem_table.proofs.Pushing.{nothing, before_push}
+use Rattle.totem_evs.proofs.Pushing.{nothing, before_push}
 use Rattle.totem_rules.proofs.LogEnds.{ending_of_at, quiet_never_fails}
 use Rattle.totem_agreement.proofs.KnownStays.{keeps_rules}
 

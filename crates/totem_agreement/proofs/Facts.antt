@@ -12,7 +12,8 @@ use Rattle.totem_evs.specs.Changes.{Names}
 use Rattle.totem_evs.specs.Following.{Follows, Com, DeliversIn}
 use Rattle.totem_evs.specs.Answers.{MeetsPasses}
 use Rattle.totem_evs.proofs.LogOf.{less_or_not}
-use Rattle.totem_rules.proofs.Staying.{same_first, one_next, names_no_change, same_change}
+use Rattle.totem_rules.proofs.Staying.{names_no_change, same_change}
+use Rattle.totem_evs.proofs.NextChanges.{same_first, one_next}
 use Rattle.totem_agreement.specs.declared.stay.Stay.{Stay}
 use Rattle.totem_agreement.specs.declared.stays.Stays.{Stays}
 use Rattle.totem_rules.specs.Stays.{IsStay}

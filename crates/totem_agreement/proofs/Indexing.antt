@@ -14,7 +14,7 @@ use Rattle.totem_evs.specs.declared.entry.Entry.TheVariants.{Conf, Send, Deliver
 use Rattle.totem_evs.specs.declared.log.Log.{Log}
 use Rattle.totem_evs.specs.Events.{Delivers, Sends}
 use Rattle.totem_evs.proofs.LogOf.{less_or_not}
-use Rattle.totem_table.proofs.Pushing.{Along}
+use Rattle.totem_evs.proofs.Pushing.{Along}
 use Rattle.totem_ids.proofs.Exact.{equal_at, apart_or_at}
 use Rattle.totem_agreement.specs.declared.act.Act.{Act}
 use Rattle.totem_agreement.specs.declared.act.Act.TheVariants as acts

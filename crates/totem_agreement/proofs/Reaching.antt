@@ -16,7 +16,8 @@ use Rattle.totem_evs.specs.Delivery.{WasSentFor}
 use Rattle.totem_evs.specs.Following.{Follows, Com}
 use Rattle.totem_evs.specs.Answers.{MeetsPasses}
 use Rattle.totem_evs.proofs.LogOf.{less_or_not}
-use Rattle.totem_rules.proofs.Staying.{same_first, one_next, names_no_change, same_change}
+use Rattle.totem_rules.proofs.Staying.{names_no_change, same_change}
+use Rattle.totem_evs.proofs.NextChanges.{same_first, one_next}
 use Rattle.totem_agreement.specs.declared.stays.Sending.{Sending}
 use Rattle.totem_rules.specs.Stays.{IsStay}
 use Rattle.totem_agreement.specs.Acts.{IsSendingOf}

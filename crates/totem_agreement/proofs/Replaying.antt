@@ -8,7 +8,7 @@ use Rattle.totem_evs.specs.declared.entry.Entry.{Entry}
 use Rattle.totem_evs.specs.declared.entry.Entry.TheVariants.{Send, Deliver}
 use Rattle.totem_evs.specs.Events.{Delivers}
 use Rattle.totem_evs.proofs.LogOf.{less_or_not}
-use Rattle.totem_table.proofs.Pushing.{nothing, before_push, stands_before, stands_last, Along, along_none, along_more}
+use Rattle.totem_evs.proofs.Pushing.{nothing, before_push, stands_before, stands_last, Along, along_none, along_more}
 use Rattle.totem_agreement.specs.declared.stay.Stay.{Stay}
 use Rattle.totem_agreement.specs.declared.replay.Sent.{Sent}
 use Rattle.totem_agreement.specs.declared.replay.Replay.{Replay}

@@ -8,7 +8,7 @@ use Rattle.totem_agreement.specs.declared.replay.Sent.{Sent}
 use Rattle.totem_agreement.specs.declared.replay.Replay.{Replay}
 use Rattle.totem_agreement.specs.declared.origins.Origin.{Origin}
 use Rattle.totem_agreement.specs.Uniform.{IsBelow, SendsNext, IsOrigin, OriginsUpTo}
-use Rattle.totem_table.proofs.Pushing.{before_push, stands_before, stands_last}
+use Rattle.totem_evs.proofs.Pushing.{before_push, stands_before, stands_last}
 
 -- one number of a list is greater by one, and the others are as they were
 pub record IsOneMore (old new : List ℕ) (k : ℕ) : Type 0 where

@@ -1,9 +1,11 @@
--- What contracts see of the result of a job: the logs of its run, the job's number, and what the job found.
+-- What contracts see of the result of a job: the version and the logs of its run, the job's number, and what the job found.
 use Rattle.std.specs.Prelude.{ℕ, List}
+use Rattle.totem_ids.specs.declared.version.Version.{Version}
 use Rattle.totem_evs.specs.declared.log.Log.{Log}
 use Rattle.totem_agreement.specs.declared.findings.Findings.{Findings}
 
 pub record JobRecord : Type 0 where
+  pub version : Version
   pub logs : List Log
   pub job : ℕ
   pub findings : Findings

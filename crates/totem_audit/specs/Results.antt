@@ -1,6 +1,7 @@
 -- What a result of a job says (docs/SPECIFICATIONS.md, "Passes").
 use Rattle.std.specs.Prelude.{◌≡◌, ◌+◌, ℕ, List, slice_get, Some}
 use Rattle.totem_ids.specs.declared.ring.RingId.{RingId}
+use Rattle.totem_ids.specs.declared.version.Version.{Version}
 use Rattle.totem_evs.specs.declared.log.Log.{Log}
 use Rattle.totem_evs.specs.Answers.{AreRings}
 use Rattle.totem_agreement.specs.declared.findings.Findings.{Findings}
@@ -26,7 +27,8 @@ pub record IsFoundBy (run : List Log) (job : ℕ) (findings : Findings) : Type 0
   pub found : AreFindings run ring findings
 
 -- the result names this run and this job, and has what the job finds
-pub record IsResultOf (run : List Log) (number : ℕ) (r : JobRecord) : Type 0 where
+pub record IsResultOf (version : Version) (run : List Log) (number : ℕ) (r : JobRecord) : Type 0 where
+  pub version : r.version ≡ version
   pub logs : r.logs ≡ run
   pub job : r.job ≡ number
   pub right : IsFoundBy run number r.findings

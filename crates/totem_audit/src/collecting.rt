@@ -86,11 +86,11 @@ fn take_in(jobs: &Jobs<'_>, known: &mut Vec<Option<Findings>>, done: JobResult<'
     requires jobs { AreJobs jobs.now.run.now.logs jobs.now }
     requires known { AreKnown jobs.now.run.now.logs jobs.now.rings.items known.old.items }
     ensures known { AreKnown jobs.now.run.now.logs jobs.now.rings.items known.new.items }
-    ensures first { done.entry.logs ≡ jobs.now.run.now.logs → slice_index_or known.old.items (done.entry.job - 1) None ≡ None → known.new.items ≡ slice_set known.old.items (done.entry.job - 1) (Some done.entry.findings) }
+    ensures first { done.entry.version ≡ jobs.now.run.now.version → done.entry.logs ≡ jobs.now.run.now.logs → slice_index_or known.old.items (done.entry.job - 1) None ≡ None → known.new.items ≡ slice_set known.old.items (done.entry.job - 1) (Some done.entry.findings) }
 {
     let judged = done.run();
     let run = jobs.run;
-    if !judged.logs.is(&run.logs) {
+    if judged.version != run.version || !judged.logs.is(&run.logs) {
         return;
     }
     let index = done.job() as usize - 1;

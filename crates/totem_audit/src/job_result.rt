@@ -24,14 +24,15 @@ impl<'r> Model for JobResult<'r> {
 
     ghost use Rattle.totem_audit.specs.Results.{IsFoundBy};
 
-    ghost view = { λ r. record { logs = r.run.now.logs; job = r.job; findings = r.findings } };
+    ghost view = { λ r. record { version = r.run.now.version; logs = r.run.now.logs; job = r.job; findings = r.findings } };
 
     ghost invariant = { λ r. IsFoundBy r.run.now.logs r.job r.findings };
 }
 
 impl<'r> JobResult<'r> {
     pub fn run(&self) -> &'r Run
-        ensures { result.now.logs ≡ self.now.logs }
+        ensures version { result.now.version ≡ self.now.version }
+        ensures logs { result.now.logs ≡ self.now.logs }
     {
         self.run
     }
@@ -78,7 +79,7 @@ fn index_of(job: u32, count: usize) -> Option<usize>
 #[tactic(auto, using(crate::proofs::Results::found_by))]
 pub fn do_job(alloc: Global, run: &Run, job: u32) -> Result<Option<JobResult<'_>>, AllocError>
     requires { MeetsPasses run.now.logs }
-    ensures { IfOk result (λ done. MatchOption done (HasJob run.now.logs job → ⊥) (IsResultOf run.now.logs job)) }
+    ensures { IfOk result (λ done. MatchOption done (HasJob run.now.logs job → ⊥) (IsResultOf run.now.version run.now.logs job)) }
 {
     let jobs = Jobs::build(alloc, run)?;
     let Some(index) = index_of(job, jobs.rings.len()) else {

@@ -13,7 +13,8 @@ use std::sync::Wait;
 use std::thread::{Threads, join};
 use totem_agreement::Jobs;
 
-/// A channel that holds these spans, in their order, and ends after them. Nothing waits for space, and no more memory is taken.
+/// Returns a channel that holds these spans, in their order, and ends after them. Nothing waits for space, and no more memory is
+/// taken. A span that could not be sent is left out: whoever collects the results does its jobs.
 pub fn channel_of<T: Wait>(
     rt: &T,
     alloc: Global,
@@ -22,7 +23,7 @@ pub fn channel_of<T: Wait>(
     let (sender, receiver) = bounded(alloc, spans.len())?;
     for span in spans {
         if sender.send(rt, span).is_err() {
-            return Err(AllocError);
+            break;
         }
     }
     Ok(receiver)

@@ -50,3 +50,5 @@ pub mod Gathers
 pub mod FoldedRun
 pub mod PartRuns
 pub mod LogOf
+pub mod Pushing
+pub mod NextChanges

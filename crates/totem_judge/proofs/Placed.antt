@@ -20,7 +20,8 @@ use Rattle.totem_traffic.specs.declared.traffic.Traffic.{Traffic}
 use Rattle.totem_traffic.specs.LogSets.{Has}
 use Rattle.totem_traffic.specs.Traffics.{IsLogAt, AreLogsOf, AreMembers, IsFollowingAs, HasFollowing}
 use Rattle.totem_traffic.proofs.Facts.{all_at, has_log}
-use Rattle.totem_rules.proofs.Staying.{one_next, same_change, change_within}
+use Rattle.totem_rules.proofs.Staying.{same_change, change_within}
+use Rattle.totem_evs.proofs.NextChanges.{one_next}
 use Rattle.totem_traffic.proofs.Together.{one_following, follows_too}
 use Rattle.totem_judge.specs.declared.gathered.Gathered.{Gathered}
 use Rattle.totem_judge.specs.declared.gathered.Stay.{Stay}

@@ -20,7 +20,7 @@ use Rattle.totem_passes.specs.Turns.{HasNoSuccession}
 use Rattle.totem_rules.specs.Ends.{IsChangeTo, NeverChangesTo}
 use Rattle.totem_rules.specs.Sent.{WasSentTo, IsSendTo}
 use Rattle.totem_evs.proofs.LogOf.{less_or_not}
-use Rattle.totem_rules.proofs.Staying.{same_first}
+use Rattle.totem_evs.proofs.NextChanges.{same_first}
 use Rattle.totem_rules.proofs.SentOrNot.{sent_or_not}
 use Rattle.totem_passes.proofs.Starting.{Begins, EachBegins, begins_at, one_begins, none_of_all}
 use Rattle.totem_passes.proofs.Turning.{one_succession}

@@ -9,7 +9,7 @@ use Rattle.totem_evs.specs.Changes.{StaysInPlace}
 use Rattle.totem_evs.specs.Following.{LastChange}
 use Rattle.totem_evs.specs.Unsettled.{EndsIn}
 use Rattle.totem_evs.proofs.LogOf.{less_or_not}
-use Rattle.totem_rules.proofs.Along.{Along, along_none, along_more}
+use Rattle.totem_evs.proofs.Pushing.{Along, along_none, along_more}
 use Rattle.totem_rules.specs.Ends.{GoesOn, IsLast}
 use Rattle.totem_rules.specs.Endings.{StandsAtEnd, EndsNowhere, IsEnd, AreEnds}
 

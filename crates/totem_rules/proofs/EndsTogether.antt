@@ -16,7 +16,7 @@ use Rattle.totem_evs.specs.Answers.{ComesFirst, IsLeastBreak}
 use Rattle.totem_evs.proofs.LogOf.{Rising, log_of_cases, log_of_at, in_order, less_or_not}
 use Rattle.totem_rules.specs.declared.ends.LogEnd.{LogEnd}
 use Rattle.totem_rules.specs.Ends.{GoesOn, HasNoChange, StandsLast, IsLast, IsLogEnd, AreLogEnds, LogShares, IsLogOf, HasNoLog, AllShare, SomeStrays, StraysAt, EndsWithAll}
-use Rattle.totem_rules.proofs.Along.{Along, along_none, along_more}
+use Rattle.totem_evs.proofs.Pushing.{Along, along_none, along_more}
 use Rattle.totem_rules.proofs.Placed.{same_place}
 use Rattle.totem_rules.proofs.LogEnds.{ending_of_at}
 

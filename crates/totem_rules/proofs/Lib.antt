@@ -8,7 +8,6 @@ pub mod ChangesMet
 pub mod Walk
 pub mod Placed
 pub mod Orderliness
-pub mod Along
 pub mod LogEnds
 pub mod EndsTogether
 pub mod Ending

@@ -14,7 +14,7 @@ use Rattle.totem_evs.specs.Following.{IsFirstChange, IsNextChange, Follows, Com}
 use Rattle.totem_rules.specs.Ends.{IsChangeTo}
 use Rattle.totem_rules.specs.Sent.{WasSentTo, IsSendTo}
 use Rattle.totem_evs.proofs.LogOf.{less_or_not, log_of_cases}
-use Rattle.totem_rules.proofs.Staying.{one_next, same_first}
+use Rattle.totem_evs.proofs.NextChanges.{one_next, same_first}
 use Rattle.totem_rules.proofs.Decisions.{same_ring_or_not}
 
 pub same_conf_or_not : (x y : ConfId) → (x ≡ y) ⊎ (x ≡ y → ⊥)

@@ -10,6 +10,7 @@ use Rattle.totem_evs.specs.Events.{ChangesTo, IsChange}
 use Rattle.totem_evs.specs.Following.{IsNextChange, IsFirstChange, LastChange, Follows, Com, NeverFails, FailedIn, StaysIn, IsNextOrEnd}
 use Rattle.totem_evs.specs.Changes.{Names, NamesOnly, StandsIn, StaysInPlace, TakesTurns}
 use Rattle.totem_evs.proofs.LogOf.{less_or_not}
+use Rattle.totem_evs.proofs.NextChanges.{one_next, NoneBetween}
 use Rattle.totem_rules.specs.Stays.{Bounds, TurnsAt, IsStay}
 
 -- what a log keeps of the specifications of the first two passes
@@ -17,13 +18,6 @@ pub record KeepsRules (log : List Entry) : Type 0 where
   pub placed : StaysInPlace log
   pub once : (i j : ℕ) (x : ConfId) → ChangesTo log i x → ChangesTo log j x → i ≡ j
   pub turns : TakesTurns log
-
--- one change comes next
-pub one_next : (log : List Entry) (i j k : ℕ) → IsNextChange log i j → IsNextChange log i k → j ≡ k
-one_next log i j k a b = elim (less_or_not j k) [
-  | inl lt ↦ absurd (b.none_between j a.later lt a.change)
-  | inr rest ↦ elim rest [ inl gt ↦ absurd (a.none_between k b.later gt b.change) | inr same ↦ same ]
-]
 
 -- an entry that names a configuration is no change
 pub names_no_change : (log : List Entry) (i : ℕ) (x : ConfId) → Names log i x → IsChange log i → ⊥
@@ -262,24 +256,6 @@ is_stay log c from turn end rules bounds = record {
 
 -- ---- the next change, found entry by entry
 
--- no change stands after i and before n
-pub record NoneBetween (log : List Entry) (i n : ℕ) : Type 0 where
-  pub none : (k : ℕ) → i < k → k < n → IsChange log k → ⊥
-
-pub none_between_yet : (log : List Entry) (i : ℕ) → NoneBetween log i (i + 1)
-none_between_yet log i = record { none = λ k lt below h. omega arith }
-
-pub no_change : (log : List Entry) (i : ℕ) (e : Entry) → slice_get log i ≡ Some e → ((x : ConfId) (ms : List ℕ) → e ≡ Conf x ms → ⊥) → IsChange log i → ⊥
-no_change log i e at other (x, (ms, h)) = other x ms cc
-
-pub none_between_more : (log : List Entry) (i n : ℕ) (e : Entry) → slice_get log n ≡ Some e → ((x : ConfId) (ms : List ℕ) → e ≡ Conf x ms → ⊥) → NoneBetween log i n → NoneBetween log i (n + 1)
-none_between_more log i n e at other before = record {
-  none = λ k lt below h. elim (less_or_not k n) [
-    | inl under ↦ before.none k lt under h
-    | inr more ↦ elim more [ inl over ↦ omega arith | inr same ↦ no_change log n e at other (rw same at h) ]
-  ];
-}
-
 -- no change follows up to the end of the log
 pub next_is_end : (log : List Entry) (i n : ℕ) → i < length log → length log ≤ n → NoneBetween log i n → IsNextOrEnd log i (length log)
 next_is_end log i n lt end before = record {
@@ -288,10 +264,3 @@ next_is_end log i n lt end before = record {
   change = λ below. absurd (omega arith);
   none_between = λ k after below h. before.none k after (omega arith) h;
 }
-
--- one change comes first
-pub same_first : (log : List Entry) (x : ConfId) (i j : ℕ) → IsFirstChange log x i → IsFirstChange log x j → i ≡ j
-same_first log x i j a b = elim (less_or_not i j) [
-  | inl lt ↦ absurd (b.none_before i lt a.change)
-  | inr more ↦ elim more [ inl gt ↦ absurd (a.none_before j gt b.change) | inr e ↦ e ]
-]

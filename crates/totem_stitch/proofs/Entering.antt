@@ -17,12 +17,13 @@ use Rattle.totem_stitch.specs.Tables.{ring_order, conf_order}
 use Rattle.totem_stitch.specs.declared.table.Table.{Table}
 use Rattle.totem_ids.proofs.Exact.{exact_ring, exact_conf}
 use Rattle.totem_stitch.proofs.Updating.{everywhere}
-use Rattle.totem_stitch.proofs.NextChanges.{one_change, one_next, one_first}
+use Rattle.totem_stitch.proofs.NextChanges.{one_change}
+use Rattle.totem_evs.proofs.NextChanges.{one_next, same_first}
 
 -- one configuration follows
 pub one_follower : (log : List Entry) (c : RingId) (t u : ConfId) → Follows log c t → Follows log c u → t ≡ u
 one_follower log c t u a b =
-    let starts = one_first log (Regular c) a.from b.from a.first b.first in
+    let starts = same_first log (Regular c) a.from b.from a.first b.first in
     let next : IsNextChange log b.from a.to = rw starts at a.next in
     let ends = one_next log b.from a.to b.to next b.next in
     let change : ChangesTo log b.to t = rw ends at a.change in
@@ -77,7 +78,7 @@ follows_now log n c t first moves = record { from = n; to = moves.next.to; first
 nothing_now : (log : List Entry) (n : ℕ) (c : RingId) → IsFirstChange log (Regular c) n → NoneComesNext log n → NothingFollows log c
 nothing_now log n c first none = record {
   never = λ t h. (
-      let same = one_first log (Regular c) h.from n h.first first in
+      let same = same_first log (Regular c) h.from n h.first first in
       let next : IsNextChange log n h.to = rw same at h.next in
       none.never t (record { to = h.to; next = next; change = h.change }) h.transitional);
 }

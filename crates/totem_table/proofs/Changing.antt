@@ -8,7 +8,7 @@ use Rattle.totem_evs.specs.Events.{IsChange}
 use Rattle.totem_evs.proofs.LogOf.{less_or_not}
 use Rattle.totem_evs.specs.Following.{IsNextOrEnd}
 use Rattle.totem_table.specs.Changes.{IsListed, ListsChanges, AreChanges}
-use Rattle.totem_table.proofs.Pushing.{nothing, before_push, stands_before, stands_last, Along, along_none, along_more}
+use Rattle.totem_evs.proofs.Pushing.{nothing, before_push, stands_before, stands_last, Along, along_none, along_more}
 
 -- an index is that of a change, or not
 pub change_or_not : (log : List Entry) (i : ℕ) → IsChange log i ⊎ (IsChange log i → ⊥)

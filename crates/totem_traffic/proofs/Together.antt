@@ -21,7 +21,7 @@ use Rattle.totem_traffic.specs.Traffics.{IsLogAt, IsTrafficOf}
 use Rattle.totem_traffic.specs.LogSets.{Has}
 use Rattle.totem_traffic.specs.Clean.{AllBefore, IsWhole, IsTogether, IsAtomic, Shows}
 use Rattle.totem_traffic.proofs.Facts.{all_at, has_log, got_of}
-use Rattle.totem_rules.proofs.Staying.{one_next}
+use Rattle.totem_evs.proofs.NextChanges.{one_next}
 
 -- ---- what follows a configuration in a log
 

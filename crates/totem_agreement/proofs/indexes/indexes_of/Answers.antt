@@ -1,6 +1,6 @@
 use Rattle.std.proofs.Common.{refl}
 use Rattle.std.proofs.lemmas.Option.{slice_get_read}
-use Rattle.totem_table.proofs.Pushing.{along_more}
+use Rattle.totem_evs.proofs.Pushing.{along_more}
 use Rattle.totem_agreement.proofs.indexes.indexes_of.Goals as goal
 
 pub loop-stay-preserved : goal.loop-stay-preserved

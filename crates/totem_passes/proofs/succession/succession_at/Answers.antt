@@ -1,6 +1,6 @@
 use Rattle.std.proofs.Common.{refl}
 use Rattle.std.proofs.lemmas.Option.{slice_get_read}
-use Rattle.totem_rules.proofs.Staying.{none_between_more}
+use Rattle.totem_evs.proofs.NextChanges.{none_between_more}
 use Rattle.totem_passes.proofs.Turning.{no_succession_at_end}
 use Rattle.totem_passes.proofs.succession.succession_at.Goals as goal
 

@@ -1,4 +1,4 @@
-use Rattle.totem_rules.proofs.Staying.{NoneBetween}
+use Rattle.totem_evs.proofs.NextChanges.{NoneBetween}
 use Rattle.totem_passes.proofs.succession.succession_at.Given as goal
 
 abbrev pub invariant-loop-next_at : goal.invariant-loop-next_at

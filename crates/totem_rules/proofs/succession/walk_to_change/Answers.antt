@@ -1,6 +1,7 @@
 use Rattle.std.proofs.Common.{refl}
 use Rattle.std.proofs.lemmas.Option.{slice_get_read}
-use Rattle.totem_rules.proofs.Staying.{none_between_more, next_is_end}
+use Rattle.totem_rules.proofs.Staying.{next_is_end}
+use Rattle.totem_evs.proofs.NextChanges.{none_between_more}
 use Rattle.totem_rules.proofs.succession.walk_to_change.Goals as goal
 
 pub loop-next-preserved : goal.loop-next-preserved

@@ -1,4 +1,4 @@
-use Rattle.totem_rules.proofs.Staying.{NoneBetween}
+use Rattle.totem_evs.proofs.NextChanges.{NoneBetween}
 use Rattle.totem_rules.proofs.succession.walk_to_change.Given as goal
 
 abbrev pub invariant-loop-next : goal.invariant-loop-next

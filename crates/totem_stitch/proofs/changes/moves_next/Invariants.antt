@@ -1,4 +1,4 @@
-use Rattle.totem_stitch.proofs.NextChanges.{NoneBetween}
+use Rattle.totem_evs.proofs.NextChanges.{NoneBetween}
 use Rattle.totem_stitch.proofs.changes.moves_next.Given as goal
 
 abbrev pub invariant-loop-next_at : goal.invariant-loop-next_at
