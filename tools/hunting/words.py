@@ -38,7 +38,7 @@ def read_words(words):
     add_words_of_program(parser)
     asked = parser.parse_args(words)
     if asked.seeds and not 0 <= asked.seeds[0] <= asked.seeds[1] or asked.show is not None and asked.show < 0:
-        parser.error('seeds are 0 or more, and rise')
+        parser.error('seeds are 0 or more, in ascending order')
     if asked.jobs < 1:
         parser.error('--jobs is 1 or more')
     return asked

@@ -73,9 +73,9 @@ class Clock:
             return
         begin, end = self.times_of(life)
         if note.time < begin:
-            self.refuse(note.line, '%s is changed to before %d:%d starts, whose log changes to it' % (configuration.decode(), *life))
+            self.refuse(note.line, '%s is before the start of %d:%d, whose log changes to it' % (configuration.decode(), *life))
         if note.time > end:
-            self.refuse(note.line, '%s is changed to after %d:%d has ended, whose log changes to it' % (configuration.decode(), *life))
+            self.refuse(note.line, '%s is after the end of %d:%d, whose log changes to it' % (configuration.decode(), *life))
 
     def life_at(self, process, configuration, came):
         """The only life of a process that can have run when these lives changed to this configuration; None if it is not known."""

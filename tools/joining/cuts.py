@@ -133,7 +133,7 @@ class Cutting:
             for change in log.changes[first:last]:
                 for process, life in change.members:
                     if (process, life or self.life_of(log, change.configuration, process)) not in have:
-                        return '%s has the member %d, whose log is all before or behind it' % (change.configuration.decode(), process)
+                        return '%s has the member %d, whose log is entirely before or after it' % (change.configuration.decode(), process)
         return None
 
     def parts(self, end=None):
@@ -161,7 +161,7 @@ class Cutting:
                 for change in log.changes[begin.changes[index]:end.changes[index]]:
                     first = part_of.setdefault(change.configuration, number)
                     if first != number:
-                        again.append('%s: changes to %s, which stands in part %d too: a name came again, and no part shows it' % (
+                        again.append('%s: changes to %s, which is also in part %d: a name came again, and no part shows it' % (
                             log.name, change.configuration.decode(), first))
         tell_each(again)
 
@@ -169,7 +169,7 @@ class Cutting:
         """One part, from the beginning up to a cut."""
         flaw = self.flaw(self.begin, end)
         if flaw:
-            raise Refused('what stands up to %s is no run: %s' % (end.configuration.decode(), flaw))
+            raise Refused('the entries up to %s are not a run: %s' % (end.configuration.decode(), flaw))
         return self.begin, end
 
     def of_part(self, begin, end):
@@ -191,9 +191,9 @@ class Cutting:
         name = end.configuration.decode()
         for log, kept in zip(self.logs, end.entries):
             if not kept:
-                tell('%s: begins behind %s, and is left out' % (log.name, name))
+                tell('%s: begins after %s, and is left out' % (log.name, name))
             elif kept < log.entries:
-                tell('%s: entries that are left out behind its change to %s: %d' % (log.name, name, log.entries - kept))
+                tell('%s: entries left out after its change to %s: %d' % (log.name, name, log.entries - kept))
         return end
 
 

@@ -8,7 +8,7 @@ def read_list(words):
     for word in ','.join(words).split(','):
         process, colon, life = word.partition(':')
         if not process.isdecimal() or (colon and not life.isdecimal()):
-            raise Refused('%r is no process: say 2, or 2:1 for life 1 of 2' % word)
+            raise Refused('%r is not a process: say 2, or 2:1 for life 1 of 2' % word)
         named.append((int(process), int(life) if colon else None))
     return named
 

@@ -58,10 +58,10 @@ def _past(line):
     processes = [ring[2] for ring in RINGS.finditer(line)] + [it[1] for it in BEHIND_SLASH.finditer(line)]
     for process in processes + [it[1] for it in members]:
         if int(process) > MOST_PROCESS:
-            return 'process %d is past %d; --renumber numbers processes anew' % (int(process), MOST_PROCESS)
+            return 'process %d is past %d; --renumber renumbers processes' % (int(process), MOST_PROCESS)
     for ring in RINGS.finditer(line):
         if int(ring[1]) > MOST_NUMBER:
-            return 'ring number %d is past %d; --renumber numbers rings anew' % (int(ring[1]), MOST_NUMBER)
+            return 'ring number %d is past %d; --renumber renumbers rings' % (int(ring[1]), MOST_NUMBER)
     return None
 
 
@@ -90,8 +90,8 @@ def flaw(line, is_numbered_anew):
         return 'a change has members: %s (a first callback that names none is left out)' % shown(line)
     example = _EXAMPLES.get(line.split(b' ')[0].rstrip(b'\n'))
     if example:
-        return 'this is no entry: %s (such as %s)' % (shown(line), example)
-    return 'this is no entry: %s (a line begins with conf, send, dlv or fail)' % shown(line)
+        return 'this is not an entry: %s (such as %s)' % (shown(line), example)
+    return 'this is not an entry: %s (a line begins with conf, send, dlv or fail)' % shown(line)
 
 
 def flaw_of_members(members):
@@ -100,5 +100,5 @@ def flaw_of_members(members):
         return 'a configuration has %d members at most' % MOST_MEMBERS
     for before, behind in zip(members, members[1:]):
         if behind[0] <= before[0]:
-            return 'members do not rise: %d stands behind %d' % (behind[0], before[0])
+            return 'members are not in ascending order: %d comes after %d' % (behind[0], before[0])
     return None

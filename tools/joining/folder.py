@@ -98,10 +98,10 @@ def _read_name(name, is_numbered_anew):
     """The process and the life that a file's name contains."""
     found = NAME.fullmatch(name)
     if not found:
-        raise Refused('%s: the name is no process: a log is called P.log, or P.L.log for life L of P, such as 3.log or 3.2.log' % name)
+        raise Refused('%s: the name is not a process: a log is called P.log, or P.L.log for life L of P, such as 3.log or 3.2.log' % name)
     process, life = int(found[1]), int(found[2]) if found[2] else None
     if process > MOST_PROCESS and not is_numbered_anew:
-        raise Refused('%s: process %d is past %d; --renumber numbers processes anew' % (name, process, MOST_PROCESS))
+        raise Refused('%s: process %d is past %d; --renumber renumbers processes' % (name, process, MOST_PROCESS))
     if life and life > MOST_PROCESS:
         raise Refused('%s: life %d is past %d' % (name, life, MOST_PROCESS))
     return process, life

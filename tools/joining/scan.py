@@ -88,7 +88,7 @@ class Scan:
             offset += len(block)
         if block[block.rfind(b'\n', 0, -1) + 1:].startswith(b'fail '):
             if log.ending == 'quiet':
-                _refuse(log, log.entries + 1, 'quiet stands behind a failure')
+                _refuse(log, log.entries + 1, 'quiet comes after a failure')
             log.ending = 'failed'
 
     def read_all(self, logs):

@@ -96,11 +96,11 @@ class Plan:
         """Reports what was moved and what was left out; `count` sends are now before own deliveries."""
         who = self.log.name
         if count:
-            tell('%s: sends that stand in front of their own deliveries: %d' % (who, count))
+            tell('%s: sends moved to just before their own deliveries: %d' % (who, count))
         lines = []
         for index, names in sorted(self.at_end.items()):
             where = self.segments[index].configuration.decode()
-            lines.append('%s: sends at the end of %s, since it delivered the messages behind it or not at all: %d (%s)'
+            lines.append('%s: sends moved to the end of %s, since it delivered the messages after it or not at all: %d (%s)'
                          % (who, where, len(names), some(names)))
         tell_each(lines)
         if self.kept:

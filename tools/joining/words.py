@@ -87,7 +87,7 @@ def read_words(words):
     _add_words_of_join(join)
     asked = parser.parse_args(words)
     if not os.path.isdir(asked.folder):
-        join.error('%s is no folder' % asked.folder)
+        join.error('%s is not a folder' % asked.folder)
     for word, needs in (('member', 'lives'), ('clock', 'lives'), ('table', 'renumber'), ('entries', 'cut')):
         if getattr(asked, word) and not getattr(asked, needs):
             join.error('--%s goes with --%s' % (word, needs))

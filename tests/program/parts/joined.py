@@ -102,24 +102,26 @@ REFUSED = {
         '', {'1.log': 'conf r4.1 1\n', '1.1.log': 'conf r4.1 1:1\n'}, 'logs: 1.1.log and 1.log are two logs of one life\n'),
     'two logs of one life, where lives are added': (
         '--lives', {'1.log': 'conf r4.1 1\n', '1.1.log': 'conf r4.1 1\n'}, 'logs: 1.1.log and 1.log are two logs of one life\n'),
-    'a name with a zero in front': ('', {**ONE, '02.log': 'conf r4.1 2\n'}, 'logs: 02.log: the name is no process: '),
-    'a name that is none': ('', {**ONE, 'node.log': ''}, 'logs: node.log: the name is no process: '),
+    'a name with a leading zero': ('', {**ONE, '02.log': 'conf r4.1 2\n'}, 'logs: 02.log: the name is not a process: '),
+    'a name that is not a process': ('', {**ONE, 'node.log': ''}, 'logs: node.log: the name is not a process: '),
     'a process past its range': ('', {'65536.log': ''}, 'logs: 65536.log: process 65536 is past 65535; --renumber '),
-    'a line that is none': ('', {**ONE, '2.log': 'conf r4.1 1\n\n'}, 'logs: 2.log, line 2: this is no entry: '),
+    'a line that is not an entry': ('', {**ONE, '2.log': 'conf r4.1 1\n\n'}, 'logs: 2.log, line 2: this is not an entry: '),
     'a line that begins well': (
-        '', {'1.log': 'conf r4.1 1\nsend r4.1 4.1#1\nquiet\n'}, 'logs: 1.log, line 2: this is no entry: send r4.1 4.1#1 (such as send '),
-    'a send in a transitional configuration is no entry': (
-        '', {'1.log': 'conf r4.1 1\nsend t8.1/1 a 4.1#1\n'}, 'logs: 1.log, line 2: this is no entry: send t8.1/1 a 4.1#1 '),
+        '', {'1.log': 'conf r4.1 1\nsend r4.1 4.1#1\nquiet\n'},
+        'logs: 1.log, line 2: this is not an entry: send r4.1 4.1#1 (such as send '),
+    'a send in a transitional configuration is not an entry': (
+        '', {'1.log': 'conf r4.1 1\nsend t8.1/1 a 4.1#1\n'}, 'logs: 1.log, line 2: this is not an entry: send t8.1/1 a 4.1#1 '),
     'a change without members': (
         '', {'1.log': 'conf t4.1/1\n'}, 'logs: 1.log, line 1: a change has members: conf t4.1/1 (a first callback that names none '),
-    'a zero in front': ('', {'1.log': 'conf r4.1 1\ndlv r4.1 4.1#01\n'}, 'logs: 1.log, line 2: this is no entry: '),
+    'a leading zero': ('', {'1.log': 'conf r4.1 1\ndlv r4.1 4.1#01\n'}, 'logs: 1.log, line 2: this is not an entry: '),
     'line ends of another system': ('', {'1.log': 'conf r4.1 1\r\n'}, 'logs: 1.log, line 1: the line ends with a carriage return'),
     'quiet before the last line': (
         '', {'1.log': 'conf r4.1 1\nquiet\nsend r4.1 a 4.1#1\n'}, 'logs: 1.log, line 2: quiet is not the last line\n'),
     'quiet before a line that was cut off': (
         '', {'1.log': 'conf r4.1 1\nquiet\nsend'}, 'logs: 1.log, line 2: quiet is not the last line\n'),
-    'quiet behind a failure': ('', {'1.log': 'conf r4.1 1\nfail r4.1\nquiet\n'}, 'logs: 1.log, line 3: quiet stands behind a failure\n'),
-    'members that do not rise': ('', {'1.log': 'conf r4.1 2 1\n'}, 'logs: 1.log, line 1: members do not rise: 1 stands behind 2\n'),
+    'quiet after a failure': ('', {'1.log': 'conf r4.1 1\nfail r4.1\nquiet\n'}, 'logs: 1.log, line 3: quiet comes after a failure\n'),
+    'members that are not in ascending order': (
+        '', {'1.log': 'conf r4.1 2 1\n'}, 'logs: 1.log, line 1: members are not in ascending order: 1 comes after 2\n'),
     '33 members': (
         '', {'1.log': 'conf r4.1 %s\n' % ' '.join(map(str, range(1, 34)))}, 'logs: 1.log, line 1: a configuration has 32 members'),
     'a member past its range': ('', {'1.log': 'conf r4.1 1 65536\n'}, 'logs: 1.log, line 1: process 65536 is past 65535'),
@@ -130,7 +132,7 @@ REFUSED = {
     'a member without a life, in a log with one': (
         '', {'1.1.log': 'conf r4.1 1\n'}, 'logs: 1.1.log, line 1: a member has no life, and the name '),
     'a failure of a process without a log': ('--failed 2', ONE, 'logs: there is no log of process 2\n'),
-    'a failure of what is no process': ('--failed two', ONE, "logs: 'two' is no process"),
+    'a failure of what is not a process': ('--failed two', ONE, "logs: 'two' is not a process"),
     'a failure of one of two lives': (
         '--failed 1', {'1.1.log': 'conf r4.1 1:1\n', '1.2.log': 'conf r8.1 1:2\n'}, 'logs: process 1 has 2 lives with a log: say which'),
     'a failure of a quiet process': ('--failed 1', {'1.log': 'conf r4.1 1\nquiet\n'}, 'logs: 1.log says that it is quiet, and the call'),

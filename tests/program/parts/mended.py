@@ -69,10 +69,10 @@ UNKNOWN = {
         '/times, line 2: life 2:2 starts before life 2:1 has started and ended\n'),
     'a clock in which a life changes before it starts': (
         '--lives --clock FOLDER/times', {**TWO_LIVES, 'times': '2 start 2:1\n1 conf r5.2\n'},
-        '/times, line 2: r5.2 is changed to before 2:1 starts, whose log changes to it\n'),
+        '/times, line 2: r5.2 is before the start of 2:1, whose log changes to it\n'),
     'a clock in which a life changes behind its end': (
         '--lives --clock FOLDER/times', {**TWO_LIVES, 'times': '2 start 2:1\n3 end 2:1\n4 conf r5.2\n'},
-        '/times, line 3: r5.2 is changed to after 2:1 has ended, whose log changes to it\n'),
+        '/times, line 3: r5.2 is after the end of 2:1, whose log changes to it\n'),
     'a member that the call names and is known': ('--lives --member r5.2=2:2', TWO_LIVES, 'logs: --member r5.2=2:2: '),
     'members that have lives already': ('--lives', {'1.1.log': 'conf r4.1 1:1\n'}, '1.1.log, line 1: a member has a life already'),
 }
@@ -83,25 +83,25 @@ SENDS = {
     'a message that went out two configurations later': (
         '--own-sends', {'1.log': 'conf r4.1 1\nsend r4.1 s 4.1#1\nconf t8.1/1 1\nconf r8.1 1\ndlv r8.1 4.1#1\n'},
         'totem-run 1\nlog 1\nconf r4.1 1\nconf t8.1/1 1\nconf r8.1 1\nsend r8.1 s 4.1#1\ndlv r8.1 4.1#1\nopen\nend\n',
-        'logs: 1.log: sends that stand in front of their own deliveries: 1\n'),
+        'logs: 1.log: sends moved to just before their own deliveries: 1\n'),
     'a send that was recorded behind the delivery': (
         '--own-sends', {'1.log': 'conf r4.1 1\ndlv r4.1 4.1#1\nsend r4.1 a 4.1#1\n'},
         'totem-run 1\nlog 1\nconf r4.1 1\nsend r4.1 a 4.1#1\ndlv r4.1 4.1#1\nopen\nend\n',
-        'logs: 1.log: sends that stand in front of their own deliveries: 1\n'),
+        'logs: 1.log: sends moved to just before their own deliveries: 1\n'),
     'a delivery behind the transitional change': (
         '--own-sends', {'1.log': 'conf r4.1 1\nsend r4.1 a 4.1#1\nsend r4.1 a 4.1#2\ndlv r4.1 4.1#1\nconf t8.1/1 1\ndlv t8.1/1 4.1#2\n'},
         'totem-run 1\nlog 1\nconf r4.1 1\nsend r4.1 a 4.1#1\ndlv r4.1 4.1#1\nsend r4.1 a 4.1#2\nconf t8.1/1 1\ndlv t8.1/1 4.1#2\n'
         'open\nend\n',
-        'logs: 1.log: sends that stand in front of their own deliveries: 1\n'
-        'logs: 1.log: sends at the end of r4.1, since it delivered the messages behind it or not at all: 1 (4.1#2)\n'),
+        'logs: 1.log: sends moved to just before their own deliveries: 1\n'
+        'logs: 1.log: sends moved to the end of r4.1, since it delivered the messages after it or not at all: 1 (4.1#2)\n'),
     'a send that was recorded behind the transitional change': (
         '--own-sends', {'1.log': 'conf r4.1 1\nconf t8.1/1 1\nsend r4.1 a 4.1#1\ndlv t8.1/1 4.1#1\n'},
         'totem-run 1\nlog 1\nconf r4.1 1\nsend r4.1 a 4.1#1\nconf t8.1/1 1\ndlv t8.1/1 4.1#1\nopen\nend\n',
-        'logs: 1.log: sends at the end of r4.1, since it delivered the messages behind it or not at all: 1 (4.1#1)\n'),
+        'logs: 1.log: sends moved to the end of r4.1, since it delivered the messages after it or not at all: 1 (4.1#1)\n'),
     'what a process that failed never delivered, and another one did': (
         '--own-sends', {'1.log': 'conf r4.1 1 2\nsend r4.1 a 4.1#1\nsend r4.1 a 4.1#2\nfail r4.1\n', '2.log': ONE_OTHER},
         'totem-run 1\nlog 1\nconf r4.1 1 2\nsend r4.1 a 4.1#1\nfail r4.1\nfailed\nlog 2\nconf r4.1 1 2\ndlv r4.1 4.1#1\nopen\nend\n',
-        'logs: 1.log: sends at the end of r4.1, since it delivered the messages behind it or not at all: 1 (4.1#1)\n'
+        'logs: 1.log: sends moved to the end of r4.1, since it delivered the messages after it or not at all: 1 (4.1#1)\n'
         'logs: 1.log: sends that are left out, since nobody delivered the messages: 1 (4.1#2)\n'),
     'what others delivered where the sender never was': (
         '--own-sends', {'1.log': 'conf r3.1 1\nsend r3.1 a 4.1#1\n', '2.log': ONE_OTHER},
@@ -110,7 +110,7 @@ SENDS = {
     'a message that was sent twice stays so': (
         '--own-sends', {'1.log': 'conf r4.1 1\nsend r4.1 a 4.1#1\nsend r4.1 s 4.1#1\ndlv r4.1 4.1#1\ndlv r4.1 4.1#1\n'},
         'totem-run 1\nlog 1\nconf r4.1 1\nsend r4.1 a 4.1#1\nsend r4.1 s 4.1#1\ndlv r4.1 4.1#1\ndlv r4.1 4.1#1\nopen\nend\n',
-        'logs: 1.log: sends that stand in front of their own deliveries: 1\n'),
+        'logs: 1.log: sends moved to just before their own deliveries: 1\n'),
 }
 
 LARGE = 4294967300
@@ -160,15 +160,15 @@ TRIMMED = {
         '--trim', LOST_TAIL,
         'totem-run 1\nlog 1\nconf r4.1 1 2\ndlv r4.1 4.1#1\nconf t8.1/1 1 2\nconf r8.1 1 2\nopen\n'
         'log 2\nconf r4.1 1 2\nsend r4.1 a 4.1#1\ndlv r4.1 4.1#1\nconf t8.1/1 1 2\nconf r8.1 1 2\nopen\nend\n',
-        'logs: 1.log: entries that are left out behind its change to r8.1: 1\n'),
+        'logs: 1.log: entries left out after its change to r8.1: 1\n'),
     'a process that failed is not waited for': (
         '--trim', {'1.log': 'conf r4.1 1 2\nconf t8.1/1 1\nconf r8.1 1\ndlv r8.1 8.1#1\n', '2.log': 'conf r4.1 1 2\nfail r4.1\n'},
         'totem-run 1\nlog 1\nconf r4.1 1 2\nconf t8.1/1 1\nconf r8.1 1\nopen\nlog 2\nconf r4.1 1 2\nfail r4.1\nfailed\nend\n',
-        'logs: 1.log: entries that are left out behind its change to r8.1: 1\n'),
+        'logs: 1.log: entries left out after its change to r8.1: 1\n'),
     'one that is still there is': (
         '--trim', {'1.log': 'conf r4.1 1 2\nconf t8.1/1 1\nconf r8.1 1\n', '2.log': 'conf r4.1 1 2\n'},
         'totem-run 1\nlog 1\nconf r4.1 1 2\nopen\nlog 2\nconf r4.1 1 2\nopen\nend\n',
-        'logs: 1.log: entries that are left out behind its change to r4.1: 2\n'),
+        'logs: 1.log: entries left out after its change to r4.1: 2\n'),
 }
 NOT_CUT = {
     'no change in common': (
@@ -223,7 +223,7 @@ ASKED = {
     'first-callback': ('', 'logs: 1.log, line 1: a change has members: conf t5.1/1 (a first callback that names none is left out)\n'),
     'lives': ('--lives', 'logs: 1.1.log, line 3: which life of 2 is a member of r8.1? No log of it changes there: 2:1 or 2:2 or 2:3\n'
               '  Say each by --member CONFIGURATION=P:L, or give the times of the lives by --clock FILE\n'),
-    'large-numbers': ('', 'logs: 167772161.log: process 167772161 is past 65535; --renumber numbers processes anew\n'),
+    'large-numbers': ('', 'logs: 167772161.log: process 167772161 is past 65535; --renumber renumbers processes\n'),
     'ring-again': ('', 'logs: 1.1.log, line 1: a member has no life, and the name of the file has one: --lives adds lives to members\n'),
 }
 
@@ -289,7 +289,7 @@ def mended():
         try_cut, '--entries 3', {'1.log': 'conf r4.1 1\nconf t8.1/1 1\nconf r8.1 1\nconf t4.1/1 1\nconf r4.1 1\n'},
         ['totem-run 1\nlog 1\nconf r4.1 1\nconf t8.1/1 1\nconf r8.1 1\nopen\nend\n',
          'totem-run 1\nlog 1\nconf r8.1 1\nconf t4.1/1 1\nconf r4.1 1\nopen\nend\n'],
-        'logs: 1.log: changes to r4.1, which stands in part 1 too: a name came again, and no part shows it\n')
+        'logs: 1.log: changes to r4.1, which is also in part 1: a name came again, and no part shows it\n')
     for folder, (words, told) in ASKED.items():
         yield 'the folder %s' % folder, partial(try_asked, folder, words, told)
     yield 'parts that are judged', try_parts
