@@ -1,14 +1,13 @@
-"""Seeded changes of texts. Each change is drawn from a generator that is begun anew for each case, so a
-case is known by its seed and its number."""
+"""Seeded changes of texts. Each case has a generator of its own, so a seed and a number identify it."""
 import random
 import re
 
-# Numbers at the edges of ranges, beyond them, and spelled as no number is.
+# Numbers at the edges of ranges, beyond them, and with invalid spellings.
 NUMBERS = [it.encode() for it in (
     '0 1 2 3 4 9 31 32 33 64 100 255 256 999 1000 65535 65536 100000 100001 1000000 1000001 4294967295 '
     '4294967296 18446744073709551615 18446744073709551616 01 00 -1 +1 1e3 0x1 '
     '99999999999999999999999999999999999999').split()]
-# The words that begin a line of the inside of a run, of a certificate or of a script.
+# The words that begin a line inside of a run, a certificate or a script.
 INNER_WORDS = (
     b'conf', b'send', b'dlv', b'fail', b'pos',
     b'submit', b'run', b'drop', b'repeat', b'cut', b'join', b'timer', b'crash',
@@ -18,7 +17,7 @@ BETWEEN_WORDS = (b'  ', b'\t', b'', b'\r', b' 1 ')
 
 
 def cut(draw, text, at, _):
-    """All behind a place is left out."""
+    """Everything after a place is left out."""
     return text[:at]
 
 
@@ -70,7 +69,7 @@ def number(draw, text, _at, _):
 
 
 def rearranged(draw, parts, among):
-    """The text of these lines after two of those at some places are exchanged, or one comes again elsewhere, or
+    """The text of these lines after a change to those at some places: two are swapped, one comes again elsewhere, or
     one is left out."""
     first, second = draw.choice(among), draw.choice(among)
     kind = draw.randrange(3)
@@ -84,13 +83,13 @@ def rearranged(draw, parts, among):
 
 
 def lines(draw, text, _at, _):
-    """Two lines are exchanged, or one comes again elsewhere, or one is left out."""
+    """Two lines are swapped, or one comes again elsewhere, or one is left out."""
     parts = text.split(b'\n')
     return rearranged(draw, parts, range(len(parts)))
 
 
 def ends_of_lines(draw, text, _at, _):
-    """Other bytes between two words, or behind a line."""
+    """Other bytes between two words, or after a line."""
     parts = text.split(b'\n')
     at = draw.randrange(len(parts))
     if draw.randrange(2):
@@ -101,14 +100,14 @@ def ends_of_lines(draw, text, _at, _):
 
 
 def inner_lines(text):
-    """The lines of a text, and the places of those among them that a text may have anywhere, more often or
+    """The lines of a text, and the places of the inside ones: a text may have them anywhere, more often or
     not at all."""
     parts = text.split(b'\n')
     return parts, [at for at, line in enumerate(parts) if line.split(b' ')[0] in INNER_WORDS]
 
 
 def inner_number(draw, text, _at, _):
-    """In one line of the inside, another number that stands in the inside too."""
+    """One number of an inside line becomes another number of the inside."""
     parts, inner = inner_lines(text)
     numbers = re.findall(rb'[0-9]+', b' '.join(parts[at] for at in inner))
     if not numbers:
@@ -121,14 +120,14 @@ def inner_number(draw, text, _at, _):
 
 
 def inner_line(draw, text, _at, _):
-    """Two lines of the inside are exchanged, or one comes again elsewhere, or one is left out."""
+    """Two inside lines are swapped, or one comes again elsewhere, or one is left out."""
     parts, inner = inner_lines(text)
     if not inner:
         return text
     return rearranged(draw, parts, inner)
 
 
-# Kinds of change that break the text more often than not, and kinds that mostly leave one. Some stand there
+# Kinds of change that mostly break the text, and kinds that mostly leave a valid one. Some are listed
 # more than once, so that they come more often.
 BREAKING = (
     cut, insert, replace, turn, leave_out, zeros, again, graft, number, number, lines, lines, ends_of_lines,
@@ -138,14 +137,14 @@ KEEPING = (inner_number, inner_line)
 
 
 class Changes:
-    """Changed texts, each known by its number."""
+    """Changed texts, each identified by its number."""
 
     def __init__(self, seed, texts):
         self.seed = seed
         self.texts = texts
 
     def changed(self, case):
-        """The place of a text in the list, and that text after one to six changes of one sort."""
+        """The place of a text in the list, and that text after one to six changes of one kind."""
         draw = random.Random('%d/%d' % (self.seed, case))
         chosen = draw.randrange(len(self.texts))
         text = self.texts[chosen]

@@ -1,5 +1,5 @@
-"""The forms of answers: which statuses a verb has, and what its output and its errors look like.
-(docs/SPECIFICATIONS.md has them.)"""
+"""The forms of answers: which statuses a command has, and what its output and its errors look like.
+(docs/SPECIFICATIONS.md defines them.)"""
 import re
 
 RUN_FAULTS = ('Header', 'Word', 'Number', 'Order', 'Members', 'End', 'Truncated', 'TooMany')
@@ -14,7 +14,7 @@ MESSAGE = r'%s#%s' % (RING, NUMBER)
 
 
 class _Texts:
-    """The forms of texts of one version: where a process is written so."""
+    """The forms of texts of one version, in which a process is written in this way."""
 
     def __init__(self, version, process):
         self.fault = r'fault [1-7](?:\.[1-4])?(?: %s@%s)+\n' % (process, NUMBER)
@@ -52,11 +52,11 @@ RUN_REFUSED = '(?:%s|%s)' % (
 CERTIFICATE_REFUSED = _one_of(
     _named('certificate unreadable', CERTIFICATE_FAULTS) + _named('certificate refused', REFUSALS))
 SCRIPT_REFUSED = _one_of(_named('script refused', SCRIPT_FAULTS))
-# What is told to a person, without its first line.
+# An explanation, without its first line.
 LINES = r'(?:[ -~]*\n)+'
 PICTURE = r'<svg [ -~]+\n%s' % LINES
 
-# For each verb (with what it is asked for beside workers) and status the output, and the errors.
+# The output and the errors for each status of each command (with its options other than workers).
 FORMS = {
     'audit': {0: (_of_either(lambda texts: 'verdict yes\n%s%send\n' % (texts.left_open, texts.certificate)), ''),
               1: (_of_either(lambda texts: 'verdict no\n(?:%s)+end\n' % texts.fault), ''),
@@ -78,14 +78,14 @@ FORMS = {
 
 
 def asked_for(words):
-    """The key of the forms that the answer to these words may have."""
+    """The key of the forms that the answer to these arguments may have."""
     flags = [word for word in words if word in ('--svg', '--script')]
     return ' '.join([words[0], *flags])
 
 
 def flaw(words, answer):
-    """What was wanted where an answer has no form that it may have; None where it has one. (Memory is
-    there, and the streams don't fail.)"""
+    """What was expected, if an answer has none of the allowed forms; otherwise None. (There is enough memory,
+    and the streams don't fail.)"""
     statuses = FORMS[asked_for(words)]
     forms = statuses.get(answer.status)
     if forms is None:

@@ -1,4 +1,4 @@
-"""Programs whose streams are files in memory, and that are waited for no longer than they may take."""
+"""Runs programs whose streams are files in memory, and kills those that take too long."""
 import os
 import resource
 import select
@@ -6,22 +6,22 @@ import signal
 import time
 from dataclasses import dataclass
 
-# How long a program may take where nothing else is said.
+# How long a program may take by default.
 SECONDS = 20
-# Bytes that are read of what a program wrote. No row writes more.
+# How many bytes of a program's output are read. No row writes more.
 MOST_READ = 1 << 26
 ENVIRONMENT = {'PATH': '/usr/bin:/bin', 'LANG': 'C.UTF-8'}
-# What Python passes over, and a program that a shell starts does not.
+# Signals that Python ignores, and a program that a shell starts does not.
 DEFAULT_SIGNALS = [signal.SIGPIPE, signal.SIGXFSZ]
 
 _alive = set()
-# How many times the seconds that are allowed are given, for a machine that does other work.
+# The factor for the allowed seconds, for a machine that does other work.
 _patience = 1
 
 
 @dataclass(frozen=True)
 class Answer:
-    """What a program answered: its status ('hangs' or 'signal N' where it has none), its output, its
+    """What a program answered: its status ('hangs' or 'signal N' if it has none), its output, its
     errors."""
 
     status: object
@@ -36,30 +36,30 @@ class Answer:
 @dataclass(frozen=True)
 class Usage:
     """What a run took: seconds, and the most bytes that it held at once. (Some 20 MB are Python's own: the
-    system counts what held the program before it was started.)"""
+    system counts the process that starts the program.)"""
 
     seconds: float
     peak: int
 
 
 def be_patient(times):
-    """From now on programs may take so many times the seconds that they may take."""
+    """From now on programs may take this many times the allowed seconds."""
     global _patience  # pylint: disable=global-statement
     _patience = times
 
 
 def allowed(seconds):
-    """How long a program may take that may take so many seconds."""
+    """The allowed seconds, times the patience."""
     return seconds * _patience
 
 
 def shown(content):
-    """Bytes for a person, cut where there are many."""
+    """Bytes for a person, shortened if there are many."""
     return repr(content) if len(content) <= 160 else '%r.. (%d bytes)' % (content[:160], len(content))
 
 
 def wait(pid, seconds):
-    """Waits for a program, and kills it where it takes longer. Its status, and what it took."""
+    """Waits for a program, and kills it if it takes longer. Its status, and what it took."""
     begun = time.monotonic()
     handle = os.pidfd_open(pid)
     poll = select.poll()
@@ -99,14 +99,14 @@ def end_all():
 
 
 def limit_memory(megabytes):
-    """Refuses this process, and all that it starts, more memory than this: what grows without end ends."""
+    """Limits the memory of this process, and of all that it starts: what grows without end is stopped."""
     size = megabytes << 20
     resource.setrlimit(resource.RLIMIT_AS, (size, resource.getrlimit(resource.RLIMIT_AS)[1]))
 
 
 def run(words, given=b'', environment=ENVIRONMENT, seconds=SECONDS, others=None):
     """Runs a program to its end: its answer, and what it took. Its streams are files in memory; `others`
-    maps the numbers of streams to other files, or to None where the program has no such stream."""
+    maps the numbers of streams to other files, or to None if the program has no such stream."""
     others = others or {}
     files = [os.memfd_create(name) for name in ('input', 'output', 'errors')]
     try:

@@ -7,18 +7,18 @@ from harness.process import ENVIRONMENT, Answer
 
 FOLDER = os.path.join(os.path.dirname(os.path.dirname(os.path.abspath(__file__))), 'rows')
 REPOSITORY = os.path.dirname(os.path.dirname(FOLDER))
-# What begins a line: of the words of the command line ($), the input (<), the words of `tools/logs` that make the input (@), the
-# output (>), the errors (!), the status (=), and of what the output (~) or the errors (?) have in them where they are not told
-# whole. A backslash at the end of a line leaves out its line end. Other lines tell what the row is.
+# What begins a line: the arguments ($), the input (<), the arguments of `tools/logs` that make the input (@), the output (>), the
+# errors (!), the status (=), and what the output (~) or the errors (?) contain if the row does not give them whole. A backslash
+# at the end of a line leaves out its line end. Other lines say what the row is.
 MARKS = '$<@>!=~?'
-# What the program is asked to read.
+# The commands that read a text.
 VERBS = ('audit', 'check', 'explain', 'sim')
 
 
 @dataclass(frozen=True)
 class Row:
-    """One row. `answer` is None where the row does not tell it whole: then it tells parts of it, or the status
-    alone. `is_joined`: the input does not stand in the row, but is made of a folder of logs."""
+    """One row. `answer` is None if the row does not give it whole: then it gives parts of it, or only the status.
+    `is_joined`: the input is not in the row, but is made from a folder of logs."""
 
     name: str
     words: tuple
@@ -31,11 +31,11 @@ class Row:
 
     @property
     def verb(self):
-        """What the program is asked for."""
+        """The command of the program."""
         return self.words[0] if self.words else ''
 
     def is_met_by(self, answer):
-        """Whether the program answered what the row tells."""
+        """Whether the program answered what the row gives."""
         if self.answer:
             return answer == self.answer
         return answer.status == self.status and \
@@ -43,30 +43,30 @@ class Row:
 
 
 def _has(content, parts):
-    """Whether the parts are all there; where none is told nothing may be there."""
+    """Whether the content has all of the parts; if there are none, the content has to be empty."""
     return all(part in content for part in parts) if parts else not content
 
 
 def _lines(marked, mark):
-    """The text of the lines with this mark; each ends with a line end but for one that a backslash ends."""
+    """The text of the lines with this mark; each has a line end, unless a backslash ends it."""
     lines = [line[2:] + '\n' for line in marked if line[0] == mark]
     return ''.join(line.removesuffix('\\\n') if line.endswith('\\\n') else line for line in lines).encode()
 
 
 def _parts(marked, mark):
-    """The lines with this mark, each alone."""
+    """The lines with this mark, one by one."""
     return tuple(line[2:].encode() for line in marked if line[0] == mark)
 
 
 def _joined(words):
-    """What `tools/logs` makes of a folder of the repository."""
+    """What `tools/logs` makes from a folder of the repository."""
     tool = os.path.join(REPOSITORY, 'tools', 'logs')
     return subprocess.run([tool, *words.split()], cwd=REPOSITORY, env=ENVIRONMENT, stdin=subprocess.DEVNULL,
                           stdout=subprocess.PIPE, stderr=subprocess.DEVNULL, check=True).stdout
 
 
 def read_asked(name):
-    """Reads the rows of a file: one for each line of words."""
+    """Reads the rows of a file: one for each line of arguments."""
     with open(os.path.join(FOLDER, name + '.row'), encoding='utf-8') as it:
         marked = [line for line in it.read().split('\n') if line and line[0] in MARKS]
     status = int(_lines(marked, '='))
@@ -90,6 +90,6 @@ def names():
 
 
 def read_texts():
-    """Reads the first row of each file in which the program reads a text that stands there, whatever it answers to it."""
+    """Reads the first row of each file in which the program reads a text that the row contains, whatever it answers."""
     return [row for row in map(read, names())
             if row.given and not row.is_joined and row.verb in VERBS and row.status in (0, 1, 2)]

@@ -16,7 +16,7 @@ class NotLoaded(Exception):
 
 @dataclass(frozen=True)
 class Ended:
-    """How a run ended: its answer, and what it asked for and was refused."""
+    """How a run ended: its answer, what it requested, and what it was refused."""
 
     answer: process.Answer
     growths: int

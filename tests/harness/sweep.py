@@ -3,7 +3,7 @@ from concurrent.futures import ThreadPoolExecutor
 
 from harness.process import Answer
 
-# A sweep ends behind so many runs that hang.
+# A sweep ends after this many runs that hang.
 MOST_HANGING = 3
 MEMORY = Answer(3, b'', b'totem: out of memory\n')
 
@@ -16,11 +16,11 @@ class Sweeper:
         self.jobs = jobs
 
     def sweep(self, what, make, name, count, judge, follows=False):
-        """Runs `make(name=k)` for each k: up to `count`, side by side, and then on until a run meets no
+        """Runs `make(name=k)` for each k: up to `count`, in parallel, and then further until a run meets no
         refusal.
 
-        Where `follows`, all requests behind the k-th are refused too. `judge(ended)` gives what was wanted
-        where something else came, and None where it is right. Returns how each run ended."""
+        If `follows`, all requests after the k-th are refused too. `judge(ended)` returns what was expected
+        if something else came, and None if it is right. Returns how each run ended."""
         hanging = []
 
         def one(number):
@@ -47,13 +47,13 @@ class Sweeper:
         return [ended for _, ended in runs]
 
     def sweep_alone_and_on(self, what, make, name, count, judge):
-        """Two sweeps: the k-th request is refused alone, and with all that follow."""
+        """Two sweeps: only the k-th request is refused, and it with all that follow."""
         alone = self.sweep(what, make, name, count, judge)
         return alone + self.sweep(what, make, name, count, judge, follows=True)
 
 
 def always(own):
-    """Wants of memory at each refusal, and else the own answer."""
+    """Expects out of memory at each refusal, and otherwise the own answer."""
     def judge(ended):
         wanted = MEMORY if ended.met else own
         return None if ended.answer == wanted else wanted
@@ -61,7 +61,7 @@ def always(own):
 
 
 def one_of(*answers):
-    """Where something was refused any of these answers is right; where nothing was, the last of them."""
+    """If something was refused, any of these answers is right; if nothing was, the last of them."""
     def judge(ended):
         right = answers if ended.met else answers[-1:]
         return None if ended.answer in right else ' or '.join(map(str, right))

@@ -12,11 +12,11 @@ class Tally:
         self.begun = time.monotonic()
 
     def begin(self):
-        """A sweep begins: its first three wrong cases are told."""
+        """Begins a sweep: its first three wrong cases are printed."""
         self.told = 0
 
     def fail(self, what, done, came, wanted):
-        """Notes a wrong case: with what it was tried, what was done, what came, what was wanted."""
+        """Records a wrong case: with what it was tried, what was done, what came, what was expected."""
         self.wrong += 1
         self.told += 1
         if self.told <= 3 or self.keep_going:
@@ -24,7 +24,7 @@ class Tally:
             print('  came:   %s\n  wanted: %s' % (came, wanted), flush=True)
 
     def judge(self, what, done, came, wanted):
-        """Counts a case, and notes it where something else came than was wanted."""
+        """Counts a case, and records it if something else came than was expected."""
         self.tried += 1
         if came != wanted:
             self.fail(what, done, came, wanted)

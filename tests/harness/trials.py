@@ -1,4 +1,4 @@
-"""Runs over broken texts, and what is wrong with their answers. Several processes make them; each hands
+"""Runs over broken texts, and what is wrong with their answers. Several processes make them; each sends
 back what it found."""
 import multiprocessing
 import re
@@ -12,24 +12,24 @@ from harness import process
 from harness.forms import flaw
 
 SECONDS = 10
-# The memory that a run may take: so much, of which some 20 MB are Python's own, and so many bytes for each
+# The memory that a run may take: a base, of which some 20 MB are Python's own, and a number of bytes for each
 # byte of its input.
 MOST_MEMORY = 48 << 20
 MEMORY_PER_BYTE = 200
-# What the program gets: far above what counts as wrong, so that what grows without end ends.
+# The memory limit of the program: far above what counts as wrong, but it stops what grows without end.
 MEGABYTES_GIVEN = 4096
-# No more cases are tried behind so many that hang.
+# No more cases are tried after this many that hang.
 MOST_HANGING = 3
-# How many a process tries before it tells what it found, and how long that may take.
+# How many cases a process tries before it reports, and how long that may take.
 CASES_AT_ONCE = 100
 SECONDS_FOR_A_PART = 120
-# How often what was not told of is tried.
+# How often cases without a report are tried.
 MOST_ROUNDS = 3
 
 
 @dataclass(frozen=True)
 class Case:
-    """A text that the program is given: of which row, what was done to it, and the words."""
+    """A text for the program: its row, what was done to it, and the arguments."""
 
     row: str
     done: str
@@ -39,7 +39,7 @@ class Case:
 
 @dataclass
 class Found:
-    """What came of some cases: how many of each verb and status, what was wrong, the most that a run took."""
+    """The results of some cases: how many of each command and status, what was wrong, the most that a run took."""
 
     statuses: Counter = field(default_factory=Counter)
     wrong: list = field(default_factory=list)
@@ -48,18 +48,18 @@ class Found:
     hanging: int = 0
 
     def add(self, other):
-        """Adds what came of other cases."""
+        """Adds the results of other cases."""
         self.statuses.update(other.statuses)
         self.wrong += other.wrong
         self.hanging += other.hanging
         self.note(other.seconds, other.peak)
 
     def note(self, seconds, peak):
-        """Notes what a run took."""
+        """Records what a run took."""
         self.seconds, self.peak = max(self.seconds, seconds), max(self.peak, peak)
 
     def tell(self, what, tally):
-        """Adds to the counts of the part, tells what was wrong, and sums up."""
+        """Adds to the counts of the part, prints what was wrong, and sums up."""
         tally.begin()
         tally.tried += sum(self.statuses.values())
         for case, came, wanted in self.wrong:
@@ -80,8 +80,8 @@ class Trial:
         self.found = Found()
 
     def answer(self, case):
-        """Runs the program. None, and noted as wrong, where it hangs, takes too much, or answers in no form
-        that is known."""
+        """Runs the program. If it hangs, takes too much, or answers in no known form, records that as wrong
+        and returns None."""
         answer, usage = process.run([self.program, *case.words], case.text, seconds=SECONDS)
         self.found.note(usage.seconds, usage.peak)
         self.found.hanging += answer.status == 'hangs'
@@ -100,17 +100,17 @@ class Trial:
         return answer
 
     def wants(self, case, answer, is_right, wanted):
-        """Notes the answer as wrong where it isn't right."""
+        """Records the answer as wrong if it isn't right."""
         if answer and not is_right:
             self.found.wrong.append((case, answer, wanted))
 
 
 class Stuck(Exception):
-    """Processes that try cases ended, or told nothing for too long, again and again."""
+    """Processes that try cases ended, or reported nothing for too long, again and again."""
 
 
 def _try_share(share, program, try_case, told):
-    """Tries the cases of a share, and tells what each part of them finds. What it starts ends with it."""
+    """Tries the cases of a share, and reports what each part of them finds. What it starts ends with it."""
     process.limit_memory(MEGABYTES_GIVEN)
     signal.signal(signal.SIGINT, signal.SIG_IGN)
     signal.signal(signal.SIGTERM, lambda *_: (process.end_all(), sys.exit(1)))
@@ -123,9 +123,9 @@ def _try_share(share, program, try_case, told):
 
 
 def _gather(readers, left, found):
-    """Adds what is told, and takes its parts off those that are left, until no process tells anything more, or too
-    much hangs. Each process has a pipe of its own and shares no lock: so one that ends is seen, and none can hold up
-    another."""
+    """Adds what the processes report, and takes these parts off those that are left, until no process reports anything
+    more, or too much hangs. Each process has a pipe of its own and shares no lock: so the end of a process is seen, and
+    none can delay another."""
     while readers and found.hanging < MOST_HANGING:
         ready = wait(readers, timeout=process.allowed(SECONDS_FOR_A_PART))
         if not ready:
@@ -141,7 +141,7 @@ def _gather(readers, left, found):
 
 
 def _try_parts(jobs, left, found, *given):
-    """Tries the parts that are left, in so many processes."""
+    """Tries the parts that are left, in this many processes."""
     context = multiprocessing.get_context('fork')
     readers, workers = [], []
     try:
@@ -161,8 +161,8 @@ def _try_parts(jobs, left, found, *given):
 
 
 def side_by_side(jobs, program, try_case, count):
-    """Calls `try_case(trial, number)` for the numbers below `count`, in so many processes. What they find. The parts of
-    a process that somebody killed, or that is stuck, are tried again, up to so many times."""
+    """Calls `try_case(trial, number)` for the numbers below `count`, in this many processes. Returns what they find. If
+    somebody killed a process, or it is stuck, its parts are tried again, a limited number of times."""
     found = Found()
     left = [range(at, min(at + CASES_AT_ONCE, count)) for at in range(0, count, CASES_AT_ONCE)]
     for _ in range(MOST_ROUNDS):
@@ -174,10 +174,10 @@ def side_by_side(jobs, program, try_case, count):
 
 
 def left_open(report):
-    """The lines of a report that tell what is pending, and who waits."""
+    """The lines of a report that list what is pending, and who waits."""
     return re.findall(rb'(?m)^(?:pending|waiting) .*$', report)
 
 
 def faults(text):
-    """The lines of a report, or of an explanation, that tell faults."""
+    """The lines of a report, or of an explanation, that name faults."""
     return re.findall(rb'(?m)^fault .*$', text)

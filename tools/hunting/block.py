@@ -1,4 +1,4 @@
-"""Scripts by seed. The seeds of a block build on each other: what one of them reached first is a place from which later ones go on. So the
+"""Scripts by seed. The seeds of a block build on each other: later seeds continue from the places that earlier ones reached first. So the
 script of a seed is the same wherever the hunt begins, and on every machine."""
 from typing import NamedTuple
 
@@ -14,7 +14,7 @@ MOST_COMMANDS = 3000
 
 
 class Place(NamedTuple):
-    """A place that was reached first by a seed: the commands up to there, and what they leave."""
+    """A place that a seed was the first to reach: the commands up to there, and the scene after them."""
 
     commands: tuple
     scene: Scene
@@ -29,7 +29,7 @@ def worth_of(marks):
 
 
 def is_over(marks):
-    """Whether it has come about already, so that going on shows nothing new: the ring is installed."""
+    """Whether it has happened already, so that going on shows nothing new: the ring is installed."""
     return marks[0] == INSTALLED
 
 
@@ -43,7 +43,7 @@ class Block:
         self.places = {}
 
     def _choose(self, chance):
-        """A place from which to go on, or None: to begin anew."""
+        """A place from which to continue, or None to start from the beginning."""
         if not self.places or chance.percent(20):
             return None
         marks = sorted(self.places, key=lambda marks: (-worth_of(marks), marks))
@@ -64,7 +64,7 @@ class Block:
             self.places.setdefault(marks, []).append(place)
 
     def script(self):
-        """The commands of the next seed's script, and the scene that they leave."""
+        """The commands of the next seed's script, and the scene after them."""
         chance = Chance(self.next)
         self.next += 1
         maker = Maker(chance, self._choose(chance))

@@ -4,7 +4,7 @@ MASK = (1 << 64) - 1
 
 
 class Chance:
-    """The numbers of SplitMix64 from a seed on."""
+    """The numbers of SplitMix64 for a seed."""
 
     def __init__(self, seed):
         self.state = seed & MASK
@@ -18,11 +18,11 @@ class Chance:
         return mixed ^ (mixed >> 31)
 
     def below(self, count):
-        """A number from 0 on, below this one."""
+        """A number of at least 0 and below this one."""
         return (self.word() * count) >> 64
 
     def percent(self, hundredths):
-        """Whether something comes about that comes about so many times of a hundred."""
+        """Whether something happens that happens this many times in a hundred."""
         return self.below(100) < hundredths
 
     def of(self, things):

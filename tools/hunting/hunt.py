@@ -10,13 +10,13 @@ from playing import script
 from shrinking.program import Program, Refused
 from shrinking.scripts import ScriptShrinker
 
-# How many seeds are counted before that is told.
+# After how many seeds a process reports its counts.
 SEEDS_AT_ONCE = 20
 RING = re.compile(rb'(?m)^conf (r[0-9.]+) ')
 
 
 class _Hunter:
-    """Plays the seeds of blocks, and tells what they see."""
+    """Plays the seeds of blocks, and reports what they see."""
 
     def __init__(self, program, first, last, tell):
         self.program = program
@@ -25,7 +25,7 @@ class _Hunter:
         self.counts = Counter()
 
     def hunt(self, number):
-        """Plays the seeds of a block. Of each set of broken specifications the first script is made short."""
+        """Plays the seeds of a block, and shortens the first script for each set of broken specifications."""
         block, kinds = Block(number), set()
         for seed in range(number * BLOCK, min((number + 1) * BLOCK, self.last + 1)):
             commands, scene = block.script()
@@ -72,7 +72,7 @@ def _work(path, blocks, first, last, pipe):
 
 
 class Hunt:
-    """Hunts through seeds, in so many processes. `found` is told what they find."""
+    """Hunts through seeds, in this many processes, and reports to `found` what they find."""
 
     def __init__(self, program, first, last, jobs, found):
         blocks = range(first // BLOCK, last // BLOCK + 1)
@@ -87,7 +87,7 @@ class Hunt:
             self.workers[reader] = worker
 
     def follow(self, tell):
-        """Takes what the processes tell, to their end. `tell` is called each time."""
+        """Takes the reports of the processes, until these end, and calls `tell` after each report."""
         left = list(self.workers)
         while left:
             for reader in wait(left):

@@ -7,12 +7,12 @@ from playing.script import do
 
 # How many copies the network holds back.
 MOST_KEPT = 20
-# Timers in a row with which a node of a state goes on.
+# How many timers in a row make a node go on, by its state.
 PATIENCE = {OPERATIONAL: 3, GATHER: 2, COMMIT: 3, RECOVERY: 3}
 
 
 class Mood:
-    """What a seed's network and nodes are like: how often things come about, in a hundred."""
+    """What a seed's network and nodes are like: how often things happen, in a hundred."""
 
     def __init__(self, chance):
         self.lost = {Commit: chance.of((0, 0, 5, 15)), Join: chance.of((0, 5, 15)), Token: chance.of((0, 0, 3, 10)),
@@ -36,7 +36,7 @@ class Maker:
     def __init__(self, chance, start=None):
         self.chance = chance
         self.mood = Mood(chance)
-        # Of what comes to the victim while it forms a ring copies are held back, to come again later.
+        # Copies of what comes to the victim while it forms a ring are held back, to come again later.
         self.sight = start.sight.copy() if start else Sight(chance.of((0, 2, 2, 3, 3, 4)))
         self.victim = self.sight.victim
         self.scene = start.scene.copy(self.sight.see) if start else Scene(self.sight.see)
@@ -49,7 +49,7 @@ class Maker:
                 self._lose_messages()
 
     def do(self, *command):
-        """Does a command, and notes it."""
+        """Does a command, and records it."""
         do(self.scene, command)
         self.commands.append(command)
 
@@ -108,7 +108,7 @@ class Maker:
         self.do('drop', 1)
 
     def _let_come(self, place):
-        """A copy that was held back comes; now and then a further one is held back."""
+        """A copy that was held back arrives; now and then another one is held back."""
         receiver, origin = self.kept.pop(place)
         if all(waiting.origin != origin for waiting in self.scene.queue):
             return
@@ -120,7 +120,7 @@ class Maker:
         self.do('run', 1)
 
     def replay(self):
-        """A process gathers, and what it was sent before comes again, in the order in which it was sent."""
+        """A process gathers, and gets again what it was sent before, in the order in which that was sent."""
         processes = [process for process, _ in self.kept]
         is_for_victim = self.victim in processes and self.chance.percent(80)
         node = self.scene.actors[self.victim if is_for_victim else self.chance.of(processes)].node
@@ -140,7 +140,7 @@ class Maker:
         return self.chance.percent(self.mood.again[type(waiting.packet)])
 
     def _pass_on(self):
-        """The first packet that is not held back comes, is lost, or is late; or it comes, and a copy of it is held back."""
+        """The first packet that is not held back arrives, is lost, or is late; or it arrives, and a copy of it is held back."""
         chance, mood = self.chance, self.mood
         if all(map(self._is_kept, self.scene.queue)):
             self._let_come(0)
@@ -161,12 +161,12 @@ class Maker:
             self.do('run', 1)
 
     def _run_out(self, node):
-        """The timer of a node runs out as often as it takes to go on."""
+        """The timer of a node expires as often as it takes to make it go on."""
         for _ in range(PATIENCE[node.state]):
             self.do('timer', node.me)
 
     def _let_time_pass(self):
-        """A timer runs out, or as many as a node waits for; most of all those of nodes that form a ring."""
+        """A timer expires, or as many as a node waits for; mostly those of nodes that form a ring."""
         alive = self._nodes(lambda node: not node.has_crashed)
         forming = [node for node in alive if node.state in (COMMIT, RECOVERY)]
         nodes = forming if forming and self.chance.percent(60) else alive

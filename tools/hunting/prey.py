@@ -9,8 +9,8 @@ def name_of(broken):
 
 
 class Found:
-    """Counts of what was seen, and for each set of broken specifications the shortest script. It is kept in a folder at once, so whoever is
-    killed loses nothing."""
+    """Counts of what was seen, and for each set of broken specifications the shortest script. It is written to a folder at once, so a hunt
+    that is killed loses nothing."""
 
     def __init__(self, folder):
         self.folder = folder
@@ -29,7 +29,7 @@ class Found:
         self.counts.update(counts)
 
     def add_no(self, seed, broken, script):
-        """Notes a broken run."""
+        """Records a broken run."""
         self.noes.setdefault(broken, []).append(seed)
         self._write('noes', ('seed %d: %s\n' % (seed, ' '.join(broken))).encode(), 'ab')
         self.add_script(seed, broken, script)
@@ -42,7 +42,7 @@ class Found:
             self._write(name_of(broken) + '.script', script)
 
     def add_other(self, seed, script):
-        """Notes a script of which the program makes another run than docs/PROTOCOL.md."""
+        """Records a script for which the program makes another run than docs/PROTOCOL.md."""
         self.others.append(seed)
         self._write('other-%d.script' % seed, script)
 

@@ -1,9 +1,9 @@
-"""What a script has reached: for that a script is kept and changed further."""
+"""What a script has reached, which is the reason to keep a script and to change it further."""
 from playing.node import COMMIT, RECOVERY
 from playing.packets import Message, Old
 
-# How deep it is where a number of a ring was given to two messages; where a member of the ring holds one of them and lacks the old message
-# that the other one carries; and where it has installed the ring.
+# The depth if a number of a ring was given to two messages; if a member of the ring holds one of them and lacks the old message
+# that the other one carries; and if that member has installed the ring.
 GIVEN_TWICE, LACKING, INSTALLED = 1, 2, 3
 
 
@@ -20,22 +20,23 @@ def _lacks(ring, body):
 
 
 class Sight:
-    """Sees each step of a scene. `reached` are the things that were seen since somebody looked last."""
+    """Sees each step of a scene. `reached` are the things that were seen since the last look."""
 
     def __init__(self, victim):
         self.reached = []
         self.victim = victim
-        # Of each ring what came about as the victim formed it that a good run has no need of.
+        # For each ring, what happened while the victim formed it and is not needed in a good run.
         self.marks = {}
-        # Who has entered which ring, and has taken which tokens; what each process knew as it spoke on a ring; to what each number was given.
+        # Who has entered which ring, and has taken which tokens; what each process knew when it sent on a ring; which message got each
+        # number.
         self.done, self.knew, self.given = set(), {}, {}
         # The members of each ring that the victim has entered.
         self.members = {}
-        # Numbers that two messages of a ring have: what a ring promises not to give.
+        # Numbers that two messages of a ring have, although a ring promises to give each number once.
         self.doubled = {}
 
     def copy(self):
-        """A copy that shares nothing that changes."""
+        """A copy that shares nothing mutable."""
         other = Sight(self.victim)
         other.marks, other.done, other.knew, other.given = dict(self.marks), set(self.done), dict(self.knew), dict(self.given)
         other.members, other.doubled = dict(self.members), dict(self.doubled)
@@ -87,7 +88,7 @@ class Sight:
             self.doubled[name] = self.doubled.get(name, frozenset((first,))) | {message}
 
     def _depth_at(self, name, node):
-        """How deep it is at a member of this ring."""
+        """The depth at a member of this ring."""
         if node.installed.name == name:
             return INSTALLED
         depth, held = 0, node.recovery.ring.held if node.recovery else {}
@@ -98,7 +99,7 @@ class Sight:
         return depth
 
     def marks_of(self, scene):
-        """How deep it is on the ring that the victim forms, and the marks of that ring, as long as all of its members form it or have installed
+        """The depth on the ring that the victim forms, and the marks of that ring, as long as all of its members form it or have installed
         it."""
         victim = scene.actors[self.victim].node if self.victim in scene.actors else None
         name = victim and (victim.filled or victim.installed.name)
@@ -118,7 +119,7 @@ class Sight:
                    and _lacks(node.installed, message.body) for (ring, number), message in self.given.items())
 
     def stand_of(self, scene):
-        """Where the nodes of a scene stand together: in which states, with which marks."""
+        """The combined state of a scene's nodes: their states, and the marks."""
         nodes = [actor.node for actor in scene.actors.values()]
         states = sorted((node.state, node.has_crashed, bool(node.filled), bool(node.obligation), _has_gap(node.installed))
                         for node in nodes)

@@ -1,1 +1,1 @@
-"""Folders of logs, one for each process, made into runs that `totem audit` reads. docs/OWN-LOGS.md tells how to use it."""
+"""Makes runs that `totem audit` reads from folders of logs, one for each process. docs/OWN-LOGS.md explains how to use it."""

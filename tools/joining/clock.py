@@ -1,4 +1,4 @@
-"""A clock file: when lives of processes began and ended, and when configurations were changed to, by one clock.
+"""A clock file: when lives of processes began and ended, and when processes changed to configurations, by one clock.
 
     958.707 end 2:1
     960.714 start 2:2
@@ -13,14 +13,14 @@ NEVER = float('inf')
 
 
 class Note(NamedTuple):
-    """A time, and the line of the file that tells it."""
+    """A time, and the line of the file that has it."""
 
     time: float
     line: int
 
 
 class Clock:
-    """What a clock file tells."""
+    """What a clock file says."""
 
     def __init__(self, path):
         self.path = path
@@ -51,7 +51,7 @@ class Clock:
         known[life] = note
 
     def _check_lives(self):
-        """Each life that ends began before that, and before it the life before it."""
+        """Each life starts before it ends, and after the lives before it have started and ended."""
         for life, note in self.ends.items():
             if life in self.starts and note.time < self.starts[life].time:
                 self.refuse(note.line, 'life %d:%d ends before it starts' % life)
@@ -61,24 +61,24 @@ class Clock:
                     self.refuse(note.line, 'life %d:%d starts before life %d:%d has started and ended' % (process, life, other, earlier))
 
     def times_of(self, life):
-        """From when to when a life ran: to its end, or else to the start of the next one."""
+        """When a life ran: from its start to its end, or if that is not known to the start of the next one."""
         later = [note.time for (process, other), note in self.starts.items() if process == life[0] and other > life[1]]
         end = self.ends[life].time if life in self.ends else min(later, default=NEVER)
         return self.starts[life].time, end
 
     def check_change(self, configuration, life):
-        """A life whose log changes to a configuration ran when that was changed to."""
+        """Refuses the time of a configuration at which a life whose log changes to it did not run."""
         note = self.changes.get(configuration)
         if not note or life not in self.starts:
             return
         begin, end = self.times_of(life)
         if note.time < begin:
-            self.refuse(note.line, '%s is changed to before %d:%d starts, whose log changes to it' % (configuration.decode(), *life))
+            self.refuse(note.line, '%s is before the start of %d:%d, whose log changes to it' % (configuration.decode(), *life))
         if note.time > end:
-            self.refuse(note.line, '%s is changed to after %d:%d has ended, whose log changes to it' % (configuration.decode(), *life))
+            self.refuse(note.line, '%s is after the end of %d:%d, whose log changes to it' % (configuration.decode(), *life))
 
     def life_at(self, process, configuration, came):
-        """The only life of a process that can have run when this configuration was changed to by these lives; None if it is not known."""
+        """The only life of a process that can have run when these lives changed to this configuration; None if it is not known."""
         known = [self.times_of(life) for life in came if life in self.starts]
         note = self.changes.get(configuration)
         begin = note.time if note else max((begin for begin, _ in known), default=None)

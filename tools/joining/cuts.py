@@ -8,8 +8,8 @@ from joining.trouble import Refused, tell, tell_each
 
 
 class Cut(NamedTuple):
-    """A common change: for each log how many of its changes stand up to it (all of them, where the log ended before; none, where it begins
-    behind), and how many entries."""
+    """A common change: for each log the number of its changes and of its entries up to there (all of them if the log ended before, none
+    if it begins after)."""
 
     configuration: bytes
     changes: tuple
@@ -17,7 +17,7 @@ class Cut(NamedTuple):
 
 
 class Places:
-    """Where each log changes to what, and what any two logs share."""
+    """The configurations to which each log changes and where, and those that any two logs share."""
 
     def __init__(self, logs):
         self.logs = logs
@@ -31,13 +31,13 @@ class Places:
         self.shared = {(one, other): self._span(one, other) for one in count for other in count if one != other}
 
     def _span(self, one, other):
-        """The first and the last change of the other log to what both change to, or None."""
+        """The first and the last change of the other log to a configuration to which both change, or None."""
         common = [self.at[other][name] for name in self.at[one].keys() & self.at[other].keys()]
         return (min(common), max(common)) if common else None
 
     def side(self, log, configuration, came):
-        """Where a log lies that doesn't change to this configuration, as those in `came` do: 'before', 'behind', or None if it lies on
-        both sides, or is still there."""
+        """On which side of this configuration a log is that doesn't change to it, as those in `came` do: 'before', 'behind' (after it), or
+        None if it is on both sides, or still there."""
         has_before = has_behind = False
         for other in came:
             span = self.shared[log, other]
@@ -92,7 +92,7 @@ def common_changes(logs):
 
 
 class Cutting:
-    """Logs that are cut into parts, in each of which no log has more than so many entries. `life_of` tells the life of a member."""
+    """Logs that are cut into parts, in each of which no log has more than `most` entries. `life_of` returns the life of a member."""
 
     def __init__(self, logs, most, life_of):
         self.logs = logs
@@ -103,7 +103,7 @@ class Cutting:
         self.end = Cut(b'', tuple(len(log.changes) for log in logs), tuple(log.entries for log in logs))
 
     def _range(self, index, begin, end):
-        """The changes of a log in a part, from the first, and how many entries it has there: the change of a cut stands in both."""
+        """The range of a log's changes in a part, and how many entries the log has there. The change of a cut is in both parts."""
         first = begin.changes[index] - 1 if self._is_cut_through(index, begin) else begin.changes[index]
         entries = end.entries[index] - begin.entries[index] + (begin.changes[index] - first)
         return first, end.changes[index], entries
@@ -133,11 +133,11 @@ class Cutting:
             for change in log.changes[first:last]:
                 for process, life in change.members:
                     if (process, life or self.life_of(log, change.configuration, process)) not in have:
-                        return '%s has the member %d, whose log is all before or behind it' % (change.configuration.decode(), process)
+                        return '%s has the member %d, whose log is entirely before or after it' % (change.configuration.decode(), process)
         return None
 
     def parts(self, end=None):
-        """The cuts that end the parts, as few as there can be; the last is the end of the logs, or that which is given."""
+        """The cuts that end the parts, as few as possible; the last is the given end, or else the end of the logs."""
         end = end or self.end
         begin, chosen = self.begin, []
         while begin is not end:
@@ -154,14 +154,14 @@ class Cutting:
             begin.configuration.decode() or 'the beginning', end.configuration.decode() or 'the end', self.flaw(begin, end))
 
     def tell_again(self, chosen):
-        """Tells of configurations that come again in a later part: what is wrong with that no part shows."""
+        """Reports configurations that come again in a later part, a defect that no single part shows."""
         part_of, again = {}, []
         for number, (begin, end) in enumerate(chosen, 1):
             for index, log in enumerate(self.logs):
                 for change in log.changes[begin.changes[index]:end.changes[index]]:
                     first = part_of.setdefault(change.configuration, number)
                     if first != number:
-                        again.append('%s: changes to %s, which stands in part %d too: a name came again, and no part shows it' % (
+                        again.append('%s: changes to %s, which is also in part %d: a name came again, and no part shows it' % (
                             log.name, change.configuration.decode(), first))
         tell_each(again)
 
@@ -169,7 +169,7 @@ class Cutting:
         """One part, from the beginning up to a cut."""
         flaw = self.flaw(self.begin, end)
         if flaw:
-            raise Refused('what stands up to %s is no run: %s' % (end.configuration.decode(), flaw))
+            raise Refused('the entries up to %s are not a run: %s' % (end.configuration.decode(), flaw))
         return self.begin, end
 
     def of_part(self, begin, end):
@@ -184,21 +184,21 @@ class Cutting:
         return parts
 
     def trimmed(self):
-        """The last common change; what stands behind it is left out, and told."""
+        """The last common change. Reports what is left out after it."""
         if not self.cuts:
             raise Refused('there is no regular configuration to which all that are still there change')
         end = self.cuts[-1]
         name = end.configuration.decode()
         for log, kept in zip(self.logs, end.entries):
             if not kept:
-                tell('%s: begins behind %s, and is left out' % (log.name, name))
+                tell('%s: begins after %s, and is left out' % (log.name, name))
             elif kept < log.entries:
-                tell('%s: entries that are left out behind its change to %s: %d' % (log.name, name, log.entries - kept))
+                tell('%s: entries left out after its change to %s: %d' % (log.name, name, log.entries - kept))
         return end
 
 
 def _end_of(log, changes):
-    """The offset behind the last of so many changes."""
+    """The offset after the last of this many changes."""
     offset = log.changes[changes - 1].offset
     for block in blocks(log.path, offset, log.size):
         return offset + block.index(b'\n') + 1

@@ -1,20 +1,20 @@
-"""How logs end: what the call says of processes that failed, and of those that are quiet."""
+"""How logs end: what the caller says about processes that failed, and about those that are quiet."""
 from joining.trouble import Refused, tell
 
 
 def read_list(words):
-    """The processes, and lives of them, of words such as 2,3:1."""
+    """The processes, and their lives, that arguments such as 2,3:1 name."""
     named = []
     for word in ','.join(words).split(','):
         process, colon, life = word.partition(':')
         if not process.isdecimal() or (colon and not life.isdecimal()):
-            raise Refused('%r is no process: say 2, or 2:1 for life 1 of 2' % word)
+            raise Refused('%r is not a process: say 2, or 2:1 for life 1 of 2' % word)
         named.append((int(process), int(life) if colon else None))
     return named
 
 
 def logs_of(words, logs):
-    """The logs that words name. A process without a life names its only log."""
+    """The logs that arguments name. A process without a life names its only log."""
     found = []
     for process, life in read_list(words):
         those = [log for log in logs if log.process == process and (life is None or (log.life or 1) == life)]
@@ -28,7 +28,7 @@ def logs_of(words, logs):
 
 
 def fail(logs, words):
-    """Logs of processes that are known to have failed get `fail` as their last entry."""
+    """Adds `fail` as the last entry of the logs of processes that are known to have failed."""
     for log in logs_of(words, logs):
         if log.ending == 'failed':
             tell('%s ends with fail already' % log.name)
@@ -43,7 +43,7 @@ def fail(logs, words):
 
 
 def be_quiet(logs, words):
-    """Logs that are known to be quiet are closed so; `all` are those that have not failed."""
+    """Closes the logs that are known to be quiet; `all` are those that have not failed."""
     if 'all' in words:
         chosen = [log for log in logs if log.ending != 'failed']
     else:

@@ -1,4 +1,4 @@
-"""Lines of a log: what an entry looks like (docs/SPECIFICATIONS.md, "Run text"), and what is wrong with a line that is none."""
+"""Lines of a log: what an entry looks like (docs/SPECIFICATIONS.md, "Run text"), and what is wrong with a line that is not an entry."""
 import re
 
 MOST_PROCESS = 65535
@@ -8,7 +8,7 @@ MOST_LOGS = 32
 MOST_ENTRIES = 1000000
 
 
-# Numbers that are surely in range, those of processes too, and numbers of any size.
+# Numbers that are surely in range, also those of processes, and numbers of any size.
 SMALL, SMALL_PROCESS, ANY = rb'[1-9][0-9]{0,8}', rb'[1-9][0-9]{0,3}', rb'[1-9][0-9]{0,19}'
 
 
@@ -24,14 +24,14 @@ def _forms(ring_number, process, message_number, life):
         rb'|fail ' + configuration + rb')\n'
 
 
-# Lines whose numbers are surely in range: nearly all that there are. The others are looked at one by one. Where processes and rings are
-# numbered anew theirs may have any size.
+# Lines whose numbers are surely in range: nearly all lines. The others are checked one by one. If processes and rings are
+# renumbered, theirs may have any size.
 PLAIN = re.compile(rb'(?:' + _forms(SMALL, SMALL_PROCESS, SMALL, SMALL_PROCESS) + rb')*')
 PLAIN_TO_NUMBER = re.compile(rb'(?:' + _forms(ANY, ANY, SMALL, SMALL_PROCESS) + rb')*')
 # A line with numbers of any size.
 LARGE = re.compile(_forms(ANY, ANY, ANY, ANY))
 WITHOUT_MEMBERS = re.compile(rb'conf [rt][0-9./]+ *\n')
-# The numbers of a line, by what they are.
+# The numbers of a line, by what they number.
 RINGS = re.compile(rb'([0-9]+)\.([0-9]+)')
 MESSAGE = re.compile(rb'#([0-9]+)')
 BEHIND_SLASH = re.compile(rb'/([0-9]+)')
@@ -46,7 +46,7 @@ _EXAMPLES = {
 
 
 def shown(line):
-    """A line for a person, cut where it is long."""
+    """A line for a person, shortened if it is long."""
     text = line.rstrip(b'\n').decode('ascii', 'replace')
     text = ''.join(letter if ' ' <= letter <= '~' else '?' for letter in text)
     return text if len(text) <= 60 else text[:60] + '..'
@@ -58,15 +58,15 @@ def _past(line):
     processes = [ring[2] for ring in RINGS.finditer(line)] + [it[1] for it in BEHIND_SLASH.finditer(line)]
     for process in processes + [it[1] for it in members]:
         if int(process) > MOST_PROCESS:
-            return 'process %d is past %d; --renumber numbers processes anew' % (int(process), MOST_PROCESS)
+            return 'process %d is past %d; --renumber renumbers processes' % (int(process), MOST_PROCESS)
     for ring in RINGS.finditer(line):
         if int(ring[1]) > MOST_NUMBER:
-            return 'ring number %d is past %d; --renumber numbers rings anew' % (int(ring[1]), MOST_NUMBER)
+            return 'ring number %d is past %d; --renumber renumbers rings' % (int(ring[1]), MOST_NUMBER)
     return None
 
 
 def _past_always(line):
-    """What is wrong with those numbers that are never numbered anew: of messages, and lives."""
+    """What is wrong with those numbers that are never renumbered: of messages, and lives."""
     for message in MESSAGE.finditer(line):
         if int(message[1]) > MOST_NUMBER:
             return 'message number %d is past %d' % (int(message[1]), MOST_NUMBER)
@@ -78,7 +78,7 @@ def _past_always(line):
 
 
 def flaw(line, is_numbered_anew):
-    """What is wrong with a line and its line end, or None if it is an entry. Where processes and rings are numbered anew their numbers
+    """What is wrong with a line and its line end, or None if it is an entry. If processes and rings are renumbered, their numbers
     may be of any size."""
     if LARGE.fullmatch(line):
         return _past_always(line) or (None if is_numbered_anew else _past(line))
@@ -90,8 +90,8 @@ def flaw(line, is_numbered_anew):
         return 'a change has members: %s (a first callback that names none is left out)' % shown(line)
     example = _EXAMPLES.get(line.split(b' ')[0].rstrip(b'\n'))
     if example:
-        return 'this is no entry: %s (such as %s)' % (shown(line), example)
-    return 'this is no entry: %s (a line begins with conf, send, dlv or fail)' % shown(line)
+        return 'this is not an entry: %s (such as %s)' % (shown(line), example)
+    return 'this is not an entry: %s (a line begins with conf, send, dlv or fail)' % shown(line)
 
 
 def flaw_of_members(members):
@@ -100,5 +100,5 @@ def flaw_of_members(members):
         return 'a configuration has %d members at most' % MOST_MEMBERS
     for before, behind in zip(members, members[1:]):
         if behind[0] <= before[0]:
-            return 'members do not rise: %d stands behind %d' % (behind[0], before[0])
+            return 'members are not in ascending order: %d comes after %d' % (behind[0], before[0])
     return None

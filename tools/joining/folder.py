@@ -8,13 +8,13 @@ from joining.entries import MOST_PROCESS
 from joining.trouble import Refused, tell
 
 NAME = re.compile(r'([1-9][0-9]{0,19})(?:\.([1-9][0-9]{0,19}))?\.log')
-# How many bytes are read at once, and how many a line may have before it is surely none.
+# How many bytes are read at once, and the length above which a line is surely not an entry.
 BLOCK = 1 << 17
 MOST_OF_A_LINE = 1 << 20
 
 
 class Change(NamedTuple):
-    """A change of configuration: where its line begins in the file, how many entries stand before it, and what it says."""
+    """A change of configuration: where its line begins in the file, how many entries come before it, and what it says."""
 
     offset: int
     before: int
@@ -35,15 +35,15 @@ class Log:
     entries: int = 0
     # `open`, `failed` or `quiet`.
     ending: str = 'open'
-    # The configuration of its last change, and all of its changes where they are asked for.
+    # The configuration of its last change, and all of its changes if they are asked for.
     last: bytes = b''
     changes: list = field(default_factory=list)
-    # What a word of the call adds behind its entries.
+    # What an argument adds after its entries.
     added: bytes = b''
 
     @property
     def who(self):
-        """The process as the call names it: 3, or 3:2 with its life."""
+        """The process as arguments name it: 3, or 3:2 with its life."""
         return str(self.process) if self.life is None else '%d:%d' % (self.process, self.life)
 
 
@@ -95,20 +95,20 @@ def measure(log):
 
 
 def _read_name(name, is_numbered_anew):
-    """The process and the life that a file's name tells."""
+    """The process and the life that a file's name contains."""
     found = NAME.fullmatch(name)
     if not found:
-        raise Refused('%s: the name is no process: a log is called P.log, or P.L.log for life L of P, such as 3.log or 3.2.log' % name)
+        raise Refused('%s: the name is not a process: a log is called P.log, or P.L.log for life L of P, such as 3.log or 3.2.log' % name)
     process, life = int(found[1]), int(found[2]) if found[2] else None
     if process > MOST_PROCESS and not is_numbered_anew:
-        raise Refused('%s: process %d is past %d; --renumber numbers processes anew' % (name, process, MOST_PROCESS))
+        raise Refused('%s: process %d is past %d; --renumber renumbers processes' % (name, process, MOST_PROCESS))
     if life and life > MOST_PROCESS:
         raise Refused('%s: life %d is past %d' % (name, life, MOST_PROCESS))
     return process, life
 
 
 def _refuse_twins(logs):
-    """Two logs of one life are refused: P.log is life 1 of P."""
+    """Refuses two logs of one life: P.log is life 1 of P."""
     first = {}
     for log in logs:
         other = first.setdefault((log.process, log.life or 1), log)
@@ -117,7 +117,7 @@ def _refuse_twins(logs):
 
 
 def find(folder, is_numbered_anew, adds_lives):
-    """The logs of a folder in the order of a run: by process, then by life. Where lives are added, P.log is that of life 1."""
+    """The logs of a folder in the order of a run: by process, then by life. If lives are added, P.log is the log of life 1."""
     names = sorted(name for name in os.listdir(folder) if name.endswith('.log'))
     if not names:
         raise Refused('%s has no file P.log or P.L.log' % folder)

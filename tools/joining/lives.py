@@ -4,13 +4,13 @@ from joining.clock import Clock
 from joining.scan import change_lines
 from joining.trouble import Refused, tell, tell_each
 
-# How many unknown members are asked for at once.
+# How many unknown members one refusal lists.
 MOST_ASKED = 20
 
 
 class Lives:
-    """Of each configuration and member the life that it is: that of the log which changes to the configuration; or, where none does, the
-    one that the call says, the only one that there is, the one that was a member of the configuration just before or behind, or the one
+    """The life of each member of each configuration. It is that of the log which changes to the configuration. If none does, it is the
+    one that the caller names, the only one that there is, the one that was a member of the configuration just before or after, or the one
     that ran at that time."""
 
     def __init__(self, logs, said=(), clock_file=None):
@@ -45,14 +45,14 @@ class Lives:
                 change.configuration.decode(), first, log.life, log.process))
 
     def _learn(self, configuration, process, life, how):
-        """The life of a member is known now."""
+        """Records the life of a member, which is now known."""
         self.known[configuration][process] = life
         del self.unknown[configuration, process]
         if how:
             tell('%s: member %d, which never came, is %d:%d: %s' % (configuration.decode(), process, process, life, how))
 
     def _say(self, said):
-        """What the call says: r26.1=3:2."""
+        """Takes what the caller says: r26.1=3:2."""
         for word in said:
             configuration, _, who = word.partition('=')
             [(process, life)] = endings.read_list([who])
@@ -71,7 +71,7 @@ class Lives:
                 self._learn(configuration, process, lives[0], '')
 
     def _neighbours(self):
-        """Who goes on from one configuration to the next is the same life in both."""
+        """Takes over lives between neighbouring configurations: a process that goes on from one to the next is the same life in both."""
         beside = {}
         wanted = {configuration for configuration, _ in self.unknown}
         for log in self.logs:
@@ -91,7 +91,7 @@ class Lives:
                         break
 
     def _ask(self, clock):
-        """What the clock says."""
+        """Takes what the clock says."""
         for configuration, lives in self.came.items():
             for life in lives.items():
                 clock.check_change(configuration, life)
@@ -112,12 +112,12 @@ class Lives:
         raise Refused('\n  '.join(lines))
 
     def of(self, log, configuration, process):
-        """The life of a member, as this log says it: of its own process it is its own."""
+        """The life of a member in a change of this log: for the log's own process it is the log's life."""
         return log.life if process == log.process else self.known[configuration][process]
 
 
 def add_lives(block, life_of):
-    """The block with lives in its changes. `life_of(configuration, process)` tells each."""
+    """The block with lives in its changes. `life_of(configuration, process)` returns each."""
     parts, done = [], 0
     for at in change_lines(block):
         end = block.index(b'\n', at)

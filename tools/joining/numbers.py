@@ -1,4 +1,4 @@
-"""Processes and rings numbered anew, alike in all logs, where their numbers are past what a run may have."""
+"""Renumbers processes and rings, in the same way in all logs, if their numbers are past what a run may have."""
 import re
 
 from joining.entries import BEHIND_SLASH, MOST_NUMBER, MOST_PROCESS
@@ -9,7 +9,7 @@ RING = re.compile(rb'[0-9]+\.[0-9]+')
 
 
 def _table(numbers, most, what):
-    """The numbers from 1 on for these numbers, in their order; none where all are in range."""
+    """New numbers from 1 on for these numbers, in their order; none if all are in range."""
     if max(numbers, default=0) <= most:
         return {}
     if len(numbers) > most:
@@ -17,14 +17,14 @@ def _table(numbers, most, what):
     return {number: new for new, number in enumerate(sorted(numbers), 1)}
 
 
-# How many rings are looked for at once before all others: logs name few at a time.
+# How many rings are looked for first: logs name few at a time.
 MOST_RECENT = 8
-# Stands for the dot of a ring that is numbered anew already.
+# Replaces the dot of a ring that is already renumbered.
 DONE = b'\1'
 
 
 class Numbers:
-    """Which numbers there are, and which they become."""
+    """Which numbers there are, and what they become."""
 
     def __init__(self):
         self.names = set()
@@ -48,11 +48,11 @@ class Numbers:
         self._come(there, found)
 
     def _come(self, there, found):
-        """What was there in this block, and what was found beside it, is looked for first in the next one."""
+        """Looks first, in the next block, for the rings of this one."""
         self.recent = (there + sorted(found.difference(there)))[-MOST_RECENT:]
 
     def settle(self, logs):
-        """Makes the tables, and tells them."""
+        """Makes the tables, and reports them."""
         rings, processes = set(), {int(least) for least in self.leasts}
         for name in self.names:
             number, _, process = name.partition(b'.')
@@ -71,7 +71,7 @@ class Numbers:
         tell_each([line + (' becomes %d' % new) for line, new in lines] or ['no number is past what a run may have: none is changed'])
 
     def lines(self):
-        """What was numbered, and the new number of each."""
+        """What was renumbered, and the new number of each."""
         lines = [('process %d' % old, new) for old, new in self.processes.items()]
         return lines + [('ring number %d' % old, new) for old, new in self.rings.items()]
 

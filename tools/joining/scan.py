@@ -9,7 +9,7 @@ def _refuse(log, line, what):
 
 
 def _check_lines(log, block, before, is_numbered_anew):
-    """Looks at the lines of a block one by one."""
+    """Checks the lines of a block one by one."""
     for number, line in enumerate(block.removesuffix(b'\n').split(b'\n'), before + 1):
         what = entries.flaw(line + b'\n', is_numbered_anew)
         if what:
@@ -17,7 +17,7 @@ def _check_lines(log, block, before, is_numbered_anew):
 
 
 def change_lines(block):
-    """Where the lines of a block that begin with conf begin."""
+    """The offsets of a block's lines that begin with conf."""
     at = 0 if block.startswith(b'conf ') else block.find(b'\nconf ') + 1
     while at or block.startswith(b'conf ', at):
         yield at
@@ -28,7 +28,7 @@ def change_lines(block):
 
 
 def read_members(words):
-    """Members as pairs of a process and a life, which is None where none is written."""
+    """Members as pairs of a process and a life, which is None if none is written."""
     members = []
     for word in words:
         process, _, life = word.partition(b':')
@@ -37,7 +37,7 @@ def read_members(words):
 
 
 def _check_change(log, line, members, adds_lives):
-    """Whether the members of a change rise, and have lives just where the log's file has one."""
+    """Refuses a change whose members are not ascending, or do not have lives exactly if the log's file has one."""
     what = entries.flaw_of_members(members)
     if what:
         _refuse(log, line, what)
@@ -51,7 +51,7 @@ def _check_change(log, line, members, adds_lives):
 
 
 class Scan:
-    """How logs are read. `keeps_changes`: each log gets the list of its changes. `sees(block)` is called with each block, if given.
+    """How logs are read. `keeps_changes`: each log gets the list of its changes. `sees(block)`, if given, is called with each block.
     `is_known`: each line is known to be an entry."""
 
     def __init__(self, is_numbered_anew=False, adds_lives=False, keeps_changes=False, sees=None, is_known=False):
@@ -88,7 +88,7 @@ class Scan:
             offset += len(block)
         if block[block.rfind(b'\n', 0, -1) + 1:].startswith(b'fail '):
             if log.ending == 'quiet':
-                _refuse(log, log.entries + 1, 'quiet stands behind a failure')
+                _refuse(log, log.entries + 1, 'quiet comes after a failure')
             log.ending = 'failed'
 
     def read_all(self, logs):

@@ -1,4 +1,4 @@
-"""Sends that were recorded when the layer took the message: each is put in front of its sender's own delivery."""
+"""Moves sends that were recorded when the layer took the message: each goes to just before its sender's own delivery."""
 import os
 import re
 from typing import NamedTuple
@@ -32,14 +32,14 @@ def segments(log):
 
 
 def pieces(log, of_log):
-    """The bytes of a log, and of each piece the index of its segment."""
+    """The bytes of a log in pieces, each with the index of its segment."""
     for index, segment in enumerate(of_log):
         for block in blocks(log.path, segment.begin, segment.end):
             yield index, block
 
 
 def regular_at(of_log, index):
-    """The index of the regular configuration in which a message was sent that is delivered in this segment, or None."""
+    """The index of the regular configuration in which a message delivered in this segment was sent, or None."""
     for back in (index, index - 1):
         if back >= 0 and of_log[back].is_regular:
             return back
@@ -47,7 +47,7 @@ def regular_at(of_log, index):
 
 
 def sends_of(log):
-    """The messages that a log sends, in their order, with the service; with several letters where it sends one more than once."""
+    """The messages that a log sends, in their order, with the service; with several letters if it sends one more than once."""
     services = {}
     for block in blocks(log.path, 0, log.size):
         for service, name in SEND.findall(block):
@@ -56,12 +56,12 @@ def sends_of(log):
 
 
 class Plan:
-    """Where the sends of a log are put. Those that are not named here stand in front of the own delivery."""
+    """Where the sends of a log go. Those that are not named here go before the own delivery."""
 
     def __init__(self, log):
         self.log = log
         self.segments = segments(log)
-        # By the index of a segment, the messages whose sends stand at its end.
+        # By the index of a segment, the messages whose sends go to its end.
         self.at_end = {}
         # Messages whose sends stay where they are, and those that are left out.
         self.kept = set()
@@ -70,7 +70,7 @@ class Plan:
         self.missing = []
 
     def put(self, name, index):
-        """The send of this message stands at the end of this segment; without a segment it stays where it is."""
+        """Puts the send of this message at the end of this segment; without a segment it stays where it is."""
         if index is None:
             self.kept.add(name)
         else:
@@ -84,7 +84,8 @@ class Plan:
         return None
 
     def place_missing(self, delivered_in):
-        """Places what the process never delivered: where others did, before the change behind that configuration; else it is left out."""
+        """Places the sends of messages that the process never delivered: at the end of the configuration in which others delivered them. If
+        nobody did, leaves them out."""
         for name in self.missing:
             if name in delivered_in:
                 self.put(name, self.index_of(delivered_in[name]))
@@ -92,14 +93,14 @@ class Plan:
                 self.left_out.append(name)
 
     def tell(self, count):
-        """Tells what was moved and what was left out; `count` sends stand in front of own deliveries."""
+        """Reports what was moved and what was left out; `count` sends are now before own deliveries."""
         who = self.log.name
         if count:
-            tell('%s: sends that stand in front of their own deliveries: %d' % (who, count))
+            tell('%s: sends moved to just before their own deliveries: %d' % (who, count))
         lines = []
         for index, names in sorted(self.at_end.items()):
             where = self.segments[index].configuration.decode()
-            lines.append('%s: sends at the end of %s, since it delivered the messages behind it or not at all: %d (%s)'
+            lines.append('%s: sends moved to the end of %s, since it delivered the messages after it or not at all: %d (%s)'
                          % (who, where, len(names), some(names)))
         tell_each(lines)
         if self.kept:
@@ -111,8 +112,8 @@ class Plan:
 
 
 def delivered_in(plans, logs):
-    """Of each message that its sender never delivered, and others did, the regular configuration in which it was sent; an empty name where
-    they were in none."""
+    """For each message that others delivered and its sender never did, the regular configuration in which it was sent; an empty name if
+    the others were in none."""
     missing = {name for plan in plans for name in plan.missing}
     found = {}
     if not missing:
@@ -128,8 +129,8 @@ def delivered_in(plans, logs):
 
 
 class Rewriting:
-    """A log that is written anew by its plan. What it delivers of its own elsewhere than in a regular configuration is added to the
-    plan; where that, or what it never delivers, is anything, the log is written a second time."""
+    """A log that is rewritten by its plan. If it delivers a message of its own elsewhere than in a regular configuration, that message is
+    added to the plan. If there are such messages, or messages that it never delivers, the log is written a second time."""
 
     def __init__(self, plan):
         self.plan = plan
@@ -151,14 +152,14 @@ class Rewriting:
         return b''.join(self.lines_of(index, name) for name in self.at_end.pop(index, ()))
 
     def without_sends(self, block):
-        """The block without the sends that don't stay where they are."""
+        """The block without the sends that move."""
         kept = self.plan.kept
         if not kept:
             return SEND.sub(b'', block)
         return SEND.sub(lambda found: found[0] if found[2] in kept else b'', block)
 
     def own_deliveries(self, index, block):
-        """Which lines of the block deliver what is still to come, and what."""
+        """The lines of the block that deliver a message whose own delivery is still to come, each with that message."""
         here = self.here
         stripped = block.replace(b'dlv %s ' % self.plan.segments[index].configuration, b'')
         if b'dlv ' in stripped:
@@ -168,7 +169,7 @@ class Rewriting:
         return [(at, name) for at, name in enumerate(names) if name in here]
 
     def of(self, index, block):
-        """The piece of a segment, with the sends that stand in front of deliveries."""
+        """The piece of a segment, with the sends before their deliveries."""
         block = self.without_sends(block)
         lines = block.split(b'\n')
         for at, name in self.own_deliveries(index, block):
@@ -202,18 +203,18 @@ class Rewriting:
 
 
 def _first_writing(log, path):
-    """Writes a log as it is where each message is delivered by its sender in a regular configuration. The writing, and the bytes."""
+    """Writes a log as if each message were delivered by its sender in a regular configuration. Returns the rewriting, and the bytes."""
     rewriting = Rewriting(Plan(log))
     size = rewriting.write(path)
     order = {name: place for place, name in enumerate(rewriting.services)} if rewriting.here else {}
     rewriting.plan.missing = sorted(rewriting.here, key=order.get)
-    # What the log sends is found anew where it is asked for: it may be much.
+    # What the log sends may be much, so it is found again when it is needed.
     rewriting.services = None
     return rewriting, size
 
 
 def move_sends(logs, folder, scan_words):
-    """Writes the logs anew into a folder, each send in front of its sender's own delivery, and returns the logs that stand there."""
+    """Rewrites the logs into a folder, each send just before its sender's own delivery, and returns the logs there."""
     paths = [os.path.join(folder, log.name) for log in logs]
     writings = [_first_writing(log, path) for log, path in zip(logs, paths)]
     places = delivered_in([rewriting.plan for rewriting, _ in writings], logs)

@@ -5,7 +5,7 @@ from joining.folder import Log, blocks
 
 
 class Part(NamedTuple):
-    """The entries of a log from one offset of its file up to another. Whether its end is that of the log."""
+    """The entries of a log from one offset of its file up to another, and whether its end is that of the log."""
 
     log: Log
     begin: int
@@ -24,14 +24,14 @@ def closing(part):
 
 
 def version_of(parts):
-    """The least version that can say what these parts say."""
+    """The least version that can express these parts."""
     if any(closing(part) == 'quiet' for part in parts):
         return 3
     return 1 if all(part.log.life is None for part in parts) else 2
 
 
 def write(out, version, parts, steps, number):
-    """Writes the text of a run. Each of the `steps` makes another block of a block; `number` tells the number of a process."""
+    """Writes the text of a run. Each of the `steps` changes a block; `number` returns the number of a process."""
     out.write(b'totem-run %d\n' % version)
     for part in parts:
         log = part.log

@@ -1,25 +1,25 @@
-"""What is told to whoever calls the tool."""
+"""Messages to the caller of the tool."""
 import sys
 
-# How many lines are told of one kind of change; of more than that only how many there are.
+# How many lines are printed for one kind of change; of further ones only the count.
 MOST_TOLD = 20
 
 
 class Refused(Exception):
-    """What was given can't be joined. The text says which file, which line, and what is wrong."""
+    """The input can't be joined. The text says which file, which line, and what is wrong."""
 
 
 class WriteFailed(Exception):
-    """The output took no more."""
+    """The output accepts no more."""
 
 
 def tell(text):
-    """Tells what was changed or left out, on standard error."""
+    """Reports on standard error what was changed or left out."""
     print('logs: ' + text, file=sys.stderr)
 
 
 def tell_each(lines):
-    """Tells each of these, or the first ones and how many more there are."""
+    """Reports each of these, or the first ones and how many more there are."""
     for line in lines[:MOST_TOLD]:
         tell(line)
     if len(lines) > MOST_TOLD:

@@ -1,4 +1,4 @@
-"""The words of `tools/logs`, and what is done of them in which order."""
+"""The arguments of `tools/logs`, and in which order it does what they ask for."""
 import argparse
 import os
 import shutil
@@ -14,32 +14,32 @@ from joining.scan import Scan
 from joining.sends import move_sends
 from joining.trouble import Refused, WriteFailed, tell
 
-DESCRIPTION = """Makes one run of the logs of several processes:
+DESCRIPTION = """Makes one run from the logs of several processes:
 
     tools/logs join FOLDER > my.run
     ./totem audit < my.run
 
-FOLDER has a file P.log for each process P, with one line for each entry, as docs/OWN-LOGS.md tells. Where processes come back, it has
-a file P.L.log for each life L of process P. A last line that was cut off is left out. A log is closed with `failed` where its last
-entry is a failure, with `quiet` where that is its last line, else with `open`."""
-EXAMPLES = """For example, of a cluster in which process 2 was killed and the others were shut down in order:
+FOLDER has a file P.log for each process P, with one line for each entry, as docs/OWN-LOGS.md describes. If processes come back, it has
+a file P.L.log for each life L of process P. A last line that was cut off is left out. A log is closed with `failed` if its last
+entry is a failure, with `quiet` if that is its last line, otherwise with `open`."""
+EXAMPLES = """For example, for a cluster in which process 2 was killed and the others were shut down cleanly:
 
     tools/logs join --failed 2 --quiet all FOLDER
 
-of processes that came back, whose layer names members without lives, and whose sends were recorded when the layer took them:
+for processes that came back, whose layer names members without lives, and whose sends were recorded when the layer took them:
 
     tools/logs join --lives --own-sends FOLDER
 
-and of logs that are too long for one run:
+and for logs that are too long for one run:
 
     tools/logs join --cut parts FOLDER; for part in parts/*.run; do ./totem audit < $part | head -n 1; done
 
-What is changed or left out is told on standard error. The status is 0, or 1 where the logs can't be joined (nothing is written then), 4
-where the output fails, 64 where the words ask for nothing that there is."""
+What is changed or left out is reported on standard error. The status is 0, or 1 if the logs can't be joined (then nothing is written), 4
+if the output fails, 64 for a usage error."""
 
 
 class Words(argparse.ArgumentParser):
-    """Words that ask for nothing that there is have the status 64, as those of totem have."""
+    """Usage errors have the status 64, as those of totem have."""
 
     def error(self, message):
         self.print_usage(sys.stderr)
@@ -52,7 +52,7 @@ def _add_words_of_join(join):
                       help='these processes are known to have failed (they crashed, or were killed): their logs get `fail`. '
                       'A list is 2, or 2,3:1 with lives')
     join.add_argument('--quiet', action='append', metavar='LIST',
-                      help='for these nothing more was to come (they were shut down in order): their logs are closed as quiet. '
+                      help='for these nothing more was to come (they were shut down cleanly): their logs are closed as quiet. '
                       '`all` are those that did not fail')
     join.add_argument('--lives', action='store_true',
                       help='add to each member the life that it is: the life whose log changes to the configuration')
@@ -62,32 +62,32 @@ def _add_words_of_join(join):
                       help='with --lives: when lives began and ended, for members that never came. Lines are TIME start P:L, '
                       'TIME end P:L, TIME conf CONF')
     join.add_argument('--own-sends', action='store_true',
-                      help="put each send in front of its sender's own delivery: for logs in which a message counts as sent "
-                      'when the layer takes it (the logs are written anew into the folder for temporary files)')
+                      help="move each send to just before its sender's own delivery: for logs in which a message counts as sent "
+                      'when the layer takes it (the logs are rewritten into the folder for temporary files)')
     join.add_argument('--renumber', action='store_true',
-                      help='number processes past 65535 and rings past 4294967295 anew, alike in all logs')
+                      help='renumber processes past 65535 and rings past 4294967295, in the same way in all logs')
     join.add_argument('--table', metavar='FILE', help='with --renumber: write which number became which')
     join.add_argument('--cut', metavar='NEW_FOLDER',
                       help='write several runs, NEW_FOLDER/part-1.run and so on, cut where all that are still there change to one '
                       'regular configuration')
     join.add_argument('--entries', type=int, metavar='N', help='with --cut: no log of a part has more entries (1000000)')
     join.add_argument('--trim', action='store_true',
-                      help='leave out what stands behind the last regular configuration to which all that are still there change: '
+                      help='leave out what comes after the last regular configuration to which all that are still there change: '
                       'for logs whose ends were lost')
 
 
 def read_words(words):
-    """What the words ask for."""
+    """What the arguments ask for."""
     form = argparse.RawDescriptionHelpFormatter
     parser = Words(prog='logs', allow_abbrev=False, formatter_class=form,
-                   description='Works on folders of logs. `logs join --help` tells how.')
+                   description='Works on folders of logs. `logs join --help` explains how.')
     commands = parser.add_subparsers(dest='command', metavar='join', required=True)
-    join = commands.add_parser('join', allow_abbrev=False, help='make one run of the logs of several processes',
+    join = commands.add_parser('join', allow_abbrev=False, help='make one run from the logs of several processes',
                                description=DESCRIPTION, epilog=EXAMPLES, formatter_class=form)
     _add_words_of_join(join)
     asked = parser.parse_args(words)
     if not os.path.isdir(asked.folder):
-        join.error('%s is no folder' % asked.folder)
+        join.error('%s is not a folder' % asked.folder)
     for word, needs in (('member', 'lives'), ('clock', 'lives'), ('table', 'renumber'), ('entries', 'cut')):
         if getattr(asked, word) and not getattr(asked, needs):
             join.error('--%s goes with --%s' % (word, needs))
@@ -99,7 +99,7 @@ def read_words(words):
 
 
 class Joining:
-    """Logs of a folder, and what was asked of them."""
+    """The logs of a folder, and what to do with them."""
 
     def __init__(self, asked, working):
         self.asked = asked
@@ -125,7 +125,7 @@ class Joining:
         return self.lives.of(log, configuration, process) if self.lives else log.life
 
     def steps(self, version):
-        """What is done to each block when it is written."""
+        """What to do to each block when it is written."""
         steps = []
         if self.lives:
             steps.append(lambda log, block: add_lives(block, lambda name, process: self.lives.of(log, name, process)))
@@ -171,7 +171,7 @@ class Joining:
             raise WriteFailed from error
 
     def _write_parts(self, write, runs):
-        """Writes each run into a file of the new folder, which is there only once it has them all."""
+        """Writes each run into a file of the new folder. The folder appears only when it has them all."""
         made = tempfile.mkdtemp(dir=os.path.dirname(os.path.abspath(self.asked.cut)))
         try:
             for number, parts in enumerate(runs, 1):
@@ -188,7 +188,7 @@ class Joining:
 
 
 def main(words):
-    """Does what the words ask for, and returns the status."""
+    """Does what the arguments ask for, and returns the status."""
     asked = read_words(words)
     try:
         with tempfile.TemporaryDirectory() as working:

@@ -16,7 +16,7 @@ class Gathering:
         self.noted = {}
 
     def copy(self):
-        """A copy that shares nothing that changes."""
+        """A copy that shares nothing mutable."""
         other = Gathering.__new__(Gathering)
         other.__dict__.update(self.__dict__)
         other.noted = dict(self.noted)
@@ -24,12 +24,12 @@ class Gathering:
 
     @property
     def gathered(self):
-        """The processes that have not failed, rising."""
+        """The processes that have not failed, in ascending order."""
         return tuple(sorted(self.processes - self.failed))
 
     @property
     def join(self):
-        """What it tells the others."""
+        """The Join that it sends to the others."""
         return Join(self.me, self.number, self.processes, self.failed)
 
     def _agrees(self, process):
@@ -41,7 +41,7 @@ class Gathering:
         return all(map(self._agrees, self.gathered))
 
     def on_join(self, join):
-        """A Join comes. Whether it is to be told again what this process sees."""
+        """Takes a Join. Returns whether this process has to send its own Join again."""
         sender = join.sender
         is_strange = sender == self.me or sender not in join.processes or sender in join.failed or sender in self.failed
         if is_strange or not join.failed <= join.processes or len(self.processes | join.processes) > MOST_PROCESSES:
@@ -58,10 +58,10 @@ class Gathering:
         return before != (self.processes, self.failed)
 
     def on_timeout(self):
-        """No answer came in time: who doesn't agree is given up."""
+        """No answer came in time: gives up the processes that don't agree."""
         self.failed |= {process for process in self.gathered if not self._agrees(process)}
 
     def says_nothing_new(self, join):
-        """Whether a Join tells nothing that is not known."""
+        """Whether a Join says nothing new."""
         return join.sender in self.gathered and join.processes <= self.processes and join.failed <= self.failed and \
             join.number <= self.number

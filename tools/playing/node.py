@@ -10,7 +10,7 @@ MOST_NUMBER = 4294967295
 
 
 class Done:
-    """What a step gave: sendings, entries for the log, and what was done, for whoever counts."""
+    """The result of a step: sendings, entries for the log, and what was done, for those who count."""
 
     def __init__(self, sendings=(), entries=(), what='taken'):
         self.sendings, self.entries, self.what = list(sendings), list(entries), what
@@ -30,7 +30,7 @@ class Node:
         self.has_crashed = False
 
     def copy(self):
-        """A copy that shares nothing that changes."""
+        """A copy that shares nothing mutable."""
         other = Node.__new__(Node)
         other.__dict__.update(self.__dict__)
         other.installed = self.installed.copy()
@@ -41,12 +41,12 @@ class Node:
 
     @property
     def report(self):
-        """What it tells of its installed ring."""
+        """Its report on its installed ring."""
         ring = self.installed
         return Report(self.life, ring.name, ring.aru, ring.handed, self.obligation)
 
     def on_packet(self, packet):
-        """A packet comes. Raises a Fault where it is refused; then nothing has changed."""
+        """Takes a packet. Raises a Fault if it is refused; then nothing has changed."""
         if self.has_crashed:
             raise Fault('Stopped')
         if isinstance(packet, Message):
@@ -106,7 +106,7 @@ class Node:
         return self._gather((), join)
 
     def _on_commit(self, token):
-        """A commit token comes, and is taken in one of three ways."""
+        """Takes a commit token, in one of three ways."""
         if self.state == OPERATIONAL or token.members != self.gathering.gathered:
             raise Fault('Stale')
         number = max(self.number, self.gathering.number)
@@ -148,7 +148,7 @@ class Node:
         return self._look([(None, gathering.join)])
 
     def _look(self, sendings):
-        """It looks whether there is consensus; the least then makes the commit token."""
+        """Checks whether there is consensus; if so, the least member makes the commit token."""
         if not self.gathering.has_consensus:
             self.state = GATHER
             return Done(sendings, what='gathers')
@@ -162,7 +162,7 @@ class Node:
         return Done(sendings + [(after(members, self.me), token)], what='commits')
 
     def on_timer(self):
-        """The timer runs out."""
+        """The timer expires."""
         if self.has_crashed:
             raise Fault('Stopped')
         self.quiet += 1

@@ -1,4 +1,4 @@
-"""What nodes send to each other (docs/PROTOCOL.md, "Packets"), and what a packet is to whoever counts."""
+"""What nodes send to each other (docs/PROTOCOL.md, "Packets"), and the kinds of packets, for those who count."""
 from typing import NamedTuple, Optional
 
 
@@ -18,7 +18,7 @@ class RingName(NamedTuple):
 
 
 class Words(NamedTuple):
-    """A body: a client's words, safe or agreed."""
+    """A body: a client's payload, safe or agreed."""
 
     is_safe: bool
 
@@ -57,7 +57,7 @@ class Token(NamedTuple):
 
 
 class Join(NamedTuple):
-    """Whom its sender takes for reachable, and whom of these for failed."""
+    """The processes that its sender considers reachable, and those of them that it considers failed."""
 
     sender: int
     number: int
@@ -103,7 +103,7 @@ def first_token(ring):
 
 
 def kind_of(packet):
-    """What a packet is, for whoever counts kinds."""
+    """The kind of a packet, for those who count."""
     if isinstance(packet, Message):
         return 'message of ' + type(packet.body).__name__.lower()
     if isinstance(packet, Commit):
@@ -112,5 +112,5 @@ def kind_of(packet):
 
 
 def after(members, process):
-    """The member behind this one; behind the last comes the first."""
+    """The member after this one; after the last comes the first."""
     return members[(members.index(process) + 1) % len(members)]

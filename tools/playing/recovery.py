@@ -1,4 +1,4 @@
-"""What the members of a new ring owe each other of their old rings (docs/PROTOCOL.md, "Recovery" and "The finish")."""
+"""How the members of a new ring exchange messages of their old rings (docs/PROTOCOL.md, "Recovery" and "The finish")."""
 from playing.packets import Mark, Message, Old, Words
 from playing.ring import Ring, is_agreed
 
@@ -6,7 +6,7 @@ MOST_AT_A_VISIT = 16
 
 
 def delivered(configuration, messages):
-    """The deliveries of those messages that carry a client's words."""
+    """The deliveries of those messages that carry a client's payload."""
     return [('dlv', configuration, message) for message in messages if isinstance(message.body, Words)]
 
 
@@ -29,7 +29,7 @@ class Recovery:
         self.has_started = False
 
     def copy(self):
-        """A copy that shares nothing that changes."""
+        """A copy that shares nothing mutable."""
         other = Recovery.__new__(Recovery)
         other.__dict__.update(self.__dict__)
         other.ring = self.ring.copy()
@@ -41,7 +41,7 @@ class Recovery:
         return self.list[:MOST_AT_A_VISIT]
 
     def adopt_into(self, old, message):
-        """An old message that a message of the new ring carries is adopted by its own ring. What is to be told of it."""
+        """Lets the old ring adopt a message of its own that a message of the new ring carries. Returns what the step reports of it."""
         body, before = message.body, len(old.held)
         if isinstance(body, Old):
             old.adopt(Message(body.ring, body.number, body.sender, Words(body.is_safe)))
@@ -59,7 +59,7 @@ class Recovery:
         return max(marks.values()) if len(marks) == len(self.members) else None
 
     def on_visit(self, sendings):
-        """After a visit of the new ring: what it broadcast of this member for the first time is off the list."""
+        """After a visit of the new ring: takes off the list what the visit broadcast for this member for the first time."""
         numbers = [packet.number for to, packet in sendings
                    if to is None and packet.sender == self.me and packet.number > self.sent]
         self.list = self.list[min(MOST_AT_A_VISIT, len(numbers)):]
@@ -70,12 +70,12 @@ class Recovery:
 
     @property
     def is_done(self):
-        """Whether every member's mark is handed up."""
+        """Whether every member's mark is delivered to the node."""
         last = self.last_mark
         return last is not None and last <= self.ring.handed
 
     def finish(self, old):
-        """What is written when the old ring is left for the new one."""
+        """The entries that are written when the node leaves the old ring for the new one."""
         before, between, behind = old.name.regular, 't%s/%d' % (str(self.ring.name), self.transitional[0][0]), self.ring.name.regular
         regular, rest, last, has_gap = [], [], old.handed, False
         while last + 1 in old.held and (is_agreed(old.held[last + 1].body) or last + 1 <= self.high):

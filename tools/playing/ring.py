@@ -9,7 +9,7 @@ class Fault(Exception):
 
 
 def is_agreed(body):
-    """Whether a message waits for its turn alone: one that carries an old message counts as agreed, a mark as safe."""
+    """Whether a message waits only for its turn: one that carries an old message counts as agreed, a mark as safe."""
     return not body.is_safe if isinstance(body, Words) else not isinstance(body, Mark)
 
 
@@ -23,7 +23,7 @@ class Ring:
         self.kept = None
 
     def copy(self):
-        """A copy that shares nothing that changes."""
+        """A copy that shares nothing mutable."""
         other = Ring.__new__(Ring)
         other.__dict__.update(self.__dict__)
         other.held = dict(self.held)
@@ -35,7 +35,7 @@ class Ring:
             self.aru += 1
 
     def _hand_up(self):
-        """The messages that are handed up now."""
+        """The messages that are delivered to the node now."""
         up = []
         while self.handed + 1 in self.held:
             message = self.held[self.handed + 1]
@@ -54,7 +54,7 @@ class Ring:
             raise Fault('Range')
 
     def on_message(self, message):
-        """A message comes. What is handed up."""
+        """Takes a message. Returns what is delivered to the node."""
         self._judge(message)
         self._hold(message)
         if self.kept and message.number > self.kept.seq:
@@ -62,7 +62,7 @@ class Ring:
         return self._hand_up()
 
     def adopt(self, message):
-        """A message is held, and nothing else; or it is passed over."""
+        """Holds a message, and does nothing else; or ignores it."""
         try:
             self._judge(message)
         except Fault:
@@ -82,7 +82,8 @@ class Ring:
             raise Fault('Range')
 
     def visit(self, token, bodies):
-        """A token comes, when these bodies wait: the sendings, the messages that got numbers, and what is handed up."""
+        """Takes a token, while these bodies wait. Returns the sendings, the messages that got numbers, and what is delivered to the
+        node."""
         self._judge_token(token)
         sendings = [(None, self.held[number]) for number in token.asked if number in self.held]
         sent = [Message(self.name, token.seq + index, self.me, body) for index, body in enumerate(bodies, 1)]
@@ -108,5 +109,5 @@ class Ring:
         return Token(self.name, token.token_seq + 1, seq, aru, holder, tuple(sorted(asked)))
 
     def resend(self):
-        """The kept token is sent again."""
+        """Sends the kept token again."""
         return [(after(self.members, self.me), self.kept)] if self.kept else []

@@ -1,5 +1,5 @@
-"""What there is while a script goes on (docs/PROTOCOL.md, "Scripts"): nodes, packets on their way, and the run that is written. So whoever
-writes scripts, or makes them shorter, knows which packet stands where; what a run is worth is asked of the program."""
+"""The state while a script runs (docs/PROTOCOL.md, "Scripts"): nodes, packets on their way, and the run that is written. So code that
+writes scripts, or makes them shorter, knows the place of each packet; only the program judges runs."""
 from typing import NamedTuple
 
 from playing.node import Node
@@ -8,7 +8,7 @@ from playing.ring import Fault
 
 
 class Broken(Exception):
-    """A line that breaks a rule: the script makes no run."""
+    """A line breaks a rule: the script makes no run."""
 
 
 class OnItsWay(NamedTuple):
@@ -27,21 +27,21 @@ class Actor:
         self.logs = [[('conf', ring.regular, tuple((member, 1) for member in members))]]
 
     def copy(self):
-        """A copy that shares nothing that changes."""
+        """A copy that shares nothing mutable."""
         other = Actor.__new__(Actor)
         other.node, other.logs = self.node.copy(), [list(log) for log in self.logs]
         return other
 
     def return_as(self, ring):
-        """It comes back in its next life, alone on this ring."""
+        """Comes back in its next life, alone on this ring."""
         process, life = self.node.me, self.node.life + 1
         self.node = Node(process, life, ring, (process,))
         self.logs.append([('conf', ring.regular, ((process, life),))])
 
 
 class Scene:
-    """Nodes and packets. `watch` is told of each step: the node, its state before, the input, and what came of it (a Done, or the name of
-    a fault). `step` is the name of the next step: a number that rises, unless somebody gives it another one. `came` packets have come."""
+    """Nodes and packets. `watch` is called with each step: the node, its state before, the input, and the result (a Done, or the name of
+    a fault). `step` is the name of the next step: an ascending number, unless somebody sets another one. `came` packets have come."""
 
     def __init__(self, watch=None):
         self.actors = {}
@@ -51,7 +51,7 @@ class Scene:
         self.step = self.came = 0
 
     def copy(self, watch=None):
-        """A copy that shares nothing that changes."""
+        """A copy that shares nothing mutable."""
         other = Scene(watch)
         other.actors = {process: actor.copy() for process, actor in self.actors.items()}
         other.queue, other.cut, other.step = list(self.queue), self.cut, self.step
@@ -59,7 +59,7 @@ class Scene:
         return other
 
     def make_ring(self, number, representative, *members):
-        """These nodes are made on this ring."""
+        """Makes these nodes on this ring."""
         if any(member in self.actors for member in members) or representative != members[0] or list(members) != sorted(set(members)):
             raise Broken('Members')
         ring = RingName(number, representative)
@@ -102,7 +102,7 @@ class Scene:
         self._step(process, kind, call)
 
     def run(self, times):
-        """So many times, while there is one, the first packet goes to its receiver."""
+        """Delivers the first packet to its receiver, this many times or until there is none."""
         for _ in range(times):
             if not self.queue:
                 return
@@ -111,19 +111,19 @@ class Scene:
             self._step(receiver, kind_of(packet), lambda node, packet=packet: node.on_packet(packet))
 
     def drop(self, place):
-        """The packet at this place is lost."""
+        """Drops the packet at this place."""
         if place > len(self.queue):
             raise Broken('Place')
         self.queue.pop(place - 1)
 
     def repeat(self, place):
-        """A copy of the packet at this place goes behind the others."""
+        """Puts a copy of the packet at this place after the others."""
         if place > len(self.queue):
             raise Broken('Place')
         self.queue.append(self.queue[place - 1])
 
     def timer(self, process):
-        """The timer of a process runs out."""
+        """Lets the timer of a process expire."""
         self._named(process, 'timer', Node.on_timer)
 
     def submit(self, process, is_safe):
@@ -135,7 +135,7 @@ class Scene:
         self._named(process, 'crash', Node.on_crash)
 
     def part(self, *groups):
-        """From now on no packet passes between these groups."""
+        """Lets no packet pass between these groups from now on."""
         if sorted(process for group in groups for process in group) != list(self.actors):
             raise Broken('Members')
         self.cut = groups

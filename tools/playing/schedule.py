@@ -1,5 +1,5 @@
-"""What a script does, without the queue: of each process what comes to it, in order; and a script in which the same comes. What a node
-does depends on its own inputs alone, so which of two processes goes first makes no difference to the run."""
+"""What a script does, without the queue: for each process what comes to it, in order; and back, a script in which the same comes. What a
+node does depends only on its own inputs, so the run doesn't depend on which of two processes goes first."""
 from collections import Counter, deque
 from typing import NamedTuple, Optional
 
@@ -7,13 +7,13 @@ from playing.ring import Fault
 from playing.scene import Scene
 from playing.script import do
 
-# No `run` is followed for longer: a token goes round for ever.
+# The limit for following one `run`: a token goes round for ever.
 MOST_EVENTS = 3000
 OF_A_PROCESS = ('submit', 'timer', 'crash', 'return')
 
 
 class Event(NamedTuple):
-    """What comes to a process: a command, or the packet of an origin. `name` is this step in the origins of what it sends."""
+    """What comes to a process: a command, or the packet of an origin. `name` is the name of this step in the origins of what it sends."""
 
     name: int
     process: int
@@ -22,7 +22,7 @@ class Event(NamedTuple):
 
 
 def schedule_of(commands):
-    """The commands that make rings, and the events behind them."""
+    """The commands that make rings, and the events after them."""
     scene, rings, events = Scene(), [], []
     for command in commands:
         if command[0] == 'run':
@@ -40,8 +40,8 @@ def schedule_of(commands):
 
 
 class _Writer:
-    """Writes a script for a schedule. Where it is `eager`, a command of a process is done as soon as it may be, else once nothing else can
-    be done before."""
+    """Writes a script for a schedule. If it is `eager`, it does a command of a process as soon as possible, otherwise only when nothing
+    else can be done before."""
 
     def __init__(self, rings, events, eager):
         self.scene = Scene()
@@ -51,13 +51,13 @@ class _Writer:
         self.left = {}
         for event in events:
             self.left.setdefault(event.process, deque()).append(event)
-        # How many packets went to the end since anything was done.
+        # How many packets went to the end of the queue since something was done.
         self.turned = 0
         for command in rings:
             self.do(command)
 
     def do(self, command):
-        """Does what a command says, and notes it."""
+        """Does what a command says, and records it."""
         do(self.scene, command)
         if command[0] == 'run' and self.commands[-1][0] == 'run':
             command = 'run', self.commands.pop()[1] + command[1]
@@ -76,7 +76,7 @@ class _Writer:
         return self.commands
 
     def _take(self, process):
-        """The next event of a process comes."""
+        """Does the next event of a process."""
         event = self.left[process].popleft()
         self.turned = 0
         self.scene.step = event.name
@@ -85,7 +85,7 @@ class _Writer:
         self.do(event.command or ('run', 1))
 
     def _take_command(self):
-        """The next command of the first process that waits for one. Whether there is one."""
+        """Does the next command of the first process that waits for one. Returns whether there is one."""
         for process, left in sorted(self.left.items()):
             if left and left[0].command:
                 self._take(process)
@@ -93,15 +93,16 @@ class _Writer:
         return False
 
     def _give_up(self):
-        """Nothing that is left can come: of the first process the next event is passed over."""
+        """Skips the next event of the first process, since nothing that is left can come."""
         process = min(process for process, left in self.left.items() if left)
         event = self.left[process].popleft()
         self.to_come[event.origin] -= 1
         self.turned = 0
 
     def _take_first(self):
-        """The first packet comes where it is the next one of its receiver. Where it is to come later it goes to the end, or the command before
-        it comes. Else it comes if that is refused, which changes nothing, or is lost."""
+        """Delivers the first packet if it is the next event of its receiver. If it is to come later, it goes to the end of the queue, or
+        the receiver's command before it is done. Otherwise it is delivered if the receiver refuses it, which changes nothing, or
+        dropped."""
         first = self.scene.queue[0]
         left = self.left.get(first.receiver)
         copies = sum(1 for waiting in self.scene.queue if waiting.origin == first.origin)
@@ -127,5 +128,5 @@ class _Writer:
 
 
 def script_of(rings, events):
-    """The commands of a script in which these events come; one that can't come is passed over."""
+    """The commands of a script in which these events come; an event that can't come is skipped."""
     return min((_Writer(rings, events, eager).write() for eager in (False, True)), key=len)

@@ -1,8 +1,8 @@
-"""Scripts as lists of commands (docs/PROTOCOL.md, "Scripts"). A command is a tuple of its word and its numbers: ('run', 7),
+"""Scripts as lists of commands (docs/PROTOCOL.md, "Scripts"). A command is a tuple of its keyword and its numbers: ('run', 7),
 ('submit', 1, 's', 'x'), ('cut', (1, 2), (3,)), ('ring', 4, 1, 1, 2, 3)."""
 from playing.scene import Scene
 
-# What the text of a script has at most.
+# The limits of a script's text.
 MOST_BYTES = 65536
 
 
@@ -58,7 +58,7 @@ def do(scene, command):
 
 
 def play(commands, scene=None):
-    """Does one command after the other. Returns the scene that is left."""
+    """Does one command after the other. Returns the scene after the last one."""
     scene = scene or Scene()
     for command in commands:
         do(scene, command)

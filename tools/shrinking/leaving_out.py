@@ -7,7 +7,7 @@ RING = re.compile(r'(?:[rt])?([0-9]+)\.([0-9]+)')
 
 
 def ring_order(name):
-    """Where a configuration or a message stands among others: by its ring, then by its number or its least member."""
+    """The order of configurations and messages: by ring, then by number or least member."""
     number, representative = RING.match(name).groups()
     behind = re.split('[#/]', name)
     return int(number), int(representative), int(behind[1]) if len(behind) == 2 else 0, name
@@ -19,7 +19,7 @@ def _with_entries(run, entries_of):
 
 
 def processes(run):
-    """The processes, and what makes a run of some of them."""
+    """The processes, and a function that makes a run of some of them."""
     def build(kept):
         there = set(kept)
         return tidied(run._replace(logs=tuple(log for log in run.logs if log.process in there)))
@@ -37,7 +37,7 @@ def _stays(log):
 
 
 def _unit_of(pieces, index):
-    """With which regular configuration a piece of a log is left out: its own, or the one behind a transitional one."""
+    """The regular configuration with which a piece of a log is left out: its own, or the one after a transitional one."""
     name = pieces[index][0].configuration
     if name.startswith('r') or index + 1 == len(pieces):
         return name
@@ -46,7 +46,7 @@ def _unit_of(pieces, index):
 
 
 def configurations(run):
-    """The regular configurations, each with the transitional one that leads to it, and what makes a run of some of them."""
+    """The regular configurations, each with the transitional one that leads to it, and a function that makes a run of some of them."""
     stays = [_stays(log) for log in run.logs]
     units = [[_unit_of(pieces, index) for index in range(len(pieces))] for pieces in stays]
 
@@ -63,7 +63,7 @@ def configurations(run):
 
 
 def messages(run):
-    """The messages, and what makes a run of some of them: the others have no send and no delivery."""
+    """The messages, and a function that makes a run of some of them: the others have no send and no delivery."""
     def build(kept):
         there = {'', *kept}
         return _with_entries(run, lambda index, log: [entry for entry in log.entries if entry.message in there])
@@ -71,7 +71,7 @@ def messages(run):
 
 
 def entries(run):
-    """The entries, each by the place of its log and its own, and what makes a run of some of them."""
+    """The entries, each by the index of its log and its own, and a function that makes a run of some of them."""
     def build(kept):
         there = [set() for _ in run.logs]
         for log, entry in kept:
@@ -81,7 +81,7 @@ def entries(run):
 
 
 def members(run):
-    """The members that configurations have, and what makes a run of some of them. A configuration without members is none."""
+    """The members of configurations, and a function that makes a run of some of them. A configuration without members is left out."""
     def build(kept):
         there = set(kept)
         known = {}
@@ -103,7 +103,7 @@ def members(run):
 
 
 def claims(run):
-    """The logs that are quiet, and what makes a run in which only some of them are."""
+    """The quiet logs, and a function that makes a run in which only some of them are quiet."""
     def build(kept):
         there = set(kept)
         return run._replace(logs=tuple(log if log.process in there else Log(log.process, log.entries, 'open') for log in run.logs))
@@ -111,7 +111,7 @@ def claims(run):
 
 
 def around(run, places):
-    """The run of those processes, configurations and messages alone that stand at these places."""
+    """The run of only those processes, configurations and messages that are at these places."""
     at = {tuple(place.split('@')) for place in places}
     there = [(log.process, entry) for log in run.logs for index, entry in enumerate(log.entries, 1) if (log.process, str(index)) in at]
     _, build_messages = messages(run)

@@ -1,4 +1,4 @@
-"""Small numbers for the processes, rings and messages of a run. Their order stays, so the audit names the same entries."""
+"""Small numbers for the processes, rings and messages of a run. Their order stays the same, so the audit names the same entries."""
 import re
 
 from shrinking.leaving_out import ring_order
@@ -26,7 +26,7 @@ def _small_processes(run):
 
 
 def _members(run):
-    """The members of each configuration, as its first change tells them."""
+    """The members of each configuration, as its first change lists them."""
     told = {}
     for log in run.logs:
         for entry in log.entries:
@@ -70,7 +70,7 @@ def with_small_processes(run):
 
 
 def with_small_rings(run):
-    """The run with rings 4, 8, 12 and so on, whose representatives are their least members as far as it tells members."""
+    """The run with rings 4, 8, 12 and so on. Their representatives are their least members, if the run lists members."""
     told = _members(run)
 
     def least(configuration, otherwise):
@@ -102,7 +102,7 @@ def with_small_messages(run):
 
 
 def of_least_version(run):
-    """The run in the first version whose texts can say it."""
+    """The run in the first version whose texts can express it."""
     if any(log.closing == 'quiet' for log in run.logs):
         return run
     if run.version == 1 or any(not log.process.endswith(':1') for log in run.logs):

@@ -1,20 +1,20 @@
-"""The built program: its verbs, each asked of a text, and what it answers."""
+"""The built program: its commands, each applied to a text, and its answers."""
 import os
 from typing import NamedTuple
 
 TOP = os.path.dirname(os.path.dirname(os.path.dirname(os.path.abspath(__file__))))
-# Where the launcher leaves the whole program, and the auditor alone, which answers `audit` and `explain`.
+# Where the launcher puts the whole program, and the auditor alone, which answers `audit` and `explain`.
 WHOLE, AUDITOR = (os.path.join(TOP, 'crates', name, 'out', name) for name in ('totem', 'totem_auditor'))
 ENVIRONMENT = {'PATH': '/usr/bin:/bin', 'LANG': 'C.UTF-8'}
 MOST_READ = 1 << 30
 
 
 class Refused(Exception):
-    """What was given can't be used. The text says what, where, and why."""
+    """The input can't be used. The text says what, where, and why."""
 
 
 class Answer(NamedTuple):
-    """The status of the program, what it wrote, and what it told."""
+    """The status of the program, its output, and its errors."""
 
     status: int
     output: bytes
@@ -64,11 +64,11 @@ class Program:
                 os.close(file)
 
     def audit(self, text):
-        """The verdict on the text of a run, or None where it is refused."""
+        """The verdict on the text of a run, or None if it is refused."""
         return self._judged(self.ask(['audit'], text), 'audit')
 
     def play(self, script):
-        """The text of the run that a script makes, or None where the script is refused."""
+        """The text of the run that a script makes, or None if the script is refused."""
         answer = self.ask(['sim'], script)
         if answer.status not in (0, 2):
             raise Refused('`%s sim` ended with status %d: %s' % (self.path, answer.status, self._told(answer)))

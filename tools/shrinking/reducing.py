@@ -1,11 +1,11 @@
-"""The fewest parts of a thing with which something still holds: parts are left out, in halves first and then in ever smaller pieces."""
+"""Finds few parts of a thing with which a condition still holds: leaves out parts, first in halves and then in ever smaller pieces."""
 from concurrent.futures import ThreadPoolExecutor
 
 
 class Trials:
-    """Tries candidates, several side by side. `holds` tells of a candidate whether it will do; `key` tells candidates apart that are alike
-    (what was tried once is not tried again). `take` is told each candidate that is taken; which one that is doesn't depend on how many are
-    tried side by side."""
+    """Tries candidates, several in parallel. `holds` returns whether a candidate is acceptable; `key` identifies equal candidates
+    (a candidate is not tried twice). `take` is called with each candidate that is taken; which one that is doesn't depend on how many are
+    tried in parallel."""
 
     def __init__(self, holds, key, jobs, take):
         self.holds = holds
@@ -22,7 +22,8 @@ class Trials:
         return self.known[key]
 
     def first(self, makers):
-        """Takes the first of these candidates that will do. Its place, or None. Each is made when its turn comes; what is None is none."""
+        """Takes the first acceptable candidate. Returns its place, or None. Each maker is called when its turn comes, and may return
+        None."""
         makers = list(makers)
         for begin in range(0, len(makers), self.jobs):
             some = [maker() for maker in makers[begin:begin + self.jobs]]
@@ -36,8 +37,8 @@ class Trials:
 
 
 def fewest(parts, build, trials):
-    """Leaves out as many of the parts as it can: `build` makes a candidate of those that are kept. Returns the parts that stay: without any
-    one of them no candidate will do."""
+    """Leaves out as many of the parts as possible: `build` makes a candidate from those that are kept. Returns the parts that stay: no
+    candidate without one of them is acceptable."""
     size = max(1, len(parts) // 2)
     while parts:
         begin, found = 0, False

@@ -1,4 +1,4 @@
-"""The text of a run as logs of entries (docs/SPECIFICATIONS.md, "Run text"), and back. It has been read by the program before."""
+"""The text of a run as logs of entries (docs/SPECIFICATIONS.md, "Run text"), and back. The program has accepted the text before."""
 from typing import NamedTuple
 
 
@@ -14,7 +14,7 @@ class Entry(NamedTuple):
 
 
 class Log(NamedTuple):
-    """The log of a process. It closes with `failed` where its last entry is a failure."""
+    """The log of a process. It closes with `failed` if its last entry is a failure."""
 
     process: str
     entries: tuple
@@ -63,7 +63,7 @@ def _read_entry(words):
 
 
 def read(text):
-    """The run of a text that the program reads."""
+    """The run of a text that the program accepts."""
     lines = text.decode('ascii').splitlines()
     known, logs, process, entries = {}, [], '', []
     for line in lines[1:-1]:
@@ -96,7 +96,7 @@ def write(run):
 
 
 def tidied(run):
-    """The run without logs that have no entry, and without members that have no log; those that stay are as they were."""
+    """The run without logs that have no entry, and without members that have no log; the others stay as they were."""
     logs = [log for log in run.logs if log.entries]
     there = {log.process for log in logs}
     known = {}

@@ -6,7 +6,7 @@ from shrinking.program import Refused
 from shrinking.reducing import Trials, fewest
 from shrinking.run_text import entry_at, read, write
 
-# In which order parts are left out: the large ones first.
+# The order in which parts are left out: large ones first.
 KINDS = (leaving_out.processes, leaving_out.configurations, leaving_out.messages, leaving_out.claims, leaving_out.entries,
          leaving_out.members)
 NAMINGS = (naming.of_least_version, naming.with_small_processes, naming.with_small_rings, naming.with_small_messages)
@@ -18,12 +18,12 @@ def digest(text):
 
 
 def kind_of(entry):
-    """What an event is: a change and to which kind of configuration, a send or a delivery, or a failure."""
+    """The kind of an event: a change and to which kind of configuration, a send or a delivery, or a failure."""
     return entry.kind + ' ' + entry.configuration[0] if entry.kind == 'conf' else entry.kind
 
 
 def kinds_of(run, verdict):
-    """For each specification that is broken the kinds of the events of its first fault."""
+    """For each broken specification, the kinds of the events of its first fault."""
     told = {}
     for specification, places in verdict.faults:
         told.setdefault(specification, tuple(kind_of(entry_at(run, place)) for place in places))
@@ -31,7 +31,7 @@ def kinds_of(run, verdict):
 
 
 class Aim:
-    """What has to stay: the specifications that are broken; or that this one is among them; and, if it is asked, the kinds of the events
+    """What has to stay the same: the broken specifications, or only that this one is among them; and, if asked for, the kinds of the events
     that the first fault of each names."""
 
     def __init__(self, run, verdict, specification=None, same_places=False):
@@ -44,7 +44,7 @@ class Aim:
         return {specification: told[specification] for specification in self.broken}
 
     def is_met_by(self, run, verdict):
-        """Whether a run with this verdict will do."""
+        """Whether a run with this verdict is acceptable."""
         if not verdict or not verdict.is_no:
             return False
         if not (set(self.broken) <= set(verdict.broken) if self.is_among else self.broken == verdict.broken):
@@ -53,7 +53,7 @@ class Aim:
 
 
 class RunShrinker:
-    """Makes a broken run small. `tell` is told how far it is."""
+    """Makes a broken run small. `tell` is called with the progress."""
 
     def __init__(self, program, text, jobs=1, tell=None, **asked):
         verdict = program.audit(text)
@@ -83,7 +83,7 @@ class RunShrinker:
         return write(self.run)
 
     def _begin(self):
-        """First what the faults name is tried alone: the first one of each specification that has to stay."""
+        """First tries only what the faults name: the first fault of each specification that has to stay broken."""
         first = {specification: places for specification, places in reversed(self.verdict.faults)}
         places = [place for name in self.aim.broken for place in first[name]]
         self.trials.first([lambda: leaving_out.around(self.run, places)])

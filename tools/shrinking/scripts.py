@@ -9,13 +9,13 @@ from shrinking.reducing import Trials, fewest
 from shrinking.run_text import read as read_run
 from shrinking.runs import Aim
 
-# How far a step is moved, and of how many steps at most each two are left out together.
+# How far a step is moved; and up to how many steps every pair of them is left out.
 FARTHEST = 6
 MOST_IN_PAIRS = 50
 
 
 def joined(commands):
-    """The same commands, where `run` behind `run` is one."""
+    """The same commands, with each `run` after a `run` joined to it."""
     made = []
     for command in commands:
         if command[0] == 'run' and made and made[-1][0] == 'run':
@@ -47,12 +47,12 @@ def _processes(commands):
 
 
 def cost(commands):
-    """What is made small: lines first, then packets that come, then places."""
+    """What is to be small: lines first, then packets that come, then places."""
     return len(commands), sum(sum(command[1:2]) for command in commands if command[0] in ('run', 'drop', 'repeat'))
 
 
 class ScriptShrinker:
-    """Makes the script of a broken run short. `tell` is told how far it is."""
+    """Makes the script of a broken run short. `tell` is called with the progress."""
 
     def __init__(self, program, text, jobs=1, tell=None, **asked):
         run = program.play(text)
@@ -79,8 +79,7 @@ class ScriptShrinker:
         return hashlib.blake2b(script.write(commands), digest_size=16).digest()
 
     def _holds(self, commands):
-        """Whether a script will do. The run that it makes is known from the copy of the nodes; the program is asked for it only where its
-        verdict will do."""
+        """Whether a script is acceptable. tools/playing makes its run; the program makes it too, but only if its verdict is acceptable."""
         try:
             run = script.play(commands).text(script.version_of(commands))
         except Broken:
@@ -119,7 +118,7 @@ class ScriptShrinker:
         self.trials.first([lambda: _with_names(self.commands, small)])
 
     def _leave_out_processes(self):
-        """Each process is left out, or crashes, with all that would have come to it then."""
+        """Tries to leave out each process, or to let it crash, without all that would have come to it after that."""
         for process in _processes(self.commands)[::-1]:
             rings, events = schedule_of(self.commands)
             there = {other: other for other in _processes(self.commands) if other != process}
@@ -139,14 +138,14 @@ class ScriptShrinker:
         fewest(self.commands, self._if_cheaper, self.trials)
 
     def _change_lines(self):
-        """Each line that loses or copies a packet, or lets some come, is changed in the ways that cost less."""
+        """Changes each line that drops, copies or delivers packets in the ways that cost less."""
         index = 0
         while index < len(self.commands):
             taken = self.trials.first([lambda other=other: self._if_cheaper(other) for other in _changes(self.commands, index)])
             index += taken is None
 
     def _move_events(self):
-        """What comes to a process is tried in other orders: each event at other places near its own."""
+        """Tries other orders for what comes to a process: each event at other places near its own."""
         for process in _processes(self.commands):
             at = 0
             while True:
@@ -161,7 +160,7 @@ class ScriptShrinker:
                 at += 1
 
     def _leave_out_pairs(self):
-        """Each two events are left out together."""
+        """Tries to leave out every pair of events."""
         rings, events = schedule_of(self.commands)
         if len(events) <= MOST_IN_PAIRS:
             pairs = [(one, other) for other in range(len(events)) for one in range(other)]
@@ -170,7 +169,7 @@ class ScriptShrinker:
 
 
 def _changes(commands, index):
-    """What may stand in the place of a line and the one behind it."""
+    """What may replace a line and the one after it."""
     before, line, behind = commands[:index], commands[index], commands[index + 1:]
     if line[0] == 'drop':
         yield before + [('run', 1)] + behind

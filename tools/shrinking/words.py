@@ -1,4 +1,4 @@
-"""The words of `tools/shrink`, and what is done of them."""
+"""The arguments of `tools/shrink`, and what it does with them."""
 import argparse
 import os
 import signal
@@ -13,20 +13,20 @@ DESCRIPTION = """Makes a broken run small:
 
     tools/shrink my.run > small.run
 
-Of a run on which the verdict is no it looks for the smallest one that breaks the same specifications: whole processes, whole
-configurations, messages with all their deliveries and single entries are left out as long as the program still names them.
-Then processes, rings and messages get small numbers. The small run is told in words on standard error.
+For a run with the verdict no, it searches for the smallest run that breaks the same specifications. It leaves out whole processes, whole
+configurations, messages with all their deliveries and single entries, as long as the program still names these specifications.
+Then it gives processes, rings and messages small numbers. It explains the small run on standard error.
 
-With --script it does the same for a script whose run is broken (`totem sim`): steps are left out, moved and joined."""
-EXAMPLES = """The run is read from standard input where no file is given. The program judges each run that is tried: crates/totem/out/totem, or
-where that is not built crates/totem_auditor/out/totem_auditor (`./totem prove` and `./totem audit` build them).
+With --script it does the same for a script whose run is broken (`totem sim`): it leaves out, moves and joins steps."""
+EXAMPLES = """The run is read from standard input if no file is given. The program crates/totem/out/totem judges each run that is tried, or
+if it is not built crates/totem_auditor/out/totem_auditor (`./totem prove` and `./totem audit` build them).
 
-An interrupt writes the smallest run that was found so far. The status is 0, or 1 where the run is not broken, can't be read, or the program
-is not there; 4 where the output fails; 64 where the words ask for nothing that there is."""
+An interrupt writes the smallest run that was found so far. The status is 0, or 1 if the run is not broken, can't be read, or the program
+is not there; 4 if the output fails; 64 for a usage error."""
 
 
 class Words(argparse.ArgumentParser):
-    """Words that ask for nothing that there is have the status 64, as those of totem have."""
+    """Usage errors have the status 64, as those of totem have."""
 
     def error(self, message):
         self.print_usage(sys.stderr)
@@ -34,19 +34,19 @@ class Words(argparse.ArgumentParser):
 
 
 def add_words_of_program(parser):
-    """The words that tell which program is asked, and how often at once."""
-    parser.add_argument('--program', metavar='PATH', help='the built program to ask')
+    """Adds the arguments that say which program to run, and how many runs in parallel."""
+    parser.add_argument('--program', metavar='PATH', help='the built program to run')
     parser.add_argument('--jobs', type=int, metavar='N', default=os.cpu_count() or 1, 
-                        help='how many runs are tried side by side (all cores)')
+                        help='how many runs to try in parallel (all cores)')
 
 
 def read_words(words):
-    """What the words ask for."""
+    """What the arguments ask for."""
     parser = Words(prog='shrink', allow_abbrev=False, formatter_class=argparse.RawDescriptionHelpFormatter, description=DESCRIPTION,
                    epilog=EXAMPLES)
     parser.add_argument('file', nargs='?', metavar='FILE')
     parser.add_argument('--script', action='store_true', help='the file is a script')
-    parser.add_argument('--specification', metavar='S', help='it will do if this one of the broken specifications stays broken, such as 5')
+    parser.add_argument('--specification', metavar='S', help='only this one of the broken specifications has to stay broken, such as 5')
     parser.add_argument('--same-places', action='store_true',
                         help='the first fault of each specification has to name the same kinds of events too')
     add_words_of_program(parser)
@@ -64,18 +64,18 @@ def _read_input(path):
 
 
 class Progress:
-    """A line on a terminal that tells how far it is."""
+    """A line on a terminal that shows the progress."""
 
     def __init__(self):
         self.is_shown = sys.stderr.isatty()
 
     def show(self, text):
-        """Shows this in the place of what was shown."""
+        """Shows this text instead of the last one."""
         if self.is_shown:
             print('\r\033[K' + text, end='', file=sys.stderr, flush=True)
 
     def tell(self, lines, tried):
-        """Tells how many lines there are now, and how many runs were tried."""
+        """Shows how many lines there are now, and how many runs were tried."""
         self.show('%d lines, %d tried' % (lines, tried))
 
     def wipe(self):
@@ -84,12 +84,12 @@ class Progress:
 
 
 def interrupt(*_):
-    """A signal to end is taken as an interrupt."""
+    """Treats a signal to end as an interrupt."""
     raise KeyboardInterrupt
 
 
 def _shrink(asked, program, text):
-    """The smallest text that was found, and what it is a text of."""
+    """The smallest text that was found."""
     progress = Progress()
     words = {'jobs': asked.jobs, 'tell': progress.tell, 'specification': asked.specification, 'same_places': asked.same_places}
     shrinker = (ScriptShrinker if asked.script else RunShrinker)(program, text, **words)
@@ -102,7 +102,7 @@ def _shrink(asked, program, text):
 
 
 def _tell_outcome(asked, program, text, small):
-    """Tells what came of it: how many lines there were and are, and the verdict in words."""
+    """Reports the outcome: how many lines there were and are, and the verdict in words."""
     run = program.play(small) if asked.script else small
     faults = ['fault %s %s' % (specification, ' '.join(places)) for specification, places in program.audit(run).faults]
     what = 'script' if asked.script else 'run'
@@ -111,7 +111,7 @@ def _tell_outcome(asked, program, text, small):
 
 
 def main(words):
-    """Does what the words ask for, and returns the status."""
+    """Does what the arguments ask for, and returns the status."""
     asked = read_words(words)
     signal.signal(signal.SIGTERM, interrupt)
     try:

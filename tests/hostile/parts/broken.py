@@ -11,7 +11,7 @@ from harness.trials import Case, faults, left_open, side_by_side
 # Rows of longer texts are not changed byte by byte.
 LONGEST = 1000
 OTHER_BYTES = (0x20, 0x0a, 0x30, 0x39, 0xff)
-# With what the text of a certificate of either version begins.
+# The beginning of a certificate's text, in either version.
 CERTIFICATE = b'totem-cert '
 TRUNCATED = {
     'run': b'totem: run refused: 7 Truncated\n',
@@ -36,7 +36,7 @@ def is_text(row):
 
 
 def kind_at(row, at):
-    """What stands at a byte of a row's input."""
+    """The kind of text at a byte of a row's input."""
     if row.verb == 'sim':
         return 'script'
     return 'certificate' if row.verb == 'check' and at >= row.given.index(CERTIFICATE) else 'run'
@@ -49,8 +49,8 @@ def place_of(text, at):
 
 
 def cases_at(row, at):
-    """The cases at a byte of a row's text: each with the form of its line of errors, where that is known; of
-    `explain` these alone. (Behind the last byte stands the case in which the text comes twice.)"""
+    """The cases at a byte of a row's text, each with the form of its line of errors, if that is known; for
+    `explain` only those with a known form. (After the last byte there is the case in which the text comes twice.)"""
     text = row.given
 
     def case(done, changed, pattern=None):
@@ -62,7 +62,7 @@ def cases_at(row, at):
     kind = kind_at(row, at)
     front, behind = text[:at], text[at + 1:]
     yield case('cut at %d' % at, front, re.escape(TRUNCATED[kind]))
-    # A script is judged line by line: the last one then has no end.
+    # A script is judged line by line: its last line then has no end.
     is_cut = kind == 'script' and not behind
     yield case('byte %d is 00' % at, front + b'\0' + behind, re.escape(TRUNCATED[kind]) if is_cut else UNFIT[kind])
     if row.verb == 'explain':
@@ -94,7 +94,7 @@ def explained(row):
 
 
 def is_picture(text):
-    """Whether an XML reader reads the text, and it has a title and a description."""
+    """Whether an XML reader can parse the text, and it has a title and a description."""
     try:
         root = ElementTree.fromstring(text)
     except ElementTree.ParseError:
@@ -103,7 +103,7 @@ def is_picture(text):
 
 
 def try_picture(trial, case, audited):
-    """A picture of a run: it is one, and has the status of the audit."""
+    """A picture of a run: it is well formed, and has the status of the audit."""
     drawn = Case(case.row, case.done, ('explain', '--svg'), case.text)
     came = trial.answer(drawn)
     is_right = came and came.status == audited.status and came.errors.startswith(audited.errors)
@@ -113,8 +113,8 @@ def try_picture(trial, case, audited):
 
 
 def try_run(trial, case, number):
-    """A run: what the audit answers, it answers with several workers too; the checker says yes to its
-    certificate, an explanation has its verdict and its faults, and a picture is one."""
+    """A run: the audit gives the same answer with several workers; the checker says yes to its
+    certificate, an explanation has its verdict and its faults, and a picture is well formed."""
     answer = trial.tried(case)
     if not answer:
         return
@@ -140,8 +140,8 @@ def try_run(trial, case, number):
 
 
 def try_script(trial, case, number):
-    """A script: the run that it makes is one that the audit reads. An explanation follows it to the same run, or
-    tells the same line of errors and the script's line behind it."""
+    """A script: the audit can read the run that it makes. An explanation follows it to the same run, or
+    prints the same line of errors and then the script's line."""
     answer = trial.tried(case)
     if answer and number % 8 == 0:
         told = Case(case.row, case.done, ('explain', '--script'), case.text)
@@ -169,8 +169,8 @@ def try_change(corpus, changes, trial, number):
 
 
 def broken(asked, tally):
-    """Known statuses, answers of known forms, bounded time and memory; and what is known of a broken text
-    where it is."""
+    """Known statuses, answers of known forms, bounded time and memory; and for some broken texts the known
+    answer."""
     corpus = rows.read_texts()
     small = [row for row in corpus if len(row.given) <= LONGEST and row.verb != 'explain' and is_text(row)]
     small += [explained(row) for row in small if row.verb == 'audit']

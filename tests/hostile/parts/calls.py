@@ -1,24 +1,24 @@
-"""Calls that are made again where they were refused memory: each test of a test program, whichever request is
+"""Calls that are repeated if they were refused memory: each test of a test program, whichever request is
 refused."""
 import re
 
 from harness import process
 from harness.sweep import Sweeper
 
-# What a test of `starved` says where what it needs could not be made.
+# What a test of `starved` prints if it could not make what it needs.
 NOT_MADE = re.compile(rb'error: (AllocError|Memory)\nthe test failed: its result gives status 1\n')
 PASSES = 'the test passes'
 
 
 def passes(ended):
-    """Of a test that makes refused calls again: it passes, whatever was refused."""
+    """For a test that repeats refused calls: it passes, whatever was refused."""
     return None if ended.answer.status == 0 else PASSES
 
 
 def is_starved_rightly(ended):
-    """Of a test whose calls take no memory, where the k-th request and all later ones are refused: what it
-    needs could not be made, and it says so; or it passes, and nothing was refused but its last request,
-    which stands behind the calls."""
+    """For a test whose calls take no memory, when the k-th request and all later ones are refused: it could
+    not make what it needs, and says so; or it passes, and nothing was refused except its last request,
+    which it makes after the calls."""
     status = ended.answer.status
     if ended.met and status == 101 and NOT_MADE.fullmatch(ended.answer.errors):
         return None
@@ -28,7 +28,7 @@ def is_starved_rightly(ended):
 
 
 def sweep_starved(sweeper, what, make, count):
-    """One run has to be there in which the calls were made and the last request alone was refused."""
+    """In one run the calls must have been made and only the last request refused."""
     ended = sweeper.sweep(what, make, 'REFUSE_GROWTH', count, is_starved_rightly, follows=True)
     called = sum(it.refused == 1 and it.answer.status == 0 for it in ended)
     if called != 1:
@@ -37,7 +37,7 @@ def sweep_starved(sweeper, what, make, count):
 
 
 def calls(asked, tally):
-    """Each test runs in a process of its own. Those of `forged` run once, with nothing refused."""
+    """Runs each test in a process of its own. Those of `forged` run once, with nothing refused."""
     sweeper = Sweeper(tally, asked.jobs)
     listed, _ = process.run([asked.tests, '--list'])
     for name in re.findall(r'(?m)^(\S+): test$', listed.output.decode()):

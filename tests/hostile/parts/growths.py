@@ -1,5 +1,5 @@
-"""Each request for memory refused: the verbs over their rows, and words that ask for help, for nothing, or
-for what there is not."""
+"""Each request for memory refused: the commands over their rows, and arguments that ask for help, for nothing, or
+for something that does not exist."""
 from harness import rows
 from harness.sweep import MEMORY, Sweeper, always, one_of
 
@@ -9,7 +9,7 @@ ROWS = (
     'script-that-loses-a-message', 'script-that-parts-and-joins-a-ring', 'script-of-a-crash-in-recovery',
     'explained-yes', 'explained-no', 'explained-refusal', 'explained-script', 'drawn-yes', 'drawn-no',
 )
-# The words behind `totem`, and the status that they have.
+# The arguments after `totem`, and their status.
 WORDS = (
     (('--help',), 0), (('help',), 0), (('help', 'run'), 0), (('--version',), 0), ((), 64), (('audti',), 64),
     (('audit', '--workers', '65'), 64), (('run', '--lose', '60', '--repeat', '41'), 64),
@@ -18,8 +18,8 @@ WORDS = (
 
 
 def own_answer(tally, row, ended):
-    """The row's answer, or that of the run where the row tells only what is in it. None, and noted as wrong,
-    where the run has another one."""
+    """The row's answer, or that of the run if the row gives only parts of it. If the run has another one,
+    records that as wrong and returns None."""
     if not row.is_met_by(ended.answer):
         tally.begin()
         tally.judge('row ' + row.name, 'nothing refused', ended.answer, row.answer or 'status %d' % row.status)
@@ -28,7 +28,7 @@ def own_answer(tally, row, ended):
 
 
 def growths(asked, tally):
-    """Want of memory at each refusal, the row's own answer where nothing was refused."""
+    """Out of memory at each refusal, the row's own answer if nothing was refused."""
     sweeper = Sweeper(tally, asked.jobs)
     for row in map(rows.read, ROWS):
         def make(**told):
@@ -41,8 +41,8 @@ def growths(asked, tally):
 
 
 def words(asked, tally):
-    """The same for words that need no input. Words that ask for nothing that there is may also have their own
-    answer: the library that reads the words looks for a tip, and leaves that out where memory is refused."""
+    """The same for arguments that need no input. Usage errors may also have their own answer: the library that
+    parses the arguments looks for a hint, and leaves it out if memory is refused."""
     sweeper = Sweeper(tally, asked.jobs)
     for given, status in WORDS:
         def make(**told):

@@ -9,7 +9,7 @@ from harness.process import Answer
 
 SECONDS = 10
 MEGABYTES = 300
-# What the program gets: far above what counts as wrong, so that what grows without end ends.
+# The memory limit of the program: far above what counts as wrong, but it stops what grows without end.
 MEGABYTES_GIVEN = 4096
 MILLION = 1000000
 RUN = b'totem-run 1\nlog 1\nconf r4.1 1\n'
@@ -20,7 +20,7 @@ CLOSED = b'open\nend\n'
 
 
 def endless(block):
-    """A block for ever, in pieces of about 64 KiB."""
+    """A block, repeated for ever, in pieces of about 64 KiB."""
     return itertools.repeat(block * (65536 // len(block) + 1))
 
 
@@ -31,28 +31,28 @@ def numbered(form, first, last):
 
 
 def times(block, count):
-    """A block so often."""
+    """A block, repeated this often."""
     for at in range(0, count, 4096):
         yield block * min(4096, count - at)
 
 
 def logs_for_ever():
-    """Logs of one entry, of more processes than there may be."""
+    """Logs of one entry, for more processes than are allowed."""
     return (b'log %d\nconf r4.1 %d\nopen\n' % (number, number) for number in itertools.count(1))
 
 
 def run_refused(number, name):
-    """The answer to a run's text that is refused so."""
+    """The answer to a run's text that is refused with this fault."""
     return Answer(2, b'', b'totem: run refused: %d %s\n' % (number, name))
 
 
 def certificate_refused(how, number, name):
-    """The answer to a certificate that is refused so."""
+    """The answer to a certificate that is refused with this fault."""
     return Answer(2, b'', b'totem: certificate %s: %d %s\n' % (how, number, name))
 
 
 def script_refused(number, name):
-    """The answer to a script that is refused so."""
+    """The answer to a script that is refused with this fault."""
     return Answer(2, b'', b'totem: script refused: %d %s\n' % (number, name))
 
 
@@ -62,8 +62,8 @@ SCRIPT_TOO_MANY = script_refused(9, b'TooMany')
 
 
 def without_an_end():
-    """Inputs that never end, or of which one line is a gigabyte: what they are, the verb, the pieces, the
-    answer. (Of an explanation the first line of errors is compared.)"""
+    """Inputs that never end, or have one line of a gigabyte: what they are, the command, the pieces, the
+    answer. (For an explanation, the first line of errors is compared.)"""
     for verb in ('audit', 'explain', 'check'):
         yield 'yes', verb, endless(b'y\n'), HEADER
         yield '/dev/zero', verb, '/dev/zero', HEADER
@@ -88,7 +88,7 @@ def without_an_end():
 
 
 def at_the_limits():
-    """Inputs as large as they may be, or by one larger: the same. Of a verdict the status alone is
+    """Inputs as large as allowed, or larger by one: the same. For a verdict, only the status is
     compared."""
     sends = b'send r4.1 a 4.1#%d\n'
     for verb in ('audit', 'explain'):
@@ -115,21 +115,21 @@ def at_the_limits():
 
 
 def many_faults(count):
-    """So many rings, behind each other, in each of which a process sends a message and never delivers it."""
+    """This many rings, one after another, in each of which a process sends a message and never delivers it."""
     for ring in range(4, 4 * count + 4, 4):
         later = ring + 4
         yield b'send r%d.1 a %d.1#1\nconf t%d.1/1 1\nconf r%d.1 1\n' % (ring, ring, later, later)
 
 
 def script_of(size):
-    """A script of timers that has so many bytes: lines of eight bytes, and as many of five as it takes."""
+    """A script of timers that has this many bytes: lines of eight bytes, and as many of five as it takes."""
     room = size - len(SCRIPT) - len(b'end\n')
     joins = 5 * room % 8
     return SCRIPT + b'join\n' * joins + b'timer 1\n' * ((room - 5 * joins) // 8) + b'end\n'
 
 
 def long_scripts():
-    """Scripts that make much of little: the same."""
+    """Small scripts that make much: the same."""
     ring = b'totem-script 1\nring 4.1 ' + ALL + b'\n'
     run, end = b'run 100000\n', b'end\n'
     yield 'a token that goes round 100,000 times', 'sim', [SCRIPT, run, end], 0
@@ -176,7 +176,7 @@ def run(words, pieces):
 
 
 def flaw(verb, wanted, answer, usage):
-    """What was wanted where it isn't what came."""
+    """What was expected, if it isn't what came."""
     errors = answer.errors
     if verb == 'explain':
         errors = b''.join(errors.splitlines(True)[:1])
@@ -190,7 +190,7 @@ def flaw(verb, wanted, answer, usage):
 
 
 def large(asked, tally):
-    """Each answer is known, or its status, and comes within some seconds and some megabytes."""
+    """Each answer is known, or at least its status, and comes within some seconds and some megabytes."""
     cases = [*without_an_end(), *at_the_limits(), *long_scripts()]
     limited = ['/bin/sh', '-c', 'ulimit -v %d; exec "$0" "$@"' % (MEGABYTES_GIVEN << 10), asked.program]
 

@@ -18,7 +18,7 @@ SECONDS = 300
 
 @dataclass(frozen=True)
 class Case:
-    """A module, the crates that it uses, and the text that is changed in it with the error that this
+    """A module, the crates that it uses, the text that is changed in it, and the error that this
     makes."""
 
     name: str
@@ -34,7 +34,7 @@ class Case:
 
 
 def read(name):
-    """Reads a case: lines that say what is changed, and the module."""
+    """Reads a case: lines that say what is changed, and then the module."""
     with open(os.path.join(FOLDER, name + '.case'), encoding='utf-8') as it:
         text = it.read()
     said = dict(HEAD.findall(text))
@@ -43,7 +43,7 @@ def read(name):
 
 
 def compiled(folder, cases, modules):
-    """What `rt try --test` says of a crate of these modules, in a copy of the repository. Nothing is
+    """What `rt try --test` prints for a crate of these modules, in a copy of the repository. Nothing is
     proved."""
     without = shutil.ignore_patterns('out', 'must-fail', 'proofs')
     shutil.copytree(os.path.join(REPOSITORY, 'crates'), os.path.join(folder, 'crates'), ignore=without)
@@ -65,8 +65,8 @@ def compiled(folder, cases, modules):
 
 
 def not_compiled(asked, tally):
-    """All cases make one crate. As they stand it compiles; with all their changes there is the error of
-    each, and no other."""
+    """All cases make one crate. Unchanged, it compiles; with all changes, it has the error of each case, and
+    no other."""
     cases = [read(name[:-5]) for name in sorted(os.listdir(FOLDER)) if name.endswith('.case')]
     for case in cases:
         if case.module.count(case.right) != 1:

@@ -1,4 +1,4 @@
-"""Streams that fail, give or take one byte at a time, are interrupted, closed, full, or read by nobody."""
+"""Streams that fail, give or take one byte at a time, are interrupted, closed, full, or have no reader."""
 import os
 import re
 from concurrent.futures import ThreadPoolExecutor
@@ -9,7 +9,7 @@ from harness.forms import LINES
 from harness.process import Answer
 from parts.growths import own_answer
 
-# Rows of which the whole input is read, and rows that are refused before its end.
+# Rows whose whole input is read, and rows that are refused before its end.
 READ_TO_THE_END = (
     'one-message-delivered-by-both', 'empty-run', 'two-orders-of-two-messages', 'sent-and-open',
     'sent-and-failed', 'certificate-of-a-good-run', 'script-that-loses-a-message',
@@ -25,7 +25,7 @@ NO_WRITE = b'totem: write failed\n'
 
 
 def is_shown(own, came):
-    """An explanation of what is refused, whose line is shown as far as it was read."""
+    """An explanation of refused input, which shows the line as far as it was read."""
     first = own.errors.split(b'\n')[0] + b'\n'
     lines = came.errors.removeprefix(first)
     return came.errors.startswith(first) and re.fullmatch(LINES.encode(), lines) and \
@@ -33,7 +33,7 @@ def is_shown(own, came):
 
 
 class Streams:
-    """Tries of one row or some words, side by side."""
+    """Tries one row, or some arguments, in parallel."""
 
     def __init__(self, asked, tally, what, words, given, own):
         self.asked, self.tally = asked, tally
@@ -41,8 +41,8 @@ class Streams:
         tally.begin()
 
     def tries(self, wanted):
-        """Runs with variables. `wanted` are pairs of variables and the answers that are right, or what tells of
-        an answer whether it is. How the runs ended."""
+        """Runs with variables. `wanted` are pairs of variables and the right answers, or a function that says
+        whether an answer is right. Returns how the runs ended."""
         def one(told):
             return self.asked.shim.run(self.words, self.given, **told)
 
@@ -56,12 +56,12 @@ class Streams:
         return runs
 
     def source(self, right):
-        """The source fails at each byte, and at the end, which a read tells too."""
+        """The source fails at each byte, and at the end, which takes a read too."""
         self.tries([({'FAIL_READ': at}, right) for at in range(len(self.given) + 1)])
 
     def sinks(self):
-        """The output, and then the errors, fail at each byte. What went out before is there; that errors
-        fail is passed over."""
+        """The output, and then the errors, fail at each byte. What went out before is there; a failure of the errors
+        is ignored."""
         status, output, errors = self.own.status, self.own.output, self.own.errors
         self.tries([({'FAIL_WRITE': at}, [Answer(4, output[:at], NO_WRITE)]) for at in range(len(output))])
         self.tries([({'FAIL_WRITE': len(output)}, [self.own])])
@@ -83,17 +83,17 @@ class Streams:
 
 
 def own_answers(row, own):
-    """The row's answers: of an explanation of what is refused also those that show less of the line."""
+    """The row's answers: for an explanation of refused input also those that show less of the line."""
     return [partial(is_shown, own)] if row.name == 'explained-refusal' else [own]
 
 
 def rights_of(row, own):
-    """The answers that are right where a row's source fails at some byte."""
+    """The right answers if a row's source fails at some byte."""
     return [READ_FAILED] if row.name in READ_TO_THE_END else [READ_FAILED, *own_answers(row, own)]
 
 
 def of_rows(asked, tally):
-    """All of it for each row."""
+    """All of these for each row."""
     for name in READ_TO_THE_END + REFUSED:
         row = rows.read(name)
         plain = asked.shim.run([asked.program, *row.words], row.given)
@@ -106,7 +106,7 @@ def of_rows(asked, tally):
 
 
 def of_words(asked, tally):
-    """The same for words that need no input."""
+    """The same for arguments that need no input."""
     for words in WORDS:
         plain = asked.shim.run([asked.program, *words])
         streams = Streams(asked, tally, 'words %r' % ' '.join(words), words, b'', plain.answer)
@@ -115,8 +115,8 @@ def of_words(asked, tally):
 
 
 def odd_streams(own):
-    """How a row's streams are odd: in words, as numbers of streams with the file that they are (None:
-    closed), and the answer that is wanted."""
+    """The odd streams of a row: in words, as numbers of streams with their files (None: closed), and the
+    expected answer."""
     status, output = own.status, own.output
     refused = b'totem: run refused: 7 Truncated\n'
     full, folder, nothing = '/dev/full', '/', '/dev/null'
@@ -134,7 +134,7 @@ def odd_streams(own):
 
 
 def opened(path):
-    """A file of this name, for what comes first of reading and writing."""
+    """Opens a file: a device for reading and writing, any other one for reading."""
     return os.open(path, os.O_RDWR if path.startswith('/dev') else os.O_RDONLY)
 
 
@@ -154,7 +154,7 @@ def of_odd_streams(asked, tally):
 
 
 def of_an_unread_pipe(asked, tally):
-    """A pipe that nobody reads: the signal ends the program, or, where that is passed over, the write
+    """A pipe that nobody reads: the signal ends the program, or, if it is ignored, the write
     fails."""
     tally.begin()
     row = rows.read('one-message-delivered-by-both')

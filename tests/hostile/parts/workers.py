@@ -8,8 +8,8 @@ NODES = ('run', '--nodes', '3', '--ticks', '24', '--repeat', '5')
 
 
 def workers(asked, tally):
-    """Audits with seven workers. Where they are refused memory: want of memory, or their own answer, since
-    what a worker can't do is done again. Where they are refused threads: their own answer."""
+    """Audits with seven workers. If they are refused memory: out of memory, or their own answer, since
+    what a worker can't do is done again. If they are refused threads: their own answer."""
     sweeper = Sweeper(tally, asked.jobs)
     row = rows.read(MANY_JOBS)
     for verb, own in (('audit', row.answer), ('explain', None)):
@@ -29,27 +29,27 @@ def workers(asked, tally):
 
 
 def is_audited(asked, output):
-    """Whether the audit reads it as a run."""
+    """Whether the audit can read it as a run."""
     return asked.shim.run([asked.program, 'audit'], output).answer.status in (0, 1)
 
 
 def is_woven(_asked, output):
-    """Whether it is a woven ring, told to its end."""
+    """Whether it is a complete woven ring."""
     return output.startswith(b'woven ') and output.endswith(b'\nend\n')
 
 
-# Words of runs in threads, and what comes of them.
+# Arguments of runs in threads, and what they make.
 THREADS = ((NODES, 'a run that is audited', is_audited), (NODES + ('--weave',), 'a woven ring', is_woven))
 
 
 def threads(asked, tally):
-    """A run of nodes in threads: want of memory, or a run that the audit reads or whose ring is woven. It never hangs."""
+    """A run of nodes in threads: out of memory, or a run that the audit can read or whose ring is woven. It never hangs."""
     for words, wanted, is_right in THREADS:
         threads_of(asked, tally, words, wanted, is_right)
 
 
 def threads_of(asked, tally, words, wanted, is_right):
-    """The same for these words."""
+    """The same for these arguments."""
     sweeper = Sweeper(tally, asked.jobs)
     what = 'words %r' % ' '.join(words)
 

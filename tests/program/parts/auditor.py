@@ -1,4 +1,4 @@
-"""The auditor alone, asked what the whole program is asked."""
+"""The auditor alone, with the inputs of the whole program."""
 import os
 import tempfile
 from functools import partial
@@ -8,7 +8,7 @@ from harness import rows as row_files
 
 REPOSITORY = os.path.dirname(os.path.dirname(os.path.dirname(os.path.dirname(os.path.abspath(__file__)))))
 BUILT = os.path.join(REPOSITORY, 'crates', 'totem_auditor', 'out', 'totem_auditor')
-# Help tells the name by which a program is called, so it is called by that of the whole one, as `./totem` does.
+# Help prints the name by which a program is called, so the auditor is called by that of the whole program, as `./totem` does.
 ROOM = tempfile.TemporaryDirectory()
 AUDITOR = os.path.join(ROOM.name, 'totem')
 os.symlink(BUILT, AUDITOR)
@@ -16,12 +16,12 @@ LACKING = process.Answer(64, b'', b'totem: this is the auditor alone: sim, run a
 
 
 def asks_for_run(words):
-    """Whether these words, if they are right, ask for a run or a script."""
+    """Whether these arguments, if they are valid, ask for a run or a script."""
     return '--help' not in words and (words[:1] in (('sim',), ('run',)) or (words[:1] == ('explain',) and '--script' in words))
 
 
 def try_words(words, given, program):
-    """The auditor answers as the program does; where a run is wanted it says that it makes none."""
+    """The auditor answers as the program does; if a run is wanted it says that it makes none."""
     came, _ = process.run([AUDITOR, *words], given)
     if asks_for_run(words) and came == LACKING:
         return None
@@ -30,13 +30,13 @@ def try_words(words, given, program):
 
 
 def try_lacking(words, _program):
-    """These words get the auditor's line."""
+    """These arguments get the auditor's line."""
     came, _ = process.run([AUDITOR, *words])
     return None if came == LACKING else 'came: %s' % came
 
 
 def auditor():
-    """The words and the input of each row, help for each verb, and the words that ask for a run."""
+    """The arguments and the input of each row, help for each command, and the arguments that ask for a run."""
     if not os.access(BUILT, os.X_OK):
         yield 'it is there', lambda _program: '%s is not there: `rt ci` builds it' % BUILT
         return

@@ -1,4 +1,4 @@
-"""Certificates that were changed, and what the checker says of them: the five tests of a certificate asked here of each two entries."""
+"""Changed certificates, and what the checker says about them: here the five tests of a certificate compare every pair of entries."""
 import os
 import random
 from functools import partial
@@ -10,13 +10,13 @@ from parts.texts import EXAMPLES
 RUNS = ('first-yes.run', 'parted.run', 'process-that-comes-back.run', 'shut-down-in-order.run')
 SCRIPTS = ('partition-that-heals.script', 'process-that-returns.script', 'safe-message-that-waits.script',
            'token-that-comes-twice.script')
-# How many changed certificates of each run are tried.
+# How many changed certificates are tried for each run.
 CHANGES = 400
 CERTIFICATE = b'totem-cert '
 
 
 def logs_of(run):
-    """The logs of a run's text: a process, and what each of its entries does, with the name to which it does it."""
+    """The logs of a run's text: a process, and for each of its entries what it does, and the name of the configuration or message."""
     logs = []
     for line in run.decode().splitlines():
         words = line.split(' ')
@@ -47,7 +47,7 @@ def are_one_class(one, other):
 
 
 def fault_of(logs, lines):
-    """The first test that the numbers fail, by its number and name, or None where they certify the run."""
+    """The first test that the numbers fail, by its number and name, or None if they certify the run."""
     if [(name, len(entries)) for name, entries in logs] != [(name, len(numbers)) for name, numbers in lines]:
         return b'1 Count'
     if any(first >= later for _, numbers in lines for first, later in combinations(numbers, 2)):
@@ -65,7 +65,7 @@ def fault_of(logs, lines):
 
 
 def changed(rng, lines):
-    """The lines with one change, or two. What no certificate's text can say is left out."""
+    """The lines with one change, or two. Changes that no certificate's text can express are left out."""
     lines = [(name, list(numbers)) for name, numbers in lines]
     for _ in range(rng.randint(1, 2)):
         _, numbers = rng.choice(lines)
@@ -123,7 +123,7 @@ def played(name, program):
 
 
 def certificates():
-    """The checker names the first test that a changed certificate fails, and accepts it where it fails none."""
+    """The checker names the first test that a changed certificate fails, and accepts it if it fails none."""
     for seed, name in enumerate(RUNS + SCRIPTS):
         made = partial(read if name in RUNS else played, name)
         yield 'changed certificates of %s' % name, partial(try_changes, made, seed)

@@ -7,7 +7,7 @@ from harness import rows as row_files
 
 # The logs of a member that sends a message on each ring, and delivers none.
 SENT = 'send r%d.1 a %d.1#1\nconf t%d.1/1 1\nconf r%d.1 1\n'
-# The 4,367th delivery's second byte is the last that the program's buffer holds.
+# The second byte of the 4,367th delivery is the last one in the program's buffer.
 LENGTHS = (4366, 4367, 20000)
 
 
@@ -17,13 +17,13 @@ def told_by(program, words, text):
 
 
 def many_faults(rings):
-    """A run with a fault on each of so many rings."""
+    """A run with a fault on each of this many rings."""
     sent = ''.join(SENT % (ring, ring, ring + 4, ring + 4) for ring in range(4, 4 * rings + 4, 4))
     return 'totem-run 1\nlog 1\nconf r4.1 1\n%sopen\nend\n' % sent
 
 
 def try_many_faults(program):
-    """Of 101 faults a hundred are explained in full, and the last one is told."""
+    """Of 101 faults a hundred are explained in full, and the last one is listed."""
     came = told_by(program, (), many_faults(101))
     text = came.output.decode()
     is_right = came.status == 1 and \
@@ -37,7 +37,7 @@ def try_many_faults(program):
 
 
 def try_long_line(deliveries, program):
-    """A line that is refused is shown also where the program's buffer ends within it."""
+    """A refused line is shown even if the program's buffer ends within it."""
     text = 'totem-run 1\nlog 1\nconf r4.1 1\n%sdeliver' % ('dlv r4.1 4.1#1\n' * deliveries)
     came = told_by(program, (), text)
     wanted = 'totem: run refused: 2 Word\nline %d, column 2:\n  deliver\n   ^\nA line is `log`, `conf`, `send`, `dlv` or ' \
@@ -54,7 +54,7 @@ def long_run():
 
 
 def try_long_picture(program):
-    """A long run is drawn around its fault: of log 2 the last four of 202 entries, of log 1 nothing."""
+    """A long run is drawn around its fault: the last four of 202 entries of log 2, nothing of log 1."""
     came = told_by(program, ('--svg',), long_run())
     text = came.output.decode()
     parts = (
@@ -71,7 +71,7 @@ def try_long_picture(program):
 
 
 def try_drawn(row, program):
-    """A run that is explained is drawn with as many red rings as the first fault has places."""
+    """The picture of a run has as many red circles as the first fault has places."""
     came = told_by(program, ('--svg',), row.given.decode())
     text = came.output.decode()
     fault = re.search(rb'(?m)^fault .*$', row.answer.output)
@@ -82,7 +82,7 @@ def try_drawn(row, program):
 
 
 def explained():
-    """What people are told and shown."""
+    """Explanations and pictures."""
     yield 'many faults', try_many_faults
     for deliveries in LENGTHS:
         yield '%d deliveries, and a line that is none' % deliveries, partial(try_long_line, deliveries)

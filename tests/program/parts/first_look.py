@@ -12,7 +12,7 @@ SECONDS = 180
 
 
 def look(_program):
-    """The answer is the report, and NOT PROVED stands before and after."""
+    """The answer is the report, with NOT PROVED before and after it."""
     with tempfile.TemporaryDirectory() as top:
         for name in ('totem', 'crates.txt', 'HANDLES'):
             shutil.copy(os.path.join(REPOSITORY, name), top)
@@ -27,5 +27,5 @@ def look(_program):
 
 
 def first_look():
-    """The one case; it takes some minutes, and wants the kit."""
+    """The one case; it takes some minutes, and needs the kit."""
     yield 'first-yes.run', look

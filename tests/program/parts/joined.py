@@ -11,7 +11,7 @@ REPOSITORY = os.path.join(os.path.dirname(row_files.FOLDER), '..')
 EXAMPLES = os.path.join(REPOSITORY, 'examples')
 TOOL = os.path.join(REPOSITORY, 'tools', 'logs')
 
-# What is made of the folder `own-logs`, whose third log ends in the middle of a line.
+# The run of the folder `own-logs`, whose third log ends in the middle of a line.
 OWN_LOGS = b"""totem-run 1
 log 1
 conf r4.1 1 2 3
@@ -46,7 +46,7 @@ waiting 3 r4.1 2
 totem-cert 1
 """
 
-# Folders by what they show: the words, the files, the run that they are joined to, and what is told.
+# Folders by what they show: the arguments, the files, the run that they are joined to, and the messages.
 FOLDERS = {
     'ten comes behind two, and a failure closes a log': (
         '', {'10.log': 'conf r4.2 2 10\nfail r4.2\n', '2.log': 'conf r4.2 2 10\n', 'notes.txt': 'no log\n'},
@@ -92,7 +92,7 @@ FOLDERS = {
 }
 
 ONE = {'1.log': 'conf r4.1 1\n'}
-# Folders that are refused: the words, the files, and what is said.
+# Folders that are refused: the arguments, the files, and the messages.
 REFUSED = {
     'no log': ('', {'notes.txt': 'none\n'}, 'has no file P.log or P.L.log'),
     'no entry at all': ('', {'1.log': ''}, 'logs: 1.log has no entry, and is left out\nlogs: no log has an entry\n'),
@@ -102,24 +102,26 @@ REFUSED = {
         '', {'1.log': 'conf r4.1 1\n', '1.1.log': 'conf r4.1 1:1\n'}, 'logs: 1.1.log and 1.log are two logs of one life\n'),
     'two logs of one life, where lives are added': (
         '--lives', {'1.log': 'conf r4.1 1\n', '1.1.log': 'conf r4.1 1\n'}, 'logs: 1.1.log and 1.log are two logs of one life\n'),
-    'a name with a zero in front': ('', {**ONE, '02.log': 'conf r4.1 2\n'}, 'logs: 02.log: the name is no process: '),
-    'a name that is none': ('', {**ONE, 'node.log': ''}, 'logs: node.log: the name is no process: '),
+    'a name with a leading zero': ('', {**ONE, '02.log': 'conf r4.1 2\n'}, 'logs: 02.log: the name is not a process: '),
+    'a name that is not a process': ('', {**ONE, 'node.log': ''}, 'logs: node.log: the name is not a process: '),
     'a process past its range': ('', {'65536.log': ''}, 'logs: 65536.log: process 65536 is past 65535; --renumber '),
-    'a line that is none': ('', {**ONE, '2.log': 'conf r4.1 1\n\n'}, 'logs: 2.log, line 2: this is no entry: '),
+    'a line that is not an entry': ('', {**ONE, '2.log': 'conf r4.1 1\n\n'}, 'logs: 2.log, line 2: this is not an entry: '),
     'a line that begins well': (
-        '', {'1.log': 'conf r4.1 1\nsend r4.1 4.1#1\nquiet\n'}, 'logs: 1.log, line 2: this is no entry: send r4.1 4.1#1 (such as send '),
-    'a send in a transitional configuration is no entry': (
-        '', {'1.log': 'conf r4.1 1\nsend t8.1/1 a 4.1#1\n'}, 'logs: 1.log, line 2: this is no entry: send t8.1/1 a 4.1#1 '),
+        '', {'1.log': 'conf r4.1 1\nsend r4.1 4.1#1\nquiet\n'},
+        'logs: 1.log, line 2: this is not an entry: send r4.1 4.1#1 (such as send '),
+    'a send in a transitional configuration is not an entry': (
+        '', {'1.log': 'conf r4.1 1\nsend t8.1/1 a 4.1#1\n'}, 'logs: 1.log, line 2: this is not an entry: send t8.1/1 a 4.1#1 '),
     'a change without members': (
         '', {'1.log': 'conf t4.1/1\n'}, 'logs: 1.log, line 1: a change has members: conf t4.1/1 (a first callback that names none '),
-    'a zero in front': ('', {'1.log': 'conf r4.1 1\ndlv r4.1 4.1#01\n'}, 'logs: 1.log, line 2: this is no entry: '),
+    'a leading zero': ('', {'1.log': 'conf r4.1 1\ndlv r4.1 4.1#01\n'}, 'logs: 1.log, line 2: this is not an entry: '),
     'line ends of another system': ('', {'1.log': 'conf r4.1 1\r\n'}, 'logs: 1.log, line 1: the line ends with a carriage return'),
     'quiet before the last line': (
         '', {'1.log': 'conf r4.1 1\nquiet\nsend r4.1 a 4.1#1\n'}, 'logs: 1.log, line 2: quiet is not the last line\n'),
     'quiet before a line that was cut off': (
         '', {'1.log': 'conf r4.1 1\nquiet\nsend'}, 'logs: 1.log, line 2: quiet is not the last line\n'),
-    'quiet behind a failure': ('', {'1.log': 'conf r4.1 1\nfail r4.1\nquiet\n'}, 'logs: 1.log, line 3: quiet stands behind a failure\n'),
-    'members that do not rise': ('', {'1.log': 'conf r4.1 2 1\n'}, 'logs: 1.log, line 1: members do not rise: 1 stands behind 2\n'),
+    'quiet after a failure': ('', {'1.log': 'conf r4.1 1\nfail r4.1\nquiet\n'}, 'logs: 1.log, line 3: quiet comes after a failure\n'),
+    'members that are not in ascending order': (
+        '', {'1.log': 'conf r4.1 2 1\n'}, 'logs: 1.log, line 1: members are not in ascending order: 1 comes after 2\n'),
     '33 members': (
         '', {'1.log': 'conf r4.1 %s\n' % ' '.join(map(str, range(1, 34)))}, 'logs: 1.log, line 1: a configuration has 32 members'),
     'a member past its range': ('', {'1.log': 'conf r4.1 1 65536\n'}, 'logs: 1.log, line 1: process 65536 is past 65535'),
@@ -130,7 +132,7 @@ REFUSED = {
     'a member without a life, in a log with one': (
         '', {'1.1.log': 'conf r4.1 1\n'}, 'logs: 1.1.log, line 1: a member has no life, and the name '),
     'a failure of a process without a log': ('--failed 2', ONE, 'logs: there is no log of process 2\n'),
-    'a failure of what is no process': ('--failed two', ONE, "logs: 'two' is no process"),
+    'a failure of what is not a process': ('--failed two', ONE, "logs: 'two' is not a process"),
     'a failure of one of two lives': (
         '--failed 1', {'1.1.log': 'conf r4.1 1:1\n', '1.2.log': 'conf r8.1 1:2\n'}, 'logs: process 1 has 2 lives with a log: say which'),
     'a failure of a quiet process': ('--failed 1', {'1.log': 'conf r4.1 1\nquiet\n'}, 'logs: 1.log says that it is quiet, and the call'),
@@ -154,14 +156,14 @@ def write_files(folder, files):
 
 
 def join_files(words, files):
-    """The same over these files, in a folder of their own; FOLDER in the words is that folder."""
+    """The same over these files, in a folder of their own; FOLDER in the arguments is that folder."""
     with tempfile.TemporaryDirectory() as folder:
         write_files(folder, files)
         return join([word.replace('FOLDER', folder) for word in words.split()], folder)
 
 
 def try_own_logs(program):
-    """The folder of the examples is joined as its three logs say, and the run's report begins as docs/OWN-LOGS.md tells."""
+    """The folder of the examples is joined as its three logs say, and the run's report begins as in docs/OWN-LOGS.md."""
     made = join([], os.path.join(EXAMPLES, 'own-logs'))
     if (made.status, made.output) != (0, OWN_LOGS) or made.errors != b'logs: 3.log: the last line was cut off, and is left out\n':
         return 'came: %s' % made
@@ -170,7 +172,7 @@ def try_own_logs(program):
 
 
 def try_folder(words, files, wanted, told, _program):
-    """These files are joined to this run, and this is told."""
+    """These files are joined to this run, with these messages."""
     came = join_files(words, files)
     is_right = came == process.Answer(0, wanted.encode(), told.encode())
     return None if is_right else 'came:   %s\n  wanted: %r, and told %r' % (came, wanted, told)
@@ -184,7 +186,7 @@ def try_refused(words, files, said, _program):
 
 
 def try_too_long(_program):
-    """A log of 1,000,001 entries is refused, and one of 1,000,000 that is to get a failure behind them."""
+    """A log of 1,000,001 entries is refused, and so is one of 1,000,000 that is to get a failure after them."""
     for count, words in ((1000001, ''), (1000000, '--failed 1')):
         came = join_files(words, {'1.log': 'conf r4.1 1\n' + 'dlv r4.1 4.1#1\n' * (count - 1)})
         if (came.status, came.output) != (1, b'') or b'--cut makes several runs' not in came.errors:
@@ -193,21 +195,21 @@ def try_too_long(_program):
 
 
 def try_words(words, _program):
-    """Words that ask for nothing that there is are told how the tool is called."""
+    """Usage errors get the usage."""
     came = join(words.split(), EXAMPLES)
     is_right = (came.status, came.output) == (64, b'') and came.errors.startswith(b'usage: logs ')
     return None if is_right else 'came: %s' % came
 
 
 def try_no_folder(_program):
-    """Where there is no folder, the tool tells how it is called."""
+    """If there is no folder, the tool prints its usage."""
     came = join([], '/no/such/folder')
     is_right = (came.status, came.output) == (64, b'') and came.errors.startswith(b'usage: logs join ')
     return None if is_right else 'came: %s' % came
 
 
 def try_help(_program):
-    """The help teaches each of the words."""
+    """The help explains each of the options."""
     came = join(['--help'], EXAMPLES)
     words = (b'--failed', b'--quiet', b'--lives', b'--member', b'--clock', b'--own-sends', b'--renumber', b'--table', b'--cut',
              b'--entries', b'--trim', b'tools/logs join FOLDER > my.run')
@@ -215,7 +217,7 @@ def try_help(_program):
 
 
 def try_full(_program):
-    """Where the output takes no more, the status says so."""
+    """If the output accepts no more, the status says so."""
     with open('/dev/full', 'wb') as full:
         came = subprocess.run([TOOL, 'join', os.path.join(EXAMPLES, 'own-logs')], stdout=full, stderr=subprocess.PIPE,
                               env=process.ENVIRONMENT, timeout=process.allowed(process.SECONDS), check=False)

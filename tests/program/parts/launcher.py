@@ -16,17 +16,17 @@ STAND_IN = os.path.join(REPOSITORY, 'tests', 'harness', 'rt_stand_in')
 LOGIC = next(line.partition('=')[2].strip() for line in open(os.path.join(REPOSITORY, 'totem'), encoding='utf-8')
              if line.startswith('logic='))
 CRATES = 'low: itoa\ntotem_auditor: low\nhigh: low\ntotem: low high\n# A crate that no program stands on.\nother: low\n'
-# What the stand-in builds: it tells its name, its words and its input, and ends with a status that nothing else here has.
+# What the stand-in builds: it prints its name, its arguments and its input, and ends with a status that nothing else here has.
 PROGRAM = '#!/bin/sh\necho "${0##*/} $*"\ncat\nexit 9\n'
 ANSWERED = 'a line of the program\nchecked: ended status=1\nraces: not looked for\nrun=ended status=1 runners=1 races=unchecked proved=no\n'
-# Words that the auditor alone answers, and those that want the whole program.
+# Arguments that the auditor alone answers, and those that need the whole program.
 FOR_AUDITOR = (['audit', '--workers', '2'], ['check'], ['explain', '--svg'], ['help', 'run'], ['--version'], ['sim', '--help'], ['no-verb'])
 FOR_WHOLE = (['sim'], ['run', '--nodes', '3'], ['explain', '--script'])
 SECONDS = 30
 
 
 class Scene:
-    """A small repository with the launcher, and the folder that says what the stand-in does."""
+    """A small repository with the launcher, and the folder that controls the stand-in."""
 
     def __init__(self, folder):
         self.top, self.stand_in = os.path.join(folder, 'top'), os.path.join(folder, 'stand-in')
@@ -53,7 +53,7 @@ class Scene:
             it.write(text)
 
     def say(self, **files):
-        """Says what the stand-in does from now on."""
+        """Sets what the stand-in does from now on."""
         for name, text in files.items():
             with open(os.path.join(self.stand_in, name), 'w', encoding='utf-8') as it:
                 it.write(text)
@@ -81,7 +81,7 @@ class Scene:
                                     stderr=subprocess.PIPE, env=self.environment, start_new_session=True))
 
     def is_slow_at(self):
-        """Waits until the stand-in is at the crate that it takes long for. Its process."""
+        """Waits until the stand-in is at the crate for which it takes long. Returns its process."""
         until = time.monotonic() + process.allowed(SECONDS)
         while time.monotonic() < until:
             found = self.told('is-slow')
@@ -104,13 +104,13 @@ def end(started):
 
 @contextmanager
 def scene():
-    """A scene that is gone in the end."""
+    """A scene that is removed in the end."""
     with tempfile.TemporaryDirectory() as folder:
         yield Scene(folder)
 
 
 def differs(came, status, output, *parts):
-    """What is wrong with an answer: its status, its output, or a part that its errors lack, in this order."""
+    """What is wrong with an answer: its status, its output, or a part that is missing in its errors, in this order."""
     place = 0
     for part in parts:
         place = came.errors.find(part.encode(), place)
@@ -126,7 +126,7 @@ WHOLE = 'totem audit\nthe input\n'
 # ---- the first look
 
 def look_first(_program):
-    """Output and status are the program's, and NOT PROVED stands before and after what it says on its errors."""
+    """Output and status are the program's, and NOT PROVED is before and after its errors."""
     with scene() as it:
         came = it.run('try', 'audit')
         wrong = differs(came, 1, 'verdict no\n', 'totem: NOT PROVED', 'a line of the program\n', 'totem: NOT PROVED')
@@ -138,14 +138,14 @@ def look_first(_program):
 
 
 def look_at_refusal(said, _program):
-    """Where `rt` has no answer of the program, none is given."""
+    """If `rt` has no answer of the program, there is none."""
     with scene() as it:
         it.say(tried=said)
         return differs(it.run('try', 'audit'), 70, '', 'totem: NOT PROVED', 'totem: no answer without proof')
 
 
 def look_at_proved(_program):
-    """Where a proved program is there that answers these words, `try` runs it, and nothing else."""
+    """If there is a proved program that answers these arguments, `try` runs it, and nothing else."""
     with scene() as it:
         it.run('audit')
         calls = it.told('calls')
@@ -160,7 +160,7 @@ def look_at_proved(_program):
 # ---- the proved build
 
 def build_first(_program):
-    """The first line names the first look; each crate has a line; the program gets words and streams."""
+    """The first line names the first look; each crate has a line; the program gets arguments and streams."""
     with scene() as it:
         wrong = differs(it.run('run'), 9, MADE, '3 crates', './totem try', '1 of 3 proved: low', '2 of 3 proved: high', '3 of 3 proved: totem')
         calls = it.told('calls')
@@ -171,14 +171,14 @@ def build_first(_program):
 
 
 def build_auditor(words, is_enough, _program):
-    """The auditor is proved where it answers these words, else the whole program."""
+    """The auditor is proved if it answers these arguments, otherwise the whole program."""
     with scene() as it:
         name = 'totem_auditor' if is_enough else 'totem'
         return differs(it.run(*words), 9, '%s\nthe input\n' % ' '.join([name, *words]), '%d crates' % (2 if is_enough else 3), 'proved: ' + name)
 
 
 def build_after_change(_program):
-    """A source that is newer has all proved again; one of a crate that the program does not stand on has not."""
+    """A newer source causes a new proof of everything; a newer source of a crate that the program does not use doesn't."""
     with scene() as it:
         it.run('audit')
         it.write('crates/high/src/lib.rt', 'fn g() {}\n')
@@ -208,14 +208,14 @@ def build_refused(_program):
 
 
 def build_none(_program):
-    """Where all passes and no program is there, that is told."""
+    """If everything passes and there is no program, that is reported."""
     with scene() as it:
         os.remove(os.path.join(it.stand_in, 'built'))
         return differs(it.run('audit'), 70, '', 'totem: rt ci passed and built no program')
 
 
 def build_interrupted(_program):
-    """An interrupt ends `rt` too, leaves no program, and the next call goes on from what is kept."""
+    """An interrupt ends `rt` too, leaves no program, and the next call continues from what is kept."""
     with scene() as it:
         it.say(slow='high\n', seconds='60')
         started = it.start('run')
@@ -242,7 +242,8 @@ def build_twice_at_once(_program):
 
 
 def build_ahead(kept, _program):
-    """A second run goes ahead on the dearest crate: the crates that it proved are told once, and where nothing is shared it is ended."""
+    """A second run goes ahead on the most expensive crate: the crates that it proved are reported once, and if nothing is shared it is
+    ended."""
     with scene() as it:
         it.write('crates/high/src/lib.rt', 'fn f() {}\nfn g() {}\n')
         it.say(**kept)
@@ -254,7 +255,7 @@ def build_ahead(kept, _program):
 
 
 def build_changed_meanwhile(_program):
-    """What is changed while it is proved is newer than the program."""
+    """A source that changes during the proof is newer than the program."""
     with scene() as it:
         it.say(slow='totem\n', seconds='1')
         first = it.start('prove')
@@ -268,14 +269,14 @@ def build_changed_meanwhile(_program):
 # ---- what stops both
 
 def stop_without_rt(words, _program):
-    """Without `rt` nothing is begun."""
+    """Without `rt` nothing begins."""
     with scene() as it:
         paths = it.environment['PATH'].split(':')[1:]
         return differs(it.run(*words, PATH=':'.join(paths)), 70, '', 'totem: the command rt of the Rattle kit is not in the PATH')
 
 
 def stop_at_kit(words, version, _program):
-    """A kit of another logic is refused, and both logics are told."""
+    """A kit of another logic is refused, and the message names both logics."""
     with scene() as it:
         it.say(version=version)
         came = it.run(*words)
@@ -283,14 +284,14 @@ def stop_at_kit(words, version, _program):
 
 
 def stop_for_want(words, name, what, _program):
-    """Too little memory or disk is told, with how much there is and is wanted."""
+    """Too little memory or disk is reported, with how much there is and how much is needed."""
     with scene() as it:
         came = it.run(*words, **{name: '999999999'})
         return differs(came, 70, '', 'totem: too little ' + what, 'MB are free', '999999999') or (it.told('calls') != ['version'] and 'it was begun')
 
 
 def stop_at_word(words, name, _program):
-    """A want that is no number is refused."""
+    """A requirement that is not a number is refused."""
     with scene() as it:
         return differs(it.run(*words, **{name: 'many'}), 70, '', name + '=many is no number')
 
@@ -298,7 +299,7 @@ def stop_at_word(words, name, _program):
 # ---- a release
 
 def release(_program):
-    """The archive has the program, the examples, the lines of what was proved, and sums that are right."""
+    """The archive has the program, the examples, the lines of what was proved, and correct checksums."""
     with scene() as it:
         it.write('examples/first.run', 'totem-run 1\nend\n')
         # (`strip` takes no script)

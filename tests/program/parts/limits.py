@@ -1,4 +1,4 @@
-"""Runs and certificates at their limits, and which refusal comes first there."""
+"""Runs and certificates at their limits, and which refusal takes precedence there."""
 from functools import partial
 
 from harness import process
@@ -9,31 +9,31 @@ SECONDS = 60
 
 
 def of_entries(count, last, ending):
-    """A run whose log has so many entries, the last of them this one, and then this ending."""
+    """A run whose log has this many entries, the last of them this one, and then this ending."""
     sends = ''.join('send r4.1 a 4.1#%d\n' % number for number in range(1, count - 1))
     return 'totem-run 1\nlog 1\nconf r4.1 1\n%s%s%s' % (sends, last, ending)
 
 
 def of_logs(count):
-    """A run of so many processes that are each alone, without its last line."""
+    """A run of this many processes, each of them alone, without its last line."""
     return 'totem-run 1\n' + ''.join(
         'log %d\nconf r4.%d %d\nopen\n' % (number, number, number) for number in range(1, count + 1))
 
 
 def members(*numbers):
-    """A run whose first change has these members, and nothing behind it."""
+    """A run whose first change has these members, and nothing after it."""
     return 'totem-run 1\nlog 1\nconf r4.1 %s' % ' '.join(map(str, numbers))
 
 
 def certified(lines):
-    """A run of 32 logs with a certificate of these lines, and nothing behind them."""
+    """A run of 32 logs with a certificate of these lines, and nothing after them."""
     return of_logs(MOST_LOGS) + 'end\ntotem-cert 1\n' + lines
 
 
 SEND = 'send r4.1 a 4.1#4000000\n'
 FAILURE = 'fail r4.1\n'
 POSITIONS = ''.join('pos %d %d\n' % (number, number) for number in range(1, MOST_LOGS + 1))
-# What the text is, the text, the words, and what is wrong with it.
+# What the text is, the text, the arguments, and what is wrong with it.
 REFUSED = (
     ('a million entries and the first byte of a failure', partial(of_entries, MOST_ENTRIES, SEND, 'f'),
      'audit', 'run refused: 8 TooMany'),
@@ -53,7 +53,7 @@ REFUSED = (
     ('a 33rd line of positions', partial(certified, POSITIONS + 'pos 5 1\n'), 'check', 'certificate unreadable: 6 TooMany'),
     ('32 lines of positions, cut', partial(certified, POSITIONS), 'check', 'certificate unreadable: 5 Truncated'),
 )
-# What the text is, the text, the words, and the statuses that it may have.
+# What the text is, the text, the arguments, and the statuses that it may have.
 TAKEN = (
     ('a million entries, the last a failure', partial(of_entries, MOST_ENTRIES, FAILURE, 'failed\nend\n'), 'audit', (0, 1)),
     ('32 logs', lambda: of_logs(MOST_LOGS) + 'end\n', 'audit', (0,)),
@@ -62,7 +62,7 @@ TAKEN = (
 
 
 def try_refused(make, verb, wanted, program):
-    """The program refuses a text so."""
+    """The program refuses a text with this fault."""
     came, _ = process.run([program, verb], make().encode(), seconds=SECONDS)
     line = b'totem: %s\n' % wanted.encode()
     return None if (came.status, came.output, came.errors) == (2, b'', line) else 'came: %s\n  wanted: %r' % (came, line)

@@ -1,4 +1,4 @@
-"""What `tools/logs join` adds, moves, numbers anew and cuts."""
+"""What `tools/logs join` adds, moves, renumbers and cuts."""
 import os
 import tempfile
 from functools import partial
@@ -6,7 +6,7 @@ from functools import partial
 from harness import process
 from parts.joined import EXAMPLES, join, join_files, try_folder, try_refused, write_files
 
-# Folders to whose members lives are added.
+# Folders whose members get lives.
 LIVES = {
     'the life whose log changes to the configuration': (
         '--lives',
@@ -48,7 +48,7 @@ LIVES = {
         'logs: r4.1: lives 1 and 2 of process 1 change to it: a ring came again\n'),
 }
 TWO_LIVES = {'1.log': 'conf r3.1 1\nconf t4.1/1 1\nconf r4.1 1 2\n', '2.1.log': 'conf r5.2 2\n', '2.2.log': 'conf r6.2 2\n'}
-# Folders whose lives are not told: the words, the files, and what is said.
+# Folders whose lives can't be found: the arguments, the files, and the messages.
 UNKNOWN = {
     'a member of whom no life is known': (
         '--lives', TWO_LIVES,
@@ -69,39 +69,39 @@ UNKNOWN = {
         '/times, line 2: life 2:2 starts before life 2:1 has started and ended\n'),
     'a clock in which a life changes before it starts': (
         '--lives --clock FOLDER/times', {**TWO_LIVES, 'times': '2 start 2:1\n1 conf r5.2\n'},
-        '/times, line 2: r5.2 is changed to before 2:1 starts, whose log changes to it\n'),
+        '/times, line 2: r5.2 is before the start of 2:1, whose log changes to it\n'),
     'a clock in which a life changes behind its end': (
         '--lives --clock FOLDER/times', {**TWO_LIVES, 'times': '2 start 2:1\n3 end 2:1\n4 conf r5.2\n'},
-        '/times, line 3: r5.2 is changed to after 2:1 has ended, whose log changes to it\n'),
+        '/times, line 3: r5.2 is after the end of 2:1, whose log changes to it\n'),
     'a member that the call names and is known': ('--lives --member r5.2=2:2', TWO_LIVES, 'logs: --member r5.2=2:2: '),
     'members that have lives already': ('--lives', {'1.1.log': 'conf r4.1 1:1\n'}, '1.1.log, line 1: a member has a life already'),
 }
 
 ONE_OTHER = 'conf r4.1 1 2\ndlv r4.1 4.1#1\n'
-# Folders whose sends are put in front of their own deliveries.
+# Folders whose sends are moved to just before the own deliveries.
 SENDS = {
     'a message that went out two configurations later': (
         '--own-sends', {'1.log': 'conf r4.1 1\nsend r4.1 s 4.1#1\nconf t8.1/1 1\nconf r8.1 1\ndlv r8.1 4.1#1\n'},
         'totem-run 1\nlog 1\nconf r4.1 1\nconf t8.1/1 1\nconf r8.1 1\nsend r8.1 s 4.1#1\ndlv r8.1 4.1#1\nopen\nend\n',
-        'logs: 1.log: sends that stand in front of their own deliveries: 1\n'),
+        'logs: 1.log: sends moved to just before their own deliveries: 1\n'),
     'a send that was recorded behind the delivery': (
         '--own-sends', {'1.log': 'conf r4.1 1\ndlv r4.1 4.1#1\nsend r4.1 a 4.1#1\n'},
         'totem-run 1\nlog 1\nconf r4.1 1\nsend r4.1 a 4.1#1\ndlv r4.1 4.1#1\nopen\nend\n',
-        'logs: 1.log: sends that stand in front of their own deliveries: 1\n'),
+        'logs: 1.log: sends moved to just before their own deliveries: 1\n'),
     'a delivery behind the transitional change': (
         '--own-sends', {'1.log': 'conf r4.1 1\nsend r4.1 a 4.1#1\nsend r4.1 a 4.1#2\ndlv r4.1 4.1#1\nconf t8.1/1 1\ndlv t8.1/1 4.1#2\n'},
         'totem-run 1\nlog 1\nconf r4.1 1\nsend r4.1 a 4.1#1\ndlv r4.1 4.1#1\nsend r4.1 a 4.1#2\nconf t8.1/1 1\ndlv t8.1/1 4.1#2\n'
         'open\nend\n',
-        'logs: 1.log: sends that stand in front of their own deliveries: 1\n'
-        'logs: 1.log: sends at the end of r4.1, since it delivered the messages behind it or not at all: 1 (4.1#2)\n'),
+        'logs: 1.log: sends moved to just before their own deliveries: 1\n'
+        'logs: 1.log: sends moved to the end of r4.1, since it delivered the messages after it or not at all: 1 (4.1#2)\n'),
     'a send that was recorded behind the transitional change': (
         '--own-sends', {'1.log': 'conf r4.1 1\nconf t8.1/1 1\nsend r4.1 a 4.1#1\ndlv t8.1/1 4.1#1\n'},
         'totem-run 1\nlog 1\nconf r4.1 1\nsend r4.1 a 4.1#1\nconf t8.1/1 1\ndlv t8.1/1 4.1#1\nopen\nend\n',
-        'logs: 1.log: sends at the end of r4.1, since it delivered the messages behind it or not at all: 1 (4.1#1)\n'),
+        'logs: 1.log: sends moved to the end of r4.1, since it delivered the messages after it or not at all: 1 (4.1#1)\n'),
     'what a process that failed never delivered, and another one did': (
         '--own-sends', {'1.log': 'conf r4.1 1 2\nsend r4.1 a 4.1#1\nsend r4.1 a 4.1#2\nfail r4.1\n', '2.log': ONE_OTHER},
         'totem-run 1\nlog 1\nconf r4.1 1 2\nsend r4.1 a 4.1#1\nfail r4.1\nfailed\nlog 2\nconf r4.1 1 2\ndlv r4.1 4.1#1\nopen\nend\n',
-        'logs: 1.log: sends at the end of r4.1, since it delivered the messages behind it or not at all: 1 (4.1#1)\n'
+        'logs: 1.log: sends moved to the end of r4.1, since it delivered the messages after it or not at all: 1 (4.1#1)\n'
         'logs: 1.log: sends that are left out, since nobody delivered the messages: 1 (4.1#2)\n'),
     'what others delivered where the sender never was': (
         '--own-sends', {'1.log': 'conf r3.1 1\nsend r3.1 a 4.1#1\n', '2.log': ONE_OTHER},
@@ -110,11 +110,11 @@ SENDS = {
     'a message that was sent twice stays so': (
         '--own-sends', {'1.log': 'conf r4.1 1\nsend r4.1 a 4.1#1\nsend r4.1 s 4.1#1\ndlv r4.1 4.1#1\ndlv r4.1 4.1#1\n'},
         'totem-run 1\nlog 1\nconf r4.1 1\nsend r4.1 a 4.1#1\nsend r4.1 s 4.1#1\ndlv r4.1 4.1#1\ndlv r4.1 4.1#1\nopen\nend\n',
-        'logs: 1.log: sends that stand in front of their own deliveries: 1\n'),
+        'logs: 1.log: sends moved to just before their own deliveries: 1\n'),
 }
 
 LARGE = 4294967300
-# Folders whose processes and rings are numbered anew.
+# Folders whose processes and rings are renumbered.
 NUMBERS = {
     'processes of 32 bits, and rings past their range': (
         '--renumber --failed 33686018',
@@ -160,15 +160,15 @@ TRIMMED = {
         '--trim', LOST_TAIL,
         'totem-run 1\nlog 1\nconf r4.1 1 2\ndlv r4.1 4.1#1\nconf t8.1/1 1 2\nconf r8.1 1 2\nopen\n'
         'log 2\nconf r4.1 1 2\nsend r4.1 a 4.1#1\ndlv r4.1 4.1#1\nconf t8.1/1 1 2\nconf r8.1 1 2\nopen\nend\n',
-        'logs: 1.log: entries that are left out behind its change to r8.1: 1\n'),
+        'logs: 1.log: entries left out after its change to r8.1: 1\n'),
     'a process that failed is not waited for': (
         '--trim', {'1.log': 'conf r4.1 1 2\nconf t8.1/1 1\nconf r8.1 1\ndlv r8.1 8.1#1\n', '2.log': 'conf r4.1 1 2\nfail r4.1\n'},
         'totem-run 1\nlog 1\nconf r4.1 1 2\nconf t8.1/1 1\nconf r8.1 1\nopen\nlog 2\nconf r4.1 1 2\nfail r4.1\nfailed\nend\n',
-        'logs: 1.log: entries that are left out behind its change to r8.1: 1\n'),
+        'logs: 1.log: entries left out after its change to r8.1: 1\n'),
     'one that is still there is': (
         '--trim', {'1.log': 'conf r4.1 1 2\nconf t8.1/1 1\nconf r8.1 1\n', '2.log': 'conf r4.1 1 2\n'},
         'totem-run 1\nlog 1\nconf r4.1 1 2\nopen\nlog 2\nconf r4.1 1 2\nopen\nend\n',
-        'logs: 1.log: entries that are left out behind its change to r4.1: 2\n'),
+        'logs: 1.log: entries left out after its change to r4.1: 2\n'),
 }
 NOT_CUT = {
     'no change in common': (
@@ -180,7 +180,7 @@ NOT_CUT = {
 
 
 def try_cut(words, files, wanted, told, _program):
-    """These files are cut into these parts, and this is told; nothing is written to the output."""
+    """These files are cut into these parts, with these messages; nothing is written to the output."""
     with tempfile.TemporaryDirectory() as folder:
         write_files(folder, files)
         made = os.path.join(folder, 'parts')
@@ -196,7 +196,7 @@ def try_cut(words, files, wanted, told, _program):
 
 
 def try_table(_program):
-    """The table of numbers is written whole, also where only its first lines are told."""
+    """The table of numbers is written whole, even if only its first lines are printed."""
     with tempfile.TemporaryDirectory() as folder:
         write_files(folder, {'%d.log' % (70000 + number): 'conf r4.70001 70001\n' for number in range(1, 26)})
         table = os.path.join(folder, 'table')
@@ -210,7 +210,7 @@ def try_table(_program):
 
 
 def try_nothing_made(_program):
-    """Where logs can't be cut no folder is made."""
+    """If logs can't be cut, no folder is made."""
     with tempfile.TemporaryDirectory() as folder:
         write_files(folder, {'1.log': 'conf r4.1 1\n\n'})
         came = join(['--cut', os.path.join(folder, 'parts')], folder)
@@ -218,18 +218,18 @@ def try_nothing_made(_program):
     return None if came.status == 1 and left == ['1.log'] else 'came: %s, and %r' % (came, left)
 
 
-# Folders of the examples that are refused as they stand: the words, and what is told (docs/OWN-LOGS.md).
+# Folders of the examples that are refused as they are: the arguments, and the messages (docs/OWN-LOGS.md).
 ASKED = {
     'first-callback': ('', 'logs: 1.log, line 1: a change has members: conf t5.1/1 (a first callback that names none is left out)\n'),
     'lives': ('--lives', 'logs: 1.1.log, line 3: which life of 2 is a member of r8.1? No log of it changes there: 2:1 or 2:2 or 2:3\n'
               '  Say each by --member CONFIGURATION=P:L, or give the times of the lives by --clock FILE\n'),
-    'large-numbers': ('', 'logs: 167772161.log: process 167772161 is past 65535; --renumber numbers processes anew\n'),
+    'large-numbers': ('', 'logs: 167772161.log: process 167772161 is past 65535; --renumber renumbers processes\n'),
     'ring-again': ('', 'logs: 1.1.log, line 1: a member has no life, and the name of the file has one: --lives adds lives to members\n'),
 }
 
 
 def try_asked(folder, words, told, _program):
-    """A folder of the examples is refused, with these words."""
+    """A folder of the examples is refused, with this message."""
     came = join(words.split(), os.path.join(EXAMPLES, 'logs', folder))
     return None if came == process.Answer(1, b'', told.encode()) else 'came: %s\n  wanted: %r' % (came, told)
 
@@ -249,8 +249,8 @@ def try_parts(program):
 
 
 def long_logs(rings, members, is_moved):
-    """Two logs with 20,000 messages of the second process, half of them delivered on each of two rings. Their sends stand where the first
-    ring begins, or each in front of the own delivery."""
+    """Two logs with 20,000 messages of the second process, half of them delivered on each of two rings. Their sends are where the first
+    ring begins, or each just before the own delivery."""
     half = 10000
     names = ['%d.1#%d' % (rings[0], number) for number in range(1, 2 * half + 1)]
     start = 'conf r%d.1 %s\n' % (rings[0], members)
@@ -264,7 +264,7 @@ def long_logs(rings, members, is_moved):
 
 
 def try_long(_program):
-    """Logs of many blocks: the sends are moved, and processes and rings numbered anew."""
+    """Logs of many blocks: the sends are moved, and processes and rings renumbered."""
     first, second = long_logs((4300000000, 4300000004), '1 70000', False)
     came = join_files('--own-sends --renumber', {'1.log': first, '70000.log': second})
     wanted = 'totem-run 1\nlog 1\n%sopen\nlog 2\n%sopen\nend\n' % long_logs((1, 2), '1 2', True)
@@ -272,7 +272,7 @@ def try_long(_program):
 
 
 def mended():
-    """Lives that are added, sends that are moved, numbers that are made anew, logs that are cut."""
+    """Added lives, moved sends, new numbers, cut logs."""
     for folders in (LIVES, SENDS, NUMBERS, TRIMMED):
         for what, (words, files, wanted, told) in folders.items():
             yield what, partial(try_folder, words, files, wanted, told)
@@ -289,7 +289,7 @@ def mended():
         try_cut, '--entries 3', {'1.log': 'conf r4.1 1\nconf t8.1/1 1\nconf r8.1 1\nconf t4.1/1 1\nconf r4.1 1\n'},
         ['totem-run 1\nlog 1\nconf r4.1 1\nconf t8.1/1 1\nconf r8.1 1\nopen\nend\n',
          'totem-run 1\nlog 1\nconf r8.1 1\nconf t4.1/1 1\nconf r4.1 1\nopen\nend\n'],
-        'logs: 1.log: changes to r4.1, which stands in part 1 too: a name came again, and no part shows it\n')
+        'logs: 1.log: changes to r4.1, which is also in part 1: a name came again, and no part shows it\n')
     for folder, (words, told) in ASKED.items():
         yield 'the folder %s' % folder, partial(try_asked, folder, words, told)
     yield 'parts that are judged', try_parts

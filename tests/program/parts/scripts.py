@@ -4,7 +4,7 @@ from functools import partial
 from harness import process
 
 OF_32 = ' '.join(str(number) for number in range(1, 33))
-# Scripts, what is wrong with each, and the line that is told.
+# Scripts, what is wrong with each, and the line that is named.
 BROKEN = (
     ('totem-script 3\nend\n', '1 Header', 1),
     ('totem-script 1', '8 Truncated', 1),
@@ -38,7 +38,7 @@ LONG = 'totem-script 1\nring 4.1 1 2 345\n' + 'join\n' * 13100
 
 
 def try_broken(script, kind, line, program):
-    """A script is refused in this line. `sim` tells what is wrong, `explain` the line too."""
+    """A script is refused in this line. `sim` says what is wrong, `explain` also shows the line."""
     wanted = 'totem: script refused: %s\n' % kind
     made, _ = process.run([program, 'sim'], script.encode())
     told, _ = process.run([program, 'explain', '--script'], script.encode())
@@ -48,7 +48,7 @@ def try_broken(script, kind, line, program):
 
 
 def try_logs(script, count, program):
-    """A script makes a run of so many logs."""
+    """A script makes a run of this many logs."""
     made, _ = process.run([program, 'sim'], script.encode())
     is_right = made.status == 0 and made.output.count(b'\nlog ') == count
     return None if is_right else 'came: %s' % made

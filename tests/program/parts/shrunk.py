@@ -13,7 +13,7 @@ from parts.texts import EXAMPLES
 
 TOOLS = os.path.join(row_files.REPOSITORY, 'tools')
 
-# What becomes of the recording in which a message is delivered on two rings.
+# The small run of the recording in which a message is delivered on two rings.
 DELIVERED_TWICE = b"""totem-run 1
 log 1
 conf r4.1 1
@@ -24,7 +24,7 @@ dlv r8.1 8.1#1
 open
 end
 """
-# A run that breaks 3, 4 and 7.1, and what becomes of it where all three have to stay broken, or 3 alone.
+# A run that breaks 3, 4 and 7.1, and its small runs if all three have to stay broken, or only 3.
 THREE = b"""totem-run 1
 log 3
 conf r4.3 3 5 7
@@ -63,7 +63,7 @@ end
 """
 SMALL_OWN = b'totem-run 1\nlog 1\nconf r4.1 1\nsend r4.1 a 4.1#1\nconf t8.1/1 1\nconf r8.1 1\nopen\nend\n'
 YES = b'totem-run 1\nlog 1\nconf r4.1 1\nopen\nend\n'
-# What is refused: the words, the input, and what is said.
+# What is refused: the arguments, the input, and the message.
 REFUSED = {
     'a run that is a yes': ('', YES, 'shrink: the verdict on this run is yes'),
     'a run that is none': ('', b'totem-run 1\nlog 1\n', 'shrink: totem: run refused: 7 Truncated'),
@@ -74,7 +74,7 @@ REFUSED = {
     'a program that is missing': ('--program /no/such/program', YES, 'shrink: the program /no/such/program is not there'),
     'a file that is missing': ('/no/such/file', b'', 'shrink: /no/such/file: No such file or directory'),
 }
-# The first seeds: how many, what is told of them, and the scripts that they make.
+# The first seeds: how many, what is printed about them, and the scripts that they make.
 SEEDS = 120
 SEEN = b'120 runs: 21879 packets came, 180 rings were installed; 120 yes, 0 no\n'
 SCRIPTS = '235cf057428cbc520a059d6d847b71ccaf64d70d97c9acc2d1bc679ce090a1d4'
@@ -88,7 +88,7 @@ def call(tool, words, given=b'', output=subprocess.PIPE):
 
 
 def try_shrunk(words, given, wanted, told, program):
-    """A run becomes this one, and this is told of it."""
+    """A run becomes this one, with these messages."""
     came = call('shrink', [*words, '--jobs', '1', '--program', program], given)
     is_right = (came.status, came.output) == (0, wanted) and told in came.errors
     return None if is_right else 'came: %s\n  wanted: %r, and told %r' % (came, wanted, told)
@@ -103,21 +103,21 @@ def try_recording(program):
 
 
 def try_refused(words, given, said, program):
-    """What is refused is told in a line, with nothing written."""
+    """A refusal is one line, with nothing written."""
     came = call('shrink', [*words.split(), *([] if '--program' in words else ['--program', program])], given)
     is_right = (came.status, came.output, came.errors.count(b'\n')) == (1, b'', 1) and came.errors.startswith(said.encode())
     return None if is_right else 'came: %s\n  wanted: %r' % (came, said)
 
 
 def try_words(tool, words, _program):
-    """Words that ask for nothing that there is are told how the tool is called."""
+    """Usage errors get the usage."""
     came = call(tool, words.split())
     is_right = (came.status, came.output) == (64, b'') and came.errors.startswith(b'usage: %s ' % tool.encode())
     return None if is_right else 'came: %s' % came
 
 
 def try_full(program):
-    """Where the output takes no more, the status says so."""
+    """If the output accepts no more, the status says so."""
     with open('/dev/full', 'wb') as full:
         came = call('shrink', ['--program', program], THREE, output=full)
     return None if came.status == 4 and came.errors.endswith(b'shrink: write failed\n') else 'came: %s' % came
@@ -140,7 +140,7 @@ def try_seeds(_program):
 
 
 def try_interrupt(program):
-    """An interrupt ends a hunt, which tells what it has seen."""
+    """An interrupt ends a hunt, which prints what it has seen."""
     with tempfile.TemporaryDirectory() as kept:
         words = [os.path.join(TOOLS, 'hunt'), '--seeds', '0', '999999', '--keep', kept, '--jobs', '2', '--program', program]
         with subprocess.Popen(words, stdout=subprocess.PIPE, stderr=subprocess.PIPE, env=process.ENVIRONMENT) as hunt:

@@ -27,7 +27,7 @@ LONG = 20000
 
 
 def wanted_of(row):
-    """What a row wants, for a person."""
+    """What a row expects, for a person."""
     if row.answer:
         return str(row.answer)
     return 'status %d, output with %r, errors with %r' % (row.status, row.output_has, row.errors_have)
@@ -40,7 +40,7 @@ def try_row(row, program):
 
 
 def rows():
-    """Each row answers as it is written."""
+    """Each row gets the answer that it contains."""
     for name in row_files.names():
         for row in row_files.read_asked(name):
             yield '%s: totem %s' % (name, ' '.join(row.words)), partial(try_row, row)
@@ -64,7 +64,7 @@ def try_example_run(run, wanted, program):
 
 
 def of_two(count, order):
-    """A run in which process 1 sends so many messages, and delivers each at once; process 2 delivers them in this
+    """A run in which process 1 sends this many messages, and delivers each at once; process 2 delivers them in this
     order."""
     sent = ''.join('send r4.1 a 4.1#%d\ndlv r4.1 4.1#%d\n' % (number, number) for number in range(1, count + 1))
     delivered = ''.join('dlv r4.1 4.1#%d\n' % number for number in order)
@@ -80,7 +80,7 @@ def try_long(order, status, output, program):
 
 
 def long_runs():
-    """Runs of 20,000 messages, and of as many of which two are exchanged."""
+    """Runs of 20,000 messages, and of as many with two of them swapped."""
     numbers = list(range(1, LONG + 1))
     first = ' '.join(map(str, range(1, 2 * LONG + 2)))
     second = ' '.join(map(str, range(1, 2 * LONG + 2, 2)))
@@ -91,7 +91,7 @@ def long_runs():
 
 
 def examples():
-    """What scripts of the examples make, and their runs, are judged as it is written."""
+    """The runs that scripts of the examples make, and the runs of the examples, get the expected verdicts."""
     for script, wanted in AUDITS.items():
         yield script, partial(try_example, script, wanted)
     for run, wanted in REPORTS.items():

@@ -1,4 +1,4 @@
-"""Runs of nodes in threads. No two are alike, so what is wanted of them is what holds of each."""
+"""Runs of nodes in threads. No two are alike, so the tests check what holds for every run."""
 from collections import Counter
 from functools import partial
 
@@ -8,7 +8,7 @@ SECONDS = 60
 CERTIFICATE = b'totem-cert 1\n'
 # How many messages the clients submit in a run with the default number of ticks.
 SUBMITTED = 500
-# Words of runs, with each range's ends among them.
+# Arguments of runs, with the ends of each range among them.
 RUNS = (
     '', '--lose 10 --repeat 20 --hold 3', '--nodes 1 --ticks 80',
     '--nodes 8 --ticks 800 --seed 18446744073709551615', '--nodes 32 --ticks 80 --hold 255',
@@ -22,7 +22,7 @@ ROUGH = (
 SEEDS = range(1, 11)
 # Smooth runs whose ring is woven.
 WOVEN = ('', '--nodes 1', '--nodes 16 --ticks 800', '--nodes 32 --ticks 400', '--lose 100 --ticks 400')
-# Nodes, what the network does, and how many of ten messages have to be taken, and delivered by all.
+# Nodes, what the network does, and how many of ten messages have to be accepted, and delivered by all.
 DELIVERED = (
     (3, '', 9), (8, '', 9), (16, '', 9), (32, '', 9),
     (3, '--lose 1 --repeat 1', 8), (8, '--lose 1 --repeat 1', 8), (16, '--lose 1 --repeat 1', 8),
@@ -31,14 +31,14 @@ DELIVERED = (
 
 
 def made_by(program, words):
-    """Runs nodes in threads. The answer, and what is wrong with it."""
+    """Runs nodes in threads. Returns the answer, and what is wrong with it."""
     made, _ = process.run([program, 'run', *words.split()], seconds=SECONDS)
     return made, None if made.status == 0 and not made.errors else 'came: %s' % made
 
 
 def try_judged(words, program):
     """Makes a run, has it judged, and has the checker accept the certificate of a yes. A no is printed with its run,
-    for people to look at: threads may lose a node its ring at any moment."""
+    for people to look at: threads may cost a node its ring at any moment."""
     made, wrong = made_by(program, words)
     if wrong:
         return wrong
@@ -54,7 +54,7 @@ def try_judged(words, program):
 
 
 def in_all_weathers(command, tried):
-    """Short runs of each seed in each weather."""
+    """Short runs with each seed, over each kind of network."""
     for seed in SEEDS:
         for weather in ROUGH:
             words = '--ticks 240 --seed %d %s' % (seed, weather)
@@ -62,15 +62,15 @@ def in_all_weathers(command, tried):
 
 
 def judged():
-    """What threads recorded is read and judged."""
+    """What threads recorded can be read and judged."""
     for words in RUNS:
         yield 'totem run ' + words, partial(try_judged, words)
     yield from in_all_weathers('totem run ', try_judged)
 
 
 def try_delivered(nodes, weather, of_ten, program):
-    """Of ten messages that clients submit so many are sent, of ten that are sent so many are delivered by all nodes,
-    and these stay in one configuration where nothing is lost or held."""
+    """Enough of ten messages that clients submit are sent, and enough of ten that are sent are delivered by all nodes;
+    the nodes stay in one configuration if nothing is lost or held."""
     made, wrong = made_by(program, '--nodes %d %s' % (nodes, weather))
     if wrong:
         return wrong
@@ -102,8 +102,8 @@ def try_logs(program):
 
 
 def try_alone(program):
-    """Where each packet is lost, no ring forms, and no node delivers what another one sent. (A node that is alone sends
-    its token to itself over the network, too.)"""
+    """If each packet is lost, no ring forms, and no node delivers what another one sent. (A node that is alone also sends
+    its token to itself over the network.)"""
     made, wrong = made_by(program, '--ticks 2000 --lose 100')
     if wrong:
         return wrong
@@ -123,7 +123,7 @@ def logs():
 
 
 def read_weave(text):
-    """How many steps were woven, and what each member handed up. None if the text is no such text."""
+    """How many steps were woven, and what each member delivered to its node. None if the text has another form."""
     lines = text.split(b'\n')
     words = [line.split(b' ') for line in lines[:-2]]
     if lines[-2:] != [b'end', b''] or not words or words[0][0] != b'woven' or any(line[0] != b'handed' for line in words[1:]):
@@ -132,8 +132,8 @@ def read_weave(text):
 
 
 def what_is_wrong(handed, nodes):
-    """What is wrong with the lists that the members of ring 4.1 handed up. Of any two one begins the other, and each has the
-    numbers from 1 on."""
+    """What is wrong with the lists that the members of ring 4.1 delivered to their nodes. Of any two one must be a prefix of the
+    other, and each must have the numbers from 1 on."""
     if sorted(handed) != list(range(1, nodes + 1)):
         return 'members %s' % sorted(handed)
     longest = max(handed.values(), key=len)
@@ -143,7 +143,7 @@ def what_is_wrong(handed, nodes):
 
 
 def try_woven(words, program):
-    """The books of a run are woven. No call is left over: all nodes begin on ring 4.1, none comes back to it, and a packet
+    """Weaves the books of a run. No call is left over: all nodes begin on ring 4.1, none comes back to it, and a packet
     comes after it was sent, so the order in time is a schedule."""
     made, wrong = made_by(program, '--weave ' + words)
     told = read_weave(made.output)
