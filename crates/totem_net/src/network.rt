@@ -58,7 +58,6 @@ impl Network {
                 ports,
                 ways: Ways::new(alloc, nodes, fates)?,
                 turns: Turns::new(nodes, ticks),
-                in_pace: false,
                 asked: false,
                 awaited: 0,
                 logged: Logged::nothing(),

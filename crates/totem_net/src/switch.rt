@@ -2,7 +2,7 @@
 use crate::address::Address;
 use crate::delivery::Delivery;
 use crate::port::Port;
-use crate::progress::{Logged, Progress, Unwatched};
+use crate::progress::{Logged, Progress};
 use crate::sending::give;
 use crate::turn::Turn;
 use crate::turns::Turns;
@@ -24,8 +24,6 @@ pub struct Switch {
     pub(crate) ports: Vec<Port>,
     pub(crate) ways: Ways,
     pub(crate) turns: Turns,
-    /// Whether ticks wait for the nodes.
-    pub(crate) in_pace: bool,
     /// Whether the pacing thread waits for an answer.
     pub(crate) asked: bool,
     /// How many words the nodes have to deal with before the next tick comes.
@@ -36,31 +34,18 @@ pub struct Switch {
     pub(crate) first: Bytes,
 }
 
-/// How many words a node may still have to deal with when ticks wait for the nodes. A packet for a node that has so many is lost.
+/// How many words a node may still have to deal with. A packet for a node that has so many is lost.
 const ROOM: u64 = 64;
 
 impl Switch {
     /// Hands packets on and gives words, until the ticks are used up, a node ends at a fault, or nobody sends any more; then
-    /// gives each thread a stop word. Answers each tick at once. If memory is refused it stops the threads at once.
-    pub fn run<R: Wait>(self, rt: &R, alloc: Global) -> Result<(), AllocError> {
-        self.run_to_end(rt, alloc, &mut Unwatched)
-    }
-
-    /// Does the same in pace with the nodes (docs/PROTOCOL.md, "The network"). A tick comes once they have dealt with as many words
+    /// gives each thread a stop word. If memory is refused it stops the threads at once.
+    ///
+    /// Keeps pace with the nodes (docs/PROTOCOL.md, "The network"): a tick comes once they have dealt with as many words
     /// as they had left at the tick before, though with no more than there are nodes, and with all words of a turn. Each thread of
     /// a node has to tell of each word that it has dealt with, and that its node is gone if it ends at a fault. At each tick it
     /// tells how far the run is.
     pub fn run_in_pace<R: Wait, P: Progress>(
-        mut self,
-        rt: &R,
-        alloc: Global,
-        progress: &mut P,
-    ) -> Result<(), AllocError> {
-        self.in_pace = true;
-        self.run_to_end(rt, alloc, progress)
-    }
-
-    fn run_to_end<R: Wait, P: Progress>(
         mut self,
         rt: &R,
         alloc: Global,
@@ -136,11 +121,10 @@ impl Switch {
         Ok(())
     }
 
-    /// Hands a packet on. In pace, one for a node that has no room for it is lost.
+    /// Hands a packet on. One for a node that has no room for it is lost.
     fn hand_on<R: Wait>(&mut self, rt: &R, delivery: Delivery) -> Result<(), AllocError> {
-        let room = if self.in_pace { ROOM } else { u64::MAX };
         match self.port(delivery.to) {
-            Some(port) if port.left() < room => port.hand_on(rt, delivery.packet),
+            Some(port) if port.left() < ROOM => port.hand_on(rt, delivery.packet),
             _ => Ok(()),
         }
     }
@@ -151,10 +135,7 @@ impl Switch {
 
     /// Returns whether a tick comes. If the nodes have nothing left to deal with, the pacing thread's word brings it.
     fn is_due(&self) -> bool {
-        if self.in_pace {
-            return self.awaited == 0 && !self.has_turn() && (self.asked || self.left() > 0);
-        }
-        self.asked
+        self.awaited == 0 && !self.has_turn() && (self.asked || self.left() > 0)
     }
 
     /// Returns whether a node still has to deal with words of its turn.
@@ -167,9 +148,7 @@ impl Switch {
         if let Some(turn) = self.turns.tick() {
             self.give_turn(rt, turn)?;
         }
-        if self.in_pace {
-            self.awaited = self.left().min(self.ports.len() as u64);
-        }
+        self.awaited = self.left().min(self.ports.len() as u64);
         self.answer(rt)
     }
 

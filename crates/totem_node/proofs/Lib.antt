@@ -6,3 +6,4 @@ pub mod Entering
 pub mod Refusing
 pub mod Crowding
 pub mod Foretelling
+pub mod Visits

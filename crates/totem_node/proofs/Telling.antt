@@ -1,5 +1,5 @@
 -- Entries and steps that are written one after the other.
-use Rattle.std.proofs.Common.{◌≡◌, ℕ, ◌+◌, ◌<◌, ◌≤◌, List, [], ◌∷◌, ◌++◌, length, take, get_or, Bool, true, false, nat_le, nat_lt, filter, Option, None, Some, sym, ap, ◌∙◌, append_assoc, subst, arith}
+use Rattle.std.proofs.Common.{◌≡◌, ℕ, suc, refl, ◌+◌, ◌<◌, ◌≤◌, List, [], ◌∷◌, ◌++◌, length, take, get_or, Bool, true, false, nat_le, nat_lt, filter, Option, None, Some, sym, ap, ◌∙◌, append_assoc, arith}
 use Rattle.std.specs.Prelude.{unwrap_or}
 use Rattle.std.specs.List.{cons_option}
 use Rattle.std.proofs.lemmas.Bool.{cond-true, cond-false}
@@ -14,6 +14,7 @@ use Rattle.totem_packets.specs.declared.message.Message.{Message}
 use Rattle.totem_evs.specs.declared.entry.Entry.{Entry}
 use Rattle.totem_ring.specs.Rings.{Ring}
 use Rattle.totem_ring.specs.Visits.{numbered}
+use Rattle.totem_ring.specs.Steps.{given}
 use Rattle.totem_ring.proofs.Missing.{numbered_push}
 use Rattle.totem_recover.specs.Exchange.{Leaving, last_mark}
 use Rattle.totem_recover.specs.Finish.{delivery, deliveries, finish}
@@ -30,42 +31,68 @@ one_delivered x before now items ms i m far lt at put =
     ∙ ap (λ es. before ++ es) (sym (filter_map-append (delivery x) (take i ms) (m ∷ []))
     ∙ ap (deliveries x) (ap (λ k. take i ms ++ k ∷ []) at ∙ sym (take_more ms i m lt)))
 
-numbered_more : (s : Ring) (seq i : ℕ) (body : Body) → i < length s.waiting → body ≡ get_or s.waiting i body
-    → numbered s seq (take (i + 1) s.waiting) ≡ numbered s seq (take i s.waiting) ++ record { ring = s.ring; number = (seq + i) + 1; sender = s.me; body = body } ∷ []
-numbered_more s seq i body lt at =
-    let count : length (take i s.waiting) ≡ i = length-take-le i s.waiting (omega (arith, lt)) in
-    ap (numbered s seq) (take_more s.waiting i body lt ∙ ap (λ b. take i s.waiting ++ b ∷ []) (sym at))
-    ∙ numbered_push s seq (take i s.waiting) body
-    ∙ ap (λ n. numbered s seq (take i s.waiting) ++ record { ring = s.ring; number = (seq + n) + 1; sender = s.me; body = body } ∷ []) count
+numbered_more : (s : Ring) (seq i : ℕ) (bodies : List Body) (body : Body) → i < length bodies → body ≡ get_or bodies i body
+    → numbered s seq (take (i + 1) bodies) ≡ numbered s seq (take i bodies) ++ record { ring = s.ring; number = (seq + i) + 1; sender = s.me; body = body } ∷ []
+numbered_more s seq i bodies body lt at =
+    let count : length (take i bodies) ≡ i = length-take-le i bodies (omega (arith, lt)) in
+    ap (numbered s seq) (take_more bodies i body lt ∙ ap (λ b. take i bodies ++ b ∷ []) (sym at))
+    ∙ numbered_push s seq (take i bodies) body
+    ∙ ap (λ n. numbered s seq (take i bodies) ++ record { ring = s.ring; number = (seq + n) + 1; sender = s.me; body = body } ∷ []) count
 
 -- one sending more, if the body has one
-one_sent : (s : Ring) (seq i number : ℕ) (body : Body) (entries : List Entry)
-    → entries ≡ sends (Regular s.ring) (numbered s seq (take i s.waiting)) → number ≡ seq + i → i < length s.waiting → body ≡ get_or s.waiting i body
-    → entries ++ cons_option (send_of (Regular s.ring) s.ring (number + 1) body) [] ≡ sends (Regular s.ring) (numbered s seq (take (i + 1) s.waiting))
-one_sent s seq i number body entries far count lt at =
+one_sent : (s : Ring) (seq i number : ℕ) (bodies : List Body) (body : Body) (before entries : List Entry)
+    → entries ≡ before ++ sends (Regular s.ring) (numbered s seq (take i bodies)) → number ≡ seq + i → i < length bodies → body ≡ get_or bodies i body
+    → entries ++ cons_option (send_of (Regular s.ring) s.ring (number + 1) body) [] ≡ before ++ sends (Regular s.ring) (numbered s seq (take (i + 1) bodies))
+one_sent s seq i number bodies body before entries far count lt at =
     let more : Message = record { ring = s.ring; number = (seq + i) + 1; sender = s.me; body = body } in
+    let sent : List Entry = sends (Regular s.ring) (numbered s seq (take i bodies)) in
     ap (λ n. entries ++ cons_option (send_of (Regular s.ring) s.ring (n + 1) body) []) count
     ∙ ap (λ es. es ++ sends (Regular s.ring) (more ∷ [])) far
-    ∙ sym (filter_map-append (send (Regular s.ring)) (numbered s seq (take i s.waiting)) (more ∷ []))
-    ∙ ap (sends (Regular s.ring)) (sym (numbered_more s seq i body lt at))
+    ∙ append_assoc before sent (sends (Regular s.ring) (more ∷ []))
+    ∙ ap (λ es. before ++ es) (sym (filter_map-append (send (Regular s.ring)) (numbered s seq (take i bodies)) (more ∷ []))
+    ∙ ap (sends (Regular s.ring)) (sym (numbered_more s seq i bodies body lt at)))
 
-pub some_sent : (s : Ring) (seq i number : ℕ) (body : Body) (waiting : List Body) (entries items : List Entry) (ring : RingName) (sent : Option Entry) (e : Entry)
-    → entries ≡ sends (Regular s.ring) (numbered s seq (take i s.waiting)) → number ≡ seq + i → waiting ≡ s.waiting → i < length waiting → body ≡ get_or waiting i body
+pub some_sent : (s : Ring) (seq i number : ℕ) (bodies : List Body) (body : Body) (before entries items : List Entry) (ring : RingName) (sent : Option Entry) (e : Entry)
+    → entries ≡ before ++ sends (Regular s.ring) (numbered s seq (take i bodies)) → number ≡ seq + i → i < length bodies → body ≡ get_or bodies i body
     → ring ≡ s.ring → sent ≡ send_of (Regular ring) ring (number + 1) body → sent ≡ Some e → items ≡ entries ++ e ∷ []
-    → items ≡ sends (Regular s.ring) (numbered s seq (take (i + 1) s.waiting))
-some_sent s seq i number body waiting entries items ring sent e far count whole lt at on gives is put =
+    → items ≡ before ++ sends (Regular s.ring) (numbered s seq (take (i + 1) bodies))
+some_sent s seq i number bodies body before entries items ring sent e far count lt at on gives is put =
     let shown : send_of (Regular s.ring) s.ring (number + 1) body ≡ Some e = sym (gives ∙ ap (λ r. send_of (Regular r) r (number + 1) body) on) ∙ is in
-    put ∙ sym (ap (λ o. entries ++ cons_option o []) shown)
-    ∙ one_sent s seq i number body entries far count (subst (λ w. i < length w) whole lt) (at ∙ ap (λ w. get_or w i body) whole)
+    put ∙ sym (ap (λ o. entries ++ cons_option o []) shown) ∙ one_sent s seq i number bodies body before entries far count lt at
 
-pub none_sent : (s : Ring) (seq i number : ℕ) (body : Body) (waiting : List Body) (entries : List Entry) (ring : RingName) (sent : Option Entry)
-    → entries ≡ sends (Regular s.ring) (numbered s seq (take i s.waiting)) → number ≡ seq + i → waiting ≡ s.waiting → i < length waiting → body ≡ get_or waiting i body
+pub none_sent : (s : Ring) (seq i number : ℕ) (bodies : List Body) (body : Body) (before entries : List Entry) (ring : RingName) (sent : Option Entry)
+    → entries ≡ before ++ sends (Regular s.ring) (numbered s seq (take i bodies)) → number ≡ seq + i → i < length bodies → body ≡ get_or bodies i body
     → ring ≡ s.ring → sent ≡ send_of (Regular ring) ring (number + 1) body → sent ≡ None
-    → entries ≡ sends (Regular s.ring) (numbered s seq (take (i + 1) s.waiting))
-none_sent s seq i number body waiting entries ring sent far count whole lt at on gives is =
+    → entries ≡ before ++ sends (Regular s.ring) (numbered s seq (take (i + 1) bodies))
+none_sent s seq i number bodies body before entries ring sent far count lt at on gives is =
     let shown : send_of (Regular s.ring) s.ring (number + 1) body ≡ None = sym (gives ∙ ap (λ r. send_of (Regular r) r (number + 1) body) on) ∙ is in
-    sym (append-nil entries) ∙ sym (ap (λ o. entries ++ cons_option o []) shown)
-    ∙ one_sent s seq i number body entries far count (subst (λ w. i < length w) whole lt) (at ∙ ap (λ w. get_or w i body) whole)
+    sym (append-nil entries) ∙ sym (ap (λ o. entries ++ cons_option o []) shown) ∙ one_sent s seq i number bodies body before entries far count lt at
+
+numbered_given : (s : Ring) (more : List Body) (seq : ℕ) (bodies : List Body) → numbered (given s more) seq bodies ≡ numbered s seq bodies
+numbered_given s more seq [] = refl
+numbered_given s more seq (b ∷ bs) = ap (λ ms. record { ring = s.ring; number = seq + 1; sender = s.me; body = b } ∷ ms) (numbered_given s more (seq + 1) bs)
+
+numbered_all : (s : Ring) (seq : ℕ) (front behind : List Body) → numbered s seq (front ++ behind) ≡ numbered s seq front ++ numbered s (seq + length front) behind
+numbered_all s seq [] behind =
+    let none : seq ≡ seq + 0 = omega arith in
+    ap (λ n. numbered s n behind) none
+numbered_all s seq (b ∷ bs) behind =
+    let same : (seq + 1) + length bs ≡ seq + suc (length bs) = omega arith in
+    ap (λ ms. record { ring = s.ring; number = seq + 1; sender = s.me; body = b } ∷ ms) (numbered_all s (seq + 1) bs behind
+    ∙ ap (λ (n : ℕ). numbered s (seq + 1) bs ++ numbered s n behind) same)
+
+-- what waited is sent, and then what was given
+pub all_sent : (s : Ring) (bodies waiting : List Body) (seq from : ℕ) (none front whole : List Entry)
+    → none ≡ [] → waiting ≡ s.waiting → from ≡ seq + length s.waiting
+    → front ≡ none ++ sends (Regular s.ring) (numbered s seq waiting) → whole ≡ front ++ sends (Regular s.ring) (numbered s from bodies)
+    → whole ≡ sends (Regular s.ring) (numbered (given s bodies) seq (s.waiting ++ bodies))
+all_sent s bodies waiting seq from none front whole none_is waiting_is from_is front_is whole_is =
+    let first : List Message = numbered s seq s.waiting in
+    whole_is
+    ∙ ap (λ es. es ++ sends (Regular s.ring) (numbered s from bodies)) (front_is ∙ ap (λ es. es ++ sends (Regular s.ring) (numbered s seq waiting)) none_is ∙ ap (λ w. sends (Regular s.ring) (numbered s seq w)) waiting_is)
+    ∙ ap (λ n. sends (Regular s.ring) first ++ sends (Regular s.ring) (numbered s n bodies)) from_is
+    ∙ sym (filter_map-append (send (Regular s.ring)) first (numbered s (seq + length s.waiting) bodies))
+    ∙ ap (sends (Regular s.ring)) (sym (numbered_given s bodies seq (s.waiting ++ bodies) ∙ numbered_all s seq s.waiting bodies))
 
 -- ---- chosen messages
 

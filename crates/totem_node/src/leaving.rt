@@ -151,7 +151,7 @@ pub(crate) fn visit_with_next(
     match NewVisit::of(alloc, recovery, installed, ring, visited) {
         Ok(visit) => Ok(visit),
         Err(e) => {
-            undo.take_back(ring);
+            ring.undo_visit(undo);
             Err(e.into())
         }
     }

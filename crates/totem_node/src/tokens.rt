@@ -1,8 +1,6 @@
 //! Tokens of the installed ring, and tokens that are sent again.
 ghost use Rattle.std.specs.Prelude.{◌≡◌, ◌++◌, Err, IfOk, IfSome};
 ghost use Rattle.totem_recover.specs.Finish.{deliveries};
-ghost use Rattle.totem_ring.specs.Refusals.{refusal_at_once};
-ghost use Rattle.totem_node.specs.Faults.{of_ring};
 ghost use Rattle.totem_node.specs.Visiting.{visit_told, visit_installed};
 ghost use Rattle.totem_node.specs.Answers.{IsTold, IsStep, IsResent};
 
@@ -37,7 +35,6 @@ fn tell_visit(conf: &ConfId, visited: Visited) -> Result<StepOut, AllocError>
 }
 
 /// Gives these bodies to a ring, lets it take a token that has come, and returns what a node tells of it.
-#[tactic(auto, using(crate::proofs::Refusing::visit_refused))]
 fn visit_told(
     alloc: Global,
     ring: &mut RingState,
@@ -46,15 +43,12 @@ fn visit_told(
 ) -> Result<StepOut, NodeFault>
     ensures { IsTold ring.old ring.new result (visit_told ring.old bodies.now token.now) }
 {
-    if let Some(fault) = ring.token_refusal_at_once(token) {
-        return Err(fault.into());
-    }
     let conf = ConfId::Regular(ring.ring());
     let (visited, undo) = visit_with(alloc, ring, bodies, token)?;
     match tell_visit(&conf, visited) {
         Ok(told) => Ok(told),
         Err(e) => {
-            undo.take_back(ring);
+            ring.undo_visit(undo);
             Err(e.into())
         }
     }

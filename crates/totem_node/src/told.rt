@@ -2,8 +2,9 @@
 ghost use Rattle.std.specs.Prelude.{◌≡◌, ◌+◌, ◌++◌, ◌<◌, ◌^◌, length, IfOk, OnOk};
 ghost use Rattle.totem_ids.specs.declared.conf.ConfId.TheVariants.{Regular};
 ghost use Rattle.totem_ring.specs.Visits.{numbered};
+ghost use Rattle.totem_ring.specs.Steps.{given};
 ghost use Rattle.totem_recover.specs.Finish.{deliveries};
-ghost use Rattle.totem_node.specs.Visiting.{message_steps, send_of, submits, visit_steps, visit_sends};
+ghost use Rattle.totem_node.specs.Visiting.{message_steps, send_of, sends, submits, visit_steps, visit_sends};
 
 use crate::ring_step::RingStep;
 use std::alloc::{AllocError, Global};
@@ -56,19 +57,41 @@ fn send(ring: RingId, number: u32, body: &Body) -> Option<Entry>
     }
 }
 
-/// Returns the sends of the waiting bodies, which get the numbers behind the token's `seq`.
-pub fn visit_sends(alloc: Global, ring: &RingState, token: &Token) -> Result<Vec<Entry>, AllocError>
-    requires { token.now.seq + length ring.now.waiting < 2 ^ 32 }
-    ensures { IfOk result (λ entries. entries.items ≡ visit_sends ring.now token.now) }
+/// Appends the sends of these bodies, which get the numbers behind `seq` on this ring.
+fn write_sends(
+    entries: &mut Vec<Entry>,
+    ring: &RingState,
+    seq: u32,
+    bodies: &[Body],
+) -> Result<(), AllocError>
+    requires { seq + length bodies.now < 2 ^ 32 }
+    ensures { OnOk result (entries.new.items ≡ entries.old.items ++ sends (Regular ring.now.ring) (numbered ring.now seq bodies.now)) }
 {
-    let mut entries = Vec::new(alloc);
-    let mut number = token.seq;
-    for body in ring.waiting() {
+    let mut number = seq;
+    for body in bodies {
         number += 1;
         if let Some(entry) = send(ring.ring(), number, body) {
             entries.push(entry)?;
         }
     }
+    Ok(())
+}
+
+/// Returns the sends of the bodies that wait on the ring, and of these, which get the numbers behind the token's `seq`.
+#[tactic(auto, using(crate::proofs::Telling::all_sent))]
+pub fn visit_sends(
+    alloc: Global,
+    ring: &RingState,
+    bodies: &[Body],
+    token: &Token,
+) -> Result<Vec<Entry>, AllocError>
+    requires { token.now.seq + (length ring.now.waiting + length bodies.now) < 2 ^ 32 }
+    ensures { IfOk result (λ entries. entries.items ≡ visit_sends (given ring.now bodies.now) token.now) }
+{
+    let mut entries = Vec::new(alloc);
+    let waiting = ring.waiting();
+    write_sends(&mut entries, ring, token.seq, waiting)?;
+    write_sends(&mut entries, ring, token.seq + waiting.len() as u32, bodies)?;
     Ok(entries)
 }
 

@@ -21,4 +21,4 @@ pub use outcome::{RingOut, To};
 pub use refusals::{MOST_WAITING, is_agreed, is_same_ring};
 pub use start::first_token;
 pub use state::RingState;
-pub use undo::RingUndo;
+pub use undo::{RingUndo, VisitUndo};

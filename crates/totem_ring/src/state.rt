@@ -7,7 +7,7 @@ use crate::fault::RingFault;
 use crate::held::Held;
 use crate::outcome::{RingOut, To};
 use crate::refusals::{MOST_WAITING, is_same_ring, place_of};
-use crate::undo::RingUndo;
+use crate::undo::{RingUndo, VisitUndo};
 use std::alloc::{AllocError, Global};
 use std::collections::BTreeMap;
 use std::marker::Model;
@@ -85,7 +85,7 @@ impl RingState {
     ghost use Rattle.totem_ring.specs.Steps.{given, submit, adopt, on_message, on_resend};
     ghost use Rattle.totem_ring.specs.Refusals.{message_refusal};
     ghost use Rattle.totem_ring.specs.Answers.{Answers, AnswersNothing};
-    ghost use Rattle.totem_ring.specs.Undoing.{AnswersUndoably, taken_back};
+    ghost use Rattle.totem_ring.specs.Undoing.{AnswersUndoably, taken_back, visit_taken_back};
     ghost use Rattle.totem_ring.specs.Invariant.{RisesFrom};
 
     /// Makes the state of a member of a new ring. The members are expected to rise strictly, with `me` among them.
@@ -172,8 +172,8 @@ impl RingState {
         Ok(())
     }
 
-    /// Lets these bodies wait for the next visit too, either all of them or none. How many wait is not limited here.
-    pub fn give(&mut self, bodies: &[Body]) -> Result<(), AllocError>
+    /// Lets these bodies wait for the visit that is about to come, either all of them or none. How many wait is not limited here.
+    fn give(&mut self, bodies: &[Body]) -> Result<(), AllocError>
         ensures { MatchResult result (λ u. self.new ≡ given self.old bodies.now) (λ e. self.new ≡ self.old) }
     {
         let waited = self.waiting.len();
@@ -285,6 +285,14 @@ impl RingState {
                 self.kept = kept;
             }
         }
+    }
+
+    /// Takes the last visit back, with the bodies that were given for it. `on_token_with` gives the undo.
+    pub fn undo_visit(&mut self, visit: VisitUndo)
+        ensures { self.new ≡ visit_taken_back visit self.old }
+    {
+        self.undo(visit.undo);
+        self.waiting.truncate(visit.waited);
     }
 
     pub fn try_clone(&self, alloc: Global) -> Result<RingState, AllocError>

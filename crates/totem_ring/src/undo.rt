@@ -30,3 +30,12 @@ pub enum RingUndo {
         kept: Option<Token>,
     },
 }
+
+/// What a visit has changed for which bodies were given to the ring. With it `RingState::undo_visit` takes the visit back, and
+/// the bodies too.
+#[derive(Debug, Drop)]
+pub struct VisitUndo {
+    pub(crate) undo: RingUndo,
+    /// How many bodies waited before others were given.
+    pub(crate) waited: usize,
+}

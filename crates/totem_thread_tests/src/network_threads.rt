@@ -7,19 +7,31 @@ use std::thread;
 use std::thread::Threads;
 use totem_ids::{ProcId, Service};
 use totem_net::{
-    ClientWord, Fates, Network, NodeEnds, Pacer, PacketWord, Plan, Start, Switch, ThreadEnd,
-    TimerWord,
+    ClientWord, Fates, Logged, Network, NodeEnds, Outlet, Pacer, PacketWord, Plan, Start, Switch,
+    ThreadEnd, TimerWord, Unwatched,
 };
+
+/// Tells the switch, if it is still there to be told, that a word has been dealt with.
+fn tell<R: Wait>(rt: &R, outlet: Option<&Outlet>) -> Result<(), AllocError> {
+    match outlet {
+        Some(outlet) => outlet.tell_done(rt, Logged::nothing()),
+        None => Ok(()),
+    }
+}
 
 /// Adds the packets that a receiving thread is given, and a full stop at its stop word.
 fn received<R: Wait>(
     rt: &R,
     words: &Receiver<PacketWord>,
+    outlet: Option<&Outlet>,
     all: &mut Vec<u8>,
 ) -> Result<(), AllocError> {
     for _ in rt.forever() {
         match words.recv(rt) {
-            Ok(PacketWord::Packet(packet)) => all.extend_from_slice(packet.as_slice())?,
+            Ok(PacketWord::Packet(packet)) => {
+                all.extend_from_slice(packet.as_slice())?;
+                tell(rt, outlet)?;
+            }
             Ok(PacketWord::Stop) => {
                 all.push(b'.')?;
                 break;
@@ -31,14 +43,13 @@ fn received<R: Wait>(
 }
 
 /// Adds as many letters `t` as a timer thread is given timers, and a full stop at its stop word.
-fn timed<R: Wait>(
-    rt: &R,
-    words: &Receiver<TimerWord>,
-    all: &mut Vec<u8>,
-) -> Result<(), AllocError> {
+fn timed<R: Wait>(rt: &R, end: &ThreadEnd<TimerWord>, all: &mut Vec<u8>) -> Result<(), AllocError> {
     for _ in rt.forever() {
-        match words.recv(rt) {
-            Ok(TimerWord::Timer) => all.push(b't')?,
+        match end.words.recv(rt) {
+            Ok(TimerWord::Timer) => {
+                all.push(b't')?;
+                tell(rt, Some(&end.outlet))?;
+            }
             Ok(TimerWord::Stop) => {
                 all.push(b'.')?;
                 break;
@@ -67,6 +78,7 @@ fn asked<R: Wait>(
             Ok(ClientWord::Submit(service)) => {
                 end.outlet.send_to_all(rt, Bytes::from_static(b"x"))?;
                 all.push(letter(service))?;
+                tell(rt, Some(&end.outlet))?;
             }
             Ok(ClientWord::Stop) => {
                 all.push(b'.')?;
@@ -117,7 +129,7 @@ fn all_received<R: Wait>(
 ) -> Result<Vec<u8>, AllocError> {
     let mut all = Vec::new(alloc);
     for words in words {
-        received(rt, words, &mut all)?;
+        received(rt, words, None, &mut all)?;
     }
     Ok(all)
 }
@@ -131,7 +143,7 @@ fn all_switched<R: Wait>(rt: &R, alloc: Global) -> Result<Vec<u8>, Fail> {
     } = network(alloc, 8)?;
     drop(pacer);
     let words = all_send(rt, alloc, nodes);
-    switch.run(rt, alloc)?;
+    switch.run_in_pace(rt, alloc, &mut Unwatched)?;
     Ok(all_received(rt, alloc, &words?)?)
 }
 
@@ -166,8 +178,11 @@ impl Given {
         };
         match self.part {
             Part::Client => asked(rt, &ends.client, &mut self.all),
-            Part::Timer => timed(rt, &ends.timer.words, &mut self.all),
-            Part::Receiving => received(rt, &ends.receiving.words, &mut self.all),
+            Part::Timer => timed(rt, &ends.timer, &mut self.all),
+            Part::Receiving => {
+                let end = &ends.receiving;
+                received(rt, &end.words, Some(&end.outlet), &mut self.all)
+            }
         }
     }
 
@@ -210,7 +225,7 @@ fn run_all<R: Threads + Wait + Sync>(
         rt,
         move |scope| -> Result<(), AllocError> {
             scope.spawn(move || pacer.run(rt))?;
-            let switching = scope.spawn(move || switch.run(rt, alloc))?;
+            let switching = scope.spawn(move || switch.run_in_pace(rt, alloc, &mut Unwatched))?;
             for one in threads {
                 scope.spawn(move || one.take(rt, nodes))?;
             }

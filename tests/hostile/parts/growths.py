@@ -5,7 +5,7 @@ from harness.sweep import MEMORY, Sweeper, always, one_of
 
 ROWS = (
     'one-message-delivered-by-both', 'empty-run', 'two-orders-of-two-messages', 'sent-and-open',
-    'sent-and-failed', 'partition-that-is-still-open', 'certificate-of-a-good-run',
+    'sent-and-failed', 'sent-and-moved-on', 'partition-that-is-still-open', 'certificate-of-a-good-run',
     'script-that-loses-a-message', 'script-that-parts-and-joins-a-ring', 'script-of-a-crash-in-recovery',
     'explained-yes', 'explained-no', 'explained-refusal', 'explained-script', 'drawn-yes', 'drawn-no',
 )

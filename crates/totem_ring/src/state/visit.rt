@@ -7,7 +7,7 @@ use crate::outcome::RingOut;
 use crate::refusals::{is_above, is_none_or_member, is_same_ring};
 use crate::requests::{Answered, answer, ask_missing};
 use crate::state::RingState;
-use crate::undo::RingUndo;
+use crate::undo::{RingUndo, VisitUndo};
 use std::alloc::{AllocError, Global};
 use std::mem;
 use totem_ids::ProcId;
@@ -21,7 +21,7 @@ impl RingState {
     ghost use Rattle.totem_ring.specs.Visits.{numbered};
     ghost use Rattle.totem_ring.specs.Departures.{IsDeparture, token_left};
     ghost use Rattle.totem_ring.specs.Answers.{Answers};
-    ghost use Rattle.totem_ring.specs.Undoing.{AnswersUndoably};
+    ghost use Rattle.totem_ring.specs.Undoing.{AnswersUndoably, AnswersGiven};
 
     /// Returns why a token is refused whatever waits here: it is of another ring, or was taken before.
     pub fn token_refusal_at_once(&self, token: &Token) -> Option<RingFault>
@@ -188,6 +188,30 @@ impl RingState {
             handed: departure.handed,
         };
         Ok((out, undo))
+    }
+
+    /// Takes the token that has come as if these bodies waited too, behind those that do. The undo that it gives can take the
+    /// visit back, and the bodies with it.
+    pub fn on_token_with(
+        &mut self,
+        alloc: Global,
+        bodies: &[Body],
+        token: &Token,
+    ) -> Result<(RingOut, VisitUndo), RingFault>
+        ensures { AnswersGiven result self.old self.new (on_token (given self.old bodies.now) token.now) }
+    {
+        if let Some(fault) = self.token_refusal_with(bodies, token) {
+            return Err(fault);
+        }
+        let waited = self.waiting.len();
+        self.give(bodies)?;
+        match self.on_token_with_undo(alloc, token) {
+            Ok((out, undo)) => Ok((out, VisitUndo { undo, waited })),
+            Err(fault) => {
+                self.waiting.truncate(waited);
+                Err(fault)
+            }
+        }
     }
 
     /// Takes the token that has come: broadcasts the messages that it asks for and those that wait, hands messages up,
