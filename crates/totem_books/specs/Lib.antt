@@ -6,3 +6,4 @@ pub mod Taking
 pub mod Faults
 pub mod Seats
 pub mod Receipts
+pub mod Journals

@@ -28,6 +28,10 @@ receipts_in seats = sum_by (λ (seat : SeatRecord). length seat.stubs) seats
 abbrev pub shares_in : List SeatRecord → ℕ
 shares_in seats = sum_by (λ (seat : SeatRecord). seat.share) seats
 
+-- no place has receipts of both
+pub record ShareNoPlace (these those : List Receipt) : Type 0 where
+  pub none : (place : ℕ) → 0 < count_at place these → count_at place those ≡ 0
+
 -- each seat's receipts fit the calls at rising places, and no two receipts are of one place
 pub record Agree (calls : List Called) (seats : List SeatRecord) : Type 0 where
   pub each : All (λ seat. FitRising calls 0 seat.stubs) seats

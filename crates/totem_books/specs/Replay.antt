@@ -49,7 +49,3 @@ pub record IsReplay (start : Start) (calls : List Called) (node : Node) (log : L
 pub record IsRecorded (start : Start) (calls : List Called) (log : List Entry) : Type 0 where
   pub log_is : log ≡ (replay start calls).entries
   pub replies_are : replies_of calls ≡ (replay start calls).replies
-
--- each call has the reply that the node gives to its input there
-abbrev pub IsPlayed : Start → List Called → Type 0
-IsPlayed start calls = replies_of calls ≡ (replay start calls).replies

@@ -1,8 +1,8 @@
 //! The end of a shared book, once its seats have come back.
-ghost use Rattle.std.specs.Prelude.{◌≡◌, ◌<◌, List, IfOk, IfErr, vec_len, length};
-ghost use Rattle.totem_books.specs.Calls.{Called};
-ghost use Rattle.totem_books.specs.Replay.{IsRecorded, IsPlayed};
+ghost use Rattle.std.specs.Prelude.{◌≡◌, ◌<◌, All, IfOk, IfErr, vec_len, length};
+ghost use Rattle.totem_books.specs.Replay.{IsRecorded};
 ghost use Rattle.totem_books.specs.History.{start_with};
+ghost use Rattle.totem_books.specs.Journals.{BeginWith};
 ghost use Rattle.totem_books.specs.Receipts.{Agree, Covers, receipts_in, shares_in};
 
 use crate::close_fault::CloseFault;
@@ -29,13 +29,13 @@ impl<L: BookName> SharedBook<L> {
         ensures receipts { IfOk result (λ b. length b.calls ≡ receipts_in seats.items) }
         ensures agree { IfOk result (λ b. Agree b.calls seats.items) }
         ensures covers { IfOk result (λ b. Covers b.calls seats.items) }
+        ensures seen { IfOk result (λ b. All (λ seat. BeginWith b.calls seat.seen) seats.items) }
         ensures start { IfOk result (λ b. b.start ≡ start_with L.me L.ring L.members) }
         ensures log { IfOk result (λ b. IsRecorded (start_with L.me L.ring L.members) b.calls b.log) }
         ensures back { IfErr result (λ e. e.seats.items ≡ seats.items) }
         ensures missing { IfErr result (λ e. e.fault ≡ CloseFault.SeatMissing → vec_len seats < L.parts) }
-        // Some calls, each answered as the node answers it, don't agree with the receipts.
-        ensures mismatch { IfErr result (λ e. e.fault ≡ CloseFault.ReceiptMismatch
-            → (calls : List Called) × IsPlayed (start_with L.me L.ring L.members) calls × (Agree calls seats.items → ⊥)) }
+        // The seats' receipts are those of the book's calls: their types keep it, with the journal.
+        ensures mismatch { IfErr result (λ e. e.fault ≡ CloseFault.ReceiptMismatch → ⊥) }
     {
         if (seats.len() as u64) < self.count.seats {
             return Err(CloseRefused {

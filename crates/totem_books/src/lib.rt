@@ -1,6 +1,7 @@
 //! Books: what a node was given and what it answered, call by call, and the receipts that the callers keep.
 #![tactic(auto)]
 
+mod blank;
 mod book;
 mod book_fault;
 mod call;
@@ -12,6 +13,7 @@ mod giving;
 mod kept;
 mod level;
 mod marks;
+mod meeting;
 mod name;
 mod receipts;
 mod reply;
@@ -20,6 +22,7 @@ mod settle;
 mod shared;
 mod stepping;
 
+pub use blank::Blank;
 pub use book::Book;
 pub use book_fault::BookFault;
 pub use call::{Call, Stub};

@@ -2,11 +2,13 @@
 use std::marker::Brand;
 use std::sync::ledger::Ledger;
 
-/// The name of a shared book: a ledger, and what the book's node begins with. It is a type of which no value is made; a
+/// The name of a shared book: a ledger, a journal, and what the book's node begins with. It is a type of which no value is made; a
 /// function that is generic over it is called at `Brand`.
 pub trait BookName: Ledger {
     ghost use Rattle.std.specs.Prelude.{ℕ, List};
     ghost use Rattle.totem_ids.specs.Names.{RingName};
+
+    ghost journal: { ℕ };
 
     ghost me: { ℕ };
 
@@ -17,6 +19,8 @@ pub trait BookName: Ledger {
 
 impl BookName for Brand {
     ghost use Rattle.std.specs.Prelude.{[]};
+
+    ghost journal = { 0 };
 
     ghost me = { 0 };
 

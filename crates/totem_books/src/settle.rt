@@ -1,18 +1,20 @@
 //! Compares the seats' receipts with what lay under the lock.
-ghost use Rattle.std.specs.Prelude.{◌≡◌, ◌<◌, ◌≤◌, IfOk, IfErr, vec_len, length};
+ghost use Rattle.std.specs.Prelude.{◌≡◌, ◌<◌, ◌≤◌, All, IfOk, IfErr, vec_len, length};
 ghost use Rattle.totem_books.specs.History.{start_with};
+ghost use Rattle.totem_books.specs.Journals.{BeginWith};
 ghost use Rattle.totem_books.specs.Receipts.{Agree, Covers, receipts_in, shares_in};
 
 use crate::close_fault::CloseFault;
 use crate::closed::ClosedBook;
 use crate::kept::Kept;
+use crate::meeting::meet_all;
 use crate::name::BookName;
 use crate::receipts::agree;
 use crate::seat::Seat;
 use std::alloc::Global;
 use std::sync::ledger::Share;
 
-/// What lay under the lock and the seats, given back because they don't agree or memory was refused.
+/// What lay under the lock and the seats, given back because memory was refused.
 #[derive(Drop)]
 pub struct Unsettled<L: BookName> {
     pub fault: CloseFault,
@@ -33,16 +35,25 @@ pub fn merged<L: BookName>(seats: Vec<Seat<L>>) -> Share<L>
     let Some(first) = seats.pop() else {
         unreachable!()
     };
-    let Seat { stubs: _, share } = first;
+    let Seat {
+        stubs: _,
+        share,
+        pen: _,
+    } = first;
     let mut all = share;
     while let Some(seat) = seats.pop() {
-        let Seat { stubs: _, share } = seat;
+        let Seat {
+            stubs: _,
+            share,
+            pen: _,
+        } = seat;
         all.merge(share);
     }
     all
 }
 
-/// Compares the seats' receipts with what lay under the lock, and closes the book if they agree.
+/// Compares the seats' receipts with what lay under the lock, and closes the book. That they agree is known before they are compared:
+/// the journal shows it.
 pub fn settle<L: BookName>(
     alloc: Global,
     kept: Kept<L>,
@@ -54,11 +65,13 @@ pub fn settle<L: BookName>(
     ensures receipts { IfOk result (λ b. length b.calls ≡ receipts_in seats.items) }
     ensures agree { IfOk result (λ b. Agree b.calls seats.items) }
     ensures covers { IfOk result (λ b. Covers b.calls seats.items) }
+    ensures seen { IfOk result (λ b. All (λ seat. BeginWith b.calls seat.seen) seats.items) }
     ensures start { IfOk result (λ b. b.start ≡ start_with L.me L.ring L.members) }
     ensures back { IfErr result (λ e. (e.kept.book ≡ kept.book) × (e.seats.items ≡ seats.items)) }
-    ensures mismatch { IfErr result (λ e. e.fault ≡ CloseFault.ReceiptMismatch → Agree kept.book.calls seats.items → ⊥) }
-    ensures present { IfErr result (λ e. e.fault ≡ CloseFault.SeatMissing → ⊥) }
+    ensures memory { IfErr result (λ e. e.fault ≡ CloseFault.Memory) }
 {
+    let (mut kept, mut seats) = (kept, seats);
+    meet_all(&mut kept, seats.as_mut_slice());
     match agree(alloc, kept.book.calls(), seats.as_slice()) {
         Ok(true) => {}
         Ok(false) => {
@@ -77,7 +90,11 @@ pub fn settle<L: BookName>(
         }
     }
     let mut all = merged(seats);
-    let Kept { book, mut total } = kept;
+    let Kept {
+        book,
+        mut total,
+        journal: _,
+    } = kept;
     total.audit(&mut all);
     Ok(book.into_closed())
 }

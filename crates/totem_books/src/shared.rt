@@ -1,9 +1,11 @@
 //! A book that threads share.
-ghost use Rattle.std.specs.Prelude.{◌≡◌, ◌<◌, ◌≤◌, ◌+◌, ℕ, [], ◌∷◌, ◌++◌, IfOk, OnOk, OnErr, vec_len, All};
+ghost use Rattle.std.specs.Prelude.{◌≡◌, ◌<◌, ◌≤◌, ◌+◌, [], ◌∷◌, ◌++◌, IfOk, IfErr, OnOk, OnErr, vec_len, length, All};
 ghost use Rattle.totem_evs.specs.Members.{IsMembers};
 ghost use Rattle.totem_books.specs.Replies.{answer_of};
-ghost use Rattle.totem_books.specs.History.{receipt};
+ghost use Rattle.totem_books.specs.History.{receipt, start_with, IsFull};
+ghost use Rattle.totem_books.specs.Journals.{book_of, BeginWith, IsAnswered};
 
+use crate::blank::Blank;
 use crate::book::Book;
 use crate::book_fault::BookFault;
 use crate::kept::Kept;
@@ -12,7 +14,7 @@ use crate::reply::Reply;
 use crate::seat::Seat;
 use std::alloc::{AllocError, Global};
 use std::marker::PhantomData;
-use std::sync::ledger::{Blank, Ledger};
+use std::sync::ledger::Ledger;
 use std::sync::{Mutex, Wait};
 use totem_ids::{Proc, RingId};
 use totem_node::Input;
@@ -27,7 +29,7 @@ pub(crate) struct Count<L: Ledger> {
 }
 
 /// A book that threads share, each by a seat of its own. While nobody has the lock, the log and the stored replies are
-/// the replay of the stored inputs, and the ledger counts the calls.
+/// the replay of the stored inputs, the ledger counts the calls, and the journal has their receipts.
 #[derive(Drop)]
 pub struct SharedBook<L: BookName> {
     pub(crate) lock: Mutex<Kept<L>>,
@@ -36,7 +38,7 @@ pub struct SharedBook<L: BookName> {
 
 impl<L: BookName> SharedBook<L> {
     /// Makes a book without calls, of a node that starts on this ring, and its seats: 1 to 64, one for each part of the
-    /// blank. If memory is refused the ledger ends.
+    /// blank. If memory is refused the ledger and the journal end.
     pub fn new(
         alloc: Global,
         blank: Blank,
@@ -46,21 +48,26 @@ impl<L: BookName> SharedBook<L> {
         seats: u64,
     ) -> Result<(SharedBook<L>, Vec<Seat<L>>), AllocError>
         requires ledger { (blank.name ≡ L.name) × (blank.parts ≡ L.parts) }
+        requires journal { blank.journal ≡ L.journal }
         requires start { (me ≡ L.me) × (ring ≡ L.ring) × (members.now ≡ L.members) }
         requires members { IsMembers members.now }
         requires seats { (seats ≡ L.parts) × (0 < seats) × (seats ≤ 64) }
         ensures count { IfOk result (λ r. vec_len r.1 ≡ seats) }
         ensures empty { IfOk result (λ r. All (λ seat. (seat.stubs ≡ []) × (seat.share ≡ 0)) r.1.items) }
     {
-        let (total, mut all) = blank.open::<L>();
+        let Blank { ledger, journal } = blank;
+        let (total, mut all) = ledger.open::<L>();
+        let mut journal = journal;
         let mut empty = Vec::new(alloc);
         for _ in 0..seats {
             let share = all.split_off(1, 0);
-            empty.push(Seat::new(alloc, share))?;
+            let pen = journal.pen();
+            empty.push(Seat::new(alloc, share, pen))?;
         }
         let kept = Kept {
             book: Book::new(alloc, me, ring, members)?,
             total,
+            journal,
         };
         let count = Count {
             seats,
@@ -70,7 +77,9 @@ impl<L: BookName> SharedBook<L> {
         Ok((SharedBook { lock, count }, empty))
     }
 
-    /// Waits for the lock, gives the node one input, and puts the receipt into the seat. At a fault the seat is unchanged.
+    /// Waits for the lock, gives the node one input, and puts the receipt into the seat. At a fault the seat's receipts are unchanged.
+    /// The calls that the seat has seen begin with those that it saw before. The reply is the node's behind all the others, and
+    /// `Long` comes where those calls fill the book.
     pub fn call(
         &self,
         rt: &impl Wait,
@@ -78,13 +87,16 @@ impl<L: BookName> SharedBook<L> {
         seat: &mut Seat<L>,
         input: Input,
     ) -> Result<Reply, BookFault>
-        ensures receipt { IfOk result (λ r. (at : ℕ) × (seat.new.stubs ≡ seat.old.stubs ++ receipt at input (answer_of r) ∷ [])) }
+        ensures answer { IfOk result (λ r. IsAnswered (start_with L.me L.ring L.members) seat.old.seen seat.new.seen input (answer_of r)) }
+        ensures receipt { IfOk result (λ r. seat.new.stubs ≡ seat.old.stubs ++ receipt (length seat.new.seen) input (answer_of r) ∷ []) }
         ensures share { OnOk result (seat.new.share ≡ seat.old.share + 1) }
-        ensures unchanged { OnErr result (seat.new ≡ seat.old) }
+        ensures unchanged { OnErr result ((seat.new.stubs ≡ seat.old.stubs) × (seat.new.share ≡ seat.old.share)) }
+        ensures seen { BeginWith seat.new.seen seat.old.seen }
+        ensures long { IfErr result (λ e. e ≡ BookFault.Long → IsFull (book_of (start_with L.me L.ring L.members) seat.new.seen)) }
     {
-        let Seat { stubs, share } = seat;
+        let Seat { stubs, share, pen } = seat;
         stubs.reserve(1)?;
-        let (stub, reply) = self.lock.lock(rt).apply(alloc, share, input)?;
+        let (stub, reply) = self.lock.lock(rt).apply(alloc, share, pen, input)?;
         stubs.push_reserved(stub);
         Ok(reply)
     }

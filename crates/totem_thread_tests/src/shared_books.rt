@@ -7,11 +7,12 @@ use std::alloc::{AllocError, Global};
 use std::fmt::Write;
 use std::marker::Brand;
 use std::sync::Wait;
-use std::sync::ledger::Blank;
 use std::test::*;
 use std::thread;
 use std::thread::Threads;
-use totem_books::{BookName, CloseFault, CloseRefused, ClosedBook, Reply, Seat, SharedBook, Stub};
+use totem_books::{
+    Blank, BookName, CloseFault, CloseRefused, ClosedBook, Reply, Seat, SharedBook, Stub,
+};
 use totem_evs::Members;
 use totem_node::Input;
 
@@ -216,6 +217,7 @@ fn live<L: BookName + Send + Sync, R: Threads + Wait + Sync>(
     life: &mut Life,
 ) -> Result<(), AllocError>
     requires ledger { (blank.name ≡ L.name) × (blank.parts ≡ L.parts) × (L.parts ≡ count) }
+    requires journal { blank.journal ≡ L.journal }
     requires seats { (0 < count) × (count ≤ 64) }
     requires start { (L.me ≡ first_rank 1) × (L.ring ≡ record { seq = 4; rep = 1 }) × (L.members ≡ members.now) }
 {

@@ -26,3 +26,14 @@ call_trouble fault = faults.Book (troubles.Call fault)
 abbrev pub close_trouble : CloseFault → ThreadsFault
 close_trouble close_faults.Memory = faults.Memory
 close_trouble fault = faults.Book (troubles.Close fault)
+
+-- a book is full, or its log is too long for a run. No other refusal of a book comes
+abbrev pub IsFullBook : BookTrouble → Type 0
+IsFullBook (troubles.Call book_faults.Long) = Unit {0}
+IsFullBook (troubles.Call book_faults.Memory) = ⊥
+IsFullBook (troubles.Close fault) = ⊥
+
+-- why there is no run: of all that a book can refuse, only that it is full; or memory or a thread was refused
+abbrev pub EndsRun : ThreadsFault → Type 0
+EndsRun (faults.Book trouble) = IsFullBook trouble
+EndsRun faults.Memory = Unit {0}

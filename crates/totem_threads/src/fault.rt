@@ -10,10 +10,10 @@ use totem_books::{BookFault, CloseFault};
 /// What a book refused, and why.
 #[derive(Clone, Copy, Debug, PartialEq, Eq, Error)]
 pub enum BookTrouble {
-    /// A call, or its log because that is too long for a run. Never with `BookFault::Memory`.
+    /// A call, or its log because that is too long for a run. From a run always with `BookFault::Long`.
     #[error("no further call is taken: {0}")]
     Call(BookFault),
-    /// To be closed. Never with `CloseFault::Memory`.
+    /// To be closed. No run ends so.
     #[error("it is not closed: {0}")]
     Close(CloseFault),
 }

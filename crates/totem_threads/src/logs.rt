@@ -1,6 +1,7 @@
 //! Makes a run of books.
-ghost use Rattle.std.specs.Prelude.{◌≡◌, ◌≢◌, ◌≤◌, IfOk, map, All};
+ghost use Rattle.std.specs.Prelude.{◌≡◌, ◌≢◌, ◌≤◌, IfOk, IfErr, map, All};
 ghost use Rattle.totem_evs.specs.Lives.{IsFirstVersion};
+ghost use Rattle.totem_threads.specs.Faults.{EndsRun};
 ghost use Rattle.totem_threads.specs.Starts.{starts};
 ghost use Rattle.totem_threads.specs.Books.{AreLogsOf, IsReplayed};
 
@@ -15,6 +16,7 @@ fn log_of(alloc: Global, book: &ClosedBook) -> Result<Log, ThreadsFault>
     ensures process { IfOk result (λ log. log.proc ≡ book.now.start.me) }
     ensures entries { IfOk result (λ log. log.entries ≡ book.now.log) }
     ensures loud { IfOk result (λ log. log.ending ≢ Ending.Quiet) }
+    ensures fault { IfErr result EndsRun }
 {
     match Entries::new(copied(alloc, book.log())?) {
         Ok(entries) => {
@@ -26,7 +28,8 @@ fn log_of(alloc: Global, book: &ClosedBook) -> Result<Log, ThreadsFault>
 }
 
 fn logs_of(alloc: Global, books: &[ClosedBook]) -> Result<Vec<Log>, ThreadsFault>
-    ensures { IfOk result (λ logs. AreLogsOf books.now logs.items) }
+    ensures logs { IfOk result (λ logs. AreLogsOf books.now logs.items) }
+    ensures fault { IfErr result EndsRun }
 {
     let mut logs = Vec::with_capacity(alloc, books.len())?;
     for book in books {
@@ -51,6 +54,7 @@ pub fn run_of(alloc: Global, nodes: u16, books: &[ClosedBook]) -> Result<Run, Th
     requires begun { map (λ b. b.start) books.now ≡ starts nodes }
     ensures logs { IfOk result (λ run. AreLogsOf books.now run.logs) }
     ensures version { IfOk result (λ run. IsFirstVersion run.version run.logs) }
+    ensures fault { IfErr result EndsRun }
 {
     match Run::of(logs_of(alloc, books)?) {
         Ok(run) => Ok(run),

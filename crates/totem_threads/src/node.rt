@@ -1,6 +1,7 @@
 //! A node's thread, which opens the node's book, runs three threads over it, and closes it.
-ghost use Rattle.std.specs.Prelude.{◌≡◌, ◌<◌, ◌≤◌, IfOk, vec_len};
+ghost use Rattle.std.specs.Prelude.{◌≡◌, ◌<◌, ◌≤◌, IfOk, IfErr, vec_len};
 ghost use Rattle.totem_recover.specs.Lives.{first_rank};
+ghost use Rattle.totem_threads.specs.Faults.{EndsRun};
 ghost use Rattle.totem_threads.specs.Starts.{first_ring, start_of};
 
 use crate::fault::ThreadsFault;
@@ -9,10 +10,9 @@ use crate::serving::{receive, serve};
 use std::alloc::Global;
 use std::marker::Brand;
 use std::sync::Wait;
-use std::sync::ledger::Blank;
 use std::thread;
 use std::thread::Threads;
-use totem_books::{BookFault, BookName, ClosedBook, Seat, SharedBook};
+use totem_books::{Blank, BookFault, BookName, ClosedBook, Seat, SharedBook};
 use totem_evs::Members;
 use totem_ids::Proc;
 use totem_net::{NodeEnds, Outlet, Start};
@@ -45,6 +45,7 @@ fn serve_all<L: BookName + Send + Sync, S: Start, R: Threads + Wait + Sync>(
     start: &S,
 ) -> Result<Vec<Seat<L>>, BookFault>
     requires { vec_len seats ≡ 3 }
+    ensures { IfOk result (λ back. vec_len back ≡ 3) }
 {
     let (first, second, third) = three(seats);
     let NodeEnds {
@@ -56,7 +57,9 @@ fn serve_all<L: BookName + Send + Sync, S: Start, R: Threads + Wait + Sync>(
     thread::scope(
         thread::scope_env(),
         rt,
-        move |scope| -> Result<Vec<Seat<L>>, BookFault> {
+        move |scope| -> Result<Vec<Seat<L>>, BookFault>
+            ensures { IfOk result (λ back. vec_len back ≡ 3) }
+        {
             let Ok(receiver) = scope.spawn(move || receive(
                 rt, alloc, book, first, receiving, node, start,
             )) else {
@@ -88,10 +91,12 @@ fn keep_book<L: BookName + Send + Sync, S: Start, R: Threads + Wait + Sync>(
     start: &S,
 ) -> Result<ClosedBook, ThreadsFault>
     requires ledger { (blank.name ≡ L.name) × (blank.parts ≡ L.parts) × (L.parts ≡ 3) }
+    requires journal { blank.journal ≡ L.journal }
     requires start { (first_rank ends.node ≡ L.me) × (L.ring ≡ first_ring) × (L.members ≡ members.now) }
     ensures me { IfOk result (λ book. book.start.me ≡ first_rank ends.node) }
     ensures ring { IfOk result (λ book. book.start.ring ≡ first_ring) }
     ensures members { IfOk result (λ book. book.start.members ≡ members.now) }
+    ensures fault { IfErr result EndsRun }
 {
     let me = Proc::first(ends.node);
     let (book, seats) = SharedBook::<L>::new(
@@ -119,7 +124,8 @@ fn run_to_end<S: Start, R: Threads + Wait + Sync>(
     start: &S,
 ) -> Result<ClosedBook, ThreadsFault>
     requires { (0 < nodes) × (nodes ≤ 32) }
-    ensures { IfOk result (λ book. book.start ≡ start_of nodes ends.node) }
+    ensures book { IfOk result (λ book. book.start ≡ start_of nodes ends.node) }
+    ensures fault { IfErr result EndsRun }
 {
     let members = first_members(alloc, nodes)?;
     keep_book::<Brand, S, R>(rt, alloc, Blank::new(3), &members, ends, outlet, start)
@@ -134,7 +140,8 @@ pub fn run_node<S: Start, R: Threads + Wait + Sync>(
     start: &S,
 ) -> Result<ClosedBook, ThreadsFault>
     requires { (0 < nodes) × (nodes ≤ 32) }
-    ensures { IfOk result (λ book. book.start ≡ start_of nodes ends.node) }
+    ensures book { IfOk result (λ book. book.start ≡ start_of nodes ends.node) }
+    ensures fault { IfErr result EndsRun }
 {
     let Ok(outlet) = ends.receiving.outlet.try_clone() else {
         ends.receiving.outlet.tell_gone(rt);

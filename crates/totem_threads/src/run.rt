@@ -1,6 +1,7 @@
 //! Runs nodes in threads.
-ghost use Rattle.std.specs.Prelude.{◌≡◌, ◌<◌, ◌≤◌, IfOk, map};
+ghost use Rattle.std.specs.Prelude.{◌≡◌, ◌<◌, ◌≤◌, IfOk, IfErr, map};
 ghost use Rattle.totem_net.specs.Nodes.{node_numbers};
+ghost use Rattle.totem_threads.specs.Faults.{EndsRun};
 ghost use Rattle.totem_threads.specs.Starts.{IsInRange, start_of, starts};
 ghost use Rattle.totem_evs.specs.Lives.{IsFirstVersion};
 ghost use Rattle.totem_threads.specs.Books.{IsRunOf};
@@ -20,7 +21,7 @@ use totem_evs::Run;
 use totem_ids::ProcId;
 use totem_net::{Fates, Network, Progress, Start};
 
-/// A promise of a thread: if it gives a book, that is the book of this node in a run of so many.
+/// A promise of a thread: if it gives a book, that is the book of this node in a run of so many, and else it says why there is no run.
 #[derive(Clone, Copy)]
 struct BookOf {
     node: ProcId,
@@ -28,10 +29,11 @@ struct BookOf {
 }
 
 impl Promise<Result<ClosedBook, ThreadsFault>> for BookOf {
-    ghost use Rattle.std.specs.Prelude.{◌≡◌, IfOk};
+    ghost use Rattle.std.specs.Prelude.{◌≡◌, IfOk, IfErr};
+    ghost use Rattle.totem_threads.specs.Faults.{EndsRun};
     ghost use Rattle.totem_threads.specs.Starts.{start_of};
 
-    ghost kept_by = { λ p r. IfOk r (λ book. book.start ≡ start_of p.nodes p.node) };
+    ghost kept_by = { λ p r. IfOk r (λ book. book.start ≡ start_of p.nodes p.node) × IfErr r EndsRun };
 }
 
 type NodeHandle = PromisedHandle<Result<ClosedBook, ThreadsFault>, BookOf>;
@@ -42,8 +44,9 @@ fn joined<R: Threads>(
     alloc: Global,
     running: Vec<NodeHandle>,
 ) -> Result<Vec<ClosedBook>, ThreadsFault>
-    ensures { IfOk result (λ books. map (λ b. b.start) books.items
+    ensures books { IfOk result (λ books. map (λ b. b.start) books.items
         ≡ map (λ h. start_of h.promise.nodes h.promise.node) running.items) }
+    ensures fault { IfErr result EndsRun }
 {
     let mut books = Vec::with_capacity(alloc, running.len())?;
     for handle in running {
@@ -63,7 +66,8 @@ fn run_network<S: Start, R: Threads + Wait + Sync, P: Progress>(
 ) -> Result<Vec<ClosedBook>, ThreadsFault>
     requires few { (0 < count) × (count ≤ 32) }
     requires nodes { map (λ ends. ends.node) network.nodes.items ≡ node_numbers count }
-    ensures { IfOk result (λ books. map (λ b. b.start) books.items ≡ starts count) }
+    ensures books { IfOk result (λ books. map (λ b. b.start) books.items ≡ starts count) }
+    ensures fault { IfErr result EndsRun }
 {
     let Network {
         switch,
@@ -76,7 +80,8 @@ fn run_network<S: Start, R: Threads + Wait + Sync, P: Progress>(
         move |scope| -> Result<Vec<ClosedBook>, ThreadsFault>
             requires few { (0 < count) × (count ≤ 32) }
             requires nodes { map (λ ends. ends.node) nodes.items ≡ node_numbers count }
-            ensures { IfOk result (λ books. map (λ b. b.start) books.items ≡ starts count) }
+            ensures books { IfOk result (λ books. map (λ b. b.start) books.items ≡ starts count) }
+            ensures fault { IfErr result EndsRun }
         {
             let mut running = Vec::with_capacity(alloc, nodes.len())?;
             for ends in nodes {
@@ -117,6 +122,7 @@ pub fn run_nodes<S: Start, R: Threads + Wait + Sync, P: Progress>(
     requires { IsInRange plan }
     ensures run { IfOk result (λ made. IsRunOf plan.nodes made.1.items made.0.logs) }
     ensures version { IfOk result (λ made. IsFirstVersion made.0.version made.0.logs) }
+    ensures fault { IfErr result EndsRun }
 {
     let fates = Fates::new(plan.seed, plan.plan);
     ask_for_room(alloc, plan.nodes, plan.ticks)?;

@@ -5,9 +5,8 @@ use bytes::Bytes;
 use std::alloc::{AllocError, Global};
 use std::marker::Brand;
 use std::sync::Wait;
-use std::sync::ledger::Blank;
 use std::test::Fail;
-use totem_books::{BookName, ClosedBook, Reply, Seat, SharedBook};
+use totem_books::{Blank, BookName, ClosedBook, Reply, Seat, SharedBook};
 use totem_evs::Members;
 use totem_ids::{Proc, ProcId, RingId, Service};
 use totem_node::Input;
@@ -123,6 +122,7 @@ fn live<L: BookName, R: Wait>(
     inputs: Vec<Input>,
 ) -> Result<ClosedBook, Fail>
     requires ledger { (blank.name ≡ L.name) × (blank.parts ≡ L.parts) × (L.parts ≡ 1) }
+    requires journal { blank.journal ≡ L.journal }
     requires start { (L.me ≡ me) × (L.ring ≡ record { seq = 4; rep = 1 }) × (L.members ≡ members.now) }
 {
     let (book, mut seats) = SharedBook::<L>::new(alloc, blank, me, ring(), members.as_slice(), 1)?;

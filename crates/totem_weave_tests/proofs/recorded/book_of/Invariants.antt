@@ -5,4 +5,4 @@ abbrev pub ghosts-live-L-Ledger : goal.ghosts-live-L-Ledger
 ghosts-live-L-Ledger g a = record { name = a.blank.name; parts = a.blank.parts }
 
 abbrev pub ghosts-live-L-BookName : goal.ghosts-live-L-BookName
-ghosts-live-L-BookName g a = record { me = a.me; ring = record { seq = 4; rep = 1 }; members = a.members.now }
+ghosts-live-L-BookName g a = record { journal = a.blank.journal; me = a.me; ring = record { seq = 4; rep = 1 }; members = a.members.now }

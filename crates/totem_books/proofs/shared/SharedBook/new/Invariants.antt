@@ -7,5 +7,7 @@ invariant-loop g l = record {
   none : l.all.amount ≡ 0;
   no_call : l.total.total ≡ 0;
   count : vec_len l.empty ≡ l.counter;
+  named : l.journal.name ≡ g.L.BookName.journal;
+  blank : l.journal.entries ≡ [];
   empty : All (λ seat. (seat.stubs ≡ []) × (seat.share ≡ 0)) l.empty.items;
 }

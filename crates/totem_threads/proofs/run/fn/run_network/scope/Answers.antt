@@ -12,7 +12,11 @@ returns g c =
     let road = YieldsList-from_vec {s = made.result} _ made.ensures.into_iter_gives.0 (made.ensures.into_iter_gives.1 ∙ c.captures.nodes.ok.0) in
     let end = YieldsList-end road c.loop-ends.yielded c.loop-ends.ends-iterator c.loop-ends.yielded_by c.next.result c.next.new.self c.in-None.is c.next.ensures.steps in
     let all : c.loop-ends.yielded ≡ c.captures.nodes.items = sym (map-id c.loop-ends.yielded) ∙ end.0 in
-    c.in_ok-books.ensures
-    ∙ c.loop-ends.invariant
-    ∙ ap (map (λ e. start_of c.captures.count e.node)) all
-    ∙ starts_of c.captures.count c.captures.nodes.items c.requires.nodes
+    record {
+      books =
+          c.in_ok-books.ensures.books
+          ∙ c.loop-ends.invariant
+          ∙ ap (map (λ e. start_of c.captures.count e.node)) all
+          ∙ starts_of c.captures.count c.captures.nodes.items c.requires.nodes;
+      fault = tt;
+    }

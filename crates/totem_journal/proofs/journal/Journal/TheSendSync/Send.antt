@@ -1,0 +1,10 @@
+-- A journal names no thread's key, so it may go to another thread.
+use denote.RattleType.{RattleType}
+use denote.Param.Send.{IsSend}
+use base.Growing.{latest}
+use Rattle.totem_journal.specs.Tokens.{journal_owns}
+use Rattle.totem_journal.specs.contracts.journal.Journal.{the_row}
+
+pub send : (E : RattleType) → IsSend (the_row E)
+unfolding latest journal_owns
+send E = record { owned = λ d vs. ((λ vss. (tt, ((λ uss. (tt, tt)), tt))), tt); leaving = λ k f vs. tt }
