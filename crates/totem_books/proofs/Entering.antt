@@ -29,7 +29,7 @@ pub still_entered : (mark : ℕ) (seen more : List Entered) (low : ℕ) (stubs :
 still_entered mark seen more low [] h = tt
 still_entered mark seen more low (s ∷ ss) h = (h.0, stays seen more (s.at - 1) (mark, s) h.1, still_entered mark seen more s.at ss h.2)
 
--- one receipt more behind others, which were entered before
+-- one receipt more after others, which were entered before
 one_behind : (mark : ℕ) (seen more : List Entered) (low : ℕ) (stubs : List Receipt) (stub : Receipt) → AreEntered mark seen low stubs → low < stub.at → length seen < stub.at
     → slice_get (seen ++ more) (stub.at - 1) ≡ Some (mark, stub) → AreEntered mark (seen ++ more) low (stubs ++ stub ∷ [])
 one_behind mark seen more low [] stub h above new there = (above, there, tt)
@@ -112,7 +112,7 @@ no_place_of_both entries m n these those h k other = record { none = λ place so
 
 -- ---- receipts of all seats
 
--- no receipt at or below the place behind which they rise
+-- no receipt at or below the place after which they rise
 none_below : (calls : List Called) (low place : ℕ) (stubs : List Receipt) → FitRising calls low stubs → place ≤ low → count_at place stubs ≡ 0
 none_below calls low place [] h below = refl
 none_below calls low place (s ∷ ss) h below = at (s.at == place) refl (none_below calls s.at place ss h.2 (let above = h.0 in omega (arith, above, below)))

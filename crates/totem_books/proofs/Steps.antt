@@ -56,7 +56,7 @@ goes_on start calls more node behind after log written i place stub reply is t a
     let log_is : written ≡ log ++ entries_of reply = added.entries ∙ ap (λ (s : Receipt). log ++ entries_of s.reply) t.told in
     subst (λ (cs : List Called). IsReplay start cs after written) (sym all) (subst (λ (es : List Entry). IsReplay start (calls ++ called i reply ∷ []) after es) (sym log_is) next)
 
--- the node that fell behind comes level with its copy
+-- the node that fell behind catches up with its copy
 pub comes_level : (before after : Node) (i : Input) (level : Option Node) → IfSome level (λ n. n ≡ node_behind before (step before i)) → after ≡ node_behind before (step before i) → IfSome level (λ n. n ≡ after)
 comes_level before after i None has moved = tt
 comes_level before after i (Some n) has moved = has ∙ sym moved

@@ -27,13 +27,13 @@ pub record BeginWith (calls those : List Called) : Type 0 where
   pub is : calls ≡ those ++ more
 
 -- the last of the calls seen now, which begin with all that were seen before, is of this input. It was answered as the node answers
--- behind all the others
+-- after all the others
 pub record IsAnswered (start : Start) (before after : List Called) (i : Input) (reply : Outcome Answer) : Type 0 where
   pub between : List Called
   pub is : after ≡ (before ++ between) ++ called i reply ∷ []
   pub answered : reply ≡ answer (book_of start (before ++ between)) i
 
--- the receipt of one call more stands behind all that was seen, at its place
+-- the receipt of one call more stands after all that was seen, at its place
 pub record IsEntered (mark : ℕ) (before after : List Entered) (stub : Receipt) : Type 0 where
   pub between : List Entered
   pub is : after ≡ (before ++ between) ++ (mark, stub) ∷ []

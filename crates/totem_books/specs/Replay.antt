@@ -34,7 +34,7 @@ abbrev pub answer_to : Outcome Stepped → Outcome Answer
 answer_to (Ok s) = Ok (record { packets = s.packets; entries = s.entries; ring_steps = s.ring_steps })
 answer_to (Err fault) = Err fault
 
--- the node behind it: a refused step leaves it
+-- the node after it: a refused step leaves it
 abbrev pub node_behind : Node → Outcome Stepped → Node
 node_behind node (Ok s) = s.node
 node_behind node (Err fault) = node

@@ -78,7 +78,7 @@ impl<L: BookName> SharedBook<L> {
     }
 
     /// Waits for the lock, gives the node one input, and puts the receipt into the seat. At a fault the seat's receipts are unchanged.
-    /// The calls that the seat has seen begin with those that it saw before. The reply is the node's behind all the others, and
+    /// The calls that the seat has seen begin with those that it saw before. The reply is the node's after all the others, and
     /// `Long` comes where those calls fill the book.
     pub fn call(
         &self,

@@ -8,7 +8,7 @@ use crate::reply::Reply;
 use std::alloc::{AllocError, Global};
 use totem_node::{Input, NodeCore, NodeFault};
 
-/// Gives the node one more input and returns its reply. A refusal is a reply too; want of memory is none, and comes as `Err`.
+/// Gives the node one more input and returns its reply. A refusal is a reply too; out of memory is none, and comes as `Err`.
 pub fn stepped(alloc: Global, node: &mut NodeCore, input: Input) -> Result<Reply, AllocError>
     ensures node { OnOk result (node.new ≡ node_behind node.old (step node.old input)) }
     ensures reply { IfOk result (λ reply. answer_of reply ≡ answer_to (step node.old input)) }

@@ -48,7 +48,7 @@ impl<E> Journal<E> {
         }
     }
 
-    /// Notes this with the pen, behind all entries. What the pen had seen is how the entries began.
+    /// Notes this with the pen, after all entries. What the pen had seen is how the entries began.
     pub fn note(&mut self, pen: &mut Pen<E>, what: &E)
         requires { pen.old.journal ≡ self.old.name }
         ensures { (self.new.name ≡ self.old.name) × (self.new.entries ≡ self.old.entries ++ (pen.old.mark, what.now) ∷ [])

@@ -55,7 +55,7 @@ not_before p q ps qs lt others part = ⊎_elim
     (λ there. omega (arith, lt, above q qs p others there))
     (or_cases (q == p) (has qs p) (part.had p (first_had p ps)))
 
--- a ascending list within another is no longer
+-- an ascending list within another is no longer
 pub no_longer : (last least : ℕ) (ps qs : List ℕ) → Up last ps → Up least qs → IsPart ps qs → length ps ≤ length qs
 no_longer last least [] qs up others part = omega arith
 no_longer last least (p ∷ ps) [] up others part = absurd (false≢true (part.had p (first_had p ps)))

@@ -30,7 +30,7 @@ or_again a true c e = refl
 or_again a false true e = refl
 or_again a false false e = sym e
 
--- what a rising list has with one process more
+-- what an ascending list has with one process more
 has_more : (p : ℕ) (ps : List ℕ) (x : ℕ) → Rises ps → has (with_process ps p) x ≡ (has ps x || (p == x))
 has_more p [] x up = or_turned (p == x) false
 has_more p (q ∷ qs) x up = by_cases (cases_order p q)

@@ -25,7 +25,7 @@ IsTold old new (Ok out) written =
     written ≡ Ok (record { ring = new; packets = out.packets.items; entries = out.entries.items; ring_steps = out.ring_steps.items })
 IsTold old new (Err fault) written = IsRefused fault old new written
 
--- the token that the ring passed on is sent again: the ring stays, and a refusal is want of memory
+-- the token that the ring passed on is sent again: the ring stays, and a refusal is out of memory
 abbrev pub IsResent : Outcome StepOut → Ring → Type 0
 IsResent (Ok out) ring = (out.packets.items ≡ (on_resend ring).packets) × (out.entries.items ≡ []) × (out.ring_steps.items ≡ resend_steps ring.ring)
 IsResent (Err fault) ring = fault ≡ Memory

@@ -34,7 +34,7 @@ pub record IsRefused {A B : Type 0} (fault : NodeFault) (old new : A) (written :
 pub record Fails {B : Type 0} (fault : NodeFault) (written : Outcome B) : Type 0 where
   pub fault_is : fault ≢ Memory → written ≡ Err fault
 
--- what was answered is what is written, want of memory aside
+-- what was answered is what is written, but for out of memory
 abbrev pub Gives : {A : Type 0} → Outcome A → Outcome A → Type 0
 Gives (Ok x) written = written ≡ Ok x
 Gives (Err fault) written = Fails fault written

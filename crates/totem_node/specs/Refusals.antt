@@ -206,7 +206,7 @@ abbrev pub IsTaken : {A : Type 0} → Bool → Outcome A → Type 0
 IsTaken at_the_end (Ok x) = at_the_end ≡ false
 IsTaken at_the_end (Err fault) = (fault ≡ Range) × (at_the_end ≡ true)
 
--- A refusal is that of the step, and never want of memory; where there is none, the step is taken.
+-- A refusal is that of the step, and never out of memory; where there is none, the step is taken.
 abbrev pub Tells : {A : Type 0} → Option NodeFault → Bool → Outcome A → Type 0
 Tells (Some fault) at_the_end written = (fault ≢ Memory) × (written ≡ Err fault)
 Tells None at_the_end written = IsTaken at_the_end written

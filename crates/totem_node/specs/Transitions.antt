@@ -32,7 +32,7 @@ IsTimerTransition (Ok (Some transition)) n = on_timer n n.state ≡ Ok (sending 
 IsTimerTransition (Ok None) n = (on_timer n n.state ≡ Ok (counting n n.state)) × (n.quiet < 2)
 IsTimerTransition (Err fault) n = Fails fault (on_timer n n.state)
 
--- what is sent again as a timer is counted; a refusal is want of memory
+-- what is sent again as a timer is counted; a refusal is out of memory
 abbrev pub IsCounting : Outcome StepOut → Node → Type 0
 IsCounting (Ok out) n =
     counting n n.state ≡ record { node = counted n; packets = out.packets.items; entries = out.entries.items; ring_steps = out.ring_steps.items }

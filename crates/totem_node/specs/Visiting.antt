@@ -117,7 +117,7 @@ told_in_recovery installed ring m =
 abbrev pub installing : Node → Ring → Node
 installing n ring = record n { state = Operational; installed = ring; obligation = []; filled = None }
 
--- what stands before the last mark, the finish, and what stands behind it
+-- what stands before the last mark, the finish, and what stands after it
 abbrev pub finishing_entries : Leaving → Ring → Ring → List Message → List Entry
 finishing_entries r old ring handed =
     let last = unwrap_or (last_mark r ring) 0 in

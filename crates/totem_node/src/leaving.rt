@@ -65,7 +65,7 @@ fn append(entries: &mut Vec<Entry>, more: Vec<Entry>) -> Result<(), AllocError>
     Ok(())
 }
 
-/// Returns what is handed up before the last mark as deliveries, then the finish, then what is handed up behind the mark.
+/// Returns what is handed up before the last mark as deliveries, then the finish, then what is handed up after the mark.
 fn finishing_entries(
     alloc: Global,
     recovery: &Recovery,

@@ -57,7 +57,7 @@ impl NodeCore {
     ghost use Rattle.totem_evs.specs.Members.{IsMembers};
 
     /// Makes a node that starts on this ring, and returns with it the change with which its log begins. The members are
-    /// 1 to 32 processes, strictly rising by identifier, and are expected to have `me` among them.
+    /// 1 to 32 processes, strictly ascending by identifier, and are expected to have `me` among them.
     pub fn new(
         alloc: Global,
         me: Proc,

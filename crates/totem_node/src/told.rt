@@ -57,7 +57,7 @@ fn send(ring: RingId, number: u32, body: &Body) -> Option<Entry>
     }
 }
 
-/// Appends the sends of these bodies, which get the numbers behind `seq` on this ring.
+/// Appends the sends of these bodies, which get the numbers after `seq` on this ring.
 fn write_sends(
     entries: &mut Vec<Entry>,
     ring: &RingState,
@@ -77,7 +77,7 @@ fn write_sends(
     Ok(())
 }
 
-/// Returns the sends of the bodies that wait on the ring, and of these, which get the numbers behind the token's `seq`.
+/// Returns the sends of the bodies that wait on the ring, and of these, which get the numbers after the token's `seq`.
 #[tactic(auto, using(crate::proofs::Telling::all_sent))]
 pub fn visit_sends(
     alloc: Global,

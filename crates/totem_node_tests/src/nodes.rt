@@ -267,7 +267,7 @@ fn push_copied_step(
     Ok(push_copied_answer(alloc, text, node.step(alloc, given))?)
 }
 
-/// Takes the step of a word. One behind `copied-` goes by copies; of one behind `would-` only the refusal is told.
+/// Takes the step of a word. One after `copied-` goes by copies; of one after `would-` only the refusal is told.
 fn push_word(
     alloc: Global,
     text: &mut String,
@@ -308,7 +308,7 @@ fn push_steps_of_a_copy(
     push_steps(alloc, text, &mut copy, words)
 }
 
-/// Gives the node these inputs, or behind the word `copy` gives them to its copy.
+/// Gives the node these inputs, or after the word `copy` gives them to its copy.
 fn push_life(
     alloc: Global,
     text: &mut String,

@@ -21,7 +21,7 @@ fn other_fault(
     None
 }
 
-// The one number of a command that has no lists and no text, behind its word; 0 where it has none.
+// The one number of a command that has no lists and no text, after its word; 0 where it has none.
 fn number_in(command: &Command) -> Option<(&'static str, u32)> {
     match command {
         Command::Run { times } => Some(("run", *times)),

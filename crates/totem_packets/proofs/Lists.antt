@@ -1,4 +1,4 @@
--- What is read as a ascending list keeps the rules of the list.
+-- What is read as an ascending list keeps the rules of the list.
 use Rattle.std.specs.Prelude.{nat_lt, nat_le}
 use Rattle.std.specs.Int.{Width, w8, w16, w32}
 use Rattle.std.proofs.lemmas.Bool.{ltb-true, leb-true}

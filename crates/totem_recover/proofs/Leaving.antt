@@ -12,7 +12,7 @@ pub record RegularGoesOn (x : ConfId) (high handed : ℕ) (held : Held) (before 
   pub written : entries ++ deliveries x (going_up last high left) ≡ before ++ deliveries x (going_up handed high held)
   pub counted : last + length (going_up last high left) ≡ handed + length (going_up handed high held)
 
--- behind the first gap, or before it
+-- after the first gap, or before it
 abbrev pub rest_at : Bool → List ℕ → ℕ → Held → List message.Message
 rest_at true obliged at left = owed_of obliged left
 rest_at false obliged at left = rest_from obliged at left

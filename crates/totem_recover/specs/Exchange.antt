@@ -41,11 +41,11 @@ sent_again m = again m.body
     again (Old ring number sender service payload) = None
     again Mark = None
 
--- what is held above a number, in rising order
+-- what is held above a number, in ascending order
 abbrev pub held_above : ℕ → Held → Held
 held_above low held = filter (λ e. nat_lt low e.0) held
 
--- the held messages above low in rising order, each as a body that carries it; then one mark
+-- the held messages above low in ascending order, each as a body that carries it; then one mark
 abbrev pub list_to_send : ℕ → Held → List Body
 list_to_send low held = filter_map (λ e. sent_again e.1) (held_above low held) ++ Mark ∷ []
 

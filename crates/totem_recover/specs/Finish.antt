@@ -29,11 +29,11 @@ deliveries x ms = filter_map (delivery x) ms
 abbrev pub regular_part : ℕ → Ring → List message.Message
 regular_part high old = going_up old.handed high old.held
 
--- behind the first gap: only those whose sender is in O
+-- after the first gap: only those whose sender is in O
 abbrev pub owed_of : List ℕ → Held → List message.Message
 owed_of obliged held = filter (λ m. has obliged m.sender) (map (λ e. e.1) held)
 
--- The rest, in rising order: before the first gap all, behind it only those whose sender is in O.
+-- The rest, in ascending order: before the first gap all, after it only those whose sender is in O.
 abbrev pub rest_from : List ℕ → ℕ → Held → List message.Message
 rest_from obliged last [] = []
 rest_from obliged last (e ∷ es) = if e.0 == last + 1 then e.1 ∷ rest_from obliged (last + 1) es else owed_of obliged (e ∷ es)

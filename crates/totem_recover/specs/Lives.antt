@@ -15,7 +15,7 @@ first_ranks ids = map first_rank ids
 abbrev pub ids_of : List ℕ → List ℕ
 ids_of procs = map id_of procs
 
--- the members of a ring, by identifier: 1 to 32, strictly rising
+-- the members of a ring, by identifier: 1 to 32, strictly ascending
 pub record IsRingMembers (ids : List ℕ) : Type 0 where
   pub some : 0 < length ids
   pub processes : IsProcesses ids

@@ -63,7 +63,7 @@ pub(crate) fn write_regular(
     Ok(last)
 }
 
-/// Appends the deliveries of the rest: before the first gap all, behind it only those of messages that processes in O sent.
+/// Appends the deliveries of the rest: before the first gap all, after it only those of messages that processes in O sent.
 pub(crate) fn write_rest(
     entries: &mut Vec<Entry>,
     conf: &ConfId,

@@ -28,7 +28,7 @@ above_low low (e ∷ es) = go (e.0 == low + 1) (above_low (low + 1) es)
     go true le = omega arith
     go false le = omega arith
 
--- the number behind the aru isn't held
+-- the number after the aru isn't held
 pub whole_stops : (low : ℕ) (es : Held) → RisesFrom low es → holds es (whole_above low es + 1) ≡ false
 whole_stops low [] h = refl
 whole_stops low (e ∷ es) h = go (e.0 == low + 1) refl (λ (same : e.0 ≡ low + 1). whole_stops (low + 1) es (Rises-lower e.0 (low + 1) es (omega arith) h.2))

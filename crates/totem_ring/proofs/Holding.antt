@@ -79,7 +79,7 @@ undone s m held new newer passed same put taken =
     let none : message_at held m.number ≡ None = rw (← same) (not_held s m passed) in
     taken ∙ ap (λ held. without held m.number) put ∙ remove-insert 0 held m.number m none
 
--- want of memory is an answer to a step that isn't refused
+-- out of memory is an answer to a step that isn't refused
 pub memory_answers : (refusal : Option RingFault) (done : Done) (old new : Ring) → refusal ≡ None → new ≡ old → Answers (Err Memory) old new (unless_refused refusal done)
 memory_answers None done old new passed same = record { unchanged = same; fault_is = refl }
 memory_answers (Some fault) done old new passed same = absurd cc

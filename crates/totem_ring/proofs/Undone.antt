@@ -20,7 +20,7 @@ pub undoably : (refusal : Option RingFault) (done : Done) (out : RingOut) (undo 
 undoably None done out undo old new passed h back = record { is_done = h; undone = back }
 undoably (Some fault) done out undo old new passed h back = absurd cc
 
--- want of memory is an answer to a step that isn't refused
+-- out of memory is an answer to a step that isn't refused
 pub undoable_memory : (refusal : Option RingFault) (done : Done) (old new : Ring) → refusal ≡ None → new ≡ old → AnswersUndoably (Err Memory) old new (unless_refused refusal done)
 undoable_memory None done old new passed same = record { unchanged = same; fault_is = refl }
 undoable_memory (Some fault) done old new passed same = absurd cc

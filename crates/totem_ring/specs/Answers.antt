@@ -12,7 +12,7 @@ pub record IsDone (out : RingOut) (new : Ring) (done : Done) : Type 0 where
   pub packets : out.packets.items ≡ done.packets
   pub handed : out.handed.items ≡ done.handed
 
--- what an Err says: the refusal that is written, or want of memory for a step that isn't refused. Nothing changes
+-- what an Err says: the refusal that is written, or out of memory for a step that isn't refused. Nothing changes
 pub record IsRefused (fault : RingFault) (old new : Ring) (written : RingFault) : Type 0 where
   pub unchanged : new ≡ old
   pub fault_is : fault ≡ written

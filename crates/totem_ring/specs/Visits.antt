@@ -42,7 +42,7 @@ arrival s t = record {
 abbrev pub broadcasts : List Message → List Sending
 broadcasts ms = map (λ m. (ToAll, AMessage m)) ms
 
--- 1. The held messages that rtr asks for are broadcast, in rising order, and taken off rtr.
+-- 1. The held messages that rtr asks for are broadcast, in ascending order, and taken off rtr.
 abbrev pub answer_requests : Visit → Visit
 answer_requests v = record v {
   packets = v.packets ++ broadcasts (filter_map (message_at v.state.held) v.rtr);

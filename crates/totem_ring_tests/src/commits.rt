@@ -131,7 +131,7 @@ fn push_answer(
 }
 
 /// Does what one word says: `token` tells of the token, `second` sets its second round, and any other word lets a
-/// member take it, behind `copied-` by a copy.
+/// member take it, after `copied-` by a copy.
 fn push_step(
     alloc: Global,
     text: &mut String,
@@ -150,7 +150,7 @@ fn push_step(
     }
 }
 
-/// What the words tell of a token, each with `; ` behind it.
+/// What the words tell of a token, each with `; ` after it.
 fn steps(alloc: Global, token: &mut CommitToken, words: &str) -> Result<String, AllocError> {
     let mut text = String::new(alloc);
     for word in words.split_whitespace() {

@@ -341,7 +341,7 @@ fn push_numbers(alloc: Global, text: &mut String, numbers: &[u64]) -> Result<(),
     text.push_str("; ")
 }
 
-/// Adds what a step tells behind its word, or nothing if it tells nothing.
+/// Adds what a step tells after its word, or nothing if it tells nothing.
 fn push_told(alloc: Global, text: &mut String, word: &str, told: Told) -> Result<(), AllocError> {
     match told {
         Told::Nothing => return Ok(()),

@@ -17,7 +17,7 @@ fn is_copied(alloc: Global, step: &RingMove) -> Result<bool, AllocError> {
     is_shown_alike(alloc, step, &copy)
 }
 
-/// Whether a move and its copy show the same.
+/// Returns whether a move and its copy show the same.
 fn is_move_copied(alloc: Global) -> Result<bool, AllocError> {
     is_copied(alloc, &step(alloc))
 }
@@ -35,7 +35,7 @@ const FAULTS: [RingFault; 5] = [
     RingFault::Memory,
 ];
 
-/// Tells the meaning of one fault, the name of want of memory, and the numbers and names of all faults.
+/// Tells the meaning of one fault, the name of out of memory, and the numbers and names of all faults.
 fn faults(alloc: Global) -> Result<String, AllocError> {
     let memory = RingFault::from(AllocError).name();
     let mut text = format!(in alloc; "{}; {memory}; ", RingFault::Full)?;

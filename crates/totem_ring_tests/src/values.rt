@@ -50,7 +50,7 @@ pub fn set(alloc: Global, text: &str) -> Result<Processes, AllocError> {
     }
 }
 
-/// Returns the part of a word behind so many `:`.
+/// Returns the part of a word after so many `:`.
 pub fn part(word: &str, at: usize) -> &str {
     word.split(':').nth(at).unwrap_or("")
 }

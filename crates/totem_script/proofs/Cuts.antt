@@ -40,7 +40,7 @@ some_part at (x ∷ xs) is = by_byte (x == at) is
     by_byte true e = cc
     by_byte false e = onto_some x (parts at xs) e
 
--- what stands before a cut and what stands behind it are the parts that were left
+-- what stands before a cut and what stands after it are the parts that were left
 pub goes_on : (at : ℕ) (rest : Option (Bor (List ℕ))) (text : Bor (List ℕ)) (whole : List (List ℕ)) (p : List ℕ) (ps : List (List ℕ))
     → parts_left at rest ≡ whole → rest ≡ Some text → parts at text.now ≡ p ∷ ps → whole ≡ p ∷ ps
 goes_on at rest text whole p ps view is split = sym view ∙ ap (parts_left at) is ∙ split

@@ -95,7 +95,7 @@ abbrev pub IsBelowAll : ℕ → List ℕ → Type 0
 IsBelowAll p [] = Unit {0}
 IsBelowAll p (q ∷ qs) = (p < q) × IsBelowAll p qs
 
--- each is below all behind it
+-- each is below all after it
 abbrev pub Rises : List ℕ → Type 0
 Rises [] = Unit {0}
 Rises (p ∷ ps) = IsBelowAll p ps × Rises ps
@@ -105,7 +105,7 @@ abbrev pub AreLives : ℕ → List ℕ → Type 0
 AreLives id [] = Unit {0}
 AreLives id (p ∷ ps) = (id_of p ≡ id) × AreLives id ps
 
--- these are lives of one identifier, strictly rising, and p is the last of them; no log that has ended is quiet
+-- these are lives of one identifier, strictly ascending, and p is the last of them; no log that has ended is quiet
 pub record IsHistory (p : ℕ) (earlier : List LogRecord) : Type 0 where
   pub lives : AreLives (id_of p) (procs_in earlier ++ p ∷ [])
   pub rising : Rises (procs_in earlier ++ p ∷ [])

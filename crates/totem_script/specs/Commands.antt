@@ -21,21 +21,21 @@ use Rattle.totem_script.specs.Parts.{parts}
 abbrev pub words_of : List ℕ → List (List ℕ)
 words_of line = parts 32 line
 
--- a number from 1 to 100,000, and nothing behind it
+-- a number from 1 to 100,000, and nothing after it
 abbrev pub number_words : List (List ℕ) → Parsed ℕ
 number_words [] = Err Word
 number_words (w ∷ ws) = do
   n ← number_in 100000 w
   only n ws
 
--- a process, and nothing behind it
+-- a process, and nothing after it
 abbrev pub process_words : List (List ℕ) → Parsed ℕ
 process_words [] = Err Word
 process_words (w ∷ ws) = do
   p ← process_in w
   only p ws
 
--- each word is a process more, behind these
+-- each word is a process more, after these
 unfoldable pub processes_from : List ℕ → List (List ℕ) → Parsed (List ℕ)
 processes_from procs [] = Ok procs
 processes_from procs (w ∷ ws) = do
@@ -70,7 +70,7 @@ is_payload word = nat_lt 0 (length word) && (nat_le (length word) 64 && list_all
 abbrev pub payload_in : List ℕ → Parsed (List ℕ)
 payload_in word = if is_payload word then Ok word else Err Word
 
--- a payload, and nothing behind it
+-- a payload, and nothing after it
 abbrev pub payload_words : ℕ → Service → List (List ℕ) → Parsed Command
 payload_words proc service [] = Err Word
 payload_words proc service (w ∷ ws) = do
@@ -103,7 +103,7 @@ group_word word =
     else if starts_with nat_eq word (codes "/") then Err Word
     else process_some word
 
--- the groups so far, the group so far, and the words to come: a group begins with a process, and behind that comes a
+-- the groups so far, the group so far, and the words to come: a group begins with a process, and after that comes a
 -- process more or a stroke, with which the next group begins
 unfoldable pub groups_from : List (List ℕ) → List ℕ → List (List ℕ) → Parsed (List (List ℕ))
 groups_from groups [] [] = Err Word
@@ -130,7 +130,7 @@ cut_words ws = do
   groups ← groups_from [] [] ws
   Ok (command.Cut groups)
 
--- what the words behind the keyword say
+-- what the words after the keyword say
 abbrev pub command_by : Keyword → List (List ℕ) → Parsed Command
 command_by keyword.Ring ws = ring_words ws
 command_by keyword.Submit ws = submit_words ws

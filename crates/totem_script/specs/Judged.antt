@@ -23,7 +23,7 @@ by_line (Err fault) = Err (of_line fault)
 pub record Fails {A : Type 0} (fault : ScriptFaultKind) (written : Judged A) : Type 0 where
   pub is : fault ≢ Memory → written ≡ Err fault
 
--- what was answered is what is written, want of memory aside
+-- what was answered is what is written, but for out of memory
 abbrev pub Gives : {A : Type 0} → Judged A → Judged A → Type 0
 Gives (Ok x) written = written ≡ Ok x
 Gives (Err fault) written = Fails fault written

@@ -32,7 +32,7 @@ abbrev pub only : {A : Type 0} → A → List (List ℕ) → Parsed A
 only x [] = Ok x
 only x (p ∷ ps) = Err Word
 
--- a ring's representative, behind the dot
+-- a ring's representative, after the dot
 abbrev pub ring_by : ℕ → List (List ℕ) → Parsed RingName
 ring_by seq [] = Err Word
 ring_by seq (p ∷ ps) = do

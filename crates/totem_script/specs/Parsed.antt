@@ -16,7 +16,7 @@ abbrev pub ◌>>=◌ : {A B : Type 0} → Parsed A → (A → Parsed B) → Pars
 pub record Fails {A : Type 0} (fault : LineFault) (parsed : Parsed A) : Type 0 where
   pub is : fault ≢ Memory → parsed ≡ Err fault
 
--- what was answered is what the parser gives, want of memory aside
+-- what was answered is what the parser gives, but for out of memory
 abbrev pub Gives : {A : Type 0} → Parsed A → Parsed A → Type 0
 Gives (Ok x) parsed = parsed ≡ Ok x
 Gives (Err fault) parsed = Fails fault parsed

@@ -39,7 +39,7 @@ abbrev pub may_pass : Option (List (List ℕ)) → ℕ → ℕ → Bool
 may_pass None from to = true
 may_pass (Some groups) from to = list_any (λ group. has group from && has group to) groups
 
--- a broadcast is for all other processes of the script, in rising order
+-- a broadcast is for all other processes of the script, in ascending order
 unfoldable pub to_others : Option (List (List ℕ)) → ℕ → Packet → List Actor → Queue
 to_others cut from packet actors =
     map (λ a. (id_of a.proc, packet)) (filter (λ a. not (id_of a.proc == from) && may_pass cut from (id_of a.proc)) actors)
@@ -77,7 +77,7 @@ run_times (suc times) s = do
   next ← run_one s s.queue
   run_times times next
 
--- a ring's first token comes behind the others, for its representative
+-- a ring's first token comes after the others, for its representative
 abbrev pub with_first_token : Queue → RingName → Queue
 with_first_token queue ring = queue ++ (ring.rep, Token (first_token ring)) ∷ []
 
@@ -97,7 +97,7 @@ brought_back s p = do
 abbrev pub dropped : Scene → ℕ → Judged Scene
 dropped s place = if nat_lt (place - 1) (length s.queue) then Ok (record s { queue = remove s.queue (place - 1) }) else Err Place
 
--- a copy of this packet comes behind the others
+-- a copy of this packet comes after the others
 abbrev pub once_more : Scene → Option (ℕ × Packet) → Judged Scene
 once_more s None = Err Place
 once_more s (Some e) = Ok (record s { queue = s.queue ++ e ∷ [] })
@@ -137,7 +137,7 @@ makes_ring (command.Crash p) = false
 makes_ring (command.Return p) = false
 makes_ring command.End = false
 
--- a ring comes before all other commands, and these behind a ring
+-- a ring comes before all other commands, and these after a ring
 abbrev pub is_in_order : Scene → Command → Bool
 is_in_order s c = if makes_ring c then not s.under_way else nat_lt 0 (length s.actors)
 

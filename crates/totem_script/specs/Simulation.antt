@@ -56,7 +56,7 @@ line_played s line = do
   next ← carried_out s c
   Ok (record { scene = next; ended = is_end c })
 
--- nothing stands behind the last line
+-- nothing stands after the last line
 unfoldable pub closing : ℕ → Scene → Texts → Told Scene
 closing n s [] = Ok s
 closing n s (line ∷ lines) = Err (record { kind = End; line = n })
@@ -91,7 +91,7 @@ simulate script = and_then (all_played (lines_of 65536 script)) (λ scene. Ok (r
 pub record FailsAt {A : Type 0} (fault : ScriptFault) (written : Told A) : Type 0 where
   pub is : fault.kind ≢ Memory → written ≡ Err fault
 
--- what was answered is what is written, want of memory aside
+-- what was answered is what is written, but for out of memory
 abbrev pub Gives : {A : Type 0} → Told A → Told A → Type 0
 Gives (Ok x) written = written ≡ Ok x
 Gives (Err fault) written = FailsAt fault written

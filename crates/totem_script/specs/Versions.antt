@@ -32,7 +32,7 @@ has_first_lives log = (life_of log.proc == 1) && list_all (λ e. are_first (memb
 abbrev pub version_of : List LogRecord → Version
 version_of logs = if list_all has_first_lives logs then One else Two
 
--- at most 32 logs, their processes strictly rising, none of them quiet
+-- at most 32 logs, their processes strictly ascending, none of them quiet
 pub record AreRunLogs (logs : List LogRecord) : Type 0 where
   pub few : length logs ≤ 32
   pub rising : AllPairs IsBelowLog logs

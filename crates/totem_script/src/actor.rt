@@ -195,7 +195,7 @@ impl ActorState {
         (earlier, log_with(proc, entries))
     }
 
-    /// Puts a log of each life behind these logs.
+    /// Puts a log of each life after these logs.
     pub fn put_logs(self, logs: &mut Vec<Log>) -> Result<(), AllocError>
         ensures { OnOk result (logs.new.items ≡ logs.old.items ++ logs_of self) }
     {

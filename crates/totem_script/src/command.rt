@@ -29,7 +29,7 @@ pub enum Command {
     Drop {
         place: u32,
     },
-    /// A copy of the packet at this place, counted from 1, goes behind the others.
+    /// A copy of the packet at this place, counted from 1, goes after the others.
     Repeat {
         place: u32,
     },

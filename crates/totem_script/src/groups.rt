@@ -28,7 +28,7 @@ impl Groups {
         }
     }
 
-    /// Adds a group behind the others.
+    /// Adds a group after the others.
     pub fn push(&mut self, group: ProcessList) -> Result<(), AllocError>
         ensures { MatchResult result (λ u. self.new ≡ self.old ++ group ∷ []) (λ e. self.new ≡ self.old) }
     {

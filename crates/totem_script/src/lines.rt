@@ -39,7 +39,7 @@ impl<'a> Lines<'a> {
         }
     }
 
-    /// Returns the next line without its end, or `None` behind the last one. A fault ends the lines: `Truncated` if
+    /// Returns the next line without its end, or `None` after the last one. A fault ends the lines: `Truncated` if
     /// this one has no end, `TooMany` if the script is too long.
     pub fn next(&mut self) -> Result<Option<&'a [u8]>, ScriptFaultKind>
         ensures { MatchResult result

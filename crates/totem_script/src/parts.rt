@@ -7,7 +7,7 @@ use std::marker::Model;
 /// Gives the parts of a text between the places at which one byte stands. There is one more part than such places.
 #[derive(Debug, Drop)]
 pub struct Parts<'a> {
-    /// What stands behind the last place that was met, or `None` after the last part.
+    /// What stands after the last place that was met, or `None` after the last part.
     rest: Option<&'a [u8]>,
     at: u8,
 }

@@ -46,7 +46,7 @@ fn is_reached(cut: &Option<Groups>, from: ProcId, to: ProcId) -> bool
     to != from && may_pass(cut, from, to)
 }
 
-/// Puts a broadcast on its way to each other process of the script that it can reach, in rising order.
+/// Puts a broadcast on its way to each other process of the script that it can reach, in ascending order.
 fn broadcast(
     alloc: Global,
     queue: &mut Queue,

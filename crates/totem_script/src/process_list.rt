@@ -30,7 +30,7 @@ impl ProcessList {
         }
     }
 
-    /// Adds a process behind the others.
+    /// Adds a process after the others.
     pub fn push(&mut self, proc: ProcId) -> Result<(), AllocError>
         ensures { MatchResult result (λ u. self.new ≡ self.old ++ proc ∷ []) (λ e. self.new ≡ self.old) }
     {

@@ -19,7 +19,7 @@ use totem_ids::ProcId;
 /// The greatest number that `run`, `drop` and `repeat` may have.
 const MOST: u32 = 100_000;
 
-/// Reads a number with nothing behind it.
+/// Reads a number with nothing after it.
 fn count(words: &mut Parts<'_>) -> Result<u32, LineFault>
     ensures { result ≡ number_words words.old }
 {
@@ -33,7 +33,7 @@ fn count(words: &mut Parts<'_>) -> Result<u32, LineFault>
     Ok(number)
 }
 
-/// Reads a process with nothing behind it.
+/// Reads a process with nothing after it.
 fn one_process(words: &mut Parts<'_>) -> Result<ProcId, LineFault>
     ensures { result ≡ process_words words.old }
 {
@@ -47,7 +47,7 @@ fn one_process(words: &mut Parts<'_>) -> Result<ProcId, LineFault>
     Ok(proc)
 }
 
-/// Returns the command if no word is left behind it.
+/// Returns the command if no word is left after it.
 fn alone(command: Command, words: &Parts<'_>) -> Result<Command, LineFault>
     ensures { result ≡ only command words.now }
 {

@@ -86,7 +86,7 @@ module _ (me : ℕ) (ring : RingName) (members : List ℕ) (before : List Input)
     above = All-nil (TellsAbove 0);
   })
 
-  -- what comes after so many inputs stands behind so many replies
+  -- what comes after so many inputs stands after so many replies
   behind : (inputs : List Input) (later : List (Outcome Answer)) → (fold one_input so_far inputs).replies ≡ so_far.replies ++ later
       → replies_after me ring members before inputs ≡ later
   behind inputs later is =

@@ -51,7 +51,7 @@ is_said f (p ∷ ps) (t ∷ ts) e =
 proc_at : (tracks : List Track) (k : ℕ) (t : Track) → slice_get tracks k ≡ Some t → slice_get (procs_of tracks) k ≡ Some t.proc
 proc_at tracks k t at = slice_get-map (λ (u : Track). u.proc) tracks k ∙ rw at refl
 
--- of rising members the one in front is the lesser
+-- of ascending members the one in front is the lesser
 pub rises_at : (tracks : List Track) (j k : ℕ) (t u : Track) → IsStrictlyIncreasing (procs_of tracks) → slice_get tracks j ≡ Some t → slice_get tracks k ≡ Some u → j < k → t.proc < u.proc
 rises_at tracks j k t u rising at_j at_k lt = rises (procs_of tracks) j k t.proc u.proc rising (proc_at tracks j t at_j) (proc_at tracks k u at_k) lt
 

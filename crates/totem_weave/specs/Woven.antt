@@ -25,7 +25,7 @@ process_of book = book.start.me
 abbrev pub IsOfMember : RingName → List ℕ → Closed → Type 0
 IsOfMember ring members book = (calls_acts ring book.calls ≡ []) ⊎ Contains members book.start.me
 
--- 1 to 32 members, their identifiers strictly rising; each book is of another process or another life; who took a step on the ring
+-- 1 to 32 members, their identifiers strictly ascending; each book is of another process or another life; who took a step on the ring
 -- is a member in that life
 pub record CanWeave (ring : RingName) (members : List ℕ) (books : List Closed) : Type 0 where
   pub some : 0 < length members

@@ -61,7 +61,7 @@ impl Sent {
         }
     }
 
-    /// Whether what comes in this act, if anything does, was sent.
+    /// Returns whether what comes in this act, if anything does, was sent.
     pub fn is_coming(&self, act: &Act) -> bool
         ensures { IsTrue result ↔ IsComing self.now act.now }
     {

@@ -8,6 +8,6 @@ use totem_ring::RingMove;
 pub struct Woven {
     /// The steps, each with the identifier of the member that took it, in the order of the schedule.
     pub steps: Vec<RingMove>,
-    /// Each member, in rising order, with the messages that its steps handed up, in their order.
+    /// Each member, in ascending order, with the messages that its steps handed up, in their order.
     pub handed: Vec<(Proc, Vec<Message>)>,
 }

@@ -190,7 +190,7 @@ impl RingState {
         Ok((out, undo))
     }
 
-    /// Takes the token that has come as if these bodies waited too, behind those that do. The undo that it gives can take the
+    /// Takes the token that has come as if these bodies waited too, after those that do. The undo that it gives can take the
     /// visit back, and the bodies with it.
     pub fn on_token_with(
         &mut self,
