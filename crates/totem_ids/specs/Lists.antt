@@ -16,7 +16,7 @@ pub record FallsAt {X : Type 0} (Below : X → X → Type 0) (xs : List X) (at :
   pub before : AllPairs Below (take at xs)
   pub falls : AllPairs Below (take (at + 1) xs) → ⊥
 
--- the first rule of an ascending list of least to greatest elements that this list breaks
+-- the first rule of a ascending list of least to greatest elements that this list breaks
 abbrev pub Refuses : {X : Type 0} → ℕ → ℕ → (X → X → Type 0) → List X → ListFault → Type 0
 Refuses least greatest Below xs Empty = (0 < least) × (xs ≡ [])
 Refuses least greatest Below xs (TooMany limit) = (limit ≡ greatest) × (greatest < length xs)
