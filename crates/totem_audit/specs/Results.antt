@@ -27,8 +27,8 @@ pub record IsFoundBy (run : List Log) (job : ℕ) (findings : Findings) : Type 0
   pub found : AreFindings run ring findings
 
 -- the result names this run and this job, and has what the job finds
-pub record IsResultOf (version : Version) (run : List Log) (number : ℕ) (r : JobRecord) : Type 0 where
-  pub version : r.version ≡ version
+pub record IsResultOf (v : Version) (run : List Log) (number : ℕ) (r : JobRecord) : Type 0 where
+  pub version : r.version ≡ v
   pub logs : r.logs ≡ run
   pub job : r.job ≡ number
   pub right : IsFoundBy run number r.findings

@@ -1,5 +1,5 @@
 -- The faults of calls from stream to stream, and what the calls of totem_verdicts answer in their words.
-use Rattle.std.specs.Prelude.{◌≡◌, Result, Ok, Err}
+use Rattle.std.specs.Prelude.{◌≡◌, ℕ, List, Result, Ok, Err, codes}
 use Rattle.totem_evs.specs.declared.writing.WriteFault.{WriteFault}
 use Rattle.totem_evs.specs.declared.writing.WriteFault.TheVariants as write_faults
 use Rattle.totem_threads.specs.declared.fault.ThreadsFault.{ThreadsFault}
@@ -9,6 +9,25 @@ use Rattle.totem_verdicts.specs.declared.verdict_fault.VerdictFault.{VerdictFaul
 use Rattle.totem_verdicts.specs.declared.verdict_fault.VerdictFault.TheVariants as verdict_faults
 use Rattle.totem_cluster.specs.declared.io_fault.IoFault.{IoFault}
 use Rattle.totem_cluster.specs.declared.io_fault.IoFault.TheVariants as faults
+
+-- the number of a fault, and its name
+abbrev pub io_number : IoFault → ℕ
+io_number (faults.Run fault) = 1
+io_number (faults.Cert fault) = 2
+io_number (faults.Refused fault) = 3
+io_number (faults.Script fault) = 4
+io_number (faults.Book trouble) = 5
+io_number faults.Memory = 6
+io_number faults.Write = 7
+
+abbrev pub io_name : IoFault → List ℕ
+io_name (faults.Run fault) = codes "Run"
+io_name (faults.Cert fault) = codes "Cert"
+io_name (faults.Refused fault) = codes "Refused"
+io_name (faults.Script fault) = codes "Script"
+io_name (faults.Book trouble) = codes "Book"
+io_name faults.Memory = codes "Memory"
+io_name faults.Write = codes "Write"
 
 -- what a fault of a verdict is
 abbrev pub verdict_io_fault : VerdictFault → IoFault

@@ -1,5 +1,5 @@
 ghost use Rattle.std.specs.Prelude.{◌≡◌};
-ghost use Rattle.totem_cluster.specs.IoFaults.{verdict_io_fault, write_io_fault, threads_io_fault};
+ghost use Rattle.totem_cluster.specs.IoFaults.{io_number, io_name, verdict_io_fault, write_io_fault, threads_io_fault};
 
 use thiserror::Error;
 use totem_cert::CertFault;
@@ -33,6 +33,38 @@ pub enum IoFault {
     /// The output failed. How much went out is not known.
     #[error("write failed")]
     Write,
+}
+
+impl IoFault {
+    /// Returns the fault's number, counted from 1 in the order above.
+    pub fn number(&self) -> u8
+        ensures { result ≡ io_number self.now }
+    {
+        match self {
+            IoFault::Run(_) => 1,
+            IoFault::Cert(_) => 2,
+            IoFault::Refused(_) => 3,
+            IoFault::Script(_) => 4,
+            IoFault::Book(_) => 5,
+            IoFault::Memory => 6,
+            IoFault::Write => 7,
+        }
+    }
+
+    /// Returns the fault's name.
+    pub fn name(&self) -> &'static str
+        ensures { result.now ≡ io_name self.now }
+    {
+        match self {
+            IoFault::Run(_) => "Run",
+            IoFault::Cert(_) => "Cert",
+            IoFault::Refused(_) => "Refused",
+            IoFault::Script(_) => "Script",
+            IoFault::Book(_) => "Book",
+            IoFault::Memory => "Memory",
+            IoFault::Write => "Write",
+        }
+    }
 }
 
 impl From<VerdictFault> for IoFault {

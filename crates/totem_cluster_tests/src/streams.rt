@@ -177,3 +177,32 @@ fn an_audit_and_a_check_from_stream_to_stream(rt: HostRuntime) -> Result<(), Fai
     assert_eq!(rt; outcome, Outcome::Yes);
     Ok(())
 }
+
+// The number and the name of the fault of this script.
+fn push_script_fault(alloc: Global, text: &mut String, script: &[u8]) -> Result<(), Fail> {
+    let mut output = ToWrite::new(Vec::new(alloc));
+    if let Err(fault) = sim_io(alloc, &mut FromRead::new(script), &mut output) {
+        write!(text, "{} {}; ", fault.number(), fault.name())?;
+    }
+    Ok(())
+}
+
+#[test]
+fn faults_have_numbers_and_names(rt: HostRuntime) -> Result<(), Fail> {
+    let alloc = rt.alloc();
+    let mut text = String::new(alloc);
+    push_script_fault(alloc, &mut text, b"totem-script 1\nend\n")?;
+    push_script_fault(alloc, &mut text, SCRIPT.as_bytes())?;
+    for fault in &[
+        IoFault::Run(RunFault::Truncated),
+        IoFault::Memory,
+        IoFault::Write,
+    ] {
+        write!(text, "{} {}; ", fault.number(), fault.name())?;
+    }
+    assert_eq!(rt;
+        text.as_str(),
+        "4 Script; 4 Script; 1 Run; 6 Memory; 7 Write; "
+    );
+    Ok(())
+}
