@@ -1,24 +1,20 @@
 -- The ghost side of what journals and pens do. Assumes `Logic`.
 use Rattle.std.proofs.Common.{◌≡◌, ℕ, List, [], ◌∷◌, ◌++◌, map, refl, sym}
 use mathlib.Core.List.{IsPrefix}
-use mathlib.Core.Option.{some, none}
+use mathlib.Core.Option.{some}
 use native.Mathlib.Decide.{ℕ_discrete}
 use seplogic.Ra.Pcs.{OpDef-of_mem}
 use seplogic.Ra.Ura.{Ura}
-use seplogic.Ra.Constructions.Opt
 use base.Fraction.{full_share}
 use base.FractionLaws.{not-OpDef-full_share}
-use base.Share
 use base.Stored.{Gv, Coded, coded_ℕ, coded×}
-use base.Logic.{SProp, ent, sep, ex, guard, upd, emp, id⊢, via, guard_i, upd_i}
+use base.Logic.{SProp, ent, sep, ex, guard, emp, via, guard_i}
 use base.Fml.{Fml, fsep}
-use base.Graph.{sum_out}
-use base.Growing.{grows, growing, latest, at_least}
+use base.Growing.{growing, latest, at_least}
 use types.Logic.{Logic, sem}
 use types.Owned.{basic, own_sum}
 use types.Growing.{latest_new, latest_grows, latest_shows, latest_bounds}
-use types.Kit.{‵, raw, ◌⊛◌, some as any, given, later, ◌$◌, ◌∵◌, !, qed, by, move, keep, drop, split, join, fsplit, fjoin, pick, learn, show, check, frame, settle, suffices, done, use0, use1, use2, updating, await, now, rewrite}
-use denote.Steps.{nothing}
+use types.Kit.{‵, ◌⊛◌, some as any, given, later, ◌$◌, ◌∵◌, !, qed, by, move, keep, split, fsplit, fjoin, pick, learn, show, check, frame, done, use0, use1, use2, updating, await, now, rewrite}
 use Rattle.totem_journal.specs.Tokens.{logs, noted, journal_owns, pen_owns}
 use Rattle.totem_journal.proofs.Prefixes.{prefix_out, prefix_in}
 

@@ -1,7 +1,6 @@
 -- Two pens have two marks.
-use Rattle.totem_journal.proofs.Walks.{◌≡◌, ℕ, List, [], ◌∷◌, ◌++◌, refl, sym, proved, leaves, a_type, dnil, named, Val, vunit, vptr, inst_fn, SProp, emp, Fml, ftrue, fsep, flft, ‵, raw, ◌⊛◌, some, given, later, ◌$◌, ◌∵◌, !, qed, by, move, keep, drop, split, join, fsplit, fsplit3, fjoin, fjoin3, pick, learn, rewrite, use0, use1, use2, await, feq_i, unit_lit, of_opd, no_more, and_then, returns, enter, alloc_all, pass_all, free_all, look_at, get, sets, agg, fact, fact_i, tables, yes, no, RattleType, owns, types_at, plain, RefOf, unit, mut_vals, mut_Tells, shr_vals, shr_Tells, unhide, nothing, opens, closes, param, bounded, Stays, stay_dropped, stay_ref, walk_of, Goes-dropped, Goes-ref, token, Token, token_made, ends}
-use mathlib.Core.List.{IsPrefix}
-use Rattle.totem_journal.specs.Tokens.{journal_owns, pen_owns}
+use Rattle.totem_journal.proofs.Walks.{◌≡◌, List, [], ◌∷◌, refl, proved, a_type, dnil, named, Val, vunit, vptr, inst_fn, SProp, emp, ftrue, fsep, flft, ‵, raw, ◌⊛◌, given, ◌$◌, ◌∵◌, !, qed, by, move, keep, drop, split, join, fsplit, fsplit3, fjoin, fjoin3, learn, use2, feq_i, unit_lit, of_opd, returns, enter, alloc_all, pass_all, free_all, look_at, sets, fact_i, tables, RattleType, owns, types_at, plain, mut_vals, mut_Tells, nothing, opens, closes, param, bounded, Stays, stay_ref, walk_of, Goes-ref, ends}
+use Rattle.totem_journal.specs.Tokens.{pen_owns}
 use Rattle.totem_journal.specs.contracts.journal.Journal as Journal
 use Rattle.totem_journal.specs.contracts.journal.Pen as Pen
 use Rattle.totem_journal.proofs.Steps as steps
