@@ -66,7 +66,7 @@ pub data Plays (was is quiet said : Held) : ℕ → Type 0 where
   -- the numbers don't fit together, which is told
   unfit : (text : List ℕ) → is ≡ was → Tells quiet said text → Plays was is quiet said 64
 
--- what is told of a fault: its line with words behind it, or that memory was refused for these; and the status
+-- what is told of a fault: its line with words after it, or that memory was refused for these; and the status
 pub data Points (fault : IoFault) (quiet said : Held) : ℕ → Type 0 where
   pointed : (words : List ℕ) → Tells quiet said (fault_line fault ++ words) → Points fault quiet said (fault_status fault)
   wordless : Tells quiet said memory_line → Points fault quiet said 3
@@ -79,7 +79,7 @@ pub data Ends (old new : Seen) (was is quiet said : Held) : ℕ → Type 0 where
   simulated : (outcome : Outcome) → Simulates old new was is (Ok outcome) → said ≡ quiet → Ends old new was is quiet said (outcome_status outcome)
   -- it was not, and the fault is told
   unsimulated : (fault : IoFault) → Simulates old new was is (Err fault) → Tells quiet said (fault_line fault) → Ends old new was is quiet said (fault_status fault)
-  -- it makes no run, and the fault is told with words behind it
+  -- it makes no run, and the fault is told with words after it
   unfollowed : (fault : IoFault) (status : ℕ) → Simulates old new was is (Err fault) → Points fault quiet said status → Ends old new was is quiet said status
   -- nothing was read, and nodes were to run in threads
   played : (status : ℕ) → new ≡ old → Plays was is quiet said status → Ends old new was is quiet said status

@@ -7,14 +7,15 @@ use Rattle.totem_evs.specs.Lives.{IsFirstVersion}
 use Rattle.totem_evs.specs.RunText.{run_text}
 use Rattle.totem_books.specs.Seats.{Closed}
 use Rattle.totem_threads.specs.Books.{IsRunOf}
+use Rattle.totem_threads.specs.Faults.{IsFullBook}
 use Rattle.totem_verdicts.specs.declared.outcome.Outcome.{Outcome}
 use Rattle.totem_verdicts.specs.declared.outcome.Outcome.TheVariants as outcomes
 use Rattle.totem_cluster.specs.declared.io_fault.IoFault.{IoFault}
 use Rattle.totem_cluster.specs.declared.io_fault.IoFault.TheVariants as faults
 
--- a book took no further call or wasn't closed, or memory or a thread was refused
+-- a book was full, or its log too long for a run, and nothing else of a book; or memory or a thread was refused
 abbrev pub IsOfThreads : IoFault → Type 0
-IsOfThreads (faults.Book trouble) = Unit {0}
+IsOfThreads (faults.Book trouble) = IsFullBook trouble
 IsOfThreads faults.Memory = Unit {0}
 IsOfThreads faults.Write = ⊥
 IsOfThreads (faults.Run fault) = ⊥
@@ -32,13 +33,13 @@ pub record IsRecorded (nodes : ℕ) (was is : Held) : Type 0 where
   pub run_of : IsRunOf nodes books run.logs
   pub written : Wrote was is (run_text run)
 
--- a book took no further call or wasn't closed; or memory or a thread was refused: nothing was written; or the sink
--- failed in this call
+-- a book was full, or its log too long, and nothing else of a book; or memory or a thread was refused: nothing was written; or the
+-- sink failed in this call
 abbrev pub Records : ℕ → Held → Held → Result Outcome IoFault → Type 0
 Records nodes was is (Ok outcomes.Made) = IsRecorded nodes was is
 Records nodes was is (Ok outcomes.Yes) = ⊥
 Records nodes was is (Ok outcomes.No) = ⊥
-Records nodes was is (Err (faults.Book trouble)) = is ≡ was
+Records nodes was is (Err (faults.Book trouble)) = IsFullBook trouble × (is ≡ was)
 Records nodes was is (Err faults.Memory) = is ≡ was
 Records nodes was is (Err faults.Write) = is.failures ≡ (was.failures + 1) % 2 ^ 64
 Records nodes was is (Err (faults.Run fault)) = ⊥

@@ -29,7 +29,7 @@ pub record IsRead (old new : Seen) (read : List ℕ) : Type 0 where
   pub whole : IfSome old.remaining (λ bytes. read ≡ take most_read bytes)
   pub failures : new.failures ≡ old.failures
 
--- the source failed behind these bytes
+-- the source failed after these bytes
 pub record BreaksOff (old new : Seen) (read : List ℕ) : Type 0 where
   pub taken : Consumes old.remaining new.remaining read
   pub failures : new.failures ≡ (old.failures + 1) % 2 ^ 64
@@ -59,7 +59,7 @@ abbrev pub fault_of_rest : ScriptFault → Told Run → ScriptFault
 fault_of_rest now (Ok run) = now
 fault_of_rest now (Err earlier) = unless_earlier now earlier earlier.kind
 
--- the fault of a script whose source failed behind these bytes
+-- the fault of a script whose source failed after these bytes
 abbrev pub fault_behind : List ℕ → ScriptFault
 fault_behind read = fault_of_rest (unread read) (simulate read)
 
@@ -114,7 +114,7 @@ pub record IsUnwritten (old new : Seen) : Type 0 where
   pub made : simulate read ≡ Ok run
 
 -- the run was written; or nothing was: the script was refused or its source failed, or memory was refused; or the sink
--- failed in this call, behind a whole script
+-- failed in this call, after a whole script
 abbrev pub Simulates : Seen → Seen → Held → Held → Result Outcome IoFault → Type 0
 Simulates old new was is (Ok outcomes.Made) = IsSimulated old new was is
 Simulates old new was is (Ok outcomes.Yes) = ⊥

@@ -11,6 +11,7 @@ use Rattle.totem_evs.specs.LogRecord.{LogRecord}
 use Rattle.totem_evs.specs.RunText.{line}
 use Rattle.totem_books.specs.Seats.{Closed}
 use Rattle.totem_threads.specs.Books.{IsRunOf}
+use Rattle.totem_threads.specs.Faults.{IsFullBook}
 use Rattle.totem_weave.specs.declared.woven.Woven.{Woven}
 use Rattle.totem_weave.specs.declared.fault.WeaveFault.{WeaveFault}
 use Rattle.totem_weave.specs.declared.fault.WeaveFault.TheVariants as refusals
@@ -59,7 +60,7 @@ pub record WritesOrphan (books : List Closed) (was is : Held) : Type 0 where
   pub is_orphan : IsOrphan first.start.ring first.start.members books place
   pub written : Wrote was is (orphan_text place)
 
--- what is written of a refusal: an orphan, if it is one; or nothing, at want of memory; or the sink failed in this call
+-- what is written of a refusal: an orphan, if it is one; or nothing, at out of memory; or the sink failed in this call
 abbrev pub TellsRefusal : WeaveFault → Held → Held → Result Weave IoFault → Type 0
 TellsRefusal (refusals.Orphan place) was is (Ok weaves.Orphan) = Wrote was is (orphan_text place)
 TellsRefusal fault was is (Ok woven) = ⊥
@@ -67,7 +68,7 @@ TellsRefusal fault was is (Err faults.Memory) = is ≡ was
 TellsRefusal fault was is (Err faults.Write) = is.failures ≡ (was.failures + 1) % 2 ^ 64
 TellsRefusal fault was is (Err other) = ⊥
 
--- what is written of these books; or nothing, at want of memory; or the sink failed in this call
+-- what is written of these books; or nothing, at out of memory; or the sink failed in this call
 abbrev pub WeavesBooks : List Closed → Held → Held → Result Weave IoFault → Type 0
 WeavesBooks books was is (Ok weaves.Whole) = WritesWoven books was is
 WeavesBooks books was is (Ok weaves.Orphan) = WritesOrphan books was is
@@ -86,10 +87,10 @@ pub record WeavesBooksOf (nodes : ℕ) (was is : Held) (result : Result Weave Io
   pub run_of : IsRunOf nodes books logs
   pub weaves : WeavesBooks books was is result
 
--- the same; or a book took no further call or wasn't closed, or memory or a thread was refused: nothing was written
+-- the same; or a book was full, or its log too long, and nothing else of a book; or memory or a thread was refused: nothing was written
 abbrev pub WeavesRun : ℕ → Held → Held → Result Weave IoFault → Type 0
 WeavesRun nodes was is (Ok woven) = WeavesBooksOf nodes was is (Ok woven)
-WeavesRun nodes was is (Err (faults.Book trouble)) = is ≡ was
+WeavesRun nodes was is (Err (faults.Book trouble)) = IsFullBook trouble × (is ≡ was)
 WeavesRun nodes was is (Err faults.Memory) = is ≡ was
 WeavesRun nodes was is (Err faults.Write) = is.failures ≡ (was.failures + 1) % 2 ^ 64
 WeavesRun nodes was is (Err (faults.Run fault)) = ⊥

@@ -24,7 +24,7 @@ pub enum IoFault {
     /// The script makes no run, or its source failed. Never with `ScriptFaultKind::Memory`.
     #[error("the script was refused: {0}")]
     Script(ScriptFault),
-    /// A book of a run in threads took no further call, or was not closed.
+    /// A book of a run in threads was full, or its log too long: `BookTrouble::Call(BookFault::Long)`, and no other.
     #[error("a book was refused: {0}")]
     Book(BookTrouble),
     /// Memory was refused or, in a run in threads, a thread could not be made.

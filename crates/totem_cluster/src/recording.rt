@@ -19,7 +19,7 @@ use totem_verdicts::Outcome;
 
 /// Runs so many nodes in threads, on ring 4.1, over a network that does what the plan says, until the ticks are used up
 /// (docs/PROTOCOL.md, "A run in threads"). The receiving thread of each node calls `start.begun` before it receives. Waits for
-/// all threads, and returns the run that the nodes recorded with their books in rising order. Which run comes out is open.
+/// all threads, and returns the run that the nodes recorded with their books in ascending order. Which run comes out is open.
 pub fn run_threads<S: Start, R: Threads + Wait + Sync>(
     rt: &R,
     alloc: Global,

@@ -72,7 +72,7 @@ fn play<T: Threads + Wait + Sync, W: Sink, E: Sink, P: Progress>(
     }
 }
 
-/// Returns what a person is told of a script that makes no run, behind the fault's line.
+/// Returns what a person is told of a script that makes no run, after the fault's line.
 fn line_words(alloc: Global, unmade: &Unmade) -> Result<String, AllocError> {
     match &unmade.fault {
         IoFault::Script(fault) => explain_line(alloc, fault, &unmade.script),

@@ -18,7 +18,7 @@ const MOST: usize = 65_537;
 #[derive(Debug, Drop)]
 pub struct Reading {
     bytes: Vec<u8>,
-    /// Whether the source failed behind these bytes.
+    /// Whether the source failed after these bytes.
     failed: bool,
 }
 
@@ -50,7 +50,7 @@ fn read_script<R: Source>(alloc: Global, input: &mut R) -> Result<Reading, Alloc
     })
 }
 
-/// Returns the fault of a script that can't be read on behind these bytes.
+/// Returns the fault of a script that can't be read on after these bytes.
 fn unread(bytes: &[u8]) -> ScriptFault
     requires { length bytes.now ≤ 65537 }
     ensures { result ≡ unread bytes.now }
@@ -62,7 +62,7 @@ fn unread(bytes: &[u8]) -> ScriptFault
     }
 }
 
-/// Returns the fault of a script whose source failed behind these bytes: that of an earlier line, or that it can't be read.
+/// Returns the fault of a script whose source failed after these bytes: that of an earlier line, or that it can't be read.
 fn fault_behind(alloc: Global, bytes: &[u8]) -> IoFault
     requires { length bytes.now ≤ 65537 }
     ensures { TellsBehind result bytes.now }

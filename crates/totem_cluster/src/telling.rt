@@ -55,7 +55,7 @@ fn put_fault<E: Sink>(errors: &mut E, fault: &IoFault) -> Result<(), Failed>
     }
 }
 
-/// Writes the line of a fault, and words behind it.
+/// Writes the line of a fault, and words after it.
 #[tactic(auto, using(totem_ids::proofs::Writers::wrote_then, totem_ids::proofs::Writers::wrote_failed))]
 fn put_with_words<E: Sink>(errors: &mut E, fault: &IoFault, words: &str) -> Result<(), Failed>
     ensures { Writes (bare E.contents E.failures errors.old) (bare E.contents E.failures errors.new) result
@@ -84,7 +84,7 @@ pub fn tell_fault<E: Sink>(errors: &mut E, fault: &IoFault) -> u8
     status_of(fault)
 }
 
-/// Tells a fault with words behind its line, and returns its status.
+/// Prints a fault with words after its line, and returns its status.
 pub fn tell_with_words<E: Sink>(errors: &mut E, fault: &IoFault, words: &str) -> u8
     ensures line { Tells (bare E.contents E.failures errors.old) (bare E.contents E.failures errors.new) (fault_line fault.now ++ words.now) }
     ensures status { result ≡ fault_status fault.now }

@@ -34,7 +34,7 @@ const PACKETS: [&[u8]; 6] = [
 const RUN: &[u8] =
     b"totem-run 1\nlog 1\nconf r4.1 1 2 3\nsend r4.1 s 4.1#1\ndlv r4.1 4.1#1\nconf t8.1/1 1 2\nconf r8.1 1 2\nopen\nlog 2\nconf r4.1 1 2 3\nconf t8.1/1 1 2\nconf r8.1 1 2\nfail r8.1\nfailed\nlog 3\nconf r4.1 1 2 3\nopen\nend\n";
 
-/// Changes the bytes as a word says, at a place that it says: a byte is another one, is left out or comes twice, or all behind it is cut.
+/// Changes the bytes as a word says, at a place that it says: a byte is another one, is left out or comes twice, or all after it is cut.
 fn change(bytes: &mut Vec<u8>, word: u32) -> Result<(), AllocError> {
     let at = (word / 1024) as usize % bytes.len().max(1);
     let Some(byte) = bytes.get(at).copied() else {

@@ -14,7 +14,7 @@ use totem_packets::Packet;
 /// Packets on their way, each with its receiver.
 pub type Queue = VecDeque<(ProcId, Packet)>;
 
-/// One more packet, behind the others.
+/// One more packet, after the others.
 pub fn put(queue: &mut Queue, item: (ProcId, Packet)) -> Result<(), AllocError> {
     match queue.push_back(item) {
         Ok(()) => Ok(()),

@@ -77,7 +77,7 @@ impl fmt::Display for Answer<'_> {
     }
 }
 
-/// What was told in the life of a book, with `| ` behind each answer, and the replies of its calls.
+/// What was told in the life of a book, with `| ` after each answer, and the replies of its calls.
 #[derive(Drop)]
 pub(crate) struct Life {
     pub text: String,
@@ -122,7 +122,7 @@ fn apply(alloc: Global, life: &mut Life, book: &mut Book, input: Input) -> Resul
     }
 }
 
-/// Whether the copy of a call is of this receipt.
+/// Returns whether the copy of a call is of this receipt.
 fn is_copied(alloc: Global, call: &Call, stub: &Stub) -> Result<bool, AllocError> {
     let copy = call.try_clone(alloc)?;
     Ok(copy.is_of(stub))

@@ -171,7 +171,7 @@ struct Given {
 }
 
 impl Given {
-    /// Takes its words until the stop word. At want of memory it ends at once, without a full stop.
+    /// Takes its words until the stop word. At out of memory it ends at once, without a full stop.
     fn take<R: Wait>(&mut self, rt: &R, nodes: &[NodeEnds]) -> Result<(), AllocError> {
         let Some(ends) = nodes.get(self.place) else {
             return Ok(());

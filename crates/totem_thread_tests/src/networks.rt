@@ -25,7 +25,7 @@ fn push_handed(text: &mut String, deliveries: &[Delivery]) -> Result<(), AllocEr
     Ok(())
 }
 
-/// Returns for whom a packet is: a node, or behind `-` every node but one.
+/// Returns for whom a packet is: a node, or after `-` every node but one.
 fn address(to: &str) -> Option<Address> {
     match to.strip_prefix('-') {
         Some(sender) => Some(Address::AllBut(ProcId::new(sender.parse().ok()?)?)),

@@ -50,7 +50,7 @@ fn passage(alloc: Global, to: ProcId, packet: &Packet) -> Result<Vec<u8>, AllocE
 /// What was sent to which node, and whether a node other than the receiver sent it.
 type Sent = BTreeMap<Vec<u8>, bool>;
 
-/// Whether a packet of a node goes to this one.
+/// Returns whether a packet of a node goes to this one.
 fn goes(to: &To, from: ProcId, node: ProcId) -> bool {
     match to {
         To::All => node != from,
@@ -127,7 +127,7 @@ fn all_sent(alloc: Global, books: &[ClosedBook]) -> Result<Sent, AllocError> {
     Ok(sent)
 }
 
-/// Whether what a node was given was sent, and if so whether another node sent it.
+/// Returns whether what a node was given was sent, and if so whether another node sent it.
 fn by_another(
     alloc: Global,
     sent: &Sent,

@@ -18,7 +18,7 @@ abbrev pub trouble_name : BookTrouble → List ℕ
 trouble_name (troubles.Call fault) = book_name fault
 trouble_name (troubles.Close fault) = close_name fault
 
--- want of memory is told as such
+-- out of memory is told as such
 abbrev pub call_trouble : BookFault → ThreadsFault
 call_trouble book_faults.Memory = faults.Memory
 call_trouble fault = faults.Book (troubles.Call fault)

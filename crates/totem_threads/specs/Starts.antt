@@ -23,7 +23,7 @@ first_packet = packet_bytes (Token (first_token first_ring))
 abbrev pub start_of : ℕ → ℕ → Start
 start_of nodes node = start_with (first_rank node) first_ring (first_ranks (node_numbers nodes))
 
--- all of them, in rising order
+-- all of them, in ascending order
 abbrev pub starts : ℕ → List Start
 starts nodes = map (start_of nodes) (node_numbers nodes)
 

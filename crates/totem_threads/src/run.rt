@@ -111,7 +111,7 @@ fn run_network<S: Start, R: Threads + Wait + Sync, P: Progress>(
 
 /// Runs so many nodes in threads, on ring 4.1, over a network that does what the plan says, until the ticks are used up
 /// (docs/PROTOCOL.md, "A run in threads"). Waits for all threads, and returns the run that the nodes recorded with
-/// their books in rising order. Which run comes out is open. The switch tells at each tick how far the run is.
+/// their books in ascending order. Which run comes out is open. The switch tells at each tick how far the run is.
 pub fn run_nodes<S: Start, R: Threads + Wait + Sync, P: Progress>(
     rt: &R,
     alloc: Global,

@@ -18,7 +18,7 @@ pub trait Word: Drop + Send {
 
     ghost task_of: { Self → Task };
 
-    /// Returns what the word asks. The only fault is want of memory.
+    /// Returns what the word asks. The only fault is out of memory.
     fn task(self, alloc: Global) -> Result<Task, AllocError>
         ensures { IfOk result (λ task. task ≡ task_of self) };
 }
