@@ -1,19 +1,19 @@
 #!/usr/bin/env python3
-"""Times `totem audit` on families of runs, and `totem check` on the certificates that it gives.
+"""Measures the time of `totem audit` on families of runs, and of `totem check` on the certificates that it gives.
 
-For each family and each size it makes a run, lets the program judge it, and prints a line: the entries, the verdict, the least
-wall time of a few tries, the peak memory, what that is for an entry, and how often the time of the size before it was needed; of
-a yes also the time and the memory of the check of its certificate, and of a check of the same certificate with its last number moved.
-A family whose time grows much faster than its entries is a defect.
+For each family and each size it makes a run, lets the program judge it, and prints a line: the number of entries, the verdict, the
+shortest wall time of a few tries, the peak memory, the peak memory per entry, and by which factors the time and the entries grew since the
+size before. If the verdict is yes, the line also has the time and the memory of the check of its certificate, and of the check of the
+same certificate with its last number changed. If the time of a family grows much faster than its entries, that is a defect.
 
     ./totem prove                                  # proves and builds the program, once
     bench/audit.py                                 # the table
     bench/audit.py --families well8,fails --sizes 10000,40000,160000
-    bench/audit.py --workers 4                     # the last pass by four threads
+    bench/audit.py --workers 4                     # with four threads for the last pass
     bench/audit.py --write fails --sizes 1000      # the run itself, for other programs
 
-The runs are a function of the seed. A peak of less than 10 MiB is that of what starts the program. Times of a machine that
-does other work swing by half: compare lines of one table.
+The runs are a function of the seed. A peak below 10 MiB is that of the process that starts the program. On a machine that
+does other work the times vary by half, so compare only lines of the same table.
 """
 
 import argparse
@@ -28,7 +28,7 @@ PROGRAM = Path(__file__).resolve().parent.parent / "crates/totem/out/totem"
 
 
 class Ring:
-    """The messages of one ring: its number, its members, and who sends what in which service, in batches as a token gives them."""
+    """The messages of one ring: its number, its members, and who sends what with which service, in a batch for each visit of the token."""
 
     def __init__(self, rng, number, members, messages):
         self.number, self.members = number, members
@@ -44,7 +44,7 @@ class Ring:
         return f"conf r{self.name} {' '.join(map(str, self.members))}"
 
     def between(self, following):
-        """The transitional change of all members to the ring that follows."""
+        """The change to the transitional configuration in which all members go on to the next ring."""
         return f"conf t{following.name}/{self.members[0]} {' '.join(map(str, self.members))}"
 
     def send(self, number, service):
@@ -54,7 +54,7 @@ class Ring:
         return f"dlv r{self.name} {self.name}#{number}"
 
     def life(self, member, delivers=lambda number, sender: True, sends=True):
-        """The lines of one member: its own batches where their turn comes, and what it delivers of all of them."""
+        """The lines of one member: its own batches, each in its turn, and what it delivers of all batches."""
         lines = [self.change()]
         for sender, first, services in self.batches:
             numbers = range(first, first + len(services))
@@ -65,13 +65,13 @@ class Ring:
 
 
 def with_first_lives(line):
-    """The line as texts write it that write lives."""
+    """The line as it is in a text that has lives."""
     words = line.split(" ")
     return " ".join([*words[:2], *(word + ":1" for word in words[2:])]) if words[0] == "conf" else line
 
 
 def text_of(logs):
-    """The run's text: each log is a process, its lines and its closing word. Where one is quiet, it is of version 3."""
+    """The run's text: each log is a process, its lines and the word that closes it. If a log is quiet, the text is of version 3."""
     quiet = any(ending == "quiet" for _, _, ending in logs)
     lines = ["totem-run 3" if quiet else "totem-run 1"]
     for process, body, ending in logs:
@@ -89,7 +89,7 @@ def all_well(count, ending="open"):
 
 
 def many_rings(messages):
-    """Eight members that go from ring to ring, with so many messages on each."""
+    """Eight members that go from ring to ring, with this many messages on each."""
 
     def family(rng, entries):
         members = list(range(1, 9))
@@ -109,7 +109,7 @@ def many_rings(messages):
 
 
 def parts_and_joins(count):
-    """Members that part into two halves and join again, twice. The last hundred messages of the whole are not delivered before they part:
+    """Members that split into two halves and join again, twice. The last hundred messages before each split are not delivered before it:
     each half then delivers those that it sent."""
 
     def family(rng, entries):
@@ -139,7 +139,7 @@ def parts_and_joins(count):
 
 
 def one_stays_behind(count, share, ending):
-    """The last of so many members sends nothing, and delivers this share of the messages (none: two)."""
+    """The last of this many members sends nothing, and delivers this share of the messages, but at least two."""
 
     def family(rng, entries):
         messages = entries // count
@@ -154,7 +154,7 @@ def one_stays_behind(count, share, ending):
 
 
 def each_for_itself(rng, entries):
-    """Two logs that fail, each of which delivers what it sent itself and nothing else."""
+    """Two failed logs, each of which delivers what it sent itself and nothing else."""
     ring = Ring(rng, 4, [1, 2], entries // 2)
     ring.batches = [(sender, first, ["a"] * len(services)) for sender, first, services in ring.batches]
     return [
@@ -164,7 +164,7 @@ def each_for_itself(rng, entries):
 
 
 def broken_at_the_end(kind):
-    """Three members of which the last one misses a message at the end, so that a specification is broken."""
+    """Three members, the last of which misses a message at the end, so that a specification is broken."""
 
     def family(rng, entries):
         messages = max(4, entries // 4)
@@ -207,8 +207,8 @@ FAMILIES = {
 }
 
 
-# Starts the program from a small process of its own, since a child is counted with the memory of whoever starts it. Tells the
-# status, the seconds and the KiB at the peak.
+# Starts the program from a small process of its own, because the memory of the process that starts a child counts for the child. Prints
+# the status, the seconds and the peak in KiB.
 STARTER = """
 import os, sys, time
 start = time.perf_counter()
@@ -222,8 +222,8 @@ print(os.waitstatus_to_exitcode(status), time.perf_counter() - start, used.ru_ma
 
 
 def judged(words, run, limit):
-    """The verdict, the wall time and the peak memory in MiB of one audit or check; no verdict where it takes longer than the limit, or
-    where a certificate is refused."""
+    """The verdict, the wall time and the peak memory in MiB of one audit or check. There is no verdict if it takes longer than the limit,
+    or if a certificate is refused."""
     with tempfile.TemporaryFile() as out:
         run.seek(0)
         started = [sys.executable, "-S", "-c", STARTER, str(limit), *words]
@@ -240,14 +240,14 @@ def judged(words, run, limit):
 
 
 def moved(certificate):
-    """The certificate with the last number of its last log moved by one."""
+    """The certificate with the last number of its last log increased by one."""
     body, last, end = certificate.rpartition(b" ")
     number, _, rest = end.partition(b"\n")
     return body + last + str(int(number) + 1).encode() + b"\n" + rest
 
 
 def checks_of(run, arguments):
-    """The check of the run with the certificate that its audit gives, and with that one changed: times and peak memory."""
+    """Time and peak memory of the check of the run, with the certificate that its audit gives, and with that certificate changed."""
     run.seek(0)
     told = subprocess.run([str(arguments.program), "audit"], stdin=run, capture_output=True, check=True).stdout
     certificate = told[told.index(b"totem-cert") :]
@@ -294,13 +294,13 @@ def numbers(text):
 def main():
     parser = argparse.ArgumentParser(description=__doc__, formatter_class=argparse.RawDescriptionHelpFormatter)
     parser.add_argument("--program", type=Path, default=PROGRAM, help="the built program")
-    parser.add_argument("--families", default=",".join(FAMILIES), help="which, parted by commas: " + ", ".join(FAMILIES))
-    parser.add_argument("--sizes", type=numbers, default=[20_000, 80_000, 320_000], help="about how many entries, parted by commas")
+    parser.add_argument("--families", default=",".join(FAMILIES), help="which families, separated by commas: " + ", ".join(FAMILIES))
+    parser.add_argument("--sizes", type=numbers, default=[20_000, 80_000, 320_000], help="about how many entries, separated by commas")
     parser.add_argument("--workers", type=int, default=1)
-    parser.add_argument("--tries", type=int, default=3, help="the least time of so many counts")
-    parser.add_argument("--limit", type=int, default=60, help="seconds behind which an audit is given up")
+    parser.add_argument("--tries", type=int, default=3, help="the shortest time of this many tries counts")
+    parser.add_argument("--limit", type=int, default=60, help="seconds after which an audit is given up")
     parser.add_argument("--seed", type=int, default=1)
-    parser.add_argument("--write", metavar="FAMILY", help="writes the run of the first size, and judges nothing")
+    parser.add_argument("--write", metavar="FAMILY", help="write the run of the first size, and judge nothing")
     arguments = parser.parse_args()
     names = [arguments.write] if arguments.write else arguments.families.split(",")
     for name in names:
@@ -311,7 +311,7 @@ def main():
         return
     if not os.access(arguments.program, os.X_OK):
         parser.error(f"{arguments.program} is not built: ./totem prove builds it")
-    print("| Run | Entries | Verdict | Time | Peak memory | Bytes an entry | Times the time, for times the entries | Check | Refusal |")
+    print("| Run | Entries | Verdict | Time | Peak memory | Bytes per entry | Growth of time, for that of entries | Check | Refusal |")
     print("|---|---|---|---|---|---|---|---|---|")
     for name in names:
         for line in lines_of(name, arguments):

@@ -1,15 +1,14 @@
 #!/usr/bin/env python3
-"""Where the gate's processor time goes: runs `rt ci` and sums the time of its checks, by crate and by what they do.
+"""Measures where the gate's processor time goes: runs `rt ci` and sums up the time of its checks, by crate and by kind of check.
 
     bench/gate.py                     # runs `rt ci` from nothing here, and prints the table when it has ended
-    bench/gate.py --each              # the table, and behind it a line for each edit
+    bench/gate.py --each              # the table, and after it a line for each edit
     bench/gate.py rt ci totem_ids     # the same for another command
     bench/gate.py --watch             # only watches a run that somebody else began; ends with Ctrl-C
 
-It looks at /proc each second, so it needs Linux; a check that begins and ends between two looks is missed. The columns are
-processor minutes: of a crate's own proof, which builds it too; of the proof of its tests; of the check that its must-fail edits
-begin with, and the one that they end with; and of the edits themselves. A loaded machine takes up to twice the time for the same,
-so measure alone."""
+It looks at /proc every second, so it needs Linux, and it misses a check that begins and ends between two looks. The columns are
+processor minutes: of a crate's own proof, which builds it too; of the proof of its tests; of the checks with which its must-fail edits
+begin and end; and of the edits themselves. On a loaded machine the same work takes up to twice the time, so let nothing else run."""
 
 import argparse
 import collections
@@ -28,7 +27,7 @@ Process = collections.namedtuple("Process", "name parent started seconds")
 
 
 def processes():
-    """All processes, by their numbers: the time of each is with that of the children that it waited for."""
+    """All processes, by their numbers: the time of each includes that of the children that it waited for."""
     found = {}
     for folder in glob.glob("/proc/[0-9]*"):
         try:
@@ -50,7 +49,7 @@ def prover_above(found, number):
 
 
 def edit_in(crate, folder):
-    """The must-fail edit that was done to a copy of a crate, or None if it is the crate as it stands."""
+    """The must-fail edit that was made in a copy of a crate, or None if the copy is unchanged."""
     for path in sorted(glob.glob("crates/%s/must-fail/*.edit" % crate)):
         with open(path, encoding="utf-8") as it:
             lines = it.read().splitlines()
@@ -67,7 +66,7 @@ def edit_in(crate, folder):
 
 
 def work_of(number):
-    """The crate that a process of the prover checks, what it does, and for an edit its name."""
+    """The crate that a process of the prover checks, the kind of check, and the name of the edit if it checks one."""
     with open("/proc/%d/cmdline" % number, "rb") as it:
         words = it.read().decode(errors="replace").split("\0")
     folder = os.readlink("/proc/%d/cwd" % number)
@@ -79,14 +78,14 @@ def work_of(number):
 
 
 class Watch:
-    """What each check has taken so far."""
+    """The time that each check has taken so far."""
 
     def __init__(self):
         self.works = {}
         self.seconds = collections.Counter()
 
     def look(self):
-        """Adds what the checks took since the last look."""
+        """Adds the time that the checks have taken since the last look."""
         found = processes()
         now = collections.Counter()
         for number, process in found.items():
@@ -112,7 +111,7 @@ class Watch:
 
 
 def tell(crates, edits, each):
-    """Prints the table, the dearest crate first."""
+    """Prints the table, the most expensive crate first."""
     print("%-24s" % "processor minutes" + "".join("%8s" % it for it in COLUMNS) + "%8s" % "all")
     whole = collections.Counter()
     for crate, row in sorted(crates.items(), key=lambda it: -sum(it[1].values())):
@@ -125,16 +124,16 @@ def tell(crates, edits, each):
 
 
 def gate():
-    """The command that proves all from nothing: a kit that keeps what it proved before has a word to leave that."""
+    """The command that proves everything from nothing: a kit that keeps what it proved has an option not to use it."""
     told = subprocess.run(["rt", "help"], capture_output=True, text=True, check=False)
     return ["rt", "ci"] + ["--anew"] * ("--anew" in told.stdout + told.stderr)
 
 
 def main():
-    """Watches until the command has ended."""
+    """Watches until the command has ended, and prints the table."""
     parser = argparse.ArgumentParser(description=__doc__, formatter_class=argparse.RawDescriptionHelpFormatter)
-    parser.add_argument("--each", action="store_true", help="tell each edit too")
-    parser.add_argument("--watch", action="store_true", help="begin nothing")
+    parser.add_argument("--each", action="store_true", help="also print a line for each edit")
+    parser.add_argument("--watch", action="store_true", help="start nothing, only watch")
     parser.add_argument("command", nargs="*")
     asked = parser.parse_args()
     signal.signal(signal.SIGTERM, signal.default_int_handler)

@@ -1,16 +1,16 @@
 #!/usr/bin/env python3
-"""Measures `totem run`: how many messages the nodes send, how many of them every node delivers, in what time and memory.
+"""Measures `totem run`: how many messages the nodes send, how many of them every node delivers, and how much time and memory that takes.
 
-It prints a line for each of these words: the least, the middle and the greatest share of several seeds, and the most time and
-memory. Which run comes out is open, also where the seed is the same.
+It prints a line for each of the lists of arguments below: the least, the median and the greatest share over several seeds, and the most
+time and memory. Two runs with the same seed may differ.
 
-    ./totem prove                                      # proves and builds the program, once
+    ./totem prove                                     # proves and builds the program, once
     bench/threads.py                                  # the table
     bench/threads.py --seeds 1                        # one run for each line
     taskset -c 0,1 bench/threads.py                   # on two cores
-    bench/threads.py --words '--nodes 3 --lose 10'    # one line, of your own words
+    bench/threads.py --words '--nodes 3 --lose 10'    # one line, with your own arguments
 
-The program judges each run, too. A run with the verdict no is written into the folder of --keep, where one is given.
+The program judges each run, too. If --keep names a folder, each run with the verdict no is written to it.
 """
 
 import argparse
@@ -43,8 +43,8 @@ WORDS = [
 ]
 
 
-# Starts the program from a small process of its own, since a child is counted with the memory of whoever starts it. Tells the
-# status, the seconds and the KiB at the peak.
+# Starts the program from a small process of its own, because the memory of the process that starts a child counts for the child. Prints
+# the status, the seconds and the peak in KiB.
 STARTER = """
 import os, sys, time
 start = time.perf_counter()
@@ -76,7 +76,7 @@ def counted(run, nodes):
 
 
 def made(arguments, words, seed):
-    """One run: what came of it."""
+    """Makes one run with these arguments and this seed, and returns what it shows."""
     nodes = int(words[words.index("--nodes") + 1]) if "--nodes" in words else 3
     with tempfile.TemporaryFile("w+") as run:
         asked = [str(arguments.limit), str(arguments.program), "run", *words, "--seed", str(seed)]
@@ -96,7 +96,7 @@ def made(arguments, words, seed):
 
 
 def line_of(arguments, words):
-    """The line of a table for runs of these words with several seeds."""
+    """The line of the table for runs with these arguments and several seeds."""
     runs = [made(arguments, words.split(), seed) for seed in range(1, arguments.seeds + 1)]
     shares = [100 * run.everywhere / max(run.sent, 1) for run in runs]
     verdicts = collections.Counter(run.verdict for run in runs)
@@ -111,14 +111,14 @@ def line_of(arguments, words):
 def main():
     parser = argparse.ArgumentParser(description=__doc__, formatter_class=argparse.RawDescriptionHelpFormatter)
     parser.add_argument("--program", type=Path, default=PROGRAM, help="the built program")
-    parser.add_argument("--words", action="append", help="a line of these words, in place of the table; again for more")
+    parser.add_argument("--words", action="append", help="a line for these arguments, instead of the table; may be repeated")
     parser.add_argument("--seeds", type=int, default=5, help="how many runs for each line")
-    parser.add_argument("--limit", type=int, default=120, help="seconds behind which a run is given up")
+    parser.add_argument("--limit", type=int, default=120, help="seconds after which a run is given up")
     parser.add_argument("--keep", type=Path, help="a folder for the runs whose verdict is no")
     arguments = parser.parse_args()
     if not os.access(arguments.program, os.X_OK):
         parser.error(f"{arguments.program} is not built: ./totem prove builds it")
-    print("| `totem run` | Sent (middle) | Delivered by all (least, middle, most) | Rings | Verdicts | Time | Peak memory |")
+    print("| `totem run` | Sent (median) | Delivered by all (least, median, most) | Rings | Verdicts | Time | Peak memory |")
     print("|---|---|---|---|---|---|---|")
     for words in arguments.words or WORDS:
         print(line_of(arguments, words), flush=True)

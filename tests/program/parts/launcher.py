@@ -15,7 +15,7 @@ REPOSITORY = os.path.dirname(os.path.dirname(os.path.dirname(os.path.dirname(os.
 STAND_IN = os.path.join(REPOSITORY, 'tests', 'harness', 'rt_stand_in')
 LOGIC = next(line.partition('=')[2].strip() for line in open(os.path.join(REPOSITORY, 'totem'), encoding='utf-8')
              if line.startswith('logic='))
-CRATES = 'low: itoa\ntotem_auditor: low\nhigh: low\ntotem: low high\n# A crate that no program stands on.\nother: low\n'
+CRATES = 'low: itoa\ntotem_auditor: low\nhigh: low\ntotem: low high\n# A crate that no program uses.\nother: low\n'
 # What the stand-in builds: it prints its name, its arguments and its input, and ends with a status that nothing else here has.
 PROGRAM = '#!/bin/sh\necho "${0##*/} $*"\ncat\nexit 9\n'
 ANSWERED = 'a line of the program\nchecked: ended status=1\nraces: not looked for\nrun=ended status=1 runners=1 races=unchecked proved=no\n'
@@ -141,7 +141,7 @@ def look_at_refusal(said, _program):
     """If `rt` has no answer of the program, there is none."""
     with scene() as it:
         it.say(tried=said)
-        return differs(it.run('try', 'audit'), 70, '', 'totem: NOT PROVED', 'totem: no answer without proof')
+        return differs(it.run('try', 'audit'), 70, '', 'totem: NOT PROVED', 'totem: no answer from the unproved program')
 
 
 def look_at_proved(_program):
@@ -183,7 +183,7 @@ def build_after_change(_program):
         it.run('audit')
         it.write('crates/high/src/lib.rt', 'fn g() {}\n')
         if it.told('calls').count('ci') != 1 or differs(it.run('audit'), 9, AUDITED) or it.told('calls').count('ci') != 1:
-            return 'a crate that the program does not stand on was proved'
+            return 'a crate that the program does not use was proved'
         it.write('crates/low/src/lib.rt', 'fn g() {}\n')
         return differs(it.run('audit'), 9, AUDITED, '2 of 2') or (it.told('calls').count('ci') != 2 and 'nothing was proved again')
 
@@ -211,7 +211,7 @@ def build_none(_program):
     """If everything passes and there is no program, that is reported."""
     with scene() as it:
         os.remove(os.path.join(it.stand_in, 'built'))
-        return differs(it.run('audit'), 70, '', 'totem: rt ci passed and built no program')
+        return differs(it.run('audit'), 70, '', 'totem: rt ci passed, but built no program')
 
 
 def build_interrupted(_program):
@@ -283,7 +283,7 @@ def stop_at_kit(words, version, _program):
         return differs(came, 70, '', LOGIC, version.strip() or 'nothing') or (it.told('calls') != ['version'] and 'rt did more')
 
 
-def stop_for_want(words, name, what, _program):
+def stop_for_lack(words, name, what, _program):
     """Too little memory or disk is reported, with how much there is and how much is needed."""
     with scene() as it:
         came = it.run(*words, **{name: '999999999'})
@@ -293,7 +293,7 @@ def stop_for_want(words, name, what, _program):
 def stop_at_word(words, name, _program):
     """A requirement that is not a number is refused."""
     with scene() as it:
-        return differs(it.run(*words, **{name: 'many'}), 70, '', name + '=many is no number')
+        return differs(it.run(*words, **{name: 'many'}), 70, '', name + '=many is not a number')
 
 
 # ---- a release
@@ -324,7 +324,7 @@ def release(_program):
 
 
 def launcher():
-    """The launcher's words, refusals and builds."""
+    """The launcher's messages, refusals and builds."""
     yield 'the first look', look_first
     for what, said in (('a crate that is refused', 'error: no\n'), ('past a limit', 'checked: no-answer: more\nrun=no-answer proved=no\n'),
                        ('a fault', 'run=fault proved=no\n'), ('nothing said', '')):
@@ -349,8 +349,8 @@ def launcher():
         yield 'another logic, ' + ' '.join(words), partial(stop_at_kit, words, 'rattle-kit-9 logic 0123456789abcdef\n')
     yield 'a kit that says nothing', partial(stop_at_kit, ['audit'], '')
     for words in (['audit'], ['try', 'audit']):
-        yield 'too little memory, ' + ' '.join(words), partial(stop_for_want, words, 'TOTEM_MEMORY_MB', 'memory')
-        yield 'a want that is no number, ' + ' '.join(words), partial(stop_at_word, words, 'TOTEM_MEMORY_MB')
-    yield 'too little disk', partial(stop_for_want, ['audit'], 'TOTEM_DISK_MB', 'disk')
-    yield 'a disk that is no number', partial(stop_at_word, ['audit'], 'TOTEM_DISK_MB')
+        yield 'too little memory, ' + ' '.join(words), partial(stop_for_lack, words, 'TOTEM_MEMORY_MB', 'memory')
+        yield 'a requirement that is not a number, ' + ' '.join(words), partial(stop_at_word, words, 'TOTEM_MEMORY_MB')
+    yield 'too little disk', partial(stop_for_lack, ['audit'], 'TOTEM_DISK_MB', 'disk')
+    yield 'a disk requirement that is not a number', partial(stop_at_word, ['audit'], 'TOTEM_DISK_MB')
     yield 'a release', release
