@@ -143,7 +143,9 @@ def try_interrupt(program):
     """An interrupt ends a hunt, which prints what it has seen."""
     with tempfile.TemporaryDirectory() as kept:
         words = [os.path.join(TOOLS, 'hunt'), '--seeds', '0', '999999', '--keep', kept, '--jobs', '2', '--program', program]
-        with subprocess.Popen(words, stdout=subprocess.PIPE, stderr=subprocess.PIPE, env=process.ENVIRONMENT) as hunt:
+        # (where the tests run in the background of a shell, interrupts are ignored)
+        with subprocess.Popen(words, stdout=subprocess.PIPE, stderr=subprocess.PIPE, env=process.ENVIRONMENT,
+                              preexec_fn=partial(signal.signal, signal.SIGINT, signal.SIG_DFL)) as hunt:
             time.sleep(process.allowed(2))
             hunt.send_signal(signal.SIGINT)
             output, errors = hunt.communicate(timeout=process.allowed(process.SECONDS))
