@@ -54,7 +54,7 @@ def long_run():
 
 
 def try_long_picture(program):
-    """A long run is drawn around its fault: the last four of 202 entries of log 2, nothing of log 1."""
+    """A long run is drawn around its fault: the last four of 202 entries of log 2, nothing of log 1. Seven letters take 53 pixels."""
     came = told_by(program, ('--svg',), long_run())
     text = came.output.decode()
     parts = (
@@ -62,7 +62,7 @@ def try_long_picture(program):
         '>1: 2@202, process 2 delivered 4.1#999 in r4.1</text>',
         '>.. 198</text>',
         '<title>2@199: process 2 delivered 4.1#198 in r4.1</title>',
-        "stroke='#d55e00' stroke-width='3'/>\n<text x='317' y='70' text-anchor='middle' font-weight='bold' "
+        "stroke='#d55e00' stroke-width='3'/>\n<text x='348' y='70' text-anchor='middle' font-weight='bold' "
         "fill='#b34700'>1</text>",
     )
     is_right = came.status == 1 and all(part in text for part in parts) and text.count('<g>') == 4 and \
