@@ -5,6 +5,8 @@
 #[cfg(test)]
 mod progress;
 #[cfg(test)]
+mod runs;
+#[cfg(test)]
 mod streams;
 #[cfg(test)]
 mod texts;

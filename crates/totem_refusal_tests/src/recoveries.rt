@@ -144,6 +144,20 @@ fn begun(
     again!(once_begun(alloc, prev, token))
 }
 
+fn begun_with(alloc: Global, prev: &RingState, token: &CommitToken) -> Result<Recovery, Fail> {
+    match begun(alloc, prev, token)? {
+        Some(recovery) => Ok(recovery),
+        None => Err("it may not begin".into()),
+    }
+}
+
+/// The recovery of 1 as it begins.
+pub fn begun_by_1(alloc: Global) -> Result<Recovery, Fail> {
+    let prev = heard(alloc, 1)?;
+    let token = token(alloc)?;
+    begun_with(alloc, &prev, &token)
+}
+
 fn bodies(alloc: Global, recovery: &Recovery) -> Result<Vec<Body>, AllocError> {
     again!(recovery.next_bodies(alloc))
 }
@@ -191,10 +205,8 @@ fn left_with(
     prev: &RingState,
     token: &CommitToken,
 ) -> Result<(String, usize), Fail> {
-    match begun(alloc, prev, token)? {
-        Some(recovery) => Ok(end_of_copy(alloc, &recovery, prev)?),
-        None => Err("it may not begin".into()),
-    }
+    let recovery = begun_with(alloc, prev, token)?;
+    Ok(end_of_copy(alloc, &recovery, prev)?)
 }
 
 fn left(alloc: Global, prev: &RingState) -> Result<(String, usize), Fail> {

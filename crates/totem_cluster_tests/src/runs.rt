@@ -1,0 +1,280 @@
+//! What the threads of a run do, by the public call: what the books of every run have to show, whichever run comes out.
+use std::alloc::{AllocError, Global};
+use std::collections::BTreeMap;
+use std::sync::{Mutex, Wait};
+use std::test::*;
+use std::thread;
+use std::thread::Threads;
+use std::time::{Clock, Duration};
+use totem_books::{Call, ClosedBook, Reply};
+use totem_cluster::{RunPlan, run_threads};
+use totem_ids::ProcId;
+use totem_net::{Plan, Quiet, Start};
+use totem_node::Input;
+use totem_packets::Packet;
+use totem_ring::To;
+
+/// Returns how many calls of these books a timer made, and how many a client.
+fn turns(books: &[ClosedBook]) -> (usize, usize) {
+    let mut timers = 0usize;
+    let mut submits = 0usize;
+    for book in books {
+        for call in book.calls() {
+            match call.input {
+                Input::Timer => timers = timers.saturating_add(1),
+                Input::Submit { .. } => submits = submits.saturating_add(1),
+                _ => {}
+            }
+        }
+    }
+    (timers, submits)
+}
+
+/// A packet on its way to a node.
+fn passage(alloc: Global, to: ProcId, packet: &Packet) -> Result<Vec<u8>, AllocError> {
+    let mut bytes = packet.encode(alloc)?;
+    bytes.extend_from_slice(&to.number().to_be_bytes())?;
+    Ok(bytes)
+}
+
+/// What was sent to which node, and whether a node other than the receiver sent it.
+type Sent = BTreeMap<Vec<u8>, bool>;
+
+/// Whether a packet of a node goes to this one.
+fn goes(to: &To, from: ProcId, node: ProcId) -> bool {
+    match to {
+        To::All => node != from,
+        To::One(receiver) => node == *receiver,
+    }
+}
+
+fn note_passage(
+    alloc: Global,
+    sent: &mut Sent,
+    from: ProcId,
+    node: ProcId,
+    packet: &Packet,
+) -> Result<(), AllocError> {
+    let passage = passage(alloc, node, packet)?;
+    let _ = sent.insert(passage, node != from)?;
+    Ok(())
+}
+
+/// Notes a packet of a node for each of three to which it goes.
+fn note_packet(
+    alloc: Global,
+    sent: &mut Sent,
+    from: ProcId,
+    to: &To,
+    packet: &Packet,
+) -> Result<(), AllocError> {
+    for number in 1..4 {
+        let node = ProcId::of(number);
+        if goes(to, from, node) {
+            note_passage(alloc, sent, from, node, packet)?;
+        }
+    }
+    Ok(())
+}
+
+fn note_packets(
+    alloc: Global,
+    sent: &mut Sent,
+    from: ProcId,
+    packets: &[(To, Packet)],
+) -> Result<(), AllocError> {
+    for (to, packet) in packets {
+        note_packet(alloc, sent, from, to, packet)?;
+    }
+    Ok(())
+}
+
+/// Notes what a node of three sent in these calls.
+fn note_calls(
+    alloc: Global,
+    sent: &mut Sent,
+    from: ProcId,
+    calls: &[Call],
+) -> Result<(), AllocError> {
+    for call in calls {
+        if let Reply::Done(out) = &call.reply {
+            note_packets(alloc, sent, from, &out.packets)?;
+        }
+    }
+    Ok(())
+}
+
+fn note_books(alloc: Global, sent: &mut Sent, books: &[ClosedBook]) -> Result<(), AllocError> {
+    for book in books {
+        note_calls(alloc, sent, book.me().id(), book.calls())?;
+    }
+    Ok(())
+}
+
+fn all_sent(alloc: Global, books: &[ClosedBook]) -> Result<Sent, AllocError> {
+    let mut sent = BTreeMap::new(alloc);
+    note_books(alloc, &mut sent, books)?;
+    Ok(sent)
+}
+
+/// Whether what a node was given was sent, and if so whether another node sent it.
+fn by_another(
+    alloc: Global,
+    sent: &Sent,
+    node: ProcId,
+    packet: &Packet,
+) -> Result<Option<bool>, AllocError> {
+    let passage = passage(alloc, node, packet)?;
+    Ok(sent.get(&passage).copied())
+}
+
+/// Counts of what a node was given in a call how much nobody sent, and how much another node sent and this one took.
+fn given_in(
+    alloc: Global,
+    sent: &Sent,
+    node: ProcId,
+    call: &Call,
+) -> Result<(usize, usize), AllocError> {
+    let Input::Packet(packet) = &call.input else {
+        return Ok((0, 0));
+    };
+    match by_another(alloc, sent, node, packet)? {
+        None => Ok((1, 0)),
+        Some(by_another) => {
+            let is_taken = by_another && matches!(call.reply, Reply::Done(_));
+            Ok((0, usize::from(is_taken)))
+        }
+    }
+}
+
+/// Counts the same of what a book was given over the network.
+fn given(alloc: Global, sent: &Sent, book: &ClosedBook) -> Result<(usize, usize), AllocError> {
+    let mut unsent = 0usize;
+    let mut taken = 0usize;
+    for call in book.calls() {
+        let (none, one) = given_in(alloc, sent, book.me().id(), call)?;
+        unsent = unsent.saturating_add(none);
+        taken = taken.saturating_add(one);
+    }
+    Ok((unsent, taken))
+}
+
+fn given_to_all(
+    alloc: Global,
+    sent: &Sent,
+    books: &[ClosedBook],
+) -> Result<(usize, bool), AllocError> {
+    let mut unsent = 0usize;
+    let mut each = true;
+    for book in books {
+        let (none, taken) = given(alloc, sent, book)?;
+        unsent = unsent.saturating_add(none);
+        each = each && taken > 0;
+    }
+    Ok((unsent, each))
+}
+
+/// Returns how much of what was given nobody sent, and whether each node took something that another sent.
+fn all_given(alloc: Global, books: &[ClosedBook]) -> Result<(usize, bool), AllocError> {
+    let sent = all_sent(alloc, books)?;
+    given_to_all(alloc, &sent, books)
+}
+
+/// What the books of a run show.
+#[derive(Clone, Copy)]
+struct Findings {
+    books: usize,
+    /// How many calls timers made, and clients.
+    turns: (usize, usize),
+    /// How much of what was given nobody sent.
+    unsent: usize,
+    /// Whether each node took something of another.
+    each: bool,
+}
+
+fn found_in(alloc: Global, books: &[ClosedBook]) -> Result<Findings, AllocError> {
+    let (unsent, each) = all_given(alloc, books)?;
+    Ok(Findings {
+        books: books.len(),
+        turns: turns(books),
+        unsent,
+        each,
+    })
+}
+
+/// Runs three nodes for so many ticks, over a network that does what the plan says.
+fn found_in_run<S: Start, R: Threads + Wait + Sync>(
+    rt: &R,
+    alloc: Global,
+    ticks: u32,
+    plan: Option<Plan>,
+    start: &S,
+) -> Result<Findings, Fail> {
+    let Some(plan) = plan.and_then(|plan| RunPlan::new(3, ticks, 1, plan)) else {
+        return Err(Fail::from("no plan"));
+    };
+    match run_threads(rt, alloc, plan, start) {
+        Ok((_, books)) => Ok(found_in(alloc, &books)?),
+        Err(_) => Err(Fail::from("no run")),
+    }
+}
+
+#[test]
+fn words_and_packets_are_those_of_a_network(rt: HostRuntime) -> Result<(), Fail> {
+    for _ in 0..10 {
+        let found = found_in_run(&rt, rt.alloc(), 4000, Plan::new(0, 0, 0), &Quiet)?;
+        assert_eq!(rt; found.turns, (500, 500));
+        assert_eq!(rt; found.unsent, 1, "the first token alone was sent by nobody");
+        if found.each {
+            return Ok(());
+        }
+    }
+    panic!(rt; "in ten runs, a node took no packet of another");
+}
+
+#[test]
+fn a_network_that_loses_has_each_word_too(rt: HostRuntime) -> Result<(), Fail> {
+    let found = found_in_run(&rt, rt.alloc(), 800, Plan::new(10, 20, 3), &Quiet)?;
+    assert_eq!(rt; found.turns, (100, 100));
+    Ok(())
+}
+
+/// Holds each node until three have begun, and counts how many were let go before that.
+#[derive(Drop)]
+struct Together<'a, R> {
+    rt: &'a R,
+    begun: Mutex<u32>,
+    let_go: Mutex<u32>,
+}
+
+fn add_one<R: Wait>(rt: &R, count: &Mutex<u32>) {
+    let mut count = count.lock(rt);
+    *count = count.saturating_add(1);
+}
+
+impl<R: Wait + Clock + Sync> Start for Together<'_, R> {
+    fn begun(&self, _node: ProcId) {
+        add_one(self.rt, &self.begun);
+        for _ in 0..10_000 {
+            if *self.begun.lock(self.rt) >= 3 {
+                return;
+            }
+            thread::sleep(self.rt, Duration::from_millis(1));
+        }
+        add_one(self.rt, &self.let_go);
+    }
+}
+
+#[test]
+fn nodes_run_side_by_side(rt: HostRuntime) -> Result<(), Fail> {
+    let together = Together {
+        rt: &rt,
+        begun: Mutex::new(0),
+        let_go: Mutex::new(0),
+    };
+    let found = found_in_run(&rt, rt.alloc(), 8, Plan::new(0, 0, 0), &together)?;
+    assert_eq!(rt; found.books, 3);
+    assert_eq!(rt; *together.begun.lock(&rt), 3);
+    assert_eq!(rt; *together.let_go.lock(&rt), 0);
+    Ok(())
+}
