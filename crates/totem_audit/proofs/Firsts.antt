@@ -9,7 +9,7 @@ use Rattle.totem_certificate.specs.CertRecord.{CertRecord}
 use Rattle.totem_evs.specs.ClosedLists.{IsCycle}
 use Rattle.totem_evs.specs.Certificates.{Numbering}
 use Rattle.totem_evs.proofs.Synchronous.{meets_passes}
-use Rattle.totem_passes.specs.Listed.{ListsFirst}
+use Rattle.totem_pass_ab.specs.Listed.{ListsFirst}
 use Rattle.totem_audit.specs.declared.first_passes.FirstPasses.{FirstPasses}
 use Rattle.totem_audit.specs.declared.first_passes.FirstPasses.TheVariants.{Ordered}
 use Rattle.totem_audit.specs.Early.{IsEarly, IsOrdered, BreaksEarly, ListsEarly}

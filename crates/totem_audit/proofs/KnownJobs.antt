@@ -5,9 +5,9 @@ use Rattle.std.proofs.lemmas.List.Elements.{All-append, All-pop}
 use Rattle.totem_ids.specs.declared.ring.RingId.{RingId}
 use Rattle.totem_evs.specs.declared.log.Log.{Log}
 use Rattle.totem_evs.proofs.LogOf.{less_or_not}
-use Rattle.totem_agreement.specs.declared.findings.Findings.{Findings}
-use Rattle.totem_agreement.specs.declared.jobs.Jobs.{Jobs}
-use Rattle.totem_agreement.specs.Jobs.{AreFindingsAt}
+use Rattle.totem_pass_d.specs.declared.findings.Findings.{Findings}
+use Rattle.totem_pass_d.specs.declared.jobs.Jobs.{Jobs}
+use Rattle.totem_pass_d.specs.Jobs.{AreFindingsAt}
 use Rattle.totem_audit.specs.declared.job.DoneJob.{DoneJob}
 use Rattle.totem_audit.specs.Jobs.{IsRight, AreRight, AreNamed, AreKnown}
 

@@ -4,8 +4,8 @@ use Rattle.std.proofs.lemmas.Option.{slice_get_within, slice_get_cases}
 use Rattle.totem_ids.specs.declared.ring.RingId.{RingId}
 use Rattle.totem_evs.specs.declared.log.Log.{Log}
 use Rattle.totem_evs.specs.Answers.{AreRings}
-use Rattle.totem_agreement.specs.declared.findings.Findings.{Findings}
-use Rattle.totem_agreement.specs.Jobs.{AreFindingsAt}
+use Rattle.totem_pass_d.specs.declared.findings.Findings.{Findings}
+use Rattle.totem_pass_d.specs.Jobs.{AreFindingsAt}
 use Rattle.totem_audit.specs.Jobs.{IsRight}
 use Rattle.totem_audit.specs.Results.{IsJobOf, HasJob, IsFoundBy}
 use Rattle.totem_audit.proofs.Rings.{one_list}

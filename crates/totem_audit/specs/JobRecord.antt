@@ -2,7 +2,7 @@
 use Rattle.std.specs.Prelude.{ℕ, List}
 use Rattle.totem_ids.specs.declared.version.Version.{Version}
 use Rattle.totem_evs.specs.declared.log.Log.{Log}
-use Rattle.totem_agreement.specs.declared.findings.Findings.{Findings}
+use Rattle.totem_pass_d.specs.declared.findings.Findings.{Findings}
 
 pub record JobRecord : Type 0 where
   pub version : Version

@@ -2,9 +2,9 @@
 use Rattle.std.specs.Prelude.{◌≡◌, ◌<◌, ℕ, List, Option, None, IfSome, All, length, slice_index_or}
 use Rattle.totem_ids.specs.declared.ring.RingId.{RingId}
 use Rattle.totem_evs.specs.declared.log.Log.{Log}
-use Rattle.totem_agreement.specs.declared.findings.Findings.{Findings}
-use Rattle.totem_agreement.specs.declared.jobs.Jobs.{Jobs}
-use Rattle.totem_agreement.specs.Jobs.{AreFindingsAt}
+use Rattle.totem_pass_d.specs.declared.findings.Findings.{Findings}
+use Rattle.totem_pass_d.specs.declared.jobs.Jobs.{Jobs}
+use Rattle.totem_pass_d.specs.Jobs.{AreFindingsAt}
 use Rattle.totem_audit.specs.declared.job.DoneJob.{DoneJob}
 
 -- it is right for the job that it names, one of these

@@ -4,8 +4,8 @@ use Rattle.totem_ids.specs.declared.ring.RingId.{RingId}
 use Rattle.totem_ids.specs.declared.version.Version.{Version}
 use Rattle.totem_evs.specs.declared.log.Log.{Log}
 use Rattle.totem_evs.specs.Answers.{AreRings}
-use Rattle.totem_agreement.specs.declared.findings.Findings.{Findings}
-use Rattle.totem_agreement.specs.Findings.{AreFindings}
+use Rattle.totem_pass_d.specs.declared.findings.Findings.{Findings}
+use Rattle.totem_pass_d.specs.Findings.{AreFindings}
 use Rattle.totem_audit.specs.JobRecord.{JobRecord}
 
 -- the job of this number is that of the regular configuration c: jobs are numbered from 1, in the order of the rings

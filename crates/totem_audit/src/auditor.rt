@@ -2,8 +2,8 @@
 ghost use Rattle.std.specs.Prelude.{IfOk};
 ghost use Rattle.totem_evs.specs.Answers.{ListsConfigurations, IsAnswered};
 ghost use Rattle.totem_evs.specs.Meanings.{IsSound};
-ghost use Rattle.totem_agreement.specs.Findings.{AreComplete};
-ghost use Rattle.totem_agreement.specs.Jobs.{AreJobs};
+ghost use Rattle.totem_pass_d.specs.Findings.{AreComplete};
+ghost use Rattle.totem_pass_d.specs.Jobs.{AreJobs};
 ghost use Rattle.totem_certificate.specs.Keeping.{certificate_version};
 ghost use Rattle.totem_audit.specs.Verdicts.{answer_of, HasVersion};
 ghost use Rattle.totem_audit.specs.Early.{IsOrdered};
@@ -16,9 +16,9 @@ use crate::workers::Workers;
 use std::alloc::{AllocError, Global};
 use std::sync::Wait;
 use std::thread::Threads;
-use totem_agreement::{Jobs, Judged, pass_d_of, pending_of, waiting};
 use totem_cert::Certificate;
 use totem_evs::Run;
+use totem_pass_d::{Jobs, Judged, pass_d_of, pending_of, waiting};
 use totem_table::Changes;
 
 /// The verdict of a run that has passed the first three passes, from its jobs and what the last one comes to: where that has no fault, a

@@ -1,8 +1,8 @@
 //! From what jobs found to the faults of pass D (docs/SPECIFICATIONS.md, "Passes").
 ghost use Rattle.std.specs.Prelude.{◌≡◌, ◌-◌, ◌<◌, IfOk, IfSome, IsSome, None, Some, replicate, slice_index_or, slice_set, vec_len};
 ghost use Rattle.totem_evs.specs.Answers.{MeetsPasses, ListsConfigurations};
-ghost use Rattle.totem_agreement.specs.Findings.{AreComplete};
-ghost use Rattle.totem_agreement.specs.Jobs.{AreJobs, AreFindingsAt};
+ghost use Rattle.totem_pass_d.specs.Findings.{AreComplete};
+ghost use Rattle.totem_pass_d.specs.Jobs.{AreJobs, AreFindingsAt};
 ghost use Rattle.totem_audit.specs.Jobs.{IsRight, AreKnown};
 
 use crate::gate::{Gate, OpenGate};
@@ -10,8 +10,8 @@ use crate::job::{DoneJob, perform_job};
 use crate::job_result::JobResult;
 use std::alloc::{AllocError, Global};
 use std::mem;
-use totem_agreement::{Findings, Found, Jobs, Judged};
 use totem_evs::{Fault, Run};
+use totem_pass_d::{Findings, Found, Jobs, Judged};
 
 /// Nothing is known of any job.
 #[tactic(auto, using(crate::proofs::KnownJobs::nothing_more))]

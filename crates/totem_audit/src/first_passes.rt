@@ -8,7 +8,7 @@ ghost use Rattle.totem_audit.specs.Early.{IsEarly, ListsEarly};
 use std::alloc::{AllocError, Global};
 use totem_cert::{Certificate, Order, positions_over};
 use totem_evs::{Fault, Run};
-use totem_passes::pass_a_and_b;
+use totem_pass_ab::pass_a_and_b;
 use totem_table::{Changes, Table};
 
 /// How the first three passes end.

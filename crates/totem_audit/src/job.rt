@@ -1,11 +1,11 @@
 //! One job of an audit, of which its gate is notified.
 ghost use Rattle.std.specs.Prelude.{◌≡◌, ◌<◌, IfOk, vec_len};
-ghost use Rattle.totem_agreement.specs.Jobs.{AreJobs};
+ghost use Rattle.totem_pass_d.specs.Jobs.{AreJobs};
 ghost use Rattle.totem_audit.specs.Jobs.{IsRight};
 
 use crate::gate::Gate;
 use std::alloc::{AllocError, Global};
-use totem_agreement::{Findings, Jobs};
+use totem_pass_d::{Findings, Jobs};
 
 /// A job that is done: which one it was, and what it found.
 #[derive(Drop)]

@@ -5,8 +5,8 @@ ghost use Rattle.totem_audit.specs.Results.{HasJob, IsFoundBy, IsResultOf};
 
 use std::alloc::{AllocError, Global};
 use std::marker::Model;
-use totem_agreement::{Findings, Jobs};
 use totem_evs::Run;
+use totem_pass_d::{Findings, Jobs};
 
 /// What one job of a run found. It names the run and the job, and whatever way it comes, what it says was found is what that job
 /// of that run finds.

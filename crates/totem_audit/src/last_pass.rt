@@ -1,8 +1,8 @@
 //! Pass D by many threads (docs/SPECIFICATIONS.md, "Passes").
 ghost use Rattle.std.specs.Prelude.{◌<◌, IfOk};
 ghost use Rattle.totem_evs.specs.Answers.{ListsConfigurations};
-ghost use Rattle.totem_agreement.specs.Findings.{AreComplete};
-ghost use Rattle.totem_agreement.specs.Jobs.{AreJobs};
+ghost use Rattle.totem_pass_d.specs.Findings.{AreComplete};
+ghost use Rattle.totem_pass_d.specs.Jobs.{AreJobs};
 ghost use Rattle.totem_audit.specs.Jobs.{AreRight, AreNamed, AreKnown};
 
 use crate::batch::{Batch, JobsName};
@@ -17,7 +17,7 @@ use std::alloc::{AllocError, Global};
 use std::marker::Brand;
 use std::sync::Wait;
 use std::thread::Threads;
-use totem_agreement::{Findings, Jobs, Judged};
+use totem_pass_d::{Findings, Jobs, Judged};
 
 /// Notes these results.
 #[tactic(auto, using(crate::proofs::KnownJobs::popped))]

@@ -1,6 +1,6 @@
 //! Jobs in a channel, from which workers take.
 ghost use denote.Param.Send.{IsSync, IsSend};
-ghost use Rattle.totem_agreement.specs.Jobs.{AreJobs};
+ghost use Rattle.totem_pass_d.specs.Jobs.{AreJobs};
 ghost use Rattle.totem_audit.specs.Jobs.{AreRight, AreNamed};
 
 use crate::batch::{Batch, JobsName};
@@ -11,7 +11,7 @@ use crossbeam_channel::{Receiver, Sender, bounded};
 use std::alloc::{AllocError, Global};
 use std::sync::Wait;
 use std::thread::{Threads, join};
-use totem_agreement::Jobs;
+use totem_pass_d::Jobs;
 
 /// Returns a channel that holds these spans, in their order, and ends after them. Nothing waits for space, and no more memory is
 /// taken. A span that could not be sent is left out: whoever collects the results does its jobs.

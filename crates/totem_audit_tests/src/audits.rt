@@ -4,7 +4,7 @@ use std::alloc::{AllocError, Global};
 use totem_audit::{Verdict, Workers, audit, early};
 use totem_evs::{Run, read_run};
 use totem_ids::FromRead;
-use totem_passes::{pass_a, pass_b};
+use totem_pass_ab::{pass_a, pass_b};
 use totem_table::{
     Changes, Row as Numbers, Table, is_once, numbers_tell_confs, numbers_tell_messages,
 };

@@ -5,8 +5,8 @@ ghost use Rattle.totem_check.specs.CheckFaults.{fault_number, fault_name};
 
 use std::alloc::{AllocError, Global};
 use thiserror::Error;
+use totem_certificate_check::CertificateFault;
 use totem_evs::Fault;
-use totem_sweep::CertificateFault;
 
 /// Why a run with a certificate was not accepted. Each reason is looked for in the whole run before the next one is.
 #[derive(Debug, Drop, Error)]

@@ -8,12 +8,12 @@ ghost use Rattle.totem_check.specs.Checks.{HasPassed, IsEarlyFault, Judges, Chec
 use crate::accepted::Accepted;
 use crate::check_fault::CheckFault;
 use std::alloc::{AllocError, Global};
-use totem_agreement::{Jobs, Judged, pass_d_of, pending_of, waiting};
 use totem_certificate::Certificate;
+use totem_certificate_check::certified;
 use totem_evs::{Fault, Run};
 use totem_judge::judge;
-use totem_passes::pass_a_and_b;
-use totem_sweep::certified;
+use totem_pass_ab::pass_a_and_b;
+use totem_pass_d::{Jobs, Judged, pass_d_of, pending_of, waiting};
 use totem_table::{Changes, Table};
 
 fn first_of(mut faults: Vec<Fault>) -> Option<Fault>

@@ -8,4 +8,4 @@ mod checker;
 pub use accepted::Accepted;
 pub use check_fault::CheckFault;
 pub use checker::check;
-pub use totem_sweep::{CertificateFault, certified};
+pub use totem_certificate_check::{CertificateFault, certified};

@@ -1,7 +1,7 @@
 -- Answers that are handed on, and loops that ask one after the other.
 use Rattle.std.proofs.Common.{◌≡◌, ◌⊎◌, inl, inr, ℕ, ◌+◌, ◌<◌, ◌≤◌, Bool, true, false, arith}
 use Rattle.std.specs.Bool.{OnTrue}
-use Rattle.totem_traffic.proofs.Rowing.{before_or_at}
+use Rattle.totem_configuration_rules.proofs.Rowing.{before_or_at}
 use Rattle.totem_judge.specs.Lists.{EachBelow}
 
 -- what a yes means another thing means, too

@@ -15,15 +15,15 @@ use Rattle.totem_evs.specs.Changes.{Names}
 use Rattle.totem_evs.specs.Following.{Follows, Com, DeliversIn}
 use Rattle.totem_evs.specs.Certificates.{Numbering, Certified}
 use Rattle.totem_evs.proofs.LogOf.{less_or_not}
-use Rattle.totem_sweep.proofs.Walking.{at_index}
-use Rattle.totem_traffic.specs.declared.traffic.Sent.{Sent}
-use Rattle.totem_traffic.specs.declared.traffic.Got.{Got}
-use Rattle.totem_traffic.specs.declared.traffic.Traffic.{Traffic}
-use Rattle.totem_traffic.specs.Clean.{IsBy}
-use Rattle.totem_traffic.specs.Traffics.{IsLogAt}
-use Rattle.totem_rules.specs.Stays.{Bounds, IsStay}
-use Rattle.totem_traffic.proofs.Facts.{one_log}
-use Rattle.totem_rules.proofs.Staying.{KeepsRules, is_stay, names_no_change}
+use Rattle.totem_certificate_check.proofs.Walking.{at_index}
+use Rattle.totem_configuration_rules.specs.declared.traffic.Sent.{Sent}
+use Rattle.totem_configuration_rules.specs.declared.traffic.Got.{Got}
+use Rattle.totem_configuration_rules.specs.declared.traffic.Traffic.{Traffic}
+use Rattle.totem_configuration_rules.specs.Clean.{IsBy}
+use Rattle.totem_configuration_rules.specs.Traffics.{IsLogAt}
+use Rattle.totem_run_rules.specs.Stays.{Bounds, IsStay}
+use Rattle.totem_configuration_rules.proofs.Facts.{one_log}
+use Rattle.totem_run_rules.proofs.Staying.{KeepsRules, is_stay, names_no_change}
 use Rattle.totem_judge.specs.declared.gathered.Arrival.{Arrival}
 use Rattle.totem_judge.specs.declared.gathered.Origin.{Origin}
 use Rattle.totem_judge.specs.declared.gathered.Gathered.{Gathered}
@@ -33,7 +33,7 @@ use Rattle.totem_judge.specs.Ends.{HasSuch, IsAny}
 use Rattle.totem_judge.specs.Arrivals.{IsArrivedAs}
 use Rattle.totem_judge.specs.Lists.{is_safe, ComesBefore, IsLinked, IsThere, IsGotAt, IsSentAt}
 use Rattle.totem_judge.specs.Seen.{IsReplayed, IsSeen}
-use Rattle.totem_rules.specs.Orderly.{IsOrderly}
+use Rattle.totem_run_rules.specs.Orderly.{IsOrderly}
 use Rattle.totem_judge.proofs.Numbers.{one_at, entries_of, entry_of, event_of, one_event, one_number, same_index}
 
 module _ (run : List Log) (lines : List Numbering) (g : Gathered) (traffic : Traffic) (is_run : IsRun run) (orderly : IsOrderly run) (certified : Certified run lines) (seen : IsSeen run lines g traffic)

@@ -10,12 +10,12 @@ use Rattle.totem_evs.specs.declared.log.Log.{Log}
 use Rattle.totem_evs.specs.Events.{log_of}
 use Rattle.totem_evs.specs.Certificates.{Numbering, Matches, Certified}
 use Rattle.totem_evs.proofs.LogOf.{Rising, log_of_at, less_or_not}
-use Rattle.totem_sweep.specs.Numbered.{Stands, place}
-use Rattle.totem_sweep.specs.Rising.{RisesBefore}
-use Rattle.totem_sweep.proofs.Matching.{line_at, matches_at}
-use Rattle.totem_sweep.proofs.Walking.{at_index}
-use Rattle.totem_sweep.proofs.Standing.{stands_at}
-use Rattle.totem_traffic.specs.Traffics.{IsLogAt}
+use Rattle.totem_certificate_check.specs.Numbered.{Stands, place}
+use Rattle.totem_certificate_check.specs.Rising.{RisesBefore}
+use Rattle.totem_certificate_check.proofs.Matching.{line_at, matches_at}
+use Rattle.totem_certificate_check.proofs.Walking.{at_index}
+use Rattle.totem_certificate_check.proofs.Standing.{stands_at}
+use Rattle.totem_configuration_rules.specs.Traffics.{IsLogAt}
 use Rattle.totem_judge.specs.Events.{IsEventAt}
 
 -- what stands at a place of a list is one thing

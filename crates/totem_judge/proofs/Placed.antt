@@ -15,24 +15,24 @@ use Rattle.totem_evs.specs.Agreement.{Goes}
 use Rattle.totem_evs.specs.Answers.{MeetsPasses}
 use Rattle.totem_evs.specs.Certificates.{Numbering, Certified}
 use Rattle.totem_evs.proofs.LogOf.{less_or_not}
-use Rattle.totem_traffic.specs.declared.traffic.MemberLogs.{MemberLogs}
-use Rattle.totem_traffic.specs.declared.traffic.Traffic.{Traffic}
-use Rattle.totem_traffic.specs.LogSets.{Has}
-use Rattle.totem_traffic.specs.Traffics.{IsLogAt, AreLogsOf, AreMembers, IsFollowingAs, HasFollowing}
-use Rattle.totem_traffic.proofs.Facts.{all_at, has_log}
-use Rattle.totem_rules.proofs.Staying.{same_change, change_within}
+use Rattle.totem_configuration_rules.specs.declared.traffic.MemberLogs.{MemberLogs}
+use Rattle.totem_configuration_rules.specs.declared.traffic.Traffic.{Traffic}
+use Rattle.totem_configuration_rules.specs.LogSets.{Has}
+use Rattle.totem_configuration_rules.specs.Traffics.{IsLogAt, AreLogsOf, AreMembers, IsFollowingAs, HasFollowing}
+use Rattle.totem_configuration_rules.proofs.Facts.{all_at, has_log}
+use Rattle.totem_run_rules.proofs.Staying.{same_change, change_within}
 use Rattle.totem_evs.proofs.NextChanges.{one_next}
-use Rattle.totem_traffic.proofs.Together.{one_following, follows_too}
+use Rattle.totem_configuration_rules.proofs.Together.{one_following, follows_too}
 use Rattle.totem_judge.specs.declared.gathered.Gathered.{Gathered}
 use Rattle.totem_judge.specs.declared.gathered.Stay.{Stay}
 use Rattle.totem_judge.specs.Ends.{HasSuch, IsAny, IsExcusedIn, IsOpenAt}
 use Rattle.totem_judge.specs.Members.{AreMemberLogs}
 use Rattle.totem_judge.specs.Turns.{TurnsToConf, LeavesFrom, HasFollowingOf}
 use Rattle.totem_judge.specs.Seen.{IsSeen}
-use Rattle.totem_rules.specs.Orderly.{IsOrderly}
+use Rattle.totem_run_rules.specs.Orderly.{IsOrderly}
 use Rattle.totem_judge.proofs.Numbers.{one_at, entries_of}
 use Rattle.totem_judge.proofs.Endings.{ending_at}
-use Rattle.totem_rules.proofs.LogEnds.{quiet_never_fails}
+use Rattle.totem_run_rules.proofs.LogEnds.{quiet_never_fails}
 use Rattle.totem_judge.proofs.Listed as view
 
 module _ (run : List Log) (lines : List Numbering) (g : Gathered) (traffic : Traffic) (is_run : IsRun run) (orderly : IsOrderly run) (meets : MeetsPasses run) (certified : Certified run lines) (seen : IsSeen run lines g traffic)

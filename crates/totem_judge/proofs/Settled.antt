@@ -13,21 +13,21 @@ use Rattle.totem_evs.specs.Unsettled.{IsPending}
 use Rattle.totem_evs.specs.Certificates.{Numbering, Certified}
 use Rattle.totem_evs.proofs.Synchronous.{MeetsConfigurations, synchronous}
 use Rattle.totem_evs.proofs.Originating.{ring_of_send}
-use Rattle.totem_traffic.specs.declared.traffic.Traffic.{Traffic}
-use Rattle.totem_traffic.specs.Clean.{AgreesIn}
-use Rattle.totem_traffic.specs.Pending.{IsPendingIn}
-use Rattle.totem_traffic.proofs.Facts.{has_log}
+use Rattle.totem_configuration_rules.specs.declared.traffic.Traffic.{Traffic}
+use Rattle.totem_configuration_rules.specs.Clean.{AgreesIn}
+use Rattle.totem_configuration_rules.specs.Pending.{IsPendingIn}
+use Rattle.totem_configuration_rules.proofs.Facts.{has_log}
 use Rattle.totem_judge.specs.declared.gathered.Gathered.{Gathered}
 use Rattle.totem_judge.specs.Arrivals.{AllHaveCome, AreRisingTo}
 use Rattle.totem_judge.specs.Seen.{IsSeen}
 use Rattle.totem_judge.specs.Pending.{IsPendingFrom}
-use Rattle.totem_rules.specs.Endings.{IsInOrder, HoldsPending}
-use Rattle.totem_rules.specs.Orderly.{IsOrderly}
+use Rattle.totem_run_rules.specs.Endings.{IsInOrder, HoldsPending}
+use Rattle.totem_run_rules.specs.Orderly.{IsOrderly}
 use Rattle.totem_judge.specs.Judged.{AllAreTraffic, AreJudged, Settles}
 use Rattle.totem_judge.proofs.Whole as place
 use Rattle.totem_judge.proofs.Viewed.{traffic_is}
 use Rattle.totem_judge.proofs.Unsent.{unsent_met}
-use Rattle.totem_rules.proofs.PendingOrder.{are_pending}
+use Rattle.totem_run_rules.proofs.PendingOrder.{are_pending}
 
 module _ (run : List Log) (lines : List Numbering) (list : List Gathered) (pending : List Pending) (is_run : IsRun run) (orderly : IsOrderly run) (together : EndsTogether run) (certified : Certified run lines)
     (come : AllHaveCome run lines list (length run)) (rise : AreRisingTo list (length list)) (judged : AreJudged run lines list (length list) pending) where

@@ -7,13 +7,13 @@ use Rattle.totem_ids.specs.declared.conf.ConfId.{ConfId}
 use Rattle.totem_evs.specs.declared.log.Log.{Log}
 use Rattle.totem_evs.specs.declared.pending.Pending.{Pending}
 use Rattle.totem_evs.specs.Certificates.{Numbering}
-use Rattle.totem_traffic.specs.declared.log_set.LogSet.{LogSet}
-use Rattle.totem_traffic.specs.declared.traffic.Following.{Following}
-use Rattle.totem_traffic.specs.declared.traffic.Traffic.{Traffic}
-use Rattle.totem_traffic.specs.LogSets.{Has, IsEmpty}
-use Rattle.totem_traffic.specs.Traffics.{IsLogAt, IsTrafficOf}
-use Rattle.totem_traffic.specs.Pending.{AddsPending}
-use Rattle.totem_traffic.proofs.Rowing.{before_or_at, one_at}
+use Rattle.totem_configuration_rules.specs.declared.log_set.LogSet.{LogSet}
+use Rattle.totem_configuration_rules.specs.declared.traffic.Following.{Following}
+use Rattle.totem_configuration_rules.specs.declared.traffic.Traffic.{Traffic}
+use Rattle.totem_configuration_rules.specs.LogSets.{Has, IsEmpty}
+use Rattle.totem_configuration_rules.specs.Traffics.{IsLogAt, IsTrafficOf}
+use Rattle.totem_configuration_rules.specs.Pending.{AddsPending}
+use Rattle.totem_configuration_rules.proofs.Rowing.{before_or_at, one_at}
 use Rattle.totem_judge.specs.declared.gathered.Gathered.{Gathered}
 use Rattle.totem_judge.specs.declared.gathered.Stay.{Stay}
 use Rattle.totem_judge.specs.Ends.{HasSuch, Selects}

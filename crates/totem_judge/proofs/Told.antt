@@ -13,20 +13,20 @@ use Rattle.totem_evs.specs.Events.{ChangesTo, Sends, Delivers, IsSafe, log_of}
 use Rattle.totem_evs.specs.Following.{DeliversIn, HasDelivered}
 use Rattle.totem_evs.specs.Certificates.{Numbering, Certified}
 use Rattle.totem_evs.proofs.LogOf.{less_or_not}
-use Rattle.totem_traffic.specs.declared.traffic.Sent.{Sent}
-use Rattle.totem_traffic.specs.declared.traffic.Got.{Got}
-use Rattle.totem_traffic.specs.declared.traffic.Traffic.{Traffic}
-use Rattle.totem_traffic.specs.LogSets.{Has}
-use Rattle.totem_traffic.specs.Clean.{IsBy}
-use Rattle.totem_traffic.specs.Traffics.{IsLogAt, AreLogsOf, DeliversBehind, IsSentIn, IsOf, IsGotIn, HasSent, HasGot, SentInOrder, GotInOrder, HeardBefore, GotBehind}
-use Rattle.totem_traffic.proofs.Facts.{has_log}
+use Rattle.totem_configuration_rules.specs.declared.traffic.Sent.{Sent}
+use Rattle.totem_configuration_rules.specs.declared.traffic.Got.{Got}
+use Rattle.totem_configuration_rules.specs.declared.traffic.Traffic.{Traffic}
+use Rattle.totem_configuration_rules.specs.LogSets.{Has}
+use Rattle.totem_configuration_rules.specs.Clean.{IsBy}
+use Rattle.totem_configuration_rules.specs.Traffics.{IsLogAt, AreLogsOf, DeliversBehind, IsSentIn, IsOf, IsGotIn, HasSent, HasGot, SentInOrder, GotInOrder, HeardBefore, GotBehind}
+use Rattle.totem_configuration_rules.proofs.Facts.{has_log}
 use Rattle.totem_judge.specs.declared.gathered.Origin.{Origin}
 use Rattle.totem_judge.specs.declared.gathered.Gathered.{Gathered}
 use Rattle.totem_judge.specs.Events.{IsEventAt}
 use Rattle.totem_judge.specs.Ends.{HasSuch, IsAny}
 use Rattle.totem_judge.specs.Lists.{is_safe, ComesBefore, IsThere, IsOriginAt, IsGotAt}
 use Rattle.totem_judge.specs.Seen.{IsSeen}
-use Rattle.totem_rules.specs.Orderly.{IsOrderly}
+use Rattle.totem_run_rules.specs.Orderly.{IsOrderly}
 use Rattle.totem_judge.proofs.Numbers.{one_at, event_of, one_event, in_order, by_number}
 use Rattle.totem_judge.proofs.Listed as view
 

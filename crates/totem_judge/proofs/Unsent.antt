@@ -12,12 +12,12 @@ use Rattle.totem_evs.specs.Following.{IsNextChange, Follows, Com}
 use Rattle.totem_evs.specs.Delivery.{WasSentFor, DeliversWhatWasSent}
 use Rattle.totem_evs.specs.Certificates.{Numbering, Certified}
 use Rattle.totem_evs.proofs.Originating.{LastBefore, last_before}
-use Rattle.totem_traffic.specs.declared.traffic.Traffic.{Traffic}
-use Rattle.totem_traffic.proofs.Facts.{has_log}
+use Rattle.totem_configuration_rules.specs.declared.traffic.Traffic.{Traffic}
+use Rattle.totem_configuration_rules.proofs.Facts.{has_log}
 use Rattle.totem_judge.specs.declared.gathered.Gathered.{Gathered}
 use Rattle.totem_judge.specs.Arrivals.{AllHaveCome, AreRisingTo}
 use Rattle.totem_judge.specs.Seen.{IsSeen}
-use Rattle.totem_rules.specs.Orderly.{IsOrderly}
+use Rattle.totem_run_rules.specs.Orderly.{IsOrderly}
 use Rattle.totem_judge.proofs.Whole as place
 use Rattle.totem_judge.proofs.Listed as view
 

@@ -6,14 +6,14 @@ use Rattle.totem_evs.specs.Runs.{IsRun}
 use Rattle.totem_evs.specs.Events.{ChangesTo, log_of}
 use Rattle.totem_evs.specs.Answers.{MeetsPasses}
 use Rattle.totem_evs.specs.Certificates.{Numbering, Certified}
-use Rattle.totem_traffic.specs.declared.traffic.Sent.{Sent}
-use Rattle.totem_traffic.specs.declared.traffic.Got.{Got}
-use Rattle.totem_traffic.specs.declared.traffic.Traffic.{Traffic}
-use Rattle.totem_traffic.specs.Traffics.{IsLogAt, IsGotIn, HasSent, HasGot, SentInOrder, GotInOrder, HeardBefore, GotBehind, IsTrafficOf}
+use Rattle.totem_configuration_rules.specs.declared.traffic.Sent.{Sent}
+use Rattle.totem_configuration_rules.specs.declared.traffic.Got.{Got}
+use Rattle.totem_configuration_rules.specs.declared.traffic.Traffic.{Traffic}
+use Rattle.totem_configuration_rules.specs.Traffics.{IsLogAt, IsGotIn, HasSent, HasGot, SentInOrder, GotInOrder, HeardBefore, GotBehind, IsTrafficOf}
 use Rattle.totem_judge.specs.declared.gathered.Gathered.{Gathered}
 use Rattle.totem_judge.specs.Ends.{HasSuch, IsAny}
 use Rattle.totem_judge.specs.Seen.{IsSeen}
-use Rattle.totem_rules.specs.Orderly.{IsOrderly}
+use Rattle.totem_run_rules.specs.Orderly.{IsOrderly}
 use Rattle.totem_judge.proofs.Told as told
 use Rattle.totem_judge.proofs.Placed as placed
 

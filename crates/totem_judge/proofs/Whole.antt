@@ -10,9 +10,9 @@ use Rattle.totem_evs.specs.Runs.{IsRun}
 use Rattle.totem_evs.specs.Events.{ChangesTo, log_of}
 use Rattle.totem_evs.specs.Certificates.{Numbering, Certified}
 use Rattle.totem_evs.proofs.LogOf.{less_or_not}
-use Rattle.totem_sweep.proofs.Walking.{at_index}
-use Rattle.totem_traffic.specs.declared.traffic.Traffic.{Traffic}
-use Rattle.totem_traffic.specs.Traffics.{IsLogAt}
+use Rattle.totem_certificate_check.proofs.Walking.{at_index}
+use Rattle.totem_configuration_rules.specs.declared.traffic.Traffic.{Traffic}
+use Rattle.totem_configuration_rules.specs.Traffics.{IsLogAt}
 use Rattle.totem_judge.specs.declared.gathered.Gathered.{Gathered}
 use Rattle.totem_judge.specs.Events.{IsEventAt}
 use Rattle.totem_judge.specs.Ends.{HasSuch, IsAny}

@@ -6,9 +6,9 @@ use Rattle.totem_evs.specs.declared.pending.Waiting.{Waiting}
 use Rattle.totem_evs.specs.Certificates.{Numbering}
 use Rattle.totem_evs.specs.Synchrony.{IsVirtuallySynchronous}
 use Rattle.totem_evs.specs.Unsettled.{ArePending, AreWaiting}
-use Rattle.totem_traffic.specs.declared.traffic.Traffic.{Traffic}
-use Rattle.totem_traffic.specs.Clean.{ShowsAgreement}
-use Rattle.totem_traffic.specs.Traffics.{IsTrafficOf}
+use Rattle.totem_configuration_rules.specs.declared.traffic.Traffic.{Traffic}
+use Rattle.totem_configuration_rules.specs.Clean.{ShowsAgreement}
+use Rattle.totem_configuration_rules.specs.Traffics.{IsTrafficOf}
 use Rattle.totem_judge.specs.declared.gathered.Gathered.{Gathered}
 use Rattle.totem_judge.specs.Seen.{IsSeen}
 use Rattle.totem_judge.specs.Pending.{AddsAll, IsPendingFrom}

@@ -5,7 +5,7 @@ use Rattle.totem_ids.specs.declared.conf.ConfId.TheVariants.{Regular}
 use Rattle.totem_evs.specs.declared.entry.Entry.{Entry}
 use Rattle.totem_evs.specs.declared.entry.Entry.TheVariants.{Conf}
 use Rattle.totem_evs.specs.declared.log.Log.{Log}
-use Rattle.totem_rules.specs.Stays.{Bounds}
+use Rattle.totem_run_rules.specs.Stays.{Bounds}
 use Rattle.totem_judge.specs.declared.gathered.Stay.{Stay}
 
 -- the entry is a change to the regular configuration of c

@@ -6,9 +6,9 @@ ghost use Rattle.totem_judge.specs.Lists.{EachBelow, IsThere, IsDeliveryOfMessag
 use crate::event::{Event, event_at};
 use crate::gathered::{Gathered, Stay};
 use totem_certificate::Line;
+use totem_configuration_rules::{Got, Sent};
 use totem_evs::{Entry, Log};
 use totem_ids::MsgId;
-use totem_traffic::{Got, Sent};
 
 /// Returns the index of the next message of this log's among those that were sent, as a guess.
 fn next_sent(list: &[Sent], from: usize, log: u32) -> usize {

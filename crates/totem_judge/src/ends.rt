@@ -4,8 +4,8 @@ ghost use Rattle.totem_evs.specs.Runs.{EndsInFail};
 ghost use Rattle.totem_judge.specs.Ends.{IsExcusedIn, GoesOnAt, AreEnds};
 
 use crate::gathered::Stay;
+use totem_configuration_rules::LogSet;
 use totem_evs::{Ending, Entry, Log};
-use totem_traffic::LogSet;
 
 /// The logs that stay in a configuration, those of them that fail or are open there, and those that are open.
 #[derive(Clone, Copy)]

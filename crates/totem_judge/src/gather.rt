@@ -7,10 +7,10 @@ use crate::gathered::{Arrival, Gathered, Origin};
 use std::alloc::{AllocError, Global};
 use std::collections::BTreeMap;
 use totem_certificate::Line;
+use totem_certificate_check::least_head;
+use totem_configuration_rules::{Got, LogSet, Sent};
 use totem_evs::{Entry, Log};
 use totem_ids::{ConfId, MsgId, RingId, Service};
-use totem_sweep::least_head;
-use totem_traffic::{Got, LogSet, Sent};
 
 /// Where a message that was sent is listed: in which configuration, and at which index.
 #[derive(Clone, Copy)]

@@ -2,8 +2,8 @@
 ghost use Rattle.std.specs.Prelude.{◌<◌};
 
 use std::alloc::Global;
+use totem_configuration_rules::{Got, Sent};
 use totem_ids::RingId;
-use totem_traffic::{Got, Sent};
 
 /// A log's change to the configuration.
 #[derive(Clone, Copy)]

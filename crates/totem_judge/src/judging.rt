@@ -3,7 +3,7 @@ ghost use Rattle.std.specs.Prelude.{◌≤◌, IfOk, IfSome, length};
 ghost use Rattle.std.specs.Bool.{OnTrue};
 ghost use Rattle.totem_evs.specs.Changes.{EndsTogether};
 ghost use Rattle.totem_evs.specs.Certificates.{Certified};
-ghost use Rattle.totem_rules.specs.Orderly.{IsOrderly};
+ghost use Rattle.totem_run_rules.specs.Orderly.{IsOrderly};
 ghost use Rattle.totem_judge.specs.Judged.{IsJudged, AreJudged, Settles, LeavesOpen};
 
 use crate::arrivals::{all_have_come, rise};
@@ -13,9 +13,9 @@ use crate::pending::add_pending;
 use crate::traffic::traffic_of;
 use std::alloc::{AllocError, Global};
 use totem_certificate::{Certificate, Line};
+use totem_configuration_rules::is_agreed;
 use totem_evs::{Log, Pending, Run, Waiting};
-use totem_rules::{end_together, in_order, is_orderly, waiting};
-use totem_traffic::is_agreed;
+use totem_run_rules::{end_together, in_order, is_orderly, waiting};
 
 /// Judges one configuration, and appends what is pending there. Returns `true` only where all its rules are met.
 fn judge_one(

@@ -6,9 +6,9 @@ ghost use Rattle.totem_judge.specs.Lists.{EachBelow, is_safe, IsSendOf, ComesBef
 use crate::event::event_at;
 use crate::gathered::Gathered;
 use totem_certificate::Line;
+use totem_configuration_rules::{LogSet, Sent};
 use totem_evs::{Entry, Log};
 use totem_ids::{ConfId, MsgId, RingId, Service};
-use totem_traffic::{LogSet, Sent};
 
 fn is_safe(service: Service) -> bool
     ensures { result ≡ is_safe service }

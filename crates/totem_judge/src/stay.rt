@@ -6,7 +6,7 @@ ghost use Rattle.totem_judge.specs.StaysIn.{IsChangeToRing, IsStayIn};
 use crate::gathered::{Arrival, Stay};
 use totem_evs::{Entry, Log};
 use totem_ids::{ConfId, RingId};
-use totem_rules::walk_to_change;
+use totem_run_rules::walk_to_change;
 
 fn is_change_to(entry: &Entry, ring: &RingId) -> bool
     ensures { IsTrue result ↔ IsChangeToRing entry.now ring.now }

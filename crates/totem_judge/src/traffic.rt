@@ -12,9 +12,9 @@ use crate::members::member_logs;
 use crate::sends::{all_are_got, all_are_sent};
 use std::alloc::{AllocError, Global};
 use totem_certificate::Line;
+use totem_certificate_check::rises;
+use totem_configuration_rules::{LogSet, MemberLogs, Traffic};
 use totem_evs::{Entry, Log};
-use totem_sweep::rises;
-use totem_traffic::{LogSet, MemberLogs, Traffic};
 
 /// Returns whether the lists and the entries of each stay agree.
 fn are_replayed(logs: &[Log], lines: &[Line], gathered: &Gathered, stays: &[Stay]) -> bool

@@ -6,7 +6,7 @@ use totem_cert::{Order, positions};
 use totem_evs::{Pending, Run, read_run};
 use totem_ids::{FromRead, MsgId, Proc, ProcId, RingId};
 use totem_judge::judge;
-use totem_rules::{in_order, walk_to_change};
+use totem_run_rules::{in_order, walk_to_change};
 
 /// Adds what the judge says of a run, along the certificate that the auditor makes of it.
 fn push_judged(alloc: Global, text: &mut String, run: &Run) -> Result<(), AllocError> {

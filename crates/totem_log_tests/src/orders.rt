@@ -4,7 +4,7 @@ use std::alloc::{AllocError, Global};
 use totem_cert::{Order, positions};
 use totem_evs::{Run, read_run};
 use totem_ids::FromRead;
-use totem_rules::{
+use totem_run_rules::{
     all_stay_in_place, changes_agree, end_together, is_orderly, sends_are_once, waiting,
 };
 

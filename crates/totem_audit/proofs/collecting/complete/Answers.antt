@@ -1,5 +1,5 @@
 use Rattle.std.proofs.Common.{rules}
-use Rattle.totem_agreement.proofs.Listing.{found_next, all_found_of, all_complete_of}
+use Rattle.totem_pass_d.proofs.Listing.{found_next, all_found_of, all_complete_of}
 use Rattle.totem_audit.proofs.KnownJobs.{known_set}
 use Rattle.totem_audit.proofs.collecting.complete.Goals as goal
 

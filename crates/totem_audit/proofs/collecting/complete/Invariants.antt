@@ -1,5 +1,5 @@
 use Rattle.std.proofs.Common.{take}
-use Rattle.totem_agreement.specs.Findings.{AreFound}
+use Rattle.totem_pass_d.specs.Findings.{AreFound}
 use Rattle.totem_audit.specs.Jobs.{AreKnown}
 use Rattle.totem_audit.proofs.collecting.complete.Given as goal
 

@@ -1,5 +1,5 @@
 use Rattle.std.proofs.Common.{arith}
-use Rattle.totem_traffic.proofs.Rowing.{read_at}
+use Rattle.totem_configuration_rules.proofs.Rowing.{read_at}
 use Rattle.totem_judge.proofs.arrivals.has_arrival.Goals as goal
 
 pub returns-then-arrival-log : goal.returns-then-arrival-log

@@ -1,7 +1,7 @@
 use Rattle.std.proofs.Common.{◌≡◌, sym, ◌∙◌, subst}
-use Rattle.totem_traffic.specs.declared.traffic.Got.{Got}
-use Rattle.totem_traffic.specs.Clean.{IsBy}
-use Rattle.totem_traffic.proofs.Rowing.{one_at}
+use Rattle.totem_configuration_rules.specs.declared.traffic.Got.{Got}
+use Rattle.totem_configuration_rules.specs.Clean.{IsBy}
+use Rattle.totem_configuration_rules.proofs.Rowing.{one_at}
 use Rattle.totem_judge.specs.Lists.{IsDelivered}
 use Rattle.totem_judge.proofs.Asked.{each_more}
 use Rattle.totem_judge.proofs.deliveries.are_delivered.Goals.{then-contains+in-Some-delivery_in, else-contains}

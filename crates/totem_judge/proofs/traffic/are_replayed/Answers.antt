@@ -1,5 +1,5 @@
 use Rattle.std.proofs.Common.{◌≡◌, slice_get, Some}
-use Rattle.totem_traffic.proofs.Rowing.{read_at}
+use Rattle.totem_configuration_rules.proofs.Rowing.{read_at}
 use Rattle.totem_judge.proofs.Steps.{replay_more}
 use Rattle.totem_judge.proofs.traffic.are_replayed.Goals as goal
 

@@ -1,5 +1,0 @@
-use Rattle.totem_agreement.specs.Indexes.{noted, Tells}
-use Rattle.totem_agreement.proofs.indexes.tells_all.Given as goal
-
-abbrev pub invariant-loop-at : goal.invariant-loop-at
-invariant-loop-at l = Tells (noted l.row) l.stay l.act l.at

@@ -1,7 +1,0 @@
-use Rattle.totem_agreement.specs.Pendings.{Adds}
-use Rattle.totem_agreement.proofs.Adding.{Between}
-use Rattle.totem_agreement.proofs.WhatIsPending.{PendingAt}
-use Rattle.totem_agreement.proofs.pendings.pending_of.Given as goal
-
-abbrev pub invariant-loop-k : goal.invariant-loop-k
-invariant-loop-k l = Adds (Between (PendingAt l.jobs.run.now.logs l.jobs.rings.items) 0 l.k) l.initial.list.items l.list.items

@@ -1,5 +1,0 @@
-use Rattle.totem_agreement.proofs.Searching.{none_inside_more}
-use Rattle.totem_agreement.proofs.search.EachIndexFinder.find_in.Goals as goal
-
-pub loop-at-preserved : goal.loop-at-preserved
-loop-at-preserved g c = none_inside_more _ _ _ (rw c.in_default.is at c.in_ok-rest.ensures) c.loop-at.invariant

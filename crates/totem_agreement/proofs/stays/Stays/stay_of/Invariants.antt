@@ -1,5 +1,0 @@
-use Rattle.totem_agreement.proofs.FindingStays.{NotBefore}
-use Rattle.totem_agreement.proofs.stays.Stays.stay_of.Given as goal
-
-abbrev pub invariant-loop-stay : goal.invariant-loop-stay
-invariant-loop-stay l = NotBefore l.self.list.items l.proc l.stay-index

@@ -1,6 +1,0 @@
-use Rattle.totem_ids.specs.contracts.message.MsgIdOrd.TheImpl as message
-use Rattle.totem_agreement.specs.Suspects.{AreSuspects}
-use Rattle.totem_agreement.proofs.suspects.suspects_of.Given as goal
-
-abbrev pub invariant-loop-sender : goal.invariant-loop-sender
-invariant-loop-sender l = AreSuspects message.cmp-value.it l.suspects l.stays.run.now.logs l.stays.ring l.stays.list.items l.sender-index

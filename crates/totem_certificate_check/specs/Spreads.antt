@@ -1,0 +1,76 @@
+-- The numbers of each class: the least one, and whether there is more than one (docs/SPECIFICATIONS.md, "The checker").
+use Rattle.std.specs.Prelude.{◌≡◌, ◌≢◌, ◌⊎◌, ℕ, ◌+◌, ◌<◌, ◌≤◌, List, slice_get, Option, Some, None, true, false}
+use Rattle.std.specs.BTreeMap as tree
+use Rattle.totem_ids.specs.declared.place.Place.{Place}
+use Rattle.totem_evs.specs.declared.entry.Entry.{Entry}
+use Rattle.totem_evs.specs.declared.log.Log.{Log}
+use Rattle.totem_evs.specs.Certificates.{Numbering}
+use Rattle.totem_certificate_check.specs.declared.class.Class.{Class}
+use Rattle.totem_certificate_check.specs.declared.spread.Spread.{Spread}
+use Rattle.totem_certificate_check.specs.ClassOf.{class_of, class_order}
+use Rattle.totem_certificate_check.specs.Numbered.{Stands}
+use Rattle.totem_certificate_check.specs.Each.{SomeEvent}
+use Rattle.totem_certificate_check.specs.Walks.{IsEntryOf}
+use Rattle.totem_certificate_check.specs.Certifying.{TwinsAreApart}
+
+-- the least number of a class, if it has any
+abbrev pub least_of : Spread → Class → Option ℕ
+least_of spread c = tree.get class_order spread.least c
+
+-- ---- one number
+
+-- a number other than the known one
+abbrev pub Differs : Option ℕ → ℕ → Type 0
+Differs None n = ⊥
+Differs (Some known) n = known ≢ n
+
+-- the lesser of a number and the known one
+abbrev pub IsLeastOf : Option ℕ → ℕ → ℕ → Type 0
+IsLeastOf None n least = least ≡ n
+IsLeastOf (Some known) n least = (least ≤ known) × (least ≤ n) × ((least ≡ known) ⊎ (least ≡ n))
+
+-- the number n of the class c has been entered
+pub record IsEntered (old new : Spread) (c : Class) (n : ℕ) : Type 0 where
+  pub least : ℕ
+  pub is : least_of new c ≡ Some least
+  pub of : IsLeastOf (least_of old c) n least
+  pub others : (d : Class) → (c ≡ d) ⊎ (least_of new d ≡ least_of old d)
+  pub stays : old.is_apart ≡ true → new.is_apart ≡ true
+  pub apart : Differs (least_of old c) n → new.is_apart ≡ true
+  pub only : new.is_apart ≡ true → (old.is_apart ≡ true) ⊎ Differs (least_of old c) n
+
+-- ---- all that is known
+
+-- an event of the class c with the number n is known
+pub record IsKnown (spread : Spread) (c : Class) (n : ℕ) : Type 0 where
+  pub least : ℕ
+  pub is : least_of spread c ≡ Some least
+  pub at_most : least ≤ n
+  pub one : spread.is_apart ≡ false → least ≡ n
+
+-- the event at an index of the log at i
+pub record IsIn (run : List Log) (lines : List Numbering) (i at : ℕ) (e : Place) (x : Entry) (n : ℕ) : Type 0 where
+  pub log : Log
+  pub line : Numbering
+  pub log_is : slice_get run i ≡ Some log
+  pub line_is : slice_get lines i ≡ Some line
+  pub is : IsEntryOf log line at e x n
+
+-- in a log at an index below k; or in the one at k, at an index below j
+abbrev pub IsPast : ℕ → ℕ → ℕ → ℕ → Type 0
+IsPast k j i at = (i < k) ⊎ ((i ≡ k) × (at < j))
+
+-- what is known is so
+pub record IsTrueOf (run : List Log) (lines : List Numbering) (spread : Spread) : Type 0 where
+  pub there : (c : Class) (m : ℕ) → least_of spread c ≡ Some m → SomeEvent (λ e x n. (n ≡ m) × (class_of x ≡ Some c)) run lines
+  pub apart : spread.is_apart ≡ true → TwinsAreApart run lines
+
+-- all events of the logs at indices below k are known, and the first j of the log at k
+pub record KnowsTo (run : List Log) (lines : List Numbering) (spread : Spread) (k j : ℕ) : Type 0 where
+  pub true_of : IsTrueOf run lines spread
+  pub known : (i at n : ℕ) (c : Class) (e : Place) (x : Entry) → IsPast k j i at → IsIn run lines i at e x n → class_of x ≡ Some c → IsKnown spread c n
+
+-- all events are known
+pub record Knows (run : List Log) (lines : List Numbering) (spread : Spread) : Type 0 where
+  pub true_of : IsTrueOf run lines spread
+  pub known : (c : Class) (e : Place) (x : Entry) (n : ℕ) → Stands run lines e x n → class_of x ≡ Some c → IsKnown spread c n

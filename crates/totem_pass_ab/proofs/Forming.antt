@@ -1,0 +1,85 @@
+-- Entering changes, and what it tells.
+use Rattle.std.proofs.Common.{◌≡◌, ℕ, ◌+◌, inl, inr, List, [], ◌∷◌, slice_get, Option, Some, refl, ap, subst, arith}
+use Rattle.std.specs.declared.cmp.Ordering.{Ordering}
+use Rattle.std.specs.Cmp.{IsTotalOrder}
+use Rattle.std.specs.BTreeMap.{BTreeMap}
+use Rattle.std.specs.BTreeMap as tree
+use Rattle.std.proofs.lemmas.Option.{slice_get_within}
+use Rattle.totem_ids.specs.declared.conf.ConfId.{ConfId}
+use Rattle.totem_ids.specs.declared.place.Place.{Place}
+use Rattle.totem_evs.specs.declared.entry.Entry.{Entry}
+use Rattle.totem_evs.specs.declared.entry.Entry.TheVariants.{Conf, Send, Deliver, Fail}
+use Rattle.totem_evs.specs.declared.log.Log.{Log}
+use Rattle.totem_evs.specs.Events.{log_of, IsChange}
+use Rattle.totem_table.specs.declared.keys.Change.{Change}
+use Rattle.totem_pass_ab.specs.Met.{IsMet}
+use Rattle.totem_table.specs.Registers.{Keeps, KnowsRun}
+use Rattle.totem_pass_ab.specs.Forms.{KnowsChange}
+use Rattle.totem_table.specs.Search.{place, NoneFrom, HoldsOfNone}
+use Rattle.totem_pass_ab.specs.Pairs.{IsOne, IsOneOrTwo}
+use Rattle.totem_pass_ab.specs.Bad.{IsForeignChange, AreTwoForms}
+use Rattle.totem_pass_ab.proofs.Knowing.{meets_keeps}
+use Rattle.totem_table.proofs.Exact.{change_by}
+
+module _ (by_change : Change → Change → Ordering) (by_conf : ConfId → ConfId → Ordering) where
+  -- of what is no change there is nothing to know
+  pub spares_change : (v : BTreeMap Change (Option Place)) (f : BTreeMap ConfId (Option (List ℕ))) (p : ℕ) (log : List Entry) (i : ℕ) → (IsChange log i → ⊥) → KnowsChange by_change by_conf v f p log i
+  spares_change v f p log i never = record { placed = λ x ms at. absurd (never (x, (ms, at))); formed = λ x ms at. absurd (never (x, (ms, at))) }
+
+  pub keeps_changes : IsTotalOrder by_change → IsTotalOrder by_conf → (v w : BTreeMap Change (Option Place)) (f g : BTreeMap ConfId (Option (List ℕ))) (k : Change) (e : Place) (y : ConfId) (ns : List ℕ) → IsMet by_change v w k e → IsMet by_conf f g y ns
+      → Keeps (KnowsChange by_change by_conf v f) (KnowsChange by_change by_conf w g)
+  keeps_changes first second v w f g k e y ns met formed = record {
+    each = λ p log i h. record {
+      placed = λ x ms at. meets_keeps by_change first v w k e met (change_by p x) (place p i) (h.placed x ms at);
+      formed = λ x ms at. meets_keeps by_conf second f g y ns formed x ms (h.formed x ms at);
+    };
+  }
+
+  -- a configuration to which a process changed once, and which has one form, is in no two forms
+  pub only_form : (run : List Log) (v : BTreeMap Change (Option Place)) (f : BTreeMap ConfId (Option (List ℕ))) (p i : ℕ) (x : ConfId) (ms : List ℕ) → KnowsRun (KnowsChange by_change by_conf v f) run
+      → tree.get by_change v (change_by p x) ≡ Some (Some (place p i)) → tree.get by_conf f x ≡ Some (Some ms) → HoldsOfNone (IsOne run (AreTwoForms p i (Conf x ms)))
+  only_form run v f p i x ms known once one = record { none = λ places h. go places h }
+    where
+      go : (places : List Place) → IsOne run (AreTwoForms p i (Conf x ms)) places → ⊥
+      go [] h = h
+      go (g ∷ []) (j, js, (Conf y ns, at, (same, inl (procs, other)))) =
+          let key : change_by p x ≡ change_by g.proc y = rw (procs, same) refl in
+          let met = ((known.each g.proc j (slice_get_within (log_of run g.proc) j (Conf y ns) at)).placed y ns at).only (place p i)
+          (subst (λ (k : Change). tree.get by_change v k ≡ Some (Some (place p i))) key once) in
+          other (let ats : i + 1 ≡ j + 1 = ap (λ (e : Place). e.at) met in omega arith)
+      go (g ∷ []) (j, js, (Conf y ns, at, (same, inr other))) =
+          other (((known.each g.proc j (slice_get_within (log_of run g.proc) j (Conf y ns) at)).formed y ns at).only ms (rw same at one))
+      go (g ∷ []) (j, js, (Send n y t, at, h)) = h
+      go (g ∷ []) (j, js, (Deliver n y, at, h)) = h
+      go (g ∷ []) (j, js, (Fail y, at, h)) = h
+      go (g ∷ e ∷ more) h = h
+
+  -- what is no change is in no form
+  pub no_form : (run : List Log) (p i : ℕ) (e : Entry) → ((x : ConfId) (ms : List ℕ) → e ≡ Conf x ms → ⊥) → HoldsOfNone (IsOne run (AreTwoForms p i e))
+  no_form run p i e no_change = record { none = λ places h. go e refl places h }
+    where
+      go : (z : Entry) → e ≡ z → (places : List Place) → IsOne run (AreTwoForms p i z) places → ⊥
+      go z is [] h = h
+      go (Conf x ms) is (f ∷ []) h = no_change x ms is
+      go (Send m x v) is (f ∷ []) (j, js, (y, at, h)) = h
+      go (Deliver m x) is (f ∷ []) (j, js, (y, at, h)) = h
+      go (Fail x) is (f ∷ []) (j, js, (y, at, h)) = h
+      go z is (f ∷ g ∷ more) h = h
+
+-- what is no change is bad neither alone nor with another
+pub no_bad_form : (run : List Log) (p i : ℕ) → (IsChange (log_of run p) i → ⊥) → NoneFrom (IsOneOrTwo run IsForeignChange AreTwoForms) p i
+no_bad_form run p i never = record { none = λ rest h. go rest h }
+  where
+    at_index : (j : ℕ) (x : ConfId) (ms : List ℕ) → i + 1 ≡ j + 1 → slice_get (log_of run p) j ≡ Some (Conf x ms) → ⊥
+    at_index j x ms is at = let same : j ≡ i = omega arith in never (x, (ms, rw same at at))
+
+    go : (rest : List Place) → IsOneOrTwo run IsForeignChange AreTwoForms (place p i ∷ rest) → ⊥
+    go [] (j, is, (Conf x ms, at, h)) = at_index j x ms is at
+    go [] (j, is, (Send m x s, at, h)) = h
+    go [] (j, is, (Deliver m x, at, h)) = h
+    go [] (j, is, (Fail x, at, h)) = h
+    go (f ∷ []) (j, is, (Conf x ms, at, h)) = at_index j x ms is at
+    go (f ∷ []) (j, is, (Send m x s, at, (k, ks, (y, at_k, h)))) = h
+    go (f ∷ []) (j, is, (Deliver m x, at, (k, ks, (y, at_k, h)))) = h
+    go (f ∷ []) (j, is, (Fail x, at, (k, ks, (y, at_k, h)))) = h
+    go (f ∷ g ∷ more) (j, is, (x, at, h)) = h

@@ -1,0 +1,42 @@
+-- What is known of the values that were met under a key stays known.
+use Rattle.std.proofs.Common.{◌≡◌, inl, inr, List, [], ◌∷◌, Option, Some, None, Bool, true, refl, ◌∙◌}
+use Rattle.std.specs.declared.cmp.Ordering.{Ordering}
+use Rattle.std.specs.Cmp.{IsTotalOrder}
+use Rattle.std.specs.Map.{lookup}
+use Rattle.std.specs.BTreeMap.{BTreeMap, is_at, IsUnchanged}
+use Rattle.std.specs.BTreeMap as tree
+use Rattle.totem_ids.proofs.Exact.{equal_at, apart_or_at}
+use Rattle.totem_pass_ab.specs.Met.{IsMet, Knows}
+
+lookup_alike : {K X : Type 0} (f g : K → Bool) (es : List (K × X)) → ((x : K) → f x ≡ g x) → lookup f es ≡ lookup g es
+lookup_alike f g [] same = refl
+lookup_alike f g (e ∷ es) same = rw (same e.0, lookup_alike f g es same) refl
+
+-- equal keys have one value
+pub same_get : {K X : Type 0} (cmp : K → K → Ordering) → IsTotalOrder cmp → (m : BTreeMap K X) (k q : K) → is_at (cmp k) q ≡ true → tree.get cmp m q ≡ tree.get cmp m k
+same_get cmp total m k q e = lookup_alike (is_at (cmp q)) (is_at (cmp k)) m.entries (λ x. let same = total.congr k q x (equal_at (cmp k q) e) in cc)
+
+module _ {K V : Type 0} (cmp : K → K → Ordering) (total : IsTotalOrder cmp) where
+  unchanged : (m n : BTreeMap K (Option V)) → IsUnchanged m n → (q : K) → tree.get cmp n q ≡ tree.get cmp m q
+  unchanged m n same q = rw same refl
+
+  pub meets_knows : (m n : BTreeMap K (Option V)) (k : K) (v : V) → IsMet cmp m n k v → Knows cmp n k v
+  meets_knows m n k v (inl (none, new)) = record { met = λ e. let h = new.1 in cc; only = λ w e. let h = new.1 in cc }
+  meets_knows m n k v (inr (inl (is, same))) = let u = unchanged m n same k in record { met = λ e. cc; only = λ w e. cc }
+  meets_knows m n k v (inr (inr (inl (w, is, other, new)))) = record { met = λ e. let h = new.1 in cc; only = λ x e. absurd (let h = new.1 in cc) }
+  meets_knows m n k v (inr (inr (inr (is, same)))) = let u = unchanged m n same k in record { met = λ e. cc; only = λ w e. absurd cc }
+
+  same_known : (m n : BTreeMap K (Option V)) (q : K) (w : V) → tree.get cmp n q ≡ tree.get cmp m q → Knows cmp m q w → Knows cmp n q w
+  same_known m n q w same old = record { met = λ e. old.met cc; only = λ x e. old.only x cc }
+
+  pub meets_keeps : (m n : BTreeMap K (Option V)) (k : K) (v : V) → IsMet cmp m n k v → (q : K) (w : V) → Knows cmp m q w → Knows cmp n q w
+  meets_keeps m n k v (inl (none, new)) q w old = elim (apart_or_at cmp k q) [
+    | inr apart ↦ same_known m n q w (new.2 q apart) old
+    | inl at ↦ absurd (old.met (same_get cmp total m k q at ∙ none))
+  ]
+  meets_keeps m n k v (inr (inl (is, same))) q w old = same_known m n q w (unchanged m n same q) old
+  meets_keeps m n k v (inr (inr (inl (x, is, other, new)))) q w old = elim (apart_or_at cmp k q) [
+    | inr apart ↦ same_known m n q w (new.2 q apart) old
+    | inl at ↦ (let here : tree.get cmp n q ≡ Some None = same_get cmp total n k q at ∙ new.1 in record { met = λ e. cc; only = λ y e. absurd cc })
+  ]
+  meets_keeps m n k v (inr (inr (inr (is, same)))) q w old = same_known m n q w (unchanged m n same q) old

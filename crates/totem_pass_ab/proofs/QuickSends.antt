@@ -1,0 +1,80 @@
+-- Entering sends and changes for the quick test of 1.3, and what it tells.
+use Rattle.std.proofs.Common.{◌≡◌, ℕ, inl, inr, List, slice_get, Some, true, false, IsTrue, sym, ◌∙◌, subst}
+use Rattle.std.specs.declared.cmp.Ordering.{Ordering}
+use Rattle.std.specs.BTreeMap.{BTreeMap}
+use Rattle.std.specs.BTreeMap as tree
+use Rattle.std.specs.BTreeSet.{BTreeSet}
+use Rattle.std.specs.BTreeSet as sorted
+use Rattle.std.proofs.lemmas.Map.Lookups.{CmpEqualImpliesEq}
+use Rattle.totem_ids.specs.declared.ring.RingId.{RingId}
+use Rattle.totem_ids.specs.declared.conf.ConfId.{ConfId}
+use Rattle.totem_ids.specs.declared.conf.ConfId.TheVariants.{Regular}
+use Rattle.totem_ids.specs.declared.message.MsgId.{MsgId}
+use Rattle.totem_ids.specs.declared.message.Service.{Service}
+use Rattle.totem_evs.specs.declared.entry.Entry.{Entry}
+use Rattle.totem_evs.specs.declared.entry.Entry.TheVariants.{Conf, Send}
+use Rattle.totem_evs.specs.declared.log.Log.{Log}
+use Rattle.totem_evs.specs.Events.{log_of, IsChange, IsTransitional, WasSentIn}
+use Rattle.totem_evs.specs.Following.{IsFirstChange, Follows}
+use Rattle.totem_evs.specs.Changes.{ChangesNext}
+use Rattle.totem_pass_ab.specs.declared.keys.Sending.{Sending}
+use Rattle.totem_table.specs.declared.keys.Change.{Change}
+use Rattle.totem_table.specs.Registers.{StaysSound, KnowsLog}
+use Rattle.totem_pass_ab.specs.Sendings.{WereSent}
+use Rattle.totem_pass_ab.specs.Followed.{KnowsRegularChange, AreFollowed}
+use Rattle.totem_ids.proofs.Exact.{equal_at, apart_or_at}
+use Rattle.totem_table.proofs.Exact.{change_by}
+
+abbrev pub sending : MsgId → RingId → Sending
+sending m c = record { message = m; ring = c }
+
+pub one_more_send : (cmp : Sending → Sending → Ordering) → CmpEqualImpliesEq cmp → (s n : BTreeSet Sending) (p i : ℕ) (log : List Entry) (m : MsgId) (x : ConfId) (c : RingId) (v : Service) → slice_get log i ≡ Some (Send m x v) → x ≡ Regular c
+    → sorted.Updates cmp s n (sending m c) true → StaysSound (WereSent cmp s) (WereSent cmp n) p log
+one_more_send cmp exact s n p i log m x c v at is h = record { each = λ run logs old. more run logs old }
+  where
+    more : (run : List Log) → log ≡ log_of run p → WereSent cmp s run → WereSent cmp n run
+    more run logs old = record {
+      each = λ k has. elim (apart_or_at cmp (sending m c) k) [
+        | inr apart ↦ old.each k (sym (h.2 k apart) ∙ has)
+        | inl here ↦ subst (λ (z : Sending). WasSentIn run z.message (Regular z.ring)) (exact (sending m c) k (equal_at (cmp (sending m c) k) here)) (p, i, (v, rw (logs, is) at at))
+      ];
+    }
+
+pub enters_regular_change : (cmp : Change → Change → Ordering) (s n : BTreeSet Change) (p i : ℕ) (log : List Entry) (x : ConfId) (c : RingId) (ms : List ℕ) → slice_get log i ≡ Some (Conf x ms) → x ≡ Regular c → sorted.Updates cmp s n (change_by p (Regular c)) true
+    → KnowsRegularChange cmp n p log i
+enters_regular_change cmp s n p i log x c ms at is h = record {
+  each = λ d (ns, at'). (let same : c ≡ d = (let one : Conf x ms ≡ Conf (Regular d) ns = cc in cc) in
+      subst (λ (z : RingId). IsTrue (sorted.contains cmp n (change_by p (Regular z)))) same h.1);
+}
+
+-- what is no change is none to a regular configuration
+pub spares_regular_change : (cmp : Change → Change → Ordering) (s : BTreeSet Change) (p : ℕ) (log : List Entry) (i : ℕ) → (IsChange log i → ⊥) → KnowsRegularChange cmp s p log i
+spares_regular_change cmp s p log i never = record { each = λ c to. absurd (never (Regular c, to)) }
+
+first_regular_change : (cmp : Change → Change → Ordering) (s : BTreeSet Change) (p i : ℕ) (log : List Entry) (x : ConfId) (c : RingId) (ms : List ℕ) → slice_get log i ≡ Some (Conf x ms) → x ≡ Regular c → sorted.contains cmp s (change_by p (Regular c)) ≡ false
+    → KnowsLog (KnowsRegularChange cmp s) p log i → IsFirstChange log (Regular c) i
+first_regular_change cmp s p i log x c ms at is new known = record { change = (ms, rw is at at); none_before = λ k lt change. (let had = (known.each k lt).each c change in cc) }
+
+-- the next change after the first one to c follows c
+pub follows_first : (cmp : Change → Change → Ordering) (s : BTreeSet Change) (p i j : ℕ) (log : List Entry) (x y z : ConfId) (c : RingId) (ms ks ns : List ℕ) → slice_get log i ≡ Some (Conf x ms) → x ≡ Regular c
+    → sorted.contains cmp s (change_by p (Regular c)) ≡ false → KnowsLog (KnowsRegularChange cmp s) p log i → ChangesNext log i j z y ks ns → IsTransitional y → Follows log c y
+follows_first cmp s p i j log x y z c ms ks ns at is new known succession moves =
+    record { from = i; to = j; first = first_regular_change cmp s p i log x c ms at is new known; next = succession.next; change = (ns, succession.second); transitional = moves }
+
+pub one_more_followed : (cmp : Change → Change → Ordering) → CmpEqualImpliesEq cmp → (r n : BTreeMap Change RingId) (p : ℕ) (log : List Entry) (t : ConfId) (c : RingId) → Follows log c t → tree.Updates cmp r n (change_by p t) (Some c)
+    → StaysSound (AreFollowed cmp r) (AreFollowed cmp n) p log
+one_more_followed cmp exact r n p log t c follows h = record { each = λ run logs old. more run logs old }
+  where
+    here_is : (run : List Log) (v : Change) (d : RingId) → log ≡ log_of run p → change_by p t ≡ v → tree.get cmp n v ≡ Some d → Follows (log_of run v.proc) d v.conf
+    here_is run v d logs same is =
+        let there : tree.get cmp n (change_by p t) ≡ Some d = subst (λ (z : Change). tree.get cmp n z ≡ Some d) (sym same) is in
+        let rings : c ≡ d = (let found = h.1 in cc) in
+        subst (λ (z : Change). Follows (log_of run z.proc) d z.conf) same (rw (← logs, ← rings) follows)
+
+    more : (run : List Log) → log ≡ log_of run p → AreFollowed cmp r run → AreFollowed cmp n run
+    more run logs old = record {
+      each = λ v d is. elim (apart_or_at cmp (change_by p t) v) [
+        | inr apart ↦ old.each v d (sym (h.2 v apart) ∙ is)
+        | inl here ↦ here_is run v d logs (exact (change_by p t) v (equal_at (cmp (change_by p t) v) here)) is
+      ];
+    }

@@ -1,0 +1,131 @@
+-- Searching for the sends of what is delivered.
+use Rattle.std.proofs.Common.{◌≡◌, ℕ, ◌+◌, ◌<◌, ◌≤◌, inl, inr, List, [], ◌∷◌, length, slice_get, Some, Bool, true, false, IsTrue, ◌↔◌, refl, subst, ap, arith}
+use Rattle.std.proofs.lemmas.Option.{slice_get_within}
+use Rattle.totem_ids.specs.declared.ring.RingId.{RingId}
+use Rattle.totem_ids.specs.declared.conf.ConfId.{ConfId}
+use Rattle.totem_ids.specs.declared.conf.ConfId.TheVariants.{Regular, Transitional}
+use Rattle.totem_ids.specs.declared.message.MsgId.{MsgId}
+use Rattle.totem_ids.specs.declared.place.Place.{Place}
+use Rattle.totem_evs.specs.declared.entry.Entry.{Entry}
+use Rattle.totem_evs.specs.declared.entry.Entry.TheVariants.{Conf, Send, Deliver, Fail}
+use Rattle.totem_evs.specs.declared.log.Log.{Log}
+use Rattle.totem_evs.specs.Events.{log_of, ChangesTo, IsTransitional}
+use Rattle.totem_evs.specs.Following.{IsFirstChange, Follows, Com}
+use Rattle.totem_evs.specs.Changes.{ChangesNext}
+use Rattle.totem_evs.specs.Delivery.{DeliversWhatWasSent}
+use Rattle.totem_evs.specs.DeliveryFaults.{IsUnsent, BreaksUnsent}
+use Rattle.totem_table.specs.Search.{place, NoneFrom, IsLeastFrom, NoneOf, IsLeastOf, HoldsOfNone}
+use Rattle.totem_pass_ab.specs.Pairs.{IsOne}
+use Rattle.totem_pass_ab.specs.Turns.{HasNoSuccession}
+use Rattle.totem_run_rules.specs.Ends.{IsChangeTo, NeverChangesTo}
+use Rattle.totem_run_rules.specs.Sent.{WasSentTo, IsSendTo}
+use Rattle.totem_evs.proofs.LogOf.{less_or_not}
+use Rattle.totem_evs.proofs.NextChanges.{same_first}
+use Rattle.totem_run_rules.proofs.SentOrNot.{sent_or_not}
+use Rattle.totem_pass_ab.proofs.Starting.{Begins, EachBegins, begins_at, one_begins, none_of_all}
+use Rattle.totem_pass_ab.proofs.Turning.{one_succession}
+
+-- the log has no change to x before n
+pub record NoneYet (log : List Entry) (x : ConfId) (n : ℕ) : Type 0 where
+  pub none : (k : ℕ) → k < n → ChangesTo log k x → ⊥
+
+pub none_yet : (log : List Entry) (x : ConfId) → NoneYet log x 0
+none_yet log x = record { none = λ k lt h. omega arith }
+
+changes_here : (log : List Entry) (i : ℕ) (x : ConfId) (e : Entry) → slice_get log i ≡ Some e → ChangesTo log i x → IsChangeTo e x
+changes_here log i x e at (ms, h) = let same : Conf x ms ≡ e = cc in let P : Entry → Type 0 = λ z. IsChangeTo z x in subst P same refl
+
+pub none_more : (log : List Entry) (x : ConfId) (n : ℕ) (e : Entry) → slice_get log n ≡ Some e → (IsChangeTo e x → ⊥) → NoneYet log x n → NoneYet log x (n + 1)
+none_more log x n e at other before = record {
+  none = λ k lt h. elim (less_or_not k n) [
+    | inl under ↦ before.none k under h
+    | inr more ↦ elim more [ inl over ↦ omega arith | inr same ↦ other (changes_here log n x e at (rw same at h)) ]
+  ];
+}
+
+pub first_here : (log : List Entry) (x : ConfId) (i : ℕ) (e : Entry) → slice_get log i ≡ Some e → IsChangeTo e x → NoneYet log x i → IsFirstChange log x i
+first_here log x i (Conf y ms) at same before = record { change = (ms, rw same at at); none_before = before.none }
+first_here log x i (Send m y s) at h before = absurd h
+first_here log x i (Deliver m y) at h before = absurd h
+first_here log x i (Fail y) at h before = absurd h
+
+pub never_changes : (log : List Entry) (x : ConfId) (n : ℕ) → length log ≤ n → NoneYet log x n → NeverChangesTo log x
+never_changes log x n end before = record { none = λ i (ms, h). before.none i (omega (arith, slice_get_within log i (Conf x ms) h)) (ms, h) }
+
+-- what follows c is the next change after the first change to c
+pub not_without_change : (log : List Entry) (c : RingId) (d : ConfId) → NeverChangesTo log (Regular c) → IsTrue false ↔ Follows log c d
+not_without_change log c d never = (λ t. absurd cc, λ f. absurd (never.none f.from f.first.change))
+
+pub not_regular : (log : List Entry) (c : RingId) (d : ConfId) (b : Bool) → b ≡ false → IsTrue b ↔ IsTransitional d → IsTrue false ↔ Follows log c d
+not_regular log c d b e decides = (λ t. absurd cc, λ f. absurd (let t : b ≡ true = decides.1 f.transitional in cc))
+
+succession_of : (log : List Entry) (c : RingId) (d : ConfId) (i : ℕ) (f : Follows log c d) → IsFirstChange log (Regular c) i → (ms ns : List ℕ) × ChangesNext log i f.to (Regular c) d ms ns
+succession_of log c d i f first = let same = same_first log (Regular c) f.from i f.first first in
+    (f.first.change.0, f.change.0, record { first = rw same at f.first.change.1; second = f.change.1; next = rw same at f.next })
+
+pub not_without_succession : (log : List Entry) (c : RingId) (d : ConfId) (i : ℕ) → IsFirstChange log (Regular c) i → HasNoSuccession log i → IsTrue false ↔ Follows log c d
+not_without_succession log c d i first never = (λ t. absurd cc, λ f. absurd (let t = succession_of log c d i f first in never.none f.to (Regular c) d t.0 t.1 t.2))
+
+pub follows_decided : (log : List Entry) (c : RingId) (d : ConfId) (i j : ℕ) (x y : ConfId) (ms ns : List ℕ) (b : Bool) → IsFirstChange log (Regular c) i → ChangesNext log i j x y ms ns → IsTransitional d → IsTrue b ↔ (y ≡ d)
+    → IsTrue b ↔ Follows log c d
+follows_decided log c d i j x y ms ns b first succession moves decides = (
+  λ t. (let same = decides.0 t in record { from = i; to = j; first = first; next = succession.next; change = (ns, rw same at succession.second); transitional = moves }),
+  λ f. decides.1 (let t = succession_of log c d i f first in (one_succession log i j f.to x (Regular c) y d ms t.0 ns t.1 succession t.2).next),
+)
+
+pub in_regular : (log : List Entry) (c e : RingId) (b : Bool) → IsTrue b ↔ (e ≡ c) → IsTrue b ↔ Com log c (Regular e)
+in_regular log c e b decides = (λ t. inl (ap Regular (decides.0 t)), λ h. elim h [ inl same ↦ decides.1 cc | inr f ↦ absurd f.transitional ])
+
+pub in_following : (log : List Entry) (c : RingId) (x next : ConfId) (n : RingId) (l : ℕ) (b : Bool) → x ≡ Transitional n l → IsTrue b ↔ Follows log c x → IsTrue b ↔ Com log c x
+in_following log c x next n l b is decides = (λ t. inr (decides.0 t), λ h. elim h [ inl same ↦ absurd cc | inr f ↦ decides.1 f ])
+
+-- what a search for sends tells
+pub was_sent : (run : List Log) (log : List Entry) (m : MsgId) (d : ConfId) (ps : List Place) → IsOne run (IsSendTo log m d) ps → WasSentTo run log m d
+was_sent run log m d [] h = absurd h
+was_sent run log m d (e ∷ []) (j, js, (Send n (Regular c) s, at, (same, inside))) = (c, (e.proc, j, (s, rw same at at)), inside)
+was_sent run log m d (e ∷ []) (j, js, (Send n (Transitional x l) s, at, h)) = absurd h
+was_sent run log m d (e ∷ []) (j, js, (Conf x ms, at, h)) = absurd h
+was_sent run log m d (e ∷ []) (j, js, (Deliver n x, at, h)) = absurd h
+was_sent run log m d (e ∷ []) (j, js, (Fail x, at, h)) = absurd h
+was_sent run log m d (e ∷ f ∷ more) h = absurd h
+
+pub was_not_sent : (run : List Log) (log : List Entry) (m : MsgId) (d : ConfId) → HoldsOfNone (IsOne run (IsSendTo log m d)) → WasSentTo run log m d → ⊥
+was_not_sent run log m d never (c, (q, j, (s, at)), inside) = never.none (place q j ∷ []) (j, refl, (Send m (Regular c) s, at, (refl, inside)))
+
+pub sent_if_found : (run : List Log) (log : List Entry) (m : MsgId) (d : ConfId) (ps : List Place) → IsLeastOf run (IsOne run (IsSendTo log m d)) ps → IsTrue true ↔ WasSentTo run log m d
+sent_if_found run log m d ps least = (λ t. was_sent run log m d ps least.holds, λ sent. refl)
+
+pub not_sent_if_none : (run : List Log) (log : List Entry) (m : MsgId) (d : ConfId) → NoneOf run (IsOne run (IsSendTo log m d)) → IsTrue false ↔ WasSentTo run log m d
+not_sent_if_none run log m d none = (λ t. absurd cc, λ sent. absurd (was_not_sent run log m d (none_of_all run (IsOne run (IsSendTo log m d)) (one_begins run (IsSendTo log m d)) none) sent))
+
+-- deliveries of what was not sent for them
+pub unsent_begins : (run : List Log) → EachBegins run (BreaksUnsent run)
+unsent_begins run = record { each = λ places h. go places h }
+  where
+    go : (places : List Place) → BreaksUnsent run places → Begins run places
+    go [] h = absurd h
+    go (e ∷ []) (i, is, (m, d, at, never)) = begins_at run e i [] is (slice_get_within (log_of run e.proc) i (Deliver m d) at)
+    go (e ∷ f ∷ more) h = absurd h
+
+pub unsent_here : (run : List Log) (p i : ℕ) (m : MsgId) (d : ConfId) → slice_get (log_of run p) i ≡ Some (Deliver m d) → (WasSentTo run (log_of run p) m d → ⊥) → IsLeastFrom (BreaksUnsent run) p i []
+unsent_here run p i m d at never = record { least = record { holds = (i, refl, (m, d, at, never)); first = λ others _. tt } }
+
+none_unsent : (run : List Log) (p i : ℕ) → (IsUnsent run p i → ⊥) → NoneFrom (BreaksUnsent run) p i
+none_unsent run p i never = record { none = λ rest h. go rest h }
+  where
+    go : (rest : List Place) → BreaksUnsent run (place p i ∷ rest) → ⊥
+    go [] (j, is, h) = let same : j ≡ i = omega arith in never (rw same at h)
+    go (f ∷ more) h = h
+
+pub sent_here : (run : List Log) (p i : ℕ) (m : MsgId) (d : ConfId) → slice_get (log_of run p) i ≡ Some (Deliver m d) → WasSentTo run (log_of run p) m d → NoneFrom (BreaksUnsent run) p i
+sent_here run p i m d at sent = none_unsent run p i (λ (n, x, at', never). let same : Deliver n x ≡ Deliver m d = cc in
+    let messages : n ≡ m = cc in let confs : x ≡ d = cc in never (rw (messages, confs) sent))
+
+pub no_delivery : (run : List Log) (p i : ℕ) (e : Entry) → slice_get (log_of run p) i ≡ Some e → ((m : MsgId) (d : ConfId) → e ≡ Deliver m d → ⊥) → NoneFrom (BreaksUnsent run) p i
+no_delivery run p i e at other = none_unsent run p i (λ (n, x, at', never). other n x cc)
+
+pub delivers_what_was_sent : (run : List Log) → HoldsOfNone (BreaksUnsent run) → DeliversWhatWasSent run
+delivers_what_was_sent run never p i m d at = elim (sent_or_not run (log_of run p) m d) [
+  | inl sent ↦ sent
+  | inr not_sent ↦ absurd (never.none (place p i ∷ []) (i, refl, (m, d, at, not_sent)))
+]

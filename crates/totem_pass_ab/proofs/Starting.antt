@@ -1,0 +1,122 @@
+-- Lists that begin with an event of the run, and what follows from a search among them.
+use Rattle.std.proofs.Common.{◌≡◌, ℕ, ◌+◌, ◌<◌, List, [], ◌∷◌, length, slice_get, Option, Some, None, MatchOption, Bool, true, false, IsTrue, ◌↔◌, refl, ap, arith}
+use Rattle.std.proofs.lemmas.Option.{slice_get_within}
+use Rattle.totem_ids.specs.declared.place.Place.{Place}
+use Rattle.totem_evs.specs.declared.entry.Entry.{Entry}
+use Rattle.totem_evs.specs.declared.log.Log.{Log}
+use Rattle.totem_evs.specs.Events.{log_of}
+use Rattle.totem_evs.specs.Answers.{ComesFirst, IsLeast}
+use Rattle.totem_table.specs.Search.{place, NoneFrom, IsLeastFrom, NoneOf, IsLeastOf, HoldsOfNone}
+use Rattle.totem_pass_ab.specs.Pairs.{Has, IsOne, IsOneOrTwo}
+
+-- the list begins at an entry of p's log
+pub record Begins (run : List Log) (places : List Place) : Type 0 where
+  pub proc : ℕ
+  pub index : ℕ
+  pub rest : List Place
+  pub within : index < length (log_of run proc)
+  pub is : places ≡ place proc index ∷ rest
+
+-- each list of which it holds begins so
+pub record EachBegins (run : List Log) (H : List Place → Type 0) : Type 0 where
+  pub each : (places : List Place) → H places → Begins run places
+
+place_at : (e : Place) (i : ℕ) → e.at ≡ i + 1 → e ≡ place e.proc i
+place_at e i is = rw (← is) refl
+
+pub begins_at : (run : List Log) (e : Place) (i : ℕ) (rest : List Place) → e.at ≡ i + 1 → i < length (log_of run e.proc) → Begins run (e ∷ rest)
+begins_at run e i rest is lt = record { proc = e.proc; index = i; rest = rest; within = lt; is = ap (λ (f : Place). f ∷ rest) (place_at e i is) }
+
+pub least_of_all : (run : List Log) (H : List Place → Type 0) (places : List Place) → EachBegins run H → IsLeastOf run H places → IsLeast H places
+least_of_all run H places begins least = record {
+  holds = least.holds;
+  first = λ others h. let b = begins.each others h in rw b.is (least.first b.proc b.index b.rest b.within (rw b.is at h));
+}
+
+pub none_of_all : (run : List Log) (H : List Place → Type 0) → EachBegins run H → NoneOf run H → HoldsOfNone H
+none_of_all run H begins never = record { none = λ others h. let b = begins.each others h in never.none b.proc b.index b.rest b.within (rw b.is at h) }
+
+has_within : (run : List Log) (P : ℕ → ℕ → Entry → Type 0) (p i : ℕ) → Has run P p i → i < length (log_of run p)
+has_within run P p i (x, at, h) = slice_get_within (log_of run p) i x at
+
+pub one_begins : (run : List Log) (P : ℕ → ℕ → Entry → Type 0) → EachBegins run (IsOne run P)
+one_begins run P = record { each = λ places h. go places h }
+  where
+    go : (places : List Place) → IsOne run P places → Begins run places
+    go [] h = absurd h
+    go (e ∷ []) (i, is, h) = begins_at run e i [] is (has_within run P e.proc i h)
+    go (e ∷ f ∷ rest) h = absurd h
+
+pub one_or_two_begins : (run : List Log) (A : ℕ → ℕ → Entry → Type 0) (P : ℕ → ℕ → Entry → ℕ → ℕ → Entry → Type 0) → EachBegins run (IsOneOrTwo run A P)
+one_or_two_begins run A P = record { each = λ places h. go places h }
+  where
+    go : (places : List Place) → IsOneOrTwo run A P places → Begins run places
+    go [] h = absurd h
+    go (e ∷ []) (i, is, h) = begins_at run e i [] is (has_within run A e.proc i h)
+    go (e ∷ f ∷ rest) (i, is, h) = begins_at run e i (f ∷ rest) is (has_within run (λ p i x. IsOne run (P p i x) (f ∷ rest)) e.proc i h)
+
+-- a list of nothing comes first
+pub ends_here : (H : List Place → Type 0) (p i : ℕ) → H (place p i ∷ []) → IsLeastFrom H p i []
+ends_here H p i h = record { least = record { holds = h; first = λ others _. tt } }
+
+same_entry : (log : List Entry) (i : ℕ) (x y : Entry) → slice_get log i ≡ Some x → slice_get log i ≡ Some y → x ≡ y
+same_entry log i x y h k = cc
+
+pub has_here : (run : List Log) (P : ℕ → ℕ → Entry → Type 0) (p i : ℕ) (x : Entry) (b : Bool) → slice_get (log_of run p) i ≡ Some x → IsTrue b ↔ P p i x → b ≡ true → IsLeastFrom (IsOne run P) p i []
+has_here run P p i x b at decides e = ends_here (IsOne run P) p i (i, refl, (x, at, decides.0 e))
+
+pub has_not : (run : List Log) (P : ℕ → ℕ → Entry → Type 0) (p i : ℕ) (x : Entry) (b : Bool) → slice_get (log_of run p) i ≡ Some x → IsTrue b ↔ P p i x → b ≡ false → NoneFrom (IsOne run P) p i
+has_not run P p i x b at decides e = record { none = λ rest h. go rest h }
+  where
+    go : (rest : List Place) → IsOne run P (place p i ∷ rest) → ⊥
+    go [] (j, is, (y, at_j, h)) = let same : j ≡ i = omega arith in
+        let one : y ≡ x = same_entry (log_of run p) i y x (rw same at at_j) at in
+        let t : b ≡ true = decides.1 (rw (same, one) at h) in cc
+    go (f ∷ more) h = h
+
+-- what a search found, as places
+pub told_as_places : {V : Type 0} (items : V → List Place) (found : Option V) (places : Option (List Place)) (Told : Option (List Place) → Type 0) (A : Type 0) (P : V → Type 0)
+    → MatchOption found (places ≡ None) (λ v. places ≡ Some (items v)) → (A → Told None) → ((v : V) → P v → Told (Some (items v))) → MatchOption found A P → Told places
+told_as_places items None places Told A P is none some h = rw is (none h)
+told_as_places items (Some v) places Told A P is none some h = rw is (some v h)
+
+-- so the least list of the run is told as places
+pub least_places : {V : Type 0} (items : V → List Place) (run : List Log) (H : List Place → Type 0) (found : Option V) (places : Option (List Place)) → EachBegins run H → MatchOption found (places ≡ None) (λ v. places ≡ Some (items v))
+    → MatchOption found (NoneOf run H) (λ v. IsLeastOf run H (items v)) → MatchOption places (HoldsOfNone H) (IsLeast H)
+least_places items run H found places begins is = told_as_places items found places (λ told. MatchOption told (HoldsOfNone H) (IsLeast H)) (NoneOf run H) (λ v. IsLeastOf run H (items v)) is
+    (none_of_all run H begins) (λ v. least_of_all run H (items v) begins)
+
+-- what is known of the entry at a place is known of the entry there
+pub moved : (log : List Entry) (i j : ℕ) (x y : Entry) (Q : ℕ → Entry → Type 0) → slice_get log i ≡ Some x → i + 1 ≡ j + 1 → slice_get log j ≡ Some y → Q j y → Q i x
+moved log i j x y Q at is at_j h = let same : j ≡ i = omega arith in
+    let one : y ≡ x = same_entry log i y x (rw same at at_j) at in
+    rw (same, one) at h
+
+-- an entry that is not bad alone, and with none
+pub bad_with_nothing : (run : List Log) (A : ℕ → ℕ → Entry → Type 0) (P : ℕ → ℕ → Entry → ℕ → ℕ → Entry → Type 0) (p i : ℕ) (x : Entry) → slice_get (log_of run p) i ≡ Some x
+    → (A p i x → ⊥) → HoldsOfNone (IsOne run (P p i x)) → NoneFrom (IsOneOrTwo run A P) p i
+bad_with_nothing run A P p i x at not_alone never = record { none = λ rest h. go rest h }
+  where
+    go : (rest : List Place) → IsOneOrTwo run A P (place p i ∷ rest) → ⊥
+    go [] (j, is, (y, at_j, h)) = not_alone (moved (log_of run p) i j x y (λ k z. A p k z) at is at_j h)
+    go (f ∷ more) (j, is, (y, at_j, h)) = never.none (f ∷ more) (moved (log_of run p) i j x y (λ k z. IsOne run (P p k z) (f ∷ more)) at is at_j h)
+
+pub bad_with_none : (run : List Log) (A : ℕ → ℕ → Entry → Type 0) (P : ℕ → ℕ → Entry → ℕ → ℕ → Entry → Type 0) (p i : ℕ) (x : Entry) → slice_get (log_of run p) i ≡ Some x
+    → (A p i x → ⊥) → NoneOf run (IsOne run (P p i x)) → NoneFrom (IsOneOrTwo run A P) p i
+bad_with_none run A P p i x at not_alone never = bad_with_nothing run A P p i x at not_alone (none_of_all run (IsOne run (P p i x)) (one_begins run (P p i x)) never)
+
+-- an entry that is not bad alone, and with others
+pub bad_with_some : (run : List Log) (A : ℕ → ℕ → Entry → Type 0) (P : ℕ → ℕ → Entry → ℕ → ℕ → Entry → Type 0) (p i : ℕ) (x : Entry) (places : List Place) → slice_get (log_of run p) i ≡ Some x
+    → (A p i x → ⊥) → IsLeastOf run (IsOne run (P p i x)) places → IsLeastFrom (IsOneOrTwo run A P) p i places
+bad_with_some run A P p i x places at not_alone least = record { least = record { holds = known places all.holds; first = λ others h. go others h } }
+  where
+    all : IsLeast (IsOne run (P p i x)) places
+    all = least_of_all run (IsOne run (P p i x)) places (one_begins run (P p i x)) least
+
+    known : (rest : List Place) → IsOne run (P p i x) rest → IsOneOrTwo run A P (place p i ∷ rest)
+    known [] h = absurd h
+    known (f ∷ more) h = (i, refl, (x, at, h))
+
+    go : (others : List Place) → IsOneOrTwo run A P (place p i ∷ others) → ComesFirst places others
+    go [] (j, is, (y, at_j, h)) = absurd (not_alone (moved (log_of run p) i j x y (λ k z. A p k z) at is at_j h))
+    go (f ∷ more) (j, is, (y, at_j, h)) = all.first (f ∷ more) (moved (log_of run p) i j x y (λ k z. IsOne run (P p k z) (f ∷ more)) at is at_j h)

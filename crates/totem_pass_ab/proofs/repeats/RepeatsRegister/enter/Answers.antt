@@ -1,0 +1,23 @@
+use Rattle.std.proofs.Common.{refl}
+use Rattle.std.proofs.lemmas.Option.{slice_get_read}
+use Rattle.totem_ids.specs.contracts.message.MsgIdOrd.TheImpl.Laws as message
+use Rattle.totem_pass_ab.specs.contracts.keys.DeliveryOrd.TheImpl.Laws as delivery
+use Rattle.std.proofs.lemmas.Result.{on_ok_weaker}
+use Rattle.totem_pass_ab.proofs.Repeating.{keeps_sends, keeps_deliveries, enters_delivery, enters_nothing}
+use Rattle.totem_pass_ab.proofs.repeats.RepeatsRegister.enter.Goals as goal
+
+pub returns-in-Send-clause-kept : goal.returns-in-Send-clause-kept
+returns-in-Send-clause-kept c = on_ok_weaker c.meet.result (keeps_sends _ _ message.total-law c.args.self.now.sends.values c.meet.new.self.values _ _ _) c.meet.ensures.met
+
+pub returns-in-Deliver-clause-entered : goal.returns-in-Deliver-clause-entered
+returns-in-Deliver-clause-entered c =
+    let at = slice_get_read c.args.log.now _ c.args.at c.index-log-at.result refl c.requires.within c.index-log-at.is in
+    on_ok_weaker c.meet-in-Deliver.result (enters_delivery _ _ delivery.total-law _ c.args.self.now.deliveries.values c.meet-in-Deliver.new.self.values _ _ _ _ _ (rw c.in-Deliver.is at at)) c.meet-in-Deliver.ensures.met
+
+pub returns-in-Deliver-clause-kept : goal.returns-in-Deliver-clause-kept
+returns-in-Deliver-clause-kept c = on_ok_weaker c.meet-in-Deliver.result (keeps_deliveries _ _ delivery.total-law _ c.args.self.now.deliveries.values c.meet-in-Deliver.new.self.values _ _) c.meet-in-Deliver.ensures.met
+
+pub returns-in_default-clause-entered : goal.returns-in_default-clause-entered
+returns-in_default-clause-entered c =
+    let at = slice_get_read c.args.log.now _ c.args.at c.index-log-at.result refl c.requires.within c.index-log-at.is in
+    enters_nothing _ _ _ _ _ _ _ _ at c.in_default.not-Send c.in_default.not-Deliver

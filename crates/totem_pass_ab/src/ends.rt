@@ -1,0 +1,17 @@
+//! 2.1: where a quiet log ends, each member ends too or may still come (docs/SPECIFICATIONS.md, "2 Changes of configuration").
+ghost use Rattle.std.specs.Prelude.{IfOk};
+ghost use Rattle.totem_evs.specs.Answers.{Finds};
+
+use std::alloc::{AllocError, Global};
+use totem_evs::{Places, Run, SpecNo};
+use totem_run_rules::first_end_alone;
+
+/// Finds the least event that breaks 2.1.
+pub fn find(alloc: Global, run: &Run) -> Result<Option<Places>, AllocError>
+    ensures { IfOk result (Finds run.now.logs SpecNo.End) }
+{
+    match first_end_alone(alloc, run)? {
+        None => Ok(None),
+        Some(place) => Ok(Some(Places::new(vec![in alloc; place]?))),
+    }
+}

@@ -1,0 +1,71 @@
+//! Which regular configuration each transitional one follows in a log (docs/SPECIFICATIONS.md, "Following").
+ghost use Rattle.std.specs.Prelude.{◌≡◌, ◌↔◌, IsTrue};
+ghost use Rattle.totem_pass_ab.specs.Followed.{KnowsRegularChange, AreFollowed};
+
+use crate::kinds::is_transitional;
+use crate::succession::succession_between;
+use std::alloc::{AllocError, Global};
+use std::collections::{BTreeMap, BTreeSet};
+use totem_evs::Entry;
+use totem_ids::{ConfId, Proc, RingId};
+use totem_table::{Change, ChangeRegister};
+
+/// Which process changed to which regular configuration, and, for each process and transitional configuration, the ring
+/// of the regular one that it follows there.
+#[derive(Drop)]
+pub struct Followed {
+    pub changes: BTreeSet<Change>,
+    pub rings: BTreeMap<Change, RingId>,
+}
+
+impl Followed {
+    ghost use Rattle.std.specs.BTreeMap.{IsEmpty};
+    ghost use Rattle.std.specs.BTreeSet as sorted;
+
+    pub fn new(alloc: Global) -> Followed
+        ensures changes { sorted.IsEmpty result.changes }
+        ensures rings { IsEmpty result.rings }
+    {
+        Followed {
+            changes: BTreeSet::new(alloc),
+            rings: BTreeMap::new(alloc),
+        }
+    }
+}
+
+impl ChangeRegister for Followed {
+    ghost sound = { λ s. AreFollowed ⟦<Change as Ord>⟧.cmp s.rings };
+
+    ghost knows = { λ s. KnowsRegularChange ⟦<Change as Ord>⟧.cmp s.changes };
+
+    fn spares(&self) {}
+
+    fn enter_change(
+        &mut self,
+        _alloc: Global,
+        proc: Proc,
+        log: &[Entry],
+        at: usize,
+        next: usize,
+    ) -> Result<(), AllocError> {
+        let Entry::Conf(conf, _) = &log[at] else {
+            return Ok(());
+        };
+        let ConfId::Regular(ring) = conf else {
+            return Ok(());
+        };
+        let ring = *ring;
+        let conf = ConfId::Regular(ring);
+        if !self.changes.insert(Change { proc, conf })? {
+            return Ok(());
+        }
+        let Some(succession) = succession_between(log, at, next) else {
+            return Ok(());
+        };
+        if is_transitional(succession.next) {
+            let conf = *succession.next;
+            self.rings.insert(Change { proc, conf }, ring)?;
+        }
+        Ok(())
+    }
+}

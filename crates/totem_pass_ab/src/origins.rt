@@ -1,0 +1,59 @@
+//! From which rings logs come to each configuration.
+ghost use Rattle.totem_pass_ab.specs.Origins.{KnowsOrigin};
+
+use crate::met::{Met, Same};
+use crate::succession::succession_between;
+use std::alloc::{AllocError, Global};
+use totem_evs::Entry;
+use totem_ids::{ConfId, Proc, RingId};
+use totem_table::ChangeRegister;
+
+impl Same for RingId {
+    fn is_same(&self, other: &RingId) -> bool {
+        *self == *other
+    }
+}
+
+/// The ring of the regular configuration from which logs come to each configuration. Where there are several, it keeps
+/// only that there are several.
+#[derive(Drop)]
+pub struct Origins {
+    pub rings: Met<ConfId, RingId>,
+}
+
+impl Origins {
+    ghost use Rattle.std.specs.BTreeMap.{IsEmpty};
+
+    pub fn new(alloc: Global) -> Origins
+        ensures { IsEmpty result.rings.values }
+    {
+        Origins {
+            rings: Met::new(alloc),
+        }
+    }
+}
+
+impl ChangeRegister for Origins {
+    ghost sound = { λ s run. Unit {0} };
+
+    ghost knows = { λ s. KnowsOrigin ⟦<ConfId as Ord>⟧.cmp s.rings.values };
+
+    fn spares(&self) {}
+
+    fn enter_change(
+        &mut self,
+        _alloc: Global,
+        _proc: Proc,
+        log: &[Entry],
+        at: usize,
+        next: usize,
+    ) -> Result<(), AllocError> {
+        let Some(succession) = succession_between(log, at, next) else {
+            return Ok(());
+        };
+        let ConfId::Regular(ring) = succession.conf else {
+            return Ok(());
+        };
+        self.rings.meet(*succession.next, *ring)
+    }
+}

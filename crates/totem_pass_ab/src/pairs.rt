@@ -1,0 +1,133 @@
+//! Finds the least list of one entry that is bad alone, or of two that are bad together.
+ghost use Rattle.std.specs.Prelude.{◌≡◌, ◌↔◌, ℕ, ◌<◌, ◌≤◌, List, IsTrue, IfOk, MatchOption, length};
+ghost use Rattle.std.specs.Bool.{OnFalse};
+ghost use Rattle.totem_ids.specs.declared.place.Place.{Place};
+ghost use Rattle.totem_evs.specs.declared.entry.Entry.{Entry};
+ghost use Rattle.totem_evs.specs.declared.log.Log.{Log};
+ghost use Rattle.totem_evs.specs.Events.{log_of};
+ghost use Rattle.totem_evs.specs.Answers.{IsLeast};
+ghost use Rattle.totem_table.specs.Search.{NoneFrom, IsLeastFrom, HoldsOfNone};
+ghost use Rattle.totem_pass_ab.specs.Pairs.{IsOne, IsOneOrTwo};
+
+use std::alloc::{AllocError, Global};
+use totem_evs::{Entry, Places, Run};
+use totem_ids::{Place, Proc};
+use totem_table::{Relation, least, places_of};
+
+/// An entry, with the process and the index at which it stands.
+#[derive(Clone, Copy)]
+pub struct Standing<'a> {
+    pub proc: Proc,
+    pub at: usize,
+    pub entry: &'a Entry,
+}
+
+/// Says which entries of a run are bad alone, and which two are bad together.
+pub trait Test {
+    /// The logs of the run.
+    ghost of: { Self → List Log };
+
+    ghost alone: { Self → ℕ → ℕ → Entry → Type 0 };
+
+    ghost pair: { Self → ℕ → ℕ → Entry → ℕ → ℕ → Entry → Type 0 };
+
+    fn run(&self) -> &Run
+        ensures { result.now.logs ≡ of self.now };
+
+    fn is_alone(&self, first: &Standing) -> bool
+        ensures { IsTrue result ↔ alone self.now first.now.proc first.now.at first.now.entry.now };
+
+    fn is_pair(&self, first: &Standing, second: &Standing) -> bool
+        ensures { IsTrue result ↔ pair self.now first.now.proc first.now.at first.now.entry.now second.now.proc second.now.at second.now.entry.now };
+
+    /// Returns `false` only if no entry is bad together with this one: a quick test, which then spares the search.
+    fn may_pair(&self, first: &Standing) -> bool
+        requires { first.now.at < 1000000 }
+        ensures { OnFalse result (HoldsOfNone (IsOne (of self.now) (pair self.now first.now.proc first.now.at first.now.entry.now))) };
+}
+
+/// Looks for entries that are bad together with this one.
+#[derive(Clone, Copy)]
+struct Partners<'t, 'e, T> {
+    test: &'t T,
+    first: Standing<'e>,
+}
+
+impl<T: Test> Relation for Partners<'_, '_, T> {
+    ghost of = { λ s. T.of s.test.now };
+
+    ghost holds = { λ s. IsOne (T.of s.test.now) (T.pair s.test.now s.first.proc s.first.at s.first.entry.now) };
+
+    fn rest(
+        &self,
+        alloc: Global,
+        proc: Proc,
+        log: &[Entry],
+        at: usize,
+    ) -> Result<Option<Vec<Place>>, AllocError> {
+        let entry = &log[at];
+        let second = Standing { proc, at, entry };
+        if self.test.is_pair(&self.first, &second) {
+            Ok(Some(Vec::new(alloc)))
+        } else {
+            Ok(None)
+        }
+    }
+}
+
+/// Returns how the least list of one or two bad entries goes on that begins with the entry at index `at` of a process's log,
+/// or `None` if none does.
+pub fn bad_from<T: Test>(
+    test: &T,
+    alloc: Global,
+    proc: Proc,
+    log: &[Entry],
+    at: usize,
+) -> Result<Option<Vec<Place>>, AllocError>
+    requires log { log.now ≡ log_of (T.of test.now) proc }
+    requires within { at < length log.now }
+    requires few { length log.now ≤ 1000000 }
+    ensures { IfOk result (λ found. MatchOption found (NoneFrom (IsOneOrTwo (T.of test.now) (T.alone test.now) (T.pair test.now)) proc at)
+        (λ rest. IsLeastFrom (IsOneOrTwo (T.of test.now) (T.alone test.now) (T.pair test.now)) proc at rest.items)) }
+{
+    let entry = &log[at];
+    let first = Standing { proc, at, entry };
+    if test.is_alone(&first) {
+        return Ok(Some(Vec::new(alloc)));
+    }
+    if !test.may_pair(&first) {
+        return Ok(None);
+    }
+    let partners = Partners { test, first };
+    least(&partners, alloc, test.run())
+}
+
+#[derive(Clone, Copy)]
+struct OneOrTwo<'t, T> {
+    test: &'t T,
+}
+
+impl<T: Test> Relation for OneOrTwo<'_, T> {
+    ghost of = { λ s. T.of s.test.now };
+
+    ghost holds = { λ s. IsOneOrTwo (T.of s.test.now) (T.alone s.test.now) (T.pair s.test.now) };
+
+    fn rest(
+        &self,
+        alloc: Global,
+        proc: Proc,
+        log: &[Entry],
+        at: usize,
+    ) -> Result<Option<Vec<Place>>, AllocError> {
+        bad_from(self.test, alloc, proc, log, at)
+    }
+}
+
+/// Finds the least list of one or two entries of the run that are bad by this test.
+pub fn least_bad<T: Test>(test: &T, alloc: Global) -> Result<Option<Places>, AllocError>
+    ensures { IfOk result (λ found. MatchOption found (HoldsOfNone (IsOneOrTwo (T.of test.now) (T.alone test.now) (T.pair test.now)))
+        (IsLeast (IsOneOrTwo (T.of test.now) (T.alone test.now) (T.pair test.now)))) }
+{
+    let lists = OneOrTwo { test };
+    Ok(places_of(least(&lists, alloc, test.run())?))
+}

@@ -1,0 +1,407 @@
+-- What is found for 4 is the least list that breaks it: a delivery, its process's next change, and that of a process which
+-- goes along without the message.
+use Rattle.std.proofs.Common.{◌≡◌, ℕ, zero, suc, ◌+◌, ◌<◌, ◌⊎◌, inl, inr, List, [], ◌∷◌, length, slice_get, Some, Bool, true, false, IsTrue, ◌↔◌, refl, sym, arith}
+use Rattle.std.specs.Bool.{OnTrue, OnFalse}
+use Rattle.totem_ids.specs.declared.ring.RingId.{RingId}
+use Rattle.totem_ids.specs.declared.conf.ConfId.{ConfId}
+use Rattle.totem_ids.specs.declared.conf.ConfId.TheVariants.{Regular, Transitional}
+use Rattle.totem_ids.specs.declared.message.MsgId.{MsgId}
+use Rattle.totem_ids.specs.declared.place.Place.{Place}
+use Rattle.totem_evs.specs.declared.entry.Entry.{Entry}
+use Rattle.totem_evs.specs.declared.entry.Entry.TheVariants.{Deliver}
+use Rattle.totem_evs.specs.declared.log.Log.{Log}
+use Rattle.totem_evs.specs.Events.{log_of, IsChange, ChangesTo, Delivers, IsRegular, IsTransitional}
+use Rattle.totem_evs.specs.Changes.{ChangesNext}
+use Rattle.totem_evs.specs.Following.{IsNextChange, Follows, Com}
+use Rattle.totem_evs.specs.RingAgreement.{AtomicityIn}
+use Rattle.totem_evs.specs.RingFaults.{BreaksAtomicityIn}
+use Rattle.totem_evs.specs.AgreementFaults.{GoesAt}
+use Rattle.totem_evs.specs.Answers.{ComesFirst, IsLeast}
+use Rattle.totem_evs.proofs.LogOf.{less_or_not}
+use Rattle.totem_table.specs.Search.{place, NoneFrom, IsLeastFrom, HoldsOfNone}
+use Rattle.totem_run_rules.proofs.Staying.{same_change, change_within}
+use Rattle.totem_evs.proofs.NextChanges.{one_next}
+use Rattle.totem_pass_d.specs.declared.stay.Stay.{Stay}
+use Rattle.totem_run_rules.specs.Stays.{IsStay}
+use Rattle.totem_pass_d.specs.Acts.{IsAmong, DeliversHere, DeliversNot}
+use Rattle.totem_pass_d.specs.Search.{IsInside, EachBeginsWithin, BeginsWithin, NoneWithin, IsLeastWithin}
+use Rattle.totem_pass_d.specs.Partings.{IsAnywhere, IsSpan, IsNoChange, NeverDelivers, IsPartner, IsOnePartner}
+use Rattle.totem_pass_d.proofs.Deciding.{below_or_not, delivers_or_not}
+use Rattle.totem_pass_d.proofs.KnownStays.{any_change_at_or_not}
+use Rattle.totem_pass_d.proofs.Facts.{Facts, StayFacts}
+use Rattle.totem_pass_d.proofs.Rests.{nothing_here, only_here, begins_at}
+use Rattle.totem_pass_d.proofs.CausalityFaults.{not_delivered_in}
+
+-- the next change after the one to c, and after the one to what follows it
+pub next_of_from : (log : List Entry) (c : RingId) (from turn end k : ℕ) → IsStay log c from turn end → IsNextChange log from k → k ≡ turn
+next_of_from log c from turn end k is next = elim (below_or_not turn (length log)) [
+  | inl lt ↦ one_next log from k turn next (is.next lt).1
+  | inr past ↦ (
+      let change = next.change in
+      let within = change_within log k change.0 change.1 in
+      let later = next.later in
+      let until = is.until in
+      elim (less_or_not k turn) [
+        | inl before ↦ is.changes k later (omega arith) change
+        | inr more ↦ elim more [ inl after ↦ absurd (past (omega arith)) | inr same ↦ same ]
+      ]
+      )
+]
+
+pub next_of_turn : (log : List Entry) (c : RingId) (from turn end k : ℕ) → IsStay log c from turn end → turn < end → IsNextChange log turn k → k ≡ end
+next_of_turn log c from turn end k is lt next =
+    let change = next.change in
+    let within = change_within log k change.0 change.1 in
+    let later = next.later in
+    let before = is.before in
+    elim (below_or_not k end) [
+      | inl inside ↦ (let same = is.changes k (omega arith) inside change in absurd (omega arith))
+      | inr past ↦ elim (below_or_not end (length log)) [
+        | inl goes_on ↦ one_next log turn k end next (is.last lt goes_on)
+        | inr stops ↦ elim (less_or_not k end) [
+          | inl inside ↦ absurd (past inside)
+          | inr more ↦ absurd (stops (elim more [ inl over ↦ omega arith | inr same ↦ omega arith ]))
+        ]
+      ]
+    ]
+
+-- what follows c stands at the turn
+pub turn_of : (run : List Log) (c : RingId) (stays : List Stay) (stay : Stay) (x : ConfId) → Facts run c stays → IsAmong stays stay → Follows (log_of run stay.proc) c x → ChangesTo (log_of run stay.proc) stay.turn x × (stay.turn < stay.end)
+turn_of run c stays stay x facts among f =
+    let of = facts.each stay among in
+    let from = facts.meets.one.once stay.proc f.from stay.from (Regular c) f.first.change of.is.change in
+    let to = next_of_from (log_of run stay.proc) c stay.from stay.turn stay.end f.to of.is (rw from at f.next) in
+    let change : ChangesTo (log_of run stay.proc) stay.turn x = rw to at f.change in
+    (change, (of.is.next (change_within (log_of run stay.proc) stay.turn x change)).0)
+
+-- a process changes to x where its span begins, and goes on where it ends
+pub changes_there : (run : List Log) (c : RingId) (stays : List Stay) (stay : Stay) (x : ConfId) (ch nx : ℕ) → Facts run c stays → IsAmong stays stay → IsSpan x stay ch nx → Com (log_of run stay.proc) c x → ChangesTo (log_of run stay.proc) ch x
+changes_there run c stays stay (Regular r) ch nx facts among (is_ch, is_nx) (inl same) = rw (is_ch, same) (facts.each stay among).is.change
+changes_there run c stays stay (Regular r) ch nx facts among (is_ch, is_nx) (inr f) = absurd f.transitional
+changes_there run c stays stay (Transitional n l) ch nx facts among (is_ch, is_nx) (inl same) = absurd cc
+changes_there run c stays stay (Transitional n l) ch nx facts among (is_ch, is_nx) (inr f) = rw is_ch (turn_of run c stays stay (Transitional n l) facts among f).0
+
+pub goes_next : (run : List Log) (c : RingId) (stays : List Stay) (stay : Stay) (x d : ConfId) (ch nx k : ℕ) → Facts run c stays → IsAmong stays stay → IsSpan x stay ch nx → Com (log_of run stay.proc) c x → GoesAt (log_of run stay.proc) x d k → k ≡ nx
+goes_next run c stays stay (Regular r) d ch nx k facts among (is_ch, is_nx) (inr f) goes = absurd f.transitional
+goes_next run c stays stay (Transitional n l) d ch nx k facts among (is_ch, is_nx) (inl same) goes = absurd cc
+goes_next run c stays stay (Regular r) d ch nx k facts among (is_ch, is_nx) (inl same) (i, change, next, to) =
+    let of = facts.each stay among in
+    let from = facts.meets.one.once stay.proc i stay.from (Regular c) (rw same at change) of.is.change in
+    rw is_nx (next_of_from (log_of run stay.proc) c stay.from stay.turn stay.end k of.is (rw from at next))
+goes_next run c stays stay (Transitional n l) d ch nx k facts among (is_ch, is_nx) (inr f) (i, change, next, to) =
+    let of = facts.each stay among in
+    let turn = turn_of run c stays stay (Transitional n l) facts among f in
+    let at = facts.meets.one.once stay.proc i stay.turn (Transitional n l) change turn.0 in
+    rw is_nx (next_of_turn (log_of run stay.proc) c stay.from stay.turn stay.end k of.is turn.1 (rw at at next))
+
+pub goes_here : (run : List Log) (c : RingId) (stays : List Stay) (stay : Stay) (x d : ConfId) (ch nx : ℕ) → Facts run c stays → IsAmong stays stay → IsSpan x stay ch nx → Com (log_of run stay.proc) c x → ChangesTo (log_of run stay.proc) nx d
+    → GoesAt (log_of run stay.proc) x d nx
+goes_here run c stays stay (Regular r) d ch nx facts among (is_ch, is_nx) (inr f) to = absurd f.transitional
+goes_here run c stays stay (Transitional n l) d ch nx facts among (is_ch, is_nx) (inl same) to = absurd cc
+goes_here run c stays stay (Regular r) d ch nx facts among (is_ch, is_nx) (inl same) to =
+    let of = facts.each stay among in
+    let lt = change_within (log_of run stay.proc) nx d to in
+    (stay.from, rw same of.is.change, rw is_nx (of.is.next (rw is_nx at lt)).1, to)
+goes_here run c stays stay (Transitional n l) d ch nx facts among (is_ch, is_nx) (inr f) to =
+    let of = facts.each stay among in
+    let turn = turn_of run c stays stay (Transitional n l) facts among f in
+    let lt = change_within (log_of run stay.proc) nx d to in
+    (stay.turn, turn.0, rw is_nx (of.is.last turn.1 (rw is_nx at lt)), to)
+
+pub belongs : (run : List Log) (c : RingId) (stays : List Stay) (stay : Stay) (x : ConfId) (ch nx : ℕ) → Facts run c stays → IsAmong stays stay → IsSpan x stay ch nx → ChangesTo (log_of run stay.proc) ch x → Com (log_of run stay.proc) c x
+belongs run c stays stay (Regular r) ch nx facts among (is_ch, is_nx) change =
+    inl (same_change (log_of run stay.proc) ch stay.from (Regular r) (Regular c) is_ch change (facts.each stay among).is.change)
+belongs run c stays stay (Transitional n l) ch nx facts among (is_ch, is_nx) change =
+    let of = facts.each stay among in
+    let at : ChangesTo (log_of run stay.proc) stay.turn (Transitional n l) = rw is_ch at change in
+    let lt = (of.is.next (change_within (log_of run stay.proc) stay.turn (Transitional n l) at)).0 in
+    let turn = of.is.turns lt in
+    let same = same_change (log_of run stay.proc) stay.turn stay.turn turn.conf (Transitional n l) refl turn.change at in
+    inr (rw same at turn.follows)
+
+-- who goes along without the message
+partner_at : (run : List Log) (c : RingId) (m : MsgId) (x d : ConfId) (q k : ℕ) (rest : List Place) → IsOnePartner run c m x d (place q k ∷ rest) → IsPartner run c m x d q k
+partner_at run c m x d q k [] (j, is, h) = let same : j ≡ k = omega arith in rw same at h
+partner_at run c m x d q k (f ∷ more) h = absurd h
+
+pub none_elsewhere : (run : List Log) (c : RingId) (stays : List Stay) (stay : Stay) (m : MsgId) (x d : ConfId) (ch nx : ℕ) → Facts run c stays → IsAmong stays stay → IsSpan x stay ch nx → (ChangesTo stay.log.now ch x → ⊥)
+    → NoneWithin IsAnywhere (IsOnePartner run c m x d) stay
+none_elsewhere run c stays stay m x d ch nx facts among span never = record {
+  none = λ i rest reached h. never (rw (facts.each stay among).log (changes_there run c stays stay x ch nx facts among span (partner_at run c m x d stay.proc i rest h).0));
+}
+
+pub none_next : (run : List Log) (c : RingId) (stays : List Stay) (stay : Stay) (m : MsgId) (x d : ConfId) (ch nx : ℕ) → Facts run c stays → IsAmong stays stay → IsSpan x stay ch nx → (ChangesTo stay.log.now nx d → ⊥)
+    → NoneWithin IsAnywhere (IsOnePartner run c m x d) stay
+none_next run c stays stay m x d ch nx facts among span never = record { none = λ i rest reached h. go i (partner_at run c m x d stay.proc i rest h) }
+  where
+    go : (i : ℕ) → IsPartner run c m x d stay.proc i → ⊥
+    go i (com', goes, lacks) =
+        let same = goes_next run c stays stay x d ch nx i facts among span com' goes in
+        never (rw ((facts.each stay among).log, ← same) goes.3)
+
+pub partner_here : (run : List Log) (c : RingId) (stays : List Stay) (stay : Stay) (m : MsgId) (x d : ConfId) (ch nx : ℕ) (places : List Place) → Facts run c stays → IsAmong stays stay → IsSpan x stay ch nx
+    → ChangesTo stay.log.now ch x → ChangesTo stay.log.now nx d → NeverDelivers (log_of run stay.proc) c m x → places ≡ place stay.proc nx ∷ [] → IsLeastWithin IsAnywhere (IsOnePartner run c m x d) stay places
+partner_here run c stays stay m x d ch nx places facts among span at to lacks is =
+    let log = (facts.each stay among).log in
+    let inside = belongs run c stays stay x ch nx facts among span (rw log at at) in
+    only_here IsAnywhere (IsOnePartner run c m x d) stay nx places
+    (nx, refl, (inside, goes_here run c stays stay x d ch nx facts among span inside (rw log at to), lacks.never inside))
+    (λ i rest h. goes_next run c stays stay x d ch nx i facts among span inside (partner_at run c m x d stay.proc i rest h).1) is
+
+pub next_is_short : (run : List Log) (c : RingId) (stays : List Stay) (stay : Stay) (d : ConfId) (nx : ℕ) → Facts run c stays → IsAmong stays stay → ChangesTo stay.log.now nx d → nx < 1000000
+next_is_short run c stays stay d nx facts among to =
+    let of = facts.each stay among in
+    let at : ChangesTo (log_of run stay.proc) nx d = rw of.log at to in
+    let lt = change_within (log_of run stay.proc) nx d at in let size = of.size in omega arith
+
+-- whether the message is delivered in x
+pub never_there : (run : List Log) (c : RingId) (stay : Stay) (m : MsgId) (x : ConfId) → StayFacts run c stay → DeliversNot stay.log.now c m → NeverDelivers (log_of run stay.proc) c m x
+never_there run c stay m x facts never = record { never = λ inside l at. not_delivered_in run c stay m facts never (l, (x, at, inside)) }
+
+here_is : (run : List Log) (c : RingId) (stay : Stay) (m : MsgId) (k : ℕ) → StayFacts run c stay → (here : DeliversHere stay m k) → Delivers (log_of run stay.proc) k m here.conf
+here_is run c stay m k facts here = rw facts.log at here.delivers
+
+pub delivers_on_true : (run : List Log) (c : RingId) (stay : Stay) (m o : MsgId) (x y : ConfId) (k : ℕ) (b : Bool) → StayFacts run c stay → DeliversHere stay m k → slice_get (log_of run stay.proc) k ≡ Some (Deliver o y) → IsTrue b ↔ (y ≡ x)
+    → OnTrue b ((l : ℕ) × Delivers (log_of run stay.proc) l m x)
+delivers_on_true run c stay m o x y k true facts here at decides =
+    let mine = here_is run c stay m k facts here in
+    let same : here.conf ≡ y = cc in
+    (k, rw (same, decides.0 refl) at mine)
+delivers_on_true run c stay m o x y k false facts here at decides = tt
+
+pub never_on_false : (run : List Log) (c : RingId) (stays : List Stay) (stay : Stay) (m o : MsgId) (x y : ConfId) (k : ℕ) (b : Bool) → Facts run c stays → IsAmong stays stay → DeliversHere stay m k → slice_get (log_of run stay.proc) k ≡ Some (Deliver o y)
+    → IsTrue b ↔ (y ≡ x) → OnFalse b (NeverDelivers (log_of run stay.proc) c m x)
+never_on_false run c stays stay m o x y k true facts among here at decides = tt
+never_on_false run c stays stay m o x y k false facts among here at decides = record { never = λ inside l at_l. go l at_l }
+  where
+    go : (l : ℕ) → Delivers (log_of run stay.proc) l m x → ⊥
+    go l at_l =
+        let mine = here_is run c stay m k (facts.each stay among) here in
+        let same = facts.meets.once.one_delivery stay.proc l k m x here.conf at_l mine in
+        let moved : Delivers (log_of run stay.proc) k m x = rw same at at_l in
+        let conf : y ≡ x = cc in
+        let t : false ≡ true = decides.1 conf in cc
+
+pub here_delivered : (run : List Log) (c : RingId) (stay : Stay) (m : MsgId) (x : ConfId) (k : ℕ) (e : Entry) → StayFacts run c stay → DeliversHere stay m k → slice_get (log_of run stay.proc) k ≡ Some e → ((o : MsgId) (y : ConfId) → e ≡ Deliver o y → ⊥)
+    → NeverDelivers (log_of run stay.proc) c m x
+here_delivered run c stay m x k e facts here at other = let mine = here_is run c stay m k facts here in absurd (other m here.conf cc)
+
+-- the last change before an index
+record LastBefore (log : List Entry) (n : ℕ) : Type 0 where
+  pub at : ℕ
+  pub lt : at < n
+  pub change : IsChange log at
+  pub none_between : (k : ℕ) → at < k → k < n → IsChange log k → ⊥
+
+last_before : (log : List Entry) (n : ℕ) → LastBefore log n ⊎ ((k : ℕ) → k < n → IsChange log k → ⊥)
+last_before log zero = inr (λ k lt change. omega arith)
+last_before log (suc n) = elim (any_change_at_or_not log n) [
+  | inl here ↦ inl (record { at = n; lt = omega arith; change = here; none_between = λ k above below change. omega arith })
+  | inr never ↦ elim (last_before log n) [
+    | inl last ↦ inl (record { at = last.at; lt = (let lt = last.lt in omega arith); change = last.change; none_between = λ k above below change. at_most k above below change never last.none_between })
+    | inr none ↦ inr (λ k lt change. elim (less_or_not k n) [
+      | inl under ↦ none k under change
+      | inr more ↦ elim more [ inl over ↦ omega arith | inr same ↦ never (rw same at change) ]
+    ])
+  ]
+]
+  where
+    at_most : {a : ℕ} (k : ℕ) → a < k → k < suc n → IsChange log k → (IsChange log n → ⊥) → ((k : ℕ) → a < k → k < n → IsChange log k → ⊥) → ⊥
+    at_most k above below change never none = elim (less_or_not k n) [
+      | inl under ↦ none k above under change
+      | inr more ↦ elim more [ inl over ↦ omega arith | inr same ↦ never (rw same at change) ]
+    ]
+
+not_regular : (x : ConfId) → IsRegular x → IsTransitional x → ⊥
+not_regular (Regular c) r t = t
+not_regular (Transitional n l) r t = r
+
+-- what follows c in one log follows it in each log that changes to it
+origin : (run : List Log) (c : RingId) (stays : List Stay) (p q i : ℕ) (x : ConfId) → Facts run c stays → Follows (log_of run p) c x → ChangesTo (log_of run q) i x → Follows (log_of run q) c x
+origin run c stays p q i x facts f change = elim (last_before (log_of run q) i) [
+  | inr none ↦ absurd (not_regular x ((facts.meets.turns.each q).regular_first i x change none) f.transitional)
+  | inl last ↦ of_last last last.change
+]
+  where
+    by_order : (k : ℕ) (r : RingId) (ms : List ℕ) → ChangesNext (log_of run q) k i (Regular r) x ms change.0 → c ≡ r
+    by_order k r ms turn = elim (less_or_not p q) [
+      | inl lt ↦ facts.meets.turns.origin p f.from f.to q k i c r x f.first.change.0 f.change.0 ms change.0 lt f.transitional
+          (record { first = f.first.change.1; second = f.change.1; next = f.next }) turn
+      | inr more ↦ elim more [
+        | inl gt ↦ sym (facts.meets.turns.origin q k i p f.from f.to r c x ms change.0 f.first.change.0 f.change.0 gt f.transitional turn
+            (record { first = f.first.change.1; second = f.change.1; next = f.next }))
+        | inr same ↦ in_one same
+      ]
+    ]
+      where
+        in_one : p ≡ q → c ≡ r
+        in_one same =
+            let first : ChangesTo (log_of run q) f.from (Regular c) = rw same at f.first.change in
+            let next : IsNextChange (log_of run q) f.from f.to = rw same at f.next in
+            let to = facts.meets.one.once q f.to i x (rw same at f.change) change in
+            let later : f.from < i = (let l = f.next.later in rw to at l) in
+            let earlier : k < f.to = (let l = turn.next.later in rw to l) in
+            let from : f.from ≡ k = elim (less_or_not f.from k) [
+              | inl under ↦ absurd (next.none_between k under earlier (Regular r, (ms, turn.first)))
+              | inr others ↦ elim others [ inl over ↦ absurd (turn.next.none_between f.from over later (Regular c, first)) | inr e ↦ e ]
+            ] in
+            let e = same_change (log_of run q) f.from k (Regular c) (Regular r) from first (ms, turn.first) in cc
+
+    of_last : (last : LastBefore (log_of run q) i) → IsChange (log_of run q) last.at → Follows (log_of run q) c x
+    of_last last (Transitional n l, (ms, at)) =
+        let turn : ChangesNext (log_of run q) last.at i (Transitional n l) x ms change.0 = record { first = at; second = change.1; next = record { change = (x, change); later = last.lt; none_between = last.none_between } } in
+        absurd (((facts.meets.turns.each q).turns last.at i (Transitional n l) x ms change.0 turn).1 f.transitional)
+    of_last last (Regular r, (ms, at)) =
+        let next : IsNextChange (log_of run q) last.at i = record { change = (x, change); later = last.lt; none_between = last.none_between } in
+        let same = by_order last.at r ms (record { first = at; second = change.1; next = next }) in
+        let first : ChangesTo (log_of run q) last.at (Regular c) = rw same (ms, at) in
+        record {
+          from = last.at;
+          to = i;
+          first = record { change = first; none_before = λ k lt other. let e = facts.meets.one.once q k last.at (Regular c) other first in omega arith };
+          next = next;
+          change = change;
+          transitional = f.transitional;
+        }
+
+pub goes_along : (run : List Log) (c : RingId) (stays : List Stay) (p q k : ℕ) (x d : ConfId) → Facts run c stays → Com (log_of run p) c x → GoesAt (log_of run q) x d k → Com (log_of run q) c x
+goes_along run c stays p q k x d facts (inl same) goes = inl same
+goes_along run c stays p q k x d facts (inr f) (i, change, next, to) = inr (origin run c stays p q i x facts f change)
+
+pub partings_begin : (run : List Log) (c : RingId) (stays : List Stay) (m : MsgId) (x d : ConfId) → Facts run c stays → EachBeginsWithin stays IsAnywhere (IsOnePartner run c m x d)
+partings_begin run c stays m x d facts = record { each = λ places h. go places h }
+  where
+    of_change : (g : Place) (k i : ℕ) → g.at ≡ k + 1 → ChangesTo (log_of run g.proc) i (Regular c) → BeginsWithin stays IsAnywhere (g ∷ [])
+    of_change g k i is change =
+        let has = facts.whole g.proc i change in
+        record { stay = has.stay; among = record { at = has.at; stands = has.stands }; index = k; reached = tt; rest = []; is = rw (has.proc, ← is) refl }
+
+    go : (places : List Place) → IsOnePartner run c m x d places → BeginsWithin stays IsAnywhere places
+    go [] h = absurd h
+    go (g ∷ []) (k, is, (inl same, (i, change, next, to), lacks)) = of_change g k i is (rw same at change)
+    go (g ∷ []) (k, is, (inr f, goes, lacks)) = of_change g k f.from is f.first.change
+    go (g ∷ h ∷ rest) b = absurd b
+
+-- the whole list
+record IsPartedFrom (run : List Log) (c : RingId) (p i : ℕ) (rest : List Place) : Type 0 where
+  pub next : ℕ
+  pub other : ℕ
+  pub along : ℕ
+  pub is : rest ≡ place p next ∷ place other along ∷ []
+  pub conf : ConfId
+  pub inside : Com (log_of run p) c conf
+  pub message : MsgId
+  pub to : ConfId
+  pub delivers : Delivers (log_of run p) i message conf
+  pub goes : GoesAt (log_of run p) conf to next
+  pub partner : GoesAt (log_of run other) conf to along
+  pub lacks : (l : ℕ) → Delivers (log_of run other) l message conf → ⊥
+
+parted_at : (run : List Log) (c : RingId) (p i : ℕ) (rest : List Place) → BreaksAtomicityIn run c (place p i ∷ rest) → IsPartedFrom run c p i rest
+parted_at run c p i [] h = absurd h
+parted_at run c p i (f ∷ []) h = absurd h
+parted_at run c p i (f ∷ g ∷ []) (a, is, (j, is_f, (k, is_g, (same, (x, inside, (m, d, delivers, goes, partner, lacks)))))) = record {
+  next = j;
+  other = g.proc;
+  along = k;
+  is = rw (same, ← is_f, ← is_g) refl;
+  conf = x;
+  inside = inside;
+  message = m;
+  to = d;
+  delivers = (let at : a ≡ i = omega arith in rw at at delivers);
+  goes = goes;
+  partner = partner;
+  lacks = lacks;
+}
+parted_at run c p i (f ∷ g ∷ h ∷ rest) b = absurd b
+
+-- the message, the configuration and the next change are those of the delivery
+record IsPartedBy (run : List Log) (c : RingId) (m : MsgId) (x : ConfId) (p nx : ℕ) (rest : List Place) : Type 0 where
+  pub to : ConfId
+  pub change : ChangesTo (log_of run p) nx to
+  pub other : ℕ
+  pub along : ℕ
+  pub is : rest ≡ place p nx ∷ place other along ∷ []
+  pub partner : IsPartner run c m x to other along
+
+parted_by : (run : List Log) (c : RingId) (stays : List Stay) (stay : Stay) (m : MsgId) (x : ConfId) (ch nx i : ℕ) (rest : List Place) → Facts run c stays → IsAmong stays stay → IsSpan x stay ch nx → slice_get (log_of run stay.proc) i ≡ Some (Deliver m x)
+    → IsPartedFrom run c stay.proc i rest → IsPartedBy run c m x stay.proc nx rest
+parted_by run c stays stay m x ch nx i rest facts among span at parted =
+    let delivers : slice_get (log_of run stay.proc) i ≡ Some (Deliver parted.message parted.conf) = parted.delivers in
+    let message : parted.message ≡ m = cc in
+    let conf : parted.conf ≡ x = cc in
+    let inside : Com (log_of run stay.proc) c x = rw conf at parted.inside in
+    let goes : GoesAt (log_of run stay.proc) x parted.to parted.next = rw conf at parted.goes in
+    let partner : GoesAt (log_of run parted.other) x parted.to parted.along = rw conf at parted.partner in
+    let same = goes_next run c stays stay x parted.to ch nx parted.next facts among span inside goes in
+    record {
+      to = parted.to;
+      change = rw same at goes.3;
+      other = parted.other;
+      along = parted.along;
+      is = rw (← same) parted.is;
+      partner = (goes_along run c stays stay.proc parted.other parted.along x parted.to facts inside partner, partner, rw (message, conf) at parted.lacks);
+    }
+
+pub none_at_end : (run : List Log) (c : RingId) (stays : List Stay) (stay : Stay) (m : MsgId) (x : ConfId) (ch nx i : ℕ) → Facts run c stays → IsAmong stays stay → IsSpan x stay ch nx → slice_get (log_of run stay.proc) i ≡ Some (Deliver m x)
+    → IsNoChange stay.log.now nx → NoneFrom (BreaksAtomicityIn run c) stay.proc i
+none_at_end run c stays stay m x ch nx i facts among span at no_change = nothing_here (BreaksAtomicityIn run c) stay.proc i (λ rest h.
+    let by = parted_by run c stays stay m x ch nx i rest facts among span at (parted_at run c stay.proc i rest h) in
+    no_change.none (by.to, read by.to by.change))
+  where
+    read : (d : ConfId) → ChangesTo (log_of run stay.proc) nx d → ChangesTo stay.log.now nx d
+    read d change = rw (facts.each stay among).log change
+
+pub none_along : (run : List Log) (c : RingId) (stays : List Stay) (stay : Stay) (m : MsgId) (x d : ConfId) (ch nx i : ℕ) → Facts run c stays → IsAmong stays stay → IsSpan x stay ch nx → slice_get (log_of run stay.proc) i ≡ Some (Deliver m x)
+    → ChangesTo stay.log.now nx d → HoldsOfNone (IsOnePartner run c m x d) → NoneFrom (BreaksAtomicityIn run c) stay.proc i
+none_along run c stays stay m x d ch nx i facts among span at to none = nothing_here (BreaksAtomicityIn run c) stay.proc i (λ rest h.
+    let by = parted_by run c stays stay m x ch nx i rest facts among span at (parted_at run c stay.proc i rest h) in
+    let same = same_change (log_of run stay.proc) nx nx by.to d refl by.change (rw (facts.each stay among).log at to) in
+    none.none (place by.other by.along ∷ []) (by.along, refl, rw same at by.partner))
+
+pub least_along : (run : List Log) (c : RingId) (stays : List Stay) (stay : Stay) (m : MsgId) (x d : ConfId) (ch nx i : ℕ) (list : List Place) → Facts run c stays → IsAmong stays stay → IsSpan x stay ch nx → IsInside stay i
+    → slice_get (log_of run stay.proc) i ≡ Some (Deliver m x) → ChangesTo stay.log.now nx d → IsLeast (IsOnePartner run c m x d) list → IsLeastFrom (BreaksAtomicityIn run c) stay.proc i (place stay.proc nx ∷ list)
+least_along run c stays stay m x d ch nx i list facts among span inside at to least = record {
+  least = record {
+    holds = holds list least.holds;
+    first = λ others h. first others (parted_by run c stays stay m x ch nx i others facts among span at (parted_at run c stay.proc i others h));
+  };
+}
+  where
+    there : ChangesTo (log_of run stay.proc) nx d
+    there = rw (facts.each stay among).log at to
+
+    stands : Com (log_of run stay.proc) c x
+    stands = (facts.each stay among).stands i x inside (Deliver m x, at, refl)
+
+    holds : (others : List Place) → IsOnePartner run c m x d others → BreaksAtomicityIn run c (place stay.proc i ∷ place stay.proc nx ∷ others)
+    holds [] h = absurd h
+    holds (g ∷ []) (k, is, (along, goes, lacks)) =
+        (i, refl, (nx, refl, (k, is, (refl, (x, stands, (m, d, at, goes_here run c stays stay x d ch nx facts among span stands there, goes, lacks))))))
+    holds (g ∷ h ∷ rest) b = absurd b
+
+    first : (others : List Place) → IsPartedBy run c m x stay.proc nx others → ComesFirst (place stay.proc nx ∷ list) others
+    first others by =
+        let same = same_change (log_of run stay.proc) nx nx by.to d refl by.change there in
+        rw by.is (inr (refl, least.first (place by.other by.along ∷ []) (by.along, refl, rw same at by.partner)))
+
+pub deliveries_begin : (run : List Log) (c : RingId) (stays : List Stay) → Facts run c stays → EachBeginsWithin stays IsInside (BreaksAtomicityIn run c)
+deliveries_begin run c stays facts = record { each = λ places h. go places h }
+  where
+    go : (places : List Place) → BreaksAtomicityIn run c places → BeginsWithin stays IsInside places
+    go [] h = absurd h
+    go (e ∷ []) h = absurd h
+    go (e ∷ f ∷ []) h = absurd h
+    go (e ∷ f ∷ g ∷ []) (i, is, (j, is_f, (k, is_g, (same, (x, inside, (m, d, delivers, goes, partner, lacks)))))) =
+        begins_at run c stays e i x (f ∷ g ∷ []) facts (rw (← is) refl) (Deliver m x, delivers, refl) inside
+    go (e ∷ f ∷ g ∷ h ∷ rest) b = absurd b
+
+-- where nothing breaks it, it holds
+pub atomic : (run : List Log) (c : RingId) → HoldsOfNone (BreaksAtomicityIn run c) → AtomicityIn run c
+atomic run c none = record {
+  each = λ p q x d inside (f, j, from, next, to) (g, k, from', next', to') i m at. elim (delivers_or_not (log_of run q) m x) [
+    | inl found ↦ found
+    | inr lacks ↦ absurd (none.none (place p i ∷ place p j ∷ place q k ∷ []) (i, refl, (j, refl, (k, refl, (refl, (x, inside, (m, d, at, (f, from, next, to), (g, from', next', to'), lacks)))))))
+  ];
+}

@@ -1,0 +1,199 @@
+-- What is found for 5 is the least list that breaks it: a cause, its effect, and a delivery of the effect without the cause
+-- before it.
+use Rattle.std.proofs.Common.{◌≡◌, ℕ, ◌<◌, ◌≤◌, inl, inr, List, [], ◌∷◌, slice_get, Some, Bool, true, false, IsTrue, ◌↔◌, refl, sym, arith, rules, nat_lt}
+use Rattle.totem_ids.specs.declared.ring.RingId.{RingId}
+use Rattle.totem_ids.specs.declared.conf.ConfId.{ConfId}
+use Rattle.totem_ids.specs.declared.conf.ConfId.TheVariants.{Regular}
+use Rattle.totem_ids.specs.declared.message.MsgId.{MsgId}
+use Rattle.totem_ids.specs.declared.message.Service.{Service}
+use Rattle.totem_ids.specs.declared.place.Place.{Place}
+use Rattle.totem_evs.specs.declared.entry.Entry.{Entry}
+use Rattle.totem_evs.specs.declared.entry.Entry.TheVariants.{Send, Deliver}
+use Rattle.totem_evs.specs.declared.log.Log.{Log}
+use Rattle.totem_evs.specs.Events.{log_of, Delivers}
+use Rattle.totem_evs.specs.Steps.{SendsAt}
+use Rattle.totem_evs.specs.Following.{DeliversIn, HasDelivered}
+use Rattle.totem_evs.specs.RingAgreement.{IsHop, CausalityIn}
+use Rattle.totem_evs.specs.RingFaults.{BreaksCausalityIn}
+use Rattle.totem_evs.specs.Answers.{IsLeast}
+use Rattle.totem_table.specs.Search.{place, NoneFrom, IsLeastFrom, HoldsOfNone}
+use Rattle.totem_pass_d.specs.declared.stay.Stay.{Stay}
+use Rattle.totem_pass_d.specs.Acts.{IsAmong, DeliversHere, DeliversNot}
+use Rattle.totem_pass_d.specs.Search.{IsInside, EachBeginsWithin, NoneWithin, IsLeastWithin, BeginsWithin}
+use Rattle.totem_pass_d.specs.Causality.{IsSurprise, IsOneSurprise, IsEffect}
+use Rattle.totem_pass_d.proofs.Deciding.{delivered_before_or_not}
+use Rattle.totem_pass_d.proofs.Facts.{Facts, StayFacts, here_delivers}
+use Rattle.totem_pass_d.proofs.Rests.{none_rest, least_rest, nothing_here, only_here, sends_there, there_sends, index_of, begins_at}
+
+-- one delivery of a message in c and in what follows it
+pub one_delivery_in : (run : List Log) (c : RingId) (stays : List Stay) (p i j : ℕ) (m : MsgId) → Facts run c stays → DeliversIn (log_of run p) c m i → DeliversIn (log_of run p) c m j → i ≡ j
+one_delivery_in run c stays p i j m facts (x, at_i, _) (y, at_j, _) = facts.meets.once.one_delivery p i j m x y at_i at_j
+
+-- what no one delivers there, the log doesn't
+pub not_delivered_in : (run : List Log) (c : RingId) (stay : Stay) (m : MsgId) → StayFacts run c stay → DeliversNot stay.log.now c m → HasDelivered (log_of run stay.proc) c m → ⊥
+not_delivered_in run c stay m facts never h = never.never (rw facts.log h)
+
+-- the surprises of one stay
+surprise_at : (run : List Log) (c : RingId) (m n : MsgId) (p i : ℕ) (rest : List Place) → IsOneSurprise run c m n (place p i ∷ rest) → IsSurprise run c m n p i
+surprise_at run c m n p i [] (j, is, h) = let same : j ≡ i = omega arith in rw same at h
+surprise_at run c m n p i (f ∷ more) h = absurd h
+
+pub none_undelivered : (run : List Log) (c : RingId) (stay : Stay) (m n : MsgId) → StayFacts run c stay → DeliversNot stay.log.now c n → NoneWithin IsInside (IsOneSurprise run c m n) stay
+none_undelivered run c stay m n facts never = record { none = λ i rest inside h. not_delivered_in run c stay n facts never (i, (surprise_at run c m n stay.proc i rest h).0) }
+
+pub none_caused : (run : List Log) (c : RingId) (stays : List Stay) (stay : Stay) (m n : MsgId) (k l : ℕ) → Facts run c stays → IsAmong stays stay → DeliversHere stay n k → DeliversHere stay m l → l < k
+    → NoneWithin IsInside (IsOneSurprise run c m n) stay
+none_caused run c stays stay m n k l facts among effect cause lt = record { none = λ i rest inside h. never i (surprise_at run c m n stay.proc i rest h) }
+  where
+    never : (i : ℕ) → IsSurprise run c m n stay.proc i → ⊥
+    never i (delivers, none) =
+        let same = one_delivery_in run c stays stay.proc i k n facts delivers (here_delivers run c stay n k (facts.each stay among) effect) in
+        none l (rw same lt) (here_delivers run c stay m l (facts.each stay among) cause)
+
+pub surprise_here : (run : List Log) (c : RingId) (stays : List Stay) (stay : Stay) (m n : MsgId) (k : ℕ) (places : List Place) → Facts run c stays → IsAmong stays stay → DeliversHere stay n k
+    → ((l : ℕ) → l < k → DeliversIn (log_of run stay.proc) c m l → ⊥) → places ≡ place stay.proc k ∷ [] → IsLeastWithin IsInside (IsOneSurprise run c m n) stay places
+surprise_here run c stays stay m n k places facts among effect none is =
+    let delivers = here_delivers run c stay n k (facts.each stay among) effect in
+    only_here IsInside (IsOneSurprise run c m n) stay k places (k, refl, (delivers, none))
+    (λ i rest h. one_delivery_in run c stays stay.proc i k n facts (surprise_at run c m n stay.proc i rest h).0 delivers) is
+
+pub not_before : (run : List Log) (c : RingId) (stays : List Stay) (stay : Stay) (m : MsgId) (k l : ℕ) → Facts run c stays → IsAmong stays stay → DeliversHere stay m l → k ≤ l
+    → (i : ℕ) → i < k → DeliversIn (log_of run stay.proc) c m i → ⊥
+not_before run c stays stay m k l facts among cause le i lt delivers =
+    let same = one_delivery_in run c stays stay.proc i l m facts delivers (here_delivers run c stay m l (facts.each stay among) cause) in omega arith
+
+pub surprises_begin : (run : List Log) (c : RingId) (stays : List Stay) (m n : MsgId) → Facts run c stays → EachBeginsWithin stays IsInside (IsOneSurprise run c m n)
+surprises_begin run c stays m n facts = record { each = λ places h. go places h }
+  where
+    go : (places : List Place) → IsOneSurprise run c m n places → BeginsWithin stays IsInside places
+    go [] h = absurd h
+    go (g ∷ []) (k, is, ((x, at, belongs), none)) = begins_at run c stays g k x [] facts (rw (← is) refl) (Deliver n x, at, refl) belongs
+    go (g ∷ h ∷ rest) b = absurd b
+
+-- one hop from a cause to its effect
+same_proc : (run : List Log) (c : RingId) (m : MsgId) (p i q j : ℕ) → (q ≡ p) → i < j → IsHop run c m (place p i) (place q j)
+same_proc run c m p i q j same lt = inl (sym same, omega arith)
+
+pub hop_in_log : (run : List Log) (c : RingId) (m : MsgId) (p i q j : ℕ) → (q ≡ p) → i < j → IsTrue true ↔ IsHop run c m (place p i) (place q j)
+hop_in_log run c m p i q j same lt = (λ t. same_proc run c m p i q j same lt, λ h. refl)
+
+pub no_hop : (run : List Log) (c : RingId) (stay : Stay) (m : MsgId) (p i j : ℕ) → ((stay.proc ≡ p) × (i < j) → ⊥) → StayFacts run c stay → DeliversNot stay.log.now c m → IsTrue false ↔ IsHop run c m (place p i) (place stay.proc j)
+no_hop run c stay m p i j apart facts never = (λ t. absurd cc, λ h. absurd (go h))
+  where
+    go : IsHop run c m (place p i) (place stay.proc j) → ⊥
+    go (inl (same, lt)) = apart (sym same, omega arith)
+    go (inr (k, is, (l, lt, at))) = not_delivered_in run c stay m facts never (l, (Regular c, at, inl refl))
+
+pub hop_by_delivery : (run : List Log) (c : RingId) (stays : List Stay) (stay : Stay) (m : MsgId) (p i j l : ℕ) (b : Bool) → ((stay.proc ≡ p) × (i < j) → ⊥) → Facts run c stays → IsAmong stays stay → DeliversHere stay m l
+    → j < stay.turn → IsTrue b ↔ (l < j) → IsTrue b ↔ IsHop run c m (place p i) (place stay.proc j)
+hop_by_delivery run c stays stay m p i j l b apart facts among here before decides = (λ t. to (decides.0 t), λ h. decides.1 (from h))
+  where
+    delivers : DeliversIn (log_of run stay.proc) c m l
+    delivers = here_delivers run c stay m l (facts.each stay among) here
+
+    to : l < j → IsHop run c m (place p i) (place stay.proc j)
+    to lt =
+        let of = facts.each stay among in
+        let at : Delivers (log_of run stay.proc) l m here.conf = delivered of here.delivers in
+        let is = of.is.regular l here.conf here.after (omega arith) (Deliver m here.conf, at, refl) in
+        inr (j, refl, (l, lt, rw is at at))
+      where
+        delivered : StayFacts run c stay → Delivers stay.log.now l m here.conf → Delivers (log_of run stay.proc) l m here.conf
+        delivered of at = rw of.log at at
+
+    from : IsHop run c m (place p i) (place stay.proc j) → l < j
+    from (inl (same, lt)) = absurd (apart (sym same, omega arith))
+    from (inr (k, is, (o, lt, at))) = let same = one_delivery_in run c stays stay.proc o l m facts (Regular c, at, inl refl) delivers in omega arith
+
+pub lt_decided : (a b : ℕ) → IsTrue (nat_lt a b) ↔ (a < b)
+lt_decided a b = search rules
+
+-- what is sent inside a stay is sent in c
+pub send_here : (run : List Log) (c : RingId) (stays : List Stay) (stay : Stay) (i : ℕ) (m : MsgId) (x : ConfId) (s : Service) → Facts run c stays → IsAmong stays stay → IsInside stay i → slice_get (log_of run stay.proc) i ≡ Some (Send m x s)
+    → (x ≡ Regular c) × (i < stay.turn)
+send_here run c stays stay i m x s facts among inside at = (facts.each stay among).sends i m x inside (s, at)
+
+-- the effects of what is sent at a place
+effect_at : (run : List Log) (c : RingId) (m n : MsgId) (x : ConfId) (s : Service) (e : Place) (q j : ℕ) (rest : List Place) → slice_get (log_of run q) j ≡ Some (Send n x s) → IsEffect run c m e (place q j ∷ rest) → IsHop run c m e (place q j) × IsOneSurprise run c m n rest
+effect_at run c m n x s e q j rest at (o, send, hop, one) =
+    let sends = sends_there run q j o (Regular c) send in
+    let there : slice_get (log_of run q) j ≡ Some (Send o (Regular c) sends.0) = sends.1 in
+    let same : o ≡ n = cc in (hop, rw same at one)
+
+pub none_unsent : (run : List Log) (c : RingId) (m : MsgId) (e : Place) (q j : ℕ) (entry : Entry) → slice_get (log_of run q) j ≡ Some entry → ((n : MsgId) (x : ConfId) (s : Service) → entry ≡ Send n x s → ⊥) → NoneFrom (IsEffect run c m e) q j
+none_unsent run c m e q j entry at other = nothing_here (IsEffect run c m e) q j (λ rest (n, send, hop, one). let sends = sends_there run q j n (Regular c) send in
+    let there : slice_get (log_of run q) j ≡ Some (Send n (Regular c) sends.0) = sends.1 in other n (Regular c) sends.0 cc)
+
+pub none_apart : (run : List Log) (c : RingId) (m n : MsgId) (x : ConfId) (s : Service) (e : Place) (q j : ℕ) → slice_get (log_of run q) j ≡ Some (Send n x s) → (IsHop run c m e (place q j) → ⊥) → NoneFrom (IsEffect run c m e) q j
+none_apart run c m n x s e q j at never = nothing_here (IsEffect run c m e) q j (λ rest h. never (effect_at run c m n x s e q j rest at h).0)
+
+pub none_surprised : (run : List Log) (c : RingId) (m n : MsgId) (x : ConfId) (s : Service) (e : Place) (q j : ℕ) → slice_get (log_of run q) j ≡ Some (Send n x s) → HoldsOfNone (IsOneSurprise run c m n) → NoneFrom (IsEffect run c m e) q j
+none_surprised run c m n x s e q j at none = none_rest (IsOneSurprise run c m n) (IsEffect run c m e) q j (λ rest h. (effect_at run c m n x s e q j rest at h).1) none
+
+pub least_surprised : (run : List Log) (c : RingId) (m n : MsgId) (x : ConfId) (s : Service) (e : Place) (q j : ℕ) (rest : List Place) → slice_get (log_of run q) j ≡ Some (Send n x s) → x ≡ Regular c → IsHop run c m e (place q j)
+    → IsLeast (IsOneSurprise run c m n) rest → IsLeastFrom (IsEffect run c m e) q j rest
+least_surprised run c m n x s e q j rest at is hop least =
+    least_rest (IsOneSurprise run c m n) (IsEffect run c m e) q j rest
+    (λ others h. (n, there_sends run q j n (Regular c) (s, rw is at at), hop, h))
+    (λ others h. (effect_at run c m n x s e q j others at h).1) least
+
+pub effects_begin : (run : List Log) (c : RingId) (stays : List Stay) (m : MsgId) (e : Place) → Facts run c stays → EachBeginsWithin stays IsInside (IsEffect run c m e)
+effects_begin run c stays m e facts = record { each = λ places h. go places h }
+  where
+    go : (places : List Place) → IsEffect run c m e places → BeginsWithin stays IsInside places
+    go [] h = absurd h
+    go (f ∷ rest) (n, (s, at), hop, one) = let there = index_of run f (Send n (Regular c) s) at in begins_at run c stays f there.0 (Regular c) rest facts there.1 (Send n (Regular c) s, there.2, refl) (inl refl)
+
+-- the causes
+cause_at : (run : List Log) (c : RingId) (m : MsgId) (x : ConfId) (s : Service) (p i : ℕ) (rest : List Place) → slice_get (log_of run p) i ≡ Some (Send m x s) → BreaksCausalityIn run c (place p i ∷ rest) → IsEffect run c m (place p i) rest
+cause_at run c m x s p i [] at h = absurd h
+cause_at run c m x s p i (f ∷ []) at h = absurd h
+cause_at run c m x s p i (f ∷ g ∷ []) at (k, is, (o, n, send, effect, hop, delivers, none)) =
+    let sends = sends_there run p i o (Regular c) send in
+    let there : slice_get (log_of run p) i ≡ Some (Send o (Regular c) sends.0) = sends.1 in
+    let same : o ≡ m = cc in
+    (n, effect, rw same at hop, (k, is, (delivers, rw same at none)))
+cause_at run c m x s p i (f ∷ g ∷ h ∷ more) at b = absurd b
+
+caused : (run : List Log) (c : RingId) (m : MsgId) (s : Service) (p i : ℕ) (rest : List Place) → slice_get (log_of run p) i ≡ Some (Send m (Regular c) s) → IsEffect run c m (place p i) rest → BreaksCausalityIn run c (place p i ∷ rest)
+caused run c m s p i [] at h = absurd h
+caused run c m s p i (f ∷ []) at (n, effect, hop, b) = absurd b
+caused run c m s p i (f ∷ g ∷ []) at (n, effect, hop, (k, is, (delivers, none))) = (k, is, (m, n, there_sends run p i m (Regular c) (s, at), effect, hop, delivers, none))
+caused run c m s p i (f ∷ g ∷ h ∷ more) at (n, effect, hop, b) = absurd b
+
+sent_first : (run : List Log) (c : RingId) (e : Place) (rest : List Place) → BreaksCausalityIn run c (e ∷ rest) → (m : MsgId) × SendsAt run e m (Regular c)
+sent_first run c e [] h = absurd h
+sent_first run c e (f ∷ []) h = absurd h
+sent_first run c e (f ∷ g ∷ []) (k, is, (m, n, send, effect, hop, delivers, none)) = (m, send)
+sent_first run c e (f ∷ g ∷ h ∷ more) b = absurd b
+
+pub none_without_cause : (run : List Log) (c : RingId) (p i : ℕ) (entry : Entry) → slice_get (log_of run p) i ≡ Some entry → ((m : MsgId) (x : ConfId) (s : Service) → entry ≡ Send m x s → ⊥) → NoneFrom (BreaksCausalityIn run c) p i
+none_without_cause run c p i entry at other = nothing_here (BreaksCausalityIn run c) p i (λ rest h. let first = sent_first run c (place p i) rest h in
+    let sends = sends_there run p i first.0 (Regular c) first.1 in
+    let there : slice_get (log_of run p) i ≡ Some (Send first.0 (Regular c) sends.0) = sends.1 in other first.0 (Regular c) sends.0 cc)
+
+pub none_without_effect : (run : List Log) (c : RingId) (m : MsgId) (x : ConfId) (s : Service) (p i : ℕ) → slice_get (log_of run p) i ≡ Some (Send m x s) → HoldsOfNone (IsEffect run c m (place p i)) → NoneFrom (BreaksCausalityIn run c) p i
+none_without_effect run c m x s p i at none = none_rest (IsEffect run c m (place p i)) (BreaksCausalityIn run c) p i (λ rest h. cause_at run c m x s p i rest at h) none
+
+pub least_effect : (run : List Log) (c : RingId) (m : MsgId) (x : ConfId) (s : Service) (p i : ℕ) (rest : List Place) → slice_get (log_of run p) i ≡ Some (Send m x s) → x ≡ Regular c → IsLeast (IsEffect run c m (place p i)) rest → IsLeastFrom (BreaksCausalityIn run c) p i rest
+least_effect run c m x s p i rest at is least =
+    least_rest (IsEffect run c m (place p i)) (BreaksCausalityIn run c) p i rest (λ others h. caused run c m s p i others (rw is at at) h) (λ others h. cause_at run c m x s p i others at h) least
+
+pub causes_begin : (run : List Log) (c : RingId) (stays : List Stay) → Facts run c stays → EachBeginsWithin stays IsInside (BreaksCausalityIn run c)
+causes_begin run c stays facts = record { each = λ places h. go places h }
+  where
+    go : (places : List Place) → BreaksCausalityIn run c places → BeginsWithin stays IsInside places
+    go [] h = absurd h
+    go (e ∷ rest) h =
+        let first = sent_first run c e rest h in
+        let there = index_of run e (Send first.0 (Regular c) first.1.0) first.1.1 in
+        begins_at run c stays e there.0 (Regular c) rest facts there.1 (Send first.0 (Regular c) first.1.0, there.2, refl) (inl refl)
+
+-- where nothing breaks it, it holds
+pub causal : (run : List Log) (c : RingId) → HoldsOfNone (BreaksCausalityIn run c) → CausalityIn run c
+causal run c none = record {
+  each = λ m n e f send effect hop r j delivers. elim (delivered_before_or_not (log_of run r) c m j) [
+    | inl found ↦ found
+    | inr never ↦ absurd (none.none (e ∷ f ∷ place r j ∷ []) (j, refl, (m, n, send, effect, hop, delivers, never)))
+  ];
+}

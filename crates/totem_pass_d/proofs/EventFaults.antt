@@ -1,0 +1,179 @@
+-- What breaks 3, 7.1 and 7.2 in one regular configuration, event by event.
+use Rattle.std.proofs.Common.{◌≡◌, ℕ, ◌<◌, ◌≤◌, inl, inr, List, length, get_or, slice_get, Some, Bool, true, false, not, refl, sym, arith}
+use Rattle.std.specs.Prelude.{All}
+use Rattle.std.specs.Bool.{MatchBool, OnTrue, OnFalse}
+use Rattle.std.specs.List.{AllWithin, HoldsAt}
+use Rattle.std.proofs.lemmas.Grind.{get_or_default_zero}
+use Rattle.std.proofs.lemmas.List.Elements.{All-from_all_within, All-contains}
+use Rattle.totem_ids.specs.declared.ring.RingId.{RingId}
+use Rattle.totem_ids.specs.declared.conf.ConfId.{ConfId}
+use Rattle.totem_ids.specs.declared.conf.ConfId.TheVariants.{Regular}
+use Rattle.totem_ids.specs.declared.message.MsgId.{MsgId}
+use Rattle.totem_ids.specs.declared.message.Service.{Service}
+use Rattle.totem_evs.specs.declared.entry.Entry.{Entry}
+use Rattle.totem_evs.specs.declared.entry.Entry.TheVariants.{Send, Deliver, Fail}
+use Rattle.totem_evs.specs.declared.log.Log.{Log}
+use Rattle.totem_evs.specs.Events.{ChangesTo, Delivers, log_of}
+use Rattle.totem_evs.specs.Changes.{Names}
+use Rattle.totem_evs.specs.Following.{Com, DeliversOrEnds}
+use Rattle.totem_evs.specs.AgreementFaults.{IsNotOwned, IsNotReached, IsNotInstalled}
+use Rattle.totem_evs.specs.RingAgreement.{OwnDeliveryIn, SafetyIn, InstalledIn}
+use Rattle.totem_evs.specs.RingFaults.{BreaksOwnDeliveryIn, BreaksSafetyIn, BreaksInstalledIn}
+use Rattle.totem_evs.specs.Answers.{MeetsPasses}
+use Rattle.totem_evs.proofs.LogOf.{less_or_not}
+use Rattle.totem_pass_d.specs.declared.stay.Stay.{Stay}
+use Rattle.totem_pass_d.specs.Stays.{IsExcused, IsStayOf}
+use Rattle.totem_pass_d.specs.Acts.{HasCome, NeverComes, DeliversHere, DeliversNot}
+use Rattle.totem_pass_d.specs.Search.{IsInside, EachStandsInside}
+use Rattle.totem_pass_d.specs.Reached.{IsSafeIn, AreMembersAt, HoldsNotOfAll}
+use Rattle.totem_pass_d.proofs.Deciding.{delivers_or_ends_or_not, changes_or_not}
+use Rattle.totem_pass_d.proofs.Excusing.{excused, not_excused}
+use Rattle.totem_pass_d.proofs.Facts.{Facts, StayFacts, at_turn_no_name, here_delivers}
+use Rattle.totem_pass_d.proofs.OneEvent.{IsOfOne}
+use Rattle.totem_pass_d.proofs.Reaching.{is_among_members, is_member, safe_in}
+
+-- a process that has come, that is not excused there and has not delivered m, has missed it
+pub missed : (run : List Log) (c : RingId) (stay : Stay) (m : MsgId) → IsStayOf run c stay → (IsExcused stay → ⊥) → DeliversNot stay.log.now c m → DeliversOrEnds run stay.proc c m → ⊥
+missed run c stay m is other not (inl delivered) = not.never (rw is.log delivered)
+missed run c stay m is other not (inr ends) = not_excused run c stay is other ends
+
+-- so has one that has never come
+pub absent : (run : List Log) (c : RingId) (q : ℕ) (m : MsgId) → MeetsPasses run → NeverComes run c q → DeliversOrEnds run q c m → ⊥
+absent run c q m meets never h = go h
+  where
+    inside : (i : ℕ) (d : ConfId) → Names (log_of run q) i d → Com (log_of run q) c d → ⊥
+    inside i d names (inl same) = let s = (meets.placed q).named i d names in never.never s.from (to_c s.from d s.change same)
+      where
+        to_c : (k : ℕ) (d : ConfId) → ChangesTo (log_of run q) k d → d ≡ Regular c → ChangesTo (log_of run q) k (Regular c)
+        to_c k d (ms, h) same = (ms, rw same at h)
+    inside i d names (inr f) = never.never f.from f.first.change
+
+    go : DeliversOrEnds run q c m → ⊥
+    go (inl (i, (d, at, com_d))) = inside i d (Deliver m d, at, refl) com_d
+    go (inr (inl (i, d, at, com_d))) = inside i d (Fail d, at, refl) com_d
+    go (inr (inr (loud, (d, fails, last, inl same)))) = never.never last.index (last.change.0, rw same at last.change.1)
+    go (inr (inr (loud, (d, fails, last, inr f)))) = never.never f.from f.first.change
+
+-- what a test of all members tells
+pub all_or_not_all : (b : Bool) (P : ℕ → Type 0) (members : List ℕ) → MatchBool b (AllWithin P members 0 (length members)) ((k : ℕ) × (k < length members) × HoldsAt (λ q. P q → ⊥) members k)
+    → OnTrue b (All P members) × OnFalse b (HoldsNotOfAll P members)
+all_or_not_all true P members h = (All-from_all_within P members h, tt)
+all_or_not_all false P members (k, lt, not) = (tt, record { member = get_or members k 0; among = (k, lt, get_or_default_zero members k _ lt); never = not 0 })
+
+-- what is broken where a member is one of which it does not hold
+pub where_not : (b : Bool) (P Q : Type 0) → OnFalse b Q → (Q → P) → OnTrue (not b) P
+where_not true P Q h f = tt
+where_not false P Q h f = f h
+
+pub where_all : (b : Bool) (P Q : Type 0) → OnTrue b Q → (Q → P) → OnFalse (not b) P
+where_all true P Q h f = f h
+where_all false P Q h f = tt
+
+same_delivery : (log : List Entry) (i : ℕ) (m n : MsgId) (x y : ConfId) → slice_get log i ≡ Some (Deliver m x) → slice_get log i ≡ Some (Deliver n y) → (n ≡ m) × (y ≡ x)
+same_delivery log i m n x y at here = let entries : Some (Deliver n y) ≡ Some (Deliver m x) = cc in (cc, cc)
+
+-- 3
+pub owned_of_one : (run : List Log) (c : RingId) → IsOfOne (BreaksOwnDeliveryIn run c) (IsNotOwned run c)
+owned_of_one run c = record { empty = λ h. h; one = λ e h. h; is = λ e h. h; many = λ e f more h. h }
+
+pub owned_inside : (run : List Log) (c : RingId) (stays : List Stay) → Facts run c stays → EachStandsInside stays (IsNotOwned run c)
+owned_inside run c stays facts = record { each = λ p i (m, (v, at), never). facts.inside p i (Regular c) (Send m (Regular c) v, at, refl) (inl refl) }
+
+pub owned : (run : List Log) (c : RingId) → ((p i : ℕ) → IsNotOwned run c p i → ⊥) → OwnDeliveryIn run c
+owned run c none = record {
+  each = λ p i m sends. elim (delivers_or_ends_or_not run p c m) [ inl ends ↦ ends | inr never ↦ absurd (none p i (m, sends, never)) ];
+}
+
+pub owned_no_send : (run : List Log) (c : RingId) (p i : ℕ) (e : Entry) → slice_get (log_of run p) i ≡ Some e → ((m : MsgId) (x : ConfId) (v : Service) → e ≡ Send m x v → ⊥) → IsNotOwned run c p i → ⊥
+owned_no_send run c p i e at other (m, (v, sends), never) = other m (Regular c) v cc
+
+pub owned_excused : (run : List Log) (c : RingId) (stay : Stay) (i : ℕ) → StayFacts run c stay → IsExcused stay → IsNotOwned run c stay.proc i → ⊥
+owned_excused run c stay i is e (m, sends, never) = never (inr (excused run c stay is.of e))
+
+pub owned_delivered : (run : List Log) (c : RingId) (stay : Stay) (i k : ℕ) (m : MsgId) (x : ConfId) (v : Service) → StayFacts run c stay → slice_get (log_of run stay.proc) i ≡ Some (Send m x v) → DeliversHere stay m k → IsNotOwned run c stay.proc i → ⊥
+owned_delivered run c stay i k m x v is at here (n, (w, sends), never) =
+    let same : n ≡ m = (let entries : Some (Send n (Regular c) w) ≡ Some (Send m x v) = cc in cc) in
+    never (inl (rw same (k, here_delivers run c stay m k is here)))
+
+pub owned_never : (run : List Log) (c : RingId) (stay : Stay) (i : ℕ) (m : MsgId) (x : ConfId) (v : Service) → StayFacts run c stay → IsInside stay i → slice_get (log_of run stay.proc) i ≡ Some (Send m x v)
+    → (IsExcused stay → ⊥) → DeliversNot stay.log.now c m → IsNotOwned run c stay.proc i
+owned_never run c stay i m x v is inside at other not =
+    let regular : x ≡ Regular c = (is.sends i m x inside (v, at)).0 in
+    (m, (v, rw regular at at), missed run c stay m is.of other not)
+
+-- 7.2
+pub installed_of_one : (run : List Log) (c : RingId) → IsOfOne (BreaksInstalledIn run c) (IsNotInstalled run c)
+installed_of_one run c = record { empty = λ h. h; one = λ e h. h; is = λ e h. h; many = λ e f more h. h }
+
+pub installed_inside : (run : List Log) (c : RingId) (stays : List Stay) → Facts run c stays → EachStandsInside stays (IsNotInstalled run c)
+installed_inside run c stays facts = record { each = λ p i (m, q, safe, at, member, never). facts.inside p i (Regular c) (Deliver m (Regular c), at, refl) (inl refl) }
+
+pub installed : (run : List Log) (c : RingId) → ((p i : ℕ) → IsNotInstalled run c p i → ⊥) → InstalledIn run c
+installed run c none = record {
+  each = λ m p i q safe at member. elim (changes_or_not (log_of run q) (Regular c)) [ inl there ↦ there | inr never ↦ absurd (none p i (m, q, safe, at, member, never)) ];
+}
+
+pub installed_no_delivery : (run : List Log) (c : RingId) (p i : ℕ) (e : Entry) → slice_get (log_of run p) i ≡ Some e → ((m : MsgId) (x : ConfId) → e ≡ Deliver m x → ⊥) → IsNotInstalled run c p i → ⊥
+installed_no_delivery run c p i e at other (m, q, safe, delivers, member, never) = other m (Regular c) cc
+
+pub installed_late : (run : List Log) (c : RingId) (stay : Stay) (i : ℕ) → StayFacts run c stay → stay.turn ≤ i → i < stay.end → IsNotInstalled run c stay.proc i → ⊥
+installed_late run c stay i is late below (m, q, safe, delivers, member, never) = elim (less_or_not stay.turn i) [
+  | inl over ↦ (is.is.following i (Regular c) over below (Deliver m (Regular c), delivers, refl)).transitional
+  | inr rest ↦ elim rest [
+    | inl under ↦ omega arith
+    | inr same ↦ at_turn_no_name (log_of run stay.proc) c stay.from stay.turn stay.end i (Regular c) is.is (omega arith) (sym same) (Deliver m (Regular c), delivers, refl)
+  ]
+]
+
+pub installed_unsafe : (run : List Log) (c : RingId) (p i : ℕ) (m : MsgId) (x : ConfId) → MeetsPasses run → slice_get (log_of run p) i ≡ Some (Deliver m x) → (IsSafeIn run c m → ⊥) → IsNotInstalled run c p i → ⊥
+installed_unsafe run c p i m x meets at unsafe (n, q, safe, delivers, member, never) =
+    let same = same_delivery (log_of run p) i m n x (Regular c) at delivers in
+    unsafe (rw same.0 at (safe_in run c p i n (Regular c) meets safe delivers (inl refl)))
+
+pub installed_everywhere : (run : List Log) (c : RingId) (stay : Stay) (i : ℕ) (members : List ℕ) → MeetsPasses run → StayFacts run c stay → AreMembersAt stay.log.now i members → All (HasCome run c) members → IsNotInstalled run c stay.proc i → ⊥
+installed_everywhere run c stay i members meets is are all (n, q, safe, delivers, member, never) =
+    let here : Delivers stay.log.now i n (Regular c) = rw is.log delivers in
+    let come = All-contains (HasCome run c) members q all (is_among_members run stay.proc i stay.log.now members (Regular c) q meets is.log are (Deliver n (Regular c), here, refl) member) in
+    never come.0 come.1
+
+pub installed_not : (run : List Log) (c : RingId) (stay : Stay) (i : ℕ) (m : MsgId) (x : ConfId) (members : List ℕ) → StayFacts run c stay → stay.from < i → i < stay.turn → slice_get (log_of run stay.proc) i ≡ Some (Deliver m x)
+    → IsSafeIn run c m → AreMembersAt stay.log.now i members → HoldsNotOfAll (HasCome run c) members → IsNotInstalled run c stay.proc i
+installed_not run c stay i m x members is lt below at safe are not_all =
+    let regular : x ≡ Regular c = is.is.regular i x lt below (Deliver m x, at, refl) in
+    let delivers : Delivers (log_of run stay.proc) i m (Regular c) = rw regular at at in
+    let here : Delivers stay.log.now i m (Regular c) = rw is.log delivers in
+    (m, not_all.member, (safe.proc, safe.index, Regular c, safe.sends), delivers, is_member run stay.proc i stay.log.now members (Regular c) not_all.member is.log are (Deliver m (Regular c), here, refl) not_all.among, λ j change. not_all.never (j, change))
+
+-- 7.1
+pub safety_of_one : (run : List Log) (c : RingId) → IsOfOne (BreaksSafetyIn run c) (IsNotReached run c)
+safety_of_one run c = record { empty = λ h. h; one = λ e h. h; is = λ e h. h; many = λ e f more h. h }
+
+pub safety_inside : (run : List Log) (c : RingId) (stays : List Stay) → Facts run c stays → EachStandsInside stays (IsNotReached run c)
+safety_inside run c stays facts = record { each = λ p i (m, d, q, safe, at, inside, member, never). facts.inside p i d (Deliver m d, at, refl) inside }
+
+pub safety : (run : List Log) (c : RingId) → ((p i : ℕ) → IsNotReached run c p i → ⊥) → SafetyIn run c
+safety run c none = record {
+  each = λ m p i d q safe at inside member. elim (delivers_or_ends_or_not run q c m) [ inl ends ↦ ends | inr never ↦ absurd (none p i (m, d, q, safe, at, inside, member, never)) ];
+}
+
+pub safety_no_delivery : (run : List Log) (c : RingId) (p i : ℕ) (e : Entry) → slice_get (log_of run p) i ≡ Some e → ((m : MsgId) (x : ConfId) → e ≡ Deliver m x → ⊥) → IsNotReached run c p i → ⊥
+safety_no_delivery run c p i e at other (m, d, q, safe, delivers, inside, member, never) = other m d cc
+
+pub safety_unsafe : (run : List Log) (c : RingId) (p i : ℕ) (m : MsgId) (x : ConfId) → MeetsPasses run → slice_get (log_of run p) i ≡ Some (Deliver m x) → (IsSafeIn run c m → ⊥) → IsNotReached run c p i → ⊥
+safety_unsafe run c p i m x meets at unsafe (n, d, q, safe, delivers, inside, member, never) =
+    let same = same_delivery (log_of run p) i m n x d at delivers in
+    unsafe (rw same.0 at (safe_in run c p i n d meets safe delivers inside))
+
+pub safety_everywhere : (run : List Log) (c : RingId) (stay : Stay) (i : ℕ) (m : MsgId) (x : ConfId) (members : List ℕ) → MeetsPasses run → StayFacts run c stay → slice_get (log_of run stay.proc) i ≡ Some (Deliver m x) → AreMembersAt stay.log.now i members
+    → All (λ q. DeliversOrEnds run q c m) members → IsNotReached run c stay.proc i → ⊥
+safety_everywhere run c stay i m x members meets is at are all (n, d, q, safe, delivers, inside, member, never) =
+    let same = same_delivery (log_of run stay.proc) i m n x d at delivers in
+    let here : Delivers stay.log.now i n d = rw is.log delivers in
+    never (rw same.0 (All-contains (λ r. DeliversOrEnds run r c m) members q all (is_among_members run stay.proc i stay.log.now members d q meets is.log are (Deliver n d, here, refl) member)))
+
+pub safety_not : (run : List Log) (c : RingId) (stay : Stay) (i : ℕ) (m : MsgId) (x : ConfId) (members : List ℕ) → StayFacts run c stay → IsInside stay i → slice_get (log_of run stay.proc) i ≡ Some (Deliver m x)
+    → IsSafeIn run c m → AreMembersAt stay.log.now i members → HoldsNotOfAll (λ q. DeliversOrEnds run q c m) members → IsNotReached run c stay.proc i
+safety_not run c stay i m x members is inside at safe are not_all =
+    let here : Delivers stay.log.now i m x = rw is.log at in
+    let belongs = is.stands i x inside (Deliver m x, at, refl) in
+    (m, x, not_all.member, (safe.proc, safe.index, Regular c, safe.sends), at, belongs, is_member run stay.proc i stay.log.now members x not_all.member is.log are (Deliver m x, here, refl) not_all.among, not_all.never)

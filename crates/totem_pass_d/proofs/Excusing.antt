@@ -1,0 +1,43 @@
+-- Whom the end of a stay excuses: where its log is not quiet, the process failed or is open there.
+use Rattle.std.proofs.Common.{◌≡◌, ◌⊎◌, inl, inr, List, length, Bool, true, false, refl, arith}
+use Rattle.std.proofs.lemmas.Bool.{cases_eq}
+use Rattle.totem_ids.specs.declared.ring.RingId.{RingId}
+use Rattle.totem_evs.specs.declared.log.Log.{Log}
+use Rattle.totem_evs.specs.Events.{IsQuiet, log_of}
+use Rattle.totem_evs.specs.Following.{FailedIn, StaysIn, OpenIn}
+use Rattle.totem_evs.proofs.LogOf.{less_or_not}
+use Rattle.totem_pass_d.specs.declared.stay.Stay.{Stay}
+use Rattle.totem_pass_d.specs.Stays.{IsExcused, IsStayOf}
+use Rattle.totem_pass_d.proofs.Deciding.{both_or_not}
+
+pub excused_or_not : (stay : Stay) → IsExcused stay ⊎ (IsExcused stay → ⊥)
+excused_or_not stay = both_or_not (cases_eq stay.end (length stay.log.now)) (loud_or_not stay.quiet)
+  where
+    loud_or_not : (b : Bool) → (b ≡ false) ⊎ (b ≡ false → ⊥)
+    loud_or_not true = inr (λ e. cc)
+    loud_or_not false = inl refl
+
+pub excused : (run : List Log) (c : RingId) (stay : Stay) → IsStayOf run c stay → IsExcused stay → FailedIn (log_of run stay.proc) c ⊎ OpenIn run stay.proc c
+excused run c stay is e = go (rw is.log at (is.is.ends e.0))
+  where
+    loud : IsQuiet run stay.proc → ⊥
+    loud quiet = let told = is.quiet.1 quiet in let other = e.1 in cc
+
+    go : FailedIn (log_of run stay.proc) c ⊎ StaysIn (log_of run stay.proc) c → FailedIn (log_of run stay.proc) c ⊎ OpenIn run stay.proc c
+    go (inl failed) = inl failed
+    go (inr stays) = inr (loud, stays)
+
+pub not_excused : (run : List Log) (c : RingId) (stay : Stay) → IsStayOf run c stay → (IsExcused stay → ⊥) → FailedIn (log_of run stay.proc) c ⊎ OpenIn run stay.proc c → ⊥
+not_excused run c stay is never ends = elim (less_or_not stay.end (length stay.log.now)) [
+  | inl lt ↦ is.is.goes_on lt (rw is.log (here ends))
+  | inr rest ↦ elim rest [ inl gt ↦ omega (arith, is.is.within) | inr last ↦ at_end last stay.quiet refl ends ]
+]
+  where
+    here : FailedIn (log_of run stay.proc) c ⊎ OpenIn run stay.proc c → FailedIn (log_of run stay.proc) c ⊎ StaysIn (log_of run stay.proc) c
+    here (inl failed) = inl failed
+    here (inr (loud, stays)) = inr stays
+
+    at_end : stay.end ≡ length stay.log.now → (b : Bool) → stay.quiet ≡ b → FailedIn (log_of run stay.proc) c ⊎ OpenIn run stay.proc c → ⊥
+    at_end last false is_not h = never (last, is_not)
+    at_end last true told (inl (i, d, fails, inside)) = is.unfailed told i d (rw is.log fails)
+    at_end last true told (inr (loud, stays)) = loud (is.quiet.0 told)

@@ -1,0 +1,149 @@
+-- What the stays of a run that meets the specifications of the first two passes tell of its logs.
+use Rattle.std.proofs.Common.{◌≡◌, ℕ, ◌<◌, ◌≤◌, inl, inr, List, length, slice_get, Some, refl, arith}
+use Rattle.totem_ids.specs.declared.ring.RingId.{RingId}
+use Rattle.totem_ids.specs.declared.conf.ConfId.{ConfId}
+use Rattle.totem_ids.specs.declared.conf.ConfId.TheVariants.{Regular, Transitional}
+use Rattle.totem_ids.specs.declared.message.MsgId.{MsgId}
+use Rattle.totem_evs.specs.declared.entry.Entry.{Entry}
+use Rattle.totem_evs.specs.declared.entry.Entry.TheVariants.{Send, Deliver}
+use Rattle.totem_evs.specs.declared.log.Log.{Log}
+use Rattle.totem_evs.specs.Events.{IsRegular, IsTransitional, ChangesTo, Sends, Delivers, log_of}
+use Rattle.totem_evs.specs.Changes.{Names}
+use Rattle.totem_evs.specs.Following.{Follows, Com, DeliversIn}
+use Rattle.totem_evs.specs.Answers.{MeetsPasses}
+use Rattle.totem_evs.proofs.LogOf.{less_or_not}
+use Rattle.totem_run_rules.proofs.Staying.{names_no_change, same_change}
+use Rattle.totem_evs.proofs.NextChanges.{same_first, one_next}
+use Rattle.totem_pass_d.specs.declared.stay.Stay.{Stay}
+use Rattle.totem_pass_d.specs.declared.stays.Stays.{Stays}
+use Rattle.totem_run_rules.specs.Stays.{IsStay}
+use Rattle.totem_pass_d.specs.Stays.{IsStayOf, HasStay, AreStays}
+use Rattle.totem_pass_d.specs.Acts.{IsAmong, DeliversHere}
+use Rattle.totem_pass_d.specs.Search.{IsInside, StandsInside}
+use Rattle.totem_pass_d.proofs.KnownStays.{meets, stays}
+use Rattle.totem_pass_d.proofs.Searching.{stay_of}
+
+-- what is known of a stay
+pub record StayFacts (run : List Log) (c : RingId) (stay : Stay) : Type 0 where
+  pub of : IsStayOf run c stay
+  pub log : stay.log.now ≡ log_of run stay.proc
+  pub before : stay.from < stay.turn
+  pub until : stay.turn ≤ stay.end
+  pub within : stay.end ≤ length (log_of run stay.proc)
+  pub few : stay.end ≤ 1000000
+  pub size : length (log_of run stay.proc) ≤ 1000000
+  pub is : IsStay (log_of run stay.proc) c stay.from stay.turn stay.end
+  -- what stands in it stands in c or in what follows it
+  pub stands : (i : ℕ) (x : ConfId) → IsInside stay i → Names (log_of run stay.proc) i x → Com (log_of run stay.proc) c x
+  pub following : (i : ℕ) (x : ConfId) → stay.turn ≤ i → i < stay.end → Names (log_of run stay.proc) i x → ChangesTo (log_of run stay.proc) stay.turn x
+  pub sends : (i : ℕ) (m : MsgId) (x : ConfId) → IsInside stay i → Sends (log_of run stay.proc) i m x → (x ≡ Regular c) × (i < stay.turn)
+
+-- what is known of the run
+pub record Facts (run : List Log) (c : RingId) (stays : List Stay) : Type 0 where
+  pub meets : MeetsPasses run
+  pub each : (stay : Stay) → IsAmong stays stay → StayFacts run c stay
+  pub inside : (p i : ℕ) (x : ConfId) → Names (log_of run p) i x → Com (log_of run p) c x → StandsInside stays p i
+  pub whole : (p i : ℕ) → ChangesTo (log_of run p) i (Regular c) → HasStay stays p
+
+not_both : (x : ConfId) → IsRegular x → IsTransitional x → ⊥
+not_both (Regular c) r t = t
+not_both (Transitional n l) r t = r
+
+-- what stands where a stay turns names no configuration
+pub at_turn_no_name : (log : List Entry) (c : RingId) (from turn end i : ℕ) (x : ConfId) → IsStay log c from turn end → turn < end → i ≡ turn → Names log i x → ⊥
+at_turn_no_name log c from turn end i x is lt same names = let t = is.turns lt in names_no_change log turn x (rw same at names) (t.conf, t.change)
+
+-- what an entry inside a stay names is c or follows it
+pub com_of : (log : List Entry) (c : RingId) (from turn end i : ℕ) (x : ConfId) → IsStay log c from turn end → from < i → i < end → Names log i x → Com log c x
+com_of log c from turn end i x is after until names = elim (less_or_not i turn) [
+  | inl lt ↦ inl (is.regular i x after lt names)
+  | inr more ↦ elim more [
+    | inl gt ↦ inr (is.following i x gt until names)
+    | inr same ↦ absurd (at_turn_no_name log c from turn end i x is (omega arith) same names)
+  ]
+]
+
+one_following : (log : List Entry) (c : RingId) (x y : ConfId) → Follows log c x → Follows log c y → x ≡ y
+one_following log c x y a b =
+    let from = same_first log (Regular c) a.from b.from a.first b.first in
+    let to = one_next log b.from a.to b.to (rw from at a.next) b.next in
+    same_change log a.to b.to x y to a.change b.change
+
+following_of : (log : List Entry) (c : RingId) (from turn end i : ℕ) (x : ConfId) → IsStay log c from turn end → turn ≤ i → i < end → Names log i x → ChangesTo log turn x
+following_of log c from turn end i x is le until names = elim (less_or_not i turn) [
+  | inl lt ↦ absurd (omega arith)
+  | inr more ↦ elim more [
+    | inl gt ↦ (let t = is.turns (omega arith) in rw (one_following log c t.conf x t.follows (is.following i x gt until names)) at t.change)
+    | inr same ↦ absurd (at_turn_no_name log c from turn end i x is (omega arith) same names)
+  ]
+]
+
+sends_of : (log : List Entry) (c : RingId) (from turn end i : ℕ) (m : MsgId) (x : ConfId) → IsStay log c from turn end → IsRegular x → from < i → i < end → Sends log i m x → (x ≡ Regular c) × (i < turn)
+sends_of log c from turn end i m x is r after until (s, at) = elim (less_or_not i turn) [
+  | inl lt ↦ (is.regular i x after lt (Send m x s, at, refl), lt)
+  | inr more ↦ elim more [
+    | inl gt ↦ absurd (not_both x r (is.following i x gt until (Send m x s, at, refl)).transitional)
+    | inr same ↦ absurd (at_turn_no_name log c from turn end i x is (omega arith) same (Send m x s, at, refl))
+  ]
+]
+
+-- the stay that stands around an entry
+stay_around : (run : List Log) (c : RingId) (stays : List Stay) (p i : ℕ) (x : ConfId) → MeetsPasses run → AreStays run c stays → Names (log_of run p) i x → Com (log_of run p) c x → StandsInside stays p i
+stay_around run c stays p i x meets are names belongs = found belongs
+  where
+    of_change : (k : ℕ) → ChangesTo (log_of run p) k (Regular c) → StandsInside stays p i
+    of_change k change =
+        let has = are.whole p k change in
+        let among : IsAmong stays has.stay = record { at = has.at; stands = has.stands } in
+        let of = stay_of run c stays has.stay are among in
+        let is : IsStay (log_of run p) c has.stay.from has.stay.turn has.stay.end = rw (of.log, has.proc) at of.is in
+        let bounds = is.here i x names belongs in
+        record { stay = has.stay; among = among; proc = has.proc; inside = record { after = bounds.0; until = bounds.1 } }
+
+    found : Com (log_of run p) c x → StandsInside stays p i
+    found (inl same) = let stands = (meets.placed p).named i (Regular c) (rw same at names) in of_change stands.from stands.change
+    found (inr follows) = of_change follows.from follows.first.change
+
+stay_facts : (run : List Log) (c : RingId) (stays : List Stay) (stay : Stay) → MeetsPasses run → AreStays run c stays → IsAmong stays stay → StayFacts run c stay
+stay_facts run c stays stay meets are among =
+    let of = stay_of run c stays stay are among in
+    let is : IsStay (log_of run stay.proc) c stay.from stay.turn stay.end = rw of.log at of.is in
+    record {
+      of = of;
+      log = of.log;
+      before = is.before;
+      until = is.until;
+      within = is.within;
+      few = (let few = of.few in let within = of.is.within in omega arith);
+      size = rw of.log at of.few;
+      is = is;
+      stands = λ i x inside names. com_of (log_of run stay.proc) c stay.from stay.turn stay.end i x is inside.after inside.until names;
+      following = λ i x le until names. following_of (log_of run stay.proc) c stay.from stay.turn stay.end i x is le until names;
+      sends = λ i m x inside send. sends_of (log_of run stay.proc) c stay.from stay.turn stay.end i m x is (meets.once.regular stay.proc i m x send) inside.after inside.until send;
+    }
+
+pub facts : (run : List Log) (c : RingId) (list : List Stay) → ∥ MeetsPasses run ∥₁ → ∥ AreStays run c list ∥₁ → Facts run c list
+facts run c list met known =
+    let m = meets run met in
+    let are = stays run c list m known in
+    record {
+      meets = m;
+      each = λ stay among. stay_facts run c list stay m are among;
+      inside = λ p i x names belongs. stay_around run c list p i x m are names belongs;
+      whole = are.whole;
+    }
+
+pub facts_of : (stays : Stays) → Facts stays.run.now.logs stays.ring stays.list.items
+facts_of stays = facts stays.run.now.logs stays.ring stays.list.items stays.meets stays.are
+
+pub here_delivers : (run : List Log) (c : RingId) (stay : Stay) (m : MsgId) (k : ℕ) → StayFacts run c stay → DeliversHere stay m k → DeliversIn (log_of run stay.proc) c m k
+here_delivers run c stay m k facts here =
+    let at : Delivers (log_of run stay.proc) k m here.conf = rw facts.log at here.delivers in
+    (here.conf, at, facts.stands k here.conf (record { after = here.after; until = here.until }) (Deliver m here.conf, at, refl))
+
+pub reads_inside : (run : List Log) (c : RingId) (list : List Stay) (stay : Stay) (i : ℕ) → ∥ MeetsPasses run ∥₁ → ∥ AreStays run c list ∥₁ → IsAmong list stay → IsInside stay i → i < length stay.log.now
+reads_inside run c list stay i met known among inside =
+    let of = (facts run c list met known).each stay among in let within = of.within in let until = inside.until in rw of.log (omega arith)
+
+pub entry_inside : (run : List Log) (c : RingId) (list : List Stay) (stay : Stay) (i : ℕ) (e : Entry) → ∥ MeetsPasses run ∥₁ → ∥ AreStays run c list ∥₁ → IsAmong list stay → slice_get stay.log.now i ≡ Some e → slice_get (log_of run stay.proc) i ≡ Some e
+entry_inside run c list stay i e met known among at = rw ((facts run c list met known).each stay among).log at at

@@ -1,0 +1,267 @@
+-- What is found for 6.3 is the least list that breaks it: an earlier message, a later one, and who delivers the later one
+-- alone.
+use Rattle.std.proofs.Common.{◌≡◌, ℕ, ◌+◌, ◌<◌, ◌≤◌, inl, inr, List, [], ◌∷◌, length, slice_get, Option, Some, None, Bool, true, false, IsTrue, ◌↔◌, refl, arith}
+use Rattle.std.specs.Prelude.{Contains, IfSome, IfNone}
+use Rattle.std.specs.Option.{is_some}
+use Rattle.std.proofs.lemmas.Option.{slice_get_within}
+use Rattle.totem_ids.specs.declared.ring.RingId.{RingId}
+use Rattle.totem_ids.specs.declared.conf.ConfId.{ConfId}
+use Rattle.totem_ids.specs.declared.conf.ConfId.TheVariants.{Regular}
+use Rattle.totem_ids.specs.declared.message.MsgId.{MsgId}
+use Rattle.totem_ids.specs.declared.place.Place.{Place}
+use Rattle.totem_evs.specs.declared.entry.Entry.{Entry}
+use Rattle.totem_evs.specs.declared.entry.Entry.TheVariants.{Deliver}
+use Rattle.totem_evs.specs.declared.log.Log.{Log}
+use Rattle.totem_evs.specs.Events.{log_of, Delivers, WasSentIn, IsTransitional}
+use Rattle.totem_evs.specs.Changes.{IsOneConfiguration}
+use Rattle.totem_evs.specs.Following.{Com, DeliversIn, HasDelivered}
+use Rattle.totem_evs.specs.RingAgreement.{NoGapsIn}
+use Rattle.totem_evs.specs.RingFaults.{BreaksGapIn}
+use Rattle.totem_evs.specs.AgreementFaults.{IsGap}
+use Rattle.totem_evs.specs.Answers.{ComesFirst, IsLeast, MeetsPasses}
+use Rattle.totem_evs.proofs.LogOf.{less_or_not}
+use Rattle.totem_table.specs.Search.{place, NoneFrom, IsLeastFrom, HoldsOfNone}
+use Rattle.totem_pass_d.specs.declared.stay.Stay.{Stay}
+use Rattle.totem_pass_d.specs.declared.stays.Sending.{Sending}
+use Rattle.totem_pass_d.specs.Acts.{IsAmong, DeliversHere, DeliversNot, IsSendingOf, NobodySent}
+use Rattle.totem_pass_d.specs.Search.{IsInside, EachBeginsWithin, NoneWithin, IsLeastWithin, BeginsWithin}
+use Rattle.totem_pass_d.specs.Reached.{AreMembersAt}
+use Rattle.totem_pass_d.specs.Gaps.{IsLack, IsOneLack, IsLater, IsEverywhere, TellsMember}
+use Rattle.totem_pass_d.proofs.Deciding.{has_delivered_or_not}
+use Rattle.totem_run_rules.proofs.Staying.{same_change}
+use Rattle.totem_pass_d.proofs.Reaching.{is_among_members, is_member}
+use Rattle.totem_pass_d.proofs.Facts.{Facts, StayFacts, here_delivers}
+use Rattle.totem_pass_d.proofs.Rests.{none_rest, least_rest, nothing_here, only_here, begins_at}
+use Rattle.totem_pass_d.proofs.CausalityFaults.{one_delivery_in, not_delivered_in}
+
+-- one regular configuration that another is, or follows, in one log
+pub one_ring : (run : List Log) (p : ℕ) (c c' : RingId) (d : ConfId) → IsOneConfiguration run → Com (log_of run p) c d → Com (log_of run p) c' d → c ≡ c'
+one_ring run p c c' d one (inl a) (inl b) = let e : Regular c ≡ Regular c' = cc in cc
+one_ring run p c c' d one (inl a) (inr b) = absurd (let t : IsTransitional (Regular c) = rw a at b.transitional in t)
+one_ring run p c c' d one (inr a) (inl b) = absurd (let t : IsTransitional (Regular c') = rw b at a.transitional in t)
+one_ring run p c c' d one (inr a) (inr b) =
+    let e = same_change (log_of run p) a.from b.from (Regular c) (Regular c') (elim (less_or_not a.from b.from) [
+      | inl lt ↦ absurd (a.next.none_between b.from lt (let later = b.next.later in rw to later) (Regular c', b.first.change))
+      | inr more ↦ elim more [
+        | inl gt ↦ absurd (b.next.none_between a.from gt (let later = a.next.later in rw (← to) later) (Regular c, a.first.change))
+        | inr same ↦ same
+      ]
+    ]) a.first.change b.first.change in cc
+  where
+    to : a.to ≡ b.to
+    to = one.once p a.to b.to d a.change b.change
+
+-- members
+pub tells_member : (run : List Log) (p i q : ℕ) (log : List Entry) (members : List ℕ) (b : Bool) → MeetsPasses run → log ≡ log_of run p → AreMembersAt log i members → IsTrue b ↔ Contains members q → TellsMember run (log_of run p) i q b
+tells_member run p i q log members b meets logs are decides = record {
+  each = λ x names. (
+    λ t. is_member run p i log members x q logs are (rw logs names) (decides.0 t),
+    λ member. decides.1 (is_among_members run p i log members x q meets logs are (rw logs names) member),
+  );
+}
+
+-- who lacks the earlier message
+lack_at : (run : List Log) (c : RingId) (s : ℕ) (m n : MsgId) (q k : ℕ) (rest : List Place) → IsOneLack run c s m n (place q k ∷ rest) → IsLack run c s m n q k
+lack_at run c s m n q k [] (j, is, h) = let same : j ≡ k = omega arith in rw same at h
+lack_at run c s m n q k (f ∷ more) h = absurd h
+
+pub none_later : (run : List Log) (c : RingId) (stay : Stay) (s : ℕ) (m n : MsgId) → StayFacts run c stay → DeliversNot stay.log.now c n → NoneWithin IsInside (IsOneLack run c s m n) stay
+none_later run c stay s m n facts never = record { none = λ i rest inside h. go i (lack_at run c s m n stay.proc i rest h) }
+  where
+    go : (i : ℕ) → IsLack run c s m n stay.proc i → ⊥
+    go i (d, at, belongs, member, lacks) = not_delivered_in run c stay n facts never (i, (d, at, belongs))
+
+pub none_lacks : (run : List Log) (c : RingId) (stay : Stay) (s k : ℕ) (m n : MsgId) → StayFacts run c stay → DeliversHere stay m k → NoneWithin IsInside (IsOneLack run c s m n) stay
+none_lacks run c stay s k m n facts here = record { none = λ i rest inside h. go i (lack_at run c s m n stay.proc i rest h) }
+  where
+    go : (i : ℕ) → IsLack run c s m n stay.proc i → ⊥
+    go i (d, at, belongs, member, lacks) = lacks (k, here_delivers run c stay m k facts here)
+
+pub none_member : (run : List Log) (c : RingId) (stays : List Stay) (stay : Stay) (s k : ℕ) (m n : MsgId) (b : Bool) → Facts run c stays → IsAmong stays stay → DeliversHere stay n k → TellsMember run (log_of run stay.proc) k s b → b ≡ false
+    → NoneWithin IsInside (IsOneLack run c s m n) stay
+none_member run c stays stay s k m n b facts among here tells no_member = record { none = λ i rest inside h. go i (lack_at run c s m n stay.proc i rest h) }
+  where
+    go : (i : ℕ) → IsLack run c s m n stay.proc i → ⊥
+    go i (d, at, belongs, member, lacks) =
+        let same = one_delivery_in run c stays stay.proc i k n facts (d, at, belongs) (here_delivers run c stay n k (facts.each stay among) here) in
+        let t : b ≡ true = (tells.each d (Deliver n d, rw same at at, refl)).1 member in cc
+
+pub lack_here : (run : List Log) (c : RingId) (stays : List Stay) (stay : Stay) (s k : ℕ) (m n : MsgId) (b : Bool) (places : List Place) → Facts run c stays → IsAmong stays stay → DeliversHere stay n k → DeliversNot stay.log.now c m
+    → TellsMember run (log_of run stay.proc) k s b → b ≡ true → places ≡ place stay.proc k ∷ [] → IsLeastWithin IsInside (IsOneLack run c s m n) stay places
+lack_here run c stays stay s k m n b places facts among here never tells is_member is = go (here_delivers run c stay n k (facts.each stay among) here)
+  where
+    one : DeliversIn (log_of run stay.proc) c n k → (i : ℕ) → IsLack run c s m n stay.proc i → i ≡ k
+    one there i (d, at, belongs, member, lacks) = one_delivery_in run c stays stay.proc i k n facts (d, at, belongs) there
+
+    go : DeliversIn (log_of run stay.proc) c n k → IsLeastWithin IsInside (IsOneLack run c s m n) stay places
+    go (d, at, belongs) = only_here IsInside (IsOneLack run c s m n) stay k places
+        (k, refl, (d, at, belongs, (tells.each d (Deliver n d, at, refl)).0 is_member, not_delivered_in run c stay m (facts.each stay among) never))
+        (λ i rest h. one (d, at, belongs) i (lack_at run c s m n stay.proc i rest h)) is
+
+pub lacks_begin : (run : List Log) (c : RingId) (stays : List Stay) (s : ℕ) (m n : MsgId) → Facts run c stays → EachBeginsWithin stays IsInside (IsOneLack run c s m n)
+lacks_begin run c stays s m n facts = record { each = λ places h. go places h }
+  where
+    go : (places : List Place) → IsOneLack run c s m n places → BeginsWithin stays IsInside places
+    go [] h = absurd h
+    go (g ∷ []) (k, is, (d, at, belongs, member, lacks)) = begins_at run c stays g k d [] facts (rw (← is) refl) (Deliver n d, at, refl) belongs
+    go (g ∷ h ∷ rest) b = absurd b
+
+-- later messages of one log
+later_at : (run : List Log) (c : RingId) (s : ℕ) (m n : MsgId) (i p j : ℕ) (d : ConfId) (rest : List Place) → Delivers (log_of run p) j n d → IsLater run c s m i (place p j ∷ rest) → IsOneLack run c s m n rest
+later_at run c s m n i p j d rest at (k, is, (lt, (o, (y, at', belongs), one))) =
+    let there : slice_get (log_of run p) j ≡ Some (Deliver o y) = (let same : k ≡ j = omega arith in rw same at at') in
+    let same : o ≡ n = (let h : slice_get (log_of run p) j ≡ Some (Deliver n d) = at in cc) in rw same at one
+
+pub none_earlier : (run : List Log) (c : RingId) (s : ℕ) (m : MsgId) (i p j : ℕ) → j ≤ i → NoneFrom (IsLater run c s m i) p j
+none_earlier run c s m i p j le = nothing_here (IsLater run c s m i) p j (λ rest (k, is, (lt, later)). omega arith)
+
+pub none_undelivered : (run : List Log) (c : RingId) (s : ℕ) (m : MsgId) (i p j : ℕ) (e : Entry) → slice_get (log_of run p) j ≡ Some e → ((n : MsgId) (d : ConfId) → e ≡ Deliver n d → ⊥) → NoneFrom (IsLater run c s m i) p j
+none_undelivered run c s m i p j e at other = nothing_here (IsLater run c s m i) p j (λ rest h. go rest h)
+  where
+    go : (rest : List Place) → IsLater run c s m i (place p j ∷ rest) → ⊥
+    go rest (k, is, (lt, (n, (d, at', belongs), one))) = let same : k ≡ j = omega arith in let there : slice_get (log_of run p) j ≡ Some (Deliver n d) = rw same at at' in other n d cc
+
+pub none_without_lack : (run : List Log) (c : RingId) (s : ℕ) (m n : MsgId) (i p j : ℕ) (d : ConfId) → slice_get (log_of run p) j ≡ Some (Deliver n d) → HoldsOfNone (IsOneLack run c s m n) → NoneFrom (IsLater run c s m i) p j
+none_without_lack run c s m n i p j d at none = none_rest (IsOneLack run c s m n) (IsLater run c s m i) p j (λ rest h. later_at run c s m n i p j d rest at h) none
+
+pub least_lack : (run : List Log) (c : RingId) (stays : List Stay) (stay : Stay) (s : ℕ) (m n : MsgId) (i j : ℕ) (d : ConfId) (rest : List Place) → Facts run c stays → IsAmong stays stay → IsInside stay j → slice_get (log_of run stay.proc) j ≡ Some (Deliver n d) → i < j
+    → IsLeast (IsOneLack run c s m n) rest → IsLeastFrom (IsLater run c s m i) stay.proc j rest
+least_lack run c stays stay s m n i j d rest facts among inside at lt least =
+    least_rest (IsOneLack run c s m n) (IsLater run c s m i) stay.proc j rest
+    (λ others h. (j, refl, (lt, (n, (d, at, (facts.each stay among).stands j d inside (Deliver n d, at, refl)), h))))
+    (λ others h. later_at run c s m n i stay.proc j d others at h) least
+
+-- what a look-up found
+pub found_there : (o : Option ℕ) (P : ℕ → Type 0) → is_some o ≡ true → IfSome o P → (k : ℕ) × P k
+found_there None P is h = absurd cc
+found_there (Some k) P is h = (k, h)
+
+pub not_found : (o : Option ℕ) (Q : Type 0) → is_some o ≡ false → IfNone o Q → Q
+not_found None Q is h = h
+not_found (Some k) Q is h = absurd cc
+
+-- where each process delivers the message
+pub record EachBefore (run : List Log) (c : RingId) (stays : List Stay) (m : MsgId) (n : ℕ) : Type 0 where
+  pub each : (k : ℕ) (stay : Stay) → k < n → slice_get stays k ≡ Some stay → HasDelivered (log_of run stay.proc) c m
+
+pub each_yet : (run : List Log) (c : RingId) (stays : List Stay) (m : MsgId) → EachBefore run c stays m 0
+each_yet run c stays m = record { each = λ k stay lt at. absurd (omega arith) }
+
+pub each_more : (run : List Log) (c : RingId) (stays : List Stay) (m : MsgId) (n : ℕ) (stay : Stay) → slice_get stays n ≡ Some stay → HasDelivered (log_of run stay.proc) c m → EachBefore run c stays m n → EachBefore run c stays m (n + 1)
+each_more run c stays m n stay at here before = record {
+  each = λ k other lt at_k. elim (less_or_not k n) [
+    | inl under ↦ before.each k other under at_k
+    | inr more ↦ elim more [
+      | inl over ↦ absurd (omega arith)
+      | inr same ↦ let one : stay ≡ other = (let h : slice_get stays n ≡ Some other = rw same at at_k in cc) in rw one at here
+    ]
+  ];
+}
+
+pub everywhere : (run : List Log) (c : RingId) (stays : List Stay) (m : MsgId) (n : ℕ) → length stays ≤ n → EachBefore run c stays m n → IsEverywhere run c stays m
+everywhere run c stays m n end before = record { each = λ stay among. before.each among.at stay (omega (arith, slice_get_within stays among.at stay among.stands)) among.stands }
+
+pub delivered_by : (run : List Log) (c : RingId) (stays : List Stay) (stay : Stay) (m : MsgId) (o : Option ℕ) → Facts run c stays → IsAmong stays stay → is_some o ≡ true → IfSome o (DeliversHere stay m) → HasDelivered (log_of run stay.proc) c m
+delivered_by run c stays stay m o facts among is h = let found = found_there o (DeliversHere stay m) is h in (found.0, here_delivers run c stay m found.0 (facts.each stay among) found.1)
+
+-- gaps
+pub gap_at : (run : List Log) (c : RingId) (p i : ℕ) (rest : List Place) → BreaksGapIn run c (place p i ∷ rest) → (j q k : ℕ) × (rest ≡ place p j ∷ place q k ∷ []) × IsGap run c p i j q k
+gap_at run c p i [] h = absurd h
+gap_at run c p i (f ∷ []) h = absurd h
+gap_at run c p i (f ∷ g ∷ []) (a, is, (j, is_f, (k, is_g, (same, gap)))) = (j, g.proc, k, placed, (let at : a ≡ i = omega arith in rw at at gap))
+  where
+    placed : f ∷ g ∷ [] ≡ place p j ∷ place g.proc k ∷ []
+    placed = rw (same, ← is_f, ← is_g) refl
+gap_at run c p i (f ∷ g ∷ h ∷ rest) b = absurd b
+
+pub none_everywhere : (run : List Log) (c : RingId) (stays : List Stay) (m : MsgId) (d : ConfId) (p i : ℕ) → Facts run c stays → slice_get (log_of run p) i ≡ Some (Deliver m d) → IsEverywhere run c stays m → NoneFrom (BreaksGapIn run c) p i
+none_everywhere run c stays m d p i facts at everyone = nothing_here (BreaksGapIn run c) p i (λ rest h. let g = gap_at run c p i rest h in go g.0 g.1 g.2 g.4)
+  where
+    go : (j q k : ℕ) → IsGap run c p i j q k → ⊥
+    go j q k (o, n, x, y, s, l, (z, at', b'), later, lt, at_k, belongs, send, member, lacks) =
+        let same : o ≡ m = cc in
+        let s = facts.inside q k x (Deliver n x, at_k, refl) belongs in
+        lacks (rw (same, ← s.proc) (everyone.each s.stay s.among))
+
+-- the sender of what is delivered in c or in what follows it sent it in c
+pub sent_in : (run : List Log) (c : RingId) (stays : List Stay) (m : MsgId) (p i : ℕ) → Facts run c stays → DeliversIn (log_of run p) c m i → WasSentIn run m (Regular c)
+sent_in run c stays m p i facts (d, at, belongs) = go (facts.meets.sent p i m d at)
+  where
+    go : (c' : RingId) × WasSentIn run m (Regular c') × Com (log_of run p) c' d → WasSentIn run m (Regular c)
+    go (c', sent, from) = rw (one_ring run p c c' d facts.meets.one belongs from) sent
+
+pub none_unsent : (run : List Log) (c : RingId) (stays : List Stay) (stay : Stay) (m : MsgId) (d : ConfId) (i : ℕ) → Facts run c stays → IsAmong stays stay → IsInside stay i → slice_get (log_of run stay.proc) i ≡ Some (Deliver m d) → NobodySent run c m
+    → NoneFrom (BreaksGapIn run c) stay.proc i
+none_unsent run c stays stay m d i facts among inside at nobody = nothing_here (BreaksGapIn run c) stay.proc i (λ rest h.
+    nobody.never (sent_in run c stays m stay.proc i facts (d, at, (facts.each stay among).stands i d inside (Deliver m d, at, refl))))
+
+-- from the list after the earlier delivery to the whole
+later_of : (run : List Log) (c : RingId) (stays : List Stay) (m : MsgId) (d : ConfId) (p i : ℕ) (sending : Sending) → Facts run c stays → slice_get (log_of run p) i ≡ Some (Deliver m d) → IsSendingOf run c m sending
+    → (j q k : ℕ) → IsGap run c p i j q k → IsLater run c sending.proc m i (place p j ∷ place q k ∷ [])
+later_of run c stays m d p i sending facts at of j q k (o, n, x, y, s, l, (z, at', b'), later, lt, at_k, belongs, send, member, lacks) =
+    let same : o ≡ m = cc in
+    let one = facts.meets.once.one_send s l sending.proc sending.at m y (Regular c) (rw same at send) (sending.service, of.sends) in
+    (j, refl, (lt, (n, later, (k, refl, (x, at_k, belongs, rw one.0 at member, rw same at lacks)))))
+
+gap_of : (run : List Log) (c : RingId) (m : MsgId) (p i j : ℕ) (rest : List Place) (sending : Sending) → DeliversIn (log_of run p) c m i → IsSendingOf run c m sending → IsLater run c sending.proc m i (place p j ∷ rest) → BreaksGapIn run c (place p i ∷ place p j ∷ rest)
+gap_of run c m p i j [] sending delivers of (a, is, (lt, (n, later, one))) = absurd one
+gap_of run c m p i j (g ∷ []) sending delivers of (a, is, (lt, (n, later, (k, is_g, (x, at_k, belongs, member, lacks))))) =
+    (i, refl, (a, is, (k, is_g, (refl, (m, n, x, Regular c, sending.proc, sending.at, delivers, later, lt, at_k, belongs, (sending.service, of.sends), member, lacks)))))
+gap_of run c m p i j (g ∷ h ∷ rest) sending delivers of (a, is, (lt, (n, later, one))) = absurd one
+
+-- the later delivery stands in the same stay
+pub delivery_inside : (run : List Log) (c : RingId) (stays : List Stay) (stay : Stay) (n : MsgId) (j : ℕ) → Facts run c stays → IsAmong stays stay → DeliversIn (log_of run stay.proc) c n j → IsInside stay j
+delivery_inside run c stays stay n j facts among (d, at, belongs) =
+    let bounds = (facts.each stay among).is.here j d (Deliver n d, at, refl) belongs in record { after = bounds.0; until = bounds.1 }
+
+pub none_after : (run : List Log) (c : RingId) (stays : List Stay) (stay : Stay) (m : MsgId) (d : ConfId) (i : ℕ) (sending : Sending) → Facts run c stays → IsAmong stays stay → slice_get (log_of run stay.proc) i ≡ Some (Deliver m d) → IsSendingOf run c m sending
+    → NoneWithin IsInside (IsLater run c sending.proc m i) stay → NoneFrom (BreaksGapIn run c) stay.proc i
+none_after run c stays stay m d i sending facts among at of none = nothing_here (BreaksGapIn run c) stay.proc i (λ rest h. let g = gap_at run c stay.proc i rest h in go g.0 g.1 g.2 g.4)
+  where
+    go : (j q k : ℕ) → IsGap run c stay.proc i j q k → ⊥
+    go j q k gap = none.none j (place q k ∷ []) (inside gap) (later_of run c stays m d stay.proc i sending facts at of j q k gap)
+      where
+        inside : IsGap run c stay.proc i j q k → IsInside stay j
+        inside (o, n, x, y, s, l, earlier, later, lt, at_k, belongs, send, member, lacks) = delivery_inside run c stays stay n j facts among later
+
+pub least_after : (run : List Log) (c : RingId) (stays : List Stay) (stay : Stay) (m : MsgId) (d : ConfId) (i : ℕ) (sending : Sending) (list : List Place) → Facts run c stays → IsAmong stays stay → IsInside stay i → slice_get (log_of run stay.proc) i ≡ Some (Deliver m d)
+    → IsSendingOf run c m sending → IsLeastWithin IsInside (IsLater run c sending.proc m i) stay list → IsLeastFrom (BreaksGapIn run c) stay.proc i list
+least_after run c stays stay m d i sending list facts among inside at of least = record { least = record { holds = holds; first = λ others h. first others (gap_at run c stay.proc i others h) } }
+  where
+    holds : BreaksGapIn run c (place stay.proc i ∷ list)
+    holds = rw least.is (gap_of run c m stay.proc i least.at least.rest sending (d, at, (facts.each stay among).stands i d inside (Deliver m d, at, refl)) of least.least.least.holds)
+
+    inside_of : (j q k : ℕ) → IsGap run c stay.proc i j q k → IsInside stay j
+    inside_of j q k (o, n, x, y, s, l, earlier, later, lt, at_k, belongs, send, member, lacks) = delivery_inside run c stays stay n j facts among later
+
+    compare : (j q k : ℕ) → IsGap run c stay.proc i j q k → ComesFirst (place stay.proc least.at ∷ least.rest) (place stay.proc j ∷ place q k ∷ [])
+    compare j q k gap = let later = later_of run c stays m d stay.proc i sending facts at of j q k gap in elim (less_or_not j least.at) [
+      | inl earlier ↦ absurd (least.none_before.none j (place q k ∷ []) earlier (inside_of j q k gap) later)
+      | inr more ↦ elim more [
+        | inl over ↦ inl (inr (refl, omega arith))
+        | inr same ↦ inr (rw same refl, least.least.least.first (place q k ∷ []) (rw same at later))
+      ]
+    ]
+
+    first : (others : List Place) → ((j q k : ℕ) × (others ≡ place stay.proc j ∷ place q k ∷ []) × IsGap run c stay.proc i j q k) → ComesFirst list others
+    first others (j, q, k, is, gap) = rw (least.is, is) (compare j q k gap)
+
+pub gaps_begin : (run : List Log) (c : RingId) (stays : List Stay) → Facts run c stays → EachBeginsWithin stays IsInside (BreaksGapIn run c)
+gaps_begin run c stays facts = record { each = λ places h. go places h }
+  where
+    go : (places : List Place) → BreaksGapIn run c places → BeginsWithin stays IsInside places
+    go [] h = absurd h
+    go (e ∷ []) h = absurd h
+    go (e ∷ f ∷ []) h = absurd h
+    go (e ∷ f ∷ g ∷ []) (i, is, (j, is_f, (k, is_g, (same, (m, n, d, x, s, l, (y, at, belongs), later, lt, at_k, belongs', send, member, lacks))))) =
+        begins_at run c stays e i y (f ∷ g ∷ []) facts (rw (← is) refl) (Deliver m y, at, refl) belongs
+    go (e ∷ f ∷ g ∷ h ∷ rest) b = absurd b
+
+-- where nothing breaks it, it holds
+pub no_gaps : (run : List Log) (c : RingId) → HoldsOfNone (BreaksGapIn run c) → NoGapsIn run c
+no_gaps run c none = record {
+  each = λ m n p i j q k d earlier later lt at belongs s l x send member. elim (has_delivered_or_not (log_of run q) c m) [
+    | inl has ↦ has
+    | inr lacks ↦ absurd (none.none (place p i ∷ place p j ∷ place q k ∷ []) (i, refl, (j, refl, (k, refl, (refl, (m, n, d, x, s, l, earlier, later, lt, at, belongs, send, member, lacks))))))
+  ];
+}

@@ -1,0 +1,119 @@
+-- Where a process stops delivering what another delivers.
+use Rattle.std.proofs.Common.{◌≡◌, ℕ, ◌+◌, ◌<◌, ◌≤◌, ◌⊎◌, inl, inr, List, [], ◌∷◌, ◌++◌, length, get_or, slice_get, Some, refl, sym, ◌∙◌, arith, length-append}
+use Rattle.std.proofs.Math.ListN.{get_or-append}
+use Rattle.std.proofs.lemmas.List.{get_or_push}
+use Rattle.std.proofs.lemmas.Option.{slice_get_within}
+use Rattle.totem_ids.specs.declared.ring.RingId.{RingId}
+use Rattle.totem_ids.specs.declared.conf.ConfId.{ConfId}
+use Rattle.totem_ids.specs.declared.message.MsgId.{MsgId}
+use Rattle.totem_evs.specs.declared.entry.Entry.{Entry}
+use Rattle.totem_evs.specs.declared.entry.Entry.TheVariants.{Deliver}
+use Rattle.totem_evs.specs.declared.log.Log.{Log}
+use Rattle.totem_evs.specs.Events.{log_of}
+use Rattle.totem_evs.specs.Following.{HasDelivered}
+use Rattle.totem_evs.specs.AgreementFaults.{IsGap}
+use Rattle.totem_evs.specs.RingFaults.{BreaksGapIn}
+use Rattle.totem_evs.proofs.LogOf.{less_or_not}
+use Rattle.totem_table.specs.Search.{NoneFrom}
+use Rattle.totem_pass_d.specs.declared.stay.Stay.{Stay}
+use Rattle.totem_pass_d.specs.Acts.{IsAmong, DeliversNot}
+use Rattle.totem_pass_d.specs.Gaps.{IsApart, IsBeyond, AreLasts, IsSettled}
+use Rattle.totem_pass_d.proofs.Facts.{Facts, StayFacts}
+use Rattle.totem_pass_d.proofs.Rests.{nothing_here}
+use Rattle.totem_pass_d.proofs.CausalityFaults.{not_delivered_in}
+use Rattle.totem_pass_d.proofs.GapFaults.{delivery_inside, gap_at}
+
+pub apart_undelivered : (run : List Log) (c : RingId) (follower : Stay) (p at : ℕ) (m : MsgId) (d : ConfId) → StayFacts run c follower → slice_get (log_of run p) at ≡ Some (Deliver m d) → DeliversNot follower.log.now c m → IsApart run c p follower.proc at
+apart_undelivered run c follower p at m d of there not = record {
+  never = λ n (x, is, belongs) h. (let same : n ≡ m = cc in not_delivered_in run c follower m of not (rw same at h));
+}
+
+pub apart_other : (run : List Log) (c : RingId) (p q at : ℕ) (e : Entry) → slice_get (log_of run p) at ≡ Some e → ((m : MsgId) (d : ConfId) → e ≡ Deliver m d → ⊥) → IsApart run c p q at
+apart_other run c p q at e there other = record { never = λ n (x, is, belongs) h. other n x cc }
+
+-- from j on q delivers nothing that p delivers
+pub record ApartFrom (run : List Log) (c : RingId) (p q n : ℕ) : Type 0 where
+  pub each : (j : ℕ) → n ≤ j → IsApart run c p q j
+
+pub apart_at_end : (run : List Log) (c : RingId) (stays : List Stay) (leader : Stay) (q : ℕ) → Facts run c stays → IsAmong stays leader → ApartFrom run c leader.proc q leader.end
+apart_at_end run c stays leader q facts among = record {
+  each = λ j le. record { never = λ n delivers h. (let inside = delivery_inside run c stays leader n j facts among delivers in let until = inside.until in absurd (omega arith)) };
+}
+
+pub apart_more : (run : List Log) (c : RingId) (p q n k : ℕ) → n ≡ k + 1 → IsApart run c p q k → ApartFrom run c p q n → ApartFrom run c p q k
+apart_more run c p q n k is here after = record {
+  each = λ j le. elim (less_or_not k j) [
+    | inl under ↦ after.each j (omega arith)
+    | inr more ↦ elim more [ inl over ↦ absurd (omega arith) | inr same ↦ rw (← same) here ]
+  ];
+}
+
+pub beyond_from : (run : List Log) (c : RingId) (p q n i : ℕ) → n ≤ i + 1 → ApartFrom run c p q n → IsBeyond run c p q i
+beyond_from run c p q n i le apart = record { each = λ j lt. apart.each j (omega arith) }
+
+pub beyond_later : (run : List Log) (c : RingId) (p q i j : ℕ) → i ≤ j → IsBeyond run c p q i → IsBeyond run c p q j
+beyond_later run c p q i j le beyond = record { each = λ k lt. beyond.each k (omega arith) }
+
+-- the last ones of the first n stays
+pub record LastsTo (run : List Log) (c : RingId) (stays : List Stay) (p : ℕ) (lasts : List ℕ) (n : ℕ) : Type 0 where
+  pub long : length lasts ≡ n
+  pub each : (k : ℕ) (stay : Stay) → k < n → slice_get stays k ≡ Some stay → IsBeyond run c p stay.proc (get_or lasts k 0)
+
+pub lasts_yet : (run : List Log) (c : RingId) (stays : List Stay) (p : ℕ) → LastsTo run c stays p [] 0
+lasts_yet run c stays p = record { long = refl; each = λ k stay lt at. absurd (omega arith) }
+
+pub lasts_more : (run : List Log) (c : RingId) (stays : List Stay) (p : ℕ) (lasts more : List ℕ) (n last : ℕ) (stay : Stay) → slice_get stays n ≡ Some stay → IsBeyond run c p stay.proc last → more ≡ lasts ++ last ∷ [] → LastsTo run c stays p lasts n
+    → LastsTo run c stays p more (n + 1)
+lasts_more run c stays p lasts more n last stay at here is before = record {
+  long = (let l : length more ≡ length lasts + 1 = rw is (length-append lasts (last ∷ [])) in let b = before.long in omega arith);
+  each = λ k s lt at_k. elim (less_or_not k n) [
+    | inl under ↦ (let keep : get_or more k 0 ≡ get_or lasts k 0 = rw is (get_or-append lasts (last ∷ []) 0 k (let b = before.long in omega arith)) in rw keep (before.each k s under at_k))
+    | inr rest ↦ elim rest [ inl over ↦ absurd (omega arith) | inr same ↦ at_n k s same at_k ]
+  ];
+}
+  where
+    at_n : (k : ℕ) (s : Stay) → k ≡ n → slice_get stays k ≡ Some s → IsBeyond run c p s.proc (get_or more k 0)
+    at_n k s same at_k =
+        let is_stay : s ≡ stay = (let there : slice_get stays n ≡ Some s = rw same at at_k in cc) in
+        let value : get_or more k 0 ≡ last = rw is (get_or_push lasts last 0 k (before.long ∙ sym same)) in
+        rw (value, is_stay) here
+
+pub lasts_whole : (run : List Log) (c : RingId) (stays : List Stay) (p : ℕ) (lasts : List ℕ) (n : ℕ) → length stays ≡ n → LastsTo run c stays p lasts n → AreLasts run c stays p lasts
+lasts_whole run c stays p lasts n end to = record { long = end ∙ sym to.long; each = λ k stay at. to.each k stay (omega (arith, end, slice_get_within stays k stay at)) at }
+
+-- the first n stays are settled
+pub record SettledTo (run : List Log) (c : RingId) (stays : List Stay) (p : ℕ) (m : MsgId) (i n : ℕ) : Type 0 where
+  pub each : (k : ℕ) (stay : Stay) → k < n → slice_get stays k ≡ Some stay → IsBeyond run c p stay.proc i ⊎ HasDelivered (log_of run stay.proc) c m
+
+pub settled_yet : (run : List Log) (c : RingId) (stays : List Stay) (p : ℕ) (m : MsgId) (i : ℕ) → SettledTo run c stays p m i 0
+settled_yet run c stays p m i = record { each = λ k stay lt at. absurd (omega arith) }
+
+pub settled_more : (run : List Log) (c : RingId) (stays : List Stay) (p : ℕ) (m : MsgId) (i n : ℕ) (lasts : List ℕ) (stay : Stay) → AreLasts run c stays p lasts → slice_get stays n ≡ Some stay → (get_or lasts n 0 ≤ i) ⊎ HasDelivered (log_of run stay.proc) c m
+    → SettledTo run c stays p m i n → SettledTo run c stays p m i (n + 1)
+settled_more run c stays p m i n lasts stay known at up before = record {
+  each = λ k s lt at_k. elim (less_or_not k n) [
+    | inl under ↦ before.each k s under at_k
+    | inr rest ↦ elim rest [ inl over ↦ absurd (omega arith) | inr same ↦ at_n k s same at_k ]
+  ];
+}
+  where
+    at_n : (k : ℕ) (s : Stay) → k ≡ n → slice_get stays k ≡ Some s → IsBeyond run c p s.proc i ⊎ HasDelivered (log_of run s.proc) c m
+    at_n k s same at_k =
+        let is_stay : s ≡ stay = (let there : slice_get stays n ≡ Some s = rw same at at_k in cc) in
+        rw is_stay (elim up [ inl le ↦ inl (beyond_later run c p stay.proc (get_or lasts n 0) i le (known.each n stay at)) | inr has ↦ inr has ])
+
+pub settled_whole : (run : List Log) (c : RingId) (stays : List Stay) (p : ℕ) (m : MsgId) (i n : ℕ) → length stays ≤ n → SettledTo run c stays p m i n → IsSettled run c stays p m i
+settled_whole run c stays p m i n end to = record { each = λ stay among. to.each among.at stay (omega (arith, slice_get_within stays among.at stay among.stands)) among.stands }
+
+-- no gap begins at a message that is settled
+pub none_settled : (run : List Log) (c : RingId) (stays : List Stay) (m : MsgId) (d : ConfId) (p i : ℕ) → Facts run c stays → slice_get (log_of run p) i ≡ Some (Deliver m d) → IsSettled run c stays p m i → NoneFrom (BreaksGapIn run c) p i
+none_settled run c stays m d p i facts at settled = nothing_here (BreaksGapIn run c) p i (λ rest h. let g = gap_at run c p i rest h in go g.0 g.1 g.2 g.4)
+  where
+    go : (j q k : ℕ) → IsGap run c p i j q k → ⊥
+    go j q k (o, n, x, y, s, l, (z, at', b'), later, lt, at_k, belongs, send, member, lacks) =
+        let same : o ≡ m = cc in
+        let t = facts.inside q k x (Deliver n x, at_k, refl) belongs in
+        elim (settled.each t.stay t.among) [
+          | inl beyond ↦ (let there : HasDelivered (log_of run q) c n = (k, (x, at_k, belongs)) in (beyond.each j lt).never n later (rw (← t.proc) at there))
+          | inr has ↦ lacks (rw (same, ← t.proc) has)
+        ]

@@ -1,0 +1,116 @@
+-- From what each job finds to the faults of the pass.
+use Rattle.std.proofs.Common.{◌≡◌, ◌<◌, ◌+◌, ℕ, inl, inr, List, [], ◌∷◌, ◌++◌, length, take, slice_get, Option, Some, None, refl, ap, arith}
+use Rattle.std.proofs.Common.{◌≤◌, zero, suc, Result, Ok, Err, IfOk}
+use Rattle.std.specs.Prelude.{slice_index_or}
+use Rattle.std.proofs.lemmas.List.{take_more, take_all, length-append}
+use Rattle.std.proofs.lemmas.Option.{slice_get_cases, slice_get_read}
+use Rattle.totem_ids.specs.declared.ring.RingId.{RingId}
+use Rattle.totem_ids.specs.declared.place.Place.{Place}
+use Rattle.totem_evs.specs.declared.log.Log.{Log}
+use Rattle.totem_evs.specs.declared.fault.Fault.{Fault}
+use Rattle.totem_evs.specs.declared.spec.SpecNo.{SpecNo}
+use Rattle.totem_evs.specs.declared.spec.SpecNo.TheVariants as spec
+use Rattle.totem_evs.specs.Answers.{FindsIn, ListsRings, ListsEach, ListsConfigurations, AreRings, specs_d}
+use Rattle.totem_table.specs.Search.{listed}
+use Rattle.totem_pass_d.specs.declared.findings.Findings.{Findings}
+use Rattle.totem_pass_d.specs.declared.pass.Found.{Found}
+use Rattle.totem_pass_d.specs.declared.pass.Judged.{Judged}
+use Rattle.totem_pass_d.specs.declared.complete.Complete.{Complete}
+use Rattle.totem_pass_d.specs.Completeness.{AreCompleteIn}
+use Rattle.totem_pass_d.specs.Findings.{AreFindings, IsNothing, GrowsBy, AreComplete, AreFound, all_found}
+use Rattle.totem_pass_d.specs.Jobs.{AreFindingsAt}
+
+one_more : (run : List Log) (k : SpecNo) (cs : List RingId) (c : RingId) (fs : List Fault) (found : Option (List Place)) → ListsRings run k cs fs → FindsIn run c k found → ListsRings run k (cs ++ c ∷ []) (fs ++ listed k found)
+one_more run k [] c fs None is meets = rw is (inl (meets, refl))
+one_more run k [] c fs (Some places) is least = rw is (inr (places, [], refl, least, refl))
+one_more run k (b ∷ cs) c fs found (inl (meets, more)) h = inl (meets, one_more run k cs c fs found more h)
+one_more run k (b ∷ cs) c fs found (inr (places, rest, is, least, more)) h = inr (places, rest ++ listed k found, rw is refl, least, one_more run k cs c rest found more h)
+
+-- who is complete in one more configuration
+more_complete : (run : List Log) (cs : List RingId) (c : RingId) (those : List Complete) (of : Complete) → length those ≡ length cs → AreCompleteIn run c of → AreComplete run cs those
+    → (k : ℕ) (d : RingId) (here : Complete) → slice_get (cs ++ c ∷ []) k ≡ Some d → slice_get (those ++ of ∷ []) k ≡ Some here → AreCompleteIn run d here
+more_complete run [] c [] of long is h zero d here at told = (let same : c ≡ d = cc in let alike : of ≡ here = cc in rw (same, alike) at is)
+more_complete run [] c [] of long is h (suc k) d here at told = absurd cc
+more_complete run [] c (y ∷ those) of long is h k d here at told = absurd (omega (arith, long))
+more_complete run (x ∷ cs) c [] of long is h k d here at told = absurd (omega (arith, long))
+more_complete run (x ∷ cs) c (y ∷ those) of long is h zero d here at told = h.each zero d here at told
+more_complete run (x ∷ cs) c (y ∷ those) of long is h (suc k) d here at told = more_complete run cs c those of (omega (arith, long)) is (record { each = λ j e other at_e told_e. h.each (suc j) e other at_e told_e }) k d here at told
+
+one_longer : (cs : List RingId) (c : RingId) (those : List Complete) (of : Complete) → length those ≡ length cs → length (those ++ of ∷ []) ≡ length (cs ++ c ∷ [])
+one_longer cs c those of long = omega (arith, length-append those (of ∷ []), length-append cs (c ∷ []), long)
+
+pub nothing_found : (run : List Log) (found : Found) → IsNothing found → AreFound run [] found
+nothing_found run found h = record {
+  own = h.own;
+  atomicity = h.atomicity;
+  causality = h.causality;
+  gap = h.gap;
+  safety = h.safety;
+  installed = h.installed;
+  long = rw h.complete refl;
+  complete = record { each = λ k c those at told. absurd cc };
+}
+
+pub found_more : (run : List Log) (cs : List RingId) (c : RingId) (old new : Found) (findings : Findings) → AreFindings run c findings → GrowsBy old findings new → AreFound run cs old → AreFound run (cs ++ c ∷ []) new
+found_more run cs c old new findings h grows before = record {
+  own = rw grows.own (one_more run spec.OwnDelivery cs c old.own.items findings.own before.own h.own);
+  atomicity = rw grows.atomicity (one_more run spec.Atomicity cs c old.atomicity.items findings.atomicity before.atomicity h.atomicity);
+  causality = rw grows.causality (one_more run spec.Causality cs c old.causality.items findings.causality before.causality h.causality);
+  gap = rw grows.gap (one_more run spec.Gap cs c old.gap.items findings.gap before.gap h.gap);
+  safety = rw grows.safety (one_more run spec.Safety cs c old.safety.items findings.safety before.safety h.safety);
+  installed = rw grows.installed (one_more run spec.Installed cs c old.installed.items findings.installed before.installed h.installed);
+  long = rw grows.complete (one_longer cs c old.complete.items findings.complete before.long);
+  complete = rw grows.complete (record { each = more_complete run cs c old.complete.items findings.complete before.long h.complete before.complete });
+}
+
+nil_behind : (fs : List Fault) → fs ≡ fs ++ []
+nil_behind [] = refl
+nil_behind (f ∷ fs) = ap (λ (gs : List Fault). f ∷ gs) (nil_behind fs)
+
+each_found : (run : List Log) (rings : List RingId) (found : Found) → AreFound run rings found → ListsEach run rings specs_d (all_found found)
+each_found run rings found h = (
+  found.own.items,
+  found.atomicity.items ++ (found.causality.items ++ (found.gap.items ++ (found.safety.items ++ found.installed.items))),
+  refl,
+  h.own,
+  (
+    found.atomicity.items,
+    found.causality.items ++ (found.gap.items ++ (found.safety.items ++ found.installed.items)),
+    refl,
+    h.atomicity,
+    (
+      found.causality.items,
+      found.gap.items ++ (found.safety.items ++ found.installed.items),
+      refl,
+      h.causality,
+      (found.gap.items, found.safety.items ++ found.installed.items, refl, h.gap, (found.safety.items, found.installed.items, refl, h.safety, (found.installed.items, [], nil_behind found.installed.items, h.installed, refl))),
+    ),
+  ),
+)
+
+pub all_listed : (run : List Log) (rings : List RingId) (found : Found) (faults : List Fault) → AreRings run rings → AreFound run rings found → faults ≡ all_found found → ListsConfigurations run faults
+all_listed run rings found faults are h is = record { rings = rings; are = are; lists = rw is (each_found run rings found h) }
+
+-- what the job at an index finds, from what was found in its configuration
+pub findings_at : (run : List Log) (rings : List RingId) (i : ℕ) (c of : RingId) (logs : List Log) (findings : Findings) → i < length rings → c ≡ slice_index_or rings i c → logs ≡ run → of ≡ c
+    → AreFindings logs of findings → AreFindingsAt run rings i findings
+findings_at run rings i c of logs findings lt read same ring h = record {
+  at = λ b is. let here : slice_get rings i ≡ Some c = slice_get_read rings (length rings) i c refl lt read in let b_is : b ≡ c = cc in rw b_is (rw (same, ring) at h);
+}
+
+pub found_next : (run : List Log) (rings : List RingId) (i : ℕ) (old new : Found) (findings : Findings) → i < length rings → AreFindingsAt run rings i findings → GrowsBy old findings new → AreFound run (take i rings) old
+    → AreFound run (take (i + 1) rings) new
+found_next run rings i old new findings lt h grows before = elim (slice_get_cases rings i).1 [
+  | inl (c, within, is, read) ↦ rw (take_more rings i c lt, read) (found_more run (take i rings) c old new findings (h.at c is) grows before)
+  | inr (past, none) ↦ absurd (omega arith)
+]
+
+pub all_found_of : (run : List Log) (rings : List RingId) (i : ℕ) (found : Found) {E : Type 0} → (r : Result Judged E) → AreRings run rings → length rings ≤ i → AreFound run (take i rings) found
+    → IfOk r (λ judged. judged.faults.items ≡ all_found found) → IfOk r (λ judged. ListsConfigurations run judged.faults.items)
+all_found_of run rings i found (Err e) are end h is = tt
+all_found_of run rings i found (Ok judged) are end h is = all_listed run rings found judged.faults.items are (rw (take_all i rings end) at h) is
+
+pub all_complete_of : (run : List Log) (rings : List RingId) (i : ℕ) (found : Found) {E : Type 0} → (r : Result Judged E) → length rings ≤ i → AreFound run (take i rings) found
+    → IfOk r (λ judged. judged.complete.items ≡ found.complete.items) → IfOk r (λ judged. AreComplete run rings judged.complete.items)
+all_complete_of run rings i found (Err e) end h is = tt
+all_complete_of run rings i found (Ok judged) end h is = (let all : AreFound run rings found = rw (take_all i rings end) at h in rw is all.complete)

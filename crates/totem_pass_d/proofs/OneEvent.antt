@@ -1,0 +1,62 @@
+-- Relations on lists of one event.
+use Rattle.std.proofs.Common.{◌≡◌, ℕ, ◌+◌, List, [], ◌∷◌, Result, Ok, Err, Option, Some, None, IfOk, MatchOption, refl, ap, arith}
+use Rattle.totem_ids.specs.declared.ring.RingId.{RingId}
+use Rattle.totem_ids.specs.declared.place.Place.{Place}
+use Rattle.totem_evs.specs.declared.log.Log.{Log}
+use Rattle.totem_evs.specs.declared.spec.SpecNo.{SpecNo}
+use Rattle.totem_evs.specs.Places.{At}
+use Rattle.totem_evs.specs.Answers.{IsLeast, FindsIn}
+use Rattle.totem_evs.specs.RingFaults.{BreaksIn, MeetsIn}
+use Rattle.totem_table.specs.Search.{place, NoneFrom, IsLeastFrom, HoldsOfNone}
+use Rattle.totem_pass_d.specs.declared.stay.Stay.{Stay}
+use Rattle.totem_pass_d.specs.Search.{IsOneEvent, EachStandsInside, IsInside, BeginsWithin, EachBeginsWithin}
+
+pub none_here : (Fact : ℕ → ℕ → Type 0) (p i : ℕ) → (Fact p i → ⊥) → NoneFrom (IsOneEvent Fact) p i
+none_here Fact p i never = record { none = λ rest h. go rest h }
+  where
+    go : (rest : List Place) → IsOneEvent Fact (place p i ∷ rest) → ⊥
+    go [] at = let same : at.0 ≡ i = omega (arith, at.1) in never (rw same at at.2)
+    go (f ∷ more) h = h
+
+pub is_here : (Fact : ℕ → ℕ → Type 0) (p i : ℕ) → Fact p i → IsLeastFrom (IsOneEvent Fact) p i []
+is_here Fact p i fact = record { least = record { holds = (i, refl, fact); first = λ others h. tt } }
+
+place_is : (e : Place) (p i : ℕ) → p ≡ e.proc → e.at ≡ i + 1 → e ≡ place p i
+place_is e p i proc at = rw (proc, ← at) refl
+
+pub begins_inside : (Fact : ℕ → ℕ → Type 0) (stays : List Stay) → EachStandsInside stays Fact → EachBeginsWithin stays IsInside (IsOneEvent Fact)
+begins_inside Fact stays stand = record { each = λ places h. go places h }
+  where
+    go : (places : List Place) → IsOneEvent Fact places → BeginsWithin stays IsInside places
+    go [] h = absurd h
+    go (e ∷ []) at =
+        let s = stand.each e.proc at.0 at.2 in
+        record { stay = s.stay; among = s.among; index = at.0; reached = s.inside; rest = []; is = ap (λ (f : Place). f ∷ []) (place_is e s.stay.proc at.0 s.proc at.1) }
+    go (e ∷ f ∷ more) h = absurd h
+
+-- it holds of lists of one event alone, of those that have the fact
+pub record IsOfOne (H : List Place → Type 0) (Fact : ℕ → ℕ → Type 0) : Type 0 where
+  pub empty : H [] → ⊥
+  pub one : (e : Place) → H (e ∷ []) → At e Fact
+  pub is : (e : Place) → At e Fact → H (e ∷ [])
+  pub many : (e f : Place) (more : List Place) → H (e ∷ f ∷ more) → ⊥
+
+least_of_one : (H : List Place → Type 0) (Fact : ℕ → ℕ → Type 0) (places : List Place) → IsOfOne H Fact → IsLeast (IsOneEvent Fact) places → IsLeast H places
+least_of_one H Fact places of least = record { holds = to places least.holds; first = λ others h. least.first others (from others h) }
+  where
+    to : (list : List Place) → IsOneEvent Fact list → H list
+    to [] h = absurd h
+    to (e ∷ []) h = of.is e h
+    to (e ∷ f ∷ more) h = absurd h
+
+    from : (list : List Place) → H list → IsOneEvent Fact list
+    from [] h = of.empty h
+    from (e ∷ []) h = of.one e h
+    from (e ∷ f ∷ more) h = of.many e f more h
+
+-- what a search for one event answers of a specification
+pub finds_event : {F : Type 0} (run : List Log) (c : RingId) (k : SpecNo) (r : Result (Option (List Place)) F) (Fact : ℕ → ℕ → Type 0) → IsOfOne (BreaksIn run c k) Fact → (((p i : ℕ) → Fact p i → ⊥) → MeetsIn run c k)
+    → IfOk r (λ found. MatchOption found (HoldsOfNone (IsOneEvent Fact)) (IsLeast (IsOneEvent Fact))) → IfOk r (FindsIn run c k)
+finds_event run c k (Err e) Fact of meets h = tt
+finds_event run c k (Ok None) Fact of meets h = meets (λ p i fact. h.none (place p i ∷ []) (i, refl, fact))
+finds_event run c k (Ok (Some ps)) Fact of meets h = least_of_one (BreaksIn run c k) Fact ps of h

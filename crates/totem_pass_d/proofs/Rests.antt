@@ -1,0 +1,75 @@
+-- How lists of places go on.
+use Rattle.std.proofs.Common.{◌≡◌, ℕ, zero, suc, ◌+◌, List, [], ◌∷◌, slice_get, Option, Some, None, Result, Ok, Err, IfOk, MatchOption, refl, ap, add-one, arith}
+use Rattle.std.specs.declared.alloc.AllocError.{AllocError}
+use Rattle.totem_ids.specs.declared.ring.RingId.{RingId}
+use Rattle.totem_ids.specs.declared.conf.ConfId.{ConfId}
+use Rattle.totem_ids.specs.declared.message.MsgId.{MsgId}
+use Rattle.totem_ids.specs.declared.place.Place.{Place}
+use Rattle.totem_evs.specs.declared.entry.Entry.{Entry}
+use Rattle.totem_evs.specs.declared.log.Log.{Log}
+use Rattle.totem_evs.specs.Events.{at_place, entry_at, log_of, Sends}
+use Rattle.totem_evs.specs.Changes.{Names}
+use Rattle.totem_evs.specs.Following.{Com}
+use Rattle.totem_evs.specs.Steps.{SendsAt}
+use Rattle.totem_evs.specs.declared.spec.SpecNo.{SpecNo}
+use Rattle.totem_evs.specs.RingFaults.{BreaksIn, MeetsIn}
+use Rattle.totem_evs.specs.Answers.{IsLeast, FindsIn}
+use Rattle.totem_table.specs.Search.{place, NoneFrom, IsLeastFrom, HoldsOfNone}
+use Rattle.totem_pass_d.specs.declared.stay.Stay.{Stay}
+use Rattle.totem_pass_d.specs.Search.{IsLeastWithin, IsInside, BeginsWithin}
+use Rattle.totem_pass_d.proofs.Facts.{Facts}
+
+-- what holds of a list and what holds of the rest after a place
+pub none_rest : (A B : List Place → Type 0) (p i : ℕ) → ((rest : List Place) → B (place p i ∷ rest) → A rest) → HoldsOfNone A → NoneFrom B p i
+none_rest A B p i from none = record { none = λ rest h. none.none rest (from rest h) }
+
+pub least_rest : (A B : List Place → Type 0) (p i : ℕ) (rest : List Place) → ((rest : List Place) → A rest → B (place p i ∷ rest)) → ((rest : List Place) → B (place p i ∷ rest) → A rest) → IsLeast A rest → IsLeastFrom B p i rest
+least_rest A B p i rest to from least = record { least = record { holds = to rest least.holds; first = λ others h. least.first others (from others h) } }
+
+pub nothing_here : (B : List Place → Type 0) (p i : ℕ) → ((rest : List Place) → B (place p i ∷ rest) → ⊥) → NoneFrom B p i
+nothing_here B p i never = record { none = never }
+
+-- the one index of a stay at which a list may begin
+pub only_here : (Reaches : Stay → ℕ → Type 0) (H : List Place → Type 0) (stay : Stay) (k : ℕ) (places : List Place) → H (place stay.proc k ∷ []) → ((i : ℕ) (rest : List Place) → H (place stay.proc i ∷ rest) → i ≡ k)
+    → places ≡ place stay.proc k ∷ [] → IsLeastWithin Reaches H stay places
+only_here Reaches H stay k places holds one is = record {
+  at = k;
+  rest = [];
+  is = is;
+  least = record { least = record { holds = holds; first = λ others h. tt } };
+  none_before = record { none = λ i rest lt reached h. let same = one i rest h in omega arith };
+}
+
+-- what a search answers for a specification
+pub answered : (r : Result (Option (List Place)) AllocError) (run : List Log) (c : RingId) (k : SpecNo) → (HoldsOfNone (BreaksIn run c k) → MeetsIn run c k)
+    → IfOk r (λ found. MatchOption found (HoldsOfNone (BreaksIn run c k)) (IsLeast (BreaksIn run c k))) → IfOk r (FindsIn run c k)
+answered (Err e) run c k meets h = tt
+answered (Ok None) run c k meets h = meets h
+answered (Ok (Some x)) run c k meets h = h
+
+-- what stands at a place
+at_next : (log : List Entry) (i : ℕ) → at_place log (i + 1) ≡ slice_get log i
+at_next log i = rw add-one refl
+
+pub sends_there : (run : List Log) (p i : ℕ) (m : MsgId) (x : ConfId) → SendsAt run (place p i) m x → Sends (log_of run p) i m x
+sends_there run p i m x (s, at) = (s, rw at_next at at)
+
+pub there_sends : (run : List Log) (p i : ℕ) (m : MsgId) (x : ConfId) → Sends (log_of run p) i m x → SendsAt run (place p i) m x
+there_sends run p i m x (s, at) = (s, rw at_next at)
+
+-- an event stands somewhere in its log
+pub index_of : (run : List Log) (e : Place) (x : Entry) → entry_at run e ≡ Some x → (i : ℕ) × (e ≡ place e.proc i) × (slice_get (log_of run e.proc) i ≡ Some x)
+index_of run e x at = go e.at refl at
+  where
+    named : (n : ℕ) → e.at ≡ n → e ≡ record { proc = e.proc; at = n }
+    named n is = rw (← is) refl
+
+    go : (n : ℕ) → e.at ≡ n → at_place (log_of run e.proc) n ≡ Some x → (i : ℕ) × (e ≡ place e.proc i) × (slice_get (log_of run e.proc) i ≡ Some x)
+    go zero h k = absurd cc
+    go (suc i) h k = (i, rw add-one (named (suc i) h), k)
+
+-- a list begins at an entry that names c or what follows it
+pub begins_at : (run : List Log) (c : RingId) (stays : List Stay) (e : Place) (i : ℕ) (x : ConfId) (rest : List Place) → Facts run c stays → e ≡ place e.proc i → Names (log_of run e.proc) i x → Com (log_of run e.proc) c x → BeginsWithin stays IsInside (e ∷ rest)
+begins_at run c stays e i x rest facts is names belongs =
+    let s = facts.inside e.proc i x names belongs in
+    record { stay = s.stay; among = s.among; index = i; reached = s.inside; rest = rest; is = rw s.proc (ap (λ (f : Place). f ∷ rest) is) }

@@ -1,0 +1,101 @@
+-- What is found stay by stay is the least of all.
+use Rattle.std.proofs.Common.{◌≡◌, ℕ, ◌+◌, ◌<◌, ◌≤◌, inl, inr, List, ◌∷◌, length, slice_get, Some, refl, sym, ap, arith}
+use Rattle.std.proofs.lemmas.Option.{slice_get_within, get_or_from_slice_get}
+use Rattle.totem_ids.specs.declared.ring.RingId.{RingId}
+use Rattle.totem_ids.specs.declared.place.Place.{Place}
+use Rattle.totem_evs.specs.declared.log.Log.{Log}
+use Rattle.totem_evs.specs.Answers.{ComesFirst, IsLeast, MeetsPasses}
+use Rattle.totem_table.specs.Search.{place, NoneFrom, IsLeastFrom, HoldsOfNone}
+use Rattle.totem_evs.proofs.LogOf.{less_or_not}
+use Rattle.totem_pass_d.specs.declared.stay.Stay.{Stay}
+use Rattle.totem_pass_d.specs.Stays.{AreStays, IsStayOf}
+use Rattle.totem_pass_d.specs.Acts.{IsAmong}
+use Rattle.totem_pass_d.proofs.KnownStays.{meets, stays}
+use Rattle.totem_pass_d.specs.Search.{IsInside, EachBeginsWithin, NoneBelow, NoneWithin, IsLeastWithin, IsShort}
+
+-- index by index
+pub none_inside_yet : (H : List Place → Type 0) (stay : Stay) → NoneBelow IsInside H stay (stay.from + 1)
+none_inside_yet H stay = record { none = λ i rest lt inside h. let after = inside.after in omega arith }
+
+pub none_inside_more : (H : List Place → Type 0) (stay : Stay) (n : ℕ) → NoneFrom H stay.proc n → NoneBelow IsInside H stay n → NoneBelow IsInside H stay (n + 1)
+none_inside_more H stay n here before = record {
+  none = λ i rest lt inside h. elim (less_or_not i n) [
+    | inl under ↦ before.none i rest under inside h
+    | inr more ↦ elim more [ inl over ↦ omega arith | inr same ↦ here.none rest (rw same at h) ]
+  ];
+}
+
+pub none_inside : (H : List Place → Type 0) (stay : Stay) (n : ℕ) → stay.end ≤ n → NoneBelow IsInside H stay n → NoneWithin IsInside H stay
+none_inside H stay n end before = record { none = λ i rest inside h. let until = inside.until in before.none i rest (omega arith) inside h }
+
+pub least_inside : (H : List Place → Type 0) (stay : Stay) (n : ℕ) (rest places : List Place) → places ≡ place stay.proc n ∷ rest → IsLeastFrom H stay.proc n rest → NoneBelow IsInside H stay n → IsLeastWithin IsInside H stay places
+least_inside H stay n rest places is least before = record { at = n; rest = rest; is = is; least = least; none_before = before }
+
+-- stay by stay: it holds of no list that begins in a stay before the k-th
+pub record NoneBefore (stays : List Stay) (Reaches : Stay → ℕ → Type 0) (H : List Place → Type 0) (k : ℕ) : Type 0 where
+  pub none : (j i : ℕ) (stay : Stay) (rest : List Place) → j < k → slice_get stays j ≡ Some stay → Reaches stay i → H (place stay.proc i ∷ rest) → ⊥
+
+pub none_before_yet : (stays : List Stay) (Reaches : Stay → ℕ → Type 0) (H : List Place → Type 0) → NoneBefore stays Reaches H 0
+none_before_yet stays Reaches H = record { none = λ j i stay rest lt at reached h. omega arith }
+
+same_stay : (stays : List Stay) (j k : ℕ) (a b : Stay) → slice_get stays j ≡ Some a → slice_get stays k ≡ Some b → j ≡ k → a ≡ b
+same_stay stays j k a b at_j at_k same = let at : slice_get stays k ≡ Some a = rw same at at_j in cc
+
+pub none_before_more : (stays : List Stay) (Reaches : Stay → ℕ → Type 0) (H : List Place → Type 0) (k : ℕ) (stay : Stay) → slice_get stays k ≡ Some stay → NoneWithin Reaches H stay → NoneBefore stays Reaches H k → NoneBefore stays Reaches H (k + 1)
+none_before_more stays Reaches H k stay at here before = record {
+  none = λ j i other rest lt at_j reached h. elim (less_or_not j k) [
+    | inl under ↦ before.none j i other rest under at_j reached h
+    | inr more ↦ elim more [
+      | inl over ↦ omega arith
+      | inr same ↦ let one = same_stay stays j k other stay at_j at same in here.none i rest (rw one at reached) (rw one at h)
+    ]
+  ];
+}
+
+pub none_at_end : (stays : List Stay) (Reaches : Stay → ℕ → Type 0) (H : List Place → Type 0) (k : ℕ) → length stays ≤ k → EachBeginsWithin stays Reaches H → NoneBefore stays Reaches H k → HoldsOfNone H
+none_at_end stays Reaches H k end begins before = record {
+  none = λ places h. let b = begins.each places h in
+      before.none b.among.at b.index b.stay b.rest (omega (arith, slice_get_within stays b.among.at b.stay b.among.stands)) b.among.stands b.reached (rw b.is at h);
+}
+
+-- of two stays, the earlier is that of the lesser process
+rises : (run : List Log) (c : RingId) (stays : List Stay) (j k : ℕ) (a b : Stay) → AreStays run c stays → slice_get stays j ≡ Some a → slice_get stays k ≡ Some b → j < k → a.proc < b.proc
+rises run c stays j k a b are at_j at_k lt =
+    let h = are.rising j k a lt (slice_get_within stays k b at_k) in
+    rw (get_or_from_slice_get stays j a a at_j, get_or_from_slice_get stays k b a at_k) at h
+
+pub stay_of : (run : List Log) (c : RingId) (stays : List Stay) (stay : Stay) → AreStays run c stays → IsAmong stays stay → IsStayOf run c stay
+stay_of run c stays stay are among =
+    let h = are.each among.at stay (slice_get_within stays among.at stay among.stands) in
+    rw (get_or_from_slice_get stays among.at stay stay among.stands) at h
+
+pub short : (run : List Log) (c : RingId) (stays : List Stay) (stay : Stay) → ∥ MeetsPasses run ∥₁ → ∥ AreStays run c stays ∥₁ → IsAmong stays stay → IsShort stay
+short run c list stay met known among =
+    let of = stay_of run c list stay (stays run c list (meets run met) known) among in
+    let few = of.few in let before = of.is.before in let until = of.is.until in let within = of.is.within in
+    record { some = omega arith; few = omega arith }
+
+pub least_here : (run : List Log) (c : RingId) (stays : List Stay) (Reaches : Stay → ℕ → Type 0) (H : List Place → Type 0) (k : ℕ) (stay : Stay) (places : List Place) → AreStays run c stays → slice_get stays k ≡ Some stay
+    → EachBeginsWithin stays Reaches H → IsLeastWithin Reaches H stay places → NoneBefore stays Reaches H k → IsLeast H places
+least_here run c stays Reaches H k stay places are at begins here before = record {
+  holds = rw here.is here.least.least.holds;
+  first = λ others h. let b = begins.each others h in rw (here.is, b.is) (go b.stay b.among b.index b.reached b.rest (rw b.is at h));
+}
+  where
+    in_this : (other : Stay) (i : ℕ) (rest : List Place) → other ≡ stay → Reaches other i → H (place other.proc i ∷ rest) → ComesFirst (place stay.proc here.at ∷ here.rest) (place other.proc i ∷ rest)
+    in_this other i rest one reached h = elim (less_or_not i here.at) [
+      | inl earlier ↦ absurd (here.none_before.none i rest earlier (rw one at reached) (rw one at h))
+      | inr more ↦ elim more [
+        | inl later ↦ inl (inr (ap (λ (s : Stay). s.proc) (sym one), omega arith))
+        | inr same ↦ inr (rw (one, same) refl, here.least.least.first rest (rw (one, same) at h))
+      ]
+    ]
+
+    go : (other : Stay) → IsAmong stays other → (i : ℕ) → Reaches other i → (rest : List Place) → H (place other.proc i ∷ rest) → ComesFirst (place stay.proc here.at ∷ here.rest) (place other.proc i ∷ rest)
+    go other among i reached rest h = elim (less_or_not among.at k) [
+      | inl under ↦ absurd (before.none among.at i other rest under among.stands reached h)
+      | inr more ↦ elim more [
+        | inl over ↦ inl (inl (rises run c stays k among.at stay other are at among.stands over))
+        | inr same ↦ in_this other i rest (same_stay stays among.at k other stay among.stands at same) reached h
+      ]
+    ]

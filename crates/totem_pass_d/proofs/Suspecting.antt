@@ -1,0 +1,269 @@
+-- From walks back along the logs to the messages for which 5 may be broken.
+use Rattle.std.proofs.Common.{◌≡◌, ◌⊎◌, ℕ, zero, suc, ◌+◌, ◌<◌, ◌≤◌, inl, inr, List, [], ◌∷◌, length, slice_get, Some, Bool, true, false, IsTrue, nat_lt, refl, sym, ◌∙◌, subst, arith}
+use Rattle.std.specs.Bool.{OnTrue}
+use Rattle.std.specs.declared.cmp.Ordering.{Ordering}
+use Rattle.std.specs.BTreeSet.{BTreeSet}
+use Rattle.std.specs.BTreeSet as sorted
+use Rattle.std.proofs.lemmas.Grind.{not_there}
+use Rattle.std.proofs.lemmas.Map.Lookups.{CmpEqualImpliesEq}
+use Rattle.std.proofs.lemmas.Option.{slice_get_within}
+use Rattle.totem_ids.specs.declared.ring.RingId.{RingId}
+use Rattle.totem_ids.specs.declared.conf.ConfId.{ConfId}
+use Rattle.totem_ids.specs.declared.conf.ConfId.TheVariants.{Regular}
+use Rattle.totem_ids.specs.declared.message.MsgId.{MsgId}
+use Rattle.totem_ids.specs.declared.message.Service.{Service}
+use Rattle.totem_ids.specs.declared.place.Place.{Place}
+use Rattle.totem_evs.specs.declared.entry.Entry.{Entry}
+use Rattle.totem_evs.specs.declared.entry.Entry.TheVariants.{Conf, Send, Deliver, Fail}
+use Rattle.totem_evs.specs.declared.log.Log.{Log}
+use Rattle.totem_evs.specs.Events.{log_of, entry_at, at_place, Delivers}
+use Rattle.totem_evs.specs.Changes.{Names}
+use Rattle.totem_evs.specs.Following.{DeliversIn}
+use Rattle.totem_evs.specs.RingFaults.{BreaksCausalityIn}
+use Rattle.totem_evs.proofs.LogOf.{less_or_not}
+use Rattle.totem_table.specs.Search.{place, NoneFrom}
+use Rattle.totem_ids.proofs.Exact.{equal_at, apart_or_at}
+use Rattle.totem_pass_d.specs.declared.stay.Stay.{Stay}
+use Rattle.totem_pass_d.specs.Acts.{IsAmong, DeliversHere, DeliversNot}
+use Rattle.totem_pass_d.specs.Suspects.{Handles, HandlesNothing, ComesBefore, ComesNotBefore, IsEarlier, IsSuspect, HasAllOf, IsNoted, AreNotedFrom, AreNoted, AllNoted, AreSuspects}
+use Rattle.totem_pass_d.proofs.Facts.{Facts, StayFacts, here_delivers}
+use Rattle.totem_pass_d.proofs.Rests.{nothing_here, sends_there}
+use Rattle.totem_pass_d.proofs.CausalityFaults.{one_delivery_in, not_delivered_in}
+use Rattle.totem_pass_d.proofs.GapFaults.{delivery_inside}
+
+-- ---- one entry
+
+handles_one : (e : Entry) (m n : MsgId) → Handles e m → Handles e n → m ≡ n
+handles_one (Conf x ms) m n a b = absurd a
+handles_one (Send k x s) m n a b = sym a ∙ b
+handles_one (Deliver k x) m n a b = sym a ∙ b
+handles_one (Fail x) m n a b = absurd a
+
+pub sends_nothing : (run : List Log) (c : RingId) (q : ℕ) (e : Entry) (early : ℕ) → ((m : MsgId) (x : ConfId) (s : Service) → e ≡ Send m x s → ⊥) → IsEarlier run c q e early early
+sends_nothing run c q e early other = record { no_later = omega arith; each = λ n x s k is h. absurd (other n x s is) }
+
+pub undelivered : (run : List Log) (c : RingId) (stay : Stay) (e : Entry) (m : MsgId) (y : ConfId) (v : Service) (early : ℕ) → StayFacts run c stay → e ≡ Send m y v → DeliversNot stay.log.now c m → IsEarlier run c stay.proc e early early
+undelivered run c stay e m y v early of sends not = record {
+  no_later = omega arith;
+  each = λ n x s k is h. (let same : n ≡ m = (let t : Send n x s ≡ Send m y v = sym is ∙ sends in cc) in absurd (not_delivered_in run c stay m of not (k, rw same at h)));
+}
+
+pub delivered_at : (run : List Log) (c : RingId) (stays : List Stay) (stay : Stay) (e : Entry) (m : MsgId) (y : ConfId) (v : Service) (at old new : ℕ) → Facts run c stays → IsAmong stays stay → e ≡ Send m y v → DeliversHere stay m at → new ≤ old → new ≤ at
+    → IsEarlier run c stay.proc e old new
+delivered_at run c stays stay e m y v at old new of among sends here no_later le = record {
+  no_later = no_later;
+  each = λ n x s k is h. (let same : n ≡ m = (let t : Send n x s ≡ Send m y v = sym is ∙ sends in cc) in
+      let one = one_delivery_in run c stays stay.proc at k m of (here_delivers run c stay m at (of.each stay among) here) (rw same at h) in omega arith);
+}
+
+pub comes : (run : List Log) (c : RingId) (stay : Stay) (m : MsgId) (at k : ℕ) → StayFacts run c stay → DeliversHere stay m at → at < k → ComesBefore run c stay.proc m k
+comes run c stay m at k of here lt = record { index = at; before = lt; delivers = here_delivers run c stay m at of here }
+
+pub comes_if_before : (run : List Log) (c : RingId) (stay : Stay) (m : MsgId) (at k : ℕ) → StayFacts run c stay → DeliversHere stay m at → OnTrue (nat_lt at k) (ComesBefore run c stay.proc m k)
+comes_if_before run c stay m at k of here = go (nat_lt at k) refl
+  where
+    go : (b : Bool) → nat_lt at k ≡ b → OnTrue b (ComesBefore run c stay.proc m k)
+    go true e = comes run c stay m at k of here (grind arith)
+    go false e = tt
+
+module _ (cmp : MsgId → MsgId → Ordering) where
+  pub has_itself : (s : BTreeSet MsgId) → HasAllOf cmp s s
+  has_itself s = record { each = λ m has. has }
+
+  pub has_through : (r s t : BTreeSet MsgId) → HasAllOf cmp s r → HasAllOf cmp t s → HasAllOf cmp t r
+  has_through r s t first second = record { each = λ m has. second.each m (first.each m has) }
+
+  pub has_inserted : CmpEqualImpliesEq cmp → (s t : BTreeSet MsgId) (k : MsgId) → sorted.Updates cmp s t k true → HasAllOf cmp t s
+  has_inserted exact s t k h = record {
+    each = λ m has. elim (apart_or_at cmp k m) [
+      | inr apart ↦ h.2 m apart ∙ has
+      | inl here ↦ subst (λ (z : MsgId). IsTrue (sorted.contains cmp t z)) (exact k m (equal_at (cmp k m) here)) h.1
+    ];
+  }
+
+  pub noted_at_end : (s : BTreeSet MsgId) (run : List Log) (c : RingId) (receiver : Stay) (e : Entry) (early : ℕ) → receiver.end ≤ early → IsNoted cmp s run c receiver e early
+  noted_at_end s run c receiver e early end = record { each = λ m lt h never. absurd (omega arith) }
+
+  pub noted_nothing : (s : BTreeSet MsgId) (run : List Log) (c : RingId) (receiver : Stay) (e : Entry) (early : ℕ) → HandlesNothing e → IsNoted cmp s run c receiver e early
+  noted_nothing s run c receiver e early nothing = record { each = λ m lt h never. absurd (nothing.never m h) }
+
+  pub noted_before : (s : BTreeSet MsgId) (run : List Log) (c : RingId) (receiver : Stay) (e : Entry) (m : MsgId) (early : ℕ) → Handles e m → ComesBefore run c receiver.proc m early → IsNoted cmp s run c receiver e early
+  noted_before s run c receiver e m early handles before = record {
+    each = λ n lt h never. (let same : m ≡ n = handles_one e m n handles h in absurd (never before.index before.before (rw same at before.delivers)));
+  }
+
+  pub noted_here : (s t : BTreeSet MsgId) (run : List Log) (c : RingId) (receiver : Stay) (e : Entry) (m : MsgId) (early : ℕ) → Handles e m → sorted.Updates cmp s t m true → IsNoted cmp t run c receiver e early
+  noted_here s t run c receiver e m early handles h = record {
+    each = λ n lt other never. subst (λ (z : MsgId). IsTrue (sorted.contains cmp t z)) (handles_one e m n handles other) h.1;
+  }
+
+-- ---- one walk
+
+-- what the sender sends at i or later the receiver delivers at `early` or later
+pub record Earliest (run : List Log) (c : RingId) (sender receiver : Stay) (i early : ℕ) : Type 0 where
+  pub each : (j k : ℕ) (n : MsgId) (x : ConfId) (service : Service) → i ≤ j → j < sender.turn → slice_get (log_of run sender.proc) j ≡ Some (Send n x service) → DeliversIn (log_of run receiver.proc) c n k → early ≤ k
+
+-- what is known after the entries from `next` on
+pub record SoFar (cmp : MsgId → MsgId → Ordering) (old now : BTreeSet MsgId) (run : List Log) (c : RingId) (sender receiver : Stay) (next early : ℕ) : Type 0 where
+  pub noted : AreNotedFrom cmp now run c sender receiver next
+  pub earliest : Earliest run c sender receiver next early
+  pub kept : HasAllOf cmp now old
+  pub until : next ≤ sender.turn
+
+pub so_far_nothing : (cmp : MsgId → MsgId → Ordering) (s : BTreeSet MsgId) (run : List Log) (c : RingId) (sender receiver : Stay) → SoFar cmp s s run c sender receiver sender.turn receiver.end
+so_far_nothing cmp s run c sender receiver = record {
+  noted = record { each = λ h j k e m n x v from lt until at_h handles at_j d never. absurd (omega arith) };
+  earliest = record { each = λ j k n x v from until at d. absurd (omega arith) };
+  kept = has_itself cmp s;
+  until = omega arith;
+}
+
+pub so_far_more : (cmp : MsgId → MsgId → Ordering) (old now then : BTreeSet MsgId) (run : List Log) (c : RingId) (stays : List Stay) (sender receiver : Stay) (next at early new : ℕ) (entry : Entry) → Facts run c stays → IsAmong stays receiver → next ≡ at + 1
+    → slice_get (log_of run sender.proc) at ≡ Some entry → IsNoted cmp then run c receiver entry early → HasAllOf cmp then now → IsEarlier run c receiver.proc entry early new → SoFar cmp old now run c sender receiver next early
+    → SoFar cmp old then run c sender receiver at new
+so_far_more cmp old now then run c stays sender receiver next at early new entry of among is stands noted has grows before = record {
+  noted = record {
+    each = λ h j k e m n x v from lt until at_h handles at_j d never. elim (less_or_not at h) [
+      | inl under ↦ has.each m (before.noted.each h j k e m n x v (omega arith) lt until at_h handles at_j d never)
+      | inr more ↦ elim more [
+        | inl over ↦ absurd (omega arith)
+        | inr same ↦ here h j k e m n x v (sym same) lt until at_h handles at_j d never
+      ]
+    ];
+  };
+  earliest = record {
+    each = λ j k n x v from until at_j d. elim (less_or_not at j) [
+      | inl under ↦ (let le = before.earliest.each j k n x v (omega arith) until at_j d in let no_later = grows.no_later in omega arith)
+      | inr more ↦ elim more [
+        | inl over ↦ absurd (omega arith)
+        | inr same ↦ (let there : slice_get (log_of run sender.proc) at ≡ Some (Send n x v) = rw (← same) at at_j in let is_send : entry ≡ Send n x v = cc in grows.each n x v k is_send d)
+      ]
+    ];
+  };
+  kept = has_through cmp old now then before.kept has;
+  until = (let until = before.until in omega arith);
+}
+  where
+    here : (h j k : ℕ) (e : Entry) (m n : MsgId) (x : ConfId) (v : Service) → h ≡ at → h < j → j < sender.turn → slice_get (log_of run sender.proc) h ≡ Some e → Handles e m → slice_get (log_of run sender.proc) j ≡ Some (Send n x v)
+        → DeliversIn (log_of run receiver.proc) c n k → ComesNotBefore run c receiver.proc m k → IsSuspect cmp then m
+    here h j k e m n x v same lt until at_h handles at_j d never =
+        let le = before.earliest.each j k n x v (omega arith) until at_j d in
+        let inside = delivery_inside run c stays receiver n k of among d in
+        let below = inside.until in
+        let there : slice_get (log_of run sender.proc) at ≡ Some e = rw same at at_h in
+        let is_entry : e ≡ entry = cc in
+        noted.each m (omega arith) (rw is_entry at handles) (λ l under delivers. never l (omega arith) delivers)
+
+pub noted_all : (cmp : MsgId → MsgId → Ordering) (old now : BTreeSet MsgId) (run : List Log) (c : RingId) (sender receiver : Stay) (next early : ℕ) → next ≤ sender.from + 1 → SoFar cmp old now run c sender receiver next early → AreNoted cmp now run c sender receiver
+noted_all cmp old now run c sender receiver next early end so_far = record {
+  from = λ i above. record { each = λ h j k e m n x v from lt until at_h handles at_j d never. so_far.noted.each h j k e m n x v (omega arith) lt until at_h handles at_j d never };
+}
+
+-- ---- all walks
+
+pub noted_still : (cmp : MsgId → MsgId → Ordering) (now then : BTreeSet MsgId) (run : List Log) (c : RingId) (sender receiver : Stay) → HasAllOf cmp then now → AreNoted cmp now run c sender receiver → AreNoted cmp then run c sender receiver
+noted_still cmp now then run c sender receiver has noted = record {
+  from = λ i above. record { each = λ h j k e m n x v from lt until at_h handles at_j d never. has.each m ((noted.from i above).each h j k e m n x v from lt until at_h handles at_j d never) };
+}
+
+-- after the first n receivers
+pub record ReceiversSoFar (cmp : MsgId → MsgId → Ordering) (old now : BTreeSet MsgId) (run : List Log) (c : RingId) (stays : List Stay) (sender : Stay) (n : ℕ) : Type 0 where
+  pub noted : AllNoted cmp now run c stays sender n
+  pub kept : HasAllOf cmp now old
+
+pub receivers_yet : (cmp : MsgId → MsgId → Ordering) (s : BTreeSet MsgId) (run : List Log) (c : RingId) (stays : List Stay) (sender : Stay) → ReceiversSoFar cmp s s run c stays sender 0
+receivers_yet cmp s run c stays sender = record { noted = record { each = λ k r lt at. absurd (omega arith) }; kept = has_itself cmp s }
+
+pub receivers_more : (cmp : MsgId → MsgId → Ordering) (old now then : BTreeSet MsgId) (run : List Log) (c : RingId) (stays : List Stay) (sender receiver : Stay) (n : ℕ) → slice_get stays n ≡ Some receiver → AreNoted cmp then run c sender receiver → HasAllOf cmp then now
+    → ReceiversSoFar cmp old now run c stays sender n → ReceiversSoFar cmp old then run c stays sender (n + 1)
+receivers_more cmp old now then run c stays sender receiver n at here has before = record {
+  noted = record {
+    each = λ k r lt at_k. elim (less_or_not k n) [
+      | inl under ↦ noted_still cmp now then run c sender r has (before.noted.each k r under at_k)
+      | inr rest ↦ elim rest [ inl over ↦ absurd (omega arith) | inr same ↦ (let is : r ≡ receiver = (let there : slice_get stays n ≡ Some r = rw same at at_k in cc) in rw is here) ]
+    ];
+  };
+  kept = has_through cmp old now then before.kept has;
+}
+
+pub all_receivers : (cmp : MsgId → MsgId → Ordering) (old now : BTreeSet MsgId) (run : List Log) (c : RingId) (stays : List Stay) (sender : Stay) (n : ℕ) → length stays ≤ n → ReceiversSoFar cmp old now run c stays sender n → AllNoted cmp now run c stays sender (length stays)
+all_receivers cmp old now run c stays sender n end so_far = record { each = λ k r lt at. so_far.noted.each k r (omega arith) at }
+
+pub senders_yet : (cmp : MsgId → MsgId → Ordering) (s : BTreeSet MsgId) (run : List Log) (c : RingId) (stays : List Stay) → AreSuspects cmp s run c stays 0
+senders_yet cmp s run c stays = record { each = λ k sender l receiver lt at_k at_l. absurd (omega arith) }
+
+pub senders_more : (cmp : MsgId → MsgId → Ordering) (now then : BTreeSet MsgId) (run : List Log) (c : RingId) (stays : List Stay) (sender : Stay) (n : ℕ) → slice_get stays n ≡ Some sender → AllNoted cmp then run c stays sender (length stays) → HasAllOf cmp then now
+    → AreSuspects cmp now run c stays n → AreSuspects cmp then run c stays (n + 1)
+senders_more cmp now then run c stays sender n at here has before = record {
+  each = λ k s l r lt at_k at_l. elim (less_or_not k n) [
+    | inl under ↦ noted_still cmp now then run c s r has (before.each k s l r under at_k at_l)
+    | inr rest ↦ elim rest [
+      | inl over ↦ absurd (omega arith)
+      | inr same ↦ (let is : s ≡ sender = (let there : slice_get stays n ≡ Some s = rw same at at_k in cc) in rw is (here.each l r (slice_get_within stays l r at_l) at_l))
+    ]
+  ];
+}
+
+pub all_senders : (cmp : MsgId → MsgId → Ordering) (s : BTreeSet MsgId) (run : List Log) (c : RingId) (stays : List Stay) (n : ℕ) → length stays ≤ n → AreSuspects cmp s run c stays n → AreSuspects cmp s run c stays (length stays)
+all_senders cmp s run c stays n end are = record { each = λ k sender l receiver lt at_k at_l. are.each k sender l receiver (omega arith) at_k at_l }
+
+-- ---- what breaks 5 begins with a suspect
+
+-- a send in c stands in the regular part of its process's stay
+record SentInside (stays : List Stay) (p j : ℕ) : Type 0 where
+  stay : Stay
+  among : IsAmong stays stay
+  proc : stay.proc ≡ p
+  after : stay.from < j
+  until : j < stay.turn
+
+module _ (cmp : MsgId → MsgId → Ordering) (s : BTreeSet MsgId) (run : List Log) (c : RingId) (stays : List Stay) (of : Facts run c stays) (are : AreSuspects cmp s run c stays (length stays)) where
+  sent_inside : (p j : ℕ) (m : MsgId) (v : Service) → slice_get (log_of run p) j ≡ Some (Send m (Regular c) v) → SentInside stays p j
+  sent_inside p j m v at =
+      let found = of.inside p j (Regular c) (Send m (Regular c) v, at, refl) (inl refl) in
+      let until = ((of.each found.stay found.among).sends j m (Regular c) found.inside (v, rw (← found.proc) at at)).1 in
+      record { stay = found.stay; among = found.among; proc = found.proc; after = found.inside.after; until = until }
+
+  -- what the sender sent or delivered at i in c, and its send at j
+  by_walk : (p i j r k : ℕ) (e : Entry) (m n : MsgId) (v : Service) → i < j → slice_get (log_of run p) i ≡ Some e → Names (log_of run p) i (Regular c) → Handles e m → slice_get (log_of run p) j ≡ Some (Send n (Regular c) v)
+      → DeliversIn (log_of run r) c n k → ComesNotBefore run c r m k → IsSuspect cmp s m
+  by_walk p i j r k e m n v lt at_i names handles at_j (d, delivers, belongs) never =
+      let sent = sent_inside p j n v at_j in
+      let receiver = of.inside r k d (Deliver n d, delivers, refl) belongs in
+      let above = ((of.each sent.stay sent.among).is.here i (Regular c) (rw (← sent.proc) at names) (inl refl)).0 in
+      let noted = are.each sent.among.at sent.stay receiver.among.at receiver.stay (slice_get_within stays sent.among.at sent.stay sent.among.stands) sent.among.stands receiver.among.stands in
+      let never_there : ComesNotBefore run c receiver.stay.proc m k = rw receiver.proc never in
+      (noted.from i above).each i j k e m n (Regular c) v (omega arith) lt sent.until (rw (← sent.proc) at at_i) handles (rw (← sent.proc) at at_j) (d, rw (← receiver.proc) at delivers, rw (← receiver.proc) at belongs) never_there
+
+  from_send : (p i j r k : ℕ) (m n : MsgId) (u v : Service) → i < j → slice_get (log_of run p) i ≡ Some (Send m (Regular c) u) → slice_get (log_of run p) j ≡ Some (Send n (Regular c) v) → DeliversIn (log_of run r) c n k → ComesNotBefore run c r m k
+      → IsSuspect cmp s m
+  from_send p i j r k m n u v lt at_i at_j d never = by_walk p i j r k (Send m (Regular c) u) m n v lt at_i (Send m (Regular c) u, at_i, refl) refl at_j d never
+
+  from_delivery : (p i j r k : ℕ) (m n : MsgId) (v : Service) → i < j → Delivers (log_of run p) i m (Regular c) → slice_get (log_of run p) j ≡ Some (Send n (Regular c) v) → DeliversIn (log_of run r) c n k → ComesNotBefore run c r m k → IsSuspect cmp s m
+  from_delivery p i j r k m n v lt at_i at_j d never = by_walk p i j r k (Deliver m (Regular c)) m n v lt at_i (Deliver m (Regular c), at_i, refl) refl at_j d never
+
+  -- the send of the earlier message stands in the later one's log
+  in_one_log : (p q a j r k : ℕ) (m n : MsgId) (u v : Service) → at_place (log_of run q) a ≡ Some (Send m (Regular c) u) → q ≡ p → a < suc j → slice_get (log_of run p) j ≡ Some (Send n (Regular c) v) → DeliversIn (log_of run r) c n k
+      → ComesNotBefore run c r m k → IsSuspect cmp s m
+  in_one_log p q zero j r k m n u v at_e same lt at_j d never = absurd cc
+  in_one_log p q (suc i) j r k m n u v at_e same lt at_j d never = from_send p i j r k m n u v (omega arith) (rw same at at_e) at_j d never
+
+  suspected : (m n : MsgId) (e : Place) (p a : ℕ) (u v : Service) → entry_at run e ≡ Some (Send m (Regular c) u) → at_place (log_of run p) a ≡ Some (Send n (Regular c) v)
+      → ((e.proc ≡ p) × (e.at < a)) ⊎ ((j : ℕ) × (a ≡ j + 1) × ((i : ℕ) × (i < j) × Delivers (log_of run p) i m (Regular c))) → (r k : ℕ) → DeliversIn (log_of run r) c n k → ComesNotBefore run c r m k → IsSuspect cmp s m
+  suspected m n e p zero u v at_e at_f hop r k d never = absurd cc
+  suspected m n e p (suc j) u v at_e at_f (inl (same, lt)) r k d never = in_one_log p e.proc e.at j r k m n u v at_e same lt at_f d never
+  suspected m n e p (suc j) u v at_e at_f (inr (b, is, (i, lt, delivers))) r k d never = from_delivery p i j r k m n v (omega arith) delivers at_f d never
+
+  broken : (m : MsgId) (x : ConfId) (v : Service) (p i : ℕ) (rest : List Place) → slice_get (log_of run p) i ≡ Some (Send m x v) → BreaksCausalityIn run c (place p i ∷ rest) → IsSuspect cmp s m
+  broken m x v p i [] at h = absurd h
+  broken m x v p i (f ∷ []) at h = absurd h
+  broken m x v p i (f ∷ g ∷ []) at (k, is, (o, n, send, effect, hop, delivers, none)) =
+      let sends = sends_there run p i o (Regular c) send in
+      let there : slice_get (log_of run p) i ≡ Some (Send o (Regular c) sends.0) = sends.1 in
+      let same : o ≡ m = cc in
+      rw same at (suspected o n (place p i) f.proc f.at send.0 effect.0 send.1 effect.1 hop g.proc k delivers none)
+  broken m x v p i (f ∷ g ∷ h ∷ more) at b = absurd b
+
+pub none_unsuspected : (cmp : MsgId → MsgId → Ordering) (s : BTreeSet MsgId) (run : List Log) (c : RingId) (stays : List Stay) (m : MsgId) (x : ConfId) (v : Service) (p i : ℕ) → Facts run c stays → ∥ AreSuspects cmp s run c stays (length stays) ∥₁
+    → sorted.contains cmp s m ≡ false → slice_get (log_of run p) i ≡ Some (Send m x v) → NoneFrom (BreaksCausalityIn run c) p i
+none_unsuspected cmp s run c stays m x v p i of are not at = nothing_here (BreaksCausalityIn run c) p i (λ rest h. not_there are (λ known. (let has = broken cmp s run c stays of known m x v p i rest at h in absurd cc)))

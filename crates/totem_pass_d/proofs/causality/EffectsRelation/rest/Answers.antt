@@ -1,0 +1,22 @@
+use Rattle.std.proofs.Common.{refl}
+use Rattle.totem_table.proofs.Searching.{reworded}
+use Rattle.totem_pass_d.proofs.Facts.{facts_of}
+use Rattle.totem_pass_d.proofs.CausalityFaults.{send_here, surprises_begin, none_surprised, least_surprised}
+use Rattle.totem_pass_d.proofs.causality.EffectsRelation.rest.Goals as goal
+
+pub is_hop-requires-clause-before : goal.is_hop-requires-clause-before
+is_hop-requires-clause-before c =
+    let of = facts_of c.args.self.now.stays.now in
+    (send_here _ _ _ c.args.stay.now _ _ _ _ of c.requires.among c.requires.inside (rw c.in-Send.is at c.entry_in.ensures)).1
+
+pub first_found-requires-clause-begins : goal.first_found-requires-clause-begins
+first_found-requires-clause-begins c = surprises_begin _ _ _ _ _ (facts_of c.args.self.now.stays.now)
+
+pub returns : goal.returns
+returns c =
+    let of = facts_of c.args.self.now.stays.now in
+    let at = rw c.in-Send.is at c.entry_in.ensures in
+    reworded c.first_found.result _ _ _ _
+    (λ none. none_surprised _ _ c.args.self.now.cause.now _ _ _ (_) _ _ at none)
+    (λ list least. least_surprised _ _ c.args.self.now.cause.now _ _ _ _ _ _ list.items at (send_here _ _ _ c.args.stay.now _ _ _ _ of c.requires.among c.requires.inside at).0 (c.if-not-is_hop.ensures.0 refl) least)
+    c.first_found.ensures

@@ -1,0 +1,26 @@
+use Rattle.std.proofs.Common.{sym}
+use Rattle.totem_pass_d.proofs.Facts.{facts_of}
+use Rattle.totem_pass_d.proofs.GapFaults.{none_later, none_lacks, none_member, lack_here, found_there, not_found}
+use Rattle.totem_pass_d.proofs.gap.LacksFinder.find_in.Goals as goal
+
+pub returns-in_default : goal.returns-in_default
+returns-in_default c =
+    let of = facts_of c.args.self.now.stays.now in
+    none_later _ _ c.args.stay.now _ _ _ (of.each c.args.stay.now c.requires.among) c.in_default.ensures.none
+
+pub returns-then-is_some : goal.returns-then-is_some
+returns-then-is_some c =
+    let of = facts_of c.args.self.now.stays.now in
+    let found = found_there c.delivery_of-2.result _ (sym c.if-is_some.ensures) c.delivery_of-2.ensures.found in
+    none_lacks _ _ c.args.stay.now _ found.0 _ _ (of.each c.args.stay.now c.requires.among) found.1
+
+pub returns-then-not-has_sender : goal.returns-then-not-has_sender
+returns-then-not-has_sender c =
+    let of = facts_of c.args.self.now.stays.now in
+    none_member _ _ _ c.args.stay.now _ _ _ _ _ of c.requires.among c.in-Some.ensures.found c.has_sender.ensures c.if-not-has_sender.true
+
+pub returns : goal.returns
+returns c =
+    let of = facts_of c.args.self.now.stays.now in
+    lack_here _ _ _ c.args.stay.now _ _ _ _ _ _ of c.requires.among c.in-Some.ensures.found (not_found c.delivery_of-2.result _ (sym c.if-is_some.ensures) c.delivery_of-2.ensures.none)
+    c.has_sender.ensures c.if-not-has_sender.false c.in_ok-only.ensures

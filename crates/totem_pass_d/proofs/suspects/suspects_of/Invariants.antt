@@ -1,0 +1,6 @@
+use Rattle.totem_ids.specs.contracts.message.MsgIdOrd.TheImpl as message
+use Rattle.totem_pass_d.specs.Suspects.{AreSuspects}
+use Rattle.totem_pass_d.proofs.suspects.suspects_of.Given as goal
+
+abbrev pub invariant-loop-sender : goal.invariant-loop-sender
+invariant-loop-sender l = AreSuspects message.cmp-value.it l.suspects l.stays.run.now.logs l.stays.ring l.stays.list.items l.sender-index

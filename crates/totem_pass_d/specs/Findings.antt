@@ -1,0 +1,70 @@
+-- What one job finds: for each specification of the last pass the least events that break it in one regular configuration,
+-- or that the run meets it there (docs/SPECIFICATIONS.md, "Passes").
+use Rattle.std.specs.Prelude.{◌≡◌, ◌++◌, ℕ, List, [], ◌∷◌, length, slice_get, Some, None}
+use Rattle.totem_ids.specs.declared.ring.RingId.{RingId}
+use Rattle.totem_evs.specs.declared.log.Log.{Log}
+use Rattle.totem_evs.specs.declared.spec.SpecNo.TheVariants as spec
+use Rattle.totem_evs.specs.declared.fault.Fault.{Fault}
+use Rattle.totem_evs.specs.Answers.{FindsIn, ListsRings}
+use Rattle.totem_table.specs.Search.{listed}
+use Rattle.totem_pass_d.specs.declared.findings.Findings.{Findings}
+use Rattle.totem_pass_d.specs.declared.complete.Complete.{Complete}
+use Rattle.totem_pass_d.specs.declared.pass.Found.{Found}
+use Rattle.totem_pass_d.specs.Completeness.{AreCompleteIn}
+
+pub record AreFindings (run : List Log) (c : RingId) (findings : Findings) : Type 0 where
+  pub own : FindsIn run c spec.OwnDelivery findings.own
+  pub atomicity : FindsIn run c spec.Atomicity findings.atomicity
+  pub causality : FindsIn run c spec.Causality findings.causality
+  pub gap : FindsIn run c spec.Gap findings.gap
+  pub safety : FindsIn run c spec.Safety findings.safety
+  pub installed : FindsIn run c spec.Installed findings.installed
+  pub complete : AreCompleteIn run c findings.complete
+
+-- nothing is broken
+pub record AreNone (findings : Findings) : Type 0 where
+  pub own : findings.own ≡ None
+  pub atomicity : findings.atomicity ≡ None
+  pub causality : findings.causality ≡ None
+  pub gap : findings.gap ≡ None
+  pub safety : findings.safety ≡ None
+  pub installed : findings.installed ≡ None
+
+-- nothing is found yet
+pub record IsNothing (found : Found) : Type 0 where
+  pub own : found.own.items ≡ []
+  pub atomicity : found.atomicity.items ≡ []
+  pub causality : found.causality.items ≡ []
+  pub gap : found.gap.items ≡ []
+  pub safety : found.safety.items ≡ []
+  pub installed : found.installed.items ≡ []
+  pub complete : found.complete.items ≡ []
+
+-- each list has what was found for its specification after what it had, and who is complete stands after the others
+pub record GrowsBy (old : Found) (findings : Findings) (new : Found) : Type 0 where
+  pub own : new.own.items ≡ old.own.items ++ listed spec.OwnDelivery findings.own
+  pub atomicity : new.atomicity.items ≡ old.atomicity.items ++ listed spec.Atomicity findings.atomicity
+  pub causality : new.causality.items ≡ old.causality.items ++ listed spec.Causality findings.causality
+  pub gap : new.gap.items ≡ old.gap.items ++ listed spec.Gap findings.gap
+  pub safety : new.safety.items ≡ old.safety.items ++ listed spec.Safety findings.safety
+  pub installed : new.installed.items ≡ old.installed.items ++ listed spec.Installed findings.installed
+  pub complete : new.complete.items ≡ old.complete.items ++ findings.complete ∷ []
+
+-- all lists, one after the other
+abbrev pub all_found : Found → List Fault
+all_found found = found.own.items ++ (found.atomicity.items ++ (found.causality.items ++ (found.gap.items ++ (found.safety.items ++ found.installed.items))))
+
+-- nothing is pending in these configurations for those that are complete there
+pub record AreComplete (run : List Log) (cs : List RingId) (complete : List Complete) : Type 0 where
+  pub each : (k : ℕ) (c : RingId) (those : Complete) → slice_get cs k ≡ Some c → slice_get complete k ≡ Some those → AreCompleteIn run c those
+
+-- the faults of each specification in these configurations, and who is complete in each of these
+pub record AreFound (run : List Log) (cs : List RingId) (found : Found) : Type 0 where
+  pub own : ListsRings run spec.OwnDelivery cs found.own.items
+  pub atomicity : ListsRings run spec.Atomicity cs found.atomicity.items
+  pub causality : ListsRings run spec.Causality cs found.causality.items
+  pub gap : ListsRings run spec.Gap cs found.gap.items
+  pub safety : ListsRings run spec.Safety cs found.safety.items
+  pub installed : ListsRings run spec.Installed cs found.installed.items
+  pub long : length found.complete.items ≡ length cs
+  pub complete : AreComplete run cs found.complete.items

@@ -1,0 +1,56 @@
+-- 6.3, as it is searched: a delivery, a later one of the same log, and a delivery of the later message where the earlier one
+-- is missing (docs/SPECIFICATIONS.md, "6 Total order", "Passes").
+use Rattle.std.specs.Prelude.{◌↔◌, ◌≡◌, ◌⊎◌, ℕ, ◌<◌, Bool, IsTrue, List, [], ◌∷◌, length, slice_get, slice_index_or, Some}
+use Rattle.totem_ids.specs.declared.ring.RingId.{RingId}
+use Rattle.totem_ids.specs.declared.conf.ConfId.{ConfId}
+use Rattle.totem_ids.specs.declared.message.MsgId.{MsgId}
+use Rattle.totem_ids.specs.declared.place.Place.{Place}
+use Rattle.totem_evs.specs.declared.entry.Entry.{Entry}
+use Rattle.totem_evs.specs.declared.log.Log.{Log}
+use Rattle.totem_evs.specs.Events.{Delivers, IsMember, log_of}
+use Rattle.totem_evs.specs.Changes.{Names}
+use Rattle.totem_evs.specs.Following.{Com, DeliversIn, HasDelivered}
+use Rattle.totem_evs.specs.Places.{At}
+use Rattle.totem_pass_d.specs.declared.stay.Stay.{Stay}
+use Rattle.totem_pass_d.specs.Acts.{IsAmong}
+
+-- the entry delivers the later message where the sender is a member, and its process never delivers the earlier one
+abbrev pub IsLack : List Log → RingId → ℕ → MsgId → MsgId → ℕ → ℕ → Type 0
+IsLack run c sender earlier later q k = (d : ConfId) × Delivers (log_of run q) k later d × Com (log_of run q) c d × IsMember run d sender
+    × (HasDelivered (log_of run q) c earlier → ⊥)
+
+-- one such entry
+abbrev pub IsOneLack : List Log → RingId → ℕ → MsgId → MsgId → List Place → Type 0
+IsOneLack run c sender earlier later [] = ⊥
+IsOneLack run c sender earlier later (g ∷ []) = At g (IsLack run c sender earlier later)
+IsOneLack run c sender earlier later (g ∷ h ∷ rest) = ⊥
+
+-- a delivery of a later message after i, and such an entry
+abbrev pub IsLater : List Log → RingId → ℕ → MsgId → ℕ → List Place → Type 0
+IsLater run c sender earlier i [] = ⊥
+IsLater run c sender earlier i (f ∷ rest) = At f (λ p j. (i < j) × ((later : MsgId) × DeliversIn (log_of run p) c later j × IsOneLack run c sender earlier later rest))
+
+-- the processes of all stays deliver the message
+pub record IsEverywhere (run : List Log) (c : RingId) (stays : List Stay) (m : MsgId) : Type 0 where
+  pub each : (stay : Stay) → IsAmong stays stay → HasDelivered (log_of run stay.proc) c m
+
+-- the test tells whether q is a member of the configuration that the entry at i names
+pub record TellsMember (run : List Log) (log : List Entry) (i q : ℕ) (test : Bool) : Type 0 where
+  pub each : (x : ConfId) → Names log i x → IsTrue test ↔ IsMember run x q
+
+-- what p delivers at j, if it delivers something there, q does not deliver
+pub record IsApart (run : List Log) (c : RingId) (p q j : ℕ) : Type 0 where
+  pub never : (n : MsgId) → DeliversIn (log_of run p) c n j → HasDelivered (log_of run q) c n → ⊥
+
+-- nor what p delivers anywhere after i
+pub record IsBeyond (run : List Log) (c : RingId) (p q i : ℕ) : Type 0 where
+  pub each : (j : ℕ) → i < j → IsApart run c p q j
+
+-- for each stay an index after which its process delivers nothing that p delivers
+pub record AreLasts (run : List Log) (c : RingId) (stays : List Stay) (p : ℕ) (lasts : List ℕ) : Type 0 where
+  pub long : length stays ≡ length lasts
+  pub each : (k : ℕ) (stay : Stay) → slice_get stays k ≡ Some stay → IsBeyond run c p stay.proc (slice_index_or lasts k 0)
+
+-- the process of each stay delivers m, or nothing that p delivers after i
+pub record IsSettled (run : List Log) (c : RingId) (stays : List Stay) (p : ℕ) (m : MsgId) (i : ℕ) : Type 0 where
+  pub each : (stay : Stay) → IsAmong stays stay → IsBeyond run c p stay.proc i ⊎ HasDelivered (log_of run stay.proc) c m

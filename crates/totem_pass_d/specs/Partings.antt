@@ -1,0 +1,42 @@
+-- 4, as it is searched: who goes with a process to its next configuration, without a message
+-- (docs/SPECIFICATIONS.md, "4 Failure atomicity", "Passes").
+use Rattle.std.specs.Prelude.{◌≡◌, ℕ, List, [], ◌∷◌}
+use Rattle.totem_ids.specs.declared.ring.RingId.{RingId}
+use Rattle.totem_ids.specs.declared.conf.ConfId.{ConfId}
+use Rattle.totem_ids.specs.declared.conf.ConfId.TheVariants.{Regular, Transitional}
+use Rattle.totem_ids.specs.declared.message.MsgId.{MsgId}
+use Rattle.totem_ids.specs.declared.place.Place.{Place}
+use Rattle.totem_evs.specs.declared.entry.Entry.{Entry}
+use Rattle.totem_evs.specs.declared.log.Log.{Log}
+use Rattle.totem_evs.specs.Events.{IsChange, Delivers, log_of}
+use Rattle.totem_evs.specs.Following.{Com}
+use Rattle.totem_evs.specs.AgreementFaults.{GoesAt}
+use Rattle.totem_evs.specs.Places.{At}
+use Rattle.totem_pass_d.specs.declared.stay.Stay.{Stay}
+
+-- at any index of a stay
+abbrev pub IsAnywhere : Stay → ℕ → Type 0
+IsAnywhere stay i = Unit {0}
+
+-- where a stay changes to x, which is c or what follows it, and where to what comes next
+abbrev pub IsSpan : ConfId → Stay → ℕ → ℕ → Type 0
+IsSpan (Regular c) stay change next = (change ≡ stay.from) × (next ≡ stay.turn)
+IsSpan (Transitional ring least) stay change next = (change ≡ stay.turn) × (next ≡ stay.end)
+
+-- no change stands there
+pub record IsNoChange (log : List Entry) (i : ℕ) : Type 0 where
+  pub none : IsChange log i → ⊥
+
+-- where x is c or follows it, the log never delivers m in x
+pub record NeverDelivers (log : List Entry) (c : RingId) (m : MsgId) (x : ConfId) : Type 0 where
+  pub never : Com log c x → (l : ℕ) → Delivers log l m x → ⊥
+
+-- the change at k, from x to d, is that of a process which does not deliver m in x
+abbrev pub IsPartner : List Log → RingId → MsgId → ConfId → ConfId → ℕ → ℕ → Type 0
+IsPartner run c m x d q k = Com (log_of run q) c x × GoesAt (log_of run q) x d k × ((l : ℕ) → Delivers (log_of run q) l m x → ⊥)
+
+-- one such change
+abbrev pub IsOnePartner : List Log → RingId → MsgId → ConfId → ConfId → List Place → Type 0
+IsOnePartner run c m x d [] = ⊥
+IsOnePartner run c m x d (g ∷ []) = At g (IsPartner run c m x d)
+IsOnePartner run c m x d (g ∷ h ∷ rest) = ⊥

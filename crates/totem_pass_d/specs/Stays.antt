@@ -1,0 +1,45 @@
+-- The parts of the logs that stand in one regular configuration and in what follows it
+-- (docs/SPECIFICATIONS.md, "Following", "Passes").
+use Rattle.std.specs.Prelude.{◌≡◌, ◌↔◌, ℕ, ◌<◌, ◌≤◌, false, IsTrue, List, length, slice_get, Some, All, AllPairs}
+use Rattle.totem_ids.specs.declared.ring.RingId.{RingId}
+use Rattle.totem_ids.specs.declared.conf.ConfId.TheVariants.{Regular}
+use Rattle.totem_evs.specs.declared.log.Log.{Log}
+use Rattle.totem_evs.specs.Events.{ChangesTo, IsQuiet, log_of}
+use Rattle.totem_evs.specs.Following.{NeverFails}
+use Rattle.totem_run_rules.specs.Stays.{IsStay}
+use Rattle.totem_pass_d.specs.declared.stay.Stay.{Stay}
+
+-- it lies within its log, which is not too long
+pub record IsShortStay (stay : Stay) : Type 0 where
+  pub some : stay.from < stay.end
+  pub within : stay.end ≤ length stay.log.now
+  pub few : length stay.log.now ≤ 1000000
+
+-- it goes up to the end of its log, which is not quiet: there the process failed, or it is open
+abbrev pub IsExcused : Stay → Type 0
+IsExcused stay = (stay.end ≡ length stay.log.now) × (stay.quiet ≡ false)
+
+-- this is p's stay in c. A quiet log has no failure
+pub record IsStayOf (run : List Log) (c : RingId) (stay : Stay) : Type 0 where
+  pub log : stay.log.now ≡ log_of run stay.proc
+  pub few : length stay.log.now ≤ 1000000
+  pub quiet : IsTrue stay.quiet ↔ IsQuiet run stay.proc
+  pub unfailed : IsTrue stay.quiet → NeverFails stay.log.now
+  pub is : IsStay stay.log.now c stay.from stay.turn stay.end
+
+-- one process is below the other
+abbrev pub IsBelowStay : Stay → Stay → Type 0
+IsBelowStay a b = a.proc < b.proc
+
+-- there is a stay of p among them
+pub record HasStay (stays : List Stay) (p : ℕ) : Type 0 where
+  pub at : ℕ
+  pub stay : Stay
+  pub stands : slice_get stays at ≡ Some stay
+  pub proc : stay.proc ≡ p
+
+-- the stays of all logs that change to c, by process
+pub record AreStays (run : List Log) (c : RingId) (stays : List Stay) : Type 0 where
+  pub each : All (IsStayOf run c) stays
+  pub rising : AllPairs IsBelowStay stays
+  pub whole : (p i : ℕ) → ChangesTo (log_of run p) i (Regular c) → HasStay stays p

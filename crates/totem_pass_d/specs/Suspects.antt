@@ -1,0 +1,73 @@
+-- The messages for which 5 may be broken (docs/SPECIFICATIONS.md, "5 Causal delivery").
+use Rattle.std.specs.Prelude.{◌≡◌, ℕ, ◌<◌, ◌≤◌, IsTrue, List, slice_get, Some}
+use Rattle.std.specs.declared.cmp.Ordering.{Ordering}
+use Rattle.std.specs.BTreeSet.{BTreeSet}
+use Rattle.std.specs.BTreeSet as sorted
+use Rattle.totem_ids.specs.declared.ring.RingId.{RingId}
+use Rattle.totem_ids.specs.declared.conf.ConfId.{ConfId}
+use Rattle.totem_ids.specs.declared.message.MsgId.{MsgId}
+use Rattle.totem_ids.specs.declared.message.Service.{Service}
+use Rattle.totem_evs.specs.declared.entry.Entry.{Entry}
+use Rattle.totem_evs.specs.declared.entry.Entry.TheVariants.{Conf, Send, Deliver, Fail}
+use Rattle.totem_evs.specs.declared.log.Log.{Log}
+use Rattle.totem_evs.specs.Events.{log_of}
+use Rattle.totem_evs.specs.Following.{DeliversIn}
+use Rattle.totem_pass_d.specs.declared.stay.Stay.{Stay}
+
+-- the entry sends or delivers m
+abbrev pub Handles : Entry → MsgId → Type 0
+Handles (Conf x members) m = ⊥
+Handles (Send n x service) m = n ≡ m
+Handles (Deliver n x) m = n ≡ m
+Handles (Fail x) m = ⊥
+
+-- the entry sends and delivers nothing
+pub record HandlesNothing (entry : Entry) : Type 0 where
+  pub never : (m : MsgId) → Handles entry m → ⊥
+
+-- q delivers m in c or in what follows it, before k
+pub record ComesBefore (run : List Log) (c : RingId) (q : ℕ) (m : MsgId) (k : ℕ) : Type 0 where
+  pub index : ℕ
+  pub before : index < k
+  pub delivers : DeliversIn (log_of run q) c m index
+
+-- q doesn't
+abbrev pub ComesNotBefore : List Log → RingId → ℕ → MsgId → ℕ → Type 0
+ComesNotBefore run c q m k = (l : ℕ) → l < k → DeliversIn (log_of run q) c m l → ⊥
+
+-- q delivers what the entry sends at the new index or later, and the new index is no later than the old one
+pub record IsEarlier (run : List Log) (c : RingId) (q : ℕ) (entry : Entry) (old new : ℕ) : Type 0 where
+  pub no_later : new ≤ old
+  pub each : (n : MsgId) (x : ConfId) (service : Service) (k : ℕ) → entry ≡ Send n x service → DeliversIn (log_of run q) c n k → new ≤ k
+
+module _ (by_message : MsgId → MsgId → Ordering) (suspects : BTreeSet MsgId) where
+  -- m is a suspect
+  abbrev pub IsSuspect : MsgId → Type 0
+  IsSuspect m = IsTrue (sorted.contains by_message suspects m)
+
+  -- all of these are suspects
+  pub record HasAllOf (others : BTreeSet MsgId) : Type 0 where
+    pub each : (m : MsgId) → IsTrue (sorted.contains by_message others m) → IsSuspect m
+
+  -- what the entry sends or delivers is a suspect, unless the receiver delivers it before `early`, an index of its stay
+  pub record IsNoted (run : List Log) (c : RingId) (receiver : Stay) (entry : Entry) (early : ℕ) : Type 0 where
+    pub each : (m : MsgId) → early < receiver.end → Handles entry m → ComesNotBefore run c receiver.proc m early → IsSuspect m
+
+  -- what the sender sent or delivered at i or later, and before it sent another message in c, is a suspect, unless the receiver
+  -- delivers it before that other one, if it delivers that
+  pub record AreNotedFrom (run : List Log) (c : RingId) (sender receiver : Stay) (i : ℕ) : Type 0 where
+    pub each : (h j k : ℕ) (e : Entry) (m n : MsgId) (x : ConfId) (service : Service) → i ≤ h → h < j → j < sender.turn
+        → slice_get (log_of run sender.proc) h ≡ Some e → Handles e m → slice_get (log_of run sender.proc) j ≡ Some (Send n x service)
+        → DeliversIn (log_of run receiver.proc) c n k → ComesNotBefore run c receiver.proc m k → IsSuspect m
+
+  -- so is what it sent or delivered anywhere in c
+  pub record AreNoted (run : List Log) (c : RingId) (sender receiver : Stay) : Type 0 where
+    pub from : (i : ℕ) → sender.from < i → AreNotedFrom run c sender receiver i
+
+  -- for each of the first n receivers
+  pub record AllNoted (run : List Log) (c : RingId) (stays : List Stay) (sender : Stay) (n : ℕ) : Type 0 where
+    pub each : (k : ℕ) (receiver : Stay) → k < n → slice_get stays k ≡ Some receiver → AreNoted run c sender receiver
+
+  -- of each of the first n senders
+  pub record AreSuspects (run : List Log) (c : RingId) (stays : List Stay) (n : ℕ) : Type 0 where
+    pub each : (k : ℕ) (sender : Stay) (l : ℕ) (receiver : Stay) → k < n → slice_get stays k ≡ Some sender → slice_get stays l ≡ Some receiver → AreNoted run c sender receiver

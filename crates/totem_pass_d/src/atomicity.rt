@@ -1,0 +1,152 @@
+//! 4: processes that go together from a configuration to the next one deliver the same messages there
+//! (docs/SPECIFICATIONS.md, "4 Failure atomicity", "Passes").
+ghost use Rattle.std.specs.Prelude.{◌≡◌, ◌↔◌, ℕ, IsTrue, IfSome, IfNone, IfOk};
+ghost use Rattle.std.specs.Bool.{OnTrue, OnFalse};
+ghost use Rattle.totem_evs.specs.Events.{log_of, ChangesTo, Delivers};
+ghost use Rattle.totem_evs.specs.RingFaults.{BreaksAtomicityIn};
+ghost use Rattle.totem_evs.specs.Answers.{FindsIn};
+ghost use Rattle.totem_pass_d.specs.Acts.{IsAmong};
+ghost use Rattle.totem_pass_d.specs.Partings.{IsAnywhere, IsSpan, IsNoChange, NeverDelivers, IsOnePartner};
+
+use crate::search::{Finder, Relation, first_found, least, only};
+use crate::stay::Stay;
+use crate::stays::Stays;
+use std::alloc::{AllocError, Global};
+use totem_evs::{Entry, Places, SpecNo};
+use totem_ids::{ConfId, MsgId, Place};
+use totem_table::begin_at;
+
+/// Where a stay changes to one of its two configurations, and where to the next one: there its log may have ended.
+#[derive(Clone, Copy)]
+struct Span {
+    change: usize,
+    next: usize,
+}
+
+/// The span of this configuration, which is the regular one or what follows it.
+fn span_of(stay: &Stay, conf: &ConfId) -> Span
+    ensures { IsSpan conf.now stay.now result.change result.next }
+{
+    match conf {
+        ConfId::Regular(_) => Span {
+            change: stay.from,
+            next: stay.turn,
+        },
+        ConfId::Transitional { .. } => Span {
+            change: stay.turn,
+            next: stay.end,
+        },
+    }
+}
+
+/// To which configuration the log of this stay changes at an index.
+fn change_at<'l>(stay: &Stay<'l>, at: usize) -> Option<&'l ConfId>
+    ensures found { IfSome result (λ conf. ChangesTo stay.now.log.now at conf.now) }
+    ensures none { IfNone result (IsNoChange stay.now.log.now at) }
+{
+    match stay.log.get(at) {
+        Some(Entry::Conf(conf, _)) => Some(conf),
+        _ => None,
+    }
+}
+
+fn changes_to(stay: &Stay, at: usize, conf: &ConfId) -> bool
+    ensures { IsTrue result ↔ ChangesTo stay.now.log.now at conf.now }
+{
+    match change_at(stay, at) {
+        None => false,
+        Some(other) => other.is(conf),
+    }
+}
+
+/// The changes to the next configuration of processes that do not deliver the message before.
+#[derive(Clone, Copy)]
+struct Partings<'s, 'r, 'm> {
+    stays: &'s Stays<'r>,
+    message: &'m MsgId,
+    conf: &'m ConfId,
+    next: &'m ConfId,
+}
+
+impl Partings<'_, '_, '_> {
+    /// Returns whether the process of this stay delivers the message in this configuration.
+    fn is_delivered(&self, stay: &Stay) -> bool
+        requires { IsAmong self.now.stays.now.list.items stay.now }
+        ensures there { OnTrue result ((l : ℕ) × Delivers (log_of self.now.stays.now.run.now.logs stay.now.proc) l self.now.message.now self.now.conf.now) }
+        ensures never { OnFalse result (NeverDelivers (log_of self.now.stays.now.run.now.logs stay.now.proc) self.now.stays.now.ring self.now.message.now self.now.conf.now) }
+    {
+        let Some(at) = self.stays.delivery_of(stay, self.message) else {
+            return false;
+        };
+        match self.stays.entry_in(stay, at) {
+            Entry::Deliver(_, conf) => conf.is(self.conf),
+            _ => false,
+        }
+    }
+}
+
+impl Finder for Partings<'_, '_, '_> {
+    ghost among = { λ p. p.stays.now.list.items };
+
+    ghost reaches = { λ p. IsAnywhere };
+
+    ghost holds = { λ p. IsOnePartner p.stays.now.run.now.logs p.stays.now.ring p.message.now p.conf.now p.next.now };
+
+    fn find_in(&self, alloc: Global, stay: &Stay) -> Result<Option<Vec<Place>>, AllocError> {
+        let span = span_of(stay, self.conf);
+        if !changes_to(stay, span.change, self.conf) {
+            return Ok(None);
+        }
+        if !changes_to(stay, span.next, self.next) {
+            return Ok(None);
+        }
+        if self.is_delivered(stay) {
+            return Ok(None);
+        }
+        Ok(Some(only(alloc, stay.proc, span.next)?))
+    }
+}
+
+/// The deliveries of processes that go on to a next configuration.
+#[derive(Clone, Copy)]
+struct Deliveries<'s, 'r> {
+    stays: &'s Stays<'r>,
+}
+
+impl Relation for Deliveries<'_, '_> {
+    ghost among = { λ d. d.stays.now.list.items };
+
+    ghost holds = { λ d. BreaksAtomicityIn d.stays.now.run.now.logs d.stays.now.ring };
+
+    fn rest(
+        &self,
+        alloc: Global,
+        stay: &Stay,
+        at: usize,
+    ) -> Result<Option<Vec<Place>>, AllocError> {
+        let Entry::Deliver(message, conf) = self.stays.entry_in(stay, at) else {
+            return Ok(None);
+        };
+        let span = span_of(stay, conf);
+        let Some(next) = change_at(stay, span.next) else {
+            return Ok(None);
+        };
+        let partings = Partings {
+            stays: self.stays,
+            message,
+            conf,
+            next,
+        };
+        let Some(list) = first_found(&partings, alloc, self.stays)? else {
+            return Ok(None);
+        };
+        Ok(Some(begin_at(stay.proc, span.next, list)?))
+    }
+}
+
+/// The least events that break 4 in this configuration.
+pub fn find(alloc: Global, stays: &Stays) -> Result<Option<Places>, AllocError>
+    ensures { IfOk result (FindsIn stays.now.run.now.logs stays.now.ring SpecNo.Atomicity) }
+{
+    least(&Deliveries { stays }, alloc, stays)
+}

@@ -1,0 +1,143 @@
+//! 5: what a process sent or delivered before it sent a message is delivered before that message, one hop at a time
+//! (docs/SPECIFICATIONS.md, "5 Causal delivery", "Passes").
+ghost use Rattle.std.specs.Prelude.{◌≡◌, ◌↔◌, ◌<◌, IsTrue, IfOk, length};
+ghost use Rattle.totem_table.specs.Search.{place};
+ghost use Rattle.totem_evs.specs.RingFaults.{BreaksCausalityIn};
+ghost use Rattle.totem_evs.specs.RingAgreement.{IsHop};
+ghost use Rattle.totem_evs.specs.Answers.{FindsIn};
+ghost use Rattle.totem_pass_d.specs.Acts.{IsAmong};
+ghost use Rattle.totem_pass_d.specs.Search.{IsInside};
+ghost use Rattle.totem_pass_d.specs.Causality.{IsOneSurprise, IsEffect};
+ghost use Rattle.totem_pass_d.specs.Suspects.{AreSuspects};
+
+use crate::search::{Finder, Relation, first_found, least, least_list, only};
+use crate::stay::Stay;
+use crate::stays::Stays;
+use crate::suspects::suspects_of;
+use std::alloc::{AllocError, Global};
+use std::collections::BTreeSet;
+use totem_evs::{Entry, Places, SpecNo};
+use totem_ids::{MsgId, Place, Proc};
+
+/// The deliveries of a message that come without its cause.
+#[derive(Clone, Copy)]
+struct Surprises<'s, 'r, 'm> {
+    stays: &'s Stays<'r>,
+    cause: &'m MsgId,
+    effect: &'m MsgId,
+}
+
+impl Finder for Surprises<'_, '_, '_> {
+    ghost among = { λ s. s.stays.now.list.items };
+
+    ghost reaches = { λ s. IsInside };
+
+    ghost holds = { λ s. IsOneSurprise s.stays.now.run.now.logs s.stays.now.ring s.cause.now s.effect.now };
+
+    fn find_in(&self, alloc: Global, stay: &Stay) -> Result<Option<Vec<Place>>, AllocError> {
+        let Some(at) = self.stays.delivery_of(stay, self.effect) else {
+            return Ok(None);
+        };
+        if let Some(before) = self.stays.delivery_of(stay, self.cause) {
+            if before < at {
+                return Ok(None);
+            }
+        }
+        Ok(Some(only(alloc, stay.proc, at)?))
+    }
+}
+
+/// The sends of what follows from a message that this process sent at this index.
+#[derive(Clone, Copy)]
+struct Effects<'s, 'r, 'm> {
+    stays: &'s Stays<'r>,
+    cause: &'m MsgId,
+    proc: Proc,
+    at: usize,
+}
+
+impl Effects<'_, '_, '_> {
+    /// Returns whether a send at this index of a stay comes one hop after the cause: its process sent the cause, or delivered it.
+    fn is_hop(&self, stay: &Stay, at: usize) -> bool
+        requires among { IsAmong self.now.stays.now.list.items stay.now }
+        requires before { at < stay.now.turn }
+        ensures { IsTrue result ↔ IsHop self.now.stays.now.run.now.logs self.now.stays.now.ring self.now.cause.now (place self.now.proc self.now.at) (place stay.now.proc at) }
+    {
+        if stay.proc == self.proc && self.at < at {
+            return true;
+        }
+        match self.stays.delivery_of(stay, self.cause) {
+            None => false,
+            Some(before) => before < at,
+        }
+    }
+}
+
+impl Relation for Effects<'_, '_, '_> {
+    ghost among = { λ s. s.stays.now.list.items };
+
+    ghost holds = { λ s. IsEffect s.stays.now.run.now.logs s.stays.now.ring s.cause.now (place s.proc s.at) };
+
+    fn rest(
+        &self,
+        alloc: Global,
+        stay: &Stay,
+        at: usize,
+    ) -> Result<Option<Vec<Place>>, AllocError> {
+        let Entry::Send(effect, _, _) = self.stays.entry_in(stay, at) else {
+            return Ok(None);
+        };
+        if !self.is_hop(stay, at) {
+            return Ok(None);
+        }
+        let surprises = Surprises {
+            stays: self.stays,
+            cause: self.cause,
+            effect,
+        };
+        first_found(&surprises, alloc, self.stays)
+    }
+}
+
+/// The sends of causes. Those that are no suspects have no effect that comes without them.
+#[derive(Drop)]
+struct Causes<'s, 'r> {
+    stays: &'s Stays<'r>,
+    suspects: BTreeSet<MsgId>,
+    ghost are: { ∥ AreSuspects ⟦<MsgId as Ord>⟧.cmp suspects stays.now.run.now.logs stays.now.ring stays.now.list.items (length stays.now.list.items) ∥₁ },
+}
+
+impl Relation for Causes<'_, '_> {
+    ghost among = { λ s. s.stays.now.list.items };
+
+    ghost holds = { λ s. BreaksCausalityIn s.stays.now.run.now.logs s.stays.now.ring };
+
+    fn rest(
+        &self,
+        alloc: Global,
+        stay: &Stay,
+        at: usize,
+    ) -> Result<Option<Vec<Place>>, AllocError> {
+        let Entry::Send(cause, _, _) = self.stays.entry_in(stay, at) else {
+            return Ok(None);
+        };
+        if !self.suspects.contains(cause) {
+            return Ok(None);
+        }
+        let effects = Effects {
+            stays: self.stays,
+            cause,
+            proc: stay.proc,
+            at,
+        };
+        least_list(&effects, alloc, self.stays)
+    }
+}
+
+/// The least events that break 5 in this configuration.
+pub fn find(alloc: Global, stays: &Stays) -> Result<Option<Places>, AllocError>
+    ensures { IfOk result (FindsIn stays.now.run.now.logs stays.now.ring SpecNo.Causality) }
+{
+    let suspects = suspects_of(alloc, stays)?;
+    least(&Causes { stays, suspects }, alloc, stays)
+}

@@ -1,0 +1,69 @@
+//! The least event of a run that breaks a specification by itself.
+ghost use Rattle.std.specs.Prelude.{◌≡◌, ℕ, IfOk, MatchOption, List};
+ghost use Rattle.std.specs.Bool.{OnTrue, OnFalse};
+ghost use Rattle.totem_evs.specs.Answers.{IsLeast};
+ghost use Rattle.totem_table.specs.Search.{HoldsOfNone};
+ghost use Rattle.totem_pass_d.specs.declared.stay.Stay.{Stay};
+ghost use Rattle.totem_pass_d.specs.Acts.{IsAmong};
+ghost use Rattle.totem_pass_d.specs.Search.{IsInside, EachStandsInside, IsOneEvent};
+
+use crate::search::{Relation, least};
+use crate::stay::Stay;
+use crate::stays::Stays;
+use std::alloc::{AllocError, Global};
+use totem_evs::Places;
+use totem_ids::Place;
+
+/// Tells which events break a specification, each by itself.
+pub trait EventTest {
+    /// The stays.
+    ghost among: { Self → List Stay };
+
+    /// What it means that the event at an index of a process's log breaks it.
+    ghost breaks: { Self → ℕ → ℕ → Type 0 };
+
+    /// Returns whether the event at this index of a stay breaks it.
+    fn breaks_at(&self, stay: &Stay, at: usize) -> bool
+        requires among { IsAmong (among self.now) stay.now }
+        requires inside { IsInside stay.now at }
+        ensures there { OnTrue result (breaks self.now stay.now.proc at) }
+        ensures never { OnFalse result (breaks self.now stay.now.proc at → ⊥) };
+}
+
+/// The lists of one event that a test finds.
+#[derive(Clone, Copy)]
+struct OneEvent<'t, T> {
+    test: &'t T,
+}
+
+impl<T: EventTest> Relation for OneEvent<'_, T> {
+    ghost among = { λ e. T.among e.test.now };
+
+    ghost holds = { λ e. IsOneEvent (T.breaks e.test.now) };
+
+    fn rest(
+        &self,
+        alloc: Global,
+        stay: &Stay,
+        at: usize,
+    ) -> Result<Option<Vec<Place>>, AllocError> {
+        if self.test.breaks_at(stay, at) {
+            Ok(Some(Vec::new(alloc)))
+        } else {
+            Ok(None)
+        }
+    }
+}
+
+/// The least event that a test finds.
+pub fn least_event<T: EventTest>(
+    test: &T,
+    alloc: Global,
+    stays: &Stays,
+) -> Result<Option<Places>, AllocError>
+    requires among { T.among test.now ≡ stays.now.list.items }
+    requires inside { EachStandsInside stays.now.list.items (T.breaks test.now) }
+    ensures { IfOk result (λ found. MatchOption found (HoldsOfNone (IsOneEvent (T.breaks test.now))) (IsLeast (IsOneEvent (T.breaks test.now)))) }
+{
+    least(&OneEvent { test }, alloc, stays)
+}

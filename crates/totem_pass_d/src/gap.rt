@@ -1,0 +1,283 @@
+//! 6.3: who delivers a later message delivers the earlier one too, where its sender is still a member
+//! (docs/SPECIFICATIONS.md, "6 Total order", "Passes").
+ghost use Rattle.std.specs.Prelude.{◌≡◌, ◌↔◌, ◌⊎◌, ◌<◌, ◌≤◌, IsTrue, IfOk, MatchOption, Contains};
+ghost use Rattle.std.specs.Bool.{OnTrue, OnFalse};
+ghost use Rattle.totem_evs.specs.Events.{log_of};
+ghost use Rattle.totem_evs.specs.Following.{HasDelivered};
+ghost use Rattle.totem_table.specs.Search.{NoneFrom, IsLeastFrom};
+ghost use Rattle.totem_evs.specs.RingFaults.{BreaksGapIn};
+ghost use Rattle.totem_evs.specs.Answers.{FindsIn};
+ghost use Rattle.totem_pass_d.specs.Acts.{IsAmong};
+ghost use Rattle.totem_pass_d.specs.Search.{IsInside};
+ghost use Rattle.totem_pass_d.specs.Gaps.{IsOneLack, IsLater, IsEverywhere, TellsMember, IsApart, IsBeyond, AreLasts, IsSettled};
+
+use crate::search::{Finder, Relation, first_found, least_found, least_in, only};
+use crate::stay::Stay;
+use crate::stays::Stays;
+use std::alloc::{AllocError, Global};
+use totem_evs::{Entry, Places, SpecNo};
+use totem_ids::{MsgId, Place, Proc};
+use totem_table::begin_at;
+
+fn is_among(members: &[Proc], proc: Proc) -> bool
+    ensures { IsTrue result ↔ Contains members.now proc }
+{
+    members.contains(&proc)
+}
+
+/// The deliveries of a later message by processes that do not deliver the earlier one, where its sender is a member.
+#[derive(Clone, Copy)]
+struct Lacks<'s, 'r, 'm> {
+    stays: &'s Stays<'r>,
+    sender: Proc,
+    earlier: &'m MsgId,
+    later: &'m MsgId,
+}
+
+impl Lacks<'_, '_, '_> {
+    /// Returns whether the sender is a member of the configuration that the entry at this index of a stay names.
+    fn has_sender(&self, stay: &Stay, at: usize) -> bool
+        requires among { IsAmong self.now.stays.now.list.items stay.now }
+        requires inside { IsInside stay.now at }
+        ensures { TellsMember self.now.stays.now.run.now.logs (log_of self.now.stays.now.run.now.logs stay.now.proc) at self.now.sender result }
+    {
+        is_among(self.stays.members_at(stay, at), self.sender)
+    }
+}
+
+impl Finder for Lacks<'_, '_, '_> {
+    ghost among = { λ l. l.stays.now.list.items };
+
+    ghost reaches = { λ l. IsInside };
+
+    ghost holds = { λ l. IsOneLack l.stays.now.run.now.logs l.stays.now.ring l.sender l.earlier.now l.later.now };
+
+    fn find_in(&self, alloc: Global, stay: &Stay) -> Result<Option<Vec<Place>>, AllocError> {
+        let Some(at) = self.stays.delivery_of(stay, self.later) else {
+            return Ok(None);
+        };
+        if self.stays.delivery_of(stay, self.earlier).is_some() {
+            return Ok(None);
+        }
+        if !self.has_sender(stay, at) {
+            return Ok(None);
+        }
+        Ok(Some(only(alloc, stay.proc, at)?))
+    }
+}
+
+/// The deliveries after that of an earlier message.
+#[derive(Clone, Copy)]
+struct Later<'s, 'r, 'm> {
+    stays: &'s Stays<'r>,
+    sender: Proc,
+    earlier: &'m MsgId,
+    at: usize,
+}
+
+impl Relation for Later<'_, '_, '_> {
+    ghost among = { λ l. l.stays.now.list.items };
+
+    ghost holds = { λ l. IsLater l.stays.now.run.now.logs l.stays.now.ring l.sender l.earlier.now l.at };
+
+    fn rest(
+        &self,
+        alloc: Global,
+        stay: &Stay,
+        at: usize,
+    ) -> Result<Option<Vec<Place>>, AllocError> {
+        if at <= self.at {
+            return Ok(None);
+        }
+        let Entry::Deliver(later, _) = self.stays.entry_in(stay, at) else {
+            return Ok(None);
+        };
+        let lacks = Lacks {
+            stays: self.stays,
+            sender: self.sender,
+            earlier: self.earlier,
+            later,
+        };
+        first_found(&lacks, alloc, self.stays)
+    }
+}
+
+/// The deliveries of earlier messages.
+#[derive(Clone, Copy)]
+struct Gaps<'s, 'r> {
+    stays: &'s Stays<'r>,
+}
+
+impl Gaps<'_, '_> {
+    /// A quick test, which spares a search: whether all processes of the configuration deliver the message.
+    fn is_everywhere(&self, message: &MsgId) -> bool
+        ensures { OnTrue result (IsEverywhere self.now.stays.now.run.now.logs self.now.stays.now.ring self.now.stays.now.list.items message.now) }
+    {
+        for stay in &self.stays.list {
+            if self.stays.delivery_of(stay, message).is_none() {
+                return false;
+            }
+        }
+        true
+    }
+}
+
+impl Relation for Gaps<'_, '_> {
+    ghost among = { λ g. g.stays.now.list.items };
+
+    ghost holds = { λ g. BreaksGapIn g.stays.now.run.now.logs g.stays.now.ring };
+
+    fn rest(
+        &self,
+        alloc: Global,
+        stay: &Stay,
+        at: usize,
+    ) -> Result<Option<Vec<Place>>, AllocError> {
+        let Entry::Deliver(earlier, _) = self.stays.entry_in(stay, at) else {
+            return Ok(None);
+        };
+        if self.is_everywhere(earlier) {
+            return Ok(None);
+        }
+        let Some(sending) = self.stays.send_of(earlier) else {
+            return Ok(None);
+        };
+        let later = Later {
+            stays: self.stays,
+            sender: sending.proc,
+            earlier,
+            at,
+        };
+        least_in(&later, alloc, stay)
+    }
+}
+
+/// Returns whether the follower delivers the message that stands at this index of the leader's stay, if one does.
+fn is_common(stays: &Stays, leader: &Stay, follower: &Stay, at: usize) -> bool
+    requires leader { IsAmong stays.now.list.items leader.now }
+    requires follower { IsAmong stays.now.list.items follower.now }
+    requires inside { IsInside leader.now at }
+    ensures { OnFalse result (IsApart stays.now.run.now.logs stays.now.ring leader.now.proc follower.now.proc at) }
+{
+    let Entry::Deliver(message, _) = stays.entry_in(leader, at) else {
+        return false;
+    };
+    match stays.delivery_of(follower, message) {
+        Some(_) => true,
+        None => false,
+    }
+}
+
+/// Returns an index after which the leader delivers nothing that the follower delivers too.
+fn last_common(stays: &Stays, leader: &Stay, follower: &Stay) -> usize
+    requires leader { IsAmong stays.now.list.items leader.now }
+    requires follower { IsAmong stays.now.list.items follower.now }
+    ensures { IsBeyond stays.now.run.now.logs stays.now.ring leader.now.proc follower.now.proc result }
+{
+    let mut next = leader.end;
+    'back: while leader.from + 1 < next {
+        let at = next - 1;
+        if is_common(stays, leader, follower, at) {
+            return at;
+        }
+        next = at;
+    }
+    leader.from
+}
+
+/// Returns this last index for each follower of a leader, in the order of the stays.
+fn lasts_of(alloc: Global, stays: &Stays, leader: &Stay) -> Result<Vec<usize>, AllocError>
+    requires { IsAmong stays.now.list.items leader.now }
+    ensures { IfOk result (λ lasts. AreLasts stays.now.run.now.logs stays.now.ring stays.now.list.items leader.now.proc lasts.items) }
+{
+    let mut lasts = Vec::new(alloc);
+    for follower in &stays.list {
+        lasts.push(last_common(stays, leader, follower))?;
+    }
+    Ok(lasts)
+}
+
+/// Returns whether the follower delivers the leader's message, or delivers nothing that the leader delivers after it.
+fn keeps_up(stays: &Stays, follower: &Stay, last: usize, message: &MsgId, at: usize) -> bool
+    requires { IsAmong stays.now.list.items follower.now }
+    ensures { OnTrue result ((last ≤ at) ⊎ HasDelivered (log_of stays.now.run.now.logs follower.now.proc) stays.now.ring message.now) }
+{
+    if last <= at {
+        return true;
+    }
+    match stays.delivery_of(follower, message) {
+        Some(_) => true,
+        None => false,
+    }
+}
+
+/// Returns whether each follower delivers the leader's message, or delivers nothing that the leader delivers after it.
+fn all_keep_up(stays: &Stays, leader: &Stay, lasts: &[usize], message: &MsgId, at: usize) -> bool
+    requires { AreLasts stays.now.run.now.logs stays.now.ring stays.now.list.items leader.now.proc lasts.now }
+    ensures { OnTrue result (IsSettled stays.now.run.now.logs stays.now.ring stays.now.list.items leader.now.proc message.now at) }
+{
+    for (k, follower) in stays.list.iter().enumerate() {
+        if !keeps_up(stays, follower, lasts[k], message, at) {
+            return false;
+        }
+    }
+    true
+}
+
+/// The gaps of one leader after another.
+#[derive(Clone, Copy)]
+struct EachLeader<'s, 'r> {
+    gaps: Gaps<'s, 'r>,
+}
+
+impl EachLeader<'_, '_> {
+    /// How the least gap goes on that begins at this index of the leader's stay.
+    fn rest_at(
+        &self,
+        alloc: Global,
+        leader: &Stay,
+        lasts: &[usize],
+        at: usize,
+    ) -> Result<Option<Vec<Place>>, AllocError>
+        requires among { IsAmong self.now.gaps.stays.now.list.items leader.now }
+        requires inside { IsInside leader.now at }
+        requires lasts { AreLasts self.now.gaps.stays.now.run.now.logs self.now.gaps.stays.now.ring self.now.gaps.stays.now.list.items leader.now.proc lasts.now }
+        ensures { IfOk result (λ found. MatchOption found
+            (NoneFrom (BreaksGapIn self.now.gaps.stays.now.run.now.logs self.now.gaps.stays.now.ring) leader.now.proc at)
+            (λ rest. IsLeastFrom (BreaksGapIn self.now.gaps.stays.now.run.now.logs self.now.gaps.stays.now.ring) leader.now.proc at rest.items)) }
+    {
+        let stays = self.gaps.stays;
+        if let Entry::Deliver(message, _) = stays.entry_in(leader, at) {
+            if all_keep_up(stays, leader, lasts, message, at) {
+                return Ok(None);
+            }
+        }
+        self.gaps.rest(alloc, leader, at)
+    }
+}
+
+impl Finder for EachLeader<'_, '_> {
+    ghost among = { λ e. e.gaps.stays.now.list.items };
+
+    ghost reaches = { λ e. IsInside };
+
+    ghost holds = { λ e. BreaksGapIn e.gaps.stays.now.run.now.logs e.gaps.stays.now.ring };
+
+    fn find_in(&self, alloc: Global, stay: &Stay) -> Result<Option<Vec<Place>>, AllocError> {
+        let lasts = lasts_of(alloc, self.gaps.stays, stay)?;
+        for at in stay.from + 1..stay.end {
+            if let Some(rest) = self.rest_at(alloc, stay, &lasts, at)? {
+                return Ok(Some(begin_at(stay.proc, at, rest)?));
+            }
+        }
+        Ok(None)
+    }
+}
+
+/// The least events that break 6.3 in this configuration.
+pub fn find(alloc: Global, stays: &Stays) -> Result<Option<Places>, AllocError>
+    ensures { IfOk result (FindsIn stays.now.run.now.logs stays.now.ring SpecNo.Gap) }
+{
+    let gaps = Gaps { stays };
+    least_found(&EachLeader { gaps }, alloc, stays)
+}

@@ -1,0 +1,67 @@
+//! 7.2: where a safe message is delivered in the regular configuration, each of its members changes to it
+//! (docs/SPECIFICATIONS.md, "7 Safe delivery").
+ghost use Rattle.std.specs.Prelude.{◌↔◌, IsTrue, IfOk, All};
+ghost use Rattle.std.specs.Bool.{OnTrue, OnFalse};
+ghost use Rattle.totem_evs.specs.Answers.{FindsIn};
+ghost use Rattle.totem_evs.specs.AgreementFaults.{IsNotInstalled};
+ghost use Rattle.totem_pass_d.specs.Acts.{HasCome};
+ghost use Rattle.totem_pass_d.specs.Reached.{HoldsNotOfAll};
+
+use crate::events::{EventTest, least_event};
+use crate::stay::Stay;
+use crate::stays::Stays;
+use std::alloc::{AllocError, Global};
+use totem_evs::{Entry, Places, SpecNo};
+use totem_ids::Proc;
+
+/// The deliveries of safe messages in the regular configuration, to which a member never changes.
+#[derive(Clone, Copy)]
+struct Uninstalled<'s, 'r> {
+    stays: &'s Stays<'r>,
+}
+
+impl Uninstalled<'_, '_> {
+    /// Returns whether the log of this process changes to the regular configuration.
+    fn has_come(&self, proc: Proc) -> bool
+        ensures { IsTrue result ↔ HasCome self.now.stays.now.run.now.logs self.now.stays.now.ring proc }
+    {
+        match self.stays.stay_of(proc) {
+            Some(_) => true,
+            None => false,
+        }
+    }
+
+    /// Returns whether the log of each of these members changes to it.
+    fn have_come(&self, members: &[Proc]) -> bool
+        ensures all { OnTrue result (All (HasCome self.now.stays.now.run.now.logs self.now.stays.now.ring) members.now) }
+        ensures not_all { OnFalse result (HoldsNotOfAll (HasCome self.now.stays.now.run.now.logs self.now.stays.now.ring) members.now) }
+    {
+        members.iter().all(|member| self.has_come(*member))
+    }
+}
+
+impl EventTest for Uninstalled<'_, '_> {
+    ghost among = { λ s. s.stays.now.list.items };
+
+    ghost breaks = { λ s. IsNotInstalled s.stays.now.run.now.logs s.stays.now.ring };
+
+    fn breaks_at(&self, stay: &Stay, at: usize) -> bool {
+        let Entry::Deliver(message, _) = self.stays.entry_in(stay, at) else {
+            return false;
+        };
+        if at >= stay.turn {
+            return false;
+        }
+        if !self.stays.is_safe(message) {
+            return false;
+        }
+        !self.have_come(self.stays.members_at(stay, at))
+    }
+}
+
+/// The least event that breaks it in this configuration.
+pub fn find(alloc: Global, stays: &Stays) -> Result<Option<Places>, AllocError>
+    ensures { IfOk result (FindsIn stays.now.run.now.logs stays.now.ring SpecNo.Installed) }
+{
+    least_event(&Uninstalled { stays }, alloc, stays)
+}

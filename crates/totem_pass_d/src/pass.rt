@@ -1,0 +1,118 @@
+//! Pass D of the audit (docs/SPECIFICATIONS.md, "Passes").
+ghost use Rattle.std.specs.Prelude.{◌≡◌, ◌++◌, IfOk};
+ghost use Rattle.totem_evs.specs.Answers.{MeetsPasses, ListsConfigurations};
+ghost use Rattle.totem_pass_d.specs.Findings.{AreComplete};
+ghost use Rattle.totem_pass_d.specs.Jobs.{AreJobs};
+
+use crate::complete::Complete;
+use crate::findings::Findings;
+use crate::jobs::Jobs;
+use std::alloc::{AllocError, Global};
+use totem_evs::{Fault, Run, SpecNo};
+use totem_table::with_found;
+
+/// What the jobs of the pass come to.
+#[derive(Drop)]
+pub struct Judged {
+    pub faults: Vec<Fault>,
+    /// For each job in their order, for whom nothing is pending in its configuration, as far as is known.
+    pub complete: Vec<Complete>,
+}
+
+/// The faults of each specification: one for each configuration in which it is broken, in their order.
+#[derive(Drop)]
+pub struct Found {
+    pub own: Vec<Fault>,
+    pub atomicity: Vec<Fault>,
+    pub causality: Vec<Fault>,
+    pub gap: Vec<Fault>,
+    pub safety: Vec<Fault>,
+    pub installed: Vec<Fault>,
+    /// For each configuration, for whom it is known that nothing is pending in it.
+    pub complete: Vec<Complete>,
+}
+
+/// Returns the list with the other after it.
+fn joined(mut faults: Vec<Fault>, others: Vec<Fault>) -> Result<Vec<Fault>, AllocError>
+    ensures { IfOk result (λ list. list.items ≡ faults.items ++ others.items) }
+{
+    for fault in others {
+        faults.push(fault)?;
+    }
+    Ok(faults)
+}
+
+impl Found {
+    ghost use Rattle.std.specs.Prelude.{◌≡◌, IfOk};
+    ghost use Rattle.totem_pass_d.specs.Findings.{IsNothing, GrowsBy, all_found};
+
+    /// Returns an empty collection.
+    pub fn new(alloc: Global) -> Found
+        ensures { IsNothing result }
+    {
+        Found {
+            own: Vec::new(alloc),
+            atomicity: Vec::new(alloc),
+            causality: Vec::new(alloc),
+            gap: Vec::new(alloc),
+            safety: Vec::new(alloc),
+            installed: Vec::new(alloc),
+            complete: Vec::new(alloc),
+        }
+    }
+
+    /// Adds what was found in the next configuration.
+    pub fn with(self, findings: Findings) -> Result<Found, AllocError>
+        ensures { IfOk result (GrowsBy self findings) }
+    {
+        let mut complete = self.complete;
+        complete.push(findings.complete)?;
+        Ok(Found {
+            own: with_found(self.own, SpecNo::OwnDelivery, findings.own)?,
+            atomicity: with_found(self.atomicity, SpecNo::Atomicity, findings.atomicity)?,
+            causality: with_found(self.causality, SpecNo::Causality, findings.causality)?,
+            gap: with_found(self.gap, SpecNo::Gap, findings.gap)?,
+            safety: with_found(self.safety, SpecNo::Safety, findings.safety)?,
+            installed: with_found(self.installed, SpecNo::Installed, findings.installed)?,
+            complete,
+        })
+    }
+
+    /// Returns all faults, specification by specification, and for whom nothing is known to be pending.
+    pub fn into_judged(self) -> Result<Judged, AllocError>
+        ensures faults { IfOk result (λ judged. judged.faults.items ≡ all_found self) }
+        ensures complete { IfOk result (λ judged. judged.complete.items ≡ self.complete.items) }
+    {
+        let complete = self.complete;
+        let gaps = joined(self.gap, joined(self.safety, self.installed)?)?;
+        let faults = joined(
+            self.own,
+            joined(self.atomicity, joined(self.causality, gaps)?)?,
+        )?;
+        Ok(Judged { faults, complete })
+    }
+}
+
+/// Does these jobs in their order, on the thread that asks. Returns, for each of 3, 4, 5, 6.3, 7.1 and 7.2 and for each regular
+/// configuration in which the run breaks it, the least events that do, and for whom nothing is known to be pending.
+pub fn pass_d_of(alloc: Global, jobs: &Jobs<'_>) -> Result<Judged, AllocError>
+    requires { AreJobs jobs.now.run.now.logs jobs.now }
+    ensures faults { IfOk result (λ judged. ListsConfigurations jobs.now.run.now.logs judged.faults.items) }
+    ensures complete { IfOk result (λ judged. AreComplete jobs.now.run.now.logs jobs.now.rings.items judged.complete.items) }
+{
+    let mut found = Found::new(alloc);
+    for index in 0..jobs.rings.len() {
+        found = found.with(jobs.findings(alloc, index)?)?;
+    }
+    found.into_judged()
+}
+
+/// Does pass D of a run that has passed the others.
+pub fn pass_d(alloc: Global, run: &Run) -> Result<Vec<Fault>, AllocError>
+    requires { MeetsPasses run.now.logs }
+    ensures { IfOk result (λ faults. ListsConfigurations run.now.logs faults.items) }
+{
+    let jobs = Jobs::build(alloc, run)?;
+    let judged = pass_d_of(alloc, &jobs)?;
+    Ok(judged.faults)
+}

@@ -1,0 +1,212 @@
+//! What is left open (docs/SPECIFICATIONS.md, "Pending and waiting").
+ghost use Rattle.std.specs.Prelude.{◌≡◌, ◌↔◌, ◌<◌, All, IsTrue, IfSome, IfNone, IfOk, OnOk, length};
+ghost use Rattle.totem_evs.specs.Answers.{MeetsPasses};
+ghost use Rattle.totem_evs.specs.Following.{OpenIn};
+ghost use Rattle.totem_evs.specs.Unsettled.{ArePending, AreWaiting, IsPending};
+ghost use Rattle.totem_pass_d.specs.Acts.{IsAmong};
+ghost use Rattle.totem_pass_d.specs.Jobs.{AreJobs};
+ghost use Rattle.totem_pass_d.specs.Indexes.{index_told, Tells};
+ghost use Rattle.totem_pass_d.specs.Pendings.{Adds, MissesAt, MissesNothingAt, MissesFrom, Misses, IsPendingIn, IsPendingFor};
+ghost use Rattle.totem_pass_d.specs.Completeness.{AreCompleteIn, HasNonePendingOf};
+ghost use Rattle.totem_pass_d.specs.Findings.{AreComplete};
+
+use crate::act::Act;
+use crate::complete::Complete;
+use crate::indexes::Indexes;
+use crate::jobs::Jobs;
+use crate::ring_stays::RingStays;
+use crate::stay::Stay;
+use std::alloc::{AllocError, Global};
+use totem_evs::{Entry, Pending, Run, Waiting};
+use totem_ids::{MsgId, Proc, RingId};
+use totem_run_rules::{has_failed, in_order};
+
+/// Returns whether the process of this stay is open in it.
+fn is_open(stays: &RingStays, stay: &Stay) -> bool
+    requires { IsAmong stays.now.list.items stay.now }
+    ensures { IsTrue result ↔ OpenIn stays.now.run.now.logs stay.now.proc stays.now.ring }
+{
+    stay.is_excused() && !has_failed(stay.log)
+}
+
+/// The message that this entry sends, if the process of the stay has not delivered it.
+fn missing_at(
+    stays: &RingStays,
+    deliveries: &Indexes,
+    stay: &Stay,
+    sender: &[Entry],
+    at: usize,
+) -> Option<MsgId>
+    requires among { IsAmong stays.now.list.items stay.now }
+    requires tells { Tells (index_told ⟦<MsgId as Ord>⟧.cmp deliveries.now) stay.now Act.Deliver stay.now.end }
+    requires within { at < length sender.now }
+    ensures found { IfSome result (MissesAt stays.now.ring stay.now sender.now at) }
+    ensures none { IfNone result (MissesNothingAt stays.now.ring stay.now sender.now at) }
+{
+    let Entry::Send(message, _, _) = &sender[at] else {
+        return None;
+    };
+    match stays.delivery_of(deliveries, stay, message) {
+        Some(_) => None,
+        None => Some(*message),
+    }
+}
+
+/// Adds what this sender sent and the process of the stay has not delivered.
+fn add_missing_from(
+    list: &mut Vec<Pending>,
+    stays: &RingStays,
+    deliveries: &Indexes,
+    stay: &Stay,
+    sender: &Stay,
+) -> Result<(), AllocError>
+    requires among { IsAmong stays.now.list.items stay.now }
+    requires tells { Tells (index_told ⟦<MsgId as Ord>⟧.cmp deliveries.now) stay.now Act.Deliver stay.now.end }
+    requires sender { IsAmong stays.now.list.items sender.now }
+    ensures { OnOk result (Adds (MissesFrom stays.now.ring stay.now sender.now) list.old.items list.new.items) }
+{
+    let proc = stay.proc;
+    for at in sender.from + 1..sender.turn {
+        if let Some(msg) = missing_at(stays, deliveries, stay, sender.log, at) {
+            list.push(Pending { proc, msg })?;
+        }
+    }
+    Ok(())
+}
+
+/// Adds what was sent and the process of the stay, which delivers at these indices, has not delivered.
+fn add_missing_by(
+    list: &mut Vec<Pending>,
+    stays: &RingStays,
+    deliveries: &Indexes,
+    stay: &Stay,
+) -> Result<(), AllocError>
+    requires among { IsAmong stays.now.list.items stay.now }
+    requires tells { Tells (index_told ⟦<MsgId as Ord>⟧.cmp deliveries.now) stay.now Act.Deliver stay.now.end }
+    ensures { OnOk result (Adds (Misses stays.now.run.now.logs stays.now.ring stay.now) list.old.items list.new.items) }
+{
+    for sender in &stays.list {
+        add_missing_from(list, stays, deliveries, stay, sender)?;
+    }
+    Ok(())
+}
+
+/// Adds what was sent and the process of the stay has not delivered.
+fn add_missing(
+    alloc: Global,
+    list: &mut Vec<Pending>,
+    stays: &RingStays,
+    stay: &Stay,
+) -> Result<(), AllocError>
+    requires { IsAmong stays.now.list.items stay.now }
+    ensures { OnOk result (Adds (Misses stays.now.run.now.logs stays.now.ring stay.now) list.old.items list.new.items) }
+{
+    let deliveries = Indexes::of(alloc, stay, Act::Deliver)?;
+    add_missing_by(list, stays, &deliveries, stay)
+}
+
+/// Adds what is pending for the process of this stay.
+fn add_open(
+    alloc: Global,
+    list: &mut Vec<Pending>,
+    stays: &RingStays,
+    complete: &[Proc],
+    stay: &Stay,
+) -> Result<(), AllocError>
+    requires among { IsAmong stays.now.list.items stay.now }
+    requires complete { All (HasNonePendingOf stays.now.run.now.logs stays.now.ring) complete.now }
+    ensures { OnOk result (Adds (IsPendingFor stays.now.run.now.logs stays.now.ring stay.now.proc) list.old.items list.new.items) }
+{
+    if complete.contains(&stay.proc) || !is_open(stays, stay) {
+        return Ok(());
+    }
+    add_missing(alloc, list, stays, stay)
+}
+
+/// Adds what is pending in one configuration. Nothing is for those that are complete.
+fn add_pending(
+    alloc: Global,
+    list: &mut Vec<Pending>,
+    stays: &RingStays,
+    complete: &[Proc],
+) -> Result<(), AllocError>
+    requires { All (HasNonePendingOf stays.now.run.now.logs stays.now.ring) complete.now }
+    ensures { OnOk result (Adds (IsPendingIn stays.now.run.now.logs stays.now.ring) list.old.items list.new.items) }
+{
+    for stay in &stays.list {
+        add_open(alloc, list, stays, complete, stay)?;
+    }
+    Ok(())
+}
+
+/// Adds what is pending in the configuration of this ring. Nothing is for those that are complete.
+fn add_ring(
+    alloc: Global,
+    list: &mut Vec<Pending>,
+    jobs: &Jobs<'_>,
+    ring: RingId,
+    complete: &[Proc],
+) -> Result<(), AllocError>
+    requires jobs { AreJobs jobs.now.run.now.logs jobs.now }
+    requires complete { All (HasNonePendingOf jobs.now.run.now.logs ring) complete.now }
+    ensures { OnOk result (Adds (IsPendingIn jobs.now.run.now.logs ring) list.old.items list.new.items) }
+{
+    let found = jobs.comings.stays(alloc, jobs.run, &jobs.changes, ring)?;
+    let stays = RingStays::of(jobs.run, ring, found);
+    add_pending(alloc, list, &stays, complete)
+}
+
+/// Adds what is pending in the configuration of this ring, of which this is known.
+fn add_known(
+    alloc: Global,
+    list: &mut Vec<Pending>,
+    jobs: &Jobs<'_>,
+    ring: RingId,
+    known: Option<&Complete>,
+) -> Result<(), AllocError>
+    requires jobs { AreJobs jobs.now.run.now.logs jobs.now }
+    requires known { IfSome known (λ complete. AreCompleteIn jobs.now.run.now.logs ring complete.now) }
+    ensures { OnOk result (Adds (IsPendingIn jobs.now.run.now.logs ring) list.old.items list.new.items) }
+{
+    match known {
+        Some(Complete::All) => Ok(()),
+        Some(Complete::Only(procs)) => add_ring(alloc, list, jobs, ring, procs),
+        None => add_ring(alloc, list, jobs, ring, &[]),
+    }
+}
+
+/// Returns all that is pending in the run of these jobs, by process and then by message. Nothing is looked for where it is known of
+/// the configuration of a job that nothing is pending for any process, or for this one.
+pub fn pending_of(
+    alloc: Global,
+    jobs: &Jobs<'_>,
+    complete: &[Complete],
+) -> Result<Vec<Pending>, AllocError>
+    requires jobs { AreJobs jobs.now.run.now.logs jobs.now }
+    requires complete { AreComplete jobs.now.run.now.logs jobs.now.rings.items complete.now }
+    ensures { IfOk result (λ list. ArePending jobs.now.run.now.logs list.items) }
+{
+    let mut list = Vec::new(alloc);
+    for (k, ring) in jobs.rings.iter().enumerate() {
+        add_known(alloc, &mut list, jobs, *ring, complete.get(k))?;
+    }
+    in_order(list)
+}
+
+/// Returns all that is pending in a run that has passed the first two passes, by process and then by message.
+pub fn pending(alloc: Global, run: &Run) -> Result<Vec<Pending>, AllocError>
+    requires { MeetsPasses run.now.logs }
+    ensures { IfOk result (λ list. ArePending run.now.logs list.items) }
+{
+    let jobs = Jobs::build(alloc, run)?;
+    pending_of(alloc, &jobs, &[])
+}
+
+/// Returns who waits in a run that has passed the first two passes, and for whom: by process and then by the other process.
+#[tactic(auto, using(totem_run_rules::proofs::Orderliness::passed_is_orderly))]
+pub fn waiting(alloc: Global, run: &Run) -> Result<Vec<Waiting>, AllocError>
+    requires { MeetsPasses run.now.logs }
+    ensures { IfOk result (λ list. AreWaiting run.now.logs list.items) }
+{
+    totem_run_rules::waiting(alloc, run)
+}

@@ -1,0 +1,72 @@
+//! 7.1: a safe message that is delivered reaches each member of the configuration in which it is delivered
+//! (docs/SPECIFICATIONS.md, "7 Safe delivery").
+ghost use Rattle.std.specs.Prelude.{◌↔◌, IsTrue, IfOk, All};
+ghost use Rattle.std.specs.Bool.{OnTrue, OnFalse};
+ghost use Rattle.totem_evs.specs.Answers.{FindsIn};
+ghost use Rattle.totem_evs.specs.AgreementFaults.{IsNotReached};
+ghost use Rattle.totem_evs.specs.Following.{DeliversOrEnds};
+ghost use Rattle.totem_pass_d.specs.Reached.{HoldsNotOfAll};
+
+use crate::events::{EventTest, least_event};
+use crate::stay::Stay;
+use crate::stays::Stays;
+use std::alloc::{AllocError, Global};
+use totem_evs::{Entry, Places, SpecNo};
+use totem_ids::{MsgId, Proc};
+
+/// The deliveries of safe messages that a member neither delivers nor is excused from.
+#[derive(Clone, Copy)]
+struct Unreached<'s, 'r> {
+    stays: &'s Stays<'r>,
+}
+
+impl Unreached<'_, '_> {
+    /// Returns whether this process delivers the message, or is excused from it.
+    fn is_reached(&self, proc: Proc, message: &MsgId) -> bool
+        ensures { IsTrue result ↔ DeliversOrEnds self.now.stays.now.run.now.logs proc self.now.stays.now.ring message.now }
+    {
+        let Some(stay) = self.stays.stay_of(proc) else {
+            return false;
+        };
+        if stay.is_excused() {
+            return true;
+        }
+        match self.stays.delivery_of(stay, message) {
+            Some(_) => true,
+            None => false,
+        }
+    }
+
+    /// Returns whether each of these members delivers the message, or is excused from it.
+    fn are_reached(&self, members: &[Proc], message: &MsgId) -> bool
+        ensures all { OnTrue result (All (λ q. DeliversOrEnds self.now.stays.now.run.now.logs q self.now.stays.now.ring message.now) members.now) }
+        ensures not_all { OnFalse result (HoldsNotOfAll (λ q. DeliversOrEnds self.now.stays.now.run.now.logs q self.now.stays.now.ring message.now) members.now) }
+    {
+        members
+            .iter()
+            .all(|member| self.is_reached(*member, message))
+    }
+}
+
+impl EventTest for Unreached<'_, '_> {
+    ghost among = { λ s. s.stays.now.list.items };
+
+    ghost breaks = { λ s. IsNotReached s.stays.now.run.now.logs s.stays.now.ring };
+
+    fn breaks_at(&self, stay: &Stay, at: usize) -> bool {
+        let Entry::Deliver(message, _) = self.stays.entry_in(stay, at) else {
+            return false;
+        };
+        if !self.stays.is_safe(message) {
+            return false;
+        }
+        !self.are_reached(self.stays.members_at(stay, at), message)
+    }
+}
+
+/// The least event that breaks it in this configuration.
+pub fn find(alloc: Global, stays: &Stays) -> Result<Option<Places>, AllocError>
+    ensures { IfOk result (FindsIn stays.now.run.now.logs stays.now.ring SpecNo.Safety) }
+{
+    least_event(&Unreached { stays }, alloc, stays)
+}

@@ -1,0 +1,149 @@
+//! The least list of events of a run that begins in a regular configuration or in what follows it.
+ghost use Rattle.std.specs.Prelude.{◌≡◌, ◌<◌, ℕ, IfOk, MatchOption, List, [], ◌∷◌};
+ghost use Rattle.totem_ids.specs.declared.place.Place.{Place};
+ghost use Rattle.totem_table.specs.Search.{place, NoneFrom, IsLeastFrom, HoldsOfNone};
+ghost use Rattle.totem_evs.specs.Answers.{IsLeast};
+ghost use Rattle.totem_pass_d.specs.declared.stay.Stay.{Stay};
+ghost use Rattle.totem_pass_d.specs.Acts.{IsAmong};
+ghost use Rattle.totem_pass_d.specs.Search.{IsInside, EachBeginsWithin, NoneWithin, IsLeastWithin, IsShort};
+
+use crate::stay::Stay;
+use crate::stays::Stays;
+use std::alloc::{AllocError, Global};
+use totem_evs::Places;
+use totem_ids::{Place, Proc};
+use totem_table::{begin_at, places_of};
+
+/// A relation on lists of events that begin in one of the stays.
+pub trait Relation {
+    /// The stays.
+    ghost among: { Self → List Stay };
+
+    /// What it says of a list of places.
+    ghost holds: { Self → List Place → Type 0 };
+
+    /// How the least list goes on that begins at this index of a stay.
+    fn rest(&self, alloc: Global, stay: &Stay, at: usize) -> Result<Option<Vec<Place>>, AllocError>
+        requires among { IsAmong (among self.now) stay.now }
+        requires inside { IsInside stay.now at }
+        ensures { IfOk result (λ found. MatchOption found (NoneFrom (holds self.now) stay.now.proc at) (λ rest. IsLeastFrom (holds self.now) stay.now.proc at rest.items)) };
+}
+
+/// A relation on lists of events of which the least that begins in a stay can be found.
+pub trait Finder {
+    /// The stays.
+    ghost among: { Self → List Stay };
+
+    /// At which indices of a stay a list may begin.
+    ghost reaches: { Self → Stay → ℕ → Type 0 };
+
+    /// What it says of a list of places.
+    ghost holds: { Self → List Place → Type 0 };
+
+    /// The least list that begins in this stay.
+    fn find_in(&self, alloc: Global, stay: &Stay) -> Result<Option<Vec<Place>>, AllocError>
+        requires among { IsAmong (among self.now) stay.now }
+        requires short { IsShort stay.now }
+        ensures { IfOk result (λ found. MatchOption found (NoneWithin (reaches self.now) (holds self.now) stay.now) (λ list. IsLeastWithin (reaches self.now) (holds self.now) stay.now list.items)) };
+}
+
+/// The list of the one event at this index of a process's log.
+pub fn only(alloc: Global, proc: Proc, at: usize) -> Result<Vec<Place>, AllocError>
+    requires { at < 1000000 }
+    ensures { IfOk result (λ list. list.items ≡ place proc at ∷ []) }
+{
+    begin_at(proc, at, Vec::new(alloc))
+}
+
+/// Asks a relation at each index of a stay.
+#[derive(Clone, Copy)]
+struct EachIndex<'r, R> {
+    relation: &'r R,
+}
+
+impl<R: Relation> Finder for EachIndex<'_, R> {
+    ghost among = { λ e. R.among e.relation.now };
+
+    ghost reaches = { λ e. IsInside };
+
+    ghost holds = { λ e. R.holds e.relation.now };
+
+    fn find_in(&self, alloc: Global, stay: &Stay) -> Result<Option<Vec<Place>>, AllocError> {
+        for at in stay.from + 1..stay.end {
+            if let Some(rest) = self.relation.rest(alloc, stay, at)? {
+                return Ok(Some(begin_at(stay.proc, at, rest)?));
+            }
+        }
+        Ok(None)
+    }
+}
+
+/// The least list of events of which a relation holds that begins in this stay.
+pub fn least_in<R: Relation>(
+    relation: &R,
+    alloc: Global,
+    stay: &Stay,
+) -> Result<Option<Vec<Place>>, AllocError>
+    requires among { IsAmong (R.among relation.now) stay.now }
+    requires short { IsShort stay.now }
+    ensures { IfOk result (λ found. MatchOption found (NoneWithin IsInside (R.holds relation.now) stay.now) (λ list. IsLeastWithin IsInside (R.holds relation.now) stay.now list.items)) }
+{
+    EachIndex { relation }.find_in(alloc, stay)
+}
+
+/// The least list that a finder finds.
+pub fn first_found<F: Finder>(
+    finder: &F,
+    alloc: Global,
+    stays: &Stays,
+) -> Result<Option<Vec<Place>>, AllocError>
+    requires among { F.among finder.now ≡ stays.now.list.items }
+    requires begins { EachBeginsWithin stays.now.list.items (F.reaches finder.now) (F.holds finder.now) }
+    ensures { IfOk result (λ found. MatchOption found (HoldsOfNone (F.holds finder.now)) (λ list. IsLeast (F.holds finder.now) list.items)) }
+{
+    for stay in &stays.list {
+        if let Some(list) = finder.find_in(alloc, stay)? {
+            return Ok(Some(list));
+        }
+    }
+    Ok(None)
+}
+
+/// The least list of events of which a relation holds.
+pub fn least_list<R: Relation>(
+    relation: &R,
+    alloc: Global,
+    stays: &Stays,
+) -> Result<Option<Vec<Place>>, AllocError>
+    requires among { R.among relation.now ≡ stays.now.list.items }
+    requires begins { EachBeginsWithin stays.now.list.items IsInside (R.holds relation.now) }
+    ensures { IfOk result (λ found. MatchOption found (HoldsOfNone (R.holds relation.now)) (λ list. IsLeast (R.holds relation.now) list.items)) }
+{
+    first_found(&EachIndex { relation }, alloc, stays)
+}
+
+/// The least list of events of which it holds.
+pub fn least<R: Relation>(
+    relation: &R,
+    alloc: Global,
+    stays: &Stays,
+) -> Result<Option<Places>, AllocError>
+    requires among { R.among relation.now ≡ stays.now.list.items }
+    requires begins { EachBeginsWithin stays.now.list.items IsInside (R.holds relation.now) }
+    ensures { IfOk result (λ found. MatchOption found (HoldsOfNone (R.holds relation.now)) (IsLeast (R.holds relation.now))) }
+{
+    least_found(&EachIndex { relation }, alloc, stays)
+}
+
+/// The least list that a finder finds, as places.
+pub fn least_found<F: Finder>(
+    finder: &F,
+    alloc: Global,
+    stays: &Stays,
+) -> Result<Option<Places>, AllocError>
+    requires among { F.among finder.now ≡ stays.now.list.items }
+    requires begins { EachBeginsWithin stays.now.list.items (F.reaches finder.now) (F.holds finder.now) }
+    ensures { IfOk result (λ found. MatchOption found (HoldsOfNone (F.holds finder.now)) (IsLeast (F.holds finder.now))) }
+{
+    Ok(places_of(first_found(finder, alloc, stays)?))
+}

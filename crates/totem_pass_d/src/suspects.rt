@@ -1,0 +1,127 @@
+//! The messages for which 5 may be broken: a walk back along each sender's log, for each receiver
+//! (docs/SPECIFICATIONS.md, "5 Causal delivery"). It spares the search for all other causes.
+ghost use Rattle.std.specs.Prelude.{◌≡◌, IfSome, IfNone, IfOk, OnOk, length};
+ghost use Rattle.std.specs.Bool.{OnTrue};
+ghost use Rattle.totem_pass_d.specs.Acts.{IsAmong};
+ghost use Rattle.totem_pass_d.specs.Suspects.{Handles, HandlesNothing, ComesBefore, IsEarlier, IsNoted, HasAllOf, AreNoted, AllNoted, AreSuspects};
+
+use crate::stay::Stay;
+use crate::stays::Stays;
+use std::alloc::{AllocError, Global};
+use std::collections::BTreeSet;
+use totem_evs::Entry;
+use totem_ids::MsgId;
+
+/// The message that this entry sends or delivers.
+fn handled(entry: &Entry) -> Option<MsgId>
+    ensures found { IfSome result (Handles entry.now) }
+    ensures none { IfNone result (HandlesNothing entry.now) }
+{
+    match entry {
+        Entry::Send(message, _, _) | Entry::Deliver(message, _) => Some(*message),
+        _ => None,
+    }
+}
+
+/// Returns whether the receiver delivers the message before this index of its log.
+fn comes_before(stays: &Stays, receiver: &Stay, message: &MsgId, index: usize) -> bool
+    requires { IsAmong stays.now.list.items receiver.now }
+    ensures { OnTrue result (ComesBefore stays.now.run.now.logs stays.now.ring receiver.now.proc message.now index) }
+{
+    match stays.delivery_of(receiver, message) {
+        Some(at) => at < index,
+        None => false,
+    }
+}
+
+/// The earlier one of this index and that at which the receiver delivers what the entry sends.
+fn earlier(stays: &Stays, receiver: &Stay, entry: &Entry, early: usize) -> usize
+    requires { IsAmong stays.now.list.items receiver.now }
+    ensures { IsEarlier stays.now.run.now.logs stays.now.ring receiver.now.proc entry.now early result }
+{
+    let Entry::Send(message, _, _) = entry else {
+        return early;
+    };
+    match stays.delivery_of(receiver, message) {
+        Some(at) => { if at < early { at } else { early } }
+        None => early,
+    }
+}
+
+/// Notes what the entry sends or delivers, unless the receiver delivers that before `early`, the index at which it delivers the
+/// first of what the sender sends later. Where it delivers nothing of that, `early` is the end of its stay.
+fn note(
+    suspects: &mut BTreeSet<MsgId>,
+    stays: &Stays,
+    receiver: &Stay,
+    entry: &Entry,
+    early: usize,
+) -> Result<(), AllocError>
+    requires { IsAmong stays.now.list.items receiver.now }
+    ensures noted { OnOk result (IsNoted ⟦<MsgId as Ord>⟧.cmp suspects.new stays.now.run.now.logs stays.now.ring receiver.now entry.now early) }
+    ensures kept { OnOk result (HasAllOf ⟦<MsgId as Ord>⟧.cmp suspects.new suspects.old) }
+{
+    if early >= receiver.end {
+        return Ok(());
+    }
+    let Some(message) = handled(entry) else {
+        return Ok(());
+    };
+    if comes_before(stays, receiver, &message, early) {
+        return Ok(());
+    }
+    suspects.insert(message)?;
+    Ok(())
+}
+
+/// Notes what a sender sent or delivered and this receiver may deliver too late.
+fn note_pair(
+    suspects: &mut BTreeSet<MsgId>,
+    stays: &Stays,
+    sender: &Stay,
+    receiver: &Stay,
+) -> Result<(), AllocError>
+    requires sender { IsAmong stays.now.list.items sender.now }
+    requires receiver { IsAmong stays.now.list.items receiver.now }
+    ensures noted { OnOk result (AreNoted ⟦<MsgId as Ord>⟧.cmp suspects.new stays.now.run.now.logs stays.now.ring sender.now receiver.now) }
+    ensures kept { OnOk result (HasAllOf ⟦<MsgId as Ord>⟧.cmp suspects.new suspects.old) }
+{
+    let mut early = receiver.end;
+    let mut next = sender.turn;
+    'back: while sender.from + 1 < next {
+        let at = next - 1;
+        let entry = stays.entry_in(sender, at);
+        note(suspects, stays, receiver, entry, early)?;
+        early = earlier(stays, receiver, entry, early);
+        next = at;
+    }
+    Ok(())
+}
+
+/// Notes what a sender sent or delivered and some receiver may deliver too late.
+fn note_sender(
+    suspects: &mut BTreeSet<MsgId>,
+    stays: &Stays,
+    sender: &Stay,
+) -> Result<(), AllocError>
+    requires { IsAmong stays.now.list.items sender.now }
+    ensures noted { OnOk result (AllNoted ⟦<MsgId as Ord>⟧.cmp suspects.new stays.now.run.now.logs stays.now.ring stays.now.list.items sender.now (length stays.now.list.items)) }
+    ensures kept { OnOk result (HasAllOf ⟦<MsgId as Ord>⟧.cmp suspects.new suspects.old) }
+{
+    for receiver in &stays.list {
+        note_pair(suspects, stays, sender, receiver)?;
+    }
+    Ok(())
+}
+
+/// The messages that some process sent or delivered before it sent another one, of which some process delivers that other one
+/// alone or first. Each two stays are walked once.
+pub fn suspects_of(alloc: Global, stays: &Stays) -> Result<BTreeSet<MsgId>, AllocError>
+    ensures { IfOk result (λ suspects. AreSuspects ⟦<MsgId as Ord>⟧.cmp suspects stays.now.run.now.logs stays.now.ring stays.now.list.items (length stays.now.list.items)) }
+{
+    let mut suspects = BTreeSet::new(alloc);
+    for sender in &stays.list {
+        note_sender(&mut suspects, stays, sender)?;
+    }
+    Ok(suspects)
+}

@@ -1,5 +1,0 @@
-use Rattle.totem_rules.proofs.ChangesMet.{all_agree}
-use Rattle.totem_rules.proofs.changes.changes_agree.Goals as goal
-
-pub returns : goal.returns
-returns c = all_agree _ _ _ c.loop-index-test.false c.loop-index.invariant

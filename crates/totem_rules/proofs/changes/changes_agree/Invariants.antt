@@ -1,5 +1,0 @@
-use Rattle.totem_rules.specs.FirstChanges.{KnowsChanges}
-use Rattle.totem_rules.proofs.changes.changes_agree.Given as goal
-
-abbrev pub invariant-loop-index : goal.invariant-loop-index
-invariant-loop-index l = KnowsChanges l.logs l.firsts l.index 0

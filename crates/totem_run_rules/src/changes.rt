@@ -1,0 +1,189 @@
+//! 2.3 and 2.4: each configuration has one list of members, to which who changes belongs, and regular and transitional ones
+//! take turns (docs/SPECIFICATIONS.md, "2 Changes of configuration").
+ghost use Rattle.std.specs.Prelude.{◌≡◌, ◌+◌, ◌<◌, IfOk, IfSome, length};
+ghost use Rattle.std.specs.Bool.{OnTrue};
+ghost use Rattle.std.specs.Result.{OnOk};
+ghost use Rattle.std.specs.BTreeMap.{Updates};
+ghost use Rattle.totem_run_rules.specs.Orderly.{ChangesAgree};
+ghost use Rattle.totem_run_rules.specs.FirstChanges.{conf_order, first_to, IsOrigin, IsLastBefore, ComesFrom, IsThere, HasMembers, StandsThere, AreFirst, Meets, IsBehind, Enters, KnowsChanges};
+
+use crate::succession::is_wrong;
+use std::alloc::{AllocError, Global};
+use std::collections::BTreeMap;
+use totem_evs::{Entry, Log, Members};
+use totem_ids::{ConfId, RingId};
+
+/// The first change to a configuration that was met.
+#[derive(Clone, Copy)]
+pub struct FirstChange {
+    /// Its log, by index.
+    pub log: usize,
+    /// Its index in the log.
+    pub at: usize,
+    /// The ring from which the log comes to the configuration. A regular one is its own.
+    pub from: RingId,
+}
+
+/// Returns the ring from which a log comes to the second configuration, right after the first.
+fn origin(before: &ConfId, conf: &ConfId) -> Option<RingId>
+    ensures { IfSome result (IsOrigin before.now conf.now) }
+{
+    match (before, conf) {
+        (_, ConfId::Regular(ring)) => Some(*ring),
+        (ConfId::Regular(ring), ConfId::Transitional { .. }) => Some(*ring),
+        (ConfId::Transitional { .. }, ConfId::Transitional { .. }) => None,
+    }
+}
+
+/// Returns the ring from which a log comes to this configuration after the change at `before`, or as its first one. Returns
+/// `None` where it may not come there so.
+fn came_from(
+    log: &[Entry],
+    before: Option<usize>,
+    conf: &ConfId,
+    members: &Members,
+) -> Option<RingId>
+    requires { IfSome before (λ i. i < length log.now) }
+    ensures { IfSome result (ComesFrom log.now before conf.now members.now) }
+{
+    let Some(at) = before else {
+        return match conf {
+            ConfId::Regular(ring) => Some(*ring),
+            ConfId::Transitional { .. } => None,
+        };
+    };
+    let Entry::Conf(before, before_members) = &log[at] else {
+        return None;
+    };
+    if is_wrong(before, before_members, conf, members) {
+        return None;
+    }
+    origin(before, conf)
+}
+
+/// Returns whether the change has these members.
+fn has_members(logs: &[Log], change: &FirstChange, members: &Members) -> bool
+    requires { IsThere logs.now change.now }
+    ensures { OnTrue result (HasMembers logs.now change.now members.now) }
+{
+    let log = &logs[change.log];
+    let entries = log.entries.as_slice();
+    match &entries[change.at] {
+        Entry::Conf(_, others) => others.is(members),
+        _ => false,
+    }
+}
+
+fn first_to(firsts: &BTreeMap<ConfId, FirstChange>, conf: &ConfId) -> Option<FirstChange>
+    ensures { result ≡ first_to firsts.now conf.now }
+{
+    firsts.get(conf).copied()
+}
+
+fn put(
+    firsts: &mut BTreeMap<ConfId, FirstChange>,
+    conf: &ConfId,
+    change: FirstChange,
+) -> Result<(), AllocError>
+    ensures { OnOk result (Updates conf_order firsts.old firsts.new conf.now (Some change)) }
+{
+    match conf {
+        ConfId::Regular(ring) => firsts.insert(ConfId::Regular(*ring), change)?,
+        ConfId::Transitional { next, least } => firsts.insert(
+            ConfId::Transitional {
+                next: *next,
+                least: *least,
+            },
+            change,
+        )?,
+    };
+    Ok(())
+}
+
+/// Meets a change to a configuration. Returns whether it has the members and the origin of the first one to it.
+fn meet(
+    firsts: &mut BTreeMap<ConfId, FirstChange>,
+    logs: &[Log],
+    conf: &ConfId,
+    members: &Members,
+    change: FirstChange,
+) -> Result<bool, AllocError>
+    requires first { AreFirst logs.now firsts.old }
+    requires there { StandsThere logs.now change conf.now members.now }
+    ensures { IfOk result (λ ok. OnTrue ok (Meets logs.now firsts.old firsts.new conf.now members.now change.from)) }
+{
+    let Some(first) = first_to(firsts, conf) else {
+        put(firsts, conf, change)?;
+        return Ok(true);
+    };
+    Ok(first.from == change.from && has_members(logs, &first, members))
+}
+
+/// Enters the change at this index of a log, after the one at `before`. Returns whether it may stand there.
+fn enter(
+    firsts: &mut BTreeMap<ConfId, FirstChange>,
+    logs: &[Log],
+    index: usize,
+    at: usize,
+    before: Option<usize>,
+) -> Result<bool, AllocError>
+    requires log { index < length logs.now }
+    requires behind { IsBehind logs.now index at before }
+    requires first { AreFirst logs.now firsts.old }
+    ensures { IfOk result (λ ok. OnTrue ok (Enters logs.now firsts.old firsts.new index at)) }
+{
+    let log = &logs[index];
+    let entries = log.entries.as_slice();
+    let Entry::Conf(conf, members) = &entries[at] else {
+        return Ok(false);
+    };
+    if !members.contains(log.proc) {
+        return Ok(false);
+    }
+    let Some(from) = came_from(entries, before, conf, members) else {
+        return Ok(false);
+    };
+    let change = FirstChange {
+        log: index,
+        at,
+        from,
+    };
+    meet(firsts, logs, conf, members, change)
+}
+
+/// Enters the changes of one log, where those of the logs before it are known. Returns whether each may stand where it does.
+fn enter_log(
+    firsts: &mut BTreeMap<ConfId, FirstChange>,
+    logs: &[Log],
+    index: usize,
+) -> Result<bool, AllocError>
+    requires within { index < length logs.now }
+    requires known { KnowsChanges logs.now firsts.old index 0 }
+    ensures { IfOk result (λ ok. OnTrue ok (KnowsChanges logs.now firsts.new (index + 1) 0)) }
+{
+    let log = &logs[index];
+    let entries = log.entries.as_slice();
+    let mut before = None;
+    for at in 0..entries.len() {
+        if let Entry::Conf(_, _) = &entries[at] {
+            if !enter(firsts, logs, index, at, before)? {
+                return Ok(false);
+            }
+            before = Some(at);
+        }
+    }
+    Ok(true)
+}
+
+/// Returns `true` only where the changes of a run meet the specifications, but for changes of one log to one configuration.
+pub fn changes_agree(alloc: Global, logs: &[Log]) -> Result<bool, AllocError>
+    ensures { IfOk result (λ ok. OnTrue ok (ChangesAgree logs.now)) }
+{
+    let mut firsts = BTreeMap::new(alloc);
+    for index in 0..logs.len() {
+        if !enter_log(&mut firsts, logs, index)? {
+            return Ok(false);
+        }
+    }
+    Ok(true)
+}

@@ -1,0 +1,70 @@
+//! 2.2: each entry stands where it may (docs/SPECIFICATIONS.md, "2 Changes of configuration").
+ghost use Rattle.std.specs.Prelude.{◌≡◌, ℕ, ◌<◌, ◌↔◌, IsTrue, IfSome, IfNone, Some};
+ghost use Rattle.std.specs.Bool.{OnTrue};
+ghost use Rattle.totem_evs.specs.Changes.{StaysInPlace};
+ghost use Rattle.totem_evs.specs.ChangeFaults.{IsMisplaced};
+ghost use Rattle.totem_run_rules.specs.Misplaced.{Fits, standing_after};
+ghost use Rattle.totem_run_rules.specs.Orderly.{AllStayInPlace};
+
+use totem_evs::{Entry, Log};
+use totem_ids::ConfId;
+
+fn is_in(standing: &Option<ConfId>, conf: &ConfId) -> bool
+    ensures { IsTrue result ↔ (standing.now ≡ Some conf.now) }
+{
+    match standing {
+        None => false,
+        Some(here) => here.is(conf),
+    }
+}
+
+fn fits(standing: &Option<ConfId>, entry: &Entry) -> bool
+    ensures { IsTrue result ↔ Fits standing.now entry.now }
+{
+    match entry {
+        Entry::Conf(_, _) => true,
+        Entry::Send(_, conf, _) => is_in(standing, conf),
+        Entry::Deliver(_, conf) => is_in(standing, conf),
+        Entry::Fail(conf) => is_in(standing, conf),
+    }
+}
+
+/// Goes past an entry. Only a change is written: it alone moves the log to another configuration.
+fn go_past(standing: &mut Option<ConfId>, entry: &Entry)
+    ensures { standing.new ≡ standing_after standing.old entry.now }
+{
+    if let Entry::Conf(conf, _) = entry {
+        *standing = Some(*conf);
+    }
+}
+
+/// Returns the index of the first entry of a log that stands out of place.
+pub fn first_misplaced(log: &[Entry]) -> Option<usize>
+    ensures found { IfSome result (λ i. IsMisplaced log.now i) }
+    ensures least { IfSome result (λ i. (k : ℕ) → k < i → IsMisplaced log.now k → ⊥) }
+    ensures none { IfNone result (StaysInPlace log.now) }
+{
+    let mut standing: Option<ConfId> = None;
+    let mut failed = false;
+    for (i, entry) in log.iter().enumerate() {
+        let good = fits(&standing, entry);
+        if failed || !good {
+            return Some(i);
+        }
+        go_past(&mut standing, entry);
+        failed = entry.is_failure();
+    }
+    None
+}
+
+/// Returns `true` only where the run meets the specification.
+pub fn all_stay_in_place(logs: &[Log]) -> bool
+    ensures { OnTrue result (AllStayInPlace logs.now) }
+{
+    for log in logs {
+        if let Some(_) = first_misplaced(log.entries.as_slice()) {
+            return false;
+        }
+    }
+    true
+}

@@ -1,0 +1,45 @@
+//! Where logs end (docs/SPECIFICATIONS.md, "Pending and waiting").
+ghost use Rattle.std.specs.Prelude.{◌↔◌, IsTrue};
+ghost use Rattle.std.specs.Bool.{OnTrue, OnFalse};
+ghost use Rattle.totem_evs.specs.Changes.{StaysInPlace};
+ghost use Rattle.totem_evs.specs.Unsettled.{EndsIn};
+ghost use Rattle.totem_run_rules.specs.Ends.{GoesOn};
+ghost use Rattle.totem_run_rules.specs.Endings.{HasFailed, IsEnd};
+
+use crate::ends;
+use totem_evs::Entry;
+use totem_ids::ConfId;
+
+/// Returns whether the log has a failure, which can stand only at its end.
+pub fn has_failed(log: &[Entry]) -> bool
+    requires { StaysInPlace log.now }
+    ensures failed { OnTrue result (HasFailed log.now) }
+    ensures goes_on { OnFalse result (GoesOn log.now) }
+{
+    if log.is_empty() {
+        return false;
+    }
+    matches!(&log[log.len() - 1], Entry::Fail(_))
+}
+
+/// The index of the last change of a log that has no failure.
+pub fn standing_change(log: &[Entry]) -> Option<usize>
+    requires { StaysInPlace log.now }
+    ensures { IsEnd log.now result }
+{
+    if has_failed(log) {
+        return None;
+    }
+    ends::last_change(log)
+}
+
+/// Returns whether the log ends in the configuration: it has no failure, and its last change, at index `last`, is to it.
+pub fn ends_in(log: &[Entry], last: Option<usize>, conf: &ConfId) -> bool
+    requires { IsEnd log.now last }
+    ensures { IsTrue result ↔ EndsIn log.now conf.now }
+{
+    match last {
+        Some(_) => ends::ends_in(log, last, conf),
+        None => false,
+    }
+}

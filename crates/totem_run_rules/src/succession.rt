@@ -1,0 +1,44 @@
+//! Which change comes next, and which may (docs/SPECIFICATIONS.md, "2 Changes of configuration").
+ghost use Rattle.std.specs.Prelude.{◌↔◌, ◌<◌, All, Contains, IsTrue, length};
+ghost use Rattle.totem_evs.specs.Following.{IsNextOrEnd};
+ghost use Rattle.totem_run_rules.specs.Succession.{IsWrongSuccession};
+
+use totem_evs::{Entry, Members};
+use totem_ids::ConfId;
+
+fn contains_all(members: &Members, others: &Members) -> bool
+    ensures { IsTrue result ↔ All (Contains members.now) others.now }
+{
+    for proc in others.as_slice() {
+        if !members.contains(*proc) {
+            return false;
+        }
+    }
+    true
+}
+
+/// Returns whether the second change may not come next after the first.
+pub fn is_wrong(conf: &ConfId, members: &Members, next: &ConfId, next_members: &Members) -> bool
+    ensures { IsTrue result ↔ IsWrongSuccession conf.now members.now next.now next_members.now }
+{
+    match (conf, next) {
+        (ConfId::Regular(_), ConfId::Transitional { .. }) => !contains_all(members, next_members),
+        (ConfId::Transitional { next: named, .. }, ConfId::Regular(ring)) => {
+            !contains_all(next_members, members) || *ring != *named
+        }
+        _ => true,
+    }
+}
+
+/// Returns the index of the next change, or the length of the log where none follows, entry by entry.
+pub fn walk_to_change(log: &[Entry], at: usize) -> usize
+    requires { at < length log.now }
+    ensures { IsNextOrEnd log.now at result }
+{
+    for next in at + 1..log.len() {
+        if let Entry::Conf(_, _) = &log[next] {
+            return next;
+        }
+    }
+    log.len()
+}
