@@ -94,7 +94,7 @@ word_taken a b fault word taken same = record {
 
 -- ---- what a buffer holds
 
--- what a buffer holds comes next
+-- what a buffer holds follows next
 pub held_front : (items hand : List ℕ) (at filled : ℕ) (inner : Option (List ℕ)) → at ≤ filled → hand ≡ take (filled - at) (drop at items)
     → IfSome (prepend_known (drop at (take filled items)) inner) (λ bytes. StartsWith bytes hand)
 held_front items hand at filled inner le is =

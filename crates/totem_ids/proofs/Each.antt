@@ -1,4 +1,4 @@
--- Going along a list each of whose elements keeps a rule.
+-- Loops over a list each of whose elements keeps a rule.
 use Rattle.std.proofs.Common.{◌≡◌, ℕ, ◌+◌, ◌<◌, ◌≤◌, List, length, get_or, take}
 use Rattle.std.specs.Prelude.{All}
 use Rattle.std.proofs.lemmas.List.{take_more, take_all}

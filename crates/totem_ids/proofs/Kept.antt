@@ -1,4 +1,4 @@
--- A list that keeps the rules is refused by none of them.
+-- A list that keeps the rules is not refused.
 use Rattle.std.proofs.Common.{ℕ, ◌+◌, ◌<◌, ◌≤◌, List, length, take, ap, arith}
 use Rattle.std.specs.Prelude.{AllPairs}
 use Rattle.std.proofs.lemmas.List.{get_or-take, length-take-le}

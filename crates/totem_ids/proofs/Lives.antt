@@ -138,7 +138,7 @@ process_again : (version : Version) (end n : ℕ) (rest : List ℕ) → is_digit
 unfolding process_to
 process_again version end n rest other is = let same : (end == end) ≡ true = search rules in rw (process_then_again version n end rest other is, same) refl
 
--- ---- what follows changes no answer
+-- ---- what follows changes no result
 
 first_life_steady : Steady first_life_then
 unfolding first_life_then

@@ -1,4 +1,4 @@
--- Readers that go on, byte after byte and call after call.
+-- Readers that continue, byte after byte and call after call.
 use Rattle.std.specs.Prelude.{Some, None, IfSome, ◌==◌, ◌&&◌, not, nat_le}
 use Rattle.std.specs.declared.option.Option.{Option}
 use Rattle.std.proofs.Common.{◌≡◌, ◌≢◌, length, drop, get_or, add-one, drop-cons, ℕ, ◌+◌, ◌-◌, ◌*◌, ◌%◌, ◌^◌, ◌<◌, ◌≤◌, arith, rules, List, [], ◌∷◌, ◌++◌, Bool, true, false, cond, Result, Ok, Err, refl, sym, ◌∙◌, ap, append_assoc}
@@ -19,7 +19,7 @@ pub last_of : (b : ℕ) (bs : List ℕ) → (front : List ℕ) × (byte : ℕ) �
 last_of b [] = ([], b, refl)
 last_of b (c ∷ cs) = let x = last_of c cs in (b ∷ x.0, x.1, ap (λ (w : List ℕ). b ∷ w) x.2)
 
--- what is in front of it
+-- what is before it
 pub front_is : (xs ys : List ℕ) (x y : ℕ) → xs ++ x ∷ [] ≡ ys ++ y ∷ [] → xs ≡ ys
 front_is [] [] x y h = refl
 front_is [] (b ∷ []) x y h = absurd cc
@@ -53,7 +53,7 @@ wants_rest a b parse rest ys so_far then = wants_both parse so_far.read ys so_fa
 pub wants_bind : {Y Z : Type 0} (sub : List ℕ → Parsed Y) (k : Y × List ℕ → Result Z TextFault) (bytes : List ℕ) → WantsLast sub bytes → WantsLast (λ more. sub more >>= k) bytes
 wants_bind {Y = Y} sub k bytes wants front byte h = ap (λ (r : Parsed Y). r >>= k) (wants front byte h)
 
--- the last byte taken is the first that breaks a rule, where no answer is settled without a byte
+-- the last byte taken is the first that breaks a rule, where no result is settled without a byte
 pub breaks_at : {Y : Type 0} (old new : Seen) (parse : List ℕ → Result Y TextFault) (fault : TextFault) → parse [] ≡ Err Truncated → is_short fault ≡ false → Breaks old new parse fault → BreaksAt old new parse fault
 breaks_at old new parse fault empty long h = record { breaks = h; last = go h.read refl }
   where
@@ -83,13 +83,13 @@ ended old new keeps end same = record {
   before = wants_none byte_at;
 }
 
--- ---- what was read before, and what comes next
+-- ---- what was read before, and what follows
 
 -- nothing is read yet
 pub begins : {Y : Type 0} (s : Seen) (parse : List ℕ → Result Y TextFault) → Comes s s parse parse
 begins s parse = record { read = []; taken = Consumes-nil s.remaining; failures = refl; left = λ more. refl; before = wants_none parse }
 
--- a call has given a value
+-- a call returned a value
 pub called : {Y Z : Type 0} (a b c : Seen) (parse : List ℕ → Result Z TextFault) (sub : List ℕ → Parsed Y) (k : Y × List ℕ → Result Z TextFault) (y : Y)
     → Comes a b parse (λ more. sub more >>= k) → Comes b c sub (λ more. Ok (y, more)) → Comes a c parse (λ more. k (y, more))
 called {Y = Y} a b c parse sub k y so_far next = record {
@@ -126,7 +126,7 @@ stopped a b c parse rest read so_far taken counted short = record {
   short = so_far.left read ∙ short;
 }
 
--- a call has given up
+-- a call failed
 pub failed : {Y Z : Type 0} (a b c : Seen) (parse : List ℕ → Parsed Z) (sub : List ℕ → Parsed Y) (k : Y × List ℕ → Parsed Z) (e : ReadError)
     → Comes a b parse (λ more. sub more >>= k) → Reads {Y = Y} b c (Err e) sub → Reads {Y = Z} a c (Err e) parse
 failed a b c parse sub k errors.Memory so_far h = h ∙ so_far.failures
@@ -198,7 +198,7 @@ next_other max n b digit more = rw digit
 pub digit_low : (b : ℕ) → is_digit b ≡ true → b ≢ 48 → (0 < b - 48) × (b - 48 ≤ 9)
 digit_low b h other = (grind arith, grind arith)
 
--- a byte came, and what is parsed then
+-- a byte was read, and what is parsed then
 pub steps : {Y : Type 0} (a b c : Seen) (parse rest other : List ℕ → Result Y TextFault) (x : ℕ)
     → Comes a b parse rest → rest [] ≡ Err Truncated → Comes b c byte_at (λ more. Ok (x, more)) → ((more : List ℕ) → rest (x ∷ more) ≡ other more) → Comes a c parse other
 steps a b c parse rest other x so_far short next same =
@@ -223,7 +223,7 @@ none_read : (read : List ℕ) (f : TextFault) → byte_at read ≡ Err f → (re
 none_read [] f h = (refl, cc)
 none_read (b ∷ bs) f h = absurd cc
 
--- no byte came
+-- no byte was read
 pub gives_up : {Y : Type 0} (a b c : Seen) (parse rest : List ℕ → Parsed Y) (e : ReadError)
     → Comes a b parse rest → rest [] ≡ Err Truncated → Reads {Y = ℕ} b c (Err e) byte_at → Reads {Y = Y} a c (Err e) parse
 gives_up a b c parse rest errors.Memory so_far short h = h ∙ so_far.failures
@@ -300,6 +300,6 @@ is_above a b parse p q x n so_far lt = passed a b parse p q (nat_le x n) so_far 
 abbrev pub gives : {A : Type 0} → A → List ℕ → Parsed A
 gives x rest = Ok (x, rest)
 
--- a byte that is another one
+-- a byte that differs
 pub passes_byte : {Y : Type 0} (a b : Seen) (parse p q : List ℕ → Result Y TextFault) (x m n : ℕ) → Comes a b parse (λ more. cond (x == n) (p more) (q more)) → x ≡ m → (m == n) ≡ false → Comes a b parse q
 passes_byte a b parse p q x m n so_far e f = passed a b parse p q (x == n) so_far (ap (λ (k : ℕ). k == n) e ∙ f)

@@ -1,4 +1,4 @@
--- Going along a list whose elements rise.
+-- Loops over a list whose elements are ascending.
 use Rattle.std.proofs.Common.{◌≡◌, ℕ, zero, suc, ◌+◌, ◌<◌, ◌≤◌, List, length, get_or, take, refl, sym, ◌∙◌, ap, arith}
 use Rattle.std.specs.Prelude.{All, AllPairs}
 use Rattle.std.proofs.lemmas.List.{take_more, take_all, length-take-le, get_or-take, get_or_default}
@@ -6,7 +6,7 @@ use Rattle.std.proofs.lemmas.List.Elements.{All-push}
 use Rattle.std.proofs.lemmas.List.Quantifiers.{all_pairs_push}
 use Rattle.totem_ids.specs.Lists.{FallsAt}
 
--- the first i elements rise, and the last of them, if there is one, has this key
+-- the first i elements are ascending, and the last of them, if there is one, has this key
 pub record RisesTo {X : Type 0} (of : X → ℕ) (xs : List X) (i last : ℕ) : Type 0 where
   pub rising : AllPairs (λ a b. of a < of b) (take i xs)
   pub below : All (λ x. of x ≤ last) (take i xs)

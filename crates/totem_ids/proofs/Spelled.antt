@@ -22,7 +22,7 @@ pub bind_ok : {A B : Type 0} (r : Result A TextFault) (f : A → Result B TextFa
 bind_ok (Ok x) f y e = (x, refl, e)
 bind_ok (Err d) f y e = absurd cc
 
--- the same, for a value and what is left, in the words of what follows from it
+-- the same for a value and what is left, for any conclusion
 pub after : {A B P : Type 0} (r : Parsed A) (f : A × List ℕ → Result B TextFault) (y : B) → (r >>= f) ≡ Ok y → ((x : A) (rest : List ℕ) → r ≡ Ok (x, rest) → f (x, rest) ≡ Ok y → P) → P
 after (Ok x) f y e k = k x.0 x.1 refl e
 after (Err d) f y e k = absurd cc

@@ -1,4 +1,4 @@
--- What a parser answers doesn't change by what follows, unless the text was too short.
+-- What a parser returns doesn't change with what follows, unless the text was too short.
 use Rattle.std.specs.Prelude.{nat_le, ◌==◌}
 use Rattle.std.proofs.Common.{◌≡◌, ℕ, ◌+◌, ◌-◌, ◌*◌, List, [], ◌∷◌, ◌++◌, Bool, true, false, cond, Ok, Err, refl, sym, ap, subst, append_assoc, ◌∙◌}
 use Rattle.std.proofs.lemmas.List.{append-nil}
@@ -9,7 +9,7 @@ use Rattle.totem_ids.specs.Sources.{Parsed, Follows, Steady, FirstBreak, is_shor
 use Rattle.totem_ids.specs.Numbers.{is_digit, byte_at, word_at, digits_at, number_at, number_to}
 use Rattle.totem_ids.specs.Parsers.{ring_at, message_at, regular_at, transitional_at, conf_at}
 
--- ---- answers that stay
+-- ---- results that stay
 
 pub gives_steady : {Y : Type 0} (y : Y) → Steady {Y = Y} (λ bytes. Ok (y, bytes))
 gives_steady y = record { stays = λ bytes more. refl }

@@ -3,20 +3,20 @@ use Rattle.std.specs.Prelude.{◌≡◌, ℕ, ◌+◌, ◌<◌, ◌≤◌, List,
 use Rattle.totem_ids.specs.declared.refused.ListFault.{ListFault}
 use Rattle.totem_ids.specs.declared.refused.ListFault.TheVariants.{Empty, TooMany, NotRising, Life, Silence}
 
--- least to greatest elements, each of which is below all after it and keeps its rule
+-- a list of least to greatest elements: each is below all after it and keeps its rule
 pub record IsListOf {X : Type 0} (least greatest : ℕ) (Below : X → X → Type 0) (Keeps : X → Type 0) (xs : List X) : Type 0 where
   pub some : least ≤ length xs
   pub few : length xs ≤ greatest
   pub rising : AllPairs Below xs
   pub each : All Keeps xs
 
--- the elements before `at` rise, and with the one at `at` they don't
+-- the elements before `at` are ascending, and with the one at `at` they are not
 pub record FallsAt {X : Type 0} (Below : X → X → Type 0) (xs : List X) (at : ℕ) : Type 0 where
   pub within : at < length xs
   pub before : AllPairs Below (take at xs)
   pub falls : AllPairs Below (take (at + 1) xs) → ⊥
 
--- the first rule of a ascending list of least to greatest elements that this list breaks
+-- the first rule of an ascending list of least to greatest elements that this list breaks
 abbrev pub Refuses : {X : Type 0} → ℕ → ℕ → (X → X → Type 0) → List X → ListFault → Type 0
 Refuses least greatest Below xs Empty = (0 < least) × (xs ≡ [])
 Refuses least greatest Below xs (TooMany limit) = (limit ≡ greatest) × (greatest < length xs)
@@ -24,6 +24,6 @@ Refuses least greatest Below xs (NotRising at) = (length xs ≤ greatest) × Fal
 Refuses least greatest Below xs (Life at) = ⊥
 Refuses least greatest Below xs (Silence at) = ⊥
 
--- each element is above each other
+-- any two elements are in order
 abbrev pub Anyhow : {X : Type 0} → X → X → Type 0
 Anyhow a b = Unit {0}

@@ -1,4 +1,4 @@
--- What contracts see of names: their numbers.
+-- Names as contracts see them: their numbers.
 use Rattle.std.specs.Prelude.{ℕ}
 
 -- a ring: its number and its representative

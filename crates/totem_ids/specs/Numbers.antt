@@ -4,12 +4,12 @@ use Rattle.totem_ids.specs.declared.fault.TextFault.{TextFault}
 use Rattle.totem_ids.specs.declared.fault.TextFault.TheVariants.{Word, Number, Truncated}
 use Rattle.totem_ids.specs.Sources.{Parsed, ◌>>=◌}
 
--- the next byte, which is wanted
+-- the next byte, or `Truncated` if there is none
 abbrev pub byte_at : List ℕ → Parsed ℕ
 byte_at [] = Err Truncated
 byte_at (b ∷ bytes) = Ok (b, bytes)
 
--- a word; at the first byte that is another the fault
+-- a word, or the given fault at the first byte that differs from it
 unfoldable pub word_at : TextFault → List ℕ → List ℕ → Parsed (Unit {0})
 word_at fault [] bytes = Ok (tt, bytes)
 word_at fault (w ∷ word) bytes = do
@@ -28,7 +28,7 @@ digits_at max n (b ∷ bytes) =
     then (if nat_le (10 * n + (b - 48)) max then digits_at max (10 * n + (b - 48)) bytes else Err Number)
     else Ok ((n, b), bytes)
 
--- a number from 1 to max, with no zero in front, and the byte after it
+-- a number from 1 to max, without leading zeros, and the byte after it
 unfoldable pub number_at : ℕ → List ℕ → Parsed (ℕ × ℕ)
 number_at max [] = Err Truncated
 number_at max (b ∷ bytes) = if is_digit b then (if b == 48 then Err Number else digits_at max (b - 48) bytes) else Err Number

@@ -23,7 +23,7 @@ ConfBelow (Regular a) (Transitional next least) = Unit {0}
 ConfBelow (Transitional next least) (Regular b) = ⊥
 ConfBelow (Transitional next least) (Transitional later other) = RingBelow next later ⊎ ((next ≡ later) × (least < other))
 
--- nothing is below itself, below goes on, and of two one is below the other or they are the same
+-- a strict and total order: nothing is below itself, it is transitive, and of two one is below the other or they are the same
 pub record IsStrictOrder {Y : Type 0} (Below : Y → Y → Type 0) : Type 0 where
   pub strict : (a : Y) → ¬ Below a a
   pub goes_on : (a b c : Y) → Below a b → Below b c → Below a c

@@ -33,7 +33,7 @@ first_version rank = if life_of rank == 1 then One else Two
 abbrev pub place_text_in : Version → PlaceName → List ℕ
 place_text_in version e = process_text version e.proc ++ codes "@" ++ decimal e.at
 
--- a place where no version is known: its process as the first version that can writes it
+-- a place where no version is known: its process as written by the first version that can write it
 abbrev pub place_text : PlaceName → List ℕ
 place_text e = place_text_in (first_version e.proc) e
 

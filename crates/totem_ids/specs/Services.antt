@@ -13,9 +13,9 @@ service_at bytes = do
   b ← byte_at bytes
   if b.0 == 97 then Ok (Agreed, b.1) else if b.0 == 115 then Ok (Safe, b.1) else Err Word
 
--- A parser and a spelling that fit each other, where the spelling itself tells where it ends: what is read is spelled
--- so; what is spelled so is read, whatever follows; a fault is that of the first byte that breaks a rule; and no answer
--- changes by what follows.
+-- A parser and a spelling that fit each other, where the spelling itself shows where it ends: what is read is spelled
+-- so; what is spelled so is read, whatever follows; a fault is that of the first byte that breaks a rule; and no result
+-- changes with what follows.
 pub record SpellsAlone {Y : Type 0} (parse : List ℕ → Parsed Y) (text : Y → List ℕ) : Type 0 where
   pub spelled : (name : Y) (bytes rest : List ℕ) → parse bytes ≡ Ok (name, rest) → bytes ≡ text name ++ rest
   pub read : (name : Y) (rest : List ℕ) → parse (text name ++ rest) ≡ Ok (name, rest)

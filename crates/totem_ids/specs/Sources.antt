@@ -1,4 +1,4 @@
--- What a parser answers, and what a reader of a source answers and leaves.
+-- What a parser returns, and what a reader of a source returns and leaves unread.
 use Rattle.std.specs.Prelude.{◌≡◌, ℕ, ◌+◌, ◌%◌, ◌^◌, List, [], ◌∷◌, ◌++◌, Bool, true, false, IfSome, Result, Ok, Err}
 use Rattle.std.specs.declared.option.Option.{Option}
 use Rattle.std.specs.Io.KnownBytes.{Consumes}
@@ -13,7 +13,7 @@ use Rattle.totem_ids.specs.declared.fault.ReadError.TheVariants as errors
 abbrev pub Parsed : Type 0 → Type 0
 Parsed Y = Result (Y × List ℕ) TextFault
 
--- one thing after the other
+-- one parser after the other: the second goes by the value of the first, and a fault stays
 infixl 10 ◌>>=◌
 abbrev pub ◌>>=◌ : {A B : Type 0} → Result A TextFault → (A → Result B TextFault) → Result B TextFault
 (Ok x) >>= f = f x
@@ -30,16 +30,16 @@ is_short End = false
 is_short Truncated = true
 is_short TooMany = false
 
--- the answer once more bytes have come: the same value or fault, unless the text was too short
+-- the result once more bytes have arrived: the same value or fault, unless the text was too short
 abbrev pub Follows : {Y : Type 0} → List ℕ → Parsed Y → Parsed Y → Type 0
 Follows more (Ok x) later = later ≡ Ok (x.0, x.1 ++ more)
 Follows more (Err fault) later = is_short fault ≡ false → later ≡ Err fault
 
--- what a parser answers does not change by what follows
+-- what a parser returns does not change with what follows
 pub record Steady {Y : Type 0} (parse : List ℕ → Parsed Y) : Type 0 where
   pub stays : (bytes more : List ℕ) → Follows more (parse bytes) (parse (bytes ++ more))
 
--- up to a byte no rule is broken, and with it one is
+-- no rule is broken before a byte, and one is with it
 pub record FirstBreak {Y : Type 0} (parse : List ℕ → Parsed Y) (bytes : List ℕ) (fault : TextFault) : Type 0 where
   pub front : List ℕ
   pub byte : ℕ
@@ -48,7 +48,7 @@ pub record FirstBreak {Y : Type 0} (parse : List ℕ → Parsed Y) (bytes : List
   pub before : parse front ≡ Err Truncated
   pub at : parse (front ++ byte ∷ []) ≡ Err fault
 
--- the last of these bytes is the first that breaks a rule: those in front of it begin a text
+-- the last of these bytes is the first that breaks a rule: those before it begin a text
 pub record EndsAtBreak {Y : Type 0} (parse : List ℕ → Result Y TextFault) (bytes : List ℕ) : Type 0 where
   pub front : List ℕ
   pub byte : ℕ
@@ -71,12 +71,12 @@ pub record Seen : Type 0 where
   pub remaining : Option (List ℕ)
   pub failures : ℕ
 
--- what a source's members say of it
+-- what the members of a source say about it
 abbrev pub seen : {S : Type 0} → (S → Option (List ℕ)) → (S → ℕ) → S → Seen
 seen remaining failures s = record { remaining = remaining s; failures = failures s }
 
--- some bytes were taken, none after the one that settled the answer; whatever follows them, parsing the whole comes to
--- parsing what follows by rest
+-- some bytes were taken, none after the one that settled the result; whatever follows them, parsing the whole has the
+-- result of parsing what follows by rest
 pub record Comes {Y : Type 0} (old new : Seen) (parse rest : List ℕ → Result Y TextFault) : Type 0 where
   pub read : List ℕ
   pub taken : Consumes old.remaining new.remaining read
@@ -107,7 +107,7 @@ pub record Stops {Y : Type 0} (old new : Seen) (parse : List ℕ → Result Y Te
   pub failures : new.failures ≡ (old.failures + 1) % 2 ^ 64
   pub short : parse read ≡ Err Truncated
 
--- a reader answers what the parser answers for the bytes that it took, whatever follows them, unless the source
+-- a reader returns what the parser returns for the bytes that it took, whatever follows them, unless the source
 -- failed in this call or memory was refused
 abbrev pub Reads : {Y : Type 0} → Seen → Seen → Result Y ReadError → (List ℕ → Parsed Y) → Type 0
 Reads old new (Ok y) parse = Comes old new parse (λ more. Ok (y, more))

@@ -23,11 +23,11 @@ writer_of s = s.inner
 abbrev pub write_failures : {W : Type 0} → ToWrite W → ℕ
 write_failures s = s.failed
 
--- the stream in a fuse
+-- the stream inside a fused stream
 abbrev pub stream_of : {S : Type 0} → Fused S → S
 stream_of s = s.inner
 
--- how many calls a fuse still lets through
+-- how many calls a fused stream still passes on
 abbrev pub calls_left : {S : Type 0} → Fused S → ℕ
 calls_left s = s.calls
 

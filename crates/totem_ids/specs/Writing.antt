@@ -1,14 +1,14 @@
--- What a writer of a text answers, and what it leaves.
+-- What a writer of a text returns, and what the sink then holds.
 use Rattle.std.specs.Prelude.{◌≡◌, ℕ, ◌+◌, ◌%◌, ◌^◌, List, Result, Ok, Err}
 use Rattle.std.specs.declared.option.Option.{Option}
 use Rattle.std.specs.Io.KnownBytes.{Appends, append_known}
 
--- what is known of a sink with some bytes gathered for it: the bytes that it holds with these, and how often it failed
+-- what is known of a sink and the bytes gathered for it: all these bytes together, and how often the sink failed
 pub record Held : Type 0 where
   pub contents : Option (List ℕ)
   pub failures : ℕ
 
--- what a sink's members say of it
+-- what the members of a sink say about it
 abbrev pub held : {S : Type 0} → (S → Option (List ℕ)) → (S → ℕ) → List ℕ → S → Held
 held contents failures gathered s = record { contents = append_known (contents s) gathered; failures = failures s }
 

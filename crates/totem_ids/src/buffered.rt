@@ -53,7 +53,7 @@ impl<R: Read + Drop> Buffered<R> {
 impl<R: Read> Buffered<R> {
     ghost use Rattle.totem_ids.specs.Wrapped.{buffered_left, buffered_failures};
 
-    // Fills the buffer anew, once all of it was given, and gives its first byte.
+    // Refills the buffer once all of it was returned, and returns its first byte, or `None` at the end.
     #[cold]
     #[inline(never)]
     fn first_of_more(&mut self) -> Result<Option<u8>, Failed>

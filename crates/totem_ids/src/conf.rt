@@ -4,7 +4,7 @@ ghost use Rattle.totem_ids.specs.Orders.{ConfBelow};
 use crate::process::ProcId;
 use crate::ring::RingId;
 
-/// A configuration: the regular one of a ring, or a transitional one, named by the ring that comes next and its own least member.
+/// A configuration: the regular one of a ring, or a transitional one, named by the ring that follows and its own least member.
 #[derive(Clone, Copy, Debug, PartialEq, Eq, PartialOrd, Ord, Hash)]
 pub enum ConfId {
     Regular(RingId),

@@ -42,7 +42,7 @@ impl<S> Fused<S> {
         inner
     }
 
-    // Whether one more call goes to the stream inside.
+    // Counts a call, and returns whether it goes to the stream inside.
     fn lets_through(&mut self) -> bool
         ensures through { IsTrue result ↔ (0 < calls_left self.old) }
         ensures calls { calls_left self.new ≡ calls_left self.old - 1 }
@@ -81,7 +81,7 @@ impl<S: Source> Source for Fused<S> {
             (S.remaining (stream_of self.new))) }
         ensures failures { fused_failures self.new ≡ failed_once result (fused_failures self.old) }
 
-        // While calls are left the answer is that of the stream inside, and then each is a failure.
+        // While calls are left, a call returns what the stream inside returns; after that, each call fails.
         ensures calls { calls_left self.new ≡ calls_left self.old - 1 }
         ensures inside { 0 < calls_left self.old →
             S.failures (stream_of self.new) ≡ failed_once result (S.failures (stream_of self.old)) }
@@ -110,7 +110,7 @@ impl<S: Sink> Sink for Fused<S> {
             (S.contents (stream_of self.new)) bytes.now) }
         ensures failures { fused_failures self.new ≡ failed_once result (fused_failures self.old) }
 
-        // While calls are left the answer is that of the stream inside, and then each is a failure.
+        // While calls are left, a call returns what the stream inside returns; after that, each call fails.
         ensures calls { calls_left self.new ≡ calls_left self.old - 1 }
         ensures inside { 0 < calls_left self.old →
             S.failures (stream_of self.new) ≡ failed_once result (S.failures (stream_of self.old)) }

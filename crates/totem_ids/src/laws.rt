@@ -1,5 +1,5 @@
 //! Laws of names. For each kind of name one law relates its parser and its spelling: what is spelled is read, and what
-//! is read is spelled so. The readers answer what the parsers answer, and `Display` writes the spellings. Each value of
+//! is read is spelled so. The readers return what the parsers return, and `Display` writes the spellings. Each value of
 //! a name's type has a spelling, and the orders of names are strict and total.
 ghost use Rattle.std.specs.Prelude.{◌^◌, ◌<◌, ◌≤◌, ℕ, decimal};
 ghost use Rattle.totem_ids.specs.Numbers.{number_to, proc_at};

@@ -5,12 +5,12 @@ ghost use Rattle.totem_ids.specs.Lists.{Anyhow, FallsAt, IsListOf, Refuses};
 use crate::refused::{ListFault, Refused};
 use std::alloc::{AllocError, Global};
 
-/// A type whose values stand in lists.
+/// A type whose values are elements of lists.
 pub trait Listed {
-    /// What holds of every value because its type keeps its rule.
+    /// What holds for every value because its type keeps its rule.
     ghost keeps: { Self → Type 0 };
 
-    /// Tells contracts that the value keeps its rule.
+    /// Does nothing. Its contract says that the value keeps its rule.
     fn keeps_its_rule(&self)
         ensures { keeps self.now };
 
@@ -56,7 +56,7 @@ fn keep_their_rules<T: Listed>(list: &[T])
     }
 }
 
-/// Returns the list if it has `least` to `most` elements. A refusal gives it back with the first rule that it breaks.
+/// Returns the list if it has `least` to `most` elements. Otherwise refuses it, with the first rule that it breaks.
 pub fn bounded<T: Listed>(
     least: usize,
     most: usize,
@@ -77,7 +77,7 @@ pub fn bounded<T: Listed>(
     Err(Refused { fault, value: list })
 }
 
-/// Returns the list if it has `least` to `most` elements and they are strictly ascending. A refusal gives it back with the first rule
+/// Returns the list if it has `least` to `most` elements and they are strictly ascending. Otherwise refuses it, with the first rule
 /// that it breaks.
 pub fn rising<T: Keyed>(least: usize, most: usize, list: Vec<T>) -> Result<Vec<T>, Refused<Vec<T>>>
     requires { least ≤ 1 }

@@ -10,7 +10,7 @@ use std::marker::Model;
 /// How many bytes are gathered before they are written to the sink.
 const PIECE: usize = 65536;
 
-/// Gathers bytes and hands them to a sink in pieces of about 64 KiB. Whoever gathers has to flush at the end.
+/// Gathers bytes and writes them to a sink in pieces of about 64 KiB. After the last bytes, `flush` has to be called.
 #[derive(Drop)]
 pub struct Pieces {
     gathered: Vec<u8>,
@@ -25,7 +25,7 @@ impl Model for Pieces {
 }
 
 impl Pieces {
-    /// Makes a gatherer that holds nothing and has room for two pieces.
+    /// Makes a gatherer that holds nothing and has space for two pieces.
     pub fn new(alloc: Global) -> Result<Pieces, AllocError>
         ensures { IfOk result (λ p. p ≡ []) }
     {
@@ -34,7 +34,7 @@ impl Pieces {
         })
     }
 
-    /// Hands all gathered bytes to the sink. If the sink fails, they stay gathered.
+    /// Writes all gathered bytes to the sink. If the sink fails, they stay gathered.
     pub fn flush<S: Sink>(&mut self, sink: &mut S) -> Result<(), Failed>
         ensures written { Writes (held S.contents S.failures self.old sink.old)
             (held S.contents S.failures self.new sink.new) result [] }

@@ -35,8 +35,8 @@ fn read_life<S: Source>(source: &mut S) -> Result<(Proc, u8), ReadError>
     Ok((Proc::of(ProcId::of(id as u16), life as u16), byte))
 }
 
-/// Reads a process, with its life where this version writes lives, and returns it with the byte after it. A byte in
-/// place of the colon before the life is answered with `Word`.
+/// Reads a process, with its life where this version writes lives, and returns it with the byte after it. If there is
+/// another byte in place of the colon before the life, the fault is `Word`.
 #[tactic(auto, unfolding(crate::specs::Processes::process_then))]
 pub fn read_process<S: Source>(source: &mut S, version: Version) -> Result<(Proc, u8), ReadError>
     ensures read { Reads (seen S.remaining S.failures source.old)
@@ -49,8 +49,8 @@ pub fn read_process<S: Source>(source: &mut S, version: Version) -> Result<(Proc
     }
 }
 
-/// Reads a process, with its life where this version writes lives, and the byte `end` after it. If another byte stands
-/// there, the fault is `Word`.
+/// Reads a process, with its life where this version writes lives, and the byte `end` after it. If another byte
+/// follows, the fault is `Word`.
 #[tactic(auto, using(crate::proofs::Readers::called, crate::proofs::Readers::failed, crate::proofs::Readers::begins, crate::proofs::Readers::chosen, crate::proofs::Readers::passed, crate::proofs::Readers::stops), unfolding(crate::specs::Processes::process_to))]
 pub fn read_process_to<S: Source>(
     source: &mut S,

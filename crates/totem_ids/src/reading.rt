@@ -23,7 +23,7 @@ pub fn next<S: Source>(source: &mut S) -> Result<u8, ReadError>
     }
 }
 
-// Takes the word, where all of it is at hand. Otherwise it takes nothing and returns `false`.
+// Takes the word if all of it is at hand. Otherwise it takes nothing and returns `false`.
 fn word_at_hand<S: Source>(source: &mut S, word: &[u8]) -> bool
     ensures taken { result ≡ true → Consumes (S.remaining source.old) (S.remaining source.new) word.now }
     ensures kept { result ≡ false → Keeps (S.remaining source.old) (S.remaining source.new) }
@@ -36,7 +36,7 @@ fn word_at_hand<S: Source>(source: &mut S, word: &[u8]) -> bool
     source.skip(word.len())
 }
 
-// As `word`, one byte at a time.
+// Reads as `word` does, one byte at a time.
 fn word_by_bytes<S: Source>(source: &mut S, word: &[u8], fault: TextFault) -> Result<(), ReadError>
     requires { is_short fault ≡ false }
     ensures read { Reads (seen S.remaining S.failures source.old)
@@ -52,7 +52,7 @@ fn word_by_bytes<S: Source>(source: &mut S, word: &[u8], fault: TextFault) -> Re
     Ok(())
 }
 
-/// Reads exactly this word. The first byte that differs from it is answered with `fault`.
+/// Reads exactly this word. At the first byte that differs from it, returns `fault`.
 pub fn word<S: Source>(source: &mut S, word: &[u8], fault: TextFault) -> Result<(), ReadError>
     requires { is_short fault ≡ false }
     ensures read { Reads (seen S.remaining S.failures source.old)
@@ -72,15 +72,15 @@ fn is_digit(byte: u8) -> bool
     b'0' <= byte && byte <= b'9'
 }
 
-// A digit but 0.
+// Returns whether the byte is a digit from 1 to 9.
 fn begins_number(byte: u8) -> bool
     ensures { result ≡ (is_digit byte && not (byte == 48)) }
 {
     is_digit(byte) && byte != b'0'
 }
 
-// The number from 1 to `max` that these bytes begin with, the byte after it, and how many bytes that are. `None` where they
-// begin with no such number, or end before it does.
+// Returns the number from 1 to `max` that these bytes begin with, the byte after it, and how many bytes the two take. Returns
+// `None` if the bytes begin with no such number, or end before it does.
 fn number_within(bytes: &[u8], max: u32) -> Option<(u32, u8, usize)>
     requires { 9 ≤ max }
     ensures number { IfSome result (λ n. Settles (number_at max) (take n.2 bytes.now) (n.0, n.1)) }
@@ -111,7 +111,7 @@ fn number_within(bytes: &[u8], max: u32) -> Option<(u32, u8, usize)>
     None
 }
 
-// Takes the number and the byte after it, where both are at hand. Otherwise it takes nothing.
+// Takes the number and the byte after it if both are at hand. Otherwise it takes nothing.
 fn number_at_hand<S: Source>(source: &mut S, max: u32) -> Option<(u32, u8)>
     requires { 9 ≤ max }
     ensures taken { let old = seen S.remaining S.failures source.old in
@@ -132,7 +132,7 @@ fn number_at_hand<S: Source>(source: &mut S, max: u32) -> Option<(u32, u8)>
     }
 }
 
-// As `number`, one byte at a time.
+// Reads as `number` does, one byte at a time.
 fn number_by_bytes<S: Source>(source: &mut S, max: u32) -> Result<(u32, u8), ReadError>
     requires { 9 ≤ max }
     ensures read { Reads (seen S.remaining S.failures source.old)
@@ -161,7 +161,7 @@ fn number_by_bytes<S: Source>(source: &mut S, max: u32) -> Result<(u32, u8), Rea
 }
 
 /// Reads a number from 1 to `max`, without leading zeros, and returns it with the byte after it. The fault is `Number`
-/// at the first byte with which no such number can go on.
+/// at the first byte with which no such number can continue.
 pub fn number<S: Source>(source: &mut S, max: u32) -> Result<(u32, u8), ReadError>
     requires { 9 ≤ max }
     ensures read { Reads (seen S.remaining S.failures source.old)
@@ -175,7 +175,7 @@ pub fn number<S: Source>(source: &mut S, max: u32) -> Result<(u32, u8), ReadErro
     }
 }
 
-/// Reads a number from 1 to `max` and the byte `end` after it. If another byte stands there, the fault is `Word`.
+/// Reads a number from 1 to `max` and the byte `end` after it. If another byte follows, the fault is `Word`.
 #[tactic(auto, using(crate::proofs::Readers::called, crate::proofs::Readers::failed, crate::proofs::Readers::begins, crate::proofs::Readers::chosen, crate::proofs::Readers::passed, crate::proofs::Readers::stops), unfolding(crate::specs::Numbers::number_to))]
 pub fn number_to<S: Source>(source: &mut S, max: u32, end: u8) -> Result<u32, ReadError>
     requires { 9 ≤ max }

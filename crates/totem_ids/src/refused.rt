@@ -11,15 +11,15 @@ pub enum ListFault {
     TooMany(usize),
     #[error("the one at index {0} is not above the one before")]
     NotRising(usize),
-    /// In a list for texts of version 1: it is of another life than 1, or names one.
+    /// In a list for texts of version 1: the element is of another life than 1, or names one.
     #[error("the one at index {0} has lives other than 1")]
     Life(usize),
-    /// In a list for texts of version 1 or 2: it is quiet.
+    /// In a list for texts of version 1 or 2: the element is quiet.
     #[error("the one at index {0} is quiet")]
     Silence(usize),
 }
 
-/// A value that was refused, given back with the rule that it breaks.
+/// A value that was refused, with the first rule that it breaks.
 #[derive(Debug, Drop)]
 pub struct Refused<V> {
     pub fault: ListFault,

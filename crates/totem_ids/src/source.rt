@@ -46,7 +46,7 @@ pub trait Source {
         false
     }
 
-    /// Returns where the byte stands that was asked for last, or `None` if the source does not know.
+    /// Returns the place of the byte that was asked for last, or `None` if the source does not know it.
     fn text_place(&self) -> Option<TextPlace<'_>> {
         None
     }

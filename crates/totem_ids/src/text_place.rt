@@ -1,23 +1,23 @@
-//! Where in its text a source is, for people who have to find what is wrong there.
+//! Where in its text a source is, so that people can find what is wrong there.
 
 /// How many bytes after the last one are shown.
 const REST: usize = 40;
 
-/// How many bytes of a line are kept when a buffer is filled anew.
+/// How many bytes of a line are kept when a buffer is refilled.
 pub(crate) const FRONT: usize = 128;
 
-/// How many bytes are counted at a time: few enough for a count of one byte, which a processor makes of many side by side.
+/// How many bytes are counted at a time: few enough for counters of one byte, many of which a processor adds in parallel.
 const PART: usize = 128;
 
-/// Where the byte stands that a source was asked for last, which is after its last byte if it had ended; and the line of that byte, as
-/// far as the source has it at hand.
+/// The place of the byte that a source was asked for last, or the place after its last byte if it had ended; and the line there, as far
+/// as the source has it at hand.
 #[derive(Clone, Copy, Debug)]
 pub struct TextPlace<'a> {
     /// The number of its line, from 1. The byte that ends a line belongs to that line.
     pub line: u64,
     /// The number of the byte in its line, from 1.
     pub column: u64,
-    /// Bytes of its line that were given before `read`, 256 at most.
+    /// Bytes of its line that were returned before `read`, 256 at most.
     pub front: &'a [u8],
     /// Bytes of its line up to itself. There are none if the source had ended.
     pub read: &'a [u8],
@@ -25,12 +25,12 @@ pub struct TextPlace<'a> {
     pub rest: &'a [u8],
 }
 
-/// What a source gave before the bytes that it has at hand.
+/// What a source returned before the bytes that it has at hand.
 #[derive(Clone, Copy)]
 pub(crate) struct Passed {
     /// How many lines ended.
     lines: u64,
-    /// How many bytes there are of the line that has not ended.
+    /// The number of bytes of the line that has not ended.
     bytes: u64,
 }
 
@@ -38,7 +38,7 @@ fn is_end(byte: &u8) -> bool {
     *byte == b'\n'
 }
 
-/// Returns the bytes after the last line's end, or `None` if no line ends.
+/// Returns the bytes after the last end of a line, or `None` if no line ends.
 fn behind_last_end(bytes: &[u8]) -> Option<&[u8]> {
     bytes
         .iter()
@@ -64,7 +64,7 @@ impl Passed {
         Passed { lines: 0, bytes: 0 }
     }
 
-    /// Returns what a source gave that gave these bytes too.
+    /// Returns what was passed once the source has returned these bytes too.
     pub(crate) fn and(self, given: &[u8]) -> Passed {
         match behind_last_end(given) {
             None => Passed {
@@ -79,7 +79,7 @@ impl Passed {
     }
 }
 
-/// Keeps the last bytes of the line that has not ended after these. `front` has those of before, and room for twice `FRONT`.
+/// Keeps the last bytes of the line that `given` does not end. `front` has those kept before, and space for twice `FRONT`.
 pub(crate) fn keep_front(front: &mut Vec<u8>, given: &[u8]) {
     let tail = match behind_last_end(given) {
         Some(tail) => {
@@ -94,7 +94,7 @@ pub(crate) fn keep_front(front: &mut Vec<u8>, given: &[u8]) {
     let _ = front.extend_from_slice(tail);
 }
 
-/// Returns the place of the last byte of `given`, before which `passed` went by and `front` is known of its line; `rest` is after it.
+/// Returns the place of the last byte of `given`. `passed` was returned before it, `front` is kept of its line, `rest` follows.
 pub(crate) fn place_of<'a>(
     passed: Passed,
     front: &'a [u8],
