@@ -20,7 +20,7 @@ use Rattle.totem_evs.proofs.Standing.{less_or_not, one_standing}
 abbrev pub place : ℕ → ℕ → Place
 place p i = record { proc = p; at = suc i }
 
--- an event stands somewhere in its log
+-- an event is somewhere in its log
 index_of : (run : List Log) (e : Place) (x : Entry) → entry_at run e ≡ Some x → (i : ℕ) × (e ≡ place e.proc i) × (slice_get (log_of run e.proc) i ≡ Some x)
 index_of run e x at = go e.at refl at
   where
@@ -41,7 +41,7 @@ same_below : (lines : List Numbering) (e f g : Place) → number_at lines e ≡ 
 same_below lines e f g same (i, j, at_e, at_g, lt) = (i, j, sym same ∙ at_e, at_g, lt)
 
 module _ (run : List Log) (lines : List Numbering) (cert : Certified run lines) where
-  -- in one log, numbers tell the order
+  -- in one log, numbers give the order
   order_by_number : (p i j : ℕ) (x y : Entry) → slice_get (log_of run p) i ≡ Some x → slice_get (log_of run p) j ≡ Some y → IsBelow lines (place p i) (place p j) → i < j
   order_by_number p i j x y at_i at_j below = elim (less_or_not i j) [
     | inl lt ↦ lt
@@ -52,7 +52,7 @@ module _ (run : List Log) (lines : List Numbering) (cert : Certified run lines) 
     ]
   ]
 
-  -- a strict step rises
+  -- a strict step has ascending numbers
   strict_rises : (e f : Place) → Strict run e f → IsBelow lines e f
   strict_rises e f (inl (is_e, is_f, before)) = cert.rises e f is_e is_f before
   strict_rises e f (inr (m, x, sends, delivers)) = cert.sent e f m x sends delivers
@@ -70,7 +70,7 @@ module _ (run : List Log) (lines : List Numbering) (cert : Certified run lines) 
   leads_down a e g (strict {f = f} one rest) below = below_trans lines e f a (strict_rises e f one) (leads_down a f g rest below)
   leads_down a e g (twin {f = f} one rest) below = same_below lines f e a (sym (twin_shares e f one)) (leads_down a f g rest below)
 
-  -- numbers rise along what precedes what
+  -- numbers ascend with precedence
   pub precedes_rises : (e f : Place) → Precedes run e f → IsBelow lines e f
   precedes_rises e f (a, b, to_a, one, from_b) = leads_up e b f from_b (leads_down b e a to_a (strict_rises a b one))
 
@@ -78,7 +78,7 @@ module _ (run : List Log) (lines : List Numbering) (cert : Certified run lines) 
   no_cycle e cycle = below_irrefl lines e e refl (precedes_rises e e cycle)
 
   module _ (in_place : (p : ℕ) → StaysInPlace (log_of run p)) where
-    -- an entry that names a configuration stands in it
+    -- an entry that names a configuration is in it
     stands_send : (p i : ℕ) (m : MsgId) (x : ConfId) → Sends (log_of run p) i m x → StandsIn (log_of run p) i x
     stands_send p i m x (service, at) = (in_place p).named i x (Send m x service, at, refl)
 
@@ -113,7 +113,7 @@ module _ (run : List Log) (lines : List Numbering) (cert : Certified run lines) 
         ]
       ]
 
-      -- what stands above the changes to c, before a send in c, comes after the log's own change to c
+      -- an entry with a number above the changes to c, before a send in c, is after the log's own change to c
       after_change : (q b j : ℕ) (n : MsgId) (x : Entry) → IsBelow lines origin (place q b) → slice_get (log_of run q) b ≡ Some x → (sends : Sends (log_of run q) j n (Regular c))
           → (stands_send q j n (Regular c) sends).from < b
       after_change q b j n x below at sends =

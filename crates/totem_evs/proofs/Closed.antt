@@ -27,7 +27,7 @@ pub closed_cycles : (run : List Log) (places : List Place) → NoCycle run → I
 closed_cycles run [] never h = h
 closed_cycles run (e ∷ es) never (chain, some) = never e (chain_precedes run e e es chain some)
 
--- numbers never fall along such a list, and rise somewhere
+-- numbers never fall along such a list, and somewhere they increase
 module _ (run : List Log) (ord : Place → ℕ) (numbers : Numbers run ord) where
   strict_up : (e f : Place) → Strict run e f → ord e < ord f
   strict_up e f s = numbers.rises e f (e, f, here, s, here)

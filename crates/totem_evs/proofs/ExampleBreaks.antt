@@ -45,7 +45,7 @@ SentOnRing4 p i (Send m x service) = x ≡ regular 4
 SentOnRing4 p i (Deliver m x) = Unit {0}
 SentOnRing4 p i (Fail x) = Unit {0}
 
--- a change to ring 4 stands first, and one to the transitional configuration to ring 12 is fourth
+-- a change to ring 4 is first, and one to the transitional configuration to ring 12 is fourth
 abbrev LaterAt : ℕ → Entry → Type 0
 LaterAt i (Conf x members) = (x ≡ regular 4 → i ≡ 0) × (x ≡ transitional 12 → i ≡ 3)
 LaterAt i (Send m x service) = Unit {0}

@@ -95,7 +95,7 @@ is_delivery p i m x at = fact p i (Deliver m x) at
 pub no_failure : (p i : ℕ) (x : ConfId) → Fails (log_of both p) i x → ⊥
 no_failure p i x at = fact p i (Fail x) at
 
--- what stands at a place: one of them, and its number
+-- the entry at a place: one of them, and its number
 record IsThere (e : Place) (x : Entry) : Type 0 where
   index : ℕ
   place : e.at ≡ suc index

@@ -5,7 +5,7 @@ use Rattle.totem_evs.specs.declared.entry.Entry.{Entry}
 use Rattle.totem_evs.specs.declared.log.Log.{Log}
 use Rattle.totem_evs.specs.Events.{log_of}
 
--- P holds of the entries of each log
+-- P holds for the entries of each log
 abbrev pub EachLog : (List Entry → Type 0) → List Log → Type 0
 EachLog P [] = Unit {0}
 EachLog P (log ∷ logs) = P log.entries × EachLog P logs
@@ -18,7 +18,7 @@ each_log P (log ∷ logs) none all p = go (log.proc == p) (each_log P logs none 
     go true rest = all.0
     go false rest = rest
 
--- P holds of each element, one by one
+-- P holds for each element, one by one
 abbrev pub Each : {X : Type 0} → (X → Type 0) → List X → Type 0
 Each P [] = Unit {0}
 Each P (x ∷ xs) = P x × Each P xs
@@ -28,7 +28,7 @@ all_of P [] each k d lt = absurd (omega arith)
 all_of P (x ∷ xs) each zero d lt = each.0
 all_of P (x ∷ xs) each (suc k) d lt = all_of P xs each.1 k d (omega arith)
 
--- each element stands in R to each later one
+-- R holds between each element and each later one
 abbrev pub Pairwise : {X : Type 0} → (X → X → Type 0) → List X → Type 0
 Pairwise R [] = Unit {0}
 Pairwise R (x ∷ xs) = Each (R x) xs × Pairwise R xs

@@ -75,7 +75,7 @@ of_lone_3 = record {
   processes = all_of (IsProcessIn Three) lone_3 (third_process, tt);
 }
 
--- a change has members that rise
+-- a change has ascending members
 abbrev HasMembers : Entry → Type 0
 HasMembers (Conf x members) = IsMembers members
 HasMembers (Send m x service) = Unit {0}

@@ -12,12 +12,12 @@ use Rattle.totem_evs.specs.declared.ending.Ending.TheVariants.{Standing, Failed,
 use Rattle.totem_evs.specs.Events.{IsChange, ChangesWith, IsQuiet, log_of}
 use Rattle.totem_evs.specs.Following.{Com, StaysIn, DeliversOrEnds}
 
--- P holds of the entries, which count from `from`
+-- P holds for the entries, which are counted from `from`
 abbrev pub InLog : (ℕ → Entry → Type 0) → ℕ → List Entry → Type 0
 InLog P from [] = Unit {0}
 InLog P from (x ∷ xs) = P from x × InLog P (from + 1) xs
 
--- P holds of each entry of each log
+-- P holds for each entry of each log
 abbrev pub InRun : (ℕ → ℕ → Entry → Type 0) → List Log → Type 0
 InRun P [] = Unit {0}
 InRun P (log ∷ logs) = InLog (P log.proc) 0 log.entries × InRun P logs
@@ -75,7 +75,7 @@ stays_at_last log last e c ms m at quiet other (d, goes_on, end, stays) =
     let same : end.index ≡ last = omega arith in
     not_com log c e d (same_place log end.index last d (Regular e) end.change.0 ms same end.change.1 at) other stays
 
--- who went on to another ring without m owes it
+-- a process that moved on to another ring without m owes it
 pub moved_on : (run : List Log) (p last : ℕ) (e c : RingId) (ms : List ℕ) (m : MsgId) → ChangesWith (log_of run p) last (Regular e) ms → InLog (Still last m) 0 (log_of run p) → (c ≡ e → ⊥)
     → DeliversOrEnds run p c m → ⊥
 moved_on run p last e c ms m at quiet other (inl (i, (d, delivers, stays))) = in_log (Still last m) (log_of run p) quiet i (Deliver m d) delivers refl

@@ -133,7 +133,7 @@ one_index p i j n (inl (one, at)) (inr (more, there)) = omega arith
 one_index p i j n (inr (more, at)) (inl (other, there)) = omega arith
 one_index p i j n (inr (more, at)) (inr (others, there)) = omega arith
 
--- what stands at a place, and its number
+-- the entry at a place, and its number
 record IsThere (e : Place) (x : Entry) : Type 0 where
   index : ℕ
   place : e.at ≡ suc index
@@ -153,7 +153,7 @@ entry_of p a = record { proc = p; at = a }
 same_place : (e f : Place) → e.proc ≡ f.proc → e.at ≡ f.at → e ≡ f
 same_place e f proc at = ap (λ (p : ℕ). entry_of p e.at) proc ∙ ap (λ (a : ℕ). entry_of f.proc a) at
 
--- a change has one of the numbers 1, 3 and 5, and the number tells the configuration
+-- a change has one of the numbers 1, 3 and 5, and the number determines the configuration
 pub one_conf : (x y : ConfId) → (x ≡ regular 4) ⊎ (x ≡ transitional 8) ⊎ (x ≡ regular 8) → (y ≡ regular 4) ⊎ (y ≡ transitional 8) ⊎ (y ≡ regular 8) → stage x ≡ stage y → y ≡ x
 one_conf x y (inl a) (inl b) same = b ∙ sym a
 one_conf x y (inl a) (inr (inl b)) same = absurd (omega (arith, ap stage a, ap stage b))

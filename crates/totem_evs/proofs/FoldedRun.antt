@@ -1,4 +1,4 @@
--- A run from its parts: what each call of the reader of parts comes to.
+-- A run from its parts: the result of each call of the reader of parts.
 use Rattle.totem_ids.specs.declared.life.WrittenProc.{WrittenProc}
 use Rattle.totem_evs.specs.RunRecord.{RunRecord}
 use Rattle.totem_evs.specs.Runs.{IsRunOf}
@@ -24,7 +24,7 @@ use Rattle.totem_evs.proofs.PassedOn.{run_none}
 use Rattle.totem_evs.proofs.Folding.{rest_at, behind, step, first_step}
 use Rattle.totem_evs.proofs.Gathers.{GathersIn, limits, goes_gathers, least_lacks}
 
--- what was read so far comes to what is still read after these logs
+-- what was read so far has the result of what is still read after these logs
 pub record Folded (a b : Seen) (s : ReadState) (g : GatheredLogs) : Type 0 where
   pub so_far : Comes a b run_at (rest_at s.stage g)
   pub gathers : GathersIn s g

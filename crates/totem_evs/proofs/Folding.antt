@@ -17,12 +17,12 @@ use Rattle.totem_evs.specs.Parts.{begun_at, within_at, next_at, part_at, first_s
 use Rattle.totem_evs.specs.Gathered.{GatheredLogs, none_gathered, gathered}
 use Rattle.totem_evs.proofs.RunLoops.{with_logs, with_entries, logs_step, entries_step, log_first, as_run, run_first, full_is}
 
--- what is still read, by whether a log is open
+-- what is still read, depending on whether a log has not ended
 abbrev pub rest_in : Version → ℕ → ℕ → Option OpenLog → GatheredLogs → List ℕ → Parsed (List Log)
 rest_in version logs last None g bytes = with_logs version g.logs (33 - logs) last bytes
 rest_in version logs last (Some log) g bytes = with_entries version last g.entries (1000001 - log.entries) (nat_lt 0 log.entries) log.failed bytes >>= λ l. with_logs version (g.logs ++ l.0 ∷ []) (33 - logs) last l.1
 
--- the logs that are still read, and these before them
+-- the logs that are still read, after the given ones
 abbrev logs_left : Stage → GatheredLogs → List ℕ → Parsed (List Log)
 logs_left stage g bytes = rest_in stage.version stage.logs stage.last stage.log g bytes
 
@@ -40,16 +40,16 @@ abbrev pub behind : Stage → GatheredLogs → Option Part → List ℕ → Pars
 behind stage g None rest = Ok (record { version = stage.version; logs = g.logs }, rest)
 behind stage g (Some part) rest = rest_at (next_stage stage part) (gathered g part) rest
 
--- the process of the log that is open
+-- the process of the log that has not ended
 abbrev pub OfLast : Option OpenLog → ℕ → Option ℕ → Type 0
 OfLast None last proc = Unit {0}
 OfLast (Some log) last proc = proc ≡ Some last
 
--- a log begins, or the last line comes
+-- a log begins, or the last line follows
 abbrev pub as_part : Option ℕ × List ℕ → Parsed (Option Part)
 as_part head = Ok (by_head head.0 None (λ p. Some (parts.Log p)), head.1)
 
--- an entry comes, or a log ends
+-- an entry follows, or a log ends
 abbrev pub line_part : Line × List ℕ → Parsed (Option Part)
 line_part l = Ok (Some (by_line l.0 parts.Close parts.Entry), l.1)
 
@@ -71,7 +71,7 @@ step_between version logs last g le bytes =
     go (Ok head) = headed head.0 head.1
     go (Err f) = refl
 
--- the logs after the one that is open
+-- the logs after the one that has not ended
 abbrev finish : Version → ℕ → ℕ → GatheredLogs → Log × List ℕ → Parsed (List Log)
 finish version logs last g l = with_logs version (g.logs ++ l.0 ∷ []) (33 - logs) last l.1
 

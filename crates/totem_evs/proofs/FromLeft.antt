@@ -11,7 +11,7 @@ use Rattle.totem_evs.proofs.RisingRecords.{RecordsRise, RecordsFrom, rise_each, 
 
 -- ---- members
 
--- identifiers above `last` and rising, of processes that texts of this version can write
+-- identifiers above `last` and ascending, of processes that texts of this version can write
 abbrev pub Rises : Version → ℕ → List ℕ → Type 0
 Rises version last ms = RecordsRise id_of (IsProcessIn version) last ms
 
@@ -40,7 +40,7 @@ members_from version ms is = record {
 abbrev pub proc_of : Log → ℕ
 proc_of log = log.proc
 
--- above `last`, rising, and each of this kind
+-- above `last`, ascending, and each of this kind
 abbrev pub LogsFrom : (Log → Type 0) → ℕ → ℕ → List Log → Type 0
 LogsFrom L room last logs = RecordsFrom proc_of L room last logs
 

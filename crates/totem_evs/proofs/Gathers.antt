@@ -113,7 +113,7 @@ named_more ms es e = ap (λ (xs : List ℕ). ms ++ xs) (flat_map-append members_
 named_closed : (ls : List Log) (l : Log) → all_members (ls ++ l ∷ []) ++ flat_map members_of [] ≡ (all_members ls ++ flat_map members_of l.entries) ++ []
 named_closed ls l = ap (λ (xs : List ℕ). xs ++ []) (flat_map-append (λ (log : Log). flat_map members_of log.entries) ls (l ∷ []) ∙ ap (λ (xs : List ℕ). all_members ls ++ xs) (append-nil (flat_map members_of l.entries)))
 
--- who waits, where these are named now and those were before
+-- the processes that wait, if some are named now and others were named before
 waits_goes : (before now after begun more waiting next : List ℕ) → after ≡ before ++ now → ((q : ℕ) → Contains begun q → Contains more q) → Waits waiting now more next → ((q : ℕ) → Contains waiting q ↔ (Contains before q × (Contains begun q → ⊥)))
     → (q : ℕ) → Contains next q ↔ (Contains after q × (Contains more q → ⊥))
 waits_goes before now after begun more waiting next e keeps w h q = rw e (
@@ -156,7 +156,7 @@ decided (x ∷ xs) q = elim (decided xs q) [
 
 -- ---- part after part
 
--- no part has come
+-- before the first part
 none_yet : Gathers 0 0 None [] [] none_gathered
 none_yet = record {
   inside = record { proc = refl; entries = refl; below = λ k d within. absurd (omega arith) };
@@ -264,7 +264,7 @@ goes_close version logs last (Some l) begun waiting next g ending h comes w =
       waits = waits_goes (named g) [] (all_members (g.logs ++ new ∷ []) ++ []) begun (begun ++ []) waiting next (named_closed g.logs new) (λ q c. Contains-append_left begun [] q c) w h.waits;
     })
 
--- a part has come
+-- after one more part
 goes_in : (s : ReadState) (part : Part) (begun next : List ℕ) (g : GatheredLogs) → GathersIn s g → IsPart part → MayCome s.stage (Some part) → begun ≡ s.begun ++ begun_by part → Waits s.waiting (named_by part) begun next
     → Gathers (next_stage s.stage part).logs (next_stage s.stage part).last (next_stage s.stage part).log begun next (gathered g part)
 goes_in s (parts.Log p) begun next g h is comes e w = rw e (goes_log s.stage.version s.stage.logs s.stage.last s.stage.log s.begun s.waiting next g p h is comes (rw e at w))
@@ -290,17 +290,17 @@ few_in : (log : Option OpenLog) (last : ℕ) (g : GatheredLogs) → InLog log la
 few_in None last g h = (tt, tt)
 few_in (Some l) last g h = (h.few, h.proc)
 
--- the limits are kept, and the open log is that of the last process
+-- the limits are kept, and the log that has not ended is that of the last process
 pub limits : (s : ReadState) (g : GatheredLogs) → GathersIn s g → FewEntries s.stage.log × OfLast s.stage.log s.stage.last g.proc
 limits s g h = few_in s.stage.log s.stage.last g h.inside
 
--- ---- how much may still come
+-- ---- how much may still follow
 
 abbrev pending : Option OpenLog → ℕ
 pending None = 0
 pending (Some log) = 1000002 - log.entries
 
--- more than the parts that may still come
+-- more than the parts that may still follow
 abbrev pub parts_left : Stage → ℕ
 parts_left stage = 1000003 * (33 - stage.logs) + pending stage.log
 
@@ -332,7 +332,7 @@ begun_has : (last : ℕ) (g : GatheredLogs) (q : ℕ) → Idle last g → HasBeg
 begun_has last g q idle (inl has) = has
 begun_has last g q idle (inr e) = absurd (let k = idle.proc in cc)
 
--- nobody waits
+-- no process waits
 pub each_has : (s : ReadState) (g : GatheredLogs) → GathersIn s g → MayCome s.stage None → ((q : ℕ) → Contains s.waiting q → ⊥) → EachHasLog g.logs (all_members g.logs)
 each_has s g h comes none q c =
     let idle = idle_in s.stage.version s.stage.logs s.stage.last s.stage.log g h.inside comes in

@@ -1,4 +1,4 @@
--- Where a parser finds its text too short, the text goes on: the steps of parsers, words, numbers and names.
+-- Where a parser finds its text too short, some text continues it: the steps of parsers, words, numbers and names.
 use Rattle.std.specs.Prelude.{decimal, ◌==◌, codes}
 use Rattle.std.proofs.Common.{◌≡◌, ◌≢◌, ℕ, ◌+◌, ◌-◌, ◌*◌, ◌^◌, ◌<◌, ◌≤◌, inl, inr, ◌⊎◌, List, [], ◌∷◌, ◌++◌, Ok, Err, Bool, true, false, cond, refl, sym, ◌∙◌, ap, subst, append_assoc, arith}
 use Rattle.std.proofs.lemmas.Bool.{cases_lt, eqb-true}
@@ -18,7 +18,7 @@ use Rattle.totem_ids.proofs.Spelled.{decimal_push, byte_is, number_to_is, ring_i
 
 -- ---- steps
 
--- an answer that finds the bytes too short, while some text of this kind goes on from them
+-- a result that finds the bytes too short, where some text of this kind continues them
 pub record Cut {A : Type 0} (r : Parsed A) (Is : List ℕ → Type 0) (bytes : List ℕ) : Type 0 where
   pub goes : r ≡ Err Truncated → (more : List ℕ) × Is (bytes ++ more)
 
@@ -38,7 +38,7 @@ pub test_cut : {A : Type 0} (t : Bool) (p q : Parsed A) (Is : List ℕ → Type 
 test_cut true p q Is bytes yes' no' = yes' refl
 test_cut false p q Is bytes yes' no' = no' refl
 
--- one thing after the other: a text of the first goes on as one of both
+-- one after the other: a text of the first continues as a text of both
 pub bind_cut : {A B : Type 0} (r : Parsed A) (k : A × List ℕ → Parsed B) (First Is : List ℕ → Type 0) (bytes : List ℕ)
     → Cut r First bytes
     → ((t : List ℕ) → First t → (u : List ℕ) × Is (t ++ u))

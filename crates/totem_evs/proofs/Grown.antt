@@ -8,13 +8,13 @@ use Rattle.totem_ids.specs.Processes.{IsProcessIn}
 use Rattle.totem_ids.specs.Ranks.{id_of}
 use Rattle.totem_evs.specs.Members.{IsBelow, IsMembers}
 
--- processes whose identifiers rise up to that of the last one
+-- processes whose identifiers are ascending, up to that of the last one
 pub record Rising (procs : List ℕ) (last : ℕ) : Type 0 where
   pub below : All (λ p. id_of p ≤ last) procs
   pub rising : AllPairs IsBelow procs
   pub processes : All (IsProcessIn Three) procs
 
--- none rises yet
+-- no element yet
 pub rising_none : (last : ℕ) → Rising [] last
 rising_none last = record {
   below = λ k d within. absurd (omega arith);
@@ -22,7 +22,7 @@ rising_none last = record {
   processes = λ k d within. absurd (omega arith);
 }
 
--- one more
+-- one more element
 pub rising_more : (procs : List ℕ) (last p : ℕ) → Rising procs last → last < id_of p → IsProcessIn Three p → Rising (procs ++ p ∷ []) (id_of p)
 rising_more procs last p h lt is = record {
   below = All-push (λ q. id_of q ≤ id_of p) procs p (λ k d within. omega (arith, h.below k d within, lt)) (omega arith);

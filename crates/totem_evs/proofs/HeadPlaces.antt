@@ -1,4 +1,4 @@
--- Where a fault of a first line stands, and one of the beginning of a record.
+-- Where a fault of a first line is, and one of the beginning of a record.
 use Rattle.std.specs.Prelude.{◌==◌, ◌&&◌, nat_le, ◌↔◌}
 use Rattle.std.proofs.Common.{◌≡◌, ◌≢◌, ℕ, ◌≤◌, inl, inr, List, [], ◌∷◌, ◌++◌, Bool, true, false, cond, Option, Some, Ok, Err, refl, sym, ap, ◌∙◌, arith, rules}
 use Rattle.std.proofs.lemmas.Bool.{eqb-true}
@@ -170,7 +170,7 @@ NotHeader faults.TooMany = Unit {0}
 pub names_not_header : OfNames NotHeader
 names_not_header = record { word = tt; number = tt; short = tt }
 
--- a number is another where the test says so
+-- a number differs where the test says so
 not_same : (x y : ℕ) → (x == y) ≡ false → x ≢ y
 not_same x y e same = absurd (let test : (y == y) ≡ true = search rules in let other : (y == y) ≡ false = rw same at e in cc)
 

@@ -1,4 +1,4 @@
--- Where a first line or the beginning of a record is too short, it goes on.
+-- Where a first line or the beginning of a record is too short, some text continues it.
 use Rattle.std.specs.Prelude.{nat_le, ◌==◌, ◌&&◌, codes}
 use Rattle.std.proofs.Common.{◌≡◌, ℕ, List, [], ◌∷◌, ◌++◌, Option, Some, None, Ok, Err, Bool, false, cond, refl, sym, ◌∙◌, ap, append_assoc}
 use Rattle.std.proofs.lemmas.Bool.{eqb-true}

@@ -1,4 +1,4 @@
--- Where a line of a log is too short, it goes on.
+-- Where a line of a log is too short, some line continues it.
 use Rattle.totem_ids.specs.declared.version.Version.{Version}
 use Rattle.totem_ids.specs.Ranks.{rank_of, id_of, life_of}
 use Rattle.totem_ids.specs.Processes.{writes_lives, process_text, first_life_then, life_then, process_then, IsProcessIn}
@@ -342,7 +342,7 @@ fail_cut version full some failed bytes =
     Is : List ℕ → Type 0
     Is u = LineTo version full some failed (codes "fail " ++ u)
 
--- some line goes on from these bytes
+-- some line continues these bytes
 first_failure : (version : Version) (full some failed : Bool) → full ≡ false → LineTo version full some failed (codes "fail " ++ (conf_text (Regular first_ring) ++ 10 ∷ []))
 first_failure version full some failed h = (lines.Entry (Fail (Regular first_ring)), (h, first_ring_is), refl)
 

@@ -5,7 +5,7 @@ use Rattle.std.proofs.lemmas.Option.{slice_get_within, get_or_from_slice_get}
 use Rattle.totem_evs.specs.declared.log.Log.{Log}
 use Rattle.totem_evs.specs.Events.{log_of}
 
--- a process has no entries, or the log that stands somewhere in the run
+-- a process has no entries, or its log is somewhere in the run
 pub log_of_cases : (run : List Log) (p : ℕ) → (log_of run p ≡ []) ⊎ ((k : ℕ) × (log : Log) × (slice_get run k ≡ Some log) × (log.proc ≡ p) × (log_of run p ≡ log.entries))
 log_of_cases [] p = inl refl
 log_of_cases (log ∷ logs) p = go (log.proc == p) refl (log_of_cases logs p)
@@ -16,7 +16,7 @@ log_of_cases (log ∷ logs) p = go (log.proc == p) refl (log_of_cases logs p)
     go false e (inl none) = inl (rw e none)
     go false e (inr (k, l, at, same, is)) = inr (suc k, l, at, same, rw e is)
 
--- the processes of a run rise
+-- the processes of a run are ascending
 abbrev pub Rising : List Log → Type 0
 Rising run = AllPairs (λ a b. a.proc < b.proc) run
 

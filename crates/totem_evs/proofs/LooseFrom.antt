@@ -1,4 +1,4 @@
--- Lists that rise but for their last, from left to right.
+-- Lists that are ascending except for their last element, from left to right.
 use Rattle.std.specs.List.{AllByRecursion}
 use Rattle.std.proofs.Common.{ℕ, ◌<◌, ◌≤◌, List, [], ◌∷◌, length, arith}
 use Rattle.std.proofs.lemmas.List.Elements.{All-from_recursion, recursion_from_All}
@@ -16,7 +16,7 @@ use Rattle.totem_evs.proofs.RisingRecords.{RiseLoosely, LooselyFrom, rise_loosel
 
 -- ---- members
 
--- processes that texts of this version can write, whose identifiers are above `last` and rise, but for the last
+-- processes that texts of this version can write, whose identifiers are above `last` and ascending, except for the last
 abbrev pub RisesLoosely : Version → ℕ → List ℕ → Type 0
 RisesLoosely version last ms = RiseLoosely id_of (IsProcessIn version) (IsProcessIn version) last ms
 
@@ -47,7 +47,7 @@ loose_entry version (Send m x service) is = is
 loose_entry version (Deliver m x) is = is
 loose_entry version (Fail x) is = is
 
--- entries of which the last is such a one
+-- entries of which the last is such an entry
 abbrev pub EachLoosely : Version → List Entry → Type 0
 EachLoosely version [] = Unit {0}
 EachLoosely version (e ∷ []) = IsLooseEntry version e
@@ -89,7 +89,7 @@ loose_log version log is = record {
   word = is.word;
 }
 
--- logs of which the last is such a one and need not rise
+-- logs of which the last is such a log and need not be above the one before
 abbrev pub LooseLogsFrom : Version → ℕ → ℕ → List Log → Type 0
 LooseLogsFrom version room last logs = LooselyFrom proc_of (IsLogIn version) (IsLooseLog version) room last logs
 

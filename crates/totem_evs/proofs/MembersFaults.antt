@@ -1,4 +1,4 @@
--- Where a fault of a run's text stands: members that do not rise, and what a limit refuses.
+-- Where a fault of a run's text is: members that are not ascending, and what a limit refuses.
 use Rattle.totem_ids.specs.declared.version.Version.{Version}
 use Rattle.totem_ids.specs.Processes.{process_text, process_then, IsProcessIn}
 use Rattle.totem_ids.specs.Ranks.{id_of}
@@ -43,7 +43,7 @@ NotMany faults.TooMany = ⊥
 pub names_not_many : OfNames NotMany
 names_not_many = record { word = tt; number = tt; short = tt }
 
--- ascending members, as many as there may be, and a space
+-- ascending members, the greatest number allowed, and a space
 record IsFull (version : Version) (room last : ℕ) (bytes : List ℕ) : Type 0 where
   members : List ℕ
   rest : List ℕ

@@ -7,21 +7,21 @@ use Rattle.totem_evs.specs.Events.{IsChange}
 use Rattle.totem_evs.specs.Following.{IsNextChange, IsFirstChange}
 use Rattle.totem_evs.proofs.LogOf.{less_or_not}
 
--- one change comes next
+-- one change is the next
 pub one_next : (log : List Entry) (i j k : ℕ) → IsNextChange log i j → IsNextChange log i k → j ≡ k
 one_next log i j k a b = elim (less_or_not j k) [
   | inl lt ↦ absurd (b.none_between j a.later lt a.change)
   | inr rest ↦ elim rest [ inl gt ↦ absurd (a.none_between k b.later gt b.change) | inr same ↦ same ]
 ]
 
--- one change comes first
+-- one change is the first
 pub same_first : (log : List Entry) (x : ConfId) (i j : ℕ) → IsFirstChange log x i → IsFirstChange log x j → i ≡ j
 same_first log x i j a b = elim (less_or_not i j) [
   | inl lt ↦ absurd (b.none_before i lt a.change)
   | inr more ↦ elim more [ inl gt ↦ absurd (a.none_before j gt b.change) | inr e ↦ e ]
 ]
 
--- no change stands after i and before n
+-- no change is after i and before n
 pub record NoneBetween (log : List Entry) (i n : ℕ) : Type 0 where
   pub none : (k : ℕ) → i < k → k < n → IsChange log k → ⊥
 

@@ -16,7 +16,7 @@ use Rattle.totem_evs.specs.Endings.{writes_quiet}
 use Rattle.totem_evs.specs.RunGrammar.{members_at, change_at, send_at, delivery_at, open_at, quiet_at, failed_at, fail_at, ail_at, failure_at, line_at}
 use Rattle.totem_evs.specs.Heads.{Words, proc_at, begin_at, end_at, head_at, by_head, records_at, header_end, header_at}
 
--- an answer is a value, or a fault of this kind
+-- a result is a value, or a fault of this kind
 pub record Only {A : Type 0} (P : TextFault → Type 0) (r : Parsed A) : Type 0 where
   pub fault : (f : TextFault) → r ≡ Err f → P f
 

@@ -1,5 +1,5 @@
--- In a run that the first two passes let through, each transitional configuration follows a regular one, and what stands
--- in a configuration stands after a change to it.
+-- In a run in which the first two passes find no fault, each transitional configuration follows a regular one, and what is
+-- in a configuration is after a change to it.
 use Rattle.std.proofs.Common.{◌≡◌, ◌⊎◌, inl, inr, ℕ, zero, suc, ◌<◌, List, slice_get, Option, Some, None, refl, arith}
 use Rattle.totem_ids.specs.declared.ring.RingId.{RingId}
 use Rattle.totem_ids.specs.declared.conf.ConfId.{ConfId}
@@ -22,7 +22,7 @@ pub record LastBefore (log : List Entry) (n j : ℕ) : Type 0 where
   pub change : IsChange log j
   pub none_between : (k : ℕ) → j < k → k < n → IsChange log k → ⊥
 
--- no change stands before n
+-- no change is before n
 pub record NoneBefore (log : List Entry) (n : ℕ) : Type 0 where
   pub none : (k : ℕ) → k < n → IsChange log k → ⊥
 
@@ -61,7 +61,7 @@ last_before log (suc n) = elim (change_or_not log n) [
   ]
 ]
 
--- ---- what a log stands in
+-- ---- what a log is in
 
 -- who sends or delivers in a configuration has changed to it
 pub sent_in : (run : List Log) (p i : ℕ) (m : MsgId) (x : ConfId) → MeetsPasses run → Sends (log_of run p) i m x → StandsIn (log_of run p) i x
@@ -81,7 +81,7 @@ same_turns : (x : ConfId) → IsRegular x → (c : RingId) × (x ≡ Regular c)
 same_turns (Regular c) r = (c, refl)
 same_turns (Transitional next least) r = absurd r
 
--- a change to a transitional configuration comes next after the one change to a regular one
+-- a change to a transitional configuration is the next after the one change to a regular one
 pub origin : (run : List Log) (p i : ℕ) (t : ConfId) → MeetsPasses run → ChangesTo (log_of run p) i t → IsTransitional t → HasOrigin (log_of run p) t
 origin run p i t meets (ns, at) moves = elim (last_before (log_of run p) i) [
   | inr none ↦ absurd (both t ((meets.turns.each p).regular_first i t (ns, at) none.none) moves)
@@ -116,7 +116,7 @@ origin run p i t meets (ns, at) moves = elim (last_before (log_of run p) i) [
 
 -- ---- rings
 
--- p's log stands in c, or in what follows c, so that c is one of the rings
+-- p's log is in c, or in what follows c, so that c is one of the rings
 pub ring_of_standing : (run : List Log) (p i : ℕ) (c : RingId) (d : ConfId) → StandsIn (log_of run p) i d → Com (log_of run p) c d → IsRing run c
 ring_of_standing run p i c d stands (inl is) = record { proc = p; index = stands.from; change = rw is at stands.change }
 ring_of_standing run p i c d stands (inr follows) = record { proc = p; index = follows.from; change = follows.first.change }

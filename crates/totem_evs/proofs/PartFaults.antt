@@ -1,4 +1,4 @@
--- Where a fault of a run's text stands: between logs and in a log.
+-- Where a fault of a run's text is: between logs and in a log.
 use Rattle.totem_ids.specs.declared.version.Version.{Version}
 use Rattle.std.specs.Prelude.{◌==◌, codes, not, ◌&&◌, ◌↔◌}
 use Rattle.std.proofs.Common.{◌≡◌, ◌≢◌, ℕ, inl, inr, List, [], ◌∷◌, ◌++◌, Bool, true, false, cond, Ok, Err, refl, sym, ap, ◌∙◌}
@@ -88,7 +88,7 @@ names_not_end = record { word = tt; number = tt; short = tt }
 entries_not_end : OfEntries NotEnd
 entries_not_end = record { names = names_not_end; members = tt; many = tt }
 
--- the byte that has a closing word alone
+-- the byte that only a closing word has
 failed_end : (failed : Bool) (bytes : List ℕ) → failed_at failed bytes ≡ Err faults.End → failed ≡ false
 unfolding failed_at
 failed_end true bytes e =

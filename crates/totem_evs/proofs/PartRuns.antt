@@ -30,7 +30,7 @@ use Rattle.totem_evs.proofs.SpelledHeads.{IsHead, head_is}
 use Rattle.totem_evs.proofs.Folding.{as_part, line_part, rest_at, behind, OfLast, FewEntries, step, version_kept, first_step}
 use Rattle.totem_evs.proofs.Gathers.{below_limit}
 
--- ---- what is read may come
+-- ---- what is read may follow
 
 between_comes : (version : Version) (logs last : ℕ) (part : Option Part) (bytes rest : List ℕ) → begun_at version logs last bytes ≡ Ok (part, rest) → ComesBetween logs last part
 unfolding begun_at
@@ -63,12 +63,12 @@ comes stage part bytes rest e = comes_in stage.version stage.logs stage.last sta
 
 -- ---- the logs that parts give
 
--- the open log is that of the last process
+-- the log that has not ended is that of the last process
 abbrev pub Placed : Option OpenLog → ℕ → GatheredLogs → Type 0
 Placed None last g = g.proc ≡ None
 Placed (Some log) last g = g.proc ≡ Some last
 
--- these logs stand at this stage
+-- the logs belong to this stage
 pub record Stands (stage : Stage) (g : GatheredLogs) : Type 0 where
   pub few : stage.logs ≤ 32
   pub entries : FewEntries stage.log
@@ -103,13 +103,13 @@ rest_read (part ∷ ps) stage g bytes rest h reads =
     ∙ rest_read ps (next_stage stage part) (gathered g part) reads.0 rest (stands_next stage g part h (comes stage (Some part) bytes reads.0 reads.1)) reads.2
     ∙ ap (λ (v : Version). Ok (record { version = v; logs = logs_from (gathered g part) ps }, rest)) (version_kept stage part)
 
--- ---- the parts of these logs
+-- ---- the parts of the logs
 
 abbrev opened_parts : Option ℕ → List Entry → List Part
 opened_parts None entries = []
 opened_parts (Some p) entries = parts.Log p ∷ entry_parts entries
 
--- the parts that have come
+-- the parts so far
 abbrev given : GatheredLogs → List Part
 given g = run_parts g.logs ++ opened_parts g.proc g.entries
 

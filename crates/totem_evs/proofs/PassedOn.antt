@@ -1,4 +1,4 @@
--- What the readers of runs answer.
+-- What the readers of runs return.
 use Rattle.totem_ids.specs.declared.life.WrittenProc.{WrittenProc}
 use Rattle.totem_ids.specs.declared.version.Version.{Version}
 use Rattle.std.proofs.Common.{◌≡◌, ℕ, List, [], Option, Some, None, Err, refl}

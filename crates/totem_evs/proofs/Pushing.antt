@@ -1,12 +1,12 @@
--- What stands in a list after which one more element was put.
+-- What is in a list to which one more element was appended.
 use Rattle.std.proofs.Common.{◌≡◌, ℕ, zero, suc, ◌+◌, ◌⊎◌, inl, inr, List, [], ◌∷◌, ◌++◌, length, slice_get, Some, refl, ◌∙◌, ap, arith}
 use Rattle.std.proofs.lemmas.List.{length_push}
 
--- nothing stands in an empty list
+-- nothing is in an empty list
 pub nothing : {X : Type 0} (k : ℕ) (x : X) → slice_get [] k ≡ Some x → ⊥
 nothing k x at = cc
 
--- the element that is put after the others, or one of these
+-- the appended element, or one of the others
 pub before_push : {X : Type 0} (xs : List X) (x : X) (k : ℕ) (y : X) → slice_get (xs ++ (x ∷ [])) k ≡ Some y → (slice_get xs k ≡ Some y) ⊎ ((k ≡ length xs) × (x ≡ y))
 before_push [] x zero y at = inr (refl, cc)
 before_push [] x (suc k) y at = absurd (nothing k y at)
@@ -22,7 +22,7 @@ pub stands_last : {X : Type 0} (xs : List X) (x : X) → slice_get (xs ++ (x ∷
 stands_last [] x = refl
 stands_last (z ∷ xs) x = stands_last xs x
 
--- the elements of ys belong to the first n of xs, each to that at its index
+-- the elements of ys belong to the first n of xs, each to the one at its index
 pub record Along {X Y : Type 0} (P : X → Y → Type 0) (xs : List X) (ys : List Y) (n : ℕ) : Type 0 where
   pub long : length ys ≡ n
   pub each : (k : ℕ) (x : X) (y : Y) → slice_get xs k ≡ Some x → slice_get ys k ≡ Some y → P x y

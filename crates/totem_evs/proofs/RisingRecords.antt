@@ -1,4 +1,4 @@
--- Lists that rise, from left to right: records by their processes, members by their identifiers.
+-- Ascending lists, from left to right: records by their processes, members by their identifiers.
 use Rattle.std.specs.Prelude.{AllPairs}
 use Rattle.std.specs.List.{AllByRecursion}
 use Rattle.std.proofs.Common.{ℕ, suc, ◌<◌, ◌≤◌, List, [], ◌∷◌, length, arith}
@@ -6,7 +6,7 @@ use Rattle.std.proofs.lemmas.List.Kept.{AllPairs-cons}
 use Rattle.std.proofs.lemmas.List.Elements.{All-from_recursion, recursion_from_All}
 use Rattle.totem_evs.specs.TextFronts.{but_last}
 
--- above `last`, rising, and each of this kind
+-- above `last`, ascending, and each of this kind
 abbrev pub RecordsRise : {R : Type 0} → (R → ℕ) → (R → Type 0) → ℕ → List R → Type 0
 RecordsRise proc Is last [] = Unit {0}
 RecordsRise proc Is last (r ∷ rs) = (last < proc r) × Is r × RecordsRise proc Is (proc r) rs
@@ -49,7 +49,7 @@ all_positive proc Is (r ∷ rs) above each = (above r each.0, all_positive proc 
 pub rise_from_none : {R : Type 0} (proc : R → ℕ) (Is : R → Type 0) (rs : List R) → ((r : R) → Is r → 0 < proc r) → AllByRecursion Is rs → AllPairs (IsBelowBy proc) rs → RecordsRise proc Is 0 rs
 rise_from_none proc Is rs above each pairs = rise_from proc Is 0 rs (all_positive proc Is rs above each) each pairs
 
--- ---- records of which the last is of another kind and need not rise
+-- ---- records of which the last is of another kind and need not be above the one before
 
 abbrev pub RiseLoosely : {R : Type 0} → (R → ℕ) → (R → Type 0) → (R → Type 0) → ℕ → List R → Type 0
 RiseLoosely proc Is Last last [] = Unit {0}

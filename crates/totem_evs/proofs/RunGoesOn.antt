@@ -1,4 +1,4 @@
--- Where the text of a run is too short, it goes on.
+-- Where the text of a run is too short, some text continues it.
 use Rattle.totem_evs.specs.RunRecord.{RunRecord}
 use Rattle.totem_evs.specs.Endings.{writes_quiet}
 use Rattle.totem_ids.specs.declared.version.Version.{Version}
@@ -40,7 +40,7 @@ BodyTo version room some failed t = (es : List Entry) × (ending : Ending) × Is
 not_zero : (n : ℕ) → (n == 0) ≡ false → 0 < n
 not_zero n h = grind (arith, nat_tests)
 
--- a line that came last but for the closing word
+-- a line before the closing word
 body_from : (version : Version) (room : ℕ) (some failed : Bool) (l : Line) (t : List ℕ) → (failed ≡ true → some ≡ true) → IsLineOf (IsLooseEntry version) (writes_quiet version) (room == 0) some failed l → t ≡ line_text version l → (u : List ℕ) × BodyTo version (suc room) some failed (t ++ u)
 body_from version room some failed (lines.Close x) t so is e = ([], ([], x, closing (IsLooseEntry version) (EachLoosely version) tt (writes_quiet version) room (room == 0) some failed x so is, ap (λ (k : List ℕ). k ++ []) e))
 body_from version room some failed (lines.Entry x) t so is e =
@@ -108,7 +108,7 @@ first_log_is : (version : Version) (p : ℕ) → IsProcessIn version p → IsLoo
 unfolding first_log
 first_log_is version p process = made_log version p (Fail (Regular first_ring) ∷ []) Failed process (record { few = omega arith; entries = first_ring_is; has = refl; ends = refl })
 
--- the last line, or a first line that came last but for a log's others
+-- the last line, or the first line of a log before its other lines
 logs_from : (version : Version) (room last : ℕ) (head : Option ℕ) (t : List ℕ) → IsLooseHead version (room == 0) head → t ≡ head_text run_words version head → (u : List ℕ) × LogsTo version (suc room) last (t ++ u)
 unfolding first_log
 logs_from version room last None t is e = ([], ([], record { few = omega arith; rises = tt }, ap (λ (k : List ℕ). k ++ []) e))
@@ -174,7 +174,7 @@ run_cut bytes =
 pub cut_front : (bytes : List ℕ) → run_at bytes ≡ Err faults.Truncated → IsLooseFront bytes
 cut_front bytes e = let found = (run_cut bytes).goes e in (found.1.0, found.0, found.1.1, found.1.2)
 
--- after a byte that breaks a rule no run's text goes on
+-- where the grammar finds a fault, no run's text begins with the bytes
 no_front : (bytes : List ℕ) (fault : TextFault) → run_at bytes ≡ Err fault → is_short fault ≡ false → IsFront bytes → ⊥
 no_front bytes fault e long h =
     let stays : Follows h.1 (run_at bytes) (run_at (bytes ++ h.1)) = run_steady.stays bytes h.1 in

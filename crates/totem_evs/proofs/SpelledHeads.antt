@@ -15,14 +15,14 @@ use Rattle.totem_evs.specs.RunText.{line, version_digit}
 use Rattle.totem_evs.specs.Heads.{Words, HasVersion, first_line, proc_at, begin_at, end_at, head_at, header_end, header_at}
 use Rattle.totem_evs.proofs.SpelledLine.{not_within}
 
--- words that tell a record from the last line, and a process from what is after it
+-- words that distinguish a record from the last line, and a process from what is after it
 pub record IsClear (words : Words) : Type 0 where
   pub letter : (101 == words.letter) ≡ false
   pub behind : is_digit words.behind ≡ false
 
 -- ---- the beginning of a record
 
--- a record up to what is after its process, or the last line
+-- a record up to and including the byte after its process, or the last line
 abbrev pub head_text : Words → Version → Option ℕ → List ℕ
 head_text words version None = line (codes "end")
 head_text words version (Some p) = words.letter ∷ (words.word ++ (process_text version p ++ words.behind ∷ []))

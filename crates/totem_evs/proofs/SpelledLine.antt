@@ -85,7 +85,7 @@ abbrev pub line_text : Version → Line → List ℕ
 line_text version (lines.Entry e) = line (entry_text (process_text version) e)
 line_text version (lines.Close ending) = line (ending_text ending)
 
--- a line that may come next, `quiet` where that is written; of its entry this holds
+-- a line that may follow, `quiet` where that is written; this holds for its entry
 abbrev pub IsLineOf : (Entry → Type 0) → Bool → Bool → Bool → Bool → Line → Type 0
 IsLineOf E written full some failed (lines.Entry e) = (full ≡ false) × E e
 IsLineOf E written full some failed (lines.Close Standing) = (some ≡ true) × (failed ≡ false)

@@ -23,7 +23,7 @@ use Rattle.totem_evs.proofs.SpelledLine.{IsLineOf, IsLine, line_is, line_again}
 
 -- ---- how a log ends
 
--- whether the last entry is a failure; where there is none, the answer is given
+-- whether the last entry is a failure; the result is given for a log without entries
 abbrev pub ends_in_failure : Bool → List Entry → Bool
 ends_in_failure before [] = before
 ends_in_failure before (e ∷ entries) = ends_in_failure (is_failure e) entries
@@ -102,7 +102,7 @@ abbrev pub has_some : Bool → List Entry → Bool
 has_some some [] = some
 has_some some (e ∷ es) = true
 
--- what may follow, room being one more than the entries that may, and `quiet` where that is written; of the entries this holds
+-- what may follow: fewer than `room` entries, and `quiet` where that is written; this holds for the entries
 pub record IsBodyOf (Each : List Entry → Type 0) (written : Bool) (room : ℕ) (some failed : Bool) (es : List Entry) (ending : Ending) : Type 0 where
   pub few : length es < room
   pub entries : Each es

@@ -15,7 +15,7 @@ use Rattle.totem_evs.specs.Parts.{next_stage, with_entry}
 use Rattle.totem_evs.specs.ReadState.{ReadState, IsReadState, Goes, MayCome, ComesIn}
 use Rattle.totem_evs.proofs.Waits.{waits_log, waits_entry, waits_still, waits_apart}
 
--- below the limit there is room for one more
+-- below the limit one more is allowed
 below_limit : (n limit : ℕ) → (n == limit) ≡ false → n ≤ limit → n + 1 ≤ limit
 below_limit n limit other le = grind (arith, nat_tests)
 
@@ -45,7 +45,7 @@ state_log s stage begun waiting p is comes goes more h =
       record { stage = refl; begun = refl; waiting = waits },
     )
 
--- an entry comes
+-- an entry follows
 pub state_entry : (s : ReadState) (stage : Stage) (waiting : List ℕ) (e : Entry) → IsReadState s → MayCome s.stage (Some (parts.Entry e)) → stage ≡ next_stage s.stage (parts.Entry e)
     → ((q : ℕ) → Contains waiting q ↔ (Contains s.waiting q ⊎ (Contains (members_of e) q × (Contains s.begun q → ⊥)))) → let t : ReadState = record { stage = stage; begun = s.begun; waiting = waiting } in IsReadState t × Goes s (parts.Entry e) t
 state_entry s stage waiting e is comes goes h =

@@ -1,4 +1,4 @@
--- What a run's grammar answers doesn't change by what follows.
+-- The result of a run's grammar doesn't change with what follows.
 use Rattle.totem_ids.specs.Ranks.{id_of}
 use Rattle.totem_ids.specs.declared.version.Version.{Version}
 use Rattle.totem_ids.specs.declared.version.Version.TheVariants.{One, Two, Three}

@@ -128,7 +128,7 @@ safe run meets s h = record {
       here.each m p i q is delivers member;
 }
 
--- a certified run that the passes let through meets the seven specifications
+-- a certified run in which the passes find nothing meets the seven specifications
 pub synchronous : (run : List Log) (lines : List Numbering) → MeetsPasses run → Certified run lines → MeetsConfigurations run → IsVirtuallySynchronous run
 synchronous run lines meets certified each =
     let both = ordered run lines certified in

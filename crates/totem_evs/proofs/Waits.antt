@@ -1,4 +1,4 @@
--- Who waits for a log, part after part.
+-- Which members wait for a log, part after part.
 use Rattle.std.specs.Prelude.{Contains, IsTrue, ◌↔◌}
 use Rattle.std.proofs.Common.{take, ◌<◌, ◌+◌, length, get_or, ap, sym, ◌∙◌, ◌≡◌, ◌≢◌, ◌⊎◌, ℕ, List, [], ◌∷◌, ◌++◌, Bool, true, false, inl, inr, refl, subst, arith}
 use Rattle.std.proofs.lemmas.List.{take_more}
@@ -12,7 +12,7 @@ use Rattle.totem_evs.specs.RunGrammar.{is_failure}
 pub in_none : (q : ℕ) → Contains [] q → ⊥
 in_none q c = omega (arith, c.1)
 
--- who waits, given who waited, who is named now and whose logs have begun
+-- the processes that wait, given those that waited, those named now and those whose logs have begun
 abbrev pub Waits : List ℕ → List ℕ → List ℕ → List ℕ → Type 0
 Waits waited named begun waiting = (q : ℕ) → Contains waiting q ↔ ((Contains waited q ⊎ Contains named q) × (Contains begun q → ⊥))
 
@@ -26,22 +26,22 @@ waits_log waited begun waiting p apart h q = (
     refl_sym : {a b : ℕ} → a ≡ b → b ≡ a
     refl_sym e = cc
 
--- an entry comes
+-- an entry follows
 pub waits_entry : (waited named begun waiting : List ℕ) → ((q : ℕ) → Contains waited q → Contains begun q → ⊥) → ((q : ℕ) → Contains waiting q ↔ (Contains waited q ⊎ (Contains named q × (Contains begun q → ⊥)))) → Waits waited named begun waiting
 waits_entry waited named begun waiting apart h q = (
   (λ c. elim ((h q).0 c) [ inl old ↦ (inl old, apart q old) | inr new ↦ (inr new.0, new.1) ]),
   (λ c. elim c.0 [ inl old ↦ (h q).1 (inl old) | inr new ↦ (h q).1 (inr (new, c.1)) ]),
 )
 
--- nobody is named
+-- no process is named
 pub waits_still : (waited begun : List ℕ) → ((q : ℕ) → Contains waited q → Contains begun q → ⊥) → Waits waited [] begun waited
 waits_still waited begun apart q = ((λ c. (inl c, apart q c)), (λ c. elim c.0 [ inl old ↦ old | inr none ↦ absurd (in_none q none) ]))
 
--- whose log has begun waits no more
+-- a process whose log has begun no longer waits
 pub waits_apart : (waited named begun waiting : List ℕ) → Waits waited named begun waiting → (q : ℕ) → Contains waiting q → Contains begun q → ⊥
 waits_apart waited named begun waiting h q c = ((h q).0 c).1
 
--- one more member is looked at
+-- one more member is considered
 pub waits_more : (waited begun ms waiting more : List ℕ) (p : ℕ) → ((q : ℕ) → Contains waiting q ↔ (Contains waited q ⊎ (Contains ms q × (Contains begun q → ⊥)))) → (Contains begun p → ⊥) → ((q : ℕ) → Contains more q ↔ (Contains waiting q ⊎ (q ≡ p)))
     → (q : ℕ) → Contains more q ↔ (Contains waited q ⊎ (Contains (ms ++ p ∷ []) q × (Contains begun q → ⊥)))
 waits_more waited begun ms waiting more p h none k q = (

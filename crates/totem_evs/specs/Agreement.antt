@@ -1,4 +1,4 @@
--- Specifications 3 to 7: what processes owe themselves and one another (docs/SPECIFICATIONS.md, "3 Self-delivery",
+-- Specifications 3 to 7: what processes owe themselves and each other (docs/SPECIFICATIONS.md, "3 Self-delivery",
 -- "4 Failure atomicity", "5 Causal delivery", "6 Total order", "7 Safe delivery").
 use Rattle.std.specs.Prelude.{◌≡◌, ◌⊎◌, ℕ, ◌<◌, List}
 use Rattle.totem_ids.specs.declared.ring.RingId.{RingId}
@@ -20,7 +20,7 @@ SelfDelivery run = (p i : ℕ) (m : MsgId) (c : RingId) → Sends (log_of run p)
 abbrev pub Goes : List Entry → ConfId → ConfId → Type 0
 Goes log x d = (i j : ℕ) × ChangesTo log i x × IsNextChange log i j × ChangesTo log j d
 
--- 4: who goes from x to d together delivers the same messages in x
+-- 4: processes that go from x to d together deliver the same messages in x
 abbrev pub FailureAtomicity : List Log → Type 0
 FailureAtomicity run = (p q : ℕ) (x d : ConfId) → Goes (log_of run p) x d → Goes (log_of run q) x d
     → (i : ℕ) (m : MsgId) → Delivers (log_of run p) i m x → (j : ℕ) × Delivers (log_of run q) j m x
@@ -30,13 +30,13 @@ abbrev pub CausalDelivery : List Log → Type 0
 CausalDelivery run = (c : RingId) (m n : MsgId) (e f : Place) → SendsAt run e m (Regular c) → SendsAt run f n (Regular c) → Precedes run e f
     → (r j : ℕ) → DeliversIn (log_of run r) c n j → (i : ℕ) × (i < j) × DeliversIn (log_of run r) c m i
 
--- a number for each event, smaller for what precedes, and one for each class
+-- a number for each event: smaller for an event that precedes, and the same for all events of a class
 pub record Numbers (run : List Log) (ord : Place → ℕ) : Type 0 where
   pub rises : (e f : Place) → Precedes run e f → ord e < ord f
   pub shared : (e f : Place) → SameClass run e f → ord e ≡ ord f
   pub apart : (e f : Place) → IsEvent run e → IsEvent run f → ord e ≡ ord f → (e ≡ f) ⊎ SameClass run e f
 
--- 6.1: the events can be numbered so
+-- 6.1: the events can be numbered in this way
 abbrev pub HasTotalOrder : List Log → Type 0
 HasTotalOrder run = (ord : Place → ℕ) × Numbers run ord
 

@@ -12,7 +12,7 @@ use Rattle.totem_evs.specs.Steps.{SendsAt, Precedes}
 use Rattle.totem_evs.specs.Following.{IsNextChange, Com, DeliversIn, HasDelivered, DeliversOrEnds}
 use Rattle.totem_evs.specs.Places.{At, IsClosed, IsOrderStep}
 
--- p's entry i sends in c what p neither delivers, nor failed or is open where it might
+-- p's entry i sends a message in c, and in c and what follows it p does not deliver it, has not failed and is not open
 abbrev pub IsNotOwned : List Log → RingId → ℕ → ℕ → Type 0
 IsNotOwned run c p i = (m : MsgId) × Sends (log_of run p) i m (Regular c) × (DeliversOrEnds run p c m → ⊥)
 
@@ -25,7 +25,7 @@ BreaksOwnDelivery run _ = ⊥
 abbrev pub GoesAt : List Entry → ConfId → ConfId → ℕ → Type 0
 GoesAt log x d j = (i : ℕ) × ChangesTo log i x × IsNextChange log i j × ChangesTo log j d
 
--- p and q go from x to one next configuration, and p delivered in x what q did not
+-- p and q go from x to the same next configuration, and p delivered a message in x that q did not
 abbrev pub IsParted : List Log → ConfId → ℕ → ℕ → ℕ → ℕ → ℕ → Type 0
 IsParted run x p i j q k = (m : MsgId) × (d : ConfId) × Delivers (log_of run p) i m x × GoesAt (log_of run p) x d j × GoesAt (log_of run q) x d k
     × ((l : ℕ) → Delivers (log_of run q) l m x → ⊥)
@@ -45,7 +45,7 @@ abbrev pub BreaksCausality : List Log → List Place → Type 0
 BreaksCausality run (e ∷ f ∷ g ∷ []) = At g (IsUncaused run e f)
 BreaksCausality run _ = ⊥
 
--- 6.1: a closed list of steps, different deliveries of one message being twins
+-- 6.1: a closed list of steps, where different deliveries of one message count as twins
 abbrev pub BreaksOrder : List Log → List Place → Type 0
 BreaksOrder run places = IsClosed run (IsOrderStep run) places
 
@@ -60,8 +60,8 @@ abbrev pub BreaksGap : List Log → List Place → Type 0
 BreaksGap run (e ∷ f ∷ g ∷ []) = At e (λ p i. At f (λ r j. At g (λ q k. (p ≡ r) × ((c : RingId) × IsGap run c p i j q k))))
 BreaksGap run _ = ⊥
 
--- p delivers a safe message in d, which is c or follows it, and a member of d neither delivers it, nor failed or is open
--- where it might
+-- p delivers a safe message in d, which is c or follows it, and a member of d does not deliver it in c or what follows it,
+-- has not failed there and is not open there
 abbrev pub IsNotReached : List Log → RingId → ℕ → ℕ → Type 0
 IsNotReached run c p i = (m : MsgId) × (d : ConfId) × (q : ℕ) × IsSafe run m × Delivers (log_of run p) i m d × Com (log_of run p) c d
     × IsMember run d q × (DeliversOrEnds run q c m → ⊥)

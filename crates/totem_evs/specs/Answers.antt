@@ -1,4 +1,4 @@
--- What the passes of an audit answer (docs/SPECIFICATIONS.md, "Faults", "Passes").
+-- The results of the passes of an audit (docs/SPECIFICATIONS.md, "Faults", "Passes").
 use Rattle.std.specs.Prelude.{◌≡◌, ◌≢◌, ◌⊎◌, ◌↔◌, ℕ, List, [], ◌∷◌, ◌++◌, AllPairs, Contains, Option, Some, None}
 use Rattle.totem_ids.specs.Orders.{PlaceBelow, RingBelow}
 use Rattle.totem_ids.specs.declared.conf.ConfId.TheVariants.{Regular}
@@ -20,13 +20,13 @@ use Rattle.totem_evs.specs.Certificates.{Numbering, Certified}
 use Rattle.totem_evs.specs.Positions.{IsPositions}
 use Rattle.totem_evs.specs.ClosedLists.{IsCycle}
 
--- a list of places is another, or comes before it: place by place, a list before those that go on from it
+-- a list of places is equal to another, or comes before it: place by place, and a list comes before its continuations
 abbrev pub ComesFirst : List Place → List Place → Type 0
 ComesFirst [] fs = Unit {0}
 ComesFirst (e ∷ es) [] = ⊥
 ComesFirst (e ∷ es) (f ∷ fs) = PlaceBelow e f ⊎ ((e ≡ f) × ComesFirst es fs)
 
--- of the lists of which a fact holds, this one comes first
+-- of the lists for which a fact holds, this one comes first
 pub record IsLeast (Holds : List Place → Type 0) (places : List Place) : Type 0 where
   pub holds : Holds places
   pub first : (others : List Place) → Holds others → ComesFirst places others
@@ -35,12 +35,12 @@ pub record IsLeast (Holds : List Place → Type 0) (places : List Place) : Type 
 abbrev pub IsLeastBreak : List Log → SpecNo → List Place → Type 0
 IsLeastBreak run k places = IsLeast (Breaks run k) places
 
--- 2.4: each log takes turns, and no two come to one configuration from two
+-- 2.4: each log takes turns, and no two logs come to one configuration from two different ones
 pub record TakeTurns (run : List Log) : Type 0 where
   pub each : (p : ℕ) → TakesTurns (log_of run p)
   pub origin : HasOneOrigin run
 
--- the run meets a specification of the passes A and B; of no other is it said here
+-- the run meets a specification of the passes A and B; nothing is said of any other
 abbrev pub Meets : List Log → SpecNo → Type 0
 Meets run spec.Unsent = DeliversWhatWasSent run
 Meets run spec.Twice = DeliversOnce run
@@ -64,7 +64,7 @@ abbrev pub Finds : List Log → SpecNo → Option (List Place) → Type 0
 Finds run k None = Meets run k
 Finds run k (Some places) = IsLeastBreak run k places
 
--- the faults are those of these specifications, in their order, one for each that is broken
+-- the faults of these specifications, in their order: one for each that is broken
 abbrev pub Lists : List Log → List SpecNo → List Fault → Type 0
 Lists run [] faults = faults ≡ []
 Lists run (k ∷ ks) faults =
@@ -84,7 +84,7 @@ pass_b = spec.Unsent ∷ []
 abbrev pub ListsCycle : List Log → List Fault → Type 0
 ListsCycle run faults = (fault : Fault) × (faults ≡ fault ∷ []) × IsCycle run fault
 
--- pass C finds nothing: the events can be numbered as the order asks
+-- pass C finds nothing: the events can be numbered as their order requires
 abbrev pub HasCertificate : List Log → Type 0
 HasCertificate run = (lines : List Numbering) × Certified run lines
 
@@ -122,18 +122,18 @@ ListsEach run rings (k ∷ ks) faults =
 abbrev pub specs_d : List SpecNo
 specs_d = spec.OwnDelivery ∷ spec.Atomicity ∷ spec.Causality ∷ spec.Gap ∷ spec.Safety ∷ spec.Installed ∷ []
 
--- pass D: the faults of 3, 4, 5, 6.3, 7.1 and 7.2, each asked of each regular configuration
+-- pass D: the faults of 3, 4, 5, 6.3, 7.1 and 7.2, each judged in each regular configuration
 pub record ListsConfigurations (run : List Log) (faults : List Fault) : Type 0 where
   pub rings : List RingId
   pub are : AreRings run rings
   pub lists : ListsEach run rings specs_d faults
 
--- what is answered of a run: a certificate and what is left open, or faults
+-- the answer for a run: a certificate and what is left open, or faults
 pub data Answer : Type 0 where
   Yes : List Numbering → List Pending → List Waiting → Answer
   No : List Fault → Answer
 
--- the written answer: the faults of the first pass that has one, or where none has the certificate, and what is pending
+-- the specified answer: the faults of the first pass that finds one; or, if none does, the certificate, what is pending
 -- and who waits
 abbrev pub IsAnswered : List Log → Answer → Type 0
 IsAnswered run (Yes lines pending waiting) =

@@ -12,7 +12,7 @@ pub record Numbering : Type 0 where
   pub proc : ℕ
   pub numbers : List ℕ
 
--- the numbers of p's line; none where it has no line
+-- the numbers of p's line, or none if it has no line
 abbrev pub numbers_of : List Numbering → ℕ → List ℕ
 numbers_of [] p = []
 numbers_of (line ∷ lines) p = if line.proc == p then line.numbers else numbers_of lines p
@@ -33,8 +33,8 @@ Matches run lines = map {B = ℕ × ℕ} (λ log. (log.proc, length log.entries)
 abbrev pub IsBelow : List Numbering → Place → Place → Type 0
 IsBelow lines e f = (i j : ℕ) × (number_at lines e ≡ Some i) × (number_at lines f ≡ Some j) × (i < j)
 
--- the lines number the events as the order asks: rising in each log, a send below its deliveries, one number for
--- each class and for nothing else
+-- the lines number the events as their order requires: ascending in each log, a send below its deliveries, and the same
+-- number for two events if and only if they are of one class
 pub record Certified (run : List Log) (lines : List Numbering) : Type 0 where
   pub matches : Matches run lines
   pub positive : All (λ line. All (λ n. 0 < n) line.numbers) lines

@@ -11,7 +11,7 @@ use Rattle.totem_evs.specs.Following.{IsLastChange}
 use Rattle.totem_evs.specs.Changes.{Names, StandsIn, ChangesNext, SharesEnd}
 use Rattle.totem_evs.specs.Places.{At}
 
--- p's log is quiet, its last change is this one, and a member of its configuration neither ends there nor may still come
+-- p's log is quiet, its last change is this one, and a member of its configuration neither ends there nor may still arrive
 abbrev pub EndsAlone : List Log → ℕ → ℕ → Type 0
 EndsAlone run p i = (x : ConfId) × (ms : List ℕ) × (q : ℕ) × IsQuiet run p × IsLastChange (log_of run p) i x ms × Contains ms q × (SharesEnd run x q → ⊥)
 
@@ -20,7 +20,7 @@ abbrev pub BreaksEnd : List Log → List Place → Type 0
 BreaksEnd run (e ∷ []) = At e (EndsAlone run)
 BreaksEnd run _ = ⊥
 
--- the entry begins the log and is no change, names what it does not stand in, or follows a failure
+-- the entry begins the log and is no change, names a configuration that it is not in, or follows a failure
 abbrev pub IsMisplaced : List Entry → ℕ → Type 0
 IsMisplaced log i =
     (i < length log)
@@ -33,7 +33,7 @@ abbrev pub BreaksPlace : List Log → List Place → Type 0
 BreaksPlace run (e ∷ []) = At e (λ p i. IsMisplaced (log_of run p) i)
 BreaksPlace run _ = ⊥
 
--- p's entry i changes to a configuration of which p is no member
+-- p's entry i changes to a configuration of which p is not a member
 abbrev pub IsForeign : List Log → ℕ → ℕ → Type 0
 IsForeign run p i = (x : ConfId) × (ms : List ℕ) × ChangesWith (log_of run p) i x ms × (Contains ms p → ⊥)
 
@@ -52,8 +52,8 @@ BreaksConfiguration run _ = ⊥
 abbrev pub BeginsTransitional : List Entry → ℕ → Type 0
 BeginsTransitional log i = (x : ConfId) × ChangesTo log i x × IsTransitional x × ((k : ℕ) → k < i → IsChange log k → ⊥)
 
--- one change follows another as it may not: both regular, both transitional, a member of the transitional one is none of
--- the regular one next to it, or another ring follows than the one that the transitional one names
+-- one change follows another as it may not: both are regular, both are transitional, a member of the transitional one is
+-- not a member of the regular one next to it, or another ring follows than the transitional one names
 abbrev pub AreWrongNeighbours : List Entry → ℕ → ℕ → Type 0
 AreWrongNeighbours log i j = (x y : ConfId) × (ms ns : List ℕ) × ChangesNext log i j x y ms ns
     × ((IsRegular x × IsRegular y) ⊎ (IsTransitional x × IsTransitional y)

@@ -12,8 +12,8 @@ use Rattle.totem_evs.specs.Steps.{ChangesAt, Precedes}
 use Rattle.totem_evs.specs.Following.{IsNextChange, IsLastChange, LastChange, NeverFails}
 use Rattle.totem_evs.specs.Missing.{HasLog}
 
--- where a quiet log ends in x, its member q does too, or may still come: q has a log without a failure, and its last change is
--- to x, or it is not quiet and never changes to x
+-- where a quiet log ends in x, a member q of x does too, or may still arrive: q has a log without a failure, and its last
+-- change is to x, or it is not quiet and never changes to x
 pub record SharesEnd (run : List Log) (x : ConfId) (q : ℕ) : Type 0 where
   pub has_log : HasLog run q
   pub goes_on : NeverFails (log_of run q)
@@ -40,13 +40,13 @@ pub record StandsIn (log : List Entry) (i : ℕ) (x : ConfId) : Type 0 where
   pub change : ChangesTo log from x
   pub none_between : (k : ℕ) → from < k → k < i → IsChange log k → ⊥
 
--- 2.2: a log begins with a change, each other entry names the configuration in which it stands, and nothing follows a failure
+-- 2.2: a log begins with a change, each other entry names the configuration that it is in, and nothing follows a failure
 pub record StaysInPlace (log : List Entry) : Type 0 where
   pub begins : 0 < length log → IsChange log 0
   pub named : (i : ℕ) (x : ConfId) → Names log i x → StandsIn log i x
   pub final : (i j : ℕ) (x : ConfId) → Fails log i x → i < j → j < length log → ⊥
 
--- 2.3: one change of a log to each configuration, one list of members, and who changes is one of them
+-- 2.3: no log changes twice to one configuration, which has one list of members, and a process that changes to it is a member
 pub record IsOneConfiguration (run : List Log) : Type 0 where
   pub once : (p i j : ℕ) (x : ConfId) → ChangesTo (log_of run p) i x → ChangesTo (log_of run p) j x → i ≡ j
   pub members : (p i q j : ℕ) (x : ConfId) (ms ns : List ℕ) → ChangesWith (log_of run p) i x ms → ChangesWith (log_of run q) j x ns → ms ≡ ns
@@ -58,7 +58,7 @@ pub record ChangesNext (log : List Entry) (i j : ℕ) (x y : ConfId) (ms ns : Li
   pub second : ChangesWith log j y ns
   pub next : IsNextChange log i j
 
--- 2.4: regular and transitional configurations by turns
+-- 2.4: regular and transitional configurations alternate
 pub record TakesTurns (log : List Entry) : Type 0 where
   pub regular_first : (i : ℕ) (x : ConfId) → ChangesTo log i x → ((k : ℕ) → k < i → IsChange log k → ⊥) → IsRegular x
   pub turns : (i j : ℕ) (x y : ConfId) (ms ns : List ℕ) → ChangesNext log i j x y ms ns → IsRegular x ↔ IsTransitional y
@@ -66,12 +66,12 @@ pub record TakesTurns (log : List Entry) : Type 0 where
   pub to : (i j : ℕ) (x : ConfId) (c : RingId) (ms ns : List ℕ) → IsTransitional x → ChangesNext log i j x (Regular c) ms ns → All (Contains ns) ms
   pub named : (i j : ℕ) (next c : RingId) (least : ℕ) (ms ns : List ℕ) → ChangesNext log i j (Transitional next least) (Regular c) ms ns → c ≡ next
 
--- two logs with one transitional configuration come to it from one regular configuration
+-- two logs with the same transitional configuration come to it from the same regular configuration
 abbrev pub HasOneOrigin : List Log → Type 0
 HasOneOrigin run = (p i j q k l : ℕ) (c d : RingId) (t : ConfId) (ms ns ks ls : List ℕ) → p < q → IsTransitional t
     → ChangesNext (log_of run p) i j (Regular c) t ms ns → ChangesNext (log_of run q) k l (Regular d) t ks ls → c ≡ d
 
--- 2.5: what precedes one change to x, or is preceded by it, stands so to each change to x
+-- 2.5: what precedes one change to x precedes each change to x, and what one precedes each precedes
 pub record TwinsAgree (run : List Log) : Type 0 where
   pub before : (a e f : Place) (x : ConfId) → ChangesAt run e x → ChangesAt run f x → Precedes run a e → Precedes run a f
   pub after : (a e f : Place) (x : ConfId) → ChangesAt run e x → ChangesAt run f x → Precedes run e a → Precedes run f a

@@ -18,7 +18,7 @@ abbrev pub AreSendAndDelivery : Entry → Entry → Type 0
 AreSendAndDelivery (Send m x service) (Deliver n y) = m ≡ n
 AreSendAndDelivery _ _ = ⊥
 
--- e is f or comes before it: by process, then by entry
+-- e is f or is before it: by process, then by entry
 abbrev pub IsAtMost : Place → Place → Type 0
 IsAtMost e f = (e.proc < f.proc) ⊎ ((e.proc ≡ f.proc) × (e.at ≤ f.at))
 
@@ -26,7 +26,7 @@ IsAtMost e f = (e.proc < f.proc) ⊎ ((e.proc ≡ f.proc) × (e.at ≤ f.at))
 abbrev pub InClass : List Log → Place → Place → Type 0
 InClass run e f = (IsEvent run e × (e ≡ f)) ⊎ SameClass run e f
 
--- e's class waits for g: g stands before an entry of the class in its log, or sends the message that the class delivers
+-- e's class waits for g: g is before an entry of the class in its log, or sends the message that the class delivers
 pub record WaitsFor (run : List Log) (e g : Place) : Type 0 where
   pub member : Place
   pub shares : InClass run e member

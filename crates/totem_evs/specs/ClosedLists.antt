@@ -13,7 +13,7 @@ use Rattle.totem_evs.specs.Places.{Somewhere}
 use Rattle.totem_evs.specs.Faults.{Breaks}
 use Rattle.totem_evs.specs.Classes.{IsAtMost, InClass, WaitsFor}
 
--- e gets a number, sooner or later: all that its class waits for gets one
+-- e gets a number eventually: all that its class waits for gets one
 pub data Placed (run : List Log) : Place → Type 0 where
   placed : {e : Place} → ((g : Place) → WaitsFor run e g → Placed run g) → Placed run e
 
@@ -22,12 +22,12 @@ pub record IsLeft (run : List Log) (e : Place) : Type 0 where
   pub event : IsEvent run e
   pub never : Placed run e → ⊥
 
--- of the events that are left, e is the least
+-- e is the least of the events that are left
 pub record IsLeastLeft (run : List Log) (e : Place) : Type 0 where
   pub left : IsLeft run e
   pub least : (f : Place) → IsLeft run f → IsAtMost e f
 
--- f is the entry next before e in its log, and is left
+-- f is the entry just before e in its log, and is left
 pub record IsPrevious (run : List Log) (f e : Place) : Type 0 where
   pub proc : f.proc ≡ e.proc
   pub before : f.at + 1 ≡ e.at
@@ -46,7 +46,7 @@ pub record IsLeastSend (run : List Log) (f e : Place) : Type 0 where
   pub send : IsLeftSend run f message
   pub least : (g : Place) → IsLeftSend run g message → IsAtMost f g
 
--- f holds e up: it is the entry before e that is left, or where there is none the least such send
+-- f holds e up: f is the entry just before e and is left, or, if there is no such entry, f is the least such send
 abbrev pub HoldsUp : List Log → Place → Place → Type 0
 HoldsUp run f e = IsPrevious run f e ⊎ (((g : Place) → IsPrevious run g e → ⊥) × IsLeastSend run f e)
 
@@ -65,7 +65,7 @@ pub record IsStepOf (run : List Log) (k : Place) (step : Step) : Type 0 where
 pub record IsWalk (run : List Log) (start : Place) (steps : List Step) : Type 0 where
   pub first : (v : Step) → slice_get steps 0 ≡ Some v → IsStepOf run start v
   pub next : (i : ℕ) (v w : Step) → slice_get steps i ≡ Some v → slice_get steps (i + 1) ≡ Some w → IsStepOf run v.from w
-  -- no class comes twice
+  -- no class occurs twice
   pub new : (i j : ℕ) (v w : Step) → slice_get steps i ≡ Some v → slice_get steps j ≡ Some w → i < j → InClass run v.to w.to → ⊥
 
 -- the last step of the walk came from the class at which the one at `again` was
@@ -84,13 +84,13 @@ same_place e f = (e.proc == f.proc) && (e.at == f.at)
 abbrev pub unless : Place → Place → List Place
 unless e f = if same_place e f then [] else e ∷ []
 
--- the steps of a walk in forward order, the last one first: of each what it came from and where it led. An entry that
--- equals what is written after it is left out; p stands after the whole
+-- the steps of a walk in forward order, the last one first: for each, where it came from and where it led. An entry that
+-- equals the one after it is left out; p is the entry after the whole list
 abbrev pub forward : Place → List Step → List Place
 forward p [] = []
 forward p (v ∷ vs) = forward v.from vs ++ (v.from ∷ unless v.to p)
 
--- the turned list is the whole one, begun elsewhere
+-- the turned list is the whole one, begun at another of its elements
 pub record IsTurned (whole turned : List Place) : Type 0 where
   pub front : List Place
   pub back : List Place
@@ -106,7 +106,7 @@ BeginsLeast (e ∷ es) = (i : ℕ) (f : Place) → slice_get es i ≡ Some f →
 abbrev pub AreTwinDeliveries : List Log → Place → Place → Type 0
 AreTwinDeliveries run e f = (m : MsgId) × DeliversAt run e m × DeliversAt run f m × (e ≢ f)
 
--- so are two neighbours of a closed list, its last and its first among them
+-- two neighbours of a closed list are such deliveries; its last and first element are neighbours too
 abbrev pub HasTwinDeliveries : List Log → List Place → Type 0
 HasTwinDeliveries run [] = ⊥
 HasTwinDeliveries run (e ∷ es) = Somewhere (AreTwinDeliveries run) e es e
@@ -115,8 +115,8 @@ HasTwinDeliveries run (e ∷ es) = Somewhere (AreTwinDeliveries run) e es e
 abbrev pub IsBrokenBy : List Log → SpecNo → List Place → Type 0
 IsBrokenBy run k places = ((k ≡ spec.Order) × HasTwinDeliveries run places) ⊎ ((k ≡ spec.Cycle) × (HasTwinDeliveries run places → ⊥))
 
--- the closed list of the run: the steps of the walk that begins at the least event left, from the class that came twice
--- on, in forward order, begun at the least place
+-- the closed list of the run: the steps of the walk that begins at the least event left, from the class that is reached
+-- twice, in forward order, begun at the least place
 pub record IsClosedList (run : List Log) (k : SpecNo) (places : List Place) : Type 0 where
   pub start : Place
   pub begins : IsLeastLeft run start

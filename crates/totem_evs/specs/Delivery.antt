@@ -18,7 +18,7 @@ NoCycle run = (e : Place) → Precedes run e e → ⊥
 abbrev pub LogsAreOrdered : List Log → Type 0
 LogsAreOrdered run = (e f : Place) → IsEvent run e → IsEvent run f → IsBefore e f → Precedes run e f
 
--- 1.3: what p delivers in d was sent in d, or in the regular configuration that d follows
+-- 1.3: a message that p delivers in d was sent in d, or in the regular configuration that d follows
 abbrev pub WasSentFor : List Log → ℕ → MsgId → ConfId → Type 0
 WasSentFor run p m d = (c : RingId) × WasSentIn run m (Regular c) × Com (log_of run p) c d
 

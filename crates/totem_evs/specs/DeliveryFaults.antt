@@ -13,7 +13,7 @@ use Rattle.totem_evs.specs.Places.{At, IsClosed, IsStep}
 abbrev pub BreaksCycle : List Log → List Place → Type 0
 BreaksCycle run places = IsClosed run (IsStep run) places
 
--- p's entry i delivers what was not sent for it
+-- p's entry i delivers a message that was not sent for it
 abbrev pub IsUnsent : List Log → ℕ → ℕ → Type 0
 IsUnsent run p i = (m : MsgId) × (d : ConfId) × Delivers (log_of run p) i m d × (WasSentFor run p m d → ⊥)
 

@@ -1,4 +1,4 @@
--- How logs end, and which texts can say so (docs/SPECIFICATIONS.md, "Runs").
+-- How logs end, and which texts can write it (docs/SPECIFICATIONS.md, "Runs").
 use Rattle.std.specs.Prelude.{◌≡◌, Bool, true, false}
 use Rattle.totem_ids.specs.declared.version.Version.{Version}
 use Rattle.totem_ids.specs.declared.version.Version.TheVariants.{One, Two, Three}
@@ -11,7 +11,7 @@ writes_quiet One = false
 writes_quiet Two = false
 writes_quiet Three = true
 
--- texts of this version have a closing word for it
+-- texts of this version have a closing word for this ending
 abbrev pub IsEndingIn : Version → Ending → Type 0
 IsEndingIn version Standing = Unit {0}
 IsEndingIn version Failed = Unit {0}

@@ -1,4 +1,4 @@
--- What stands in a log, and where (docs/SPECIFICATIONS.md, "Runs"). Here the entries of a log count from 0; a place
+-- What is in a log, and where (docs/SPECIFICATIONS.md, "Runs"). Here the entries of a log are counted from 0; a place
 -- counts them from 1.
 use Rattle.std.specs.Prelude.{◌≡◌, ℕ, zero, suc, ◌<◌, List, [], ◌∷◌, Contains, slice_get, Option, Some, None, ◌==◌, if◌then◌else◌}
 use Rattle.totem_ids.specs.declared.conf.ConfId.{ConfId}
@@ -44,17 +44,17 @@ Delivers log i m x = slice_get log i ≡ Some (Deliver m x)
 abbrev pub Fails : List Entry → ℕ → ConfId → Type 0
 Fails log i x = slice_get log i ≡ Some (Fail x)
 
--- p's log; empty where it has none
+-- p's log, or an empty one if it has none
 abbrev pub log_of : List Log → ℕ → List Entry
 log_of [] p = []
 log_of (log ∷ logs) p = if log.proc == p then log.entries else log_of logs p
 
--- how p's log ends; open where it has none
+-- how p's log ends; open if it has none
 abbrev pub ending_of : List Log → ℕ → Ending
 ending_of [] p = Standing
 ending_of (log ∷ logs) p = if log.proc == p then log.ending else ending_of logs p
 
--- p's log is quiet: it says that nothing more was to come
+-- p's log is quiet: it claims that nothing more was to come
 abbrev pub IsQuiet : List Log → ℕ → Type 0
 IsQuiet run p = ending_of run p ≡ Quiet
 
@@ -62,19 +62,19 @@ abbrev pub at_place : List Entry → ℕ → Option Entry
 at_place log zero = None
 at_place log (suc i) = slice_get log i
 
--- what stands at a place of the run
+-- the entry at a place of the run
 abbrev pub entry_at : List Log → Place → Option Entry
 entry_at run e = at_place (log_of run e.proc) e.at
 
--- an event: a place where an entry stands
+-- an event: a place that has an entry
 abbrev pub IsEvent : List Log → Place → Type 0
 IsEvent run e = (x : Entry) × (entry_at run e ≡ Some x)
 
--- e stands before f in one log
+-- e is before f in one log
 abbrev pub IsBefore : Place → Place → Type 0
 IsBefore e f = (e.proc ≡ f.proc) × (e.at < f.at)
 
--- someone sent m in x
+-- some process sent m in x
 abbrev pub WasSentIn : List Log → MsgId → ConfId → Type 0
 WasSentIn run m x = (p i : ℕ) × Sends (log_of run p) i m x
 

@@ -102,7 +102,7 @@ SentAndOpen = IsPending runs.sent_and_open (first_life 1) first × IsPending run
 abbrev pub SentAndFailed : Type 0
 SentAndFailed = IsPending runs.sent_and_failed (first_life 2) first × (IsPending runs.sent_and_failed (first_life 1) first → ⊥)
 
--- 2 stands in ring 4, and 1 does no more
+-- 2 is in ring 4, and 1 no longer is
 abbrev pub FailedWhileTheOtherWaits : Type 0
 FailedWhileTheOtherWaits = IsWaiting runs.sent_and_failed (first_life 2) (regular 4) (first_life 1)
 

@@ -11,7 +11,7 @@ use Rattle.totem_evs.specs.declared.entry.Entry.TheVariants.{Conf, Send, Deliver
 use Rattle.totem_evs.specs.declared.ending.Ending.TheVariants.{Standing, Failed, Quiet}
 use Rattle.totem_evs.specs.declared.log.Log.{Log}
 
--- the ring of this number, whose representative is 1; 3 is that of a ring of its own
+-- the ring of this number with representative 1; and one with representative 3, which is alone in it
 abbrev pub ring : ℕ → RingId
 ring n = record { seq = n; rep = 1 }
 
@@ -49,7 +49,7 @@ all_three = first_life 1 ∷ first_life 2 ∷ first_life 3 ∷ []
 abbrev pub lone_3 : List ℕ
 lone_3 = first_life 3 ∷ []
 
--- the log of the first life of p, which goes on, that of p, which failed, and that of p, of which nothing more was to come
+-- logs of the first life of p: open, failed and quiet
 abbrev pub standing : ℕ → List Entry → Log
 standing p entries = record { proc = first_life p; entries = entries; ending = Standing }
 

@@ -47,7 +47,7 @@ pub record Follows (log : List Entry) (c : RingId) (t : ConfId) : Type 0 where
   pub change : ChangesTo log to t
   pub transitional : IsTransitional t
 
--- d is c or what follows it
+-- d is c or the configuration that follows it
 abbrev pub Com : List Entry → RingId → ConfId → Type 0
 Com log c d = (d ≡ Regular c) ⊎ Follows log c d
 
@@ -55,19 +55,19 @@ Com log c d = (d ≡ Regular c) ⊎ Follows log c d
 abbrev pub DeliversIn : List Entry → RingId → MsgId → ℕ → Type 0
 DeliversIn log c m i = (d : ConfId) × Delivers log i m d × Com log c d
 
--- it delivers m there
+-- the log delivers m there
 abbrev pub HasDelivered : List Entry → RingId → MsgId → Type 0
 HasDelivered log c m = (i : ℕ) × DeliversIn log c m i
 
--- it has no failure
+-- the log has no failure
 abbrev pub NeverFails : List Entry → Type 0
 NeverFails log = (i : ℕ) (x : ConfId) → Fails log i x → ⊥
 
--- it failed in c or in what follows it
+-- the log has a failure in c or in what follows it
 abbrev pub FailedIn : List Entry → RingId → Type 0
 FailedIn log c = (i : ℕ) × (d : ConfId) × Fails log i d × Com log c d
 
--- it has no failure, and its last change is to c or to what follows it
+-- the log has no failure, and its last change is to c or to what follows it
 abbrev pub StaysIn : List Entry → RingId → Type 0
 StaysIn log c = (d : ConfId) × NeverFails log × LastChange log d × Com log c d
 
@@ -75,6 +75,6 @@ StaysIn log c = (d : ConfId) × NeverFails log × LastChange log d × Com log c 
 abbrev pub OpenIn : List Log → ℕ → RingId → Type 0
 OpenIn run p c = (IsQuiet run p → ⊥) × StaysIn (log_of run p) c
 
--- what p does, which ought to deliver m
+-- p delivers m in c or in what follows it, failed there, or is open there
 abbrev pub DeliversOrEnds : List Log → ℕ → RingId → MsgId → Type 0
 DeliversOrEnds run p c m = HasDelivered (log_of run p) c m ⊎ FailedIn (log_of run p) c ⊎ OpenIn run p c

@@ -1,4 +1,4 @@
--- Where the faults of a first line and of the beginning of a record stand (docs/SPECIFICATIONS.md, "Run text" and
+-- Where the faults of a first line and of the beginning of a record are (docs/SPECIFICATIONS.md, "Run text" and
 -- "Certificate text").
 use Rattle.std.specs.Prelude.{◌≡◌, ◌≢◌, ℕ, ◌≤◌, ◌⊎◌, List, [], ◌∷◌, ◌++◌, Bool, false}
 use Rattle.totem_ids.specs.Numbers.{is_digit}
@@ -20,7 +20,7 @@ pub record Differs (word bytes : List ℕ) : Type 0 where
   pub is_bytes : bytes ≡ front ++ byte ∷ rest
   pub differs : byte ≢ wanted
 
--- the words of the first line differ; or the digit of its version is of none; or no line end is after it
+-- the words of the first line differ; or its digit is of no version; or no line end follows the digit
 abbrev pub BreaksFirstLine : Words → List ℕ → Type 0
 BreaksFirstLine words bytes =
     Differs words.title bytes

@@ -1,5 +1,5 @@
--- What the texts of runs and of certificates have in common: a first line with the version of the text, records that
--- rise by their processes, each begun by a word and its process, and a last line (docs/SPECIFICATIONS.md, "Run text" and
+-- What the texts of runs and of certificates have in common: a first line with the version of the text, records in
+-- ascending order of their processes, each begun by a word and its process, and a last line (docs/SPECIFICATIONS.md, "Run text" and
 -- "Certificate text").
 use Rattle.std.specs.Prelude.{◌≡◌, ℕ, zero, suc, List, [], ◌∷◌, ◌++◌, codes, Option, Some, None, Ok, Err, Bool, true, ◌&&◌, nat_le, ◌==◌, if◌then◌else◌}
 use Rattle.totem_ids.specs.declared.fault.TextFault.TheVariants as faults
@@ -10,8 +10,8 @@ use Rattle.totem_ids.specs.declared.version.Version.TheVariants.{One, Two, Three
 use Rattle.totem_ids.specs.Processes.{process_then}
 use Rattle.totem_evs.specs.RunText.{line, version_digit}
 
--- what differs: the words of the first line, up to its version; whether there is a third version; and of the line with
--- which a record begins the first letter, what is after it up to the process, and the byte after the process
+-- what differs: the words of the first line before its version; whether there is a third version; and in the line that
+-- begins a record, its first letter, what follows up to the process, and the byte after the process
 pub record Words : Type 0 where
   pub title : List ℕ
   pub third : Bool
@@ -36,7 +36,7 @@ proc_at words version last bytes = do
   p ← process_then version w.1
   if nat_le p.0.0 last then Err faults.Order else if p.0.1 == words.behind then Ok (p.0.0, p.1) else Err faults.Word
 
--- a record up to what is after its process; full: no further record is allowed
+-- a record up to and including the byte after its process; full: no further record is allowed
 unfoldable pub begin_at : Words → Version → Bool → ℕ → List ℕ → Parsed (Option ℕ)
 begin_at words version full last bytes = if full then Err faults.TooMany else do
   p ← proc_at words version last bytes
@@ -54,13 +54,13 @@ head_at words version full last bytes = do
   b ← byte_at bytes
   if b.0 == words.letter then begin_at words version full last b.1 else if b.0 == 101 then end_at b.1 else Err faults.Word
 
--- one for the last line, another for a record
+-- one value for the last line, another for a record
 abbrev pub by_head : {Y : Type 0} → Option ℕ → Y → (ℕ → Y) → Y
 by_head None ends begins = ends
 by_head (Some p) ends begins = begins p
 
--- the further records, one less than room of them, and the last line; rest_at reads what is after the process of a record,
--- which is made of both
+-- the further records, fewer than `room`, and the last line; `rest_at` reads what follows the process of a record,
+-- and the record is made of both
 unfoldable pub records_at : {X R : Type 0} → Words → (Version → ℕ → List ℕ → Parsed X) → (ℕ → X → R) → Version → ℕ → ℕ → List ℕ → Parsed (List R)
 records_at words rest_at made version zero last bytes = Err faults.TooMany
 records_at words rest_at made version (suc room) last bytes = do

@@ -10,7 +10,7 @@ use Rattle.totem_evs.specs.Synchrony.{IsVirtuallySynchronous}
 use Rattle.totem_evs.specs.Faults.{Breaks}
 use Rattle.totem_evs.specs.Certificates.{Numbering, Certified}
 
--- a run that events break does not meet the specifications
+-- a run in which events break a specification does not meet the specifications
 abbrev pub BreaksAreBreaks : Type 0
 BreaksAreBreaks = (run : List Log) (k : SpecNo) (places : List Place) → Breaks run k places → IsVirtuallySynchronous run → ⊥
 
@@ -22,6 +22,6 @@ CertifiedIsOrdered = (run : List Log) (lines : List Numbering) → Certified run
 abbrev pub EachLogIsOrdered : Type 0
 EachLogIsOrdered = (run : List Log) → LogsAreOrdered run
 
--- twin changes stand alike to all other events, in every run
+-- twin changes have the same relations to all other events, in every run
 abbrev pub EachTwinsAgree : Type 0
 EachTwinsAgree = (run : List Log) → TwinsAgree run

@@ -31,7 +31,7 @@ IsFirstVersion One logs = AreLoud logs × All HasFirstLives logs
 IsFirstVersion Two logs = AreLoud logs × (All HasFirstLives logs → ⊥)
 IsFirstVersion Three logs = AreLoud logs → ⊥
 
--- a text of this version writes no lives, and the log at this index is the first that has others than 1
+-- a text of this version writes no lives, and the log at this index is the first that has another life than 1
 pub record IsUnwritten (version : Version) (logs : List LogRecord) (at : ℕ) : Type 0 where
   pub lives : writes_lives version ≡ false
   pub log : LogRecord
@@ -39,7 +39,7 @@ pub record IsUnwritten (version : Version) (logs : List LogRecord) (at : ℕ) : 
   pub other : HasFirstLives log → ⊥
   pub before : All HasFirstLives (take at logs)
 
--- a text of this version has no word for it, and the log at this index is the first that is quiet
+-- a text of this version has no word for quiet logs, and the log at this index is the first quiet one
 pub record IsUnsaid (version : Version) (logs : List LogRecord) (at : ℕ) : Type 0 where
   pub unwritten : writes_quiet version ≡ false
   pub log : LogRecord
@@ -47,7 +47,7 @@ pub record IsUnsaid (version : Version) (logs : List LogRecord) (at : ℕ) : Typ
   pub quiet : log.ending ≡ Quiet
   pub before : AreLoud (take at logs)
 
--- the first rule of a run of this version that these logs break: lives that are not written come before a word that is not
+-- the first rule of a run of this version that these logs break: a life that cannot be written counts before a quiet log that cannot
 abbrev pub RefusesRun : Version → List LogRecord → ListFault → Type 0
 RefusesRun version logs Empty = Refuses 0 32 IsBelowLog logs Empty
 RefusesRun version logs (TooMany limit) = Refuses 0 32 IsBelowLog logs (TooMany limit)

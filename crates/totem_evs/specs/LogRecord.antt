@@ -1,4 +1,4 @@
--- What contracts see of a log: its process, its entries from the first on, and how it ends.
+-- A log as contracts see it: its process, its entries in order, and how it ends.
 use Rattle.std.specs.Prelude.{ℕ, List}
 use Rattle.totem_evs.specs.declared.entry.Entry.{Entry}
 use Rattle.totem_evs.specs.declared.ending.Ending.{Ending}

@@ -9,14 +9,14 @@ use Rattle.totem_ids.specs.Ranks.{id_of}
 abbrev pub IsBelow : ℕ → ℕ → Type 0
 IsBelow p q = id_of p < id_of q
 
--- 1 to 32 processes that texts of this version can write, their identifiers strictly ascending: of an identifier there is
--- one life at most
+-- 1 to 32 processes that texts of this version can write, their identifiers strictly ascending: there is at most one life
+-- of each identifier
 pub record IsMembersIn (version : Version) (members : List ℕ) : Type 0 where
   pub some : 0 < length members
   pub few : length members ≤ 32
   pub rising : AllPairs IsBelow members
   pub processes : All (IsProcessIn version) members
 
--- members of any lives
+-- members with any lives
 abbrev pub IsMembers : List ℕ → Type 0
 IsMembers = IsMembersIn Three

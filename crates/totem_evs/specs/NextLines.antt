@@ -1,12 +1,12 @@
--- Which lines may come next (docs/SPECIFICATIONS.md, "Run text").
+-- Which lines may follow (docs/SPECIFICATIONS.md, "Run text").
 use Rattle.std.specs.Prelude.{◌≡◌, ℕ, ◌<◌, ◌==◌, nat_lt, Option, Some, None, Bool, true, false}
 use Rattle.totem_evs.specs.declared.ending.Ending.TheVariants.{Standing, Failed, Quiet}
 use Rattle.totem_evs.specs.declared.lines.Line.{Line}
 use Rattle.totem_evs.specs.declared.stage.OpenLog.{OpenLog}
 use Rattle.totem_evs.specs.declared.lines.Line.TheVariants as lines
 
--- in a log that is full or not and has some entries, the last a failure or not: an entry while it is not full, `open`
--- after an entry that is no failure, so also `quiet` where that is written, and `failed` after a failure
+-- in a log that is full or not and has some entries, the last a failure or not: an entry while it is not full; `open`
+-- after an entry that is no failure, and `quiet` too where that is written; `failed` after a failure
 abbrev pub MayFollow : Bool → Bool → Bool → Bool → Line → Type 0
 MayFollow written full some failed (lines.Entry e) = full ≡ false
 MayFollow written full some failed (lines.Close Standing) = (some ≡ true) × (failed ≡ false)

@@ -20,7 +20,7 @@ abbrev pub OneHopIsFine : List Log → Type 0
 OneHopIsFine run = (c : RingId) (p i j : ℕ) (m n : MsgId) → Sends (log_of run p) j n (Regular c) → i < j
     → Sends (log_of run p) i m (Regular c) ⊎ Delivers (log_of run p) i m (Regular c) → IsDeliveredBefore run c m n
 
--- one log at a time, and then chains of any length
+-- if it holds for pairs in one log, it holds for chains of any length
 abbrev pub ChainsAreFine : Type 0
 ChainsAreFine = (run : List Log) (lines : List Numbering) → Certified run lines → ((p : ℕ) → StaysInPlace (log_of run p))
     → DeliversWhatWasSent run → DeliversOnce run → OneHopIsFine run → CausalDelivery run

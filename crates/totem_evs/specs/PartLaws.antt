@@ -17,7 +17,7 @@ abbrev pub ReadsParts : Stage → List ℕ → List Part → List ℕ → Type 0
 ReadsParts stage bytes [] rest = part_at stage bytes ≡ Ok (None, rest)
 ReadsParts stage bytes (part ∷ parts) rest = (mid : List ℕ) × (part_at stage bytes ≡ Ok (Some part, mid)) × ReadsParts (next_stage stage part) mid parts rest
 
--- what is read part by part is a run that is read at once, and they are its parts
+-- what is read part by part is a run that is read as a whole, and the parts are those of the run
 abbrev pub PartsMakeTheRun : Type 0
 PartsMakeTheRun = (version : Version) (bytes mid rest : List ℕ) (parts : List Part) → header_at run_words bytes ≡ Ok (version, mid) → ReadsParts (first_stage version) mid parts rest
     → (logs : List Log) × (run_at bytes ≡ Ok (record { version = version; logs = logs }, rest)) × (run_parts logs ≡ parts)

@@ -15,7 +15,7 @@ use Rattle.totem_evs.specs.Heads.{head_at, by_head}
 
 -- ---- parts
 
--- a log begins, or the last line comes, which is no part
+-- the first line of a log, or the last line, which is no part
 unfoldable pub begun_at : Version → ℕ → ℕ → List ℕ → Parsed (Option Part)
 begun_at version logs last bytes = do
   head ← head_at run_words version (logs == 32) last bytes
@@ -27,7 +27,7 @@ within_at version entries failed bytes = do
   l ← line_at version (entries == 1000000) (nat_lt 0 entries) failed bytes
   Ok (Some (by_line l.0 parts.Close parts.Entry), l.1)
 
--- the next part, by whether a log is open
+-- the next part, depending on whether a log has not ended
 abbrev pub next_at : Version → ℕ → ℕ → Option OpenLog → List ℕ → Parsed (Option Part)
 next_at version logs last None bytes = begun_at version logs last bytes
 next_at version logs last (Some log) bytes = within_at version log.entries log.failed bytes
@@ -36,18 +36,18 @@ next_at version logs last (Some log) bytes = within_at version log.entries log.f
 abbrev pub part_at : Stage → List ℕ → Parsed (Option Part)
 part_at stage bytes = next_at stage.version stage.logs stage.last stage.log bytes
 
--- ---- how far reading has come
+-- ---- how far a run has been read
 
--- nothing but the first line has come
+-- after the first line
 abbrev pub first_stage : Version → Stage
 first_stage version = record { version = version; logs = 0; last = 0; log = None }
 
--- one entry more
+-- after one more entry
 abbrev pub with_entry : Option OpenLog → Entry → Option OpenLog
 with_entry None e = None
 with_entry (Some log) e = Some (record { entries = log.entries + 1; failed = is_failure e })
 
--- how far reading has come with this part
+-- how far the run has been read after this part
 abbrev pub next_stage : Stage → Part → Stage
 next_stage stage (parts.Log p) = record { version = stage.version; logs = stage.logs + 1; last = p; log = Some (record { entries = 0; failed = false }) }
 next_stage stage (parts.Entry e) = record { version = stage.version; logs = stage.logs; last = stage.last; log = with_entry stage.log e }

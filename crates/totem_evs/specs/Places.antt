@@ -5,7 +5,7 @@ use Rattle.totem_ids.specs.declared.place.Place.{Place}
 use Rattle.totem_evs.specs.declared.log.Log.{Log}
 use Rattle.totem_evs.specs.Steps.{DeliversAt, Strict, Twin}
 
--- a fact of the process and the index of a place
+-- a fact about the process and the index of a place
 abbrev pub At : Place → (ℕ → ℕ → Type 0) → Type 0
 At e P = (i : ℕ) × (e.at ≡ i + 1) × P e.proc i
 
@@ -14,7 +14,7 @@ abbrev pub Chain : (Place → Place → Type 0) → Place → List Place → Pla
 Chain Step e [] end = Step e end
 Chain Step e (f ∷ fs) end = Step e f × Chain Step f fs end
 
--- somewhere in the list an event has such a step to the next, or the last to end
+-- somewhere in the list an event has this step to the next, or the last to end
 abbrev pub Somewhere : (Place → Place → Type 0) → Place → List Place → Place → Type 0
 Somewhere Step e [] end = Step e end
 Somewhere Step e (f ∷ fs) end = Step e f ⊎ Somewhere Step f fs end

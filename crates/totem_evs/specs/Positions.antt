@@ -1,4 +1,4 @@
--- The one certificate of a run: again and again the ready class that holds the least place gets the next number
+-- The one certificate of a run: repeatedly, the ready class that holds the least place gets the next number
 -- (docs/SPECIFICATIONS.md, "Positions").
 use Rattle.std.specs.Prelude.{◌≡◌, ℕ, ◌<◌, ◌≤◌, List, Some}
 use Rattle.totem_ids.specs.declared.place.Place.{Place}

@@ -1,4 +1,4 @@
--- How far the reading of a run has come, and what a next part does to that (docs/SPECIFICATIONS.md, "Run text").
+-- How far a run has been read, and how the next part changes that (docs/SPECIFICATIONS.md, "Run text").
 use Rattle.totem_ids.specs.declared.version.Version.{Version}
 use Rattle.std.specs.Prelude.{◌≡◌, ℕ, ◌<◌, ◌≤◌, ◌==◌, ◌++◌, ◌↔◌, ◌⊎◌, List, [], ◌∷◌, length, Contains, Option, Some, None, Bool, true, false, nat_lt}
 use Rattle.std.specs.Option.{ForSome}
@@ -14,44 +14,44 @@ use Rattle.totem_evs.specs.Endings.{writes_quiet}
 use Rattle.totem_evs.specs.Missing.{members_of}
 use Rattle.totem_evs.specs.Parts.{first_stage, next_stage}
 
--- how far reading has come in the text, the processes whose logs have begun, and the members that wait for a log
+-- how far the text has been read, the processes whose logs have begun, and the members that have no log yet
 pub record ReadState : Type 0 where
   pub stage : Stage
   pub begun : List ℕ
   pub waiting : List ℕ
 
--- the limits of a run are kept, and who has a log waits for none
+-- the limits of a run are kept, and no process whose log has begun waits for one
 pub record IsReadState (s : ReadState) : Type 0 where
   pub few_logs : s.stage.logs ≤ 32
   pub few_entries : ForSome s.stage.log (λ log. log.entries ≤ 1000000)
   pub count : length s.begun ≡ s.stage.logs
   pub apart : (q : ℕ) → Contains s.waiting q → Contains s.begun q → ⊥
 
--- nothing but the first line has come, which is that of this version
+-- after the first line, which is that of this version
 pub record IsFirst (version : Version) (s : ReadState) : Type 0 where
   pub stage : s.stage ≡ first_stage version
   pub begun : s.begun ≡ []
   pub waiting : s.waiting ≡ []
 
--- the process whose log begins
+-- the process whose log begins with this part
 abbrev pub begun_by : Part → List ℕ
 begun_by (parts.Log p) = p ∷ []
 begun_by (parts.Entry e) = []
 begun_by (parts.Close ending) = []
 
--- the members that are named
+-- the members that the part names
 abbrev pub named_by : Part → List ℕ
 named_by (parts.Log p) = []
 named_by (parts.Entry e) = members_of e
 named_by (parts.Close ending) = []
 
--- the state with one part more: those wait who waited or are named now, and whose logs have not begun
+-- the state after one more part: the members that waited or are named now wait, if their logs have not begun
 pub record Goes (old : ReadState) (part : Part) (new : ReadState) : Type 0 where
   pub stage : new.stage ≡ next_stage old.stage part
   pub begun : new.begun ≡ old.begun ++ begun_by part
   pub waiting : (q : ℕ) → Contains new.waiting q ↔ ((Contains old.waiting q ⊎ Contains (named_by part) q) × (Contains new.begun q → ⊥))
 
--- its names are in range
+-- the names of the part are in range
 abbrev pub IsPart : Part → Type 0
 IsPart (parts.Log p) = IsProcessIn Three p
 IsPart (parts.Entry e) = IsEntry e
@@ -73,11 +73,11 @@ ComesWithin written entries failed (Some (parts.Close Standing)) = (nat_lt 0 ent
 ComesWithin written entries failed (Some (parts.Close Failed)) = failed ≡ true
 ComesWithin written entries failed (Some (parts.Close Quiet)) = (written ≡ true) × (nat_lt 0 entries ≡ true) × (failed ≡ false)
 
--- what may come next, by whether a log is open
+-- what may follow, depending on whether a log has not ended
 abbrev pub ComesIn : Version → ℕ → ℕ → Option OpenLog → Option Part → Type 0
 ComesIn version logs last None part = ComesBetween logs last part
 ComesIn version logs last (Some log) part = ComesWithin (writes_quiet version) log.entries log.failed part
 
--- what may come next, which is a part or the end
+-- what may follow: a part or the end
 abbrev pub MayCome : Stage → Option Part → Type 0
 MayCome stage part = ComesIn stage.version stage.logs stage.last stage.log part

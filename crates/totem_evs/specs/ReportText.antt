@@ -1,4 +1,4 @@
--- The lines of a report, without their ends (docs/SPECIFICATIONS.md, "Report text"). How processes are named in it is handed in.
+-- The lines of a report, without their ends (docs/SPECIFICATIONS.md, "Report text"). How processes are named in it is a parameter.
 use Rattle.std.specs.Prelude.{ℕ, List, ◌++◌, codes, decimal}
 use Rattle.std.specs.List.{flat_map}
 use Rattle.totem_ids.specs.declared.place.Place.{Place}
@@ -8,7 +8,7 @@ use Rattle.totem_evs.specs.declared.pending.Pending.{Pending}
 use Rattle.totem_evs.specs.declared.pending.Waiting.{Waiting}
 use Rattle.totem_evs.specs.SpecNo.{spec_text}
 
--- a place: its process as it is named there, an at sign, its entry
+-- a place: its process as it is named in the report, an at sign, its entry
 abbrev pub placed_text : (ℕ → List ℕ) → Place → List ℕ
 placed_text named e = named e.proc ++ codes "@" ++ decimal e.at
 

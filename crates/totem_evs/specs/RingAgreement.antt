@@ -1,4 +1,4 @@
--- What specifications 3 to 7 ask of one regular configuration c and of what follows it in each log
+-- What specifications 3 to 7 require of one regular configuration c and of what follows it in each log
 -- (docs/SPECIFICATIONS.md, "Passes").
 use Rattle.std.specs.Prelude.{◌⊎◌, ℕ, ◌<◌, List}
 use Rattle.totem_ids.specs.declared.ring.RingId.{RingId}
@@ -17,7 +17,7 @@ use Rattle.totem_evs.specs.Places.{At}
 pub record OwnDeliveryIn (run : List Log) (c : RingId) : Type 0 where
   pub each : (p i : ℕ) (m : MsgId) → Sends (log_of run p) i m (Regular c) → DeliversOrEnds run p c m
 
--- 4: who goes from c, or from what follows it, to one next configuration delivers the same messages there
+-- 4: processes that go from c, or from what follows it, to the same next configuration deliver the same messages there
 pub record AtomicityIn (run : List Log) (c : RingId) : Type 0 where
   pub each : (p q : ℕ) (x d : ConfId) → Com (log_of run p) c x → Goes (log_of run p) x d → Goes (log_of run q) x d
       → (i : ℕ) (m : MsgId) → Delivers (log_of run p) i m x → (j : ℕ) × Delivers (log_of run q) j m x

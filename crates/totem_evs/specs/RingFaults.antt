@@ -51,7 +51,7 @@ abbrev pub BreaksInstalledIn : List Log → RingId → List Place → Type 0
 BreaksInstalledIn run c (e ∷ []) = At e (IsNotInstalled run c)
 BreaksInstalledIn run c _ = ⊥
 
--- the places break the specification in c; of specifications that are not asked configuration by configuration it is not said
+-- the places break the specification in c; no places do if it is not judged configuration by configuration
 abbrev pub BreaksIn : List Log → RingId → SpecNo → List Place → Type 0
 BreaksIn run c spec.OwnDelivery places = BreaksOwnDeliveryIn run c places
 BreaksIn run c spec.Atomicity places = BreaksAtomicityIn run c places
@@ -61,7 +61,7 @@ BreaksIn run c spec.Safety places = BreaksSafetyIn run c places
 BreaksIn run c spec.Installed places = BreaksInstalledIn run c places
 BreaksIn run c _ places = ⊥
 
--- the run meets the specification in c; of others it is not said
+-- the run meets the specification in c; nothing is said of the other specifications
 abbrev pub MeetsIn : List Log → RingId → SpecNo → Type 0
 MeetsIn run c spec.OwnDelivery = OwnDeliveryIn run c
 MeetsIn run c spec.Atomicity = AtomicityIn run c

@@ -35,7 +35,7 @@ fault_name (faults.MissingLog p) = codes "MissingLog"
 fault_name faults.Read = codes "Read"
 fault_name faults.Memory = codes "Memory"
 
--- what a fault of the grammar is for a run
+-- the fault of a run for a fault of the grammar
 abbrev pub text_fault : TextFault → RunFault
 text_fault text.Header = faults.Header
 text_fault text.Word = faults.Word
@@ -46,7 +46,7 @@ text_fault text.End = faults.End
 text_fault text.Truncated = faults.Truncated
 text_fault text.TooMany = faults.TooMany
 
--- what a reader's error is for a run
+-- the fault of a run for an error of a reader
 abbrev pub run_fault : ReadError → RunFault
 run_fault errors.Memory = faults.Memory
 run_fault errors.Read = faults.Read

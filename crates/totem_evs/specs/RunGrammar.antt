@@ -28,7 +28,7 @@ is_failure (Send m x service) = false
 is_failure (Deliver m x) = false
 is_failure (Fail x) = true
 
--- members above the identifier `last`, and the line end after them; at most room of them
+-- members above the identifier `last`, and the line end after them; at most `room` of them
 unfoldable pub members_at : Version → ℕ → ℕ → List ℕ → Parsed (List ℕ)
 members_at version zero last bytes = Err faults.TooMany
 members_at version (suc room) last bytes = do
@@ -72,7 +72,7 @@ open_at some failed bytes = if some && not failed then (do
   w ← word_at faults.Word (line (codes "pen")) bytes
   Ok (lines.Close Standing, w.1)) else Err faults.End
 
--- the closing word of such a log of which nothing more was to come, where texts have one
+-- the closing word of such a log that is quiet, where texts have one
 unfoldable pub quiet_at : Bool → Bool → Bool → List ℕ → Parsed Line
 quiet_at written some failed bytes = if written then (if some && not failed then (do
   w ← word_at faults.Word (line (codes "uiet")) bytes
@@ -97,7 +97,7 @@ ail_at full failed bytes = do
   b ← byte_at w.1
   if b.0 == 101 then failed_at failed b.1 else if b.0 == 32 then fail_at full b.1 else Err faults.Word
 
--- what begins with the letter of both
+-- the line that begins with the letter of both
 unfoldable pub failure_at : Bool → Bool → List ℕ → Parsed Line
 failure_at full failed bytes = if full && not failed then Err faults.TooMany else ail_at full failed bytes
 
@@ -113,12 +113,12 @@ line_at version full some failed bytes = do
       else if b.0 == 113 then quiet_at (writes_quiet version) some failed b.1
       else Err faults.Word
 
--- one for a closing word, another for an entry
+-- one value for a closing word, another for an entry
 abbrev pub by_line : {Y : Type 0} → Line → (Ending → Y) → (Entry → Y) → Y
 by_line (lines.Close ending) close entry = close ending
 by_line (lines.Entry e) close entry = entry e
 
--- the further lines of a log, one less than room of them entries
+-- the further lines of a log, fewer than `room` of them entries
 unfoldable pub lines_at : Version → ℕ → Bool → Bool → List ℕ → Parsed (List Entry × Ending)
 lines_at version zero some failed bytes = Err faults.TooMany
 lines_at version (suc room) some failed bytes = do
@@ -135,7 +135,7 @@ log_at version p bytes = do
 abbrev pub run_words : Words
 run_words = record { title = codes "totem-run "; third = true; letter = 108; word = codes "og "; behind = 10 }
 
--- the further logs, one less than room of them, and the last line
+-- the further logs, fewer than `room`, and the last line
 abbrev pub logs_at : Version → ℕ → ℕ → List ℕ → Parsed (List Log)
 logs_at version room last bytes = records_at run_words log_at (λ p log. log) version room last bytes
 

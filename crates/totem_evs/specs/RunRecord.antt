@@ -1,4 +1,4 @@
--- What contracts see of a run: the version of its text, and its logs.
+-- A run as contracts see it: the version of its text, and its logs.
 use Rattle.std.specs.Prelude.{List}
 use Rattle.totem_ids.specs.declared.version.Version.{Version}
 use Rattle.totem_evs.specs.LogRecord.{LogRecord}

@@ -1,5 +1,5 @@
--- The one spelling of a run (docs/SPECIFICATIONS.md, "Run text"). Entries and logs are spelled by the spelling of their
--- processes.
+-- The one spelling of a run (docs/SPECIFICATIONS.md, "Run text"). The spelling of entries and logs takes the spelling of
+-- processes as a parameter.
 use Rattle.totem_ids.specs.declared.version.Version.{Version}
 use Rattle.totem_evs.specs.RunRecord.{RunRecord}
 use Rattle.std.specs.Prelude.{ℕ, List, [], ◌∷◌, ◌++◌, codes}
@@ -38,7 +38,7 @@ ending_text Quiet = codes "quiet"
 abbrev pub log_text : (ℕ → List ℕ) → Log → List ℕ
 log_text spell log = line (codes "log " ++ spell log.proc) ++ flat_map (λ entry. line (entry_text spell entry)) log.entries ++ line (ending_text log.ending)
 
--- a process where no version is known: as the first version that can writes it
+-- a process where no version is known: as written by the first version that can write it
 abbrev pub known_text : ℕ → List ℕ
 known_text p = process_text (first_version p) p
 

@@ -20,7 +20,7 @@ IsEntryIn version (Send m x service) = IsMessage m × IsConf x
 IsEntryIn version (Deliver m x) = IsMessage m × IsConf x
 IsEntryIn version (Fail x) = IsConf x
 
--- an entry whose processes have any lives
+-- an entry with processes of any lives
 abbrev pub IsEntry : Entry → Type 0
 IsEntry e = IsEntryIn Three e
 
@@ -43,7 +43,7 @@ IsEntries = IsEntriesIn Three
 abbrev pub EndsInFail : List Entry → Type 0
 EndsInFail entries = (i : ℕ) × (last : Entry) × (length entries ≡ i + 1) × (slice_get entries i ≡ Some last) × IsFailure last
 
--- a log ends as failed exactly where its last entry is a failure
+-- a log ends as failed if and only if its last entry is a failure
 abbrev pub IsClosedBy : List Entry → Ending → Type 0
 IsClosedBy entries ending = (ending ≡ Failed) ↔ EndsInFail entries
 
@@ -60,17 +60,17 @@ IsLog = IsLogIn Three
 abbrev pub IsBelowLog : LogRecord → LogRecord → Type 0
 IsBelowLog a b = a.proc < b.proc
 
--- the logs of a run that texts of this version can write: 0 to 32, their processes strictly ascending. Where a version
--- writes no lives, each process has life 1, and where it has no word for it, no log is quiet
+-- the logs of a run that texts of this version can write: 0 to 32, their processes strictly ascending. If the version
+-- writes no lives, each process has life 1; if it has no word for quiet logs, no log is quiet
 pub record IsRunIn (version : Version) (logs : List LogRecord) : Type 0 where
   pub few : length logs ≤ 32
   pub rising : AllPairs IsBelowLog logs
   pub each : All (IsLogIn version) logs
 
--- the logs of a run whose processes have any lives, and whose logs end in any way
+-- the logs of a run with any lives and endings
 abbrev pub IsRun : List LogRecord → Type 0
 IsRun = IsRunIn Three
 
--- a run: the logs are ones that texts of its version can write
+-- a run: texts of its version can write its logs
 abbrev pub IsRunOf : RunRecord → Type 0
 IsRunOf run = IsRunIn run.version run.logs

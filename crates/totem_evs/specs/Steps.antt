@@ -28,7 +28,7 @@ Strict run e f =
 abbrev pub Twin : List Log → Place → Place → Type 0
 Twin run e f = (x : ConfId) × ChangesAt run e x × ChangesAt run f x × (e ≢ f)
 
--- a list of steps leads from e to f, perhaps none
+-- a list of steps, which may be empty, leads from e to f
 pub data Leads (run : List Log) : Place → Place → Type 0 where
   here : {e : Place} → Leads run e e
   strict : {e f g : Place} → Strict run e f → Leads run f g → Leads run e g

@@ -1,4 +1,4 @@
--- Where each fault of a run's text stands (docs/SPECIFICATIONS.md, "Run text").
+-- Where each fault of a run's text is (docs/SPECIFICATIONS.md, "Run text").
 use Rattle.std.specs.Prelude.{◌≡◌, ℕ, ◌<◌, ◌≤◌, ◌+◌, ◌-◌, ◌*◌, ◌==◌, ◌⊎◌, ◌&&◌, not, List, [], ◌∷◌, ◌++◌, length, codes, decimal, Option, Some, None, Bool, true, false, nat_lt, Ok, Err}
 use Rattle.totem_ids.specs.declared.conf.ConfId.{ConfId}
 use Rattle.totem_ids.specs.declared.fault.TextFault.{TextFault}
@@ -26,7 +26,7 @@ abbrev pub ReadsTo : Stage → List ℕ → List Part → Stage → List ℕ →
 ReadsTo stage bytes [] end rest = (stage ≡ end) × (bytes ≡ rest)
 ReadsTo stage bytes (part ∷ parts) end rest = (mid : List ℕ) × (part_at stage bytes ≡ Ok (Some part, mid)) × ReadsTo (next_stage stage part) mid parts end rest
 
--- the first line is read, then some parts, and this holds of the stage and of the bytes that follow them
+-- the first line is read, then some parts, and this holds for the stage after them and the bytes that follow
 pub record IsInPart (bytes : List ℕ) (Is : Stage → List ℕ → Type 0) : Type 0 where
   pub version : Version
   pub mid : List ℕ
@@ -37,13 +37,13 @@ pub record IsInPart (bytes : List ℕ) (Is : Stage → List ℕ → Type 0) : Ty
   pub reads : ReadsTo (first_stage version) mid parts stage rest
   pub is : Is stage rest
 
--- that part has this fault
+-- the next part has this fault
 abbrev pub HasFault : TextFault → Stage → List ℕ → Type 0
 HasFault fault stage rest = part_at stage rest ≡ Err fault
 
 -- ---- Header
 
--- the first line is none of a run
+-- the first line is not that of a run
 abbrev pub BreaksHeader : List ℕ → Type 0
 BreaksHeader bytes = BreaksFirstLine run_words bytes
 
@@ -63,7 +63,7 @@ pub record IsPast (max : ℕ) (bytes : List ℕ) : Type 0 where
 abbrev pub IsNoNumber : ℕ → List ℕ → Type 0
 IsNoNumber max bytes = ((byte : ℕ) × (rest : List ℕ) × (bytes ≡ byte ∷ rest) × ((is_digit byte ≡ false) ⊎ (byte ≡ 48))) ⊎ IsPast max bytes
 
--- after some of the bytes a grammar reads a number up to `max`, whatever comes there, and none begins
+-- after some of the bytes the grammar reads a number up to `max`, whatever follows, and none begins
 pub record BreaksNumber {Y : Type 0} (parse : List ℕ → Parsed Y) (bytes : List ℕ) : Type 0 where
   pub front : List ℕ
   pub max : ℕ
@@ -76,7 +76,7 @@ pub record BreaksNumber {Y : Type 0} (parse : List ℕ → Parsed Y) (bytes : Li
 
 -- ---- Order
 
--- where no log is open, one begins, where it may, whose process is not above that of the last one
+-- between logs, where a log may begin, one does whose process is not above that of the last one
 abbrev pub OrderIn : Version → ℕ → ℕ → Option OpenLog → List ℕ → Type 0
 OrderIn version logs last None bytes = BeginsBelow run_words version (logs == 32) last bytes
 OrderIn version logs last (Some log) bytes = ⊥
@@ -103,7 +103,7 @@ pub record IsMemberBelow (version : Version) (full : Bool) (bytes : List ℕ) : 
   pub complete : is_digit byte ≡ false
   pub is : bytes ≡ codes "conf " ++ (conf_text conf ++ (members_text (process_text version) (front ++ above ∷ []) ++ 32 ∷ (process_text version member ++ byte ∷ rest)))
 
--- where a log is open
+-- in a log that has not ended
 abbrev pub MembersIn : Version → Option OpenLog → List ℕ → Type 0
 MembersIn version None bytes = ⊥
 MembersIn version (Some log) bytes = IsMemberBelow version (log.entries == 1000000) bytes
@@ -113,15 +113,15 @@ HasMembers stage rest = MembersIn stage.version stage.log rest
 
 -- ---- End
 
--- a log closes as it may not: it has no entry or ends in a failure, and `open` begins, or `quiet` where that is written; or
--- it does not end in a failure, may have more entries, and `failed` begins where `fail` and a space could
+-- a log is closed as it may not be: it has no entry or ends in a failure, and `open` begins, or `quiet` where that is
+-- written; or it does not end in a failure, may have more entries, and `failed` begins where `fail` and a space could
 abbrev pub ClosesWrong : Bool → Bool → Bool → Bool → List ℕ → Type 0
 ClosesWrong written full some failed bytes =
     ((rest : List ℕ) × (bytes ≡ codes "o" ++ rest) × ((some && not failed) ≡ false))
     ⊎ ((rest : List ℕ) × (bytes ≡ codes "q" ++ rest) × (written ≡ true) × ((some && not failed) ≡ false))
     ⊎ ((rest : List ℕ) × (bytes ≡ codes "faile" ++ rest) × (full ≡ false) × (failed ≡ false))
 
--- where a log is open
+-- in a log that has not ended
 abbrev pub EndIn : Version → Option OpenLog → List ℕ → Type 0
 EndIn version None bytes = ⊥
 EndIn version (Some log) bytes = ClosesWrong (writes_quiet version) (log.entries == 1000000) (nat_lt 0 log.entries) log.failed bytes
@@ -131,8 +131,8 @@ HasEnd stage rest = EndIn stage.version stage.log rest
 
 -- ---- TooMany
 
--- an entry begins in a log that may have none: by its first letter; where the last entry is a failure, `f` may still
--- become `failed`, and the space after `fail` is too many
+-- an entry begins in a full log: at its first letter; but if the last entry is a failure, `f` may still
+-- become `failed`, and the space after `fail` is where the entry begins
 abbrev pub BeginsEntry : Bool → List ℕ → Type 0
 BeginsEntry failed bytes =
     ((rest : List ℕ) × ((bytes ≡ codes "c" ++ rest) ⊎ (bytes ≡ codes "s" ++ rest) ⊎ (bytes ≡ codes "d" ++ rest)))
@@ -149,7 +149,7 @@ pub record HasManyMembers (version : Version) (bytes : List ℕ) : Type 0 where
   pub many : length members ≡ 32
   pub is : bytes ≡ codes "conf " ++ (conf_text conf ++ (members_text (process_text version) members ++ 32 ∷ rest))
 
--- between logs the `l` of one more; in a log an entry more, or a member more
+-- between logs, the `l` of one more; in a log, one more entry, or one more member
 abbrev pub TooManyIn : Version → ℕ → Option OpenLog → List ℕ → Type 0
 TooManyIn version logs None bytes = (rest : List ℕ) × ((logs == 32) ≡ true) × (bytes ≡ codes "l" ++ rest)
 TooManyIn version logs (Some log) bytes = (((log.entries == 1000000) ≡ true) × BeginsEntry log.failed bytes) ⊎ (((log.entries == 1000000) ≡ false) × HasManyMembers version bytes)
@@ -159,7 +159,7 @@ HasTooMany stage rest = TooManyIn stage.version stage.logs stage.log rest
 
 -- ---- Word
 
--- no other fault of the grammar has its place here
+-- no other fault of the grammar applies here
 pub record HasNoOther (bytes : List ℕ) : Type 0 where
   pub header : BreaksHeader bytes → ⊥
   pub number : BreaksNumber run_at bytes → ⊥

@@ -12,12 +12,12 @@ use Rattle.totem_evs.specs.Runs.{IsBelowLog, IsClosedBy, IsEntryIn, IsLogIn, IsR
 use Rattle.totem_evs.specs.Endings.{IsEndingIn}
 use Rattle.totem_evs.specs.RunText.{run_text}
 
--- the text of some run begins so
+-- the text of some run begins with these bytes
 abbrev pub IsFront : List ℕ → Type 0
 IsFront bytes = (run : RunRecord) × (more : List ℕ) × IsRunOf run × (run_text run ≡ bytes ++ more)
 
--- ---- runs whose last process need not rise: whether a process is above the one before is judged only at the byte after
--- it, so that until then any process may be meant. The last log need not be above the one before, nor the last member of
+-- ---- runs whose last process need not be above the one before: that is judged only at the byte after a process, since
+-- further digits may follow until then. The last log need not be above the one before, nor the last member of
 -- the last entry; all else is as in a run
 
 -- all but the last
@@ -26,21 +26,21 @@ but_last [] = []
 but_last (x ∷ []) = []
 but_last (x ∷ y ∷ xs) = x ∷ but_last (y ∷ xs)
 
--- 1 to 32 processes that rise but for the last
+-- 1 to 32 processes, ascending except for the last
 pub record IsLooseMembers (version : Version) (members : List ℕ) : Type 0 where
   pub some : 0 < length members
   pub few : length members ≤ 32
   pub rising : AllPairs IsBelow (but_last members)
   pub processes : All (IsProcessIn version) members
 
--- an entry, the last of whose members need not rise
+-- an entry whose last member need not be above the one before
 abbrev pub IsLooseEntry : Version → Entry → Type 0
 IsLooseEntry version (Conf x members) = IsConf x × IsLooseMembers version members
 IsLooseEntry version (Send m x service) = IsMessage m × IsConf x
 IsLooseEntry version (Deliver m x) = IsMessage m × IsConf x
 IsLooseEntry version (Fail x) = IsConf x
 
--- 1 to 1,000,000 entries, of which the last may be such a one
+-- 1 to 1,000,000 entries, the last of which may be such an entry
 pub record IsLooseEntries (version : Version) (entries : List Entry) : Type 0 where
   pub some : 0 < length entries
   pub few : length entries ≤ 1000000
@@ -54,18 +54,18 @@ pub record IsLooseLog (version : Version) (log : Log) : Type 0 where
   pub ending : IsClosedBy log.entries log.ending
   pub word : IsEndingIn version log.ending
 
--- 0 to 32 logs, of which the last may be such a one, and need not rise
+-- 0 to 32 logs, the last of which may be such a log, and need not be above the one before
 pub record IsLooseRun (version : Version) (logs : List Log) : Type 0 where
   pub few : length logs ≤ 32
   pub rising : AllPairs IsBelowLog (but_last logs)
   pub before : All (IsLogIn version) (but_last logs)
   pub each : All (IsLooseLog version) logs
 
--- the text of some run begins so whose last process need not rise
+-- the text of some run whose last process need not be above the one before begins with these bytes
 abbrev pub IsLooseFront : List ℕ → Type 0
 IsLooseFront bytes = (run : RunRecord) × (more : List ℕ) × IsLooseRun run.version run.logs × (run_text run ≡ bytes ++ more)
 
--- up to here some text goes on, if only one whose last process need not rise, and with this byte no run's text begins
+-- some such text begins with the bytes before this one, and no run's text begins with this byte too
 pub record IsFirstWrong (front : List ℕ) (byte : ℕ) : Type 0 where
   pub before : IsLooseFront front
   pub wrong : IsFront (front ++ byte ∷ []) → ⊥

@@ -19,12 +19,12 @@ pub record IsPending (run : List Log) (q : ℕ) (m : MsgId) : Type 0 where
   pub still_open : OpenIn run q ring
   pub missing : HasDelivered (log_of run q) ring m → ⊥
 
--- it has no failure, and its last change is to x
+-- the log has no failure, and its last change is to x
 pub record EndsIn (log : List Entry) (x : ConfId) : Type 0 where
   pub goes_on : NeverFails log
   pub last : LastChange log x
 
--- p ends in x, and its member q does not: it failed, its last change is to another or there is none, or it has no log
+-- p ends in x, and a member q of x does not: q failed, its last change is to another configuration, or it has none or no log
 pub record IsWaiting (run : List Log) (p : ℕ) (x : ConfId) (q : ℕ) : Type 0 where
   pub stands : EndsIn (log_of run p) x
   pub member : IsMember run x q
@@ -43,7 +43,7 @@ pub record ArePending (run : List Log) (list : List Pending) : Type 0 where
   pub rising : AllPairs PendingBelow list
   pub exact : (q : ℕ) (m : MsgId) → Contains list (record { proc = q; msg = m }) ↔ IsPending run q m
 
--- all who wait, and for whom, in ascending order
+-- all processes that wait, and for whom, in ascending order
 pub record AreWaiting (run : List Log) (list : List Waiting) : Type 0 where
   pub rising : AllPairs WaitingBelow list
   pub exact : (p : ℕ) (x : ConfId) (q : ℕ) → Contains list (record { proc = p; conf = x; other = q }) ↔ IsWaiting run p x q

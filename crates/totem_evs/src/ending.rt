@@ -6,11 +6,11 @@ use totem_ids::Version;
 /// How a log ends.
 #[derive(Clone, Copy, Debug, PartialEq, Eq, PartialOrd, Ord, Hash)]
 pub enum Ending {
-    /// `open`: more may have come after it.
+    /// `open`: more may have followed.
     Standing,
     /// `failed`: the last entry is a failure.
     Failed,
-    /// `quiet`: nothing more was to come. Texts of runs say so from version 3 on.
+    /// `quiet`: nothing more was to come. Texts of runs can write it from version 3 on.
     Quiet,
 }
 

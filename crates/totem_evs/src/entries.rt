@@ -11,7 +11,7 @@ use totem_ids::{Refused, are_same, bounded, copied};
 /// How many entries a log may have at most.
 const MOST: usize = 1_000_000;
 
-/// The entries of a log from the first on, 1 to 1,000,000 of them.
+/// The entries of a log, in order: 1 to 1,000,000 of them.
 #[derive(Debug, Drop)]
 pub struct Entries {
     list: Vec<Entry>,
@@ -39,7 +39,7 @@ fn ends_in_fail(entries: &[Entry]) -> bool
 }
 
 impl Entries {
-    /// Makes the entries from this list. A refusal gives the list back with the first rule that it breaks.
+    /// Makes the entries from this list. Otherwise refuses the list, with the first rule that it breaks.
     pub fn new(list: Vec<Entry>) -> Result<Entries, Refused<Vec<Entry>>>
         ensures { MatchResult result (λ e. (e ≡ list.items) × IsEntries list.items)
             (λ r. (r.value.items ≡ list.items) × Refuses 1 1000000 Anyhow list.items r.fault) }
@@ -63,8 +63,8 @@ impl Entries {
         &self.list
     }
 
-    /// Returns how a log of these entries ends that says nothing of what was to come: as failed if the last entry is a
-    /// failure, else open.
+    /// Returns how a log of these entries ends if it does not claim to be quiet: failed if the last entry is a failure,
+    /// else open.
     pub fn ending(&self) -> Ending
         ensures closed { IsClosedBy self.now result }
         ensures loud { result ≢ Ending.Quiet }
@@ -76,7 +76,7 @@ impl Entries {
         }
     }
 
-    /// Returns whether a log of these entries may end so: as failed if the last entry is a failure, and in another way if not.
+    /// Returns whether a log of these entries may end in this way: as failed if and only if the last entry is a failure.
     pub fn may_end(&self, ending: Ending) -> bool
         ensures { IsTrue result ↔ IsClosedBy self.now ending }
     {

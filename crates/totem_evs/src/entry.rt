@@ -21,7 +21,7 @@ pub enum Entry {
 }
 
 impl Entry {
-    /// Lets contracts know that names are in range and members are ascending: the types of the entry's parts see to that.
+    /// Does nothing. Its contract says that names are in range and members are ascending, which the types of the entry's parts ensure.
     pub(crate) fn keeps_its_rule(&self)
         ensures { IsEntry self.now }
     {

@@ -1,14 +1,14 @@
-//! What a text of records is made of: a first line with its version, records that are ascending by their processes, and a last line.
+//! The form of a text of records: a first line with its version, records in ascending order of their processes, and a last line.
 ghost use Rattle.std.specs.Prelude.{◌≡◌};
 ghost use Rattle.totem_evs.specs.Heads.{Words};
 ghost use Rattle.totem_evs.specs.RunGrammar.{run_words};
 
-/// A kind of text that is made of records, by the words of its lines.
+/// A kind of text that is made of records, given by the words of its lines.
 pub trait Form {
-    /// Its words.
+    /// The words of its lines.
     ghost words: { Words };
 
-    /// Returns what its first line begins with, up to its version.
+    /// Returns what its first line has before the version.
     fn title() -> &'static [u8]
         ensures { result.now ≡ words.title };
 
@@ -20,7 +20,7 @@ pub trait Form {
     fn letter() -> u8
         ensures { result ≡ words.letter };
 
-    /// Returns what stands between that letter and the process of a record.
+    /// Returns what is between that letter and the process of a record.
     fn word() -> &'static [u8]
         ensures { result.now ≡ words.word };
 

@@ -17,7 +17,7 @@ fn read_header_end<S: Source>(source: &mut S, version: Version) -> Result<Versio
     Ok(version)
 }
 
-// Whether this is the digit of the third version of a text that has one.
+// Returns whether this is the digit of the third version of a text that has one.
 fn is_third<F: Form>(digit: u8) -> bool
     ensures { result ≡ (F.words.third && (digit == 51)) }
 {
@@ -94,8 +94,8 @@ fn read_last<S: Source>(source: &mut S) -> Result<Option<Proc>, ReadError>
     Ok(None)
 }
 
-/// Reads the next record up to what is after its process and returns the process, whose rank has to be above `last`, or
-/// reads the last line and returns `None`. If the text is `full`, no record may begin.
+/// Reads the next record up to and including the byte after its process, and returns the process; its rank has to be above
+/// `last`. Or reads the last line, and returns `None`. If the text is `full`, no record may begin.
 #[tactic(auto, using(crate::proofs::ReaderSteps::reader_steps), unfolding(crate::specs::Heads::head_at))]
 pub fn read_head<F: Form, S: Source>(
     source: &mut S,

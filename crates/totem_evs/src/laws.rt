@@ -13,7 +13,7 @@ pub fn each_log_is_ordered()
     ensures { EachLogIsOrdered }
 {}
 
-/// Whatever precedes one change to a configuration, or is preceded by it, stands so to every change to it (2.5), in every run.
+/// What precedes one change to a configuration precedes every change to it, and what one precedes, each precedes (2.5), in every run.
 pub fn twins_agree()
     ensures { EachTwinsAgree }
 {}
@@ -28,8 +28,8 @@ pub fn chains_are_fine()
     ensures { ChainsAreFine }
 {}
 
-/// The written answer of a run means what it says: a yes that the run meets specifications 1 to 7, with a certificate
-/// and all that is left open; a no that each of its faults breaks its specification, so that the run does not meet them.
+/// The specified answer for a run means what it says: after a yes the run meets specifications 1 to 7, with a certificate
+/// and all that is left open; after a no each fault breaks its specification, so that the run does not meet them.
 pub fn answers_are_sound()
     ensures { AnswersAreSound }
 {}

@@ -1,4 +1,4 @@
-//! Runs: what processes recorded, and what extended virtual synchrony asks of it.
+//! Runs: what processes recorded, and what extended virtual synchrony requires of it.
 #![tactic(auto)]
 
 mod display;

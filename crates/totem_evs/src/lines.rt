@@ -22,7 +22,7 @@ pub enum Line {
     Close(Ending),
 }
 
-// Members up to the line end.
+// Reads members up to the end of the line.
 fn read_members<S: Source>(
     alloc: Global,
     source: &mut S,

@@ -37,7 +37,7 @@ fn is_quiet(log: &Log) -> bool
     log.ending == Ending::Quiet
 }
 
-/// The index of the first log with lives that a text of this version does not write.
+/// Returns the index of the first log with lives that a text of this version does not write.
 fn first_unwritten(version: Version, logs: &[Log]) -> Option<usize>
     ensures some { IfSome result (IsUnwritten version logs.now) }
     ensures none { IfNone result (writes_lives version ≡ false → All HasFirstLives logs.now) }
@@ -53,7 +53,7 @@ fn first_unwritten(version: Version, logs: &[Log]) -> Option<usize>
     None
 }
 
-/// The index of the first quiet log, where a text of this version has no word for it.
+/// Returns the index of the first quiet log if a text of this version has no word for it.
 fn first_unsaid(version: Version, logs: &[Log]) -> Option<usize>
     ensures some { IfSome result (IsUnsaid version logs.now) }
     ensures none { IfNone result (writes_quiet version ≡ false → AreLoud logs.now) }

@@ -7,7 +7,7 @@ use std::alloc::{AllocError, Global};
 use std::marker::Model;
 use totem_ids::{Keyed, Listed, Proc, Version, life_fits};
 
-/// A log: what one process recorded. It ends as failed exactly where its last entry is a failure; any other is open, or quiet if
+/// A log: what one process recorded. It is failed if and only if its last entry is a failure. Any other log is open, or quiet if
 /// nothing more was to come.
 #[derive(Debug, Drop)]
 pub struct Log {
@@ -28,8 +28,8 @@ impl Model for Log {
 }
 
 impl Log {
-    /// Makes the log of these entries, which ends so. It is asked that entries may end so: `Entries::may_end` tests it, and
-    /// `Entries::ending` is the ending of a log that says nothing of what was to come.
+    /// Makes the log of these entries with this ending, which has to fit them: `Entries::may_end` tests that, and
+    /// `Entries::ending` returns the ending of a log that does not claim to be quiet.
     pub fn new(proc: Proc, entries: Entries, ending: Ending) -> Log
         requires { IsClosedBy entries ending }
         ensures process { result.proc ≡ proc }

@@ -29,7 +29,7 @@ impl Model for Logs {
 }
 
 impl Logs {
-    /// Makes the logs from this list. A refusal gives the list back with the first rule that it breaks.
+    /// Makes the logs from this list. Otherwise refuses the list, with the first rule that it breaks.
     pub fn new(list: Vec<Log>) -> Result<Logs, Refused<Vec<Log>>>
         ensures { MatchResult result (λ l. (l ≡ list.items) × IsRun list.items)
             (λ r. (r.value.items ≡ list.items) × Refuses 0 32 IsBelowLog list.items r.fault) }

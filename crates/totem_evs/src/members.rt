@@ -9,7 +9,7 @@ use totem_ids::{Proc, Refused, are_same, rising};
 /// How many members a configuration may have at most.
 const MOST: usize = 32;
 
-/// The members of a configuration: 1 to 32 processes whose identifiers are strictly ascending, so that there is one life of each.
+/// The members of a configuration: 1 to 32 processes whose identifiers are strictly ascending, so there is at most one life of each.
 #[derive(Debug, Drop)]
 pub struct Members {
     procs: Vec<Proc>,
@@ -27,7 +27,7 @@ impl Model for Members {
 }
 
 impl Members {
-    /// Makes the members from these processes. A refusal gives the list back with the first rule that it breaks.
+    /// Makes the members from these processes. Otherwise refuses the list, with the first rule that it breaks.
     pub fn new(procs: Vec<Proc>) -> Result<Members, Refused<Vec<Proc>>>
         ensures { MatchResult result (λ m. (m ≡ procs.items) × IsMembers procs.items)
             (λ r. (r.value.items ≡ procs.items) × Refuses 1 32 IsBelow procs.items r.fault) }

@@ -5,12 +5,12 @@ use crate::entry::Entry;
 use std::alloc::{AllocError, Global};
 use totem_ids::{Proc, Version, life_fits};
 
-/// A part of a run. The text of a run gives its parts one after the other.
+/// A part of a run. The text of a run has its parts one after the other.
 #[derive(Debug, Drop)]
 pub enum Part {
     /// A log of this process begins.
     Log(Proc),
-    /// The log goes on with this entry.
+    /// The log continues with this entry.
     Entry(Entry),
     /// The log ends in this way.
     Close(Ending),
@@ -19,7 +19,7 @@ pub enum Part {
 impl Part {
     ghost use Rattle.totem_evs.specs.ReadState.{IsPart};
 
-    /// Tells contracts that names are in range: the types of what the part holds see to that.
+    /// Does nothing. Its contract says that names are in range, which the types of what the part holds ensure.
     pub(crate) fn keeps_its_rule(&self)
         ensures { IsPart self.now }
     {

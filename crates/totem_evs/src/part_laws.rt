@@ -1,7 +1,7 @@
 //! Laws of the parts of a run, each the contract of a function that does nothing.
 ghost use Rattle.totem_evs.specs.PartLaws.{PartsMakeTheRun, TextIsOfParts};
 
-/// The parts that are read one by one, from the first line to the last, are those of the run that is read at once.
+/// The parts that are read one by one, from the first line to the last, are those of the run that is read as a whole.
 pub fn parts_make_the_run()
     ensures { PartsMakeTheRun }
 {}

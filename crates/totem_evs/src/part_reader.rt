@@ -21,7 +21,7 @@ use totem_ids::{Proc, ReadError, Source, Version};
 /// How many logs a run may have at most.
 const MOST_LOGS: u32 = 32;
 
-// Where no log is open: a log begins, or the run ends.
+// Reads where no log has begun and not ended: the first line of a log, or the last line of the run.
 #[tactic(auto, using(crate::proofs::ReaderSteps::reader_steps), unfolding(crate::specs::Parts::begun_at))]
 fn read_between<S: Source>(
     source: &mut S,
@@ -40,7 +40,7 @@ fn read_between<S: Source>(
     }
 }
 
-// In a log: an entry, or its end.
+// Reads the next line of a log that has not ended: an entry, or its end.
 #[tactic(auto, using(crate::proofs::ReaderSteps::reader_steps), unfolding(crate::specs::Parts::within_at))]
 fn read_within<S: Source>(
     alloc: Global,
@@ -75,7 +75,7 @@ fn read_part<S: Source>(
     }
 }
 
-/// How far reading has come in a run, the processes whose logs have begun, and the members that wait for a log.
+/// How far a run has been read, the processes whose logs have begun, and the members that have no log yet.
 #[derive(Drop)]
 pub struct PartReader {
     pub stage: Stage,
@@ -97,7 +97,7 @@ fn has_begun(begun: &[Proc], proc: Proc) -> bool
     begun.contains(&proc)
 }
 
-// These wait, but for those whose logs have begun.
+// Adds to `waiting` those of the members whose logs have not begun.
 fn wait_for(waiting: &mut Unlogged, begun: &[Proc], members: &[Proc]) -> Result<(), AllocError>
     ensures { OnOk result ((q : ℕ) → Contains waiting.new q
         ↔ (Contains waiting.old q ⊎ (Contains members.now q × (Contains begun.now q → ⊥)))) }
@@ -127,7 +127,7 @@ impl PartReader {
         }
     }
 
-    // A log has begun.
+    // Notes that a log has begun.
     fn add_log(&mut self, proc: Proc) -> Result<(), AllocError>
         requires limits { IsReadState self.old }
         requires comes { MayCome self.old.stage (Some (parts.Log proc)) }
@@ -139,7 +139,7 @@ impl PartReader {
         Ok(())
     }
 
-    // An entry has come.
+    // Notes an entry.
     fn add_entry(&mut self, entry: &Entry) -> Result<(), AllocError>
         requires limits { IsReadState self.old }
         requires comes { MayCome self.old.stage (Some (parts.Entry entry.now)) }
@@ -150,7 +150,7 @@ impl PartReader {
         Ok(())
     }
 
-    // A log has ended.
+    // Notes that a log has ended.
     fn end_log(&mut self, ending: Ending)
         requires limits { IsReadState self.old }
         ensures { IsReadState self.new × Goes self.old (parts.Close ending) self.new }
@@ -158,7 +158,7 @@ impl PartReader {
         self.stage = self.stage.without_log();
     }
 
-    // A part has come.
+    // Notes a part.
     fn add(&mut self, part: &Part) -> Result<(), AllocError>
         requires limits { IsReadState self.old }
         requires comes { MayCome self.old.stage (Some part.now) }
@@ -174,8 +174,8 @@ impl PartReader {
         }
     }
 
-    /// Reads the next part, or returns `None` once it has read the last line. That a member has no log is found there. Behind a
-    /// fault nothing is known of the reader.
+    /// Reads the next part, or returns `None` once it has read the last line. A member without a log is found only then. After
+    /// a fault, nothing is known of the reader.
     pub fn next<S: Source>(
         &mut self,
         alloc: Global,

@@ -20,7 +20,7 @@ use std::marker::Model;
 use std::mem;
 use totem_ids::{Proc, Source, Version};
 
-/// The logs that have ended, and of the log that has not ended its process and its entries.
+/// The logs that have ended, and the process and entries of the log that has not.
 #[derive(Drop)]
 struct Gathered {
     logs: Vec<Log>,
@@ -37,7 +37,7 @@ impl Model for Gathered {
 }
 
 impl Gathered {
-    /// Returns the state before any part has come.
+    /// Returns the state before the first part.
     fn new(alloc: Global) -> Gathered
         ensures { result ≡ none_gathered }
     {
@@ -48,7 +48,7 @@ impl Gathered {
         }
     }
 
-    /// Adds the part that comes next.
+    /// Adds the next part.
     fn add(&mut self, alloc: Global, part: Part) -> Result<(), AllocError>
         requires { MayGather self.old part }
         ensures { OnOk result (self.new ≡ gathered self.old part) }
@@ -77,7 +77,7 @@ impl Gathered {
         Ok(())
     }
 
-    /// Returns the run of this version that has these logs.
+    /// Returns the run of this version with these logs.
     #[tactic(auto, using(crate::proofs::Weaker::any_lives))]
     fn into_run(self, version: Version) -> Run
         requires { IsRunOf (record { version = version; logs = self.logs }) }
@@ -95,8 +95,8 @@ impl Gathered {
     }
 }
 
-/// Reads a run from the first byte to the line `end`, and leaves unread what follows. Each member of a configuration
-/// has a log in it, or the fault is `MissingLog`.
+/// Reads a run from the first byte to the line `end`, and leaves unread what follows. If a member of
+/// a configuration has no log in it, the fault is `MissingLog`.
 pub fn read_run<S: Source>(alloc: Global, source: &mut S) -> Result<Run, RunFault>
     ensures { ReadsRun (seen S.remaining S.failures source.old)
         (seen S.remaining S.failures source.new) result }

@@ -30,7 +30,7 @@ impl Model for Run {
 }
 
 impl Run {
-    /// Makes the run of these logs, whose text has this version. A refusal gives the list back with the first rule that it
+    /// Makes the run of these logs, whose text has this version. Otherwise refuses the list, with the first rule that it
     /// breaks.
     pub fn new(version: Version, logs: Vec<Log>) -> Result<Run, Refused<Vec<Log>>>
         ensures { MatchResult result (λ run. (run.version ≡ version) × (run.logs ≡ logs.items) × IsRunIn version logs.items)
@@ -47,7 +47,7 @@ impl Run {
     }
 
     /// Makes the run of these logs in the first version whose texts can write them: version 1 if each process that is named
-    /// has life 1 and no log is quiet, version 3 if one is. A refusal gives the list back with the first rule that it breaks.
+    /// has life 1 and no log is quiet, version 3 if one is. Otherwise refuses the list, with the first rule that it breaks.
     #[tactic(auto, using(crate::proofs::Weaker::first_run))]
     pub fn of(logs: Vec<Log>) -> Result<Run, Refused<Vec<Log>>>
         ensures { MatchResult result (λ run. (run.logs ≡ logs.items) × IsFirstVersion run.version logs.items)

@@ -12,7 +12,7 @@ use std::fmt;
 use std::marker::Model;
 use totem_ids::Source;
 
-/// What `RunReader::next` gives.
+/// What `RunReader::next` returns.
 #[derive(Debug, Drop)]
 pub enum Next {
     /// The next part, and the reader of what follows it.
@@ -21,7 +21,7 @@ pub enum Next {
     End,
 }
 
-/// Reads a run part by part. It holds what the rules need, and none of the text.
+/// Reads a run part by part. It keeps what the rules need, and none of the text.
 #[derive(Drop)]
 pub struct RunReader {
     alloc: Global,
@@ -45,7 +45,7 @@ impl RunReader {
     pub fn begin<S: Source>(alloc: Global, source: &mut S) -> Result<RunReader, RunFault>
         ensures begins { BeginsRun (seen S.remaining S.failures source.old)
             (seen S.remaining S.failures source.new) result }
-        // It takes no memory.
+        // It allocates nothing.
         ensures memory { IfErr result (λ e. e ≢ RunFault.Memory) }
     {
         let version = read_header::<RunText, S>(source)?;
@@ -53,8 +53,8 @@ impl RunReader {
         Ok(RunReader { alloc, parts })
     }
 
-    /// Reads the next part, and returns it with the reader of what follows it. A fault consumes the reader. That a
-    /// member has no log is found at the end of the run.
+    /// Reads the next part, and returns it with the reader of what follows it. A fault consumes the reader. A
+    /// member without a log is found at the end of the run.
     pub fn next<S: Source>(self, source: &mut S) -> Result<Next, RunFault>
         ensures { ReadsNext (seen S.remaining S.failures source.old)
             (seen S.remaining S.failures source.new) self result }

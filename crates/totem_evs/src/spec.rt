@@ -12,17 +12,17 @@ pub enum SpecNo {
     Unsent,
     /// 1.4: a message sent twice, or delivered twice in one log, or sent in a transitional configuration.
     Twice,
-    /// 2.1: a quiet log that ends where another member neither ends nor may still come.
+    /// 2.1: a quiet log that ends in a configuration in which another member neither ends nor may still arrive.
     End,
-    /// 2.2: an entry that stands where it may not.
+    /// 2.2: an entry in a place where it is not allowed.
     Misplaced,
     /// 2.3: one configuration in two forms, twice in one log, or without the process that changes to it.
     Configuration,
-    /// 2.4: configurations that do not take turns, or do not fit together.
+    /// 2.4: regular and transitional configurations that do not alternate, or do not fit together.
     Turns,
     /// 3: a sender that neither delivers its own message, nor failed nor is open there.
     OwnDelivery,
-    /// 4: processes that go on together and have delivered different messages.
+    /// 4: processes that move on together and have delivered different messages.
     Atomicity,
     /// 5: a message delivered without one whose send precedes its own.
     Causality,
@@ -32,7 +32,7 @@ pub enum SpecNo {
     Gap,
     /// 7.1: a safe message that a member does not deliver.
     Safety,
-    /// 7.2: a safe message delivered in a configuration to which a member never came.
+    /// 7.2: a safe message delivered in a configuration to which a member never changed.
     Installed,
 }
 

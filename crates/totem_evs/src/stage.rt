@@ -1,4 +1,4 @@
-//! How far the reading of a run has come.
+//! How far a run has been read.
 ghost use Rattle.std.specs.Prelude.{◌≡◌, ◌==◌, ◌≤◌, nat_lt, not};
 
 use crate::entry::Entry;
@@ -7,7 +7,7 @@ use totem_ids::{Proc, Version};
 /// How many entries a log may have at most.
 const MOST_ENTRIES: u32 = 1_000_000;
 
-/// How far the reading of a run has come: as much of it as the rules for the text that follows need.
+/// How far a run has been read: what the rules for the text that follows need to know.
 #[derive(Clone, Copy, Debug, PartialEq, Eq)]
 pub struct Stage {
     /// The version of the text.
@@ -23,7 +23,7 @@ pub struct Stage {
 /// A log that has not ended.
 #[derive(Clone, Copy, Debug, PartialEq, Eq)]
 pub struct OpenLog {
-    /// How many entries it has.
+    /// The number of its entries.
     pub entries: u32,
     /// Whether the last of them is a failure.
     pub failed: bool,
@@ -37,7 +37,7 @@ impl OpenLog {
         self.entries == 0
     }
 
-    /// Returns whether no further entry may come.
+    /// Returns whether no further entry may follow.
     pub(crate) fn is_full(self) -> bool
         ensures { result ≡ (self.entries == 1000000) }
     {

@@ -10,7 +10,7 @@ ghost use Rattle.totem_evs.specs.Runs.{IsRunOf};
 ghost use Rattle.totem_evs.specs.TextFaults.{BreaksHeader, BreaksNumber, IsInPart, HasFault, HasOrder, HasMembers, HasEnd, HasTooMany, HasNoOther};
 ghost use Rattle.totem_evs.specs.TextFronts.{IsLooseFront, IsFirstWrong};
 
-/// What the grammar reads as a run keeps the rules of a run, and the bytes that it read are that run's text.
+/// What the grammar reads as a run keeps the rules of a run, and the bytes read are the text of that run.
 pub fn read_is_spelled()
     ensures { (run : RunRecord) (bytes rest : List ℕ) → run_at bytes ≡ Ok (run, rest) → IsRunOf run × (bytes ≡ run_text run ++ rest) }
 {}
@@ -35,26 +35,26 @@ pub fn fault_is_first()
     ensures { (bytes : List ℕ) (fault : TextFault) → is_short fault ≡ false → run_at bytes ≡ Err fault → FirstBreak run_at bytes fault }
 {}
 
-/// Where the grammar finds the input too short, some text of a run goes on from it, but for this: its last log need not be
-/// above the one before, nor the last member of its last entry. Whether a process ascends is judged only at the byte
+/// If the grammar finds the input too short, some text of a run continues it, with one exception: the last log need not be
+/// above the one before, nor the last member of the last entry, since the order of a process is judged only at the byte
 /// after it.
 pub fn cut_text_goes_on()
     ensures { (bytes : List ℕ) → run_at bytes ≡ Err Truncated → IsLooseFront bytes }
 {}
 
-/// At each other fault, some text of a run goes on, in the same sense, from the bytes before the first one that breaks
-/// a rule of the grammar; with that byte no run's text begins.
+/// At each other fault, some text of a run continues, in the same sense, the bytes before the first one that breaks
+/// a rule of the grammar; no run's text begins with that byte too.
 pub fn fault_byte_is_first()
     ensures { (bytes : List ℕ) (fault : TextFault) → run_at bytes ≡ Err fault → is_short fault ≡ false → (break : FirstBreak run_at bytes fault) × IsFirstWrong break.front break.byte }
 {}
 
-/// Header is the fault exactly where a byte of the first line differs, also where its digit is of no version that is read.
+/// Header is the fault exactly where a byte of the first line differs. The digit of an unknown version is such a byte.
 pub fn header_is_in_the_first_line()
     ensures { (bytes : List ℕ) → (run_at bytes ≡ Err Header) ↔ BreaksHeader bytes }
 {}
 
 /// Each fault but Header and Truncated is the fault of a part: the first line and some parts are read, and what the
-/// grammar then wants next has this fault.
+/// grammar reads next has this fault.
 #[tactic(auto, using(crate::proofs::FaultParts::of_a_part))]
 pub fn a_fault_is_of_a_part()
     ensures { (bytes : List ℕ) (fault : TextFault) → fault ≢ Header → fault ≢ Truncated → (run_at bytes ≡ Err fault) ↔ IsInPart bytes (HasFault fault) }
@@ -67,7 +67,7 @@ pub fn number_is_of_a_number()
     ensures { (bytes : List ℕ) → (run_at bytes ≡ Err Number) ↔ BreaksNumber run_at bytes }
 {}
 
-/// Order is the fault exactly where fewer than 32 logs have come and a log begins whose process, complete at the byte
+/// Order is the fault exactly where fewer than 32 logs were read and a log begins whose process, complete at the byte
 /// after it, is not above the last one.
 #[tactic(auto, using(crate::proofs::FaultParts::run_order))]
 pub fn order_is_of_a_log_that_does_not_rise()
@@ -81,8 +81,8 @@ pub fn members_is_of_a_member_that_does_not_rise()
     ensures { (bytes : List ℕ) → (run_at bytes ≡ Err Members) ↔ IsInPart bytes HasMembers }
 {}
 
-/// End is the fault exactly where a closing word begins, past what an entry could begin with, that the log may not
-/// close with.
+/// End is the fault exactly where a closing word that the log may not have is recognized: at its first byte that no
+/// entry could have there.
 #[tactic(auto, using(crate::proofs::FaultParts::run_end))]
 pub fn end_is_of_a_closing_word()
     ensures { (bytes : List ℕ) → (run_at bytes ≡ Err End) ↔ IsInPart bytes HasEnd }
@@ -94,7 +94,7 @@ pub fn too_many_is_past_a_limit()
     ensures { (bytes : List ℕ) → (run_at bytes ≡ Err TooMany) ↔ IsInPart bytes HasTooMany }
 {}
 
-/// A fault other than that of a text that ends too soon is Word exactly where no other one has its place.
+/// A fault other than that of a text that ends too soon is Word exactly where no other one applies.
 pub fn word_is_the_rest()
     ensures { (bytes : List ℕ) (fault : TextFault) → is_short fault ≡ false → run_at bytes ≡ Err fault → (fault ≡ Word) ↔ HasNoOther bytes }
 {}

@@ -6,7 +6,7 @@ use std::collections::BTreeSet;
 use std::marker::Model;
 use totem_ids::Proc;
 
-/// The members that were named and have no log so far.
+/// The members that were named and have no log yet.
 #[derive(Debug, Drop)]
 pub struct Unlogged {
     procs: BTreeSet<Proc>,
@@ -30,7 +30,7 @@ impl Unlogged {
         }
     }
 
-    /// Adds a process, which may be there already.
+    /// Adds a process, if it is not in the set yet.
     pub fn add(&mut self, proc: Proc) -> Result<(), AllocError>
         ensures { OnOk result ((q : ℕ) →
             Contains self.new q ↔ (Contains self.old q ⊎ (q ≡ proc))) }

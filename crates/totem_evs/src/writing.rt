@@ -20,10 +20,10 @@ use totem_ids::{Failed, Pieces, Sink, Version};
 /// Why a text could not be written.
 #[derive(Clone, Copy, Debug, PartialEq, Eq, Error)]
 pub enum WriteFault {
-    /// Memory was refused, and nothing was written.
+    /// Out of memory; nothing was written.
     #[error("out of memory")]
     Memory,
-    /// The sink failed. How much went out is not known.
+    /// The sink failed. How much was written is not known.
     #[error("write failed")]
     Write,
 }
