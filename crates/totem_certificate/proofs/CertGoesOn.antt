@@ -1,4 +1,4 @@
--- Where the text of a certificate is too short, it goes on.
+-- Where the text of a certificate is too short, some text continues it.
 use Rattle.std.specs.Prelude.{decimal, ◌==◌}
 use Rattle.std.proofs.Common.{◌≡◌, ℕ, zero, suc, ◌<◌, inl, inr, List, [], ◌∷◌, ◌++◌, Option, Some, None, Ok, Err, false, cond, refl, sym, ◌∙◌, ap, append_assoc, arith}
 use Rattle.std.proofs.lemmas.Bool.{eqb-true}
@@ -88,7 +88,7 @@ joined version p ns lines t u e f =
 one_of : NumbersFrom 1000000 (1 ∷ [])
 one_of = record { some = omega arith; few = omega arith; each = (one_number, tt) }
 
--- the last line, or a line that came last but for its numbers
+-- the last line, or a line before its numbers
 lines_from : (version : Version) (room last : ℕ) (head : Option ℕ) (t : List ℕ) → IsLooseHead version (room == 0) head → t ≡ head_text cert_words version head → (u : List ℕ) × LinesTo version (suc room) last (t ++ u)
 lines_from version room last None t is e = ([], ([], record { few = omega arith; rises = tt }, ap (λ (k : List ℕ). k ++ []) e))
 lines_from version room last (Some p) t is e =
@@ -168,7 +168,7 @@ cert_cut bytes =
 pub cut_front : (bytes : List ℕ) → cert_at bytes ≡ Err faults.Truncated → IsLooseFront bytes
 cut_front bytes e = let found = (cert_cut bytes).goes e in (found.1.0, found.0, found.1.1, found.1.2, found.1.3)
 
--- after a byte that breaks a rule no certificate's text goes on
+-- where the grammar finds a fault, no certificate's text begins with the bytes
 no_front : (bytes : List ℕ) (fault : TextFault) → cert_at bytes ≡ Err fault → is_short fault ≡ false → IsFront bytes → ⊥
 no_front bytes fault e long h =
     let stays : Follows h.1 (cert_at bytes) (cert_at (bytes ++ h.1)) = cert_steady.stays bytes h.1 in

@@ -17,11 +17,11 @@ numbered_none = record { each = λ k d within. absurd (omega arith) }
 pub numbered_more : (numbers : List ℕ) (n : ℕ) → Numbered numbers → IsNumber n → Numbered (numbers ++ n ∷ [])
 numbered_more numbers n h is = record { each = All-push IsNumber numbers n h.each is }
 
--- these are the numbers of a line
+-- the numbers are those of a line
 pub are_numbered : (numbers : List ℕ) → Numbered numbers → 0 < length numbers → length numbers ≤ 1000000 → IsNumbers numbers
 are_numbered numbers h some few = record { some = some; few = few; each = h.each }
 
--- lines that rise up to the last one
+-- lines that are ascending, up to the last one
 pub record RisingLines (version : Version) (lines : List Numbering) (last : ℕ) : Type 0 where
   pub below : All (λ l. l.proc ≤ last) lines
   pub rising : AllPairs IsBelowLine lines
@@ -41,6 +41,6 @@ rising_more version lines last l h lt is = record {
   each = All-push (IsLineIn version) lines l h.each is;
 }
 
--- these are the lines of a certificate
+-- the lines are those of a certificate
 pub rising_certificate : (version : Version) (lines : List Numbering) (last : ℕ) → RisingLines version lines last → length lines ≤ 32 → IsCertificateIn version lines
 rising_certificate version lines last h few = record { few = few; rising = h.rising; each = h.each }

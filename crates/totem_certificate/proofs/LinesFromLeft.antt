@@ -11,7 +11,7 @@ use Rattle.totem_certificate.specs.CertFronts.{IsLooseCertificate}
 
 -- ---- numbers
 
--- one or more, and at most room of them
+-- one or more, and at most `room` of them
 pub record NumbersFrom (room : ℕ) (ns : List ℕ) : Type 0 where
   pub some : 0 < length ns
   pub few : length ns ≤ room
@@ -28,7 +28,7 @@ numbers_from ns is = record { some = is.some; few = is.few; each = recursion_fro
 abbrev pub proc_of : Numbering → ℕ
 proc_of line = line.proc
 
--- above `last`, rising, and each one that texts of this version can write
+-- above `last`, ascending, and each can be written in texts of this version
 abbrev pub LinesRise : Version → ℕ → List Numbering → Type 0
 LinesRise version last lines = RecordsRise proc_of (IsLineIn version) last lines
 
@@ -48,7 +48,7 @@ certificate_from version lines is = record {
   rises = rise_from_none proc_of (IsLineIn version) lines (λ line h. rank_above line.proc h.process.id_fits.positive) (recursion_from_All (IsLineIn version) lines is.each) is.rising;
 }
 
--- ---- lines that rise but for the last
+-- ---- lines that are ascending except for the last
 
 abbrev pub LooseLinesFrom : Version → ℕ → ℕ → List Numbering → Type 0
 LooseLinesFrom version room last lines = LooselyFrom proc_of (IsLineIn version) (IsLineIn version) room last lines

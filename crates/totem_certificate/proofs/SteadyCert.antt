@@ -1,4 +1,4 @@
--- What a certificate's grammar answers doesn't change by what follows.
+-- The result of a certificate's grammar doesn't change with what follows.
 use Rattle.std.proofs.Common.{◌≡◌, ℕ, zero, suc, List, [], false, Err, refl}
 use Rattle.totem_ids.specs.declared.fault.TextFault.{TextFault}
 use Rattle.totem_ids.specs.declared.fault.TextFault.TheVariants as faults

@@ -42,7 +42,7 @@ IsOwnFault text.End = ⊥
 IsOwnFault text.Truncated = Unit {0}
 IsOwnFault text.TooMany = Unit {0}
 
--- what a fault of a text is for a certificate
+-- the fault of a certificate for a fault of a text
 abbrev pub text_fault : TextFault → CertFault
 text_fault text.Header = faults.Header
 text_fault text.Word = faults.Word
@@ -53,7 +53,7 @@ text_fault text.End = faults.End
 text_fault text.Truncated = faults.Truncated
 text_fault text.TooMany = faults.TooMany
 
--- what a reader's error is for a certificate
+-- the fault of a certificate for an error of a reader
 abbrev pub cert_fault : ReadError → CertFault
 cert_fault errors.Memory = faults.Memory
 cert_fault errors.Read = faults.Read

@@ -9,7 +9,7 @@ use Rattle.totem_evs.specs.Certificates.{Numbering}
 use Rattle.totem_evs.specs.Heads.{Words, records_at, header_at}
 use Rattle.totem_certificate.specs.CertRecord.{CertRecord}
 
--- numbers, and the line end after them; at most room of them
+-- numbers, and the line end after them; at most `room` of them
 unfoldable pub numbers_at : ℕ → List ℕ → Parsed (List ℕ)
 numbers_at zero bytes = Err faults.TooMany
 numbers_at (suc room) bytes = do
@@ -18,7 +18,7 @@ numbers_at (suc room) bytes = do
       else if n.0.1 == 32 then (numbers_at room n.1 >>= λ others. Ok (n.0.0 ∷ others.0, others.1))
       else Err faults.Word
 
--- the words of a certificate's text: `totem-cert`, in two versions, and `pos`, after whose process stands the space before
+-- the words of a certificate's text: `totem-cert`, in two versions, and `pos`, after whose process is the space before
 -- the numbers of the line
 abbrev pub cert_words : Words
 cert_words = record { title = codes "totem-cert "; third = false; letter = 112; word = codes "os "; behind = 32 }
@@ -27,7 +27,7 @@ cert_words = record { title = codes "totem-cert "; third = false; letter = 112; 
 abbrev pub numbering : ℕ → List ℕ → Numbering
 numbering p numbers = record { proc = p; numbers = numbers }
 
--- the further lines, one less than room of them, and the last line
+-- the further lines, fewer than `room`, and the last line
 abbrev pub lines_at : Version → ℕ → ℕ → List ℕ → Parsed (List Numbering)
 lines_at version room last bytes = records_at cert_words (λ version p. numbers_at 1000000) numbering version room last bytes
 

@@ -20,7 +20,7 @@ IsFirstVersion One lines = All HasFirstLife lines
 IsFirstVersion Two lines = All HasFirstLife lines → ⊥
 IsFirstVersion Three lines = ⊥
 
--- a text of this version writes no lives, and the line at this index is the first of another than 1
+-- a text of this version writes no lives, and the line at this index is the first with another life than 1
 pub record IsUnwritten (version : Version) (lines : List Numbering) (at : ℕ) : Type 0 where
   pub lives : writes_lives version ≡ false
   pub line : Numbering

@@ -1,4 +1,4 @@
--- Where each fault of a certificate's text stands (docs/SPECIFICATIONS.md, "Certificate text").
+-- Where each fault of a certificate's text is (docs/SPECIFICATIONS.md, "Certificate text").
 use Rattle.std.specs.Prelude.{◌≡◌, ℕ, ◌<◌, ◌==◌, ◌⊎◌, List, [], ◌∷◌, ◌++◌, length, codes, All, Some, true, false, Ok, Err}
 use Rattle.std.specs.List.{flat_map}
 use Rattle.totem_ids.specs.declared.fault.TextFault.{TextFault}
@@ -15,13 +15,13 @@ use Rattle.totem_certificate.specs.CertGrammar.{cert_words, numbers_at, cert_at}
 
 -- ---- the line that has the fault
 
--- the process of the last of these lines; `last` where there is none
+-- the process of the last of the lines, or `last` if there is none
 abbrev pub last_proc : ℕ → List Numbering → ℕ
 last_proc last [] = last
 last_proc last (l ∷ lines) = last_proc l.proc lines
 
--- the bytes begin with the first line of this certificate and its lines, and this holds of its version, of how many
--- lines these are, of the process of the last of them, and of what follows them
+-- the bytes begin with the first line of this certificate and its lines, and this holds for its version, the number of
+-- these lines, the process of the last one, and the bytes that follow
 pub record IsBehindLines (bytes : List ℕ) (Is : Version → ℕ → ℕ → List ℕ → Type 0) : Type 0 where
   pub cert : CertRecord
   pub rest : List ℕ
@@ -29,7 +29,7 @@ pub record IsBehindLines (bytes : List ℕ) (Is : Version → ℕ → ℕ → Li
   pub is_bytes : bytes ≡ header_text cert.version ++ (flat_map (line_text (process_text cert.version)) cert.lines ++ rest)
   pub is : Is cert.version (length cert.lines) (last_proc 0 cert.lines) rest
 
--- the line there has this fault: up to the space before its numbers, or in its numbers
+-- the next line has this fault: up to the space before its numbers, or in its numbers
 abbrev pub HasFault : TextFault → Version → ℕ → ℕ → List ℕ → Type 0
 HasFault fault version count last rest =
     (head_at cert_words version (count == 32) last rest ≡ Err fault)
@@ -37,13 +37,13 @@ HasFault fault version count last rest =
 
 -- ---- Header
 
--- the first line is none of a certificate
+-- the first line is not that of a certificate
 abbrev pub BreaksHeader : List ℕ → Type 0
 BreaksHeader bytes = BreaksFirstLine cert_words bytes
 
 -- ---- Order
 
--- a line begins, where one may, whose process is not above that of the last one
+-- where a line may begin, one does whose process is not above that of the last one
 abbrev pub HasOrder : Version → ℕ → ℕ → List ℕ → Type 0
 HasOrder version count last rest = BeginsBelow cert_words version (count == 32) last rest
 
@@ -61,13 +61,13 @@ pub record HasManyNumbers (version : Version) (count last : ℕ) (rest : List �
   pub many : length numbers ≡ 1000000
   pub is : rest ≡ codes "pos " ++ (process_text version proc ++ (numbers_text numbers ++ 32 ∷ more))
 
--- the first letter of a 33rd line, or a number too many
+-- the first letter of a 33rd line, or one number too many
 abbrev pub HasTooMany : Version → ℕ → ℕ → List ℕ → Type 0
 HasTooMany version count last rest = ((more : List ℕ) × ((count == 32) ≡ true) × (rest ≡ codes "p" ++ more)) ⊎ HasManyNumbers version count last rest
 
 -- ---- Word
 
--- no other fault of the grammar has its place here
+-- no other fault of the grammar applies here
 pub record HasNoOther (bytes : List ℕ) : Type 0 where
   pub header : BreaksHeader bytes → ⊥
   pub number : BreaksNumber cert_at bytes → ⊥

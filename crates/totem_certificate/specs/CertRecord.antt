@@ -1,4 +1,4 @@
--- What contracts see of a certificate: the version of its text, and its lines.
+-- A certificate as contracts see it: the version of its text, and its lines.
 use Rattle.std.specs.Prelude.{List}
 use Rattle.totem_ids.specs.declared.version.Version.{Version}
 use Rattle.totem_evs.specs.Certificates.{Numbering}

@@ -1,5 +1,5 @@
--- The one spelling of a certificate (docs/SPECIFICATIONS.md, "Certificate text"). Lines are spelled by the spelling of
--- their processes.
+-- The one spelling of a certificate (docs/SPECIFICATIONS.md, "Certificate text"). The spelling of lines takes the
+-- spelling of processes as a parameter.
 use Rattle.std.specs.Prelude.{ℕ, List, [], ◌∷◌, ◌++◌, codes, decimal}
 use Rattle.std.specs.List.{flat_map}
 use Rattle.totem_evs.specs.Certificates.{Numbering}

@@ -1,4 +1,4 @@
--- What a certificate keeps, and what is wrong with numbers that a line can't hold (docs/SPECIFICATIONS.md,
+-- The rules that a certificate keeps, and what is wrong with numbers that a line can't hold (docs/SPECIFICATIONS.md,
 -- "Certificates").
 use Rattle.std.specs.Prelude.{◌≡◌, ℕ, ◌<◌, ◌≤◌, List, [], length, take, slice_get, Some, All, AllPairs}
 use Rattle.totem_ids.specs.declared.version.Version.{Version}
@@ -24,7 +24,7 @@ pub record IsLineIn (version : Version) (line : Numbering) : Type 0 where
   pub process : IsProcessIn version line.proc
   pub numbers : IsNumbers line.numbers
 
--- a line whose process has any life
+-- a line with a process of any life
 abbrev pub IsLine : Numbering → Type 0
 IsLine = IsLineIn Two
 
@@ -32,30 +32,30 @@ IsLine = IsLineIn Two
 abbrev pub IsBelowLine : Numbering → Numbering → Type 0
 IsBelowLine a b = a.proc < b.proc
 
--- the lines of a certificate that texts of this version can write: 0 to 32, their processes strictly ascending. Where a
+-- the lines of a certificate that texts of this version can write: 0 to 32, their processes strictly ascending. If the
 -- version writes no lives, each process has life 1
 pub record IsCertificateIn (version : Version) (lines : List Numbering) : Type 0 where
   pub few : length lines ≤ 32
   pub rising : AllPairs IsBelowLine lines
   pub each : All (IsLineIn version) lines
 
--- the lines of a certificate whose processes have any lives
+-- the lines of a certificate with any lives
 abbrev pub IsCertificate : List Numbering → Type 0
 IsCertificate = IsCertificateIn Two
 
--- the versions of which there are texts of certificates
+-- the versions that texts of certificates have
 abbrev pub IsOfText : Version → Type 0
 IsOfText One = Unit {0}
 IsOfText Two = Unit {0}
 IsOfText Three = ⊥
 
--- the version of the certificate of a run of this version: how logs end is not said in it, so no certificate is of version 3
+-- the version of the certificate of a run of this version: a certificate does not say how logs end, so it never has version 3
 abbrev pub certificate_version : Version → Version
 certificate_version One = One
 certificate_version Two = Two
 certificate_version Three = Two
 
--- a certificate: the lines are ones that texts of its version can write
+-- a certificate: texts of its version can write its lines
 pub record IsCertificateOf (certificate : CertRecord) : Type 0 where
   pub version : IsOfText certificate.version
   pub lines : IsCertificateIn certificate.version certificate.lines

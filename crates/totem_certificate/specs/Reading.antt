@@ -1,4 +1,4 @@
--- What the reader of certificates answers, and what it leaves (docs/SPECIFICATIONS.md, "Certificate text").
+-- What the reader of certificates returns, and what it leaves unread (docs/SPECIFICATIONS.md, "Certificate text").
 use Rattle.std.specs.Prelude.{◌≡◌, Result, Ok, Err}
 use Rattle.std.specs.Io.KnownBytes.{Consumes}
 use Rattle.totem_ids.specs.declared.fault.TextFault.TheVariants as text
@@ -18,7 +18,7 @@ pub record IsRead (old new : Seen) (cert : CertRecord) : Type 0 where
   pub text : Consumes old.remaining new.remaining (cert_text cert)
 
 -- a certificate was read; the text is faulty as the grammar says, whatever follows the bytes that were taken, the last
--- of which is the first that breaks a rule; it was at its end and too short; the source failed in this call, after
+-- of which is the first that breaks a rule; the text ended and was too short; the source failed in this call, after
 -- bytes that begin a text; or memory was refused
 abbrev pub ReadsCert : Seen → Seen → Result Certificate CertFault → Type 0
 ReadsCert old new (Ok c) = IsRead old new c

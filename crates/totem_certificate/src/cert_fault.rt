@@ -20,7 +20,7 @@ pub enum CertFault {
     Truncated,
     #[error("more than 32 lines, or 1000000 numbers in one")]
     TooMany,
-    /// The reader of certificates never gives this. It is for callers that want the input to end after the certificate.
+    /// The reader of certificates never returns this. It is for callers that require the input to end after the certificate.
     #[error("bytes behind the last line")]
     End,
     #[error("the source failed")]
@@ -70,7 +70,7 @@ impl From<TextFault> for CertFault {
 
     ghost from_gives = { λ f e. e ≡ text_fault f };
 
-    // A certificate has no members: what is not ascending is Order.
+    // A certificate has no members: the fault of a list that is not ascending is Order.
     fn from(fault: TextFault) -> CertFault {
         match fault {
             TextFault::Header => CertFault::Header,

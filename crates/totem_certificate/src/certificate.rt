@@ -31,7 +31,7 @@ impl Model for Certificate {
 }
 
 impl Certificate {
-    /// Makes the certificate of these lines, whose text has this version. A refusal gives the list back with the first rule
+    /// Makes the certificate of these lines, whose text has this version. Otherwise refuses the list, with the first rule
     /// that it breaks.
     pub fn new(version: Version, lines: Vec<Line>) -> Result<Certificate, Refused<Vec<Line>>>
         requires { IsOfText version }
@@ -49,7 +49,7 @@ impl Certificate {
     }
 
     /// Makes the certificate of these lines in the first version whose texts can write them: version 1 if each process has
-    /// life 1. A refusal gives the list back with the first rule that it breaks.
+    /// life 1. Otherwise refuses the list, with the first rule that it breaks.
     #[tactic(auto, using(crate::proofs::WrittenLives::first_certificate))]
     pub fn of(lines: Vec<Line>) -> Result<Certificate, Refused<Vec<Line>>>
         ensures { MatchResult result (λ c. (c.lines ≡ lines.items) × IsFirstVersion c.version lines.items)

@@ -22,7 +22,7 @@ impl Model for Line {
 }
 
 impl Line {
-    /// Tells contracts the rules that the types of the line's parts keep.
+    /// Does nothing. Its contract says which rules the line keeps, which the types of its parts ensure.
     pub(crate) fn keeps_its_rules(&self)
         ensures { IsLine self.now }
     {

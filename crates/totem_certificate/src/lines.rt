@@ -29,7 +29,7 @@ impl Model for Lines {
 }
 
 impl Lines {
-    /// Makes the lines from this list. A refusal gives the list back with the first rule that it breaks.
+    /// Makes the lines from this list. Otherwise refuses the list, with the first rule that it breaks.
     pub fn new(list: Vec<Line>) -> Result<Lines, Refused<Vec<Line>>>
         ensures { MatchResult result (λ l. (l ≡ list.items) × IsCertificate list.items)
             (λ r. (r.value.items ≡ list.items) × Refuses 0 32 IsBelowLine list.items r.fault) }

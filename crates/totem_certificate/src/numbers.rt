@@ -21,7 +21,7 @@ pub enum NumbersFault {
     Zero(usize),
 }
 
-/// Numbers that were refused, given back with the rule that they break.
+/// Numbers that were refused, with the first rule that they break.
 #[derive(Debug, Drop)]
 pub struct RefusedNumbers {
     pub fault: NumbersFault,
@@ -36,7 +36,7 @@ impl fmt::Display for RefusedNumbers {
 
 impl Error for RefusedNumbers {}
 
-/// The numbers of a log's entries, from the first entry on: 1 to 1,000,000 of them, each 1 or more.
+/// The numbers of a log's entries, in order: 1 to 1,000,000 of them, each 1 or more.
 #[derive(Debug, Drop)]
 pub struct Numbers {
     list: Vec<u32>,
@@ -53,7 +53,7 @@ impl Model for Numbers {
     ghost invariant = { λ n. IsNumbers n.list.items };
 }
 
-// Where a list has its first 0.
+// Returns the index of the first 0 of a list.
 fn first_zero(list: &[u32]) -> Option<usize>
     ensures found { IfSome result (IsFirstZero list.now) }
     ensures positive { IfNone result (All IsNumber list.now) }
@@ -67,7 +67,7 @@ fn first_zero(list: &[u32]) -> Option<usize>
 }
 
 impl Numbers {
-    /// Makes the numbers of a line from this list. A refusal gives the list back with the first rule that it breaks.
+    /// Makes the numbers of a line from this list. Otherwise refuses the list, with the first rule that it breaks.
     pub fn new(list: Vec<u32>) -> Result<Numbers, RefusedNumbers>
         ensures { MatchResult result (λ n. (n ≡ list.items) × IsNumbers list.items)
             (λ r. (r.value.items ≡ list.items) × RefusesNumbers list.items r.fault) }

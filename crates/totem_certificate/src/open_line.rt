@@ -7,7 +7,7 @@ use std::alloc::{AllocError, Global};
 use std::marker::Model;
 use totem_ids::Proc;
 
-/// The numbers that the entries of a log have so far, from the first entry on.
+/// A line of a certificate that is not complete yet: the numbers of a log's entries so far.
 #[derive(Drop)]
 pub struct OpenLine {
     proc: Proc,
@@ -23,7 +23,7 @@ impl Model for OpenLine {
 }
 
 impl OpenLine {
-    /// Makes a line without numbers, with room for as many.
+    /// Makes a line without numbers, with space for `room` of them.
     pub fn with_room(alloc: Global, proc: Proc, room: usize) -> Result<OpenLine, AllocError>
         ensures { IfOk result (λ line. line ≡ record { proc = proc; numbers = [] }) }
     {
@@ -45,7 +45,7 @@ impl OpenLine {
         &self.numbers
     }
 
-    /// Gives the next entry its number. At `Err` nothing has changed.
+    /// Gives the next entry its number. If it fails, nothing has changed.
     pub fn push(&mut self, number: u32) -> Result<(), AllocError>
         ensures ok { OnOk result (self.new ≡ record self.old { numbers = self.old.numbers ++ number ∷ [] }) }
         ensures err { OnErr result (self.new ≡ self.old) }
@@ -54,7 +54,7 @@ impl OpenLine {
         Ok(())
     }
 
-    /// Returns the line as it stands in a certificate.
+    /// Returns the complete line.
     pub fn close(self) -> Line
         requires { IsLine self }
         ensures { result ≡ self }

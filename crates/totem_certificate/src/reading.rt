@@ -13,7 +13,7 @@ use std::alloc::Global;
 use totem_evs::{read_head, read_header};
 use totem_ids::{ReadError, Source, TextFault, Version, number};
 
-// Numbers up to the line end.
+// Reads numbers up to the end of the line.
 fn read_numbers<S: Source>(alloc: Global, source: &mut S) -> Result<Numbers, ReadError>
     ensures { Reads (seen S.remaining S.failures source.old)
         (seen S.remaining S.failures source.new) result (numbers_at 1000000) }
@@ -32,7 +32,7 @@ fn read_numbers<S: Source>(alloc: Global, source: &mut S) -> Result<Numbers, Rea
     Err(ReadError::Text(TextFault::TooMany))
 }
 
-// Lines up to the last one.
+// Reads the lines of a certificate, and its last line.
 fn read_lines<S: Source>(
     alloc: Global,
     source: &mut S,
@@ -58,7 +58,7 @@ fn read_lines<S: Source>(
     Err(ReadError::Text(TextFault::TooMany))
 }
 
-// A certificate, from its first line on.
+// Reads a certificate from its first line on.
 fn read_text<S: Source>(alloc: Global, source: &mut S) -> Result<Certificate, ReadError>
     ensures { Reads (seen S.remaining S.failures source.old)
         (seen S.remaining S.failures source.new) result cert_at }

@@ -12,7 +12,7 @@ ghost use Rattle.totem_certificate.specs.CertPlaces.{IsBehindLines, BreaksHeader
 ghost use Rattle.totem_certificate.specs.CertText.{cert_text};
 ghost use Rattle.totem_certificate.specs.Keeping.{IsCertificateOf};
 
-/// What the grammar reads as a certificate keeps the rules of a certificate, and the bytes that it read are its text.
+/// What the grammar reads as a certificate keeps the rules of a certificate, and the bytes read are its text.
 pub fn read_is_spelled()
     ensures { (cert : CertRecord) (bytes rest : List ℕ) → cert_at bytes ≡ Ok (cert, rest) → IsCertificateOf cert × (bytes ≡ cert_text cert ++ rest) }
 {}
@@ -42,25 +42,25 @@ pub fn fault_is_first()
     ensures { (bytes : List ℕ) (fault : TextFault) → is_short fault ≡ false → cert_at bytes ≡ Err fault → FirstBreak cert_at bytes fault }
 {}
 
-/// Where the grammar finds the input too short, some text of a certificate goes on from it, but for this: its last process
-/// need not be above the one before. Whether a process is above the one before is judged only at the byte after it.
+/// If the grammar finds the input too short, some text of a certificate continues it, with one exception: the last process
+/// need not be above the one before, since the order of a process is judged only at the byte after it.
 pub fn cut_text_goes_on()
     ensures { (bytes : List ℕ) → cert_at bytes ≡ Err Truncated → IsLooseFront bytes }
 {}
 
-/// At each other fault, some text of a certificate goes on, in the same sense, from the bytes before the first one that
-/// breaks a rule of the grammar; with that byte no certificate's text begins.
+/// At each other fault, some text of a certificate continues, in the same sense, the bytes before the first one that
+/// breaks a rule of the grammar; no certificate's text begins with that byte too.
 pub fn fault_byte_is_first()
     ensures { (bytes : List ℕ) (fault : TextFault) → cert_at bytes ≡ Err fault → is_short fault ≡ false → (break : FirstBreak cert_at bytes fault) × IsFirstWrong break.front break.byte }
 {}
 
-/// Header is the fault exactly where a byte of the first line differs, also where its digit is of no version that is read.
+/// Header is the fault exactly where a byte of the first line differs. The digit of an unknown version is such a byte.
 pub fn header_is_in_the_first_line()
     ensures { (bytes : List ℕ) → (cert_at bytes ≡ Err Header) ↔ BreaksHeader bytes }
 {}
 
 /// Each fault but Header and Truncated is the fault of a line: the bytes begin with the first line and some lines of a
-/// certificate, and what the grammar then wants next has this fault.
+/// certificate, and what the grammar reads next has this fault.
 pub fn a_fault_is_of_a_line()
     ensures { (bytes : List ℕ) (fault : TextFault) → fault ≢ Header → fault ≢ Truncated → (cert_at bytes ≡ Err fault) ↔ IsBehindLines bytes (HasFault fault) }
 {}
@@ -72,7 +72,7 @@ pub fn number_is_of_a_number()
     ensures { (bytes : List ℕ) → (cert_at bytes ≡ Err Number) ↔ BreaksNumber cert_at bytes }
 {}
 
-/// Order is the fault exactly where fewer than 32 lines have come and a line begins whose process, complete at the byte
+/// Order is the fault exactly where fewer than 32 lines were read and a line begins whose process, complete at the byte
 /// after it, is not above the last one.
 #[tactic(auto, using(crate::proofs::CertParts::cert_order))]
 pub fn order_is_of_a_line_that_does_not_rise()
@@ -85,7 +85,7 @@ pub fn too_many_is_past_a_limit()
     ensures { (bytes : List ℕ) → (cert_at bytes ≡ Err TooMany) ↔ IsBehindLines bytes HasTooMany }
 {}
 
-/// A fault other than that of a text that ends too soon is Word exactly where no other one has its place.
+/// A fault other than that of a text that ends too soon is Word exactly where no other one applies.
 pub fn word_is_the_rest()
     ensures { (bytes : List ℕ) (fault : TextFault) → is_short fault ≡ false → cert_at bytes ≡ Err fault → (fault ≡ Word) ↔ HasNoOther bytes }
 {}
