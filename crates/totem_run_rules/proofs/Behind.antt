@@ -1,4 +1,4 @@
--- The change before another one, and what may come after it.
+-- The change before another one, and what may follow it.
 use Rattle.std.proofs.Common.{◌≡◌, ◌↔◌, ℕ, ◌+◌, inl, inr, List, slice_get, Option, Some, None, sym, ◌∙◌, arith}
 use Rattle.std.specs.Prelude.{All, Contains}
 use Rattle.totem_ids.specs.declared.ring.RingId.{RingId}
@@ -40,9 +40,9 @@ still_before log at (Some i) e here not_conf last = record {
 pub now_before : (log : List Entry) (at : ℕ) (e : Entry) (x : ConfId) (ms : List ℕ) → slice_get log at ≡ Some e → e ≡ Conf x ms → StandsBefore log (at + 1) at
 now_before log at e x ms here is = record { change = (x, (ms, rw is at here)); earlier = omega arith; none_between = λ k later lt change. omega arith }
 
--- ---- what may come after it
+-- ---- what may follow it
 
--- the change before a change is the one that it comes next after
+-- the change before a change is the one that it follows
 pub one_before : (log : List Entry) (at i j : ℕ) (w x : ConfId) (ls ms : List ℕ) → StandsBefore log at i → ChangesNext log j at w x ls ms → i ≡ j
 one_before log at i j w x ls ms last next = elim (less_or_not i j) [
   | inl under ↦ absurd (last.none_between j under next.next.later (w, (ls, next.first)))
@@ -77,7 +77,7 @@ one_origin log at j (Some i) d (Transitional n l) ls ms c trans last from next =
 
 -- ---- turns
 
--- what is not wrong is as it is asked
+-- a succession that is not wrong meets the requirements
 pub right_kinds : (x y : ConfId) (ms ns : List ℕ) → (IsWrongSuccession x ms y ns → ⊥) → IsRegular x ↔ IsTransitional y
 right_kinds (Regular c) (Regular d) ms ns right = absurd (right tt)
 right_kinds (Regular c) (Transitional n l) ms ns right = (λ _. tt, λ _. tt)

@@ -1,4 +1,4 @@
--- Meeting the changes of a run, one after the other.
+-- Entering the changes of a run, one after the other.
 use Rattle.std.proofs.Common.{◌≡◌, ℕ, ◌+◌, ◌≤◌, ◌⊎◌, inl, inr, List, length, slice_get, Option, Some, Result, Ok, Err, IfOk, Bool, true, false, refl, sym, ◌∙◌}
 use Rattle.std.specs.Prelude.{Contains}
 use Rattle.std.specs.Bool.{OnTrue}
@@ -20,7 +20,7 @@ use Rattle.totem_run_rules.proofs.Exact.{same_conf}
 use Rattle.totem_run_rules.proofs.Passing.{weaker_past, more_past, log_past, all_past}
 use Rattle.totem_run_rules.proofs.Behind.{still_before, now_before, regular_first, turns_right, one_origin, right_kinds, right_from, right_to, right_name}
 
--- ---- where the first change stands
+-- ---- where the first change is
 
 pub found_there : (run : List Log) (firsts : BTreeMap ConfId FirstChange) (x : ConfId) (o : Option FirstChange) (change : FirstChange) → AreFirst run firsts → o ≡ first_to firsts x → o ≡ Some change → (ms : List ℕ) × StandsThere run change x ms
 found_there run firsts x o change first is found = first.each x change (sym is ∙ found)
@@ -71,7 +71,7 @@ met_first run old new x ms o change are is none stands updates = record {
 
 -- ---- entering one change
 
--- what follows where it was met
+-- if the result is `true`, what follows from P holds
 pub where_met : {E : Type 0} (r : Result Bool E) (P Q : Type 0) → (P → Q) → IfOk r (λ ok. OnTrue ok P) → IfOk r (λ ok. OnTrue ok Q)
 where_met (Ok true) P Q f h = f h
 where_met (Ok false) P Q f h = tt
@@ -105,7 +105,7 @@ entered run old new index at before log e x ms c at_log at_entry is own last fro
 
 -- ---- along the logs
 
--- of the log at an index: what the last change before one of its entries is
+-- which change of the log at an index is the last before one of its entries
 pub record KnowsLast (run : List Log) (index at : ℕ) (before : Option ℕ) : Type 0 where
   pub last : (log : Log) → slice_get run index ≡ Some log → IsLastBefore log.entries at before
 

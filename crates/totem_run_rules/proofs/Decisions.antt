@@ -63,7 +63,7 @@ pub regular_or_transitional : (x : ConfId) → IsRegular x ⊎ IsTransitional x
 regular_or_transitional (Regular c) = inl tt
 regular_or_transitional (Transitional next least) = inr tt
 
--- going along a list of processes
+-- loops over a list of processes
 pub all_more : (ms ns : List ℕ) (i n : ℕ) → i < length ns → n ≡ get_or ns i n → Contains ms n → All (Contains ms) (take i ns) → All (Contains ms) (take (i + 1) ns)
 all_more ms ns i n lt is here so_far = rw (take_more ns i n lt, ← is) (All-push (Contains ms) (take i ns) n so_far here)
 

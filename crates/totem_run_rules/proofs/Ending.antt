@@ -13,7 +13,7 @@ use Rattle.totem_evs.proofs.Pushing.{Along, along_none, along_more}
 use Rattle.totem_run_rules.specs.Ends.{GoesOn, IsLast}
 use Rattle.totem_run_rules.specs.Endings.{StandsAtEnd, EndsNowhere, IsEnd, AreEnds}
 
--- what fails fails at its end
+-- a log that fails has the failure at its end
 pub goes_on : (log : List Entry) (e : Entry) → StaysInPlace log → 0 < length log → slice_get log (length log - 1) ≡ Some e → ((x : ConfId) → e ≡ Fail x → ⊥) → GoesOn log
 goes_on log e stays some at not_fail = record {
   never = λ i x fails.
@@ -30,7 +30,7 @@ goes_on log e stays some at not_fail = record {
 pub nothing_fails : (log : List Entry) → length log ≡ 0 → GoesOn log
 nothing_fails log empty = record { never = λ i x fails. (let within = slice_get_within log i (Fail x) fails in omega arith) }
 
--- where a log goes on, it ends where its last change stands
+-- a log without a failure ends where its last change is
 pub is_end : (log : List Entry) (last : Option ℕ) → GoesOn log → IsLast log last → IsEnd log last
 is_end log None on none = record { never = λ x ends. none.none ends.last.index (x, ends.last.change) }
 is_end log (Some i) on stands = record { goes_on = on.never; change = stands.change; last = stands.none_after }
@@ -61,7 +61,7 @@ pub end_nowhere_but : (log : List Entry) (last : Option ℕ) → IsEnd log last 
 end_nowhere_but log None end not = end
 end_nowhere_but log (Some i) end not = absurd (not i refl)
 
--- those of the first n logs
+-- those for the first n logs
 abbrev pub EndsBefore : List Log → ℕ → List (Option ℕ) → Type 0
 EndsBefore run n ends = Along (λ (l : Log) (last : Option ℕ). IsEnd l.entries last) run ends n
 

@@ -22,7 +22,7 @@ use Rattle.totem_run_rules.proofs.LogEnds.{ending_of_at}
 
 -- ---- the ends of all logs
 
--- those of the first n logs
+-- those for the first n logs
 abbrev pub EndsBefore : List Log → ℕ → List LogEnd → Type 0
 EndsBefore run n ends = Along (λ (l : Log) (end : LogEnd). IsLogEnd l.entries end) run ends n
 
@@ -61,7 +61,7 @@ no_log run p n end before = record { none = λ (j, log, lt, at, same). before.no
 pub is_log_of : (run : List Log) (p k : ℕ) (log : Log) → slice_get run k ≡ Some log → log.proc ≡ p → IsLogOf run p k
 is_log_of run p k log at same = record { log = log; at = at; proc = same }
 
--- what is read where p's log stands is p's log
+-- what is read at the index of p's log is p's log
 pub read_there : (run logs : List Log) (p k : ℕ) (log : Log) → logs ≡ run → IsLogOf run p k → log ≡ get_or logs k log → (slice_get run k ≡ Some log) × (log.proc ≡ p)
 read_there run logs p k log same found is =
     let within : k < length logs = rw same (slice_get_within run k found.log found.at) in
@@ -159,7 +159,7 @@ with_none run log none = record { each = λ i x ms q last among. absurd (none.no
 
 -- ---- the first quiet log that ends alone
 
--- of the first k logs those that are quiet end with all their members
+-- the quiet ones of the first k logs end with all their members
 pub record TogetherBefore (run : List Log) (k : ℕ) : Type 0 where
   pub each : (j : ℕ) (log : Log) → j < k → slice_get run j ≡ Some log → log.ending ≡ Quiet → EndsWithAll run log.entries
 
@@ -177,7 +177,7 @@ together_more run k log at here before = record {
   ];
 }
 
--- what quiet p, whose log stands at k, says of its log
+-- if p, whose log is at k, is quiet, so is that log
 quiet_at : (run : List Log) (k p : ℕ) (log : Log) → Rising run → slice_get run k ≡ Some log → log.proc ≡ p → IsQuiet run p → log.ending ≡ Quiet
 quiet_at run k p log rising at proc quiet = sym (ending_of_at run k log rising at) ∙ rw (← proc) at quiet
 
@@ -213,7 +213,7 @@ none_quiet_more run k log at never before = record {
 pub none_alone : (run : List Log) (k : ℕ) → Rising run → length run ≤ k → NoneQuietBefore run k → EndsTogether run
 none_alone run k rising end before = all_together run k rising end (record { each = λ j log lt at quiet. absurd (before.none j log lt at quiet) })
 
--- the first quiet log that ends without a member, after those that end with all, comes first
+-- the first quiet log that ends without a member, after those that end with all, is the first event
 pub least_end : (run : List Log) (k i n : ℕ) (log : Log) → Rising run → slice_get run k ≡ Some log → log.ending ≡ Quiet → StraysAt run log.entries i → TogetherBefore run k → n ≡ i + 1
     → IsLeastBreak run spec.End (record { proc = log.proc; at = n } ∷ [])
 least_end run k i n log rising at quiet strays before e = record {

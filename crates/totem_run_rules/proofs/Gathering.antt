@@ -1,4 +1,4 @@
--- Gathering, log by log, what holds of the processes of a run, in ascending order.
+-- Gathering, log by log, what holds for the processes of a run, in ascending order.
 use Rattle.std.proofs.Common.{◌≡◌, ◌⊎◌, ◌↔◌, ℕ, suc, ◌+◌, ◌<◌, ◌≤◌, inl, inr, List, [], ◌∷◌, ◌++◌, length, slice_get, Some, refl, sym, ◌∙◌, arith}
 use Rattle.std.specs.Prelude.{All, AllPairs, Contains}
 use Rattle.std.proofs.lemmas.List.Kept.{AllPairs-cons}
@@ -21,7 +21,7 @@ pairs_append R (x ∷ xs) ys first second across =
     AllPairs-cons R x (xs ++ ys) (All-append (R x) xs ys (pairs_head R x xs first) (across 0 x (omega arith)))
     (pairs_append R xs ys (pairs_tail R x xs first) second (all_tail (λ z. All (R z) ys) x xs across))
 
--- p's log stands among the first k
+-- p's log is among the first k
 pub record HasLogBefore (run : List Log) (k p : ℕ) : Type 0 where
   pub index : ℕ
   pub log : Log
@@ -30,12 +30,12 @@ pub record HasLogBefore (run : List Log) (k p : ℕ) : Type 0 where
   pub proc : log.proc ≡ p
 
 module _ {X : Type 0} (proc : X → ℕ) (Below : X → X → Type 0) (by_proc : (a b : X) → proc a < proc b → Below a b) (P : X → Type 0) where
-  -- all of which it holds at the processes of the first k logs
+  -- all for which P holds and whose processes have one of the first k logs
   pub record Gathered (run : List Log) (k : ℕ) (list : List X) : Type 0 where
     pub rising : AllPairs Below list
     pub exact : (x : X) → Contains list x ↔ (P x × HasLogBefore run k (proc x))
 
-  -- all of which it holds at p
+  -- all for which P holds and whose process is p
   pub record OfProcess (p : ℕ) (list : List X) : Type 0 where
     pub rising : AllPairs Below list
     pub exact : (x : X) → Contains list x ↔ (P x × (proc x ≡ p))

@@ -55,9 +55,9 @@ fails_here log n e at is on = let h = is_fail e is in on.never n h.0 (rw h.1 at 
 pub no_failure : (log : List Entry) (n : ℕ) → length log ≤ n → NoFailureBefore log n → GoesOn log
 no_failure log n end before = record { never = λ i x fails. before.none i (let within = slice_get_within log i (Fail x) fails in omega arith) x fails }
 
--- ---- where a log's last change stands
+-- ---- where a log's last change is
 
--- no change stands at n or later
+-- no change is at n or later
 pub record NoneFrom (log : List Entry) (n : ℕ) : Type 0 where
   pub none : (k : ℕ) → n ≤ k → IsChange log k → ⊥
 

@@ -1,4 +1,4 @@
--- What holds of entries, one after the other along the logs of a run.
+-- What holds for entries, one after the other along the logs of a run.
 use Rattle.std.proofs.Common.{◌≡◌, ℕ, ◌+◌, ◌<◌, ◌≤◌, inl, inr, List, [], length, slice_get, Some, arith}
 use Rattle.std.proofs.lemmas.Option.{slice_get_within}
 use Rattle.totem_evs.specs.declared.entry.Entry.{Entry}
@@ -10,7 +10,7 @@ use Rattle.totem_run_rules.specs.Past.{EachPast}
 pub weaker_past : (P Q : ℕ → ℕ → Log → Entry → Type 0) (run : List Log) (k j : ℕ) → ((i at : ℕ) (log : Log) (e : Entry) → P i at log e → Q i at log e) → EachPast P run k j → EachPast Q run k j
 weaker_past P Q run k j so h = record { each = λ i at log e past at_log at_entry. so i at log e (h.each i at log e past at_log at_entry) }
 
--- what holds of an entry at the one place holds at the other
+-- what holds for an entry at one place holds at the other, if both are the same
 moved : (P : ℕ → ℕ → Log → Entry → Type 0) (i k at j : ℕ) (l log : Log) (f e : Entry) → i ≡ k → at ≡ j → l ≡ log → f ≡ e → P k j log e → P i at l f
 moved P i k at j l log f e is_i is_at is_log is_entry h = rw (is_i, is_at, is_log, is_entry) h
 

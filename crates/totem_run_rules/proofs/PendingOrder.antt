@@ -37,7 +37,7 @@ less_first Less b e = inl refl
 less_first Equal b e = inr (refl, e)
 less_first Greater b e = absurd cc
 
--- what the comparison of numbers answers, and what holds
+-- what the comparison of numbers returns, and what holds
 pub compared : (a b : ℕ) (r : Ordering) → r ≡ nat_cmp a b → MatchOrdering r (a < b) (a ≡ b) (b < a)
 compared a b r e = elim (less_or_not a b) [
   | inl lt ↦ rw (e ∙ sym (nat_cmp_is a b Less lt)) lt
@@ -83,7 +83,7 @@ equal_is Less e = absurd cc
 equal_is Equal e = refl
 equal_is Greater e = absurd cc
 
--- a list that is sorted and then holds nothing twice
+-- a list that is sorted, and then has no element twice
 pub ordered_once : (E : Pending → Pending → Bool) → IsEquivalence E → ((x y : Pending) → E x y ≡ eq_by_cmp pending.cmp-value.it x y) → (list sorted ordered : List Pending) → IsPermutation list sorted → IsSorted pending.cmp-value.it sorted → IsFiltered (DiffersFromLast E) [] sorted ordered
     → IsInOrder list ordered
 ordered_once E equivalent ties list sorted ordered moved rises filtered = rw (dedup_is E sorted ordered filtered) (record {

@@ -1,4 +1,4 @@
--- What a run's logs have in place, up to one of them.
+-- The logs of a run stay in place, up to one of them.
 use Rattle.std.proofs.Common.{◌≡◌, ℕ, ◌+◌, ◌<◌, ◌≤◌, inl, inr, List, [], length, slice_get, Some, refl, arith}
 use Rattle.std.proofs.lemmas.Option.{slice_get_within}
 use Rattle.totem_ids.specs.declared.place.Place.{Place}
@@ -7,7 +7,7 @@ use Rattle.totem_evs.specs.Changes.{StaysInPlace}
 use Rattle.totem_evs.proofs.LogOf.{log_of_cases, less_or_not}
 use Rattle.totem_run_rules.specs.Orderly.{AllStayInPlace}
 
--- the logs before the k-th stay in place
+-- the logs before the one at k stay in place
 pub record PlacedBefore (run : List Log) (k : ℕ) : Type 0 where
   pub each : (j : ℕ) (log : Log) → j < k → slice_get run j ≡ Some log → StaysInPlace log.entries
 

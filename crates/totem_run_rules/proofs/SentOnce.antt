@@ -77,7 +77,7 @@ module _ (run : List Log) where
   abbrev FirstIn : ℕ → ℕ → Entry → Type 0
   FirstIn p i e = HoldsIn (λ i at _ f. IsFirstSend run i at f) run p i e
 
-  -- of two sends of one message neither comes first
+  -- of two sends of one message neither is first
   not_before : (p i q j : ℕ) (m : MsgId) (x y : ConfId) (e f : Entry) → IsSend e m x → IsSend f m y → (h : FirstIn p i e) (g : FirstIn q j f)
       → (h.index < g.index) ⊎ ((h.index ≡ g.index) × (i < j)) → ⊥
   not_before p i q j m x y e f a b h g past = ((g.holds.first m y b).each h.index i h.log e past h.log_is h.entry_is).not x a

@@ -40,7 +40,7 @@ same_message_or_not m n = elim (same_ring_or_not m.ring n.ring) [
   ]
 ]
 
--- among the entries before n one has the fact, or none
+-- one of the entries before n has the fact, or none has
 pub record NoneHas (log : List Entry) (P : ℕ → Entry → Type 0) (n : ℕ) : Type 0 where
   pub none : (i : ℕ) (e : Entry) → i < n → slice_get log i ≡ Some e → P i e → ⊥
 
@@ -182,7 +182,7 @@ send_or_not log m d q j (Send n (Transitional x l) s) = inr (λ h. h)
 send_or_not log m d q j (Deliver n x) = inr (λ h. h)
 send_or_not log m d q j (Fail x) = inr (λ h. h)
 
--- of the logs one has the fact, or none
+-- one of the logs has the fact, or none has
 some_log_or_none : (Q : ℕ → Type 0) → ((p : ℕ) → Q p ⊎ (Q p → ⊥)) → (logs : List Log) → ((p : ℕ) × Q p) ⊎ ((k : ℕ) (l : Log) → slice_get logs k ≡ Some l → Q l.proc → ⊥)
 some_log_or_none Q decide [] = inr (λ k l at h. cc)
 some_log_or_none Q decide (l ∷ logs) = elim (decide l.proc) [

@@ -38,7 +38,7 @@ change_within log i x (ms, h) = slice_get_within log i (Conf x ms) h
 pub same_change : (log : List Entry) (i j : ℕ) (x y : ConfId) → i ≡ j → ChangesTo log i x → ChangesTo log j y → x ≡ y
 same_change log i j x y e (ms, h) (ns, k) = let at : slice_get log j ≡ Some (Conf x ms) = rw e at h in cc
 
--- where the last change before an entry is the one at a, the entry stands before the next one
+-- if the last change before an entry is the one at a, the entry is before the next change
 before_next : (log : List Entry) (a b i : ℕ) (x : ConfId) → IsNextOrEnd log a b → Names log i x → (s : StandsIn log i x) → s.from ≡ a → i < b
 before_next log a b i x next names s same = elim (less_or_not i b) [
   | inl lt ↦ lt
@@ -119,7 +119,7 @@ end_within log c from turn end bounds = elim (turn_or_end log c from turn end bo
   | inr past ↦ omega (arith, past.0, past.1)
 ]
 
--- where a change follows the change to c, or the stay goes on after it
+-- if a change follows the change to c, or the stay continues after it
 has_turn : (log : List Entry) (c : RingId) (from turn end : ℕ) → Bounds log c from turn end → turn < end → turn < length log
 has_turn log c from turn end bounds lt = elim (turn_or_end log c from turn end bounds) [ inl within ↦ within | inr past ↦ absurd (omega (arith, past.1)) ]
 
@@ -216,7 +216,7 @@ ends_here log c from turn end rules bounds is_end = go (get_or log (end - 1) (Fa
     go (Send m x s) at = opens (Send m x s) at (λ y e. cc)
     go (Deliver m x) at = opens (Deliver m x) at (λ y e. cc)
 
--- before the end of its log a stay ends at a change, which neither a failure nor the end of the log comes before
+-- before the end of its log a stay ends at a change, and neither a failure nor the end of the log is before that
 goes_on : (log : List Entry) (c : RingId) (from turn end : ℕ) → KeepsRules log → Bounds log c from turn end → end < length log → FailedIn log c ⊎ StaysIn log c → ⊥
 goes_on log c from turn end rules bounds below = go
   where

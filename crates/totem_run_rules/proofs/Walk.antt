@@ -1,4 +1,4 @@
--- The walk along a log that looks for what stands out of place.
+-- The walk along a log that looks for an entry out of place.
 use Rattle.std.proofs.Common.{◌≡◌, ℕ, ◌+◌, ◌<◌, ◌≤◌, inl, inr, List, length, slice_get, Option, Some, None, Bool, true, false, MatchOption, IsTrue, ◌↔◌, refl, sym, ◌∙◌, ap, arith, below_more}
 use Rattle.std.proofs.lemmas.Option.{slice_get_within}
 use Rattle.totem_ids.specs.declared.conf.ConfId.{ConfId}
@@ -23,7 +23,7 @@ pub record Knows (log : List Entry) (i : ℕ) (standing : Option ConfId) (failed
 same_change : (log : List Entry) (i j : ℕ) (x y : ConfId) → i ≡ j → ChangesTo log i x → ChangesTo log j y → x ≡ y
 same_change log i j x y e (ms, h) (ns, k) = let at : slice_get log j ≡ Some (Conf x ms) = rw e at h in cc
 
--- a log stands in one configuration at a time
+-- a log is in one configuration at a time
 pub one_standing : (log : List Entry) (i : ℕ) (x y : ConfId) → StandsIn log i x → StandsIn log i y → x ≡ y
 one_standing log i x y a b =
     elim (less_or_not a.from b.from) [
@@ -48,7 +48,7 @@ no_change log i (Send m z s) x h n (y, (ms, k)) = cc
 no_change log i (Deliver m z) x h n (y, (ms, k)) = cc
 no_change log i (Fail z) x h n (y, (ms, k)) = cc
 
--- an entry that names the configuration in which the log stands leaves it there
+-- an entry that names the configuration that the log is in leaves it there
 keeps : (log : List Entry) (i : ℕ) (standing : Option ConfId) → (IsChange log i → ⊥)
     → MatchOption standing ((k : ℕ) → k < i → IsChange log k → ⊥) (λ x. StandsIn log i x)
     → MatchOption standing ((k : ℕ) → k < i + 1 → IsChange log k → ⊥) (λ x. StandsIn log (i + 1) x)
@@ -68,7 +68,7 @@ in_standing : (log : List Entry) (i : ℕ) (standing : Option ConfId) (x : ConfI
 in_standing log i None x e stands = absurd cc
 in_standing log i (Some y) x e stands = let same : y ≡ x = cc in rw same at stands
 
--- an entry that is no change and names where the log stands
+-- an entry that is no change and names the configuration that the log is in
 goes_on_named : (log : List Entry) (i : ℕ) (standing : Option ConfId) (e : Entry) (x : ConfId) (failed : Bool) → slice_get log i ≡ Some e → NamesOnly e x → standing ≡ Some x
     → (failed ≡ true → Fails log i x) → (failed ≡ false → (y : ConfId) → Fails log i y → ⊥) → Knows log i standing false → Knows log (i + 1) standing failed
 goes_on_named log i standing e x failed h n fits is_fail no_fail so_far =
@@ -137,13 +137,13 @@ goes_on log i standing (Deliver m x) false h fits fails so_far = goes_on_named l
 goes_on log i standing (Fail x) true h fits fails so_far = goes_on_named log i standing (Fail x) x true h refl fits (λ f. h) (λ f. absurd cc) so_far
 goes_on log i standing (Fail x) false h fits fails so_far = let never = fails.1 tt in absurd cc
 
--- nothing before stands out of place
+-- no entry before is out of place
 pub placed : (log : List Entry) (i : ℕ) (standing : Option ConfId) (failed : Bool) → Knows log i standing failed → (k : ℕ) → k < i → IsMisplaced log k → ⊥
 placed log i standing failed so_far k lt (within, inl (zero, never)) = never (rw zero (so_far.begins (omega arith)))
 placed log i standing failed so_far k lt (within, inr (inl (x, names, never))) = never (so_far.named k x lt names)
 placed log i standing failed so_far k lt (within, inr (inr (j, x, before, fails))) = so_far.final j k x fails before lt
 
--- an entry that doesn't fit stands out of place, and so does one after a failure
+-- an entry that doesn't fit is out of place, and so is one after a failure
 pub after_failure : (log : List Entry) (i : ℕ) (standing : Option ConfId) → i < length log → Knows log i standing true → IsMisplaced log i
 after_failure log i standing lt so_far = (lt, inr (inr (so_far.failure refl)))
 

@@ -1,4 +1,4 @@
--- Who waits, log by log.
+-- Which processes wait, log by log.
 use Rattle.std.proofs.Common.{◌≡◌, ◌⊎◌, ◌↔◌, ◌+◌, ◌<◌, ◌≤◌, ℕ, inl, inr, List, [], ◌∷◌, ◌++◌, length, slice_get, Some, false, IsTrue, refl, sym, arith}
 use Rattle.std.specs.Prelude.{AllPairs, Contains}
 use Rattle.std.proofs.lemmas.Option.{slice_get_within, slice_get_read, get_or_from_slice_get}
@@ -30,7 +30,7 @@ no_log run p x none = (λ t. absurd cc, λ h. go (log_of_cases run p) h)
 
 -- ---- for whom one process waits
 
--- members rise by identifier, so as processes do
+-- members are ascending by identifier, and so as processes too
 pub members_rise : (ms : List ℕ) → AllPairs IsBelow ms → AllPairs (λ a b. a < b) ms
 members_rise ms rises = λ i j d lt within. (below_is_less _ _).0 (inl (rises i j d lt within))
 
@@ -40,7 +40,7 @@ pairs_at ms j n a b rises lt at_j at_n = (let h = rises j n a lt (slice_get_with
 contains_at : (ms : List ℕ) (j q : ℕ) → slice_get ms j ≡ Some q → Contains ms q
 contains_at ms j q at = (j, slice_get_within ms j q at, get_or_from_slice_get ms j q q at)
 
--- for whom p waits among the first n members
+-- the first n members for which p waits
 pub record WaitsAmong (run : List Log) (p : ℕ) (x : ConfId) (ms : List ℕ) (n : ℕ) (list : List Waiting) : Type 0 where
   pub rising : AllPairs WaitingBelow list
   pub sound : (w : Waiting) → Contains list w → (w.proc ≡ p) × (w.conf ≡ x) × (EndsIn (log_of run w.other) x → ⊥) × ((j : ℕ) × (j < n) × (slice_get ms j ≡ Some w.other))

@@ -15,7 +15,7 @@ pub record HasFailed (log : List Entry) : Type 0 where
   pub conf : ConfId
   pub fails : Fails log index conf
 
--- the log has no failure, and its last change stands at i
+-- the log has no failure, and its last change is at i
 pub record StandsAtEnd (log : List Entry) (i : ℕ) : Type 0 where
   pub goes_on : NeverFails log
   pub change : IsChange log i
@@ -25,17 +25,17 @@ pub record StandsAtEnd (log : List Entry) (i : ℕ) : Type 0 where
 pub record EndsNowhere (log : List Entry) : Type 0 where
   pub never : (x : ConfId) → EndsIn log x → ⊥
 
--- the log's last change stands here, or the log ends in no configuration
+-- the log's last change is at this index, or the log ends in no configuration
 abbrev pub IsEnd : List Entry → Option ℕ → Type 0
 IsEnd log (Some i) = StandsAtEnd log i
 IsEnd log None = EndsNowhere log
 
--- so ends each log of the run
+-- each log of the run ends in this way
 pub record AreEnds (run : List Log) (ends : List (Option ℕ)) : Type 0 where
   pub many : length ends ≡ length run
   pub each : (k : ℕ) (log : Log) (last : Option ℕ) → slice_get run k ≡ Some log → slice_get ends k ≡ Some last → IsEnd log.entries last
 
--- for whom p waits, in ascending order
+-- the processes for which p waits, in ascending order
 pub record AreWaitingAt (run : List Log) (p : ℕ) (list : List Waiting) : Type 0 where
   pub rising : AllPairs WaitingBelow list
   pub exact : (w : Waiting) → Contains list w ↔ (IsWaiting run w.proc w.conf w.other × (w.proc ≡ p))

@@ -1,4 +1,4 @@
--- Where logs end, and who ends there too (docs/SPECIFICATIONS.md, "2 Changes of configuration").
+-- Where logs end, and which members end there too (docs/SPECIFICATIONS.md, "2 Changes of configuration").
 use Rattle.std.specs.Prelude.{◌≡◌, ◌↔◌, ◌⊎◌, ℕ, ◌<◌, List, length, slice_get, Option, None, Some, IsTrue, Contains}
 use Rattle.totem_ids.specs.declared.conf.ConfId.{ConfId}
 use Rattle.totem_evs.specs.declared.entry.Entry.{Entry}
@@ -30,22 +30,22 @@ pub record GoesOn (log : List Entry) : Type 0 where
 pub record HasNoChange (log : List Entry) : Type 0 where
   pub none : (k : ℕ) → IsChange log k → ⊥
 
--- the last change of the log stands at i
+-- the last change of the log is at i
 pub record StandsLast (log : List Entry) (i : ℕ) : Type 0 where
   pub change : IsChange log i
   pub none_after : (k : ℕ) → i < k → IsChange log k → ⊥
 
--- the last change of the log stands here, or it has none
+-- the last change of the log is at this index, or it has none
 abbrev pub IsLast : List Entry → Option ℕ → Type 0
 IsLast log None = HasNoChange log
 IsLast log (Some i) = StandsLast log i
 
--- so ends the log
+-- the log ends in this way
 pub record IsLogEnd (log : List Entry) (end : LogEnd) : Type 0 where
   pub goes_on : IsTrue end.goes_on ↔ GoesOn log
   pub last : IsLast log end.last
 
--- so ends each log of the run
+-- each log of the run ends in this way
 pub record AreLogEnds (run : List Log) (ends : List LogEnd) : Type 0 where
   pub many : length ends ≡ length run
   pub each : (k : ℕ) (log : Log) (end : LogEnd) → slice_get run k ≡ Some log → slice_get ends k ≡ Some end → IsLogEnd log.entries end
@@ -55,7 +55,7 @@ pub record MayCome (log : Log) (x : ConfId) : Type 0 where
   pub loud : log.ending ≡ Quiet → ⊥
   pub never : NeverChangesTo log.entries x
 
--- the log has no failure, and its last change is to x, or it may still come there
+-- the log has no failure, and its last change is to x or its process may still arrive there
 pub record LogShares (log : Log) (x : ConfId) : Type 0 where
   pub goes_on : GoesOn log.entries
   pub ends : LastChange log.entries x ⊎ MayCome log x
@@ -70,17 +70,17 @@ pub record IsLogOf (run : List Log) (p k : ℕ) : Type 0 where
 pub record HasNoLog (run : List Log) (p : ℕ) : Type 0 where
   pub none : HasLog run p → ⊥
 
--- each of these members ends in x, or may still come there
+-- each of these members ends in x, or may still arrive there
 pub record AllShare (run : List Log) (x : ConfId) (members : List ℕ) : Type 0 where
   pub each : (q : ℕ) → Contains members q → SharesEnd run x q
 
--- one of them does neither
+-- one of these members does neither
 pub record SomeStrays (run : List Log) (x : ConfId) (members : List ℕ) : Type 0 where
   pub member : ℕ
   pub among : Contains members member
   pub strays : SharesEnd run x member → ⊥
 
--- the last change of the log stands at i, and one of its members does neither
+-- the last change of the log is at i, and one of its members neither ends there nor may still arrive
 pub record StraysAt (run : List Log) (log : List Entry) (i : ℕ) : Type 0 where
   pub conf : ConfId
   pub members : List ℕ

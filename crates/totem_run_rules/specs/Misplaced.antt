@@ -4,14 +4,14 @@ use Rattle.totem_ids.specs.declared.conf.ConfId.{ConfId}
 use Rattle.totem_evs.specs.declared.entry.Entry.{Entry}
 use Rattle.totem_evs.specs.declared.entry.Entry.TheVariants.{Conf, Send, Deliver, Fail}
 
--- the entry is a change, or names the configuration in which it stands
+-- the entry is a change, or names the configuration that the log is in
 abbrev pub Fits : Option ConfId → Entry → Type 0
 Fits standing (Conf x members) = Unit {0}
 Fits standing (Send m x service) = standing ≡ Some x
 Fits standing (Deliver m x) = standing ≡ Some x
 Fits standing (Fail x) = standing ≡ Some x
 
--- the configuration in which the log stands after the entry
+-- the configuration that the log is in after the entry
 abbrev pub standing_after : Option ConfId → Entry → Option ConfId
 standing_after standing (Conf x members) = Some x
 standing_after standing (Send m x service) = standing

@@ -1,4 +1,4 @@
--- What the judge asks of a run before its configurations (docs/SPECIFICATIONS.md, "1 Basic delivery",
+-- What the judge requires of a run before its configurations (docs/SPECIFICATIONS.md, "1 Basic delivery",
 -- "2 Changes of configuration").
 use Rattle.std.specs.Prelude.{◌≡◌, ℕ, List, Contains}
 use Rattle.totem_ids.specs.declared.conf.ConfId.{ConfId}
@@ -18,7 +18,7 @@ pub record SendsAreOnce (run : List Log) : Type 0 where
 pub record AllStayInPlace (run : List Log) : Type 0 where
   pub each : (p : ℕ) → StaysInPlace (log_of run p)
 
--- 2.3: one list of members, and who changes is one of them; 2.4
+-- 2.3: one list of members, and a process that changes is one of them; 2.4
 pub record ChangesAgree (run : List Log) : Type 0 where
   pub members : (p i q j : ℕ) (x : ConfId) (ms ns : List ℕ) → ChangesWith (log_of run p) i x ms → ChangesWith (log_of run q) j x ns → ms ≡ ns
   pub own : (p i : ℕ) (x : ConfId) (ms : List ℕ) → ChangesWith (log_of run p) i x ms → Contains ms p

@@ -1,4 +1,4 @@
--- The messages whose sends were met (docs/SPECIFICATIONS.md, "1 Basic delivery").
+-- The messages whose sends are known (docs/SPECIFICATIONS.md, "1 Basic delivery").
 use Rattle.std.specs.Prelude.{◌≡◌, ℕ, true, false, Bool, List}
 use Rattle.std.specs.declared.cmp.Ordering.{Ordering}
 use Rattle.std.specs.BTreeSet.{BTreeSet}
@@ -16,7 +16,7 @@ use Rattle.totem_run_rules.specs.Past.{EachPast}
 abbrev pub message_order : MsgId → MsgId → Ordering
 message_order = (Rattle.totem_ids.specs.contracts.message.MsgIdOrd.TheImpl.cmp-value).it
 
--- whether the message is among these
+-- whether the message is in the set
 abbrev pub has : BTreeSet MsgId → MsgId → Bool
 has sent m = sorted.contains message_order sent m
 
@@ -24,7 +24,7 @@ has sent m = sorted.contains message_order sent m
 abbrev pub IsSend : Entry → MsgId → ConfId → Type 0
 IsSend e m x = (service : Service) × (e ≡ Send m x service)
 
--- the entry has been met: the message that it sends was new
+-- the entry was noted: if it sends a message, the message was new and now is in the set
 pub record IsNoted (old new : BTreeSet MsgId) (e : Entry) : Type 0 where
   pub kept : (m : MsgId) → has old m ≡ true → has new m ≡ true
   pub fresh : (m : MsgId) (x : ConfId) → IsSend e m x → has old m ≡ false

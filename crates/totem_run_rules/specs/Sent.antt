@@ -1,4 +1,4 @@
--- 1.3, as it is searched: the sends for a delivery (docs/SPECIFICATIONS.md, "1 Basic delivery").
+-- 1.3 in the form of a search: the sends for a delivery (docs/SPECIFICATIONS.md, "1 Basic delivery").
 use Rattle.std.specs.Prelude.{◌≡◌, ℕ, List}
 use Rattle.totem_ids.specs.declared.conf.ConfId.{ConfId}
 use Rattle.totem_ids.specs.declared.conf.ConfId.TheVariants.{Regular, Transitional}

@@ -1,4 +1,4 @@
--- The part of a log that stands in one regular configuration and in what follows it (docs/SPECIFICATIONS.md, "Following").
+-- The part of a log that is in one regular configuration and in what follows it (docs/SPECIFICATIONS.md, "Following").
 use Rattle.std.specs.Prelude.{◌≡◌, ◌⊎◌, ℕ, ◌<◌, ◌≤◌, List, length}
 use Rattle.totem_ids.specs.declared.ring.RingId.{RingId}
 use Rattle.totem_ids.specs.declared.conf.ConfId.{ConfId}
@@ -8,7 +8,7 @@ use Rattle.totem_evs.specs.Events.{IsChange, ChangesTo}
 use Rattle.totem_evs.specs.Changes.{Names}
 use Rattle.totem_evs.specs.Following.{IsNextChange, IsNextOrEnd, Follows, Com, FailedIn, StaysIn}
 
--- from i on the next change stands at j, and the one after that at k; where there is no next one, k is j
+-- from i on, the next change is at j, and the one after that at k; if there is no next one, k is j
 pub record AreNextTwo (log : List Entry) (i j k : ℕ) : Type 0 where
   pub first : IsNextOrEnd log i j
   pub second : j < length log → IsNextOrEnd log j k
@@ -19,21 +19,21 @@ pub record Bounds (log : List Entry) (c : RingId) (from turn end : ℕ) : Type 0
   pub change : ChangesTo log from (Regular c)
   pub two : AreNextTwo log from turn end
 
--- what follows c in the log, at the change at `turn`
+-- the change at `turn` is to the configuration that follows c in the log
 pub record TurnsAt (log : List Entry) (c : RingId) (turn : ℕ) : Type 0 where
   pub conf : ConfId
   pub change : ChangesTo log turn conf
   pub follows : Follows log c conf
 
--- the log changes to c at `from` and to what follows it at `turn`, and its entries up to `end` are those that stand in
--- these two; where nothing follows, `turn` is `end`
+-- the log changes to c at `from` and to what follows it at `turn`, and its entries up to `end` are those in these two
+-- configurations; if nothing follows, `turn` is `end`
 pub record IsStay (log : List Entry) (c : RingId) (from turn end : ℕ) : Type 0 where
   pub before : from < turn
   pub until : turn ≤ end
   pub within : end ≤ length log
   pub change : ChangesTo log from (Regular c)
   pub turns : turn < end → TurnsAt log c turn
-  -- what stands in c or in what follows it stands here, and the other way round
+  -- the entries here are exactly those in c and in what follows it
   pub here : (i : ℕ) (d : ConfId) → Names log i d → Com log c d → (from < i) × (i < end)
   pub regular : (i : ℕ) (d : ConfId) → from < i → i < turn → Names log i d → d ≡ Regular c
   pub following : (i : ℕ) (d : ConfId) → turn < i → i < end → Names log i d → Follows log c d
@@ -41,6 +41,6 @@ pub record IsStay (log : List Entry) (c : RingId) (from turn end : ℕ) : Type 0
   -- the next change after that to c, and the one after what follows it
   pub next : turn < length log → (turn < end) × IsNextChange log from turn
   pub last : turn < end → end < length log → IsNextChange log turn end
-  -- it goes up to the end of the log where the process failed in these two or the log stays there
+  -- the stay reaches the end of the log if and only if the process failed in these two or the log stays there
   pub ends : end ≡ length log → FailedIn log c ⊎ StaysIn log c
   pub goes_on : end < length log → FailedIn log c ⊎ StaysIn log c → ⊥

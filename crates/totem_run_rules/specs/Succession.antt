@@ -1,9 +1,9 @@
--- Which change may come next after which (docs/SPECIFICATIONS.md, "2 Changes of configuration").
+-- Which change may follow which (docs/SPECIFICATIONS.md, "2 Changes of configuration").
 use Rattle.std.specs.Prelude.{◌≢◌, ◌⊎◌, ℕ, List, All, Contains}
 use Rattle.totem_ids.specs.declared.conf.ConfId.{ConfId}
 use Rattle.totem_ids.specs.declared.conf.ConfId.TheVariants.{Regular, Transitional}
 
--- the second of these may not come next after the first
+-- the second of these changes may not be the next after the first
 abbrev pub IsWrongSuccession : ConfId → List ℕ → ConfId → List ℕ → Type 0
 IsWrongSuccession (Regular c) ms (Regular d) ns = Unit {0}
 IsWrongSuccession (Regular c) ms (Transitional next least) ns = All (Contains ms) ns → ⊥

@@ -1,5 +1,5 @@
-//! 2.3 and 2.4: each configuration has one list of members, to which who changes belongs, and regular and transitional ones
-//! take turns (docs/SPECIFICATIONS.md, "2 Changes of configuration").
+//! 2.3 and 2.4: each configuration has one list of members, in which each process that changes to it is, and regular and
+//! transitional ones alternate (docs/SPECIFICATIONS.md, "2 Changes of configuration").
 ghost use Rattle.std.specs.Prelude.{◌≡◌, ◌+◌, ◌<◌, IfOk, IfSome, length};
 ghost use Rattle.std.specs.Bool.{OnTrue};
 ghost use Rattle.std.specs.Result.{OnOk};
@@ -13,14 +13,14 @@ use std::collections::BTreeMap;
 use totem_evs::{Entry, Log, Members};
 use totem_ids::{ConfId, RingId};
 
-/// The first change to a configuration that was met.
+/// The first change to a configuration, in the order in which changes are entered.
 #[derive(Clone, Copy)]
 pub struct FirstChange {
     /// Its log, by index.
     pub log: usize,
     /// Its index in the log.
     pub at: usize,
-    /// The ring from which the log comes to the configuration. A regular one is its own.
+    /// The ring from which the log comes to the configuration; for a regular configuration, its own ring.
     pub from: RingId,
 }
 
@@ -36,7 +36,7 @@ fn origin(before: &ConfId, conf: &ConfId) -> Option<RingId>
 }
 
 /// Returns the ring from which a log comes to this configuration after the change at `before`, or as its first one. Returns
-/// `None` where it may not come there so.
+/// `None` if it may not come there in this way.
 fn came_from(
     log: &[Entry],
     before: Option<usize>,
@@ -100,7 +100,7 @@ fn put(
     Ok(())
 }
 
-/// Meets a change to a configuration. Returns whether it has the members and the origin of the first one to it.
+/// Compares a change with the first one to its configuration, or notes it as the first. Returns whether members and origin agree.
 fn meet(
     firsts: &mut BTreeMap<ConfId, FirstChange>,
     logs: &[Log],
@@ -119,7 +119,7 @@ fn meet(
     Ok(first.from == change.from && has_members(logs, &first, members))
 }
 
-/// Enters the change at this index of a log, after the one at `before`. Returns whether it may stand there.
+/// Enters the change at this index of a log, after the one at `before`. Returns whether it is allowed there.
 fn enter(
     firsts: &mut BTreeMap<ConfId, FirstChange>,
     logs: &[Log],
@@ -151,7 +151,7 @@ fn enter(
     meet(firsts, logs, conf, members, change)
 }
 
-/// Enters the changes of one log, where those of the logs before it are known. Returns whether each may stand where it does.
+/// Enters the changes of one log, after those of the logs before it. Returns whether each is allowed where it is.
 fn enter_log(
     firsts: &mut BTreeMap<ConfId, FirstChange>,
     logs: &[Log],
@@ -175,7 +175,7 @@ fn enter_log(
     Ok(true)
 }
 
-/// Returns `true` only where the changes of a run meet the specifications, but for changes of one log to one configuration.
+/// Returns `true` only if the changes of a run meet the specifications. Does not look for two changes of one log to one configuration.
 pub fn changes_agree(alloc: Global, logs: &[Log]) -> Result<bool, AllocError>
     ensures { IfOk result (λ ok. OnTrue ok (ChangesAgree logs.now)) }
 {

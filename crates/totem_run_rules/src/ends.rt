@@ -1,6 +1,6 @@
-//! 2.1: where a quiet log ends, each member ends too or may still come (docs/SPECIFICATIONS.md, "2 Changes of configuration").
+//! 2.1: where a quiet log ends, each member ends too or may still arrive (docs/SPECIFICATIONS.md, "2 Changes of configuration").
 //!
-//! Where no log is quiet, nothing is read but how the logs end. Else each log is walked once for a failure, and once from its
+//! If no log is quiet, only the endings of the logs are read. Otherwise each log is walked once for a failure, and once from its
 //! end back to its last change. A log is walked again, once for each quiet log whose last configuration has its process as a
 //! member, only if it is not quiet itself and its own last change is to another configuration.
 ghost use Rattle.std.specs.Prelude.{◌≡◌, ◌↔◌, IsTrue, IfSome, IfNone, IfOk, MatchOption, [], ◌∷◌};
@@ -27,7 +27,7 @@ fn is_quiet(log: &Log) -> bool
     matches!(log.ending, Ending::Quiet)
 }
 
-/// Returns whether a run has a quiet log. Where it has none, it meets 2.1.
+/// Returns whether a run has a quiet log. If it has none, it meets 2.1.
 fn has_quiet(run: &Run) -> bool
     ensures { OnFalse result (EndsTogether run.now.logs) }
 {
@@ -39,7 +39,7 @@ fn has_quiet(run: &Run) -> bool
     false
 }
 
-/// Returns whether a log has no failure. One may stand anywhere.
+/// Returns whether a log has no failure, at its end or elsewhere.
 fn goes_on(log: &[Entry]) -> bool
     ensures { IsTrue result ↔ GoesOn log.now }
 {
@@ -110,14 +110,14 @@ pub fn ends_in(log: &[Entry], last: Option<usize>, conf: &ConfId) -> bool
     is_change_to(&log[at], conf)
 }
 
-/// Returns whether the process of a log may still come to the configuration: the log is not quiet, and never changes to it.
+/// Returns whether the process of a log may still arrive in the configuration: the log is not quiet, and never changes to it.
 fn may_come(log: &Log, conf: &ConfId) -> bool
     ensures { IsTrue result ↔ MayCome log.now conf.now }
 {
     !is_quiet(log) && never_changes_to(log.entries.as_slice(), conf)
 }
 
-/// Returns whether a log ends in the configuration, or its process may still come to it.
+/// Returns whether a log ends in the configuration, or its process may still arrive there.
 fn shares(log: &Log, end: &LogEnd, conf: &ConfId) -> bool
     requires { IsLogEnd log.now.entries end.now }
     ensures { IsTrue result ↔ LogShares log.now conf.now }
@@ -138,7 +138,7 @@ pub fn index_of(run: &Run, proc: Proc) -> Option<usize>
     None
 }
 
-/// Returns whether this process has a log that ends in the configuration, or from which it may still come to it.
+/// Returns whether this process has a log that ends in the configuration, or after which it may still arrive there.
 fn shares_end(run: &Run, ends: &[LogEnd], conf: &ConfId, proc: Proc) -> bool
     requires { AreLogEnds run.now.logs ends.now }
     ensures { IsTrue result ↔ SharesEnd run.now.logs conf.now proc }
@@ -149,7 +149,7 @@ fn shares_end(run: &Run, ends: &[LogEnd], conf: &ConfId, proc: Proc) -> bool
     }
 }
 
-/// Returns whether all these members end in the configuration, or may still come to it.
+/// Returns whether all these members end in the configuration, or may still arrive there.
 fn all_share(run: &Run, ends: &[LogEnd], conf: &ConfId, members: &[Proc]) -> bool
     requires { AreLogEnds run.now.logs ends.now }
     ensures all { OnTrue result (AllShare run.now.logs conf.now members.now) }
@@ -225,7 +225,7 @@ pub fn first_end_alone(alloc: Global, run: &Run) -> Result<Option<Place>, AllocE
     Ok(first_of(run, &ends))
 }
 
-/// Returns `true` only where the run meets the specification.
+/// Returns `true` only if the run meets the specification.
 pub fn end_together(alloc: Global, run: &Run) -> Result<bool, AllocError>
     ensures { IfOk result (λ ok. OnTrue ok (EndsTogether run.now.logs)) }
 {

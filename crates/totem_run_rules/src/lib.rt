@@ -1,4 +1,4 @@
-//! The rules of the judge for a whole run: what specifications 1.4 and 2 ask of it, and who waits for whom.
+//! The rules of the judge for a whole run: what specifications 1.4 and 2 require of it, and which processes wait for which.
 #![tactic(auto)]
 
 mod changes;

@@ -1,4 +1,4 @@
-//! 2.2: each entry stands where it may (docs/SPECIFICATIONS.md, "2 Changes of configuration").
+//! 2.2: each entry is where it is allowed (docs/SPECIFICATIONS.md, "2 Changes of configuration").
 ghost use Rattle.std.specs.Prelude.{◌≡◌, ℕ, ◌<◌, ◌↔◌, IsTrue, IfSome, IfNone, Some};
 ghost use Rattle.std.specs.Bool.{OnTrue};
 ghost use Rattle.totem_evs.specs.Changes.{StaysInPlace};
@@ -29,7 +29,7 @@ fn fits(standing: &Option<ConfId>, entry: &Entry) -> bool
     }
 }
 
-/// Goes past an entry. Only a change is written: it alone moves the log to another configuration.
+/// Moves past an entry. Only a change writes to `standing`, since it alone moves the log to another configuration.
 fn go_past(standing: &mut Option<ConfId>, entry: &Entry)
     ensures { standing.new ≡ standing_after standing.old entry.now }
 {
@@ -38,7 +38,7 @@ fn go_past(standing: &mut Option<ConfId>, entry: &Entry)
     }
 }
 
-/// Returns the index of the first entry of a log that stands out of place.
+/// Returns the index of the first entry of a log that is out of place.
 pub fn first_misplaced(log: &[Entry]) -> Option<usize>
     ensures found { IfSome result (λ i. IsMisplaced log.now i) }
     ensures least { IfSome result (λ i. (k : ℕ) → k < i → IsMisplaced log.now k → ⊥) }
@@ -57,7 +57,7 @@ pub fn first_misplaced(log: &[Entry]) -> Option<usize>
     None
 }
 
-/// Returns `true` only where the run meets the specification.
+/// Returns `true` only if the run meets the specification.
 pub fn all_stay_in_place(logs: &[Log]) -> bool
     ensures { OnTrue result (AllStayInPlace logs.now) }
 {

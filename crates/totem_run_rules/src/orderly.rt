@@ -10,7 +10,7 @@ use crate::sends::sends_are_once;
 use std::alloc::{AllocError, Global};
 use totem_evs::Run;
 
-/// Returns `true` only where a run that has a certificate meets the specifications.
+/// Returns `true` only if the run meets the specifications, provided that it has a certificate.
 #[tactic(auto, using(crate::proofs::Orderliness::orderly))]
 pub fn is_orderly(alloc: Global, run: &Run) -> Result<bool, AllocError>
     requires { HasCertificate run.now.logs }

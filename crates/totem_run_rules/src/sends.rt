@@ -20,7 +20,7 @@ fn note(sent: &mut BTreeSet<MsgId>, entry: &Entry) -> Result<bool, AllocError>
     }
 }
 
-/// Notes the sends of one log, where those of the logs before it are known. Returns whether each may stand.
+/// Notes the sends of one log, after those of the logs before it. Returns whether each is allowed.
 fn note_log(sent: &mut BTreeSet<MsgId>, logs: &[Log], index: usize) -> Result<bool, AllocError>
     requires within { index < length logs.now }
     requires known { KnowsSends logs.now sent.old index 0 }
@@ -35,7 +35,7 @@ fn note_log(sent: &mut BTreeSet<MsgId>, logs: &[Log], index: usize) -> Result<bo
     Ok(true)
 }
 
-/// Returns `true` only where the sends of a run meet the specification.
+/// Returns `true` only if the sends of a run meet the specification.
 pub fn sends_are_once(alloc: Global, logs: &[Log]) -> Result<bool, AllocError>
     ensures { IfOk result (λ ok. OnTrue ok (SendsAreOnce logs.now)) }
 {

@@ -10,7 +10,7 @@ use crate::ends;
 use totem_evs::Entry;
 use totem_ids::ConfId;
 
-/// Returns whether the log has a failure, which can stand only at its end.
+/// Returns whether the log has a failure, which can only be at its end.
 pub fn has_failed(log: &[Entry]) -> bool
     requires { StaysInPlace log.now }
     ensures failed { OnTrue result (HasFailed log.now) }
@@ -22,7 +22,7 @@ pub fn has_failed(log: &[Entry]) -> bool
     matches!(&log[log.len() - 1], Entry::Fail(_))
 }
 
-/// The index of the last change of a log that has no failure.
+/// Returns the index of the last change of a log that has no failure.
 pub fn standing_change(log: &[Entry]) -> Option<usize>
     requires { StaysInPlace log.now }
     ensures { IsEnd log.now result }

@@ -1,4 +1,4 @@
-//! Which change comes next, and which may (docs/SPECIFICATIONS.md, "2 Changes of configuration").
+//! Which change follows, and which may (docs/SPECIFICATIONS.md, "2 Changes of configuration").
 ghost use Rattle.std.specs.Prelude.{◌↔◌, ◌<◌, All, Contains, IsTrue, length};
 ghost use Rattle.totem_evs.specs.Following.{IsNextOrEnd};
 ghost use Rattle.totem_run_rules.specs.Succession.{IsWrongSuccession};
@@ -17,7 +17,7 @@ fn contains_all(members: &Members, others: &Members) -> bool
     true
 }
 
-/// Returns whether the second change may not come next after the first.
+/// Returns whether the second change may not be the next after the first.
 pub fn is_wrong(conf: &ConfId, members: &Members, next: &ConfId, next_members: &Members) -> bool
     ensures { IsTrue result ↔ IsWrongSuccession conf.now members.now next.now next_members.now }
 {
@@ -30,7 +30,7 @@ pub fn is_wrong(conf: &ConfId, members: &Members, next: &ConfId, next_members: &
     }
 }
 
-/// Returns the index of the next change, or the length of the log where none follows, entry by entry.
+/// Returns the index of the next change, or the length of the log if none follows. Looks at entry after entry.
 pub fn walk_to_change(log: &[Entry], at: usize) -> usize
     requires { at < length log.now }
     ensures { IsNextOrEnd log.now at result }

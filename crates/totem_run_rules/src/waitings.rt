@@ -1,4 +1,4 @@
-//! What is left open: who waits, and for whom; and what is pending, in order (docs/SPECIFICATIONS.md, "Pending and waiting").
+//! What is left open: which processes wait, and for which; and what is pending, in order (docs/SPECIFICATIONS.md, "Pending and waiting").
 ghost use Rattle.std.specs.Prelude.{◌≡◌, ◌↔◌, IsTrue, IfOk};
 ghost use Rattle.totem_evs.specs.Events.{log_of};
 ghost use Rattle.totem_evs.specs.Unsettled.{EndsIn, AreWaiting};
@@ -11,7 +11,7 @@ use std::alloc::{AllocError, Global};
 use totem_evs::{Entry, Pending, Run, Waiting};
 use totem_ids::{ConfId, Proc};
 
-/// The index of the last change of each log, but for those that have a failure.
+/// Returns the index of the last change of each log that has no failure, and `None` for the others.
 fn last_changes(alloc: Global, run: &Run) -> Result<Vec<Option<usize>>, AllocError>
     requires { IsOrderly run.now.logs }
     ensures { IfOk result (λ ends. AreEnds run.now.logs ends.items) }
@@ -36,7 +36,7 @@ fn is_there(run: &Run, ends: &[Option<usize>], proc: Proc, conf: &ConfId) -> boo
     ends_in(log.entries.as_slice(), ends[k], conf)
 }
 
-/// For whom this process waits, whose entries these are.
+/// Returns the members for which this process, which has these entries, waits.
 fn waiting_of(
     alloc: Global,
     run: &Run,
@@ -68,7 +68,7 @@ fn waiting_of(
     Ok(list)
 }
 
-/// Returns who waits in a run, and for whom: by process and then by the other process.
+/// Returns which processes of a run wait, and for which, ordered by process and then by the other process.
 pub fn waiting(alloc: Global, run: &Run) -> Result<Vec<Waiting>, AllocError>
     requires { IsOrderly run.now.logs }
     ensures { IfOk result (λ list. AreWaiting run.now.logs list.items) }
@@ -84,7 +84,7 @@ pub fn waiting(alloc: Global, run: &Run) -> Result<Vec<Waiting>, AllocError>
     Ok(list)
 }
 
-/// Returns the elements of the list in their order, each once.
+/// Returns the elements of the list in ascending order, each once.
 pub fn in_order(mut list: Vec<Pending>) -> Result<Vec<Pending>, AllocError>
     ensures { IfOk result (λ ordered. IsInOrder list.items ordered.items) }
 {
