@@ -24,7 +24,7 @@ come_met traffic clean = record {
   met = λ run c meets is. record { each = λ m p i q safe delivers member. come run c traffic clean is q member };
 }
 
--- a safe message is delivered by none in c
+-- no process delivers a safe message in c
 never : (run : List Log) (c : RingId) (traffic : Traffic) → All IsNotSafeThere traffic.got.items → IsTrafficOf run c traffic
     → (m : MsgId) (p i : ℕ) → IsSafe run m → Delivers (log_of run p) i m (Regular c) → ⊥
 never run c traffic clean is m p i safe delivers =

@@ -35,7 +35,7 @@ index_of_send run e m x (service, here) = go e.at refl here
     go zero is h = absurd cc
     go (suc i) is h = record { index = i; at = omega arith; sends = (service, h) }
 
--- what the rules of 5 ask
+-- what the rules of 5 require
 pub record IsCausallyClean (traffic : Traffic) : Type 0 where
   pub fewer : AreFewerTo traffic.sent.items (length traffic.sent.items)
   pub in_order : AreInOrderTo traffic.got.items (length traffic.got.items)
@@ -49,7 +49,7 @@ module _ (run : List Log) (c : RingId) (traffic : Traffic) (meets : MeetsPasses 
       let here : Sends (log_of run sent.proc) sent.at n (Regular c) = subst (λ (k : MsgId). Sends (log_of run sent.proc) sent.at k (Regular c)) b.message sent.sends in
       subst (λ (q : ℕ). IsLogAt run b.sent.sender q) (meets.once.one_send sent.proc sent.at p i n (Regular c) (Regular c) here sends).0 sent.sender
 
-  -- where r delivers both, and the earlier one stands first, it is delivered first
+  -- if r delivers both, and the earlier one is first in the list, it is delivered first
   delivers_first : (m n : MsgId) (r j : ℕ) → (b : HasGot traffic.sent.items traffic.got.items n) → DeliversIn (log_of run r) c n j → HasDelivered (log_of run r) c m
       → ((a : HasGot traffic.sent.items traffic.got.items m) → a.at < b.at) → (i : ℕ) × (i < j) × DeliversIn (log_of run r) c m i
   delivers_first m n r j b second (i, first) stands =
@@ -96,7 +96,7 @@ module _ (run : List Log) (c : RingId) (traffic : Traffic) (meets : MeetsPasses 
 
   -- ---- messages that the sender delivered
 
-  -- m stands before n's send
+  -- m is before n's send
   stands_before : (m n : MsgId) (p h i : ℕ) → Delivers (log_of run p) h m (Regular c) → Sends (log_of run p) i n (Regular c) → h < i
       → (b : HasGot traffic.sent.items traffic.got.items n) (a : HasGot traffic.sent.items traffic.got.items m) → a.at < b.sent.before
   stands_before m n p h i one other lt b a = is.heard.each a.at b.got.sent a.got a.sent b.sent p h i a.stands a.of b.of (rw (sym a.message) at one) (rw (sym b.message) at other) lt

@@ -1,4 +1,4 @@
--- What the traffic of a configuration tells of the logs.
+-- What the traffic of a configuration says about the logs.
 use Rattle.std.proofs.Common.{◌≡◌, ◌⊎◌, inl, inr, ℕ, ◌<◌, List, [], slice_get, Some, refl, sym, ◌∙◌, ap, subst, arith}
 use Rattle.std.specs.Prelude.{◌↔◌, IsTrue, All}
 use Rattle.std.proofs.lemmas.Option.{slice_get_within, get_or_from_slice_get}
@@ -24,11 +24,11 @@ use Rattle.totem_configuration_rules.specs.Traffics.{IsLogAt, AreLogsOf, Deliver
 use Rattle.totem_configuration_rules.specs.Clean.{IsBy}
 use Rattle.totem_configuration_rules.proofs.Sets.{has_or_not}
 
--- what holds of all holds of each
+-- what holds for all holds for each
 pub all_at : {X : Type 0} (P : X → Type 0) (xs : List X) (k : ℕ) (x : X) → All P xs → slice_get xs k ≡ Some x → P x
 all_at P xs k x all at = rw (get_or_from_slice_get xs k x x at) at (all k x (slice_get_within xs k x at))
 
--- who has an entry has a log
+-- a process that has an entry has a log
 pub has_log : (run : List Log) (p i : ℕ) (x : Entry) → slice_get (log_of run p) i ≡ Some x → (index : ℕ) × IsLogAt run index p
 has_log run p i x at = elim (log_of_cases run p) [
   | inl none ↦ absurd (empty (rw none at at))
@@ -46,7 +46,7 @@ one_log run j k p rising a b = elim (less_or_not j k) [
   | inr (inr same) ↦ same
 ]
 
--- what is known of the delivery of m
+-- what is known about the delivery of m
 pub record IsGotOf (run : List Log) (c : RingId) (m : MsgId) (got : Got) : Type 0 where
   pub safe : IsTrue got.safe ↔ IsSafe run m
   pub regular : AreLogsOf run got.regular (λ p. (i : ℕ) × Delivers (log_of run p) i m (Regular c))
@@ -61,7 +61,7 @@ got_of run c traffic is m has =
     let same : got.sent.message ≡ m = ap (λ (s : Sent). s.message) (one_sent traffic.sent.items has.got.sent got.sent has.sent got.of has.of) ∙ has.message in
     subst (λ (n : MsgId). IsGotOf run c n has.got) same (record { safe = got.safe; regular = got.regular; transitional = got.transitional })
 
--- ---- who delivers
+-- ---- which logs deliver
 
 -- a run has few logs
 pub small : (run : List Log) (index p : ℕ) → IsRun run → IsLogAt run index p → index < 32
@@ -76,7 +76,7 @@ by_or_not got log = elim (has_or_not got.regular log) [
   ]
 ]
 
--- who delivers m is among those by whom it is delivered
+-- a process that delivers m is among those that the traffic has for m
 pub is_by : (run : List Log) (c : RingId) (m : MsgId) (got : Got) (index p i : ℕ) → IsGotOf run c m got → IsLogAt run index p → DeliversIn (log_of run p) c m i → IsBy got index
 is_by run c m got index p i known log (d, delivers, inl there) = inl ((known.regular.exact index p log).1 (i, rw there at delivers))
 is_by run c m got index p i known log (d, delivers, inr follows) = inr ((known.transitional.exact index p log).1 (i, d, delivers, follows))
@@ -89,7 +89,7 @@ by_delivers run c m got index p known log (inr behind) =
 of_standing : (log : List Entry) (i : ℕ) (c : RingId) (d : ConfId) → d ≡ Regular c → StandsIn log i d → (j : ℕ) × ChangesTo log j (Regular c)
 of_standing log i c d there stands = (stands.from, rw there at stands.change)
 
--- who delivers in c, or in what follows it, has changed to c
+-- a process that delivers in c, or in what follows it, has changed to c
 pub comes : (run : List Log) (c : RingId) (m : MsgId) (p i : ℕ) → MeetsPasses run → DeliversIn (log_of run p) c m i → (j : ℕ) × ChangesTo (log_of run p) j (Regular c)
 comes run c m p i meets (d, delivers, inl there) = of_standing (log_of run p) i c d there (delivered_in run p i m d meets delivers)
 comes run c m p i meets (d, delivers, inr follows) = (follows.from, follows.first.change)
@@ -98,11 +98,11 @@ pub in_logs : (run : List Log) (c : RingId) (traffic : Traffic) (m : MsgId) (ind
     → DeliversIn (log_of run p) c m i → Has traffic.logs index
 in_logs run c traffic m index p i meets is log delivers = (is.logs.exact index p log).1 (comes run c m p i meets delivers)
 
--- the log of who delivers
+-- the log of a process that delivers
 pub log_of_delivery : (run : List Log) (c : RingId) (m : MsgId) (p i : ℕ) → DeliversIn (log_of run p) c m i → (index : ℕ) × IsLogAt run index p
 log_of_delivery run c m p i (d, delivers, stays) = has_log run p i (Deliver m d) delivers
 
--- the list tells the sender
+-- the list has the sender
 pub sender_of : (run : List Log) (c : RingId) (traffic : Traffic) (m : MsgId) (p i : ℕ) (x : ConfId) → MeetsPasses run → IsTrafficOf run c traffic
     → (has : HasGot traffic.sent.items traffic.got.items m) → Sends (log_of run p) i m x → IsLogAt run has.got.sender p
 sender_of run c traffic m p i x meets is has sends =
@@ -113,7 +113,7 @@ sender_of run c traffic m p i x meets is has sends =
     let index : has.got.sender ≡ has.sent.sender = got.sender ∙ ap (λ (s : Sent). s.sender) (one_sent traffic.sent.items has.got.sent got.sent has.sent got.of has.of) in
     subst (λ (k : ℕ). IsLogAt run k p) (sym index) (subst (λ (q : ℕ). IsLogAt run has.sent.sender q) same sent.sender)
 
--- of two messages that a log delivers, the first one stands first
+-- of two messages that a log delivers, the first one is first in the list
 pub stands_first : (run : List Log) (c : RingId) (traffic : Traffic) (m n : MsgId) (p i j : ℕ) → IsTrafficOf run c traffic
     → (a : HasGot traffic.sent.items traffic.got.items m) (b : HasGot traffic.sent.items traffic.got.items n)
     → DeliversIn (log_of run p) c m i → DeliversIn (log_of run p) c n j → (i < j) ↔ (a.at < b.at)

@@ -33,7 +33,7 @@ module _ (run : List Log) (c : RingId) (traffic : Traffic) (meets : MeetsPasses 
       other : (index : ℕ) × IsLogAt run index q
       other = has_log run q k (Deliver n d) delivers
 
-      -- who lacks the earlier message does not deliver the later one
+      -- a log that lacks the earlier message does not deliver the later one
       apart : HasNoGap traffic.logs traffic.following.items a.got b.got
       apart = clean.each a.at b.at a.got b.got ((stands_first run c traffic m n p i j is a b first second).0 lt)
           (slice_get_within traffic.got.items b.at b.got b.stands) a.stands b.stands

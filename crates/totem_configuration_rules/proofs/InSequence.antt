@@ -20,7 +20,7 @@ same_or_not a b = elim (less_or_not a b) [
 
 -- ---- fewer and fewer
 
--- of each sender the list has who delivers its last message
+-- for each sender, the list has the logs that deliver its last message
 pub record FewerSoFar (sents : List Sent) (n : ℕ) (last : List LogSet) : Type 0 where
   pub long : length last ≡ 32
   pub clean : AreFewerTo sents n
@@ -31,7 +31,7 @@ fewer_none sents last long = record { long = long; clean = record { each = λ j 
 
 module _ (sents : List Sent) (n : ℕ) (last : List LogSet) (t : Sent) (d₀ : LogSet) (at : slice_get sents n ≡ Some t) (few : t.sender < 32)
     (within : IsWithin t.by (slice_index_or last t.sender d₀)) (so_far : FewerSoFar sents n last) where
-  -- who delivers it delivers what its sender sent before
+  -- a log that delivers it delivers what its sender sent before
   within_earlier : (j : ℕ) (s : Sent) → j < n → slice_get sents j ≡ Some s → s.sender ≡ t.sender → IsWithin t.by s.by
   within_earlier j s lt at_j same = record {
     each = λ log has.
@@ -72,7 +72,7 @@ module _ (sents : List Sent) (n : ℕ) (last : List LogSet) (t : Sent) (d₀ : L
 
 -- ---- in the order sent
 
--- the set has the senders of which a message has come, and the list the index of the last one of each
+-- the set has the senders with a message so far, and the list has the index of the last one of each
 pub record OrderSoFar (gots : List Got) (n : ℕ) (begun : LogSet) (last : List ℕ) : Type 0 where
   pub long : length last ≡ 32
   pub clean : AreInOrderTo gots n
@@ -90,7 +90,7 @@ order_none gots begun last long = record {
 module _ (gots : List Got) (n : ℕ) (begun new : LogSet) (last : List ℕ) (b : Got) (at : slice_get gots n ≡ Some b) (few : b.sender < 32)
     (fresh : (Has begun b.sender → ⊥) ⊎ (slice_index last b.sender < b.sent)) (here : Has new b.sender) (others : (log : ℕ) → log ≢ b.sender → Has new log ↔ Has begun log)
     (so_far : OrderSoFar gots n begun last) where
-  -- what the sender sent before has come before
+  -- what the sender sent before is before
   below : (j : ℕ) (a : Got) → j < n → slice_get gots j ≡ Some a → a.sender ≡ b.sender → a.sent < b.sent
   below j a lt at_j same = elim fresh [
     | inl never ↦ absurd (never (rw same at (so_far.has j a lt at_j)))

@@ -20,7 +20,7 @@ read_at xs i x within is = slice_get-get_or xs i x within ∙ ap Some (sym is)
 pub one_at : {X : Type 0} (xs : List X) (i : ℕ) (x y : X) → slice_get xs i ≡ Some x → slice_get xs i ≡ Some y → x ≡ y
 one_at xs i x y a b = cc
 
--- what holds of the first ones, and of the next, holds of these
+-- what holds for the first elements and for the next one holds for all of them
 pub before_or_at : (k n : ℕ) → k < n + 1 → (k < n) ⊎ (k ≡ n)
 before_or_at k n lt = elim (less_or_not k n) [ inl under ↦ inl under | inr (inl over) ↦ absurd (omega arith) | inr (inr same) ↦ inr same ]
 
@@ -68,7 +68,7 @@ apart_row rows by others n here apart = record {
   ];
 }
 
--- ---- who lacks a message
+-- ---- which logs lack a message
 
 pub lacks_none : (logs : LogSet) (gots : List Got) (rows : Rows) → LacksTo logs gots 0 rows
 lacks_none logs gots rows = record { each = λ k got lt at log other few by lacks. absurd (omega arith) }
@@ -136,7 +136,7 @@ no_gaps_none logs list gots = record { each = λ j k a b before lt at_j at_k. ab
 pub lacks_behind_none : (logs : LogSet) (list : List Following) (gots : List Got) (rows : Rows) → LacksBehindTo logs list gots 0 rows
 lacks_behind_none logs list gots rows = record { each = λ k got lt at log other few by lacks behind. absurd (omega arith) }
 
--- ---- who stands after
+-- ---- which logs are after
 
 pub behind_none : (list : List Following) (sender : ℕ) (logs : LogSet) → HasAllBehind list sender 0 logs
 behind_none list sender logs = record { each = λ k f other lt at member has. absurd (omega arith) }
@@ -160,7 +160,7 @@ behind_next list sender n d old new within keeps here has =
 pub causal_none : (logs : LogSet) (gots : List Got) (sents : List Sent) → AreCausalTo logs gots sents 0
 causal_none logs gots sents = record { each = λ k sent lt at. absurd (omega arith) }
 
--- no row of the sender has one that delivers it
+-- the row of the sender has no log that delivers it
 pub causal_more : (logs : LogSet) (gots : List Got) (sents : List Sent) (n taken : ℕ) (sent : Sent) (rows : Rows) → slice_get sents n ≡ Some sent → sent.sender < 32
     → LacksTo logs gots taken rows → (sent.before ≤ taken) ⊎ (taken ≡ length gots) → RowIsApart rows sent.sender sent.by → AreCausalTo logs gots sents n → AreCausalTo logs gots sents (n + 1)
 causal_more logs gots sents n taken sent rows at few lacks until apart clean = record {

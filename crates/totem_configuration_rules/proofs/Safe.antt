@@ -19,7 +19,7 @@ use Rattle.totem_configuration_rules.specs.Clean.{AreAllAmong, IsSafeBehind, Rea
 use Rattle.totem_configuration_rules.proofs.Facts.{all_at, has_log, IsGotOf, got_of}
 
 module _ (run : List Log) (c : RingId) (traffic : Traffic) (is : IsTrafficOf run c traffic) where
-  -- whom the message reaches delivers it, or has ended
+  -- a process that the message reaches delivers it, or has ended
   of_log : (m : MsgId) (got : Got) → IsGotOf run c m got → (q index : ℕ) → IsLogAt run index q
       → (Has got.regular index ⊎ Has got.transitional index) ⊎ Has traffic.ended index → DeliversOrEnds run q c m
   of_log m got known q index log (inl (inl there)) =
@@ -28,7 +28,7 @@ module _ (run : List Log) (c : RingId) (traffic : Traffic) (is : IsTrafficOf run
       let at = (known.transitional.exact index q log).0 behind in inl (at.0, (at.1, at.2, inr at.3))
   of_log m got known q index log (inr ended) = inr ((is.ended.exact index q log).0 ended)
 
-  -- so each member does
+  -- each member does so
   of_member : (m : MsgId) (got : Got) → IsGotOf run c m got → (r : ReachesAll traffic got) → (x : ConfId) (members : MemberLogs) → AreMembers run x members
       → AreAllAmong r.reached members → (q : ℕ) → IsMember run x q → DeliversOrEnds run q c m
   of_member m got known r x members are (all, within) q member =

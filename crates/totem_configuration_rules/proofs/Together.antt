@@ -29,7 +29,7 @@ one_change : (log : List Entry) (i : ℕ) (x y : ConfId) → ChangesTo log i x �
 one_change log i x y (ms, at) (ns, also) = cc
 
 module _ (run : List Log) (c : RingId) (meets : MeetsPasses run) where
-  -- what comes next after c follows it
+  -- the next configuration after c follows it
   next_follows : (p : ℕ) (d : ConfId) → Goes (log_of run p) (Regular c) d → Follows (log_of run p) c d
   next_follows p d (i, j, change, next, to) = record {
     from = i;
@@ -74,15 +74,15 @@ module _ (run : List Log) (c : RingId) (meets : MeetsPasses run) where
               let e : Regular c ≡ Regular r = one_change (log_of run q) g.from (Regular c) (Regular r) (rw from at h.first.change) g.first.change in
               cc
 
--- ---- who goes on together
+-- ---- which processes go on together
 
--- of a group that meets a set each is in it
+-- if a group that is in a set all or none meets it, each of the group is in it
 each_of : (group set : LogSet) (j k : ℕ) → IsWhole group set → Has group j → Has group k → Has set j → Has set k
 each_of group set j k (inl apart) at_j at_k has = absurd (apart.none j at_j has)
 each_of group set j k (inr within) at_j at_k has = within.each k at_k
 
 module _ (run : List Log) (c : RingId) (traffic : Traffic) (meets : MeetsPasses run) (is : IsTrafficOf run c traffic) (clean : AllBefore (IsAtomic traffic.following.items) traffic.got.items (length traffic.got.items)) where
-  -- who changes has a log
+  -- a process that changes has a log
   log_of_change : (p : ℕ) (x d : ConfId) → Goes (log_of run p) x d → (index : ℕ) × IsLogAt run index p
   log_of_change p x d (i, j, (ms, at), next, to) = has_log run p i (Conf x ms) at
 

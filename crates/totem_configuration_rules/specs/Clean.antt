@@ -1,4 +1,4 @@
--- What the rules ask of the traffic of a configuration, and what it shows of the run.
+-- What the rules require of the traffic of a configuration, and what that shows for the run.
 use Rattle.std.specs.Prelude.{◌≡◌, ◌⊎◌, ℕ, ◌<◌, true, IsTrue, List, slice_get, Some, All}
 use Rattle.totem_ids.specs.declared.ring.RingId.{RingId}
 use Rattle.totem_evs.specs.declared.log.Log.{Log}
@@ -21,7 +21,7 @@ use Rattle.totem_configuration_rules.specs.Lacking.{RowHas}
 pub record Shows (k : SpecNo) (traffic : Traffic) : Type 0 where
   pub met : (run : List Log) (c : RingId) → MeetsPasses run → IsTrafficOf run c traffic → MeetsIn run c k
 
--- the run meets 3, 4, 5 in one hop, 6.3, 7.1 and 7.2 in c
+-- the run meets 3, 4, 5 (for pairs in one log), 6.3, 7.1 and 7.2 in c
 pub record AgreesIn (run : List Log) (c : RingId) : Type 0 where
   pub own : MeetsIn run c spec.OwnDelivery
   pub atomicity : MeetsIn run c spec.Atomicity
@@ -34,7 +34,7 @@ pub record AgreesIn (run : List Log) (c : RingId) : Type 0 where
 pub record ShowsAgreement (traffic : Traffic) : Type 0 where
   pub met : (run : List Log) (c : RingId) → MeetsPasses run → IsTrafficOf run c traffic → AgreesIn run c
 
--- 3: the sender delivers it, or has ended
+-- 3: the sender delivers the message, or has ended
 abbrev pub IsOwned : LogSet → Sent → Type 0
 IsOwned ended sent = Has sent.by sent.sender ⊎ Has ended sent.sender
 
@@ -42,26 +42,26 @@ IsOwned ended sent = Has sent.by sent.sender ⊎ Has ended sent.sender
 abbrev pub AllHaveCome : Traffic → Type 0
 AllHaveCome traffic = IsTrue traffic.members.all × IsWithin traffic.members.logs traffic.logs
 
--- a safe message is delivered by none in the configuration itself
+-- if the message is safe, no process delivers it in the configuration itself
 abbrev pub IsNotSafeThere : Got → Type 0
 IsNotSafeThere got = (got.safe ≡ true) → IsEmpty got.regular
 
--- each member has a log, which is one of these
+-- each member has a log, and the log is in the set
 abbrev pub AreAllAmong : LogSet → MemberLogs → Type 0
 AreAllAmong logs members = IsTrue members.all × IsWithin members.logs logs
 
--- none of these delivers it after c in this configuration, or it reaches all its members
+-- no log delivers the message in this configuration, which follows c, or it reaches all its members
 abbrev pub IsSafeBehind : LogSet → LogSet → Following → Type 0
 IsSafeBehind behind reached following = AreApart following.logs behind ⊎ AreAllAmong reached following.members
 
--- 7.1: if the message is a safe one, it reaches these, which deliver it or have ended
+-- 7.1: if the message is safe, it reaches the members: their logs deliver it or have ended
 pub record ReachesAll (traffic : Traffic) (got : Got) : Type 0 where
   pub reached : LogSet
   pub deliver : (log : ℕ) → Has reached log → (Has got.regular log ⊎ Has got.transitional log) ⊎ Has traffic.ended log
   pub there : got.safe ≡ true → IsEmpty got.regular ⊎ AreAllAmong reached traffic.members
   pub behind : got.safe ≡ true → All (IsSafeBehind got.transitional reached) traffic.following.items
 
--- each of the first messages is so
+-- this holds for each of the first messages
 pub record AllBefore (Holds : Got → Type 0) (gots : List Got) (end : ℕ) : Type 0 where
   pub each : (k : ℕ) (got : Got) → k < end → slice_get gots k ≡ Some got → Holds got
 
@@ -69,7 +69,7 @@ pub record AllBefore (Holds : Got → Type 0) (gots : List Got) (end : ℕ) : Ty
 abbrev pub IsWhole : LogSet → LogSet → Type 0
 IsWhole group set = AreApart group set ⊎ IsWithin group set
 
--- who goes on together delivers the message together
+-- processes that move on together deliver the message all or none
 abbrev pub IsTogether : Got → Following → Type 0
 IsTogether got following = IsWhole following.logs got.regular × IsWhole following.left got.transitional
 
@@ -79,7 +79,7 @@ IsAtomic list got = All (IsTogether got) list
 
 -- ---- what logs lack
 
--- the log delivers it
+-- the log delivers the message
 abbrev pub IsBy : Got → ℕ → Type 0
 IsBy got log = Has got.regular log ⊎ Has got.transitional log
 
@@ -87,11 +87,11 @@ IsBy got log = Has got.regular log ⊎ Has got.transitional log
 abbrev pub IsLacking : LogSet → Got → ℕ → Type 0
 IsLacking logs got other = Has logs other × (IsBy got other → ⊥)
 
--- the rows have who lacks one of the first messages, for each log that delivers it
+-- for each log that delivers one of the first messages, its row has the logs that lack the message
 pub record LacksTo (logs : LogSet) (gots : List Got) (end : ℕ) (rows : Rows) : Type 0 where
   pub each : (k : ℕ) (got : Got) → k < end → slice_get gots k ≡ Some got → (log other : ℕ) → log < 32 → IsBy got log → IsLacking logs got other → RowHas rows log other
 
--- a configuration that follows in this log has the sender as a member
+-- a configuration that follows c in this log has the sender as a member
 pub record IsBehindWith (list : List Following) (sender other : ℕ) : Type 0 where
   pub at : ℕ
   pub following : Following
@@ -99,28 +99,28 @@ pub record IsBehindWith (list : List Following) (sender other : ℕ) : Type 0 wh
   pub member : Has following.members.logs sender
   pub log : Has following.logs other
 
--- the set has each such log, for the first ones of the list
+-- the set has each log in which one of the first configurations of the list follows and has the sender as a member
 pub record HasAllBehind (list : List Following) (sender end : ℕ) (logs : LogSet) : Type 0 where
   pub each : (k : ℕ) (following : Following) (other : ℕ) → k < end → slice_get list k ≡ Some following → Has following.members.logs sender → Has following.logs other → Has logs other
 
--- the rows have who lacks one of the first messages, of which the sender is a member of what follows
+-- the same, but only for logs in which a configuration follows that has the sender of the message as a member
 pub record LacksBehindTo (logs : LogSet) (list : List Following) (gots : List Got) (end : ℕ) (rows : Rows) : Type 0 where
   pub each : (k : ℕ) (got : Got) → k < end → slice_get gots k ≡ Some got → (log other : ℕ) → log < 32 → IsBy got log → IsLacking logs got other
       → IsBehindWith list got.sender other → RowHas rows log other
 
--- 6.3: who lacks the earlier message does not deliver the later one, where a log delivers both
+-- 6.3: if a log delivers both messages, a log that lacks the earlier one does not deliver the later one
 pub record HasNoGap (logs : LogSet) (list : List Following) (earlier later : Got) : Type 0 where
   pub there : (log other : ℕ) → log < 32 → IsBy earlier log → IsBy later log → IsLacking logs earlier other → Has later.regular other → ⊥
   pub behind : (log other : ℕ) → log < 32 → IsBy earlier log → IsBy later log → IsLacking logs earlier other → IsBehindWith list earlier.sender other
       → Has later.transitional other → ⊥
 
--- so for each two of the first messages
+-- this holds for each two of the first messages
 pub record NoGapsTo (logs : LogSet) (list : List Following) (gots : List Got) (end : ℕ) : Type 0 where
   pub each : (j k : ℕ) (a b : Got) → j < k → k < end → slice_get gots j ≡ Some a → slice_get gots k ≡ Some b → HasNoGap logs list a b
 
 -- ---- 5
 
--- of each two messages of one sender, who delivers the later one delivers the earlier one
+-- of each two messages of one sender, a log that delivers the later one delivers the earlier one
 pub record AreFewerTo (sents : List Sent) (end : ℕ) : Type 0 where
   pub each : (j k : ℕ) (s t : Sent) → j < k → k < end → slice_get sents j ≡ Some s → slice_get sents k ≡ Some t → s.sender ≡ t.sender → IsWithin t.by s.by
 
@@ -128,7 +128,7 @@ pub record AreFewerTo (sents : List Sent) (end : ℕ) : Type 0 where
 pub record AreInOrderTo (gots : List Got) (end : ℕ) : Type 0 where
   pub each : (j k : ℕ) (a b : Got) → j < k → k < end → slice_get gots j ≡ Some a → slice_get gots k ≡ Some b → a.sender ≡ b.sender → a.sent < b.sent
 
--- who lacks what the sender delivers before it sends the message does not deliver that
+-- a log that lacks a message that the sender delivers before it sends this one does not deliver this one
 pub record IsCausal (logs : LogSet) (gots : List Got) (sent : Sent) : Type 0 where
   pub each : (k : ℕ) (got : Got) (other : ℕ) → k < sent.before → slice_get gots k ≡ Some got → IsBy got sent.sender → IsLacking logs got other → Has sent.by other → ⊥
 

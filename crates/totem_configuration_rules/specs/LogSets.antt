@@ -14,7 +14,7 @@ pub record IsEmpty (set : LogSet) : Type 0 where
 pub record IsWithin (set other : LogSet) : Type 0 where
   pub each : (log : ℕ) → Has set log → Has other log
 
--- they have no log in common
+-- the sets have no log in common
 pub record AreApart (set other : LogSet) : Type 0 where
   pub none : (log : ℕ) → Has set log → Has other log → ⊥
 

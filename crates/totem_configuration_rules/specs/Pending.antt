@@ -27,10 +27,10 @@ pub record IsMissingTo (sents : List Sent) (end log : ℕ) (m : MsgId) : Type 0 
   pub message : sent.message ≡ m
   pub missing : Has sent.by log → ⊥
 
--- the list has gained what q's log does not deliver
+-- the messages that q's log does not deliver were added to the list
 pub record AddsMissing (sents : List Sent) (end log q : ℕ) (old new : List Pending) : Type 0 where
   pub exact : (x : Pending) → Contains new x ↔ (Contains old x ⊎ ((x.proc ≡ q) × IsMissingTo sents end log x.msg))
 
--- in each run with this traffic in c, the list has gained what is pending in c for q, whose log this is
+-- in each run with this traffic in c, what is pending in c for q, whose log this is, was added to the list
 pub record AddsPending (traffic : Traffic) (log q : ℕ) (old new : List Pending) : Type 0 where
   pub exact : (run : List Log) (c : RingId) → IsTrafficOf run c traffic → IsLogAt run log q → (x : Pending) → Contains new x ↔ (Contains old x ⊎ ((x.proc ≡ q) × IsPendingIn run c q x.msg))

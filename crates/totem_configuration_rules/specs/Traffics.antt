@@ -1,4 +1,4 @@
--- What is kept of a regular configuration c, and what it means.
+-- What is kept about a regular configuration c, and what it means.
 use Rattle.std.specs.Prelude.{◌≡◌, ◌⊎◌, ◌↔◌, ℕ, ◌<◌, ◌≤◌, IsTrue, List, slice_get, Some}
 use Rattle.totem_ids.specs.declared.ring.RingId.{RingId}
 use Rattle.totem_ids.specs.declared.conf.ConfId.{ConfId}
@@ -17,7 +17,7 @@ use Rattle.totem_configuration_rules.specs.declared.traffic.Following.{Following
 use Rattle.totem_configuration_rules.specs.declared.traffic.Traffic.{Traffic}
 use Rattle.totem_configuration_rules.specs.LogSets.{Has}
 
--- p's log stands at this index of the run
+-- p's log is at this index of the run
 pub record IsLogAt (run : List Log) (index p : ℕ) : Type 0 where
   pub log : Log
   pub stands : slice_get run index ≡ Some log
@@ -27,16 +27,16 @@ pub record IsLogAt (run : List Log) (index p : ℕ) : Type 0 where
 pub record AreLogsOf (run : List Log) (set : LogSet) (Holds : ℕ → Type 0) : Type 0 where
   pub exact : (index p : ℕ) → IsLogAt run index p → Has set index ↔ Holds p
 
--- they are the logs of x's members
+-- the logs are those of x's members
 pub record AreMembers (run : List Log) (x : ConfId) (members : MemberLogs) : Type 0 where
   pub logs : AreLogsOf run members.logs (IsMember run x)
   pub all : IsTrue members.all → (q : ℕ) → IsMember run x q → (index : ℕ) × IsLogAt run index q
 
--- who delivers m in what follows c
+-- p delivers m in the configuration that follows c
 abbrev pub DeliversBehind : List Log → RingId → MsgId → ℕ → Type 0
 DeliversBehind run c m p = (i : ℕ) × (d : ConfId) × Delivers (log_of run p) i m d × Follows (log_of run p) c d
 
--- a message that was sent in c, and by whom it is delivered
+-- a message that was sent in c, and the logs that deliver it
 pub record IsSentIn (run : List Log) (c : RingId) (sent : Sent) : Type 0 where
   pub proc : ℕ
   pub at : ℕ
@@ -44,11 +44,11 @@ pub record IsSentIn (run : List Log) (c : RingId) (sent : Sent) : Type 0 where
   pub sends : Sends (log_of run proc) at sent.message (Regular c)
   pub by : AreLogsOf run sent.by (λ p. HasDelivered (log_of run p) c sent.message)
 
--- the list of what was sent has this message there
+-- the message is this one of the list of what was sent
 abbrev pub IsOf : List Sent → Got → Sent → Type 0
 IsOf sents got sent = slice_get sents got.sent ≡ Some sent
 
--- a message that is delivered in c or in what follows it, and by whom in each of them
+-- a message that is delivered in c or in what follows it, and the logs that deliver it in each of the two
 pub record IsGotIn (run : List Log) (c : RingId) (sents : List Sent) (got : Got) : Type 0 where
   pub sent : Sent
   pub of : IsOf sents got sent
@@ -57,7 +57,7 @@ pub record IsGotIn (run : List Log) (c : RingId) (sents : List Sent) (got : Got)
   pub regular : AreLogsOf run got.regular (λ p. (i : ℕ) × Delivers (log_of run p) i sent.message (Regular c))
   pub transitional : AreLogsOf run got.transitional (DeliversBehind run c sent.message)
 
--- x follows c in these logs, and these of them go on from there
+-- the logs in which x follows c, and the logs that move on from x
 pub record IsFollowingAs (run : List Log) (c : RingId) (x : ConfId) (following : Following) : Type 0 where
   pub members : AreMembers run x following.members
   pub logs : AreLogsOf run following.logs (λ p. Follows (log_of run p) c x)
@@ -87,25 +87,25 @@ pub record HasFollowing (run : List Log) (c : RingId) (list : List Following) (x
   pub stands : slice_get list at ≡ Some following
   pub is : IsFollowingAs run c x following
 
--- ---- in which order
+-- ---- the order
 
--- what one log sends stands in its order
+-- what one log sends is in the order of the log
 pub record SentInOrder (run : List Log) (c : RingId) (sents : List Sent) : Type 0 where
   pub each : (j k : ℕ) (s t : Sent) (p h i : ℕ) → slice_get sents j ≡ Some s → slice_get sents k ≡ Some t
       → Sends (log_of run p) h s.message (Regular c) → Sends (log_of run p) i t.message (Regular c) → h < i → j < k
 
--- what one log delivers stands in its order
+-- what one log delivers is in the order of the log
 pub record GotInOrder (run : List Log) (c : RingId) (sents : List Sent) (gots : List Got) : Type 0 where
   pub each : (j k : ℕ) (a b : Got) (s t : Sent) (p h i : ℕ) → slice_get gots j ≡ Some a → slice_get gots k ≡ Some b
       → IsOf sents a s → IsOf sents b t → DeliversIn (log_of run p) c s.message h → DeliversIn (log_of run p) c t.message i
       → (h < i) ↔ (j < k)
 
--- what a log delivers before it sends a message is among those that stand before it
+-- what a log delivers in c before it sends a message counts as before the message
 pub record HeardBefore (run : List Log) (c : RingId) (sents : List Sent) (gots : List Got) : Type 0 where
   pub each : (j k : ℕ) (a : Got) (s t : Sent) (p h i : ℕ) → slice_get gots j ≡ Some a → IsOf sents a s → slice_get sents k ≡ Some t
       → Delivers (log_of run p) h s.message (Regular c) → Sends (log_of run p) i t.message (Regular c) → h < i → j < t.before
 
--- a message is delivered after those that stand before its send
+-- a message is delivered after those that count as before it
 pub record GotBehind (sents : List Sent) (gots : List Got) : Type 0 where
   pub each : (j : ℕ) (a : Got) (s : Sent) → slice_get gots j ≡ Some a → IsOf sents a s → s.before ≤ j
 

@@ -10,7 +10,7 @@ use crate::own::own_delivery_is_met;
 use crate::safety::safety_is_met;
 use crate::traffic::Traffic;
 
-/// Returns `true` only where the run meets specifications 3, 4, 5, 6.3, 7.1 and 7.2 in the configuration.
+/// Returns `true` only if the run meets specifications 3, 4, 5, 6.3, 7.1 and 7.2 in the configuration.
 #[tactic(auto, using(crate::proofs::Agreeing::agreed))]
 pub fn is_agreed(traffic: &Traffic) -> bool
     ensures { OnTrue result (ShowsAgreement traffic.now) }

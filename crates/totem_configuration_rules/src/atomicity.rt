@@ -1,4 +1,4 @@
-//! 4: who goes from one configuration to the next together delivers the same messages there
+//! 4: processes that go together from one configuration to the next deliver the same messages there
 //! (docs/SPECIFICATIONS.md, "4 Failure atomicity").
 ghost use Rattle.std.specs.Prelude.{◌⊎◌, ◌↔◌, IsTrue, All, length};
 ghost use Rattle.std.specs.Bool.{OnTrue};
@@ -9,14 +9,15 @@ use crate::log_set::LogSet;
 use crate::traffic::{Following, Got, Traffic};
 use totem_evs::SpecNo;
 
-/// Returns whether all of the group are in the set, or none.
+/// Returns whether all logs of the group are in the set, or none.
 fn is_whole(group: LogSet, set: LogSet) -> bool
     ensures { IsTrue result ↔ IsWhole group set }
 {
     group.is_apart(set) || group.is_within(set)
 }
 
-/// Returns whether those who go on from the configuration, or from this one that follows it, deliver the message all or none.
+/// Returns whether all or none of the logs that go on to this configuration deliver the message before it, and all or none of those
+/// that go on from it deliver the message in it.
 fn is_together(got: &Got, following: &Following) -> bool
     ensures { IsTrue result ↔ IsTogether got.now following.now }
 {
@@ -40,7 +41,7 @@ fn all_are_atomic(got: &[Got], list: &[Following]) -> bool
     true
 }
 
-/// Returns `true` only where the run meets the specification in the configuration.
+/// Returns `true` only if the run meets the specification in the configuration.
 #[tactic(auto, using(crate::proofs::Together::atomicity_met))]
 pub fn atomicity_is_met(traffic: &Traffic) -> bool
     ensures { OnTrue result (Shows SpecNo.Atomicity traffic.now) }

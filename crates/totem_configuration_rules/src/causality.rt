@@ -13,7 +13,7 @@ use totem_evs::SpecNo;
 fn are_fewer(sent: &[Sent]) -> bool
     ensures { OnTrue result (AreFewerTo sent.now (length sent.now)) }
 {
-    // By sender: who delivers its last message.
+    // By sender: the logs that deliver its last message.
     let mut last = [LogSet::all(); 32];
     for message in sent {
         let sender = message.sender as usize;
@@ -29,7 +29,7 @@ fn are_fewer(sent: &[Sent]) -> bool
 fn are_in_order(got: &[Got]) -> bool
     ensures { OnTrue result (AreInOrderTo got.now (length got.now)) }
 {
-    // By sender: whether a message of it has come, and the index of the last one.
+    // By sender: whether one of its messages was seen, and the index of the last one.
     let mut begun = LogSet::none();
     let mut last = [0; 32];
     for message in got {
@@ -43,8 +43,8 @@ fn are_in_order(got: &[Got]) -> bool
     true
 }
 
-/// Adds to the rows, which have who lacks one of the messages before `from`, who lacks one of those before `end`. Returns how many
-/// messages they have then.
+/// Adds the messages from `from` up to `end` to the rows: to the row of each log that delivers a message, the logs that lack it.
+/// Returns the number of messages that the rows have then.
 fn add_to(rows: &mut Rows, got: &[Got], logs: LogSet, from: usize, end: usize) -> usize
     requires within { from ≤ length got.now }
     requires before { LacksTo logs got.now from rows.old }
@@ -62,7 +62,7 @@ fn add_to(rows: &mut Rows, got: &[Got], logs: LogSet, from: usize, end: usize) -
     got.len()
 }
 
-/// Returns whether nobody who lacks what the sender delivers before it sends a message delivers that.
+/// Returns whether no log that lacks what a sender delivers before it sends a message delivers that message.
 fn are_causal(sent: &[Sent], got: &[Got], logs: LogSet) -> bool
     ensures { OnTrue result (AreCausalTo logs got.now sent.now (length sent.now)) }
 {
@@ -77,7 +77,7 @@ fn are_causal(sent: &[Sent], got: &[Got], logs: LogSet) -> bool
     true
 }
 
-/// Returns `true` only where the run meets the specification in the configuration.
+/// Returns `true` only if the run meets the specification in the configuration.
 #[tactic(auto, using(crate::proofs::Caused::causality_met))]
 pub fn causality_is_met(traffic: &Traffic) -> bool
     ensures { OnTrue result (Shows SpecNo.Causality traffic.now) }

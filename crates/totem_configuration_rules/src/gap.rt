@@ -1,4 +1,4 @@
-//! 6.3: who delivers a later message delivers the earlier one, if its sender is still there
+//! 6.3: a process that delivers a later message delivers the earlier one, if its sender is still a member
 //! (docs/SPECIFICATIONS.md, "6 Total order").
 ghost use Rattle.std.specs.Prelude.{◌<◌, length};
 ghost use Rattle.std.specs.Bool.{OnTrue};
@@ -10,7 +10,7 @@ use crate::rows::Rows;
 use crate::traffic::{Following, Got, Traffic};
 use totem_evs::SpecNo;
 
-/// Returns the set, with the logs of this configuration that follows if this log's process is a member of it.
+/// Adds to the set the logs in which this configuration follows, if the sender is a member of it.
 fn with_following(logs: LogSet, following: &Following, sender: u32) -> LogSet
     requires { sender < 32 }
     ensures kept { IsWithin logs result }
@@ -23,7 +23,7 @@ fn with_following(logs: LogSet, following: &Following, sender: u32) -> LogSet
     }
 }
 
-/// Returns the logs in which a configuration follows that has this one's process as a member.
+/// Returns the logs in which a configuration follows that has the sender as a member.
 fn behind_with(list: &[Following], sender: u32) -> LogSet
     requires { sender < 32 }
     ensures { HasAllBehind list.now sender (length list.now) result }
@@ -35,7 +35,7 @@ fn behind_with(list: &[Following], sender: u32) -> LogSet
     logs
 }
 
-/// Returns whether nobody who lacks a message delivers a later one, where its sender is still there.
+/// Returns whether no log that lacks a message delivers a later one where the sender is still a member.
 fn has_no_gaps(got: &[Got], logs: LogSet, following: &[Following]) -> bool
     ensures { OnTrue result (NoGapsTo logs following.now got.now (length got.now)) }
 {
@@ -57,7 +57,7 @@ fn has_no_gaps(got: &[Got], logs: LogSet, following: &[Following]) -> bool
     true
 }
 
-/// Returns `true` only where the run meets the specification in the configuration.
+/// Returns `true` only if the run meets the specification in the configuration.
 #[tactic(auto, using(crate::proofs::Gapless::gap_met))]
 pub fn no_gap_is_left(traffic: &Traffic) -> bool
     ensures { OnTrue result (Shows SpecNo.Gap traffic.now) }

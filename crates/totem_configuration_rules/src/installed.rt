@@ -13,7 +13,7 @@ fn all_have_come(traffic: &Traffic) -> bool
     traffic.members.all && traffic.members.logs.is_within(traffic.logs)
 }
 
-/// Returns whether the message is no safe one, or none delivers it in the regular configuration.
+/// Returns whether the message is not safe, or no log delivers it in the regular configuration.
 fn is_not_safe_there(got: &Got) -> bool
     ensures { IsTrue result ↔ IsNotSafeThere got.now }
 {
@@ -26,7 +26,7 @@ fn none_is_safe_there(traffic: &Traffic) -> bool
     traffic.got.iter().all(is_not_safe_there)
 }
 
-/// Returns `true` only where the run meets the specification in the configuration.
+/// Returns `true` only if the run meets the specification in the configuration.
 #[tactic(auto, using(crate::proofs::AllCome::come_met, crate::proofs::AllCome::none_met))]
 pub fn installed_is_met(traffic: &Traffic) -> bool
     ensures { OnTrue result (Shows SpecNo.Installed traffic.now) }

@@ -1,5 +1,5 @@
-//! The rules of the judge for one regular configuration and what follows it: what specifications 3 to 7 ask there, over the logs
-//! that deliver each message.
+//! The rules of the judge for one regular configuration and what follows it: what specifications 3 to 7 require there, in terms of
+//! the sets of logs that deliver each message.
 #![tactic(auto)]
 
 mod agreed;

@@ -7,21 +7,21 @@ pub const MOST: u32 = 32;
 /// A set of at most 32 logs.
 #[derive(Clone, Copy, Debug)]
 pub struct LogSet {
-    // Bit i stands for the log at index i.
+    // Bit i is set if the set has the log at index i.
     bits: u32,
 }
 
 impl LogSet {
     ghost use Rattle.totem_configuration_rules.specs.LogSets.{Has, IsWithin, AreApart, IsEmpty, IsLeast};
 
-    /// Returns the set of no log.
+    /// Returns the empty set.
     pub fn none() -> LogSet
         ensures { IsEmpty result }
     {
         LogSet { bits: 0 }
     }
 
-    /// Returns the set of all logs that there can be.
+    /// Returns the set of all indices that a log can have.
     pub fn all() -> LogSet
         ensures { (log : ℕ) → log < 32 → Has result log }
     {
@@ -71,7 +71,7 @@ impl LogSet {
         }
     }
 
-    /// Returns the logs of this set that the other has not.
+    /// Returns the logs of this set that are not in the other.
     pub fn minus(self, other: LogSet) -> LogSet
         ensures { (log : ℕ) → Has result log ↔ (Has self log × (Has other log → ⊥)) }
     {

@@ -1,4 +1,4 @@
-//! 3: who sends a message delivers it (docs/SPECIFICATIONS.md, "3 Self-delivery").
+//! 3: the sender of a message delivers it (docs/SPECIFICATIONS.md, "3 Self-delivery").
 ghost use Rattle.std.specs.Prelude.{◌↔◌, IsTrue, All};
 ghost use Rattle.std.specs.Bool.{OnTrue};
 ghost use Rattle.totem_configuration_rules.specs.Clean.{IsOwned, Shows};
@@ -7,7 +7,7 @@ use crate::log_set::LogSet;
 use crate::traffic::{Sent, Traffic};
 use totem_evs::SpecNo;
 
-/// Returns whether the sender delivers the message, or ends where it might.
+/// Returns whether the sender delivers the message, or ends where it could have done so.
 fn is_owned(sent: &Sent, ended: LogSet) -> bool
     ensures { IsTrue result ↔ IsOwned ended sent.now }
 {
@@ -21,7 +21,7 @@ fn all_are_owned(traffic: &Traffic) -> bool
     traffic.sent.iter().all(|sent| is_owned(sent, ended))
 }
 
-/// Returns `true` only where the run meets the specification in the configuration.
+/// Returns `true` only if the run meets the specification in the configuration.
 #[tactic(auto, using(crate::proofs::Owned::own_met))]
 pub fn own_delivery_is_met(traffic: &Traffic) -> bool
     ensures { OnTrue result (Shows SpecNo.OwnDelivery traffic.now) }

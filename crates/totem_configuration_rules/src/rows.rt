@@ -1,4 +1,4 @@
-//! Who lacks something that others have.
+//! Which logs lack something that others have.
 ghost use Rattle.std.specs.Prelude.{◌≡◌, ◌<◌, ℕ};
 ghost use Rattle.std.specs.Bool.{OnFalse};
 
@@ -14,14 +14,14 @@ impl Rows {
     ghost use Rattle.totem_configuration_rules.specs.LogSets.{Has};
     ghost use Rattle.totem_configuration_rules.specs.Lacking.{RowHas, RowIsApart, RowsAreApart, KeepsRows, AddsToRows};
 
-    /// Returns rows without logs.
+    /// Returns empty rows.
     pub fn new() -> Rows {
         Rows {
             rows: [LogSet::none(); 32],
         }
     }
 
-    /// Adds these logs to the row of this one.
+    /// Adds logs to the row of this log.
     fn add_to_row(&mut self, log: u32, lacking: LogSet)
         requires { log < 32 }
         ensures kept { KeepsRows self.old self.new }
@@ -31,7 +31,7 @@ impl Rows {
         self.rows[at] = self.rows[at].union(lacking);
     }
 
-    /// Notes that these logs have something which those lack.
+    /// Notes that the logs in `by` have something that those in `lacking` lack.
     pub fn add(&mut self, by: LogSet, lacking: LogSet)
         ensures kept { KeepsRows self.old self.new }
         ensures added { AddsToRows by lacking 32 self.new }
@@ -46,7 +46,7 @@ impl Rows {
         }
     }
 
-    /// Returns whether one of these logs lacks something that this one has. `false` is sure.
+    /// Returns whether one of the others may lack something that this log has. If it returns `false`, none does.
     pub fn row_meets(&self, log: u32, others: LogSet) -> bool
         requires { log < 32 }
         ensures { OnFalse result (RowIsApart self.now log others) }
@@ -54,7 +54,7 @@ impl Rows {
         !self.rows[log as usize].is_apart(others)
     }
 
-    /// Returns whether one of these logs lacks something that one of those has. `false` is sure.
+    /// Returns whether one of the others may lack something that a log in `by` has. If it returns `false`, none does.
     pub fn meet(&self, by: LogSet, others: LogSet) -> bool
         ensures { OnFalse result (RowsAreApart self.now by others 32) }
     {

@@ -9,7 +9,7 @@ use crate::log_set::LogSet;
 use crate::traffic::{Following, Got, MemberLogs, Traffic};
 use totem_evs::SpecNo;
 
-/// Returns whether each member has a log, and it is one of these.
+/// Returns whether each member has a log that is in the set.
 fn are_all_among(members: &MemberLogs, logs: LogSet) -> bool
     ensures { IsTrue result ↔ AreAllAmong logs members.now }
 {
@@ -31,7 +31,7 @@ fn is_safe_in_all(list: &[Following], behind: LogSet, reached: LogSet) -> bool
         .all(|following| is_safe_behind(following, behind, reached))
 }
 
-/// Returns whether the message reaches each member of each configuration in which it is delivered, if it is a safe one.
+/// Returns whether the message reaches each member of each configuration in which it is delivered, if it is safe.
 fn reaches_all(got: &Got, traffic: &Traffic) -> bool
     ensures { OnTrue result (ReachesAll traffic.now got.now) }
 {
@@ -54,7 +54,7 @@ fn all_reach(got: &[Got], traffic: &Traffic) -> bool
     true
 }
 
-/// Returns `true` only where the run meets the specification in the configuration.
+/// Returns `true` only if the run meets the specification in the configuration.
 #[tactic(auto, using(crate::proofs::Safe::safety_met))]
 pub fn safety_is_met(traffic: &Traffic) -> bool
     ensures { OnTrue result (Shows SpecNo.Safety traffic.now) }

@@ -46,11 +46,11 @@ pub struct Following {
     pub members: MemberLogs,
     /// The logs in which it follows.
     pub logs: LogSet,
-    /// Those that change to a next configuration from it.
+    /// The logs that change from it to a next configuration.
     pub left: LogSet,
 }
 
-/// What is kept of a regular configuration and of what follows it, in the order of the numbers of a certificate.
+/// What is kept about a regular configuration and what follows it, in the order of the numbers of a certificate.
 #[derive(Drop)]
 pub struct Traffic {
     pub sent: Vec<Sent>,
