@@ -1,4 +1,4 @@
--- Loops that ask of each event.
+-- Loops that ask a question about each event.
 use Rattle.std.proofs.Common.{◌≡◌, ℕ, ◌+◌, ◌<◌, ◌≤◌, inl, inr, List, length, slice_get, Some, subst, arith}
 use Rattle.std.proofs.lemmas.Option.{slice_get_within}
 use Rattle.totem_ids.specs.declared.place.Place.{Place}
@@ -32,7 +32,7 @@ more_in P p entries numbers k x n at_x at_n here so_far = record {
 
 -- ---- in the whole run
 
--- a fact of the entries of the first k logs
+-- a fact holds for the entries of the first k logs
 pub record EachUpTo (P : Place → Entry → ℕ → Type 0) (run : List Log) (lines : List Numbering) (k : ℕ) : Type 0 where
   pub each : (j : ℕ) (log : Log) (line : Numbering) → j < k → slice_get run j ≡ Some log → slice_get lines j ≡ Some line → EachBefore P log.proc log.entries line.numbers (length log.entries)
 

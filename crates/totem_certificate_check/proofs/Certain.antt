@@ -1,4 +1,4 @@
--- From what the loops found to the answer.
+-- From what the loops found to the result.
 use Rattle.std.proofs.Common.{◌≡◌, ℕ, zero, suc, [], ◌∷◌, ◌+◌, ◌<◌, inl, inr, List, length, slice_get, Some, refl, sym, ◌∙◌, ap, arith}
 use Rattle.std.proofs.lemmas.Option.{slice_get_within}
 use Rattle.totem_ids.specs.declared.place.Place.{Place}
@@ -118,7 +118,7 @@ is_class run e f x y at_e at_f (inr (m, (c, is_e), (d, is_f))) =
     let second : Deliver m d ≡ y = (let h = sym is_f ∙ at_f in cc) in
     rw (← first, ← second) refl
 
--- events of a class stand somewhere
+-- events of a class are somewhere in the run
 class_events : (run : List Log) (e f : Place) → SameClass run e f → IsEvent run e × IsEvent run f
 class_events run e f (inl (c, (ms, is_e), (ns, is_f))) = ((Conf c ms, is_e), (Conf c ns, is_f))
 class_events run e f (inr (m, (c, is_e), (d, is_f))) = ((Deliver m c, is_e), (Deliver m d, is_f))

@@ -1,11 +1,11 @@
--- Loops over numbers that rise.
+-- Loops over ascending numbers.
 use Rattle.std.proofs.Common.{◌≡◌, ℕ, ◌+◌, ◌-◌, ◌<◌, ◌≤◌, inl, inr, List, length, get_or, slice_get, Some, arith}
 use Rattle.std.proofs.lemmas.Option.{slice_get_within, slice_get-get_or}
 use Rattle.totem_evs.specs.Certificates.{Numbering}
 use Rattle.totem_certificate_check.specs.Rising.{RisesBefore, FallsSomewhere, LinesRise, LineFalls}
 use Rattle.totem_evs.proofs.LogOf.{less_or_not}
 
--- one number rises
+-- a single number is ascending
 pub rises_first : (numbers : List ℕ) → RisesBefore numbers 1
 rises_first numbers = record { rising = λ i j n m lt below at_i at_j. absurd (omega arith) }
 

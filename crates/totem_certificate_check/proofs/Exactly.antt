@@ -19,7 +19,7 @@ apart run lines h c = h.differ (c.shared h.one h.other h.class)
 share : (run : List Log) (lines : List Numbering) → OthersShare run lines → Certified run lines → ⊥
 share run lines h c = elim (c.apart h.one h.other h.is_one h.is_other h.shared) [ inl same ↦ h.different same | inr class ↦ h.apart class ]
 
--- a refusal is no certificate's
+-- lines that are refused are no certificate
 pub not_certified : (run : List Log) (lines : List Numbering) (f : CertificateFault) → Answers run lines (Err f) → Certified run lines → ⊥
 not_certified run lines faults.Count h c = h c.matches
 not_certified run lines faults.NotRising h c = falls run lines h.1 c
@@ -27,7 +27,7 @@ not_certified run lines faults.SendNotBefore h c = late run lines h.2 c
 not_certified run lines faults.TwinsDiffer h c = apart run lines h.3 c
 not_certified run lines faults.SharedPosition h c = share run lines h.4 c
 
--- it is certified exactly where no fault is found
+-- the run is certified if and only if no fault is found
 pub exactly : (run : List Log) (lines : List Numbering) (r : Result (Unit {0}) CertificateFault) → Answers run lines r → IsOk r ↔ Certified run lines
 exactly run lines (Ok u) h = (λ ok. h, λ c. refl)
 exactly run lines (Err f) h = (λ ok. absurd cc, λ c. absurd (not_certified run lines f h c))

@@ -31,11 +31,11 @@ names_shared run lines spread rising matches so unclean below one =
     shared sends classes (inr (inl split)) = absurd (split.differ (classes split.one split.other split.class))
     shared sends classes (inr (inr share)) = share
 
--- the numbers certify the run where they order it
+-- the numbers certify the run if they order it
 pub ordered : (run : List Log) (lines : List Numbering) → IsCertificate lines → Matches run lines → Rise run lines → IsClean run lines → Certified run lines
 ordered run lines is matches rise clean = is_certified run lines is matches rise clean.sends clean.classes clean.others
 
--- the first fault, with what was asked before
+-- the first fault, with what was tested before
 pub named : (run : List Log) (lines : List Numbering) (f : CertificateFault) → Matches run lines → Rise run lines → NamesFault run lines f → Answers run lines (Err f)
 named run lines faults.Count matches rise h = absurd h
 named run lines faults.NotRising matches rise h = absurd h
@@ -43,7 +43,7 @@ named run lines faults.SendNotBefore matches rise h = (matches, rise, h)
 named run lines faults.TwinsDiffer matches rise h = (matches, rise, h.0, h.1)
 named run lines faults.SharedPosition matches rise h = (matches, rise, h.0, h.1, h.2)
 
--- where memory was refused, what takes none had been asked
+-- if memory was refused, what takes none had been tested
 pub refused : {T E : Type 0} → (run : List Log) (lines : List Numbering) (r : Result T E) → Matches run lines → Rise run lines → OnErr r (Matches run lines × Rise run lines)
 refused run lines (Ok x) matches rise = tt
 refused run lines (Err e) matches rise = (matches, rise)

@@ -6,7 +6,7 @@ use Rattle.totem_evs.specs.Certificates.{Numbering, numbers_of, Matches}
 use Rattle.totem_certificate_check.specs.Counts.{IsLineOf}
 use Rattle.totem_evs.proofs.LogOf.{Rising, Rising-tail, in_order, less_or_not}
 
--- there are as many
+-- the numbers of lines and logs are equal
 pub as_many : (run : List Log) (lines : List Numbering) → Matches run lines → length run ≡ length lines
 as_many [] [] h = refl
 as_many [] (line ∷ lines) h = absurd cc
@@ -27,7 +27,7 @@ log_at [] (l ∷ ls) k line h at = absurd cc
 log_at (g ∷ gs) (l ∷ ls) zero line h at = (g, refl)
 log_at (g ∷ gs) (l ∷ ls) (suc k) line h at = log_at gs ls k line (cc) at
 
--- a log and its line are of one process, and as long
+-- a log and its line have the same process and the same length
 pub matches_at : (run : List Log) (lines : List Numbering) (k : ℕ) (log : Log) (line : Numbering) → Matches run lines → slice_get run k ≡ Some log → slice_get lines k ≡ Some line → IsLineOf log line
 matches_at [] lines k log line h at_log at_line = absurd cc
 matches_at (g ∷ gs) [] k log line h at_log at_line = absurd cc

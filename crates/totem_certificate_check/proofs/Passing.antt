@@ -1,4 +1,4 @@
--- From one class to the next: what a walk shows of the events that it has passed.
+-- From one class to the next: what a walk shows about the events that it has passed.
 use Rattle.std.proofs.Common.{◌≡◌, ◌≢◌, ℕ, ◌+◌, ◌<◌, ◌≤◌, ◌⊎◌, inl, inr, List, length, Some, false, refl, sym, ◌∙◌, subst, arith}
 use Rattle.std.specs.BTreeSet.{BTreeSet}
 use Rattle.std.specs.BTreeSet as sorted
@@ -51,7 +51,7 @@ module _ (run : List Log) (lines : List Numbering) (last k : ℕ) (e : Place) (x
   with_it f y c at is (inl same) = subst (λ (w : Entry). class_of w ≡ Some c) (one_entry run lines e f x y k k next.stands at same) is
   with_it f y c at is (inr class) = let both = class_shared y x class in both.2 ∙ (let first = sym both.1 ∙ is in cc)
 
-  -- where e is new, nothing of the class that it bars has been passed
+  -- if e is new, nothing of the class that it bars was passed
   not_passed : IsNew classes x → (f : Place) (y : Entry) (c : Class) (n : ℕ) → class_barred_by x ≡ Some c → Stands run lines f y n → n ≤ last → class_of y ≡ Some c → ⊥
   not_passed new f y c n barred at le is = (let yes = known.known c f y n at le is in let no = new.never c barred in absurd cc)
 
@@ -142,7 +142,7 @@ module _ (run : List Log) (lines : List Numbering) (last k : ℕ) (e : Place) (x
     ];
   }
 
--- where e comes too late, a class is split, or a send is not below a delivery
+-- if e is too late, a class is split, or a send is not below a delivery
 pub too_late : (run : List Log) (lines : List Numbering) (last k : ℕ) (e : Place) (x : Entry) (classes : BTreeSet Class) → Stands run lines e x k → last < k → AreClasses run lines classes last → IsOld classes x → IsUnclean run lines
 too_late run lines last k e x classes stands above known old = late x refl old.barred
   where
@@ -178,7 +178,7 @@ too_late run lines last k e x classes stands above known old = late x refl old.b
           holds = record { event = had.event; entry = had.entry; number = had.number; stands = had.stands; holds = (subst (λ (w : Entry). AreSendAndDelivery w had.entry) (sym same) (subst (λ (w : Entry). AreSendAndDelivery (Send m c s) w) (sym delivery.1) refl), λ lt. (let up = above in let le = had.holds.0 in omega arith)) };
         }))
 
--- what has been passed at the end is all
+-- at the end all events were passed
 pub all_clean : (run : List Log) (lines : List Numbering) (last : ℕ) → Rising run → Matches run lines → ((f : Place) (y : Entry) (n : ℕ) → Stands run lines f y n → n ≤ last) → IsCleanTo run lines last → IsClean run lines
 all_clean run lines last rising matches all clean = record {
   sends = sends_below run lines rising matches (record { each = λ e x n at. record { each = λ f y m there pair. clean.sends e f x y n m at there (all e x n at) (all f y m there) pair } });

@@ -49,7 +49,7 @@ at_most : (o : Option ℕ) (n l : ℕ) → IsLeastOf o n l → l ≤ n
 at_most None n l h = omega arith
 at_most (Some known) n l h = h.1
 
--- with one number alone, it is the least one
+-- if there is only one number, it is the least one
 alone : (o : Option ℕ) (n l : ℕ) → IsLeastOf o n l → (Differs o n → ⊥) → l ≡ n
 alone None n l h one = h
 alone (Some known) n l h one = elim (less_or_not known n) [
@@ -155,7 +155,7 @@ module _ (run : List Log) (lines : List Numbering) (old new : Spread) (k j : ℕ
     ];
   }
 
--- an entry of no class tells nothing
+-- an entry of no class adds nothing
 pub none_more : (run : List Log) (lines : List Numbering) (spread : Spread) (k j : ℕ) (log : Log) (x : Entry) → slice_get run k ≡ Some log → slice_get log.entries j ≡ Some x → class_of x ≡ None → KnowsTo run lines spread k j → KnowsTo run lines spread k (j + 1)
 none_more run lines spread k j log x at_log at_entry none so = record {
   true_of = so.true_of;
@@ -224,7 +224,7 @@ in_stands run lines k j e x n rising matches h =
 
 -- ---- what is known at the end
 
--- a send whose message nobody delivers, or whose number is below the least one of the deliveries
+-- a send whose message no process delivers, or whose number is below the least one of the deliveries
 pub is_below : (run : List Log) (lines : List Numbering) (spread : Spread) → Knows run lines spread → (e : Place) (x : Entry) (n : ℕ) (m : _) (c : _) (s : _) → x ≡ Send m c s → ((l : ℕ) → least_of spread (Delivery m) ≡ Some l → n < l) → EachEvent (SendIsBelow e x n) run lines
 is_below run lines spread so e x n m c s is below = record { each = λ f y k stands pair. go f y k stands (rw is at pair) }
   where
@@ -265,7 +265,7 @@ classes_known run lines spread rising matches so one = classes_one run lines ris
   };
 })
 
--- a send beside the least number of the deliveries of its message
+-- a send compared with the least number of the deliveries of its message
 pub below_or_not : (run : List Log) (lines : List Numbering) (spread : Spread) → Knows run lines spread → (e : Place) (x : Entry) (n l : ℕ) (m : _) (c : _) (s : _) → x ≡ Send m c s → least_of spread (Delivery m) ≡ Some l
     → MatchBool (nat_lt n l) (EachEvent (SendIsBelow e x n) run lines) (SomeEvent (SendIsNotBelow e x n) run lines)
 below_or_not run lines spread so e x n l m c s is at = go (nat_lt n l) refl

@@ -1,4 +1,4 @@
--- Where an event and its number stand.
+-- Where an event and its number are.
 use Rattle.std.proofs.Common.{◌≡◌, ℕ, zero, suc, ◌+◌, ◌<◌, inl, inr, List, [], length, get_or, slice_get, Some, refl, sym, ◌∙◌, ap, add-one, arith}
 use Rattle.std.proofs.lemmas.Option.{slice_get_within, slice_get-get_or}
 use Rattle.totem_ids.specs.declared.place.Place.{Place}
@@ -24,7 +24,7 @@ stands_at run lines k i log line x n rising matches at_log at_line at_entry at_n
   number = number_next (numbers_of lines log.proc) i ∙ ap (λ (ns : List ℕ). slice_get ns i) (numbers_of_at run lines k log line rising matches at_log at_line) ∙ at_number;
 }
 
--- in which log and line an event stands
+-- the log and line that an event is in
 pub record Located (run : List Log) (lines : List Numbering) (e : Place) (x : Entry) (n : ℕ) : Type 0 where
   pub index : ℕ
   pub at : ℕ

@@ -1,4 +1,4 @@
--- Where a walk stands, and what a step of it passes.
+-- Where a walk is, and what a step of it passes.
 use Rattle.std.proofs.Common.{◌≡◌, ◌≢◌, ℕ, zero, suc, ◌+◌, ◌^◌, ◌<◌, ◌≤◌, ◌⊎◌, inl, inr, List, [], ◌∷◌, length, slice_get, slice_set, replicate, true, false, nat_eq, eq-eqb, Option, Some, None, refl, sym, ◌∙◌, ap, subst, arith}
 use Rattle.std.proofs.lemmas.Option.{slice_get_within, get_or_from_slice_get}
 use Rattle.std.proofs.lemmas.List.{length-set}
@@ -20,7 +20,7 @@ use Rattle.totem_certificate_check.specs.Walks.{IsEntryOf, IsAhead, IsHead, IsPa
 use Rattle.totem_certificate_check.proofs.Matching.{as_many, log_at, matches_at}
 use Rattle.totem_certificate_check.proofs.Standing.{stands_at, locate, place_is}
 
--- what stands at an index of a list
+-- what is at an index of a list
 pub at_index : {A : Type 0} → (xs : List A) (i : ℕ) → i < length xs → (x : A) × (slice_get xs i ≡ Some x)
 at_index [] i lt = absurd (omega arith)
 at_index (x ∷ xs) zero lt = (x, refl)
@@ -32,7 +32,7 @@ pub ahead_stands : (run : List Log) (lines : List Numbering) (passed : List ℕ)
 ahead_stands run lines passed i e x n rising matches h =
     subst (λ (f : Place). Stands run lines f x n) h.is.place_is (stands_at run lines i h.at h.log h.line x n rising matches h.log_is h.line_is h.is.entry_is h.is.number_is)
 
--- where a log has a number left, it has an event left
+-- if a log has a number left, it has an event left
 pub number_ahead : (run : List Log) (lines : List Numbering) (passed : List ℕ) (i at n : ℕ) (line : Numbering) → Matches run lines → slice_get lines i ≡ Some line → slice_get passed i ≡ Some at → slice_get line.numbers at ≡ Some n
     → (e : Place) × (x : Entry) × IsAhead run lines passed i e x n
 number_ahead run lines passed i at n line matches at_line at_passed at_number =
@@ -76,7 +76,7 @@ none_passed lines n is = record {
         subst (λ (z : ℕ). 0 < z) (get_or_from_slice_get line.numbers j k k at_number) number.positive
 
 module _ (lines : List Numbering) (passed : List ℕ) (last : ℕ) (rise : LinesRise lines (length lines)) (h : IsPassed lines passed last) (head : Head) (least : IsLeastHead lines passed (length lines) head) where
-  -- the least head has not been passed
+  -- the least head was not passed
   pub head_is_above : last < head.number
   head_is_above = let is = least.is in h.after head.log is.at is.at head.number is.line is.line_is is.at_is is.number_is (omega arith)
 
@@ -136,7 +136,7 @@ module _ (lines : List Numbering) (passed : List ℕ) (last : ℕ) (rise : Lines
     ],
   )
 
-  -- where each line has made the step, the numbers up to that of the head have been passed
+  -- if the step was made in each line, the numbers up to that of the head were passed
   pub step_passed : (new : List ℕ) → IsStepped lines head.number passed new (length lines) → IsPassed lines new head.number
   step_passed new stepped = record {
     before = λ i b j n line at_line at_new at_number lt.
@@ -176,7 +176,7 @@ module _ (lines : List Numbering) (passed : List ℕ) (last : ℕ) (rise : Lines
         )
       ]
 
--- where no line has a number left, all have been passed
+-- if no line has a number left, all were passed
 pub all_passed : (run : List Log) (lines : List Numbering) (passed : List ℕ) (last : ℕ) → Rising run → Matches run lines → IsPassed lines passed last → length passed ≡ length lines → NoneLeftTo lines passed (length lines) → (f : Place) (y : Entry) (n : ℕ) → Stands run lines f y n → n ≤ last
 all_passed run lines passed last rising matches h many none f y n stands =
     let l = locate run lines f y n rising matches stands in
@@ -310,7 +310,7 @@ ones_more run lines passed k e x n own h = record {
 pub ones_all : (run : List Log) (lines : List Numbering) (passed : List ℕ) (k : ℕ) (e : Place) (x : Entry) (n : ℕ) → length lines ≤ k → AreOneBefore run lines passed k e x n → AreOneBefore run lines passed (length lines) e x n
 ones_all run lines passed k e x n end h = record { each = λ i m f y lt a. h.each i m f y (omega arith) a }
 
--- the next event of a log may stand beside e
+-- the next event of a log shares e's number only if the two are one event
 pub own_ahead : (run : List Log) (lines : List Numbering) (passed : List ℕ) (k : ℕ) (e g : Place) (x z : Entry) (n o : ℕ) → IsAhead run lines passed k g z o → NumberIsOwn g z o e x n → (f : Place) (y : Entry) (m : ℕ) → IsAhead run lines passed k f y m → NumberIsOwn f y m e x n
 own_ahead run lines passed k e g x z n o a own f y m b =
     let one = one_ahead run lines passed k g f z y o m a b in
@@ -365,7 +365,7 @@ set_off (x ∷ xs) zero (suc u) b ne = refl
 set_off (x ∷ xs) (suc i) zero b ne = refl
 set_off (x ∷ xs) (suc i) (suc u) b ne = set_off xs i u b (λ e. ne (ap suc e))
 
--- the line at k makes the step
+-- the step in the line at k
 pub steps : (lines : List Numbering) (k : ℕ) (old now : List ℕ) (at a : ℕ) (line : Numbering) → slice_get lines at ≡ Some line → slice_get now at ≡ Some a → slice_get line.numbers a ≡ Some k → IsStepped lines k old now at → IsStepped lines k old (slice_set now at (a + 1)) (at + 1)
 steps lines k old now at a line at_line at_now at_number h =
     one_step lines k old now (slice_set now at (a + 1)) at a (a + 1) line at_line at_now (set_at now at (a + 1) (slice_get_within now at a at_now)) (inl (at_number, refl)) (length-set now at (a + 1)) (λ i ne. set_off now at i (a + 1) ne) h

@@ -1,4 +1,4 @@
--- Why lines of numbers do not certify a run: the first reason that there is (docs/SPECIFICATIONS.md, "The checker").
+-- Why lines of numbers do not certify a run: the first reason (docs/SPECIFICATIONS.md, "The checker").
 use Rattle.std.specs.Prelude.{◌≡◌, ◌≢◌, ◌⊎◌, List, Result, Ok, Err}
 use Rattle.totem_ids.specs.declared.conf.ConfId.{ConfId}
 use Rattle.totem_ids.specs.declared.message.MsgId.{MsgId}
@@ -10,13 +10,13 @@ use Rattle.totem_evs.specs.Certificates.{Numbering, number_at, IsBelow, Matches,
 use Rattle.totem_certificate_check.specs.declared.certificate_fault.CertificateFault.{CertificateFault}
 use Rattle.totem_certificate_check.specs.declared.certificate_fault.CertificateFault.TheVariants as faults
 
--- ---- what is asked, and what it is to break it
+-- ---- what is required, and what breaks it
 
--- in each log the numbers rise
+-- in each log the numbers are ascending
 abbrev pub Rise : List Log → List Numbering → Type 0
 Rise run lines = (e f : Place) → IsEvent run e → IsEvent run f → IsBefore e f → IsBelow lines e f
 
--- of two events of one log, the later one has no greater number
+-- a later event of a log does not have a greater number than an earlier one
 pub record DoesNotRise (run : List Log) (lines : List Numbering) : Type 0 where
   pub first : Place
   pub later : Place
@@ -39,7 +39,7 @@ pub record SendIsLate (run : List Log) (lines : List Numbering) : Type 0 where
   pub delivers : DeliversAt run delivery message
   pub not_below : IsBelow lines send delivery → ⊥
 
--- events of one class have one number
+-- events of one class have the same number
 abbrev pub ClassesAreOne : List Log → List Numbering → Type 0
 ClassesAreOne run lines = (e f : Place) → SameClass run e f → number_at lines e ≡ number_at lines f
 
@@ -54,7 +54,7 @@ pub record TwinsAreApart (run : List Log) (lines : List Numbering) : Type 0 wher
 abbrev pub OthersAreApart : List Log → List Numbering → Type 0
 OthersAreApart run lines = (e f : Place) → IsEvent run e → IsEvent run f → number_at lines e ≡ number_at lines f → (e ≡ f) ⊎ SameClass run e f
 
--- two events that are of no class share a number
+-- two different events that are not of one class share a number
 pub record OthersShare (run : List Log) (lines : List Numbering) : Type 0 where
   pub one : Place
   pub other : Place

@@ -19,6 +19,6 @@ class_of (Fail x) = None
 abbrev pub class_order : Class → Class → Ordering
 class_order = (Rattle.totem_certificate_check.specs.contracts.class.ClassOrd.TheImpl.cmp-value).it
 
--- whether a class is among these
+-- whether a class is in the set
 abbrev pub has : BTreeSet Class → Class → Bool
 has classes c = sorted.contains class_order classes c

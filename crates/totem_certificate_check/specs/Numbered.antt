@@ -6,7 +6,7 @@ use Rattle.totem_evs.specs.declared.log.Log.{Log}
 use Rattle.totem_evs.specs.Events.{entry_at}
 use Rattle.totem_evs.specs.Certificates.{Numbering, number_at}
 
--- this entry stands at e, and this is its number
+-- this entry is at e, and this is its number
 pub record Stands (run : List Log) (lines : List Numbering) (e : Place) (x : Entry) (n : ℕ) : Type 0 where
   pub entry : entry_at run e ≡ Some x
   pub number : number_at lines e ≡ Some n
@@ -15,11 +15,11 @@ pub record Stands (run : List Log) (lines : List Numbering) (e : Place) (x : Ent
 abbrev pub place : ℕ → ℕ → Place
 place p i = record { proc = p; at = i + 1 }
 
--- a fact of the first `end` entries of p's log and their numbers
+-- a fact holds for the first `end` entries of p's log and their numbers
 pub record EachBefore (P : Place → Entry → ℕ → Type 0) (p : ℕ) (entries : List Entry) (numbers : List ℕ) (end : ℕ) : Type 0 where
   pub each : (i : ℕ) (x : Entry) (n : ℕ) → i < end → slice_get entries i ≡ Some x → slice_get numbers i ≡ Some n → P (place p i) x n
 
--- a fact of an entry of p's log and its number
+-- a fact holds for some entry of p's log and its number
 pub record SomeIn (P : Place → Entry → ℕ → Type 0) (p : ℕ) (entries : List Entry) (numbers : List ℕ) : Type 0 where
   pub at : ℕ
   pub entry : Entry

@@ -29,7 +29,7 @@ abbrev pub IsLeastOf : Option ℕ → ℕ → ℕ → Type 0
 IsLeastOf None n least = least ≡ n
 IsLeastOf (Some known) n least = (least ≤ known) × (least ≤ n) × ((least ≡ known) ⊎ (least ≡ n))
 
--- the number n of the class c has been entered
+-- the number n of the class c was entered
 pub record IsEntered (old new : Spread) (c : Class) (n : ℕ) : Type 0 where
   pub least : ℕ
   pub is : least_of new c ≡ Some least
@@ -56,11 +56,11 @@ pub record IsIn (run : List Log) (lines : List Numbering) (i at : ℕ) (e : Plac
   pub line_is : slice_get lines i ≡ Some line
   pub is : IsEntryOf log line at e x n
 
--- in a log at an index below k; or in the one at k, at an index below j
+-- an entry of a log at an index below k, or one of the first j of the log at k
 abbrev pub IsPast : ℕ → ℕ → ℕ → ℕ → Type 0
 IsPast k j i at = (i < k) ⊎ ((i ≡ k) × (at < j))
 
--- what is known is so
+-- what is known is true
 pub record IsTrueOf (run : List Log) (lines : List Numbering) (spread : Spread) : Type 0 where
   pub there : (c : Class) (m : ℕ) → least_of spread c ≡ Some m → SomeEvent (λ e x n. (n ≡ m) × (class_of x ≡ Some c)) run lines
   pub apart : spread.is_apart ≡ true → TwinsAreApart run lines

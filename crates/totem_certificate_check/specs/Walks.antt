@@ -18,9 +18,9 @@ use Rattle.totem_certificate_check.specs.Each.{SomeEvent}
 use Rattle.totem_certificate_check.specs.Kinds.{NumberIsOwn}
 use Rattle.totem_certificate_check.specs.Certifying.{SendsAreBelow, SendIsLate, ClassesAreOne, TwinsAreApart, OthersAreApart, OthersShare}
 
--- ---- where the walk stands
+-- ---- where the walk is
 
--- at this index of a log and its line stands this event
+-- this event is at this index of a log and its line
 pub record IsEntryOf (log : Log) (line : Numbering) (at : ℕ) (e : Place) (x : Entry) (n : ℕ) : Type 0 where
   pub entry_is : slice_get log.entries at ≡ Some x
   pub number_is : slice_get line.numbers at ≡ Some n
@@ -36,7 +36,7 @@ pub record IsAhead (run : List Log) (lines : List Numbering) (passed : List ℕ)
   pub at_is : slice_get passed i ≡ Some at
   pub is : IsEntryOf log line at e x n
 
--- of each line as many numbers as `passed` says are at most `last`, and the others are above it
+-- in each line, the numbers that were passed, as many as `passed` says, are at most `last`, and the others are above it
 pub record IsPassed (lines : List Numbering) (passed : List ℕ) (last : ℕ) : Type 0 where
   pub before : (i at j n : ℕ) (line : Numbering) → slice_get lines i ≡ Some line → slice_get passed i ≡ Some at → slice_get line.numbers j ≡ Some n → j < at → n ≤ last
   pub after : (i at j n : ℕ) (line : Numbering) → slice_get lines i ≡ Some line → slice_get passed i ≡ Some at → slice_get line.numbers j ≡ Some n → at ≤ j → last < n
@@ -53,7 +53,7 @@ pub record IsHead (lines : List Numbering) (passed : List ℕ) (i n : ℕ) : Typ
 pub record NoneLeftTo (lines : List Numbering) (passed : List ℕ) (end : ℕ) : Type 0 where
   pub never : (j m : ℕ) → j < end → IsHead lines passed j m → ⊥
 
--- of the heads of the lines at indices below `end` this one has the least number
+-- this head has the least number of the heads of the lines at indices below `end`
 pub record IsLeastHead (lines : List Numbering) (passed : List ℕ) (end : ℕ) (head : Head) : Type 0 where
   pub is : IsHead lines passed head.log head.number
   pub least : (j m : ℕ) → j < end → IsHead lines passed j m → head.number ≤ m
@@ -63,55 +63,55 @@ abbrev pub IsLeastTo : List Numbering → List ℕ → ℕ → Option Head → T
 IsLeastTo lines passed end None = NoneLeftTo lines passed end
 IsLeastTo lines passed end (Some head) = IsLeastHead lines passed end head
 
--- of two heads this is the one with the lesser number, and the first where they share it
+-- the one of two heads with the lesser number, or the first if they share it
 abbrev pub IsLesser : Option Head → Head → Head → Type 0
 IsLesser None second lesser = lesser ≡ second
 IsLesser (Some first) second lesser = ((first.number ≤ second.number) × (lesser ≡ first)) ⊎ ((second.number < first.number) × (lesser ≡ second))
 
 -- ---- a step of the walk
 
--- a log whose next event has the number k is passed by one more entry, and any other stays
+-- in a log whose next event has the number k, one more entry is passed; any other log stays
 abbrev pub IsStepOf : Numbering → ℕ → ℕ → ℕ → Type 0
 IsStepOf line k old new = ((slice_get line.numbers old ≡ Some k) × (new ≡ old + 1)) ⊎ ((slice_get line.numbers old ≡ Some k → ⊥) × (new ≡ old))
 
--- the logs at indices below `end` have made the step, and the others have not
+-- the step was made in the logs at indices below `end`, and not in the others
 pub record IsStepped (lines : List Numbering) (k : ℕ) (old new : List ℕ) (end : ℕ) : Type 0 where
   pub as_many : length new ≡ length old
   pub made : (i a b : ℕ) (line : Numbering) → i < end → slice_get lines i ≡ Some line → slice_get old i ≡ Some a → slice_get new i ≡ Some b → IsStepOf line k a b
   pub left : (i a : ℕ) → end ≤ i → slice_get old i ≡ Some a → slice_get new i ≡ Some a
 
--- of the logs at indices below `end`, no next event shares e's number, but those that are one event with it
+-- in the logs at indices below `end`, a next event shares e's number only if the two are one event
 pub record AreOneBefore (run : List Log) (lines : List Numbering) (passed : List ℕ) (end : ℕ) (e : Place) (x : Entry) (n : ℕ) : Type 0 where
   pub each : (i m : ℕ) (f : Place) (y : Entry) → i < end → IsAhead run lines passed i f y m → NumberIsOwn f y m e x n
 
 abbrev pub AreOne : List Log → List Numbering → List ℕ → Place → Entry → ℕ → Type 0
 AreOne run lines passed = AreOneBefore run lines passed (length lines)
 
--- ---- what is kept of the classes that were passed
+-- ---- what is kept about the classes that were passed
 
--- these are the classes with numbers up to `last`
+-- the set has exactly the classes with numbers up to `last`
 pub record AreClasses (run : List Log) (lines : List Numbering) (classes : BTreeSet Class) (last : ℕ) : Type 0 where
   pub known : (c : Class) (e : Place) (x : Entry) (n : ℕ) → Stands run lines e x n → n ≤ last → class_of x ≡ Some c → has classes c ≡ true
   pub there : (c : Class) → has classes c ≡ true → SomeEvent (λ e x n. (n ≤ last) × (class_of x ≡ Some c)) run lines
 
--- the class that must not have been passed before the entry: its own one; before a send, that of the deliveries
+-- the class that must not have been passed before the entry: its own, or for a send that of the deliveries
 abbrev pub class_barred_by : Entry → Option Class
 class_barred_by (Conf x members) = Some (Change x)
 class_barred_by (Send m x service) = Some (Delivery m)
 class_barred_by (Deliver m x) = Some (Delivery m)
 class_barred_by (Fail x) = None
 
--- the entry may come next
+-- the entry may be next
 pub record IsNew (classes : BTreeSet Class) (x : Entry) : Type 0 where
   pub never : (c : Class) → class_barred_by x ≡ Some c → has classes c ≡ false
 
--- the entry comes too late
+-- the entry is too late
 pub record IsOld (classes : BTreeSet Class) (x : Entry) : Type 0 where
   pub class : Class
   pub barred : class_barred_by x ≡ Some class
   pub passed : has classes class ≡ true
 
--- the classes, and that of the entry with them
+-- the class of the entry was added to the classes
 pub record Adds (old new : BTreeSet Class) (x : Entry) : Type 0 where
   pub adds : (c : Class) → class_of x ≡ Some c → has new c ≡ true
   pub keeps : (c : Class) → has old c ≡ true → has new c ≡ true
@@ -125,17 +125,17 @@ pub record IsCleanTo (run : List Log) (lines : List Numbering) (last : ℕ) : Ty
   pub classes : (e f : Place) (x y : Entry) (n m : ℕ) → Stands run lines e x n → Stands run lines f y m → n ≤ last → m ≤ last → AreOfOneClass x y → n ≡ m
   pub others : (e f : Place) (x y : Entry) (n : ℕ) → Stands run lines e x n → Stands run lines f y n → n ≤ last → (e ≡ f) ⊎ AreOfOneClass x y
 
--- each send is below the deliveries of its message, and events share a number exactly where they are of one class
+-- each send is below the deliveries of its message, and events share a number if and only if they are of one class
 pub record IsClean (run : List Log) (lines : List Numbering) : Type 0 where
   pub sends : SendsAreBelow run lines
   pub classes : ClassesAreOne run lines
   pub others : OthersAreApart run lines
 
--- one of the three is broken
+-- one of these three requirements is broken
 abbrev pub IsUnclean : List Log → List Numbering → Type 0
 IsUnclean run lines = SendIsLate run lines ⊎ (TwinsAreApart run lines ⊎ OthersShare run lines)
 
--- the first fault of numbers that match the run, and rise
+-- the first fault of numbers that match the run and are ascending
 abbrev pub NamesFault : List Log → List Numbering → CertificateFault → Type 0
 NamesFault run lines faults.Count = ⊥
 NamesFault run lines faults.NotRising = ⊥

@@ -1,6 +1,6 @@
 use thiserror::Error;
 
-/// Why lines of numbers do not certify a run. Each reason is looked for in the whole run before the next one is.
+/// Why lines of numbers do not certify a run. The whole run is searched for each reason before the next one.
 #[derive(Clone, Copy, Debug, PartialEq, Eq, Error)]
 pub enum CertificateFault {
     #[error("the lines do not match the logs and their entries")]

@@ -17,7 +17,7 @@ use std::alloc::{AllocError, Global};
 use totem_certificate::{Certificate, Line};
 use totem_evs::{Log, Run};
 
-/// Returns the first fault of numbers that are ascending but do not order the run, by what is known of the classes.
+/// Returns the first fault of numbers that are ascending but do not order the run, given the numbers of the classes.
 fn first_fault(spread: &Spread, logs: &[Log], lines: &[Line]) -> CertificateFault
     requires matches { Matches logs.now lines.now }
     requires run { IsRun logs.now }
@@ -39,9 +39,9 @@ fn first_fault(spread: &Spread, logs: &[Log], lines: &[Line]) -> CertificateFaul
     }
 }
 
-/// Tests whether the certificate certifies the run, by one walk along its numbers; where it does not, looks at all events once
-/// more to name the first reason. Takes n log n steps for n entries. Lines that do not match and numbers that are not ascending are
-/// found without memory.
+/// Tests whether the certificate certifies the run, by one walk along its numbers. If it does not, looks at all events once more
+/// to name the first reason. Takes n log n steps for n entries. Lines that do not match and numbers that are not ascending are
+/// found without allocating memory.
 pub fn certified(
     alloc: Global,
     run: &Run,

@@ -13,7 +13,7 @@ pub enum Class {
 }
 
 impl Class {
-    /// Returns the class of an entry. Sends and failures are in none: each is an event by itself.
+    /// Returns the class of an entry, or `None` for a send or a failure: each of these is an event by itself.
     pub fn of(entry: &Entry) -> Option<Class>
         ensures { result ≡ class_of entry.now }
     {

@@ -12,7 +12,7 @@ fn is_line_of(log: &Log, line: &Line) -> bool
     log.proc == line.proc && log.entries.as_slice().len() == line.numbers.as_slice().len()
 }
 
-/// Returns whether the lines match the logs: the same processes, and as many numbers as entries.
+/// Returns whether the lines match the logs: the same processes, and a number for each entry.
 pub fn matches_logs(logs: &[Log], lines: &[Line]) -> bool
     ensures { MatchBool result (Matches logs.now lines.now) (Matches logs.now lines.now → ⊥) }
 {

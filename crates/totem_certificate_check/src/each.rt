@@ -34,7 +34,7 @@ pub trait Question {
             (fails self.now event.now.place event.now.entry.now event.now.number) };
 }
 
-// Asks of each entry of one log.
+// Asks the question about each entry of one log.
 fn every_in<Q: Question>(question: &Q, proc: Proc, entries: &[Entry], numbers: &[u32]) -> bool
     requires ready { Q.ready question.now }
     requires same { length entries.now ≡ length numbers.now }
@@ -59,7 +59,7 @@ fn every_in<Q: Question>(question: &Q, proc: Proc, entries: &[Entry], numbers: &
     true
 }
 
-/// Returns whether the question is answered with yes for each event of the run. The lines have to match the logs.
+/// Returns whether the answer is yes for each event of the run. The lines have to match the logs.
 pub fn every<Q: Question>(question: &Q, logs: &[Log], lines: &[Line]) -> bool
     requires ready { Q.ready question.now }
     requires matches { Matches logs.now lines.now }

@@ -4,7 +4,7 @@ ghost use Rattle.totem_certificate_check.specs.Rising.{RisesBefore, FallsSomewhe
 
 use totem_certificate::Line;
 
-/// Returns whether the numbers rise strictly.
+/// Returns whether the numbers are strictly ascending.
 pub fn rises(numbers: &[u32]) -> bool
     ensures { MatchBool result (RisesBefore numbers.now (length numbers.now)) (FallsSomewhere numbers.now) }
 {
@@ -16,7 +16,7 @@ pub fn rises(numbers: &[u32]) -> bool
     true
 }
 
-/// Returns whether the numbers of each line rise strictly.
+/// Returns whether the numbers of each line are strictly ascending.
 pub fn all_rise(lines: &[Line]) -> bool
     ensures { MatchBool result (LinesRise lines.now (length lines.now)) (LineFalls lines.now) }
 {

@@ -9,7 +9,7 @@ use crate::spread::Spread;
 use totem_certificate::Line;
 use totem_evs::{Entry, Log};
 
-/// The question whether a send is below the deliveries of its message, of which the spread knows the least number.
+/// The question whether a send is below the deliveries of its message. The spread has their least number.
 #[derive(Clone, Copy)]
 pub struct Sends<'s, 'g, 'l> {
     pub spread: &'s Spread,

@@ -1,4 +1,4 @@
-//! The numbers of each class, by which the first fault of a certificate is named.
+//! The numbers of each class, from which the first fault of a certificate is found.
 ghost use Rattle.std.specs.Prelude.{◌≡◌, ◌↔◌, ◌+◌, ◌<◌, IfOk, OnOk, IsTrue, Some, length};
 ghost use Rattle.std.specs.BTreeMap.{Updates};
 ghost use Rattle.totem_evs.specs.Certificates.{Matches};
@@ -48,7 +48,7 @@ fn put(least: &mut BTreeMap<Class, u32>, class: &Class, number: u32) -> Result<(
 }
 
 impl Spread {
-    /// Returns the least number of the class, or `None` where the run has no event of it.
+    /// Returns the least number of the class, or `None` if the run has no event of it.
     pub fn least_of(&self, class: &Class) -> Option<u32>
         ensures { result ≡ least_of self.now class.now }
     {
@@ -65,7 +65,7 @@ impl Spread {
         put(&mut self.least, class, lesser(known, number))
     }
 
-    /// Enters the events of one log. Those of the logs before it are known.
+    /// Enters the events of one log, after those of the logs before it.
     fn enter_log(&mut self, logs: &[Log], lines: &[Line], index: usize) -> Result<(), AllocError>
         requires matches { Matches logs.now lines.now }
         requires run { IsRun logs.now }

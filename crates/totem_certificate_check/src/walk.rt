@@ -1,4 +1,4 @@
-//! A walk over a run in the order of its numbers, from class to class. It ends early where the numbers do not order the run.
+//! A walk over a run in the order of its numbers, from class to class. It ends early if the numbers do not order the run.
 ghost use Rattle.std.specs.Prelude.{◌≡◌, ◌+◌, ◌^◌, ◌<◌, ◌≤◌, MatchBool, IfSome, IfOk, OnOk, length, slice_get};
 ghost use Rattle.totem_evs.specs.Certificates.{Matches};
 ghost use Rattle.totem_evs.specs.Runs.{IsRun};
@@ -31,7 +31,7 @@ fn number_at(line: &Line, at: usize) -> Option<u32>
     line.numbers.as_slice().get(at).copied()
 }
 
-/// Returns the head with the lesser number, or the first one where they share it.
+/// Returns the head with the lesser number, or the first one if they share it.
 fn lesser(first: Option<Head>, second: Head) -> Head
     ensures { IsLesser first second result }
 {
@@ -41,8 +41,8 @@ fn lesser(first: Option<Head>, second: Head) -> Head
     }
 }
 
-/// Returns the first of the heads with the least number, or `None` where all logs have been passed. `passed` says how many
-/// entries of each log have been.
+/// Returns the first of the heads with the least number, or `None` if all entries have been passed. `passed` has the number of
+/// entries passed in each log.
 pub fn least_head(lines: &[Line], passed: &[usize]) -> Option<Head>
     requires { length passed.now ≡ length lines.now }
     ensures { IsLeastTo lines.now passed.now (length lines.now) result }
@@ -121,8 +121,8 @@ fn pass(lines: &[Line], passed: &mut [usize], number: u32)
     }
 }
 
-/// Notes the class of the next entry. Returns whether the entry may come now: its class has not come before, nor, if it is a
-/// send, the deliveries of its message.
+/// Notes the class of the next entry. Returns whether the entry may be next: its class was not passed before, and if it is a
+/// send, the deliveries of its message were not.
 fn note(classes: &mut BTreeSet<Class>, entry: &Entry) -> Result<bool, AllocError>
     ensures new { IfOk result (λ new. MatchBool new (IsNew classes.old entry.now) (IsOld classes.old entry.now)) }
     ensures added { OnOk result (Adds classes.old classes.new entry.now) }
@@ -135,7 +135,7 @@ fn note(classes: &mut BTreeSet<Class>, entry: &Entry) -> Result<bool, AllocError
     }
 }
 
-/// Walks from class to class as far as the numbers order the run. Returns whether they do up to the end.
+/// Walks from class to class as long as the numbers order the run. Returns whether they do so up to the end.
 fn walk(
     logs: &[Log],
     lines: &[Line],
@@ -165,7 +165,7 @@ fn walk(
 }
 
 /// Returns whether the numbers order the run: each send is below the deliveries of its message, and events share a number
-/// exactly where they are of one class. The numbers of each line have to be ascending.
+/// if and only if they are of one class. The numbers of each line have to be ascending.
 pub fn is_ordered(alloc: Global, logs: &[Log], lines: &[Line]) -> Result<bool, AllocError>
     requires matches { Matches logs.now lines.now }
     requires run { IsRun logs.now }
