@@ -1,10 +1,10 @@
--- Answers that are handed on, and loops that ask one after the other.
+-- Results that are passed on, and loops that test one element after the other.
 use Rattle.std.proofs.Common.{◌≡◌, ◌⊎◌, inl, inr, ℕ, ◌+◌, ◌<◌, ◌≤◌, Bool, true, false, arith}
 use Rattle.std.specs.Bool.{OnTrue}
 use Rattle.totem_configuration_rules.proofs.Rowing.{before_or_at}
 use Rattle.totem_judge.specs.Lists.{EachBelow}
 
--- what a yes means another thing means, too
+-- what follows from the meaning of `true`
 pub on_true : {A B : Type 0} (b : Bool) → OnTrue b A → (A → B) → OnTrue b B
 on_true true a of = of a
 on_true false a of = tt

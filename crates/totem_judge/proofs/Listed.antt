@@ -1,4 +1,4 @@
--- What the lists of a configuration tell of the logs, where they were seen to be true.
+-- What the lists of a configuration say about the logs, if they were verified.
 use Rattle.std.proofs.Common.{◌≡◌, ◌⊎◌, inl, inr, ℕ, ◌+◌, ◌<◌, ◌≤◌, List, length, slice_get, Some, refl, sym, ◌∙◌, ap, subst, arith}
 use Rattle.std.specs.Prelude.{◌↔◌}
 use Rattle.std.proofs.lemmas.Option.{slice_get_within}
@@ -74,21 +74,21 @@ module _ (run : List Log) (lines : List Numbering) (g : Gathered) (traffic : Tra
     replayed = seen.lists.replayed.each k stay (slice_get_within seen.stays k stay at) at;
   }
 
-  -- the stay of a log, which is such as it was told
+  -- the stay of a log, which keeps the condition
   pub such_stay : (Such : Stay → Type 0) (l p : ℕ) → IsLogAt run l p → HasSuch Such seen.stays (length seen.stays) l → (s : StayOf l p) × Such s.stay
   unfolding stay_with
   such_stay Such l p log has = (stay_with l p has.at has.stay log has.stands has.of, has.such)
 
-  -- who changes to the configuration has a stay
+  -- a process that changes to the configuration has a stay
   pub come : (l p i : ℕ) → IsLogAt run l p → ChangesTo (log_of run p) i (Regular g.ring) → StayOf l p
   come l p i log change = let has = whole l p i log change in stay_with l p has.at has.stay log has.stands has.of
 
-  -- and so has who names it, or what follows it
+  -- and so has a process that names it, or what follows it
   pub stay_around : (l p i : ℕ) (d : ConfId) → IsLogAt run l p → Names (log_of run p) i d → Com (log_of run p) g.ring d → StayOf l p
   stay_around l p i d log names (inl same) = let standing = (orderly.placed p).named i d names in come l p standing.from log (subst (λ (x : ConfId). ChangesTo (log_of run p) standing.from x) same standing.change)
   stay_around l p i d log names (inr follows) = come l p follows.from log follows.first.change
 
-  -- where a stay turns, no entry names a configuration
+  -- the entry where a stay turns names no configuration
   pub before_turn : (l p i : ℕ) (s : StayOf l p) → s.stay.from < i → i < s.stay.end → Names (log_of run p) i (Regular g.ring) → i < s.stay.turn
   before_turn l p i s after until names = elim (less_or_not i s.stay.turn) [
     | inl under ↦ under

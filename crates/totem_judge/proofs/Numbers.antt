@@ -18,14 +18,14 @@ use Rattle.totem_certificate_check.proofs.Standing.{stands_at}
 use Rattle.totem_configuration_rules.specs.Traffics.{IsLogAt}
 use Rattle.totem_judge.specs.Events.{IsEventAt}
 
--- what stands at a place of a list is one thing
+-- a list has one element at an index
 pub one_at : {X : Type 0} (xs : List X) (i : ℕ) (x y : X) → slice_get xs i ≡ Some x → slice_get xs i ≡ Some y → x ≡ y
 one_at xs i x y a b = cc
 
 pub entries_of : (run : List Log) (l p : ℕ) → Rising run → (at : IsLogAt run l p) → log_of run p ≡ at.log.entries
 entries_of run l p rising at = subst (λ (q : ℕ). log_of run q ≡ at.log.entries) at.proc (log_of_at run l at.log rising at.stands)
 
--- the entry of an event stands in its process's log
+-- the entry of an event is in its process's log
 pub entry_of : (run : List Log) (lines : List Numbering) (l p i : ℕ) (x : Entry) (n : ℕ) → Rising run → IsLogAt run l p → IsEventAt run lines l i x n → slice_get (log_of run p) i ≡ Some x
 entry_of run lines l p i x n rising at event =
     let same : event.log ≡ at.log = one_at run l event.log at.log event.log_is at.stands in
@@ -65,7 +65,7 @@ module _ (run : List Log) (lines : List Numbering) (rising : Rising run) (certif
       let is_m : below.1 ≡ m = (let h = below.3 in let k = b.number in cc) in
       omega (arith, below.4, is_n, is_m)
 
-  -- and so of two events of a log the one with the lesser number comes first
+  -- and so of two events of a log the one with the lesser number is first
   pub in_order : (l p i j : ℕ) (x y : Entry) (n m : ℕ) → IsLogAt run l p → IsEventAt run lines l i x n → IsEventAt run lines l j y m → (i < j) ↔ (n < m)
   in_order l p i j x y n m at first second = (later_above l p i j x y n m at first second, back)
     where

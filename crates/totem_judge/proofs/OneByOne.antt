@@ -26,7 +26,7 @@ judged_none run lines pending none = record {
   exact = λ are x. (λ has. absurd (let h : Contains {X = Pending} [] x = rw none at has in let lt = h.1 in omega arith), λ h. absurd (let lt = h.before in omega arith));
 }
 
--- who is open has a log
+-- a process that is open has a log
 pending_to : (run : List Log) (c : RingId) (x : Pending) → IsPendingIn run c x.proc x.msg → IsPendingTo run c (length run) x
 pending_to run c x pending = of pending.still_open.1
   where

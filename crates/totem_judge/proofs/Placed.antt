@@ -72,7 +72,7 @@ module _ (run : List Log) (lines : List Numbering) (g : Gathered) (traffic : Tra
     | inr (inr same) ↦ same
   ]
 
-  -- who fails or is open in the configuration has a stay there
+  -- a process that fails or is open in the configuration has a stay there
   stay_of_end : (l p : ℕ) → IsLogAt run l p → FailedIn (log_of run p) g.ring ⊎ StaysIn (log_of run p) g.ring → StayOf l p
   stay_of_end l p log (inl (i, d, fails, belongs)) = view.stay_around run lines g traffic is_run orderly certified seen whole l p i d log (Fail d, fails, refl) belongs
   stay_of_end l p log (inr (d, never, last, inl same)) = come l p last.index log (rw same at last.change)
@@ -173,7 +173,7 @@ module _ (run : List Log) (lines : List Numbering) (g : Gathered) (traffic : Tra
 
   -- ---- members
 
-  -- who is a member of x, by one change to it
+  -- the members of x, given one change to it
   members_of : (p i : ℕ) (x : ConfId) (members : List ℕ) (found : MemberLogs) → ChangesWith (log_of run p) i x members → AreMemberLogs run members found → AreMembers run x found
   members_of p i x members found change are = record {
     logs = record { exact = λ l q log. (from l q log, to l q log) };
@@ -208,7 +208,7 @@ module _ (run : List Log) (lines : List Numbering) (g : Gathered) (traffic : Tra
 
   -- ---- what follows
 
-  -- what a stay turns to follows the configuration in its log
+  -- the configuration that a stay turns to follows the regular one in its log
   turned : (l p : ℕ) (x : ConfId) (s : StayOf l p) → IsLogAt run l p → TurnsToConf run x s.stay → Follows (log_of run p) g.ring x
   turned l p x s log (ms, t) =
       let turns = s.is.turns t.before in
@@ -216,7 +216,7 @@ module _ (run : List Log) (lines : List Numbering) (g : Gathered) (traffic : Tra
       let same : turns.conf ≡ x = same_change (log_of run p) s.stay.turn s.stay.turn turns.conf x refl turns.change (ms, rw entries at t.change) in
       rw same at turns.follows
 
-  -- and what follows it there the stay turns to
+  -- and the stay turns to the one that follows there
   turns_at : (l p : ℕ) (x : ConfId) (s : StayOf l p) → (f : Follows (log_of run p) g.ring x) → f.to ≡ s.stay.turn
   turns_at l p x s f = elim (less_or_not s.stay.turn (length (log_of run p))) [
     | inl under ↦ one_next (log_of run p) s.stay.from f.to s.stay.turn (rw from at f.next) (s.is.next under).1

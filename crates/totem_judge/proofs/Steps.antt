@@ -34,7 +34,7 @@ such_earlier : (Such : Stay → Type 0) (stays : List Stay) (n log : ℕ) (h : H
 such_earlier Such stays n log h lt = record { at = h.at; stay = h.stay; before = lt; stands = h.stands; of = h.of; such = h.such }
 
 module _ (Such : Stay → Type 0) (stays : List Stay) (n : ℕ) (stay : Stay) (at : slice_get stays n ≡ Some stay) where
-  -- the next stay is such, and its log is in the set
+  -- the next stay keeps the condition, and its log is in the set
   pub select_more : (old new : LogSet) → Such stay → Has new stay.log → ((log : ℕ) → log ≢ stay.log → Has new log ↔ Has old log) → Selects Such stays n old → Selects Such stays (n + 1) new
   select_more old new such here others so_far = record { exact = λ log. (from log, to log) }
     where
@@ -53,7 +53,7 @@ module _ (Such : Stay → Type 0) (stays : List Stay) (n : ℕ) (stay : Stay) (a
         ]
       ]
 
-  -- the next stay is not such
+  -- the next stay does not keep the condition
   pub select_skip : (set : LogSet) → (Such stay → ⊥) → Selects Such stays n set → Selects Such stays (n + 1) set
   select_skip set never so_far = record {
     exact = λ log. (
@@ -123,7 +123,7 @@ pub at_end : {X : Type 0} (xs : List X) (x : X) → slice_get (xs ++ x ∷ []) (
 at_end [] x = refl
 at_end (z ∷ xs) x = at_end xs x
 
--- what a list with one more holds, it held before, or it is that one
+-- an element of a list with one more was in the list before, or is that one
 pub push_cases : {X : Type 0} (xs : List X) (x : X) (k : ℕ) (y : X) → slice_get (xs ++ x ∷ []) k ≡ Some y → (slice_get xs k ≡ Some y) ⊎ ((k ≡ length xs) × (x ≡ y))
 push_cases [] x zero y at = inr (refl, cc)
 push_cases [] x (suc k) y at = absurd cc

@@ -1,4 +1,4 @@
--- The lists of a configuration as parts of its traffic: what was sent, what is delivered, by whom, and in which order.
+-- The lists of a configuration as parts of its traffic: what was sent, what is delivered, by which logs, and the order.
 use Rattle.std.proofs.Common.{◌≡◌, ◌⊎◌, inl, inr, ℕ, ◌+◌, ◌<◌, ◌≤◌, List, length, slice_get, Some, true, refl, sym, ◌∙◌, ap, subst, arith}
 use Rattle.std.specs.Prelude.{◌↔◌, IsTrue}
 use Rattle.std.proofs.lemmas.Option.{slice_get_within}
@@ -57,7 +57,7 @@ module _ (run : List Log) (lines : List Numbering) (g : Gathered) (traffic : Tra
   one_sent : (j k : ℕ) (s t : Sent) → slice_get g.sent.items j ≡ Some s → slice_get g.sent.items k ≡ Some t → s.message ≡ t.message → j ≡ k
   one_sent = view.one_sent run lines g traffic is_run orderly certified seen whole
 
-  -- ---- by whom
+  -- ---- which logs deliver
 
   -- the place where p's delivery of m is listed
   place_of : (k l p i : ℕ) (m : MsgId) (got : Got) (sent : Sent) → slice_get g.got.items k ≡ Some got → slice_get g.sent.items got.sent ≡ Some sent → sent.message ≡ m → (f : Listed l p i m) → f.at ≡ k
@@ -106,7 +106,7 @@ module _ (run : List Log) (lines : List Numbering) (g : Gathered) (traffic : Tra
           let le = view.behind_turn run lines g traffic is_run orderly certified seen whole l p i d f.s f.after (Deliver sent.message d, delivers, refl) follows in
           subst (λ (j : ℕ). Has got.transitional j) f.s.log (((there_of k l p i sent.message got sent at of refl f).transitional le).0)
 
-  -- who delivers what is listed is among those by whom it is delivered
+  -- who delivers what is listed is among those which logs deliver it is delivered
   is_by : (k l p i : ℕ) (m : MsgId) (got : Got) (sent : Sent) → slice_get g.got.items k ≡ Some got → slice_get g.sent.items got.sent ≡ Some sent → sent.message ≡ m → Listed l p i m → IsBy got l
   is_by k l p i m got sent at of is f =
       let there = there_of k l p i m got sent at of is f in
@@ -215,7 +215,7 @@ module _ (run : List Log) (lines : List Numbering) (g : Gathered) (traffic : Tra
       let f = listed log.0 p i m log.1 (d, delivers, belongs) in
       record { at = f.at; got = f.got; stands = f.got_is; sent = f.sent; of = f.sent_is; message = f.message }
 
-  -- ---- in which order
+  -- ---- the order
 
   -- the number of a delivery of what is listed at j
   number_at : (j l p h : ℕ) (a : Got) (s : Sent) → slice_get g.got.items j ≡ Some a → IsOf g.sent.items a s → (f : Listed l p h s.message) → slice_get g.got_numbers.items j ≡ Some f.number

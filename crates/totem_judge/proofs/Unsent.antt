@@ -1,4 +1,4 @@
--- 1.3: where all configurations were seen, what is delivered was sent there.
+-- 1.3: if all configurations were verified, what is delivered was sent there.
 use Rattle.std.proofs.Common.{◌≡◌, ◌⊎◌, inl, inr, ℕ, ◌<◌, List, length, slice_get, Some, refl, sym, ◌∙◌, subst, arith}
 use Rattle.totem_ids.specs.declared.ring.RingId.{RingId}
 use Rattle.totem_ids.specs.declared.conf.ConfId.{ConfId}

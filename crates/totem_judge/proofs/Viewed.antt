@@ -1,4 +1,4 @@
--- What was gathered of a configuration, and seen to be so, is its traffic.
+-- What was gathered about a configuration and verified is its traffic.
 use Rattle.std.proofs.Common.{◌≡◌, ℕ, List, length, slice_get, Some, sym, subst}
 use Rattle.totem_ids.specs.declared.conf.ConfId.TheVariants.{Regular}
 use Rattle.totem_evs.specs.declared.log.Log.{Log}

@@ -71,7 +71,7 @@ module _ (run : List Log) (lines : List Numbering) (list : List Gathered) (is_ru
     | inr (inr is) ↦ one_at list k g h (rw is at at_j) at_k
   ]
 
-  -- who changes to the configuration has a stay among those that were seen
+  -- a process that changes to the configuration has a stay among the verified ones
   pub whole : (k : ℕ) (g : Gathered) (traffic : Traffic) → slice_get list k ≡ Some g → (seen : IsSeen run lines g traffic)
       → (l p i : ℕ) → IsLogAt run l p → ChangesTo (log_of run p) i (Regular g.ring) → HasSuch IsAny seen.stays (length seen.stays) l
   whole k g traffic at seen l p i log change =

@@ -12,7 +12,7 @@ use Rattle.totem_judge.specs.declared.gathered.Stay.{Stay}
 use Rattle.totem_judge.specs.Events.{IsEventAt}
 use Rattle.totem_judge.specs.StaysIn.{IsStayIn}
 
--- the stay begins with this arrival, whose number is that of the configuration
+-- the stay begins with this arrival, which has the number of the configuration
 pub record IsArrivedAs (run : List Log) (lines : List Numbering) (g : Gathered) (arrival : Arrival) (stay : Stay) : Type 0 where
   pub entry : Entry
   pub event : IsEventAt run lines arrival.log arrival.at entry g.number
@@ -20,12 +20,12 @@ pub record IsArrivedAs (run : List Log) (lines : List Numbering) (g : Gathered) 
   pub from : stay.from ≡ arrival.at
   pub is : IsStayIn run g.ring stay
 
--- the stays begin with the first n arrivals
+-- the n stays begin with the first n arrivals
 pub record AreStaysTo (run : List Log) (lines : List Numbering) (g : Gathered) (n : ℕ) (stays : List Stay) : Type 0 where
   pub count : length stays ≡ n
   pub each : (k : ℕ) (arrival : Arrival) (stay : Stay) → slice_get g.arrivals.items k ≡ Some arrival → slice_get stays k ≡ Some stay → IsArrivedAs run lines g arrival stay
 
--- the stays begin with the arrivals, of which there is one
+-- the stays begin with the arrivals, and there is at least one
 pub record AreStaysAt (run : List Log) (lines : List Numbering) (g : Gathered) (stays : List Stay) : Type 0 where
   pub some : 0 < length stays
   pub to : AreStaysTo run lines g (length g.arrivals.items) stays
@@ -45,20 +45,20 @@ pub record IsComeTo (list : List Gathered) (log number : ℕ) : Type 0 where
   pub number_is : gathered.number ≡ number
   pub arrives : HasArrival gathered.arrivals.items log
 
--- the changes of the log at this index to regular configurations are gathered, of its first n entries
+-- the changes to regular configurations among the first n entries of the log at this index are gathered
 pub record LogHasComeTo (run : List Log) (lines : List Numbering) (list : List Gathered) (log n : ℕ) : Type 0 where
   pub each : (i : ℕ) (c : RingId) (members : List ℕ) (entries : Log) → i < n → slice_get run log ≡ Some entries → slice_get entries.entries i ≡ Some (Conf (Regular c) members)
       → (number : ℕ) × IsEventAt run lines log i (Conf (Regular c) members) number × IsComeTo list log number
 
--- all of them
+-- all changes of the log to regular configurations are gathered
 pub record LogHasCome (run : List Log) (lines : List Numbering) (list : List Gathered) (log : ℕ) : Type 0 where
   pub each : (i : ℕ) (c : RingId) (members : List ℕ) (entries : Log) → slice_get run log ≡ Some entries → slice_get entries.entries i ≡ Some (Conf (Regular c) members)
       → (number : ℕ) × IsEventAt run lines log i (Conf (Regular c) members) number × IsComeTo list log number
 
--- those of the first n logs
+-- all changes of the first n logs to regular configurations are gathered
 pub record AllHaveCome (run : List Log) (lines : List Numbering) (list : List Gathered) (n : ℕ) : Type 0 where
   pub each : (log : ℕ) → log < n → LogHasCome run lines list log
 
--- the numbers of the first n configurations rise
+-- the numbers of the first n configurations are ascending
 pub record AreRisingTo (list : List Gathered) (n : ℕ) : Type 0 where
   pub rising : (j k : ℕ) (g h : Gathered) → j < k → k < n → slice_get list j ≡ Some g → slice_get list k ≡ Some h → g.number < h.number

@@ -4,7 +4,7 @@ use Rattle.totem_evs.specs.declared.entry.Entry.{Entry}
 use Rattle.totem_evs.specs.declared.log.Log.{Log}
 use Rattle.totem_evs.specs.Certificates.{Numbering}
 
--- the entry x stands at this index of the log at index l, and has this number
+-- the entry x is at this index of the log at index l, and has this number
 pub record IsEventAt (run : List Log) (lines : List Numbering) (l i : ℕ) (x : Entry) (n : ℕ) : Type 0 where
   pub log : Log
   pub line : Numbering

@@ -1,4 +1,4 @@
--- What is judged of the regular configurations of a run.
+-- How the regular configurations of a run are judged.
 use Rattle.std.specs.Prelude.{◌≡◌, ◌↔◌, ℕ, ◌<◌, List, length, slice_get, Some, Contains}
 use Rattle.totem_evs.specs.declared.log.Log.{Log}
 use Rattle.totem_evs.specs.declared.pending.Pending.{Pending}
@@ -13,20 +13,20 @@ use Rattle.totem_judge.specs.declared.gathered.Gathered.{Gathered}
 use Rattle.totem_judge.specs.Seen.{IsSeen}
 use Rattle.totem_judge.specs.Pending.{AddsAll, IsPendingFrom}
 
--- the traffic of a configuration was seen, its rules are met, and the list has gained what is pending there
+-- the traffic of a configuration was verified, its rules are met, and what is pending there was added to the list
 pub record IsJudged (run : List Log) (lines : List Numbering) (g : Gathered) (old new : List Pending) : Type 0 where
   pub traffic : Traffic
   pub seen : IsSeen run lines g traffic
   pub agrees : ShowsAgreement traffic
   pub adds : AddsAll traffic run (length run) old new
 
--- the traffic of a configuration was seen, and its rules are met
+-- the traffic of a configuration was verified, and its rules are met
 pub record IsSettled (run : List Log) (lines : List Numbering) (g : Gathered) : Type 0 where
   pub traffic : Traffic
   pub seen : IsSeen run lines g traffic
   pub agrees : ShowsAgreement traffic
 
--- what is seen of these configurations is their traffic
+-- what was verified for these configurations is their traffic
 pub record AllAreTraffic (run : List Log) (lines : List Numbering) (list : List Gathered) : Type 0 where
   pub each : (k : ℕ) (g : Gathered) (traffic : Traffic) → slice_get list k ≡ Some g → IsSeen run lines g traffic → IsTrafficOf run g.ring traffic
 

@@ -1,4 +1,4 @@
--- What the lists of one regular configuration tell of what was sent and delivered there.
+-- What the lists of one regular configuration say about what was sent and delivered there.
 use Rattle.std.specs.Prelude.{◌≡◌, ◌⊎◌, ◌↔◌, ℕ, ◌<◌, ◌≤◌, Bool, true, false, List, length, slice_get, Some}
 use Rattle.totem_ids.specs.declared.ring.RingId.{RingId}
 use Rattle.totem_ids.specs.declared.conf.ConfId.{ConfId}
@@ -20,7 +20,7 @@ use Rattle.totem_judge.specs.declared.gathered.Gathered.{Gathered}
 use Rattle.totem_judge.specs.declared.gathered.Stay.{Stay}
 use Rattle.totem_judge.specs.Events.{IsEventAt}
 
--- it holds of each index below n
+-- it holds for each index below n
 pub record EachBelow (Holds : ℕ → Type 0) (n : ℕ) : Type 0 where
   pub each : (k : ℕ) → k < n → Holds k
 
@@ -36,7 +36,7 @@ pub record IsSendOf (e : Entry) (c : RingId) (m : MsgId) (safe : Bool) : Type 0 
   pub is : e ≡ Send m (Regular c) service
   pub kind : is_safe service ≡ safe
 
--- a send with this number comes before what is delivered from this index on
+-- a send with this number is before what is delivered from this index on
 abbrev pub ComesBefore : List ℕ → ℕ → ℕ → Type 0
 ComesBefore numbers before number = (before ≡ length numbers) ⊎ ((n : ℕ) × (slice_get numbers before ≡ Some n) × number < n)
 
@@ -48,11 +48,11 @@ pub record IsGotBy (gots : List Got) (k log : ℕ) : Type 0 where
   pub of : got.sent ≡ k
   pub by : IsBy got log
 
--- whoever delivers the k-th message does so where it is listed
+-- each log that delivers the k-th message is listed there as well
 pub record IsLinked (gots : List Got) (k : ℕ) (sent : Sent) : Type 0 where
   pub each : (log : ℕ) → Has sent.by log → IsGotBy gots k log
 
--- the k-th message was sent as it is listed
+-- the k-th message was sent as the lists say
 pub record IsSentAt (run : List Log) (lines : List Numbering) (g : Gathered) (k : ℕ) : Type 0 where
   pub sent : Sent
   pub origin : Origin
@@ -68,7 +68,7 @@ pub record IsSentAt (run : List Log) (lines : List Numbering) (g : Gathered) (k 
 
 -- ---- what is delivered
 
--- the k-th message that is delivered is one that was sent, and some of these logs alone deliver it
+-- the k-th message that is delivered was sent, and it is delivered by at least one log, and by these logs only
 pub record IsGotAt (g : Gathered) (logs : LogSet) (k : ℕ) : Type 0 where
   pub got : Got
   pub sent : Sent
@@ -83,9 +83,9 @@ pub record IsGotAt (g : Gathered) (logs : LogSet) (k : ℕ) : Type 0 where
   pub among : (log : ℕ) → IsBy got log → Has logs log
   pub some : (log : ℕ) × IsBy got log
 
--- ---- what stands in a stay
+-- ---- what is in a stay
 
--- the stay's log is among those that deliver the message in the configuration in which it stands at this index, and only there
+-- the stay's log is listed as delivering the message in the configuration that it is in at this index, and only there
 pub record IsThere (got : Got) (stay : Stay) (at : ℕ) : Type 0 where
   pub regular : at < stay.turn → Has got.regular stay.log × (Has got.transitional stay.log → ⊥)
   pub transitional : stay.turn ≤ at → Has got.transitional stay.log × (Has got.regular stay.log → ⊥)
@@ -123,7 +123,7 @@ IsListed g stay at (Send m x service) n = (k : ℕ) × IsOriginAt g stay.log k a
 IsListed g stay at (Deliver m x) n = (k : ℕ) × IsDeliveryOf g stay k at (Deliver m x) n
 IsListed g stay at (Fail x) n = Unit {0}
 
--- of the entries of the stay, those at indices below n are listed
+-- the entries of the stay at indices below n are listed
 pub record AreListed (run : List Log) (lines : List Numbering) (g : Gathered) (stay : Stay) (n : ℕ) : Type 0 where
   pub each : (at number : ℕ) (x : Entry) → stay.from < at → at < n → IsEventAt run lines stay.log at x number → IsListed g stay at x number
 

@@ -1,4 +1,4 @@
--- What is seen of the traffic that was gathered of one regular configuration.
+-- What was verified about the traffic gathered for one regular configuration.
 use Rattle.std.specs.Prelude.{◌≡◌, ℕ, ◌<◌, List, length, slice_get, Some}
 use Rattle.totem_ids.specs.declared.conf.ConfId.{ConfId}
 use Rattle.totem_evs.specs.declared.log.Log.{Log}
@@ -16,16 +16,16 @@ use Rattle.totem_judge.specs.Members.{AreMemberLogs}
 use Rattle.totem_judge.specs.Turns.{HasFollowings}
 use Rattle.totem_judge.specs.Lists.{EachBelow, IsSentAt, IsGotAt, AreListed, IsDelivered}
 
--- the lists and the entries of the stay tell the same
+-- the lists and the entries of the stay agree
 pub record IsReplayed (run : List Log) (lines : List Numbering) (g : Gathered) (stay : Stay) : Type 0 where
   pub listed : AreListed run lines g stay stay.end
   pub delivered : EachBelow (IsDelivered run lines g stay) (length g.got.items)
 
--- so do those of the first n stays
+-- the lists and the entries of the first n stays agree
 pub record AreReplayed (run : List Log) (lines : List Numbering) (g : Gathered) (stays : List Stay) (n : ℕ) : Type 0 where
   pub each : (k : ℕ) (stay : Stay) → k < n → slice_get stays k ≡ Some stay → IsReplayed run lines g stay
 
--- the lists tell what was sent and delivered in these stays
+-- the lists have what was sent and delivered in these stays
 pub record AreTrue (run : List Log) (lines : List Numbering) (g : Gathered) (stays : List Stay) (logs : LogSet) : Type 0 where
   pub got_many : length g.got.items ≡ length g.got_numbers.items
   pub got_rise : RisesBefore g.got_numbers.items (length g.got_numbers.items)
@@ -35,7 +35,7 @@ pub record AreTrue (run : List Log) (lines : List Numbering) (g : Gathered) (sta
   pub got : EachBelow (IsGotAt g logs) (length g.got.items)
   pub replayed : AreReplayed run lines g stays (length stays)
 
--- they are the members of the configuration in which one of the stays begins
+-- the members are those of the configuration in which one of the stays begins
 pub record HasMembers (run : List Log) (stays : List Stay) (found : MemberLogs) : Type 0 where
   pub at : ℕ
   pub stay : Stay
@@ -47,7 +47,7 @@ pub record HasMembers (run : List Log) (stays : List Stay) (found : MemberLogs) 
   pub change : ChangesWith log.entries stay.from conf members
   pub are : AreMemberLogs run members found
 
--- the traffic is what was gathered, and it is so
+-- the traffic is what was gathered, and it was verified
 pub record IsSeen (run : List Log) (lines : List Numbering) (g : Gathered) (traffic : Traffic) : Type 0 where
   pub sent : traffic.sent.items ≡ g.sent.items
   pub got : traffic.got.items ≡ g.got.items

@@ -12,7 +12,7 @@ use Rattle.totem_judge.specs.declared.gathered.Stay.{Stay}
 abbrev pub IsChangeToRing : Entry → RingId → Type 0
 IsChangeToRing e c = (members : List ℕ) × (e ≡ Conf (Regular c) members)
 
--- the stay is one of its log in c
+-- the stay is a stay of its log in c
 pub record IsStayIn (run : List Log) (c : RingId) (stay : Stay) : Type 0 where
   pub log : Log
   pub stands : slice_get run stay.log ≡ Some log

@@ -31,7 +31,7 @@ pub record GoesFurther (run : List Log) (stay : Stay) : Type 0 where
 abbrev pub LeavesFrom : List Log → ConfId → Stay → Type 0
 LeavesFrom run x stay = TurnsToConf run x stay × GoesFurther run stay
 
--- x, with these members, as it follows in the first n stays
+-- x, with these members, and the stays among the first n in which it follows
 pub record IsFollowing (run : List Log) (stays : List Stay) (n : ℕ) (x : ConfId) (ms : List ℕ) (following : Following) : Type 0 where
   pub members : AreMemberLogs run ms following.members
   pub logs : Selects (TurnsToConf run x) stays n following.logs

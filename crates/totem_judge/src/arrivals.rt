@@ -10,7 +10,7 @@ use totem_certificate::Line;
 use totem_evs::{Entry, Log};
 use totem_ids::ConfId;
 
-/// Returns the stay that begins with this arrival, or `None` unless the log changes to the configuration there, with its number.
+/// Returns the stay that begins with this arrival, or `None` unless the log changes there to the configuration, with its number.
 fn stay_at(logs: &[Log], lines: &[Line], gathered: &Gathered, arrival: &Arrival) -> Option<Stay>
     ensures { IfSome result (IsArrivedAs logs.now lines.now gathered.now arrival.now) }
 {
@@ -21,7 +21,7 @@ fn stay_at(logs: &[Log], lines: &[Line], gathered: &Gathered, arrival: &Arrival)
     Stay::at(logs, &gathered.ring, arrival)
 }
 
-/// Returns the stays in the configuration, or `None` unless it has one and each begins as it is gathered.
+/// Returns the stays in the configuration, or `None` unless there is one and each begins as it was gathered.
 pub fn stays_in(
     alloc: Global,
     logs: &[Log],

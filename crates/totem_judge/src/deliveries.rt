@@ -1,4 +1,4 @@
-//! Whether the lists of a configuration and the entries of a stay agree.
+//! Tests whether the lists of a configuration and the entries of a stay agree.
 ghost use Rattle.std.specs.Prelude.{◌≡◌, ◌<◌, IfSome, length};
 ghost use Rattle.std.specs.Bool.{OnTrue};
 ghost use Rattle.totem_judge.specs.Lists.{EachBelow, IsThere, IsDeliveryOfMessage, IsDeliveryOf, IsOriginAt, AreListed, IsDelivered, IsDeliveredAt};
@@ -10,7 +10,7 @@ use totem_configuration_rules::{Got, Sent};
 use totem_evs::{Entry, Log};
 use totem_ids::MsgId;
 
-/// Returns the index of the next message of this log's among those that were sent, as a guess.
+/// Returns the index of the next message that this log sent, in the list of what was sent. It is a guess, to be tested.
 fn next_sent(list: &[Sent], from: usize, log: u32) -> usize {
     for index in from..list.len() {
         if list[index].sender == log {
@@ -20,7 +20,7 @@ fn next_sent(list: &[Sent], from: usize, log: u32) -> usize {
     list.len()
 }
 
-/// Returns the index of the next message that this log delivers, as a guess.
+/// Returns the index of the next message that this log delivers, in the list of what is delivered. It is a guess, to be tested.
 fn next_got(list: &[Got], from: usize, log: u32) -> usize
     requires { log < 32 }
 {
@@ -32,7 +32,7 @@ fn next_got(list: &[Got], from: usize, log: u32) -> usize
     list.len()
 }
 
-/// Returns the index of the next delivery of a log, as a guess.
+/// Returns the index of the next delivery of a log. It is a guess, to be tested.
 fn next_delivery(logs: &[Log], log: u32, from: usize) -> usize {
     let log = log as usize;
     if log >= logs.len() {
@@ -48,7 +48,7 @@ fn next_delivery(logs: &[Log], log: u32, from: usize) -> usize {
     from
 }
 
-/// Returns whether the message at this index of what was sent was sent there in the log.
+/// Returns whether the message at `index` in the list of what was sent is listed as sent by the log's entry at `at`.
 fn is_origin_at(gathered: &Gathered, log: u32, index: usize, at: usize) -> bool
     ensures { OnTrue result (IsOriginAt gathered.now log index at) }
 {
@@ -67,7 +67,7 @@ fn is_origin_at(gathered: &Gathered, log: u32, index: usize, at: usize) -> bool
     true
 }
 
-/// Returns whether the log of the stay is among those that deliver the message at this index of it, and only there.
+/// Returns whether the log of the stay is listed as delivering the message in the configuration that it is in at `at`, and only there.
 fn is_there(got: &Got, stay: &Stay, at: usize) -> bool
     ensures { OnTrue result (IsThere got.now stay.now at) }
 {
@@ -89,7 +89,7 @@ fn delivers(entry: &Entry, message: &MsgId) -> bool
     }
 }
 
-/// Returns whether the event, at this index of the stay's log, delivers the message at the other index of what is delivered.
+/// Returns whether the event, at `at` in the stay's log, delivers the message at `index` in the list of what is delivered.
 fn is_delivery_of(gathered: &Gathered, stay: &Stay, index: usize, at: usize, event: &Event) -> bool
     ensures { OnTrue result (IsDeliveryOf gathered.now stay.now index at event.now.entry.now event.now.number) }
 {
@@ -145,7 +145,7 @@ pub fn are_listed(logs: &[Log], lines: &[Line], gathered: &Gathered, stay: &Stay
     true
 }
 
-/// Returns whether an entry of the stay delivers the message at this index, and which one.
+/// Returns the index of the entry of the stay that delivers the message at this index, or `None` unless the next delivery does.
 fn delivery_in(
     logs: &[Log],
     lines: &[Line],
@@ -167,7 +167,7 @@ fn delivery_in(
     Some(at)
 }
 
-/// Returns whether entries of the stay deliver what its log delivers by the lists.
+/// Returns whether entries of the stay deliver what its log delivers according to the lists.
 pub fn are_delivered(logs: &[Log], lines: &[Line], gathered: &Gathered, stay: &Stay) -> bool
     ensures { OnTrue result (EachBelow (IsDelivered logs.now lines.now gathered.now stay.now) (length gathered.now.got.items)) }
 {

@@ -24,7 +24,7 @@ fn has_failed(entries: &[Entry]) -> bool
     entries[entries.len() - 1].is_failure()
 }
 
-/// Returns whether the stay goes up to the end of a log that is not quiet.
+/// Returns whether the stay reaches the end of a log that is not quiet.
 fn is_excused(logs: &[Log], stay: &Stay) -> bool
     ensures { IsTrue result ↔ IsExcusedIn logs.now stay.now }
 {
@@ -36,7 +36,7 @@ fn is_excused(logs: &[Log], stay: &Stay) -> bool
     stay.end == log.entries.as_slice().len() && log.ending != Ending::Quiet
 }
 
-/// Returns whether the log of the stay has no failure at its end.
+/// Returns whether the log of the stay does not end in a failure.
 fn goes_on(logs: &[Log], stay: &Stay) -> bool
     ensures { IsTrue result ↔ GoesOnAt logs.now stay.now }
 {

@@ -58,7 +58,7 @@ fn goes_further(logs: &[Log], stay: &Stay) -> bool
     stay.end < log.entries.as_slice().len()
 }
 
-/// Returns the configuration as it follows in these stays.
+/// Returns the configuration of this change, with the logs of the stays in which it follows.
 fn following_as(logs: &[Log], stays: &[Stay], turn: &Turn) -> Following
     requires { length logs.now ≤ 32 }
     ensures { IsFollowing logs.now stays.now (length stays.now) turn.now.conf.now turn.now.members.now result }

@@ -1,6 +1,6 @@
 //! Gathers the traffic of all regular configurations in one walk along the numbers of a certificate.
 //!
-//! Nothing is claimed of what is gathered: whoever takes it looks whether it is so.
+//! Nothing is proved about what is gathered: its user has to verify it.
 ghost use Rattle.std.specs.Prelude.{◌≡◌, ◌≤◌, ◌<◌, length};
 
 use crate::gathered::{Arrival, Gathered, Origin};
@@ -12,21 +12,21 @@ use totem_configuration_rules::{Got, LogSet, Sent};
 use totem_evs::{Entry, Log};
 use totem_ids::{ConfId, MsgId, RingId, Service};
 
-/// Where a message that was sent is listed: in which configuration, and at which index.
+/// Where a sent message is listed: in which configuration, and at which index.
 #[derive(Clone, Copy)]
 struct Spot {
     configuration: usize,
     index: u32,
 }
 
-/// Where the messages are listed that were sent.
+/// Where the sent messages are listed.
 #[derive(Drop)]
 struct Spots {
     /// The configurations of the rings, by index.
     rings: BTreeMap<RingId, usize>,
-    /// For each configuration, the indices of the messages that bear its ring, by their numbers; `ABSENT` where none was sent.
+    /// For each configuration, the indices of the messages named by its ring, by their numbers; `ABSENT` for a number that was not sent.
     numbered: Vec<Vec<u32>>,
-    /// Messages of other rings, and those whose numbers leave too many out.
+    /// Messages named by other rings, and those whose numbers are too high for a list by number.
     others: BTreeMap<MsgId, Spot>,
     /// The ring that was looked up last, and its configuration.
     last: Option<(RingId, usize)>,
@@ -34,12 +34,12 @@ struct Spots {
 
 const ABSENT: u32 = u32::MAX;
 
-/// How many numbers a list may leave out before its first message, and for each message.
+/// How high a message's number may be for a list by number: `LEFT_OUT`, and `LEFT_OUT_EACH` more for each message sent before.
 const LEFT_OUT: usize = 16;
 
 const LEFT_OUT_EACH: usize = 3;
 
-/// The next events of all logs that share a number: the first log that has one, and all that have.
+/// The next events of all logs that share a number: the first log that has one, and the set of all that do.
 #[derive(Clone, Copy)]
 struct Next {
     log: u32,
@@ -53,13 +53,13 @@ struct Next {
 struct Gatherer {
     list: Vec<Gathered>,
     spots: Spots,
-    /// For each log, the configuration in which it stands, by index.
+    /// For each log, the index of the configuration that it is in.
     standing: Vec<usize>,
-    /// The logs that stand in a transitional configuration.
+    /// The logs that are in a transitional configuration.
     behind: LogSet,
 }
 
-/// Goes past the next events with this number. Returns whose they are.
+/// Moves past the next events with this number. Returns their logs.
 fn go_past(lines: &[Line], passed: &mut [usize], number: u32) -> LogSet
     requires as_many { length passed.old ≡ length lines.now }
     requires few { length lines.now ≤ 32 }
@@ -159,7 +159,7 @@ impl Gatherer {
         })
     }
 
-    /// Enters the changes of these logs to a regular configuration. Each has passed so many entries, this one with them.
+    /// Enters the changes of these logs to a regular configuration. `passed` has the number of entries passed in each log, with this one.
     fn change(
         &mut self,
         alloc: Global,
@@ -244,7 +244,7 @@ impl Gatherer {
         Ok(())
     }
 
-    /// Enters the next events, of which this is the first log's, at this index.
+    /// Enters the next events. `entry`, at index `at`, is that of the first log.
     fn enter(
         &mut self,
         alloc: Global,
@@ -266,7 +266,7 @@ impl Gatherer {
     }
 }
 
-/// Returns how many entries the logs have.
+/// Returns the number of entries of all logs.
 fn entries_of(logs: &[Log]) -> usize {
     let mut count: usize = 0;
     for log in logs {
@@ -275,7 +275,7 @@ fn entries_of(logs: &[Log]) -> usize {
     count
 }
 
-/// Returns what is gathered of each regular configuration, in the order of their numbers.
+/// Returns what is gathered about each regular configuration, in the order of their numbers.
 pub fn gather(alloc: Global, logs: &[Log], lines: &[Line]) -> Result<Vec<Gathered>, AllocError>
     requires few { length lines.now ≤ 32 }
 {

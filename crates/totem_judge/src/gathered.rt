@@ -1,4 +1,4 @@
-//! What is gathered of a regular configuration, and by which it is seen that it is so.
+//! What is gathered about a regular configuration, with what is needed to verify it.
 ghost use Rattle.std.specs.Prelude.{◌<◌};
 
 use std::alloc::Global;
@@ -15,8 +15,8 @@ pub struct Arrival {
     ghost in_range: { log < 32 },
 }
 
-/// A stay: the log changes to the regular configuration at `from` and to what follows that at `turn`, and the entries before `end` are
-/// those that stand in these two. Where nothing follows, `turn` is `end`.
+/// A stay: the log changes to the regular configuration at `from` and to what follows that at `turn`, and its entries in these two
+/// end before `end`. If nothing follows, `turn` is `end`.
 #[derive(Clone, Copy)]
 pub struct Stay {
     /// The log, by index.
@@ -33,11 +33,11 @@ pub struct Origin {
     /// The index of the send in the log of the sender.
     pub at: u32,
     pub safe: bool,
-    /// Its index in the list of what is delivered, or `None` if nobody delivers it.
+    /// Its index in the list of what is delivered, or `None` if no process delivers it.
     pub got: Option<u32>,
 }
 
-/// What is gathered of a regular configuration and of what follows it, in the order of the numbers of a certificate.
+/// What is gathered about a regular configuration and what follows it, in the order of the numbers of a certificate.
 #[derive(Drop)]
 pub struct Gathered {
     pub ring: RingId,
@@ -45,7 +45,7 @@ pub struct Gathered {
     pub number: u32,
     pub arrivals: Vec<Arrival>,
     pub sent: Vec<Sent>,
-    /// For each message sent, where.
+    /// For each message sent, where it was sent.
     pub origins: Vec<Origin>,
     /// For each message sent, the number of the send.
     pub sent_numbers: Vec<u32>,

@@ -17,7 +17,7 @@ use totem_configuration_rules::is_agreed;
 use totem_evs::{Log, Pending, Run, Waiting};
 use totem_run_rules::{end_together, in_order, is_orderly, waiting};
 
-/// Judges one configuration, and appends what is pending there. Returns `true` only where all its rules are met.
+/// Judges one configuration, and appends what is pending there. Returns `true` only if all its rules are met.
 fn judge_one(
     alloc: Global,
     logs: &[Log],
@@ -90,8 +90,8 @@ pub struct Unsettled {
     pub waiting: Vec<Waiting>,
 }
 
-/// Judges a run that its certificate orders. Returns what is left open, or `None` if it does not see that the run meets specifications 1
-/// to 7: then one of them is broken, and a search names it.
+/// Judges a run that its certificate orders. Returns what is left open, or `None` if it does not find that the run meets
+/// specifications 1 to 7: then one of them is broken, and a search has to name it.
 pub fn judge(
     alloc: Global,
     run: &Run,

@@ -1,4 +1,4 @@
-//! The judge: whether a run that its certificate orders meets the specifications, by the traffic of each regular configuration.
+//! The judge: whether a run that its certificate orders meets the specifications, judged by the traffic of each regular configuration.
 #![tactic(auto)]
 
 mod arrivals;

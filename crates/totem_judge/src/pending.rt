@@ -1,4 +1,4 @@
-//! What is pending in a run, by the traffic of its configurations (docs/SPECIFICATIONS.md, "Pending and waiting").
+//! What is pending in a run, according to the traffic of its configurations (docs/SPECIFICATIONS.md, "Pending and waiting").
 ghost use Rattle.std.specs.Prelude.{◌≤◌, OnOk, length};
 ghost use Rattle.totem_judge.specs.Pending.{AddsAll};
 

@@ -1,4 +1,4 @@
-//! Whether the lists of a configuration have what was sent and delivered there as the logs have it.
+//! Tests whether the lists of a configuration agree with the logs about what was sent and delivered there.
 ghost use Rattle.std.specs.Prelude.{◌≡◌, ◌<◌, length};
 ghost use Rattle.std.specs.Bool.{OnTrue};
 ghost use Rattle.totem_judge.specs.Lists.{EachBelow, is_safe, IsSendOf, ComesBefore, IsLinked, IsSentAt, IsGotAt};
@@ -16,7 +16,7 @@ fn is_safe(service: Service) -> bool
     matches!(service, Service::Safe)
 }
 
-/// Returns whether both hold, or neither.
+/// Returns whether both are true or both false.
 fn are_same(first: bool, second: bool) -> bool
     ensures { OnTrue result (first ≡ second) }
 {
@@ -35,7 +35,7 @@ fn is_send_of(entry: &Entry, ring: &RingId, message: &MsgId, safe: bool) -> bool
     }
 }
 
-/// Returns whether a send with this number comes before the messages that are delivered from this index on.
+/// Returns whether a send with this number is before the messages that are delivered from this index on.
 fn comes_before(numbers: &[u32], before: u32, number: u32) -> bool
     ensures { OnTrue result (ComesBefore numbers.now before number) }
 {
@@ -47,7 +47,7 @@ fn comes_before(numbers: &[u32], before: u32, number: u32) -> bool
     }
 }
 
-/// Returns whether the logs that deliver the message are among those of its place in the list of what is delivered.
+/// Returns whether the logs that deliver the message are among those listed at its place in the list of what is delivered.
 fn is_linked(sent: &Sent, index: usize, place: Option<u32>, gathered: &Gathered) -> bool
     ensures { OnTrue result (IsLinked gathered.now.got.items index sent.now) }
 {
@@ -109,7 +109,8 @@ pub fn all_are_sent(logs: &[Log], lines: &[Line], gathered: &Gathered) -> bool
     true
 }
 
-/// Returns whether the message at this index of what is delivered is one that was sent, and some of these logs alone deliver it.
+/// Returns whether the message at this index of the list of what is delivered was sent, and is delivered by at least one log and by
+/// these logs only.
 fn is_got(gathered: &Gathered, logs: LogSet, index: usize) -> bool
     ensures { OnTrue result (IsGotAt gathered.now logs index) }
 {
@@ -141,7 +142,7 @@ fn is_got(gathered: &Gathered, logs: LogSet, index: usize) -> bool
     true
 }
 
-/// Returns whether each message of what is delivered is one that was sent, and some of these logs alone deliver it.
+/// Returns whether each message of the list of what is delivered was sent, and is delivered by at least one log and by these logs only.
 pub fn all_are_got(gathered: &Gathered, logs: LogSet) -> bool
     ensures { OnTrue result (EachBelow (IsGotAt gathered.now logs) (length gathered.now.got.items)) }
 {

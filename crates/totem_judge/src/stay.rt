@@ -1,4 +1,4 @@
-//! The part of a log that stands in a regular configuration and in what follows it (docs/SPECIFICATIONS.md, "Following").
+//! The part of a log that is in a regular configuration and in what follows it (docs/SPECIFICATIONS.md, "Following").
 ghost use Rattle.std.specs.Prelude.{◌↔◌, ◌≡◌, IsTrue, IfSome};
 ghost use Rattle.totem_evs.specs.Runs.{IsRun};
 ghost use Rattle.totem_judge.specs.StaysIn.{IsChangeToRing, IsStayIn};

@@ -1,4 +1,4 @@
-//! The traffic of a regular configuration, as it was gathered and seen to be so.
+//! The traffic of a regular configuration, as it was gathered and verified.
 ghost use Rattle.std.specs.Prelude.{◌<◌, ◌≤◌, IfOk, IfSome, length};
 ghost use Rattle.std.specs.Bool.{OnTrue};
 ghost use Rattle.totem_judge.specs.Seen.{AreReplayed, AreTrue, HasMembers, IsSeen};
@@ -31,7 +31,7 @@ fn are_replayed(logs: &[Log], lines: &[Line], gathered: &Gathered, stays: &[Stay
     true
 }
 
-/// Returns whether the lists have what was sent and delivered as the logs that stay in the configuration have it.
+/// Returns whether the lists agree with the logs that stay in the configuration about what was sent and delivered.
 fn are_true(logs: &[Log], lines: &[Line], gathered: &Gathered, stays: &[Stay], set: LogSet) -> bool
     ensures { OnTrue result (AreTrue logs.now lines.now gathered.now stays.now set) }
 {
@@ -66,7 +66,7 @@ fn members_in(logs: &[Log], stays: &[Stay]) -> Option<MemberLogs>
     }
 }
 
-/// Returns the traffic that was gathered, or `None` unless the logs have it so.
+/// Returns the traffic that was gathered, or `None` unless the logs agree with it.
 pub fn traffic_of(
     alloc: Global,
     logs: &[Log],
