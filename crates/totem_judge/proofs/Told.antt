@@ -106,7 +106,7 @@ module _ (run : List Log) (lines : List Numbering) (g : Gathered) (traffic : Tra
           let le = view.behind_turn run lines g traffic is_run orderly certified seen whole l p i d f.s f.after (Deliver sent.message d, delivers, refl) follows in
           subst (λ (j : ℕ). Has got.transitional j) f.s.log (((there_of k l p i sent.message got sent at of refl f).transitional le).0)
 
-  -- who delivers what is listed is among those which logs deliver it is delivered
+  -- a log that delivers what is listed is among those listed for it
   is_by : (k l p i : ℕ) (m : MsgId) (got : Got) (sent : Sent) → slice_get g.got.items k ≡ Some got → slice_get g.sent.items got.sent ≡ Some sent → sent.message ≡ m → Listed l p i m → IsBy got l
   is_by k l p i m got sent at of is f =
       let there = there_of k l p i m got sent at of is f in

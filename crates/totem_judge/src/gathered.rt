@@ -15,8 +15,8 @@ pub struct Arrival {
     ghost in_range: { log < 32 },
 }
 
-/// A stay: the log changes to the regular configuration at `from` and to what follows that at `turn`, and its entries in these two
-/// end before `end`. If nothing follows, `turn` is `end`.
+/// A stay: the log changes to the regular configuration at `from` and to what follows that at `turn`, and its entries up to
+/// `end` are those in these two. If nothing follows, `turn` is `end`.
 #[derive(Clone, Copy)]
 pub struct Stay {
     /// The log, by index.

@@ -57,8 +57,8 @@ fn judge_all(
     Ok(Some(pending))
 }
 
-/// Judges the configurations of a run that its certificate orders. Returns what is pending, by process and then by message, or `None` unless
-/// the run meets all specifications.
+/// Judges the configurations of a run that its certificate orders. Returns what is pending, by process and then by message, or `None`
+/// unless the run meets all specifications.
 fn settle(
     alloc: Global,
     run: &Run,
