@@ -87,7 +87,7 @@ listed_before_end log n list j i lists end within change =
     let listed = lists.whole i within change in
     (listed.number, omega (arith, slice_get_within list listed.number i listed.is), listed.is)
 
--- what stands next in the list is the next change
+-- what is next in the list is the next change
 pub next_listed : (log : List Entry) (list : List ℕ) (j a b : ℕ) → ListsChanges log (length log) list → slice_get list j ≡ Some a → slice_get list (j + 1) ≡ Some b → IsNextOrEnd log a b
 next_listed log list j a b lists at_a at_b = record {
   later = lists.rising j (j + 1) a b at_a at_b (omega arith);

@@ -27,7 +27,7 @@ log_more P Q p log n kept here before = record {
 pub log_end : (P : ℕ → List Entry → ℕ → Type 0) (p : ℕ) (log : List Entry) (n : ℕ) → length log ≤ n → KnowsLog P p log n → KnowsLog P p log (length log)
 log_end P p log n end known = record { each = λ i lt. known.each i (omega arith) }
 
--- the logs before the k-th are known
+-- the logs before the one at k are known
 pub record KnowsBefore (P : ℕ → List Entry → ℕ → Type 0) (run : List Log) (k : ℕ) : Type 0 where
   pub each : (j : ℕ) (log : Log) → j < k → slice_get run j ≡ Some log → KnowsLog P log.proc log.entries (length log.entries)
 

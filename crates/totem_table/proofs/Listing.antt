@@ -1,4 +1,4 @@
--- Entering the changes of a run alone, and searching them alone.
+-- Entering only the changes of a run, and searching only the changes.
 use Rattle.std.proofs.Common.{◌≡◌, ℕ, ◌+◌, ◌<◌, ◌≤◌, inl, inr, List, ◌∷◌, length, slice_get, get_or, Some, refl, arith}
 use Rattle.std.proofs.lemmas.Option.{slice_get_within, slice_get_read}
 use Rattle.totem_ids.specs.declared.place.Place.{Place}
@@ -29,7 +29,7 @@ known_more P Q p log list n b kept at here before = record {
     in_this : (k i : ℕ) → k ≡ n → slice_get list k ≡ Some i → Q p log i
     in_this k i same at_k = let e : b ≡ i = (let h : slice_get list n ≡ Some i = rw same at at_k in cc) in rw e at here
 
--- with what is no change, all before the next listed one is known
+-- with the entries that are no change, all entries before the next listed one are known
 pub known_below : (P : ℕ → List Entry → ℕ → Type 0) (p : ℕ) (log : List Entry) (list : List ℕ) (n b : ℕ) → ((q : ℕ) (l : List Entry) (i : ℕ) → (IsChange l i → ⊥) → P q l i) → ListsChanges log (length log) list → slice_get list n ≡ Some b
     → KnowsListed P p log list n → KnowsLog P p log b
 known_below P p log list n b spares lists at before = record {
@@ -51,7 +51,7 @@ known_at_end P p log list n spares lists end before = record {
   ];
 }
 
--- it holds of no list that begins with one of the first n listed changes
+-- it holds for no list that begins with one of the first n listed changes
 pub record NoneListed (H : List Place → Type 0) (p : ℕ) (list : List ℕ) (n : ℕ) : Type 0 where
   pub none : (k i : ℕ) (rest : List Place) → k < n → slice_get list k ≡ Some i → H (place p i ∷ rest) → ⊥
 
@@ -95,7 +95,7 @@ none_to_end H p log list n spares lists end before = record {
   ];
 }
 
--- each of the list but the first has a change before it
+-- each of the list except the first has a change before it
 pub later_has_one : (log : List Entry) (list : List ℕ) (n a b : ℕ) → ListsChanges log (length log) list → slice_get list 0 ≡ Some a → slice_get list n ≡ Some b → 0 < n → (k : ℕ) × (k < b) × IsChange log k
 later_has_one log list n a b lists first at lt = (a, lists.rising 0 n a b first at lt, (lists.each 0 a first).1)
 

@@ -26,7 +26,7 @@ none_in_log_end H p i n le before = record { none = λ k rest lt h. before.none 
 pub least_in_log : (H : List Place → Type 0) (p i n : ℕ) (rest places : List Place) → i < n → places ≡ place p i ∷ rest → IsLeastFrom H p i rest → NoneInLog H p i → IsLeastInLog H p n places
 least_in_log H p i n rest places lt is least before = record { at = i; rest = rest; within = lt; is = is; least = least; none_before = before }
 
--- it holds of no list that begins in a log before the k-th
+-- it holds for no list that begins in a log before the one at k
 pub record NoneBeforeLog (run : List Log) (H : List Place → Type 0) (k : ℕ) : Type 0 where
   pub none : (j i : ℕ) (log : Log) (rest : List Place) → j < k → slice_get run j ≡ Some log → i < length log.entries → H (place log.proc i ∷ rest) → ⊥
 
@@ -86,7 +86,7 @@ least_here run H k log places rising at here before = record {
       ]
     ]
 
--- what a search answers, in other words
+-- the result of a search in another form
 pub reworded : {X F : Type 0} (r : Result (Option X) F) (A B : Type 0) (P Q : X → Type 0) → (A → B) → ((x : X) → P x → Q x) → IfOk r (λ found. MatchOption found A P) → IfOk r (λ found. MatchOption found B Q)
 reworded (Err e) A B P Q f g h = tt
 reworded (Ok None) A B P Q f g h = f h

@@ -1,4 +1,4 @@
--- What is known of the entries of a run (docs/SPECIFICATIONS.md, "Faults"), each by its process, its log and its index.
+-- What is known about the entries of a run (docs/SPECIFICATIONS.md, "Faults"), each by its process, its log and its index.
 use Rattle.std.specs.Prelude.{◌≡◌, ℕ, ◌<◌, List, length}
 use Rattle.totem_evs.specs.declared.entry.Entry.{Entry}
 use Rattle.totem_evs.specs.declared.log.Log.{Log}

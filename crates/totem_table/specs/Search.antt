@@ -1,4 +1,4 @@
--- The least list of events of which something holds (docs/SPECIFICATIONS.md, "Order of faults").
+-- The least list of events for which something holds (docs/SPECIFICATIONS.md, "Order of faults").
 use Rattle.std.specs.Prelude.{◌≡◌, ℕ, ◌+◌, ◌<◌, List, [], ◌∷◌, length, Option, Some, None}
 use Rattle.totem_ids.specs.declared.place.Place.{Place}
 use Rattle.totem_evs.specs.declared.fault.Fault.{Fault}
@@ -11,19 +11,19 @@ use Rattle.totem_evs.specs.Answers.{ComesFirst, IsLeast}
 abbrev pub place : ℕ → ℕ → Place
 place p i = record { proc = p; at = i + 1 }
 
--- it holds of no list that begins at this entry
+-- it holds for no list that begins at this entry
 pub record NoneFrom (Holds : List Place → Type 0) (p i : ℕ) : Type 0 where
   pub none : (rest : List Place) → Holds (place p i ∷ rest) → ⊥
 
--- of the lists that begin at this entry, the one that goes on so comes first
+-- of the lists that begin at this entry, the one with this rest is first
 pub record IsLeastFrom (Holds : List Place → Type 0) (p i : ℕ) (rest : List Place) : Type 0 where
   pub least : IsLeast (λ others. Holds (place p i ∷ others)) rest
 
--- it holds of no list that begins in p's log before i
+-- it holds for no list that begins in p's log before i
 pub record NoneInLog (Holds : List Place → Type 0) (p i : ℕ) : Type 0 where
   pub none : (k : ℕ) (rest : List Place) → k < i → Holds (place p k ∷ rest) → ⊥
 
--- of the lists that begin among the first n entries of p's log, this one comes first
+-- of the lists that begin among the first n entries of p's log, this one is first
 pub record IsLeastInLog (Holds : List Place → Type 0) (p n : ℕ) (places : List Place) : Type 0 where
   pub at : ℕ
   pub rest : List Place
@@ -32,16 +32,16 @@ pub record IsLeastInLog (Holds : List Place → Type 0) (p n : ℕ) (places : Li
   pub least : IsLeastFrom Holds p at rest
   pub none_before : NoneInLog Holds p at
 
--- it holds of no list that begins with an event
+-- it holds for no list that begins with an event
 pub record NoneOf (run : List Log) (Holds : List Place → Type 0) : Type 0 where
   pub none : (p i : ℕ) (rest : List Place) → i < length (log_of run p) → Holds (place p i ∷ rest) → ⊥
 
--- of the lists that begin with an event, this one comes first
+-- of the lists that begin with an event, this one is first
 pub record IsLeastOf (run : List Log) (Holds : List Place → Type 0) (places : List Place) : Type 0 where
   pub holds : Holds places
   pub first : (p i : ℕ) (rest : List Place) → i < length (log_of run p) → Holds (place p i ∷ rest) → ComesFirst places (place p i ∷ rest)
 
--- it holds of no list
+-- it holds for no list
 pub record HoldsOfNone (Holds : List Place → Type 0) : Type 0 where
   pub none : (places : List Place) → Holds places → ⊥
 

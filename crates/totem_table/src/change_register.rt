@@ -1,4 +1,4 @@
-//! Walks along the changes of a run alone, and keeps what a search has to know of them.
+//! Walks along the changes of a run only, and keeps what a search has to know about them.
 ghost use Rattle.std.specs.Prelude.{ℕ, ◌<◌, ◌≤◌, List, OnOk, length};
 ghost use Rattle.totem_evs.specs.declared.entry.Entry.{Entry};
 ghost use Rattle.totem_evs.specs.declared.log.Log.{Log};
@@ -12,20 +12,20 @@ use std::alloc::{AllocError, Global};
 use totem_evs::{Entry, Run};
 use totem_ids::Proc;
 
-/// Keeps something of the changes of a run.
+/// Keeps some knowledge about the changes of a run.
 pub trait ChangeRegister {
     /// What is true of the register as long as only changes of this run are entered.
     ghost sound: { Self → List Log → Type 0 };
 
-    /// What the register knows of the entry at an index of a process's log, once that is entered.
+    /// What the register knows about the entry at an index of a process's log once it is entered.
     ghost knows: { Self → ℕ → List Entry → ℕ → Type 0 };
 
-    /// An entry that is no change is known without being entered.
+    /// Does nothing. Its contract says that an entry that is no change is known without being entered.
     fn spares(&self)
         ensures { (p : ℕ) (log : List Entry) (i : ℕ) → (IsChange log i → ⊥) → knows self.now p log i };
 
-    /// Enters the change at this index; `next` is the index of the change after it, or the length of the log. Those
-    /// before it in the log have been entered. If memory is refused, the register is of no more use.
+    /// Enters the change at this index; `next` is the index of the change after it, or the length of the log. The
+    /// changes before it in the log have been entered. If memory is refused, the register can no longer be used.
     fn enter_change(
         &mut self,
         alloc: Global,
@@ -66,7 +66,7 @@ fn enter_changes_of<R: ChangeRegister>(
     Ok(())
 }
 
-/// Enters the changes of the run, and so knows all of its entries.
+/// Enters the changes of the run. All its entries are known then.
 pub fn enter_changes<R: ChangeRegister>(
     register: &mut R,
     alloc: Global,

@@ -1,5 +1,5 @@
-//! Where the logs of a run change their configuration. Changes are few among the entries: whoever asks for them alone need not walk along
-//! all of these.
+//! Where the logs of a run change to another configuration. Few entries are changes, so a search that needs only the changes need not
+//! walk along all entries.
 ghost use Rattle.std.specs.Prelude.{◌≡◌, ◌≤◌, ◌<◌, IfOk, length, slice_index_or};
 ghost use Rattle.totem_evs.specs.Following.{IsNextOrEnd};
 ghost use Rattle.totem_table.specs.Changes.{ListsChanges, AreChanges};
@@ -8,7 +8,7 @@ use crate::row::Row;
 use std::alloc::{AllocError, Global};
 use totem_evs::{Entry, Run};
 
-/// For each log of a run the indices of its changes, in their order.
+/// For each log of a run, the indices of its changes, in ascending order.
 #[derive(Debug, Drop)]
 pub struct Changes {
     pub rows: Vec<Row>,
@@ -28,7 +28,7 @@ fn changes_in(alloc: Global, entries: &[Entry]) -> Result<Row, AllocError>
     Ok(Row::of(list))
 }
 
-/// Returns the index of the change that follows the one of this number, counted from 0, or the length of the log where none does.
+/// Returns the index of the change that follows the one with this number, counted from 0, or the length of the log if none does.
 pub fn next_change(log: &[Entry], changes: &[u32], number: usize) -> usize
     requires lists { ListsChanges log.now (length log.now) changes.now }
     requires within { number < length changes.now }

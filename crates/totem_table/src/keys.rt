@@ -1,7 +1,7 @@
-//! What registers of changes are kept by.
+//! The keys of registers of changes.
 use totem_ids::{ConfId, Proc};
 
-/// A change of configuration: who changes, and to what.
+/// A change of configuration: the process that changes, and the configuration that it changes to.
 #[derive(Clone, Copy, Debug, PartialEq, Eq, PartialOrd, Ord)]
 pub struct Change {
     pub proc: Proc,

@@ -1,4 +1,4 @@
-//! Walks along the entries of a run, and keeps what a search has to know of them.
+//! Walks along the entries of a run, and keeps what a search has to know about them.
 ghost use Rattle.std.specs.Prelude.{ℕ, ◌<◌, ◌≤◌, List, OnOk, length};
 ghost use Rattle.totem_evs.specs.declared.entry.Entry.{Entry};
 ghost use Rattle.totem_evs.specs.declared.log.Log.{Log};
@@ -8,16 +8,16 @@ use std::alloc::{AllocError, Global};
 use totem_evs::{Entry, Run};
 use totem_ids::Proc;
 
-/// Keeps something of the entries of a run.
+/// Keeps some knowledge about the entries of a run.
 pub trait Register {
     /// What is true of the register as long as only entries of this run are entered.
     ghost sound: { Self → List Log → Type 0 };
 
-    /// What the register knows of the entry at an index of a process's log, once that is entered.
+    /// What the register knows about the entry at an index of a process's log once it is entered.
     ghost knows: { Self → ℕ → List Entry → ℕ → Type 0 };
 
-    /// Enters the entry at this index. Those before it in the log have been entered. If memory is refused, the register
-    /// is of no more use.
+    /// Enters the entry at this index. The entries before it in the log have been entered. If memory is refused, the register
+    /// can no longer be used.
     fn enter(
         &mut self,
         alloc: Global,

@@ -14,10 +14,10 @@ pub trait Relation {
     /// The logs of the run.
     ghost of: { Self → List Log };
 
-    /// What the relation says of a list of places.
+    /// What the relation says about a list of places.
     ghost holds: { Self → List Place → Type 0 };
 
-    /// Returns how the least list goes on that begins with the entry at index `at` of a process's log, or `None` if none does.
+    /// Returns the rest of the least list that begins with the entry at index `at` of a process's log, or `None` if no list does.
     fn rest(
         &self,
         alloc: Global,
@@ -31,7 +31,7 @@ pub trait Relation {
         ensures { IfOk result (λ found. MatchOption found (NoneFrom (holds self.now) proc at) (λ rest. IsLeastFrom (holds self.now) proc at rest.items)) };
 }
 
-/// Returns the list with the place of the entry at this index of a process's log in front.
+/// Returns the list with the place of the entry at this index of a process's log added at the front.
 pub fn begin_at(proc: Proc, at: usize, mut rest: Vec<Place>) -> Result<Vec<Place>, AllocError>
     requires { at < 1000000 }
     ensures { IfOk result (λ list. list.items ≡ place proc at ∷ rest.items) }
@@ -51,7 +51,7 @@ pub fn places_of(found: Option<Vec<Place>>) -> Option<Places>
     found.map(Places::new)
 }
 
-/// Returns the least list that begins in this log.
+/// Returns the least list that begins in this log, or `None` if there is none.
 fn least_in<R: Relation>(
     relation: &R,
     alloc: Global,
