@@ -18,7 +18,7 @@ use Rattle.totem_pass_ab.specs.Pairs.{IsOneOrTwo}
 use Rattle.totem_pass_ab.specs.Bad.{IsForeignChange, AreTwoForms, IsSendBetween, AreTwice}
 use Rattle.totem_run_rules.proofs.Decisions.{contains_or_not, same_list_or_not, regular_or_transitional}
 
--- what is least under one of two names is so under the other
+-- the least list of one of two equivalent forms is the least of the other
 pub finds : {F : Type 0} (run : List Log) (k : SpecNo) (H : List Place → Type 0) (r : Result (Option (List Place)) F) → (HoldsOfNone H → Meets run k) → ((ps : List Place) → H ps → Breaks run k ps)
     → ((ps : List Place) → Breaks run k ps → H ps) → IfOk r (λ found. MatchOption found (HoldsOfNone H) (IsLeast H)) → IfOk r (Finds run k)
 finds run k H (Err e) meets to from h = tt

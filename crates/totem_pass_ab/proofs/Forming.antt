@@ -1,4 +1,4 @@
--- Entering changes, and what it tells.
+-- Entering changes, and what it shows.
 use Rattle.std.proofs.Common.{◌≡◌, ℕ, ◌+◌, inl, inr, List, [], ◌∷◌, slice_get, Option, Some, refl, ap, subst, arith}
 use Rattle.std.specs.declared.cmp.Ordering.{Ordering}
 use Rattle.std.specs.Cmp.{IsTotalOrder}
@@ -22,7 +22,7 @@ use Rattle.totem_pass_ab.proofs.Knowing.{meets_keeps}
 use Rattle.totem_table.proofs.Exact.{change_by}
 
 module _ (by_change : Change → Change → Ordering) (by_conf : ConfId → ConfId → Ordering) where
-  -- of what is no change there is nothing to know
+  -- about an entry that is no change there is nothing to know
   pub spares_change : (v : BTreeMap Change (Option Place)) (f : BTreeMap ConfId (Option (List ℕ))) (p : ℕ) (log : List Entry) (i : ℕ) → (IsChange log i → ⊥) → KnowsChange by_change by_conf v f p log i
   spares_change v f p log i never = record { placed = λ x ms at. absurd (never (x, (ms, at))); formed = λ x ms at. absurd (never (x, (ms, at))) }
 
@@ -35,7 +35,7 @@ module _ (by_change : Change → Change → Ordering) (by_conf : ConfId → Conf
     };
   }
 
-  -- a configuration to which a process changed once, and which has one form, is in no two forms
+  -- a configuration to which a process changed once, and which has one form, does not have two forms
   pub only_form : (run : List Log) (v : BTreeMap Change (Option Place)) (f : BTreeMap ConfId (Option (List ℕ))) (p i : ℕ) (x : ConfId) (ms : List ℕ) → KnowsRun (KnowsChange by_change by_conf v f) run
       → tree.get by_change v (change_by p x) ≡ Some (Some (place p i)) → tree.get by_conf f x ≡ Some (Some ms) → HoldsOfNone (IsOne run (AreTwoForms p i (Conf x ms)))
   only_form run v f p i x ms known once one = record { none = λ places h. go places h }
@@ -54,7 +54,7 @@ module _ (by_change : Change → Change → Ordering) (by_conf : ConfId → Conf
       go (g ∷ []) (j, js, (Fail y, at, h)) = h
       go (g ∷ e ∷ more) h = h
 
-  -- what is no change is in no form
+  -- an entry that is no change is not one of two forms
   pub no_form : (run : List Log) (p i : ℕ) (e : Entry) → ((x : ConfId) (ms : List ℕ) → e ≡ Conf x ms → ⊥) → HoldsOfNone (IsOne run (AreTwoForms p i e))
   no_form run p i e no_change = record { none = λ places h. go e refl places h }
     where
@@ -66,7 +66,7 @@ module _ (by_change : Change → Change → Ordering) (by_conf : ConfId → Conf
       go (Fail x) is (f ∷ []) (j, js, (y, at, h)) = h
       go z is (f ∷ g ∷ more) h = h
 
--- what is no change is bad neither alone nor with another
+-- an entry that is no change is bad neither alone nor with another
 pub no_bad_form : (run : List Log) (p i : ℕ) → (IsChange (log_of run p) i → ⊥) → NoneFrom (IsOneOrTwo run IsForeignChange AreTwoForms) p i
 no_bad_form run p i never = record { none = λ rest h. go rest h }
   where

@@ -1,4 +1,4 @@
--- What is known of the values that were met under a key stays known.
+-- What is known about the values that were recorded under a key stays known.
 use Rattle.std.proofs.Common.{◌≡◌, inl, inr, List, [], ◌∷◌, Option, Some, None, Bool, true, refl, ◌∙◌}
 use Rattle.std.specs.declared.cmp.Ordering.{Ordering}
 use Rattle.std.specs.Cmp.{IsTotalOrder}

@@ -1,4 +1,4 @@
--- What a walk along deliveries tells whose sends are known.
+-- What a walk along deliveries with known sends shows.
 use Rattle.std.proofs.Common.{◌≡◌, ℕ, List, slice_get, Some, Bool, true, false}
 use Rattle.std.specs.Bool.{OnTrue}
 use Rattle.std.proofs.lemmas.Option.{slice_get_within}
@@ -13,7 +13,7 @@ use Rattle.totem_table.specs.Registers.{KnowsRun}
 use Rattle.totem_pass_ab.specs.Sent.{IsSentBy, IsSentHere}
 use Rattle.totem_run_rules.specs.Sent.{WasSentTo}
 
--- what it delivers, if it delivers anything
+-- a delivery whose send is known
 pub delivers_known : (run : List Log) (p : ℕ) (m : MsgId) (d : ConfId) (b : Bool) → OnTrue b (WasSentTo run (log_of run p) m d) → OnTrue b (IsSentBy run p (Deliver m d))
 delivers_known run p m d true sent = record { each = λ n x same. (let same_m : m ≡ n = cc in let same_d : d ≡ x = cc in rw (← same_m, ← same_d) sent) }
 delivers_known run p m d false sent = tt
@@ -24,6 +24,6 @@ delivers_nothing run p e other = record { each = λ m d same. absurd (other m d 
 pub sent_at : (run : List Log) (p : ℕ) (log : List Entry) (i : ℕ) (e : Entry) → slice_get log i ≡ Some e → log ≡ log_of run p → IsSentBy run p e → IsSentHere run p log i
 sent_at run p log i e at is sent = record { each = λ m d delivers. (let same : e ≡ Deliver m d = cc in rw is (sent.each m d same)) }
 
--- a run of which all entries are so
+-- a run with all entries known
 pub delivers_what_was_sent : (run : List Log) → KnowsRun (IsSentHere run) run → DeliversWhatWasSent run
 delivers_what_was_sent run known p i m d delivers = (known.each p i (slice_get_within (log_of run p) i (Deliver m d) delivers)).each m d delivers

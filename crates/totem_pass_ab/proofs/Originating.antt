@@ -1,4 +1,4 @@
--- Entering turns, and what it tells.
+-- Entering turns, and what it shows.
 use Rattle.std.proofs.Common.{◌≡◌, ℕ, List, [], ◌∷◌, Option, Some}
 use Rattle.std.specs.declared.cmp.Ordering.{Ordering}
 use Rattle.std.specs.Cmp.{IsTotalOrder}
@@ -23,7 +23,7 @@ use Rattle.totem_pass_ab.proofs.Knowing.{meets_knows, meets_keeps}
 use Rattle.totem_pass_ab.proofs.Turning.{one_succession}
 
 module _ (by_conf : ConfId → ConfId → Ordering) where
-  -- from what is no change no log comes
+  -- no log comes from an entry that is no change
   pub spares_origin : (s : BTreeMap ConfId (Option RingId)) (p : ℕ) (log : List Entry) (i : ℕ) → (IsChange log i → ⊥) → KnowsOrigin by_conf s p log i
   spares_origin s p log i never = record { each = λ j c t ms ns succession. absurd (never (Regular c, (ms, succession.first))) }
 
@@ -37,7 +37,7 @@ module _ (by_conf : ConfId → ConfId → Ordering) where
         rw (← one.next, ← rings) (meets_knows by_conf total s t y d met));
   }
 
-  -- where all logs come from one ring, none comes from another
+  -- if all logs come from one ring, none comes from another
   pub one_origin : (run : List Log) (s : BTreeMap ConfId (Option RingId)) (p : ℕ) (c : RingId) (t : ConfId) → KnowsRun (KnowsOrigin by_conf s) run → tree.get by_conf s t ≡ Some (Some c) → HoldsOfNone (IsOtherOrigin run p c t)
   one_origin run s p c t known only = record { none = λ places h. go places h }
     where

@@ -1,4 +1,4 @@
--- What stands out of place first.
+-- The first entry out of place.
 use Rattle.std.proofs.Common.{◌≡◌, ℕ, ◌+◌, ◌<◌, inl, inr, List, [], ◌∷◌, slice_get, Some, sym, ◌∙◌, ap, arith}
 use Rattle.totem_ids.specs.declared.place.Place.{Place}
 use Rattle.totem_evs.specs.declared.entry.Entry.{Entry}
@@ -11,13 +11,13 @@ use Rattle.totem_evs.specs.Answers.{ComesFirst, IsLeastBreak}
 use Rattle.totem_evs.proofs.LogOf.{Rising, log_of_cases, log_of_at, in_order, less_or_not}
 use Rattle.totem_run_rules.proofs.Placed.{PlacedBefore, same_place}
 
--- what stays in place has nothing out of place
+-- a log that stays in place has no entry out of place
 pub placed_contradicts : (log : List Entry) (i : ℕ) → StaysInPlace log → IsMisplaced log i → ⊥
 placed_contradicts log i ok (lt, inl (zero, never)) = never (rw zero (ok.begins (omega arith)))
 placed_contradicts log i ok (lt, inr (inl (x, names, never))) = never (ok.named i x names)
 placed_contradicts log i ok (lt, inr (inr (k, x, before, fails))) = ok.final k i x fails before lt
 
--- the first that is out of place, in a log after those that stay in place, comes first
+-- the first entry out of place, in a log after those that stay in place, is the first of the run
 pub least_at : (run : List Log) (k i n : ℕ) (log : Log) → Rising run → slice_get run k ≡ Some log → IsMisplaced log.entries i → PlacedBefore run k
     → ((j : ℕ) → j < i → IsMisplaced log.entries j → ⊥) → n ≡ i + 1 → IsLeastBreak run spec.Misplaced (record { proc = log.proc; at = n } ∷ [])
 least_at run k i n log rising at misplaced placed least e = record {

@@ -1,4 +1,4 @@
--- Entering sends and changes for the quick test of 1.3, and what it tells.
+-- Entering sends and changes for the quick test of 1.3, and what it shows.
 use Rattle.std.proofs.Common.{◌≡◌, ℕ, inl, inr, List, slice_get, Some, true, false, IsTrue, sym, ◌∙◌, subst}
 use Rattle.std.specs.declared.cmp.Ordering.{Ordering}
 use Rattle.std.specs.BTreeMap.{BTreeMap}
@@ -47,7 +47,7 @@ enters_regular_change cmp s n p i log x c ms at is h = record {
       subst (λ (z : RingId). IsTrue (sorted.contains cmp n (change_by p (Regular z)))) same h.1);
 }
 
--- what is no change is none to a regular configuration
+-- an entry that is no change is no change to a regular configuration
 pub spares_regular_change : (cmp : Change → Change → Ordering) (s : BTreeSet Change) (p : ℕ) (log : List Entry) (i : ℕ) → (IsChange log i → ⊥) → KnowsRegularChange cmp s p log i
 spares_regular_change cmp s p log i never = record { each = λ c to. absurd (never (Regular c, to)) }
 

@@ -1,4 +1,4 @@
--- What the quick test of 1.3 tells.
+-- What the quick test of 1.3 shows.
 use Rattle.std.proofs.Common.{◌≡◌, ℕ, inl, inr, List, [], Some, Bool, true, false, refl, sym}
 use Rattle.std.specs.Bool.{OnTrue}
 use Rattle.std.specs.declared.cmp.Ordering.{Ordering}
@@ -23,7 +23,7 @@ use Rattle.totem_table.proofs.Exact.{change_by}
 use Rattle.totem_pass_ab.proofs.QuickSends.{sending}
 use Rattle.totem_run_rules.proofs.SentOrNot.{sent_or_not}
 
--- what can't be unsent was sent
+-- a message that can't be unsent was sent
 sent_if_there : (run : List Log) (log : List Entry) (m : MsgId) (d : ConfId) → ((WasSentTo run log m d → ⊥) → ⊥) → WasSentTo run log m d
 sent_if_there run log m d there = elim (sent_or_not run log m d) [ inl sent ↦ sent | inr not_sent ↦ absurd (there not_sent) ]
 

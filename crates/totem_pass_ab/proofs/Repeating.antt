@@ -1,4 +1,4 @@
--- Entering sends and deliveries, and what it tells.
+-- Entering sends and deliveries, and what it shows.
 use Rattle.std.proofs.Common.{◌≡◌, ◌≢◌, ◌⊎◌, ℕ, ◌+◌, inl, inr, List, [], ◌∷◌, slice_get, Option, Some, refl, sym, ap, subst, arith}
 use Rattle.std.specs.declared.cmp.Ordering.{Ordering}
 use Rattle.std.specs.Cmp.{IsTotalOrder}
@@ -89,7 +89,7 @@ module _ (by_message : MsgId → MsgId → Ordering) (by_delivery : Delivery →
       go (f ∷ []) (j, js, (Fail y, at, h)) = h
       go (f ∷ g ∷ more) h = h
 
-  -- a change or a failure happens twice with nothing
+  -- a change or a failure is not one of two sends or deliveries
   pub never_twice : (run : List Log) (p i : ℕ) (e : Entry) → ((m : MsgId) (x : ConfId) (v : Service) → e ≡ Send m x v → ⊥) → ((m : MsgId) (x : ConfId) → e ≡ Deliver m x → ⊥) → HoldsOfNone (IsOne run (AreTwice p i e))
   never_twice run p i e no_send no_delivery = record { none = λ places h. go e refl places h }
     where

@@ -79,7 +79,7 @@ in_regular log c e b decides = (λ t. inl (ap Regular (decides.0 t)), λ h. elim
 pub in_following : (log : List Entry) (c : RingId) (x next : ConfId) (n : RingId) (l : ℕ) (b : Bool) → x ≡ Transitional n l → IsTrue b ↔ Follows log c x → IsTrue b ↔ Com log c x
 in_following log c x next n l b is decides = (λ t. inr (decides.0 t), λ h. elim h [ inl same ↦ absurd cc | inr f ↦ decides.1 f ])
 
--- what a search for sends tells
+-- what a search for sends shows
 pub was_sent : (run : List Log) (log : List Entry) (m : MsgId) (d : ConfId) (ps : List Place) → IsOne run (IsSendTo log m d) ps → WasSentTo run log m d
 was_sent run log m d [] h = absurd h
 was_sent run log m d (e ∷ []) (j, js, (Send n (Regular c) s, at, (same, inside))) = (c, (e.proc, j, (s, rw same at at)), inside)
@@ -98,7 +98,7 @@ sent_if_found run log m d ps least = (λ t. was_sent run log m d ps least.holds,
 pub not_sent_if_none : (run : List Log) (log : List Entry) (m : MsgId) (d : ConfId) → NoneOf run (IsOne run (IsSendTo log m d)) → IsTrue false ↔ WasSentTo run log m d
 not_sent_if_none run log m d none = (λ t. absurd cc, λ sent. absurd (was_not_sent run log m d (none_of_all run (IsOne run (IsSendTo log m d)) (one_begins run (IsSendTo log m d)) none) sent))
 
--- deliveries of what was not sent for them
+-- deliveries of messages that were not sent for them
 pub unsent_begins : (run : List Log) → EachBegins run (BreaksUnsent run)
 unsent_begins run = record { each = λ places h. go places h }
   where

@@ -1,11 +1,11 @@
--- Where a quick test spares a search.
+-- When a quick test makes a search unnecessary.
 use Rattle.std.proofs.Common.{List, Bool, true, false, not, IsTrue, ◌↔◌, refl}
 use Rattle.std.specs.Bool.{OnFalse}
 use Rattle.std.proofs.lemmas.Grind.{not_there}
 use Rattle.totem_ids.specs.declared.place.Place.{Place}
 use Rattle.totem_table.specs.Search.{HoldsOfNone}
 
--- what a fact shows that is known to have a proof
+-- what follows from a fact, if only the existence of its proof is known
 pub none_known : {K : Type 0} (H : List Place → Type 0) → ∥ K ∥₁ → (K → HoldsOfNone H) → HoldsOfNone H
 none_known H known shows = record { none = λ places h. not_there known (λ k. (shows k).none places h) }
 

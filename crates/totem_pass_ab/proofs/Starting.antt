@@ -17,7 +17,7 @@ pub record Begins (run : List Log) (places : List Place) : Type 0 where
   pub within : index < length (log_of run proc)
   pub is : places ≡ place proc index ∷ rest
 
--- each list of which it holds begins so
+-- each list for which it holds begins in this way
 pub record EachBegins (run : List Log) (H : List Place → Type 0) : Type 0 where
   pub each : (places : List Place) → H places → Begins run places
 
@@ -55,7 +55,7 @@ one_or_two_begins run A P = record { each = λ places h. go places h }
     go (e ∷ []) (i, is, h) = begins_at run e i [] is (has_within run A e.proc i h)
     go (e ∷ f ∷ rest) (i, is, h) = begins_at run e i (f ∷ rest) is (has_within run (λ p i x. IsOne run (P p i x) (f ∷ rest)) e.proc i h)
 
--- a list of nothing comes first
+-- the empty rest is the least
 pub ends_here : (H : List Place → Type 0) (p i : ℕ) → H (place p i ∷ []) → IsLeastFrom H p i []
 ends_here H p i h = record { least = record { holds = h; first = λ others _. tt } }
 
@@ -80,19 +80,19 @@ pub told_as_places : {V : Type 0} (items : V → List Place) (found : Option V) 
 told_as_places items None places Told A P is none some h = rw is (none h)
 told_as_places items (Some v) places Told A P is none some h = rw is (some v h)
 
--- so the least list of the run is told as places
+-- the least list of the run, as places
 pub least_places : {V : Type 0} (items : V → List Place) (run : List Log) (H : List Place → Type 0) (found : Option V) (places : Option (List Place)) → EachBegins run H → MatchOption found (places ≡ None) (λ v. places ≡ Some (items v))
     → MatchOption found (NoneOf run H) (λ v. IsLeastOf run H (items v)) → MatchOption places (HoldsOfNone H) (IsLeast H)
 least_places items run H found places begins is = told_as_places items found places (λ told. MatchOption told (HoldsOfNone H) (IsLeast H)) (NoneOf run H) (λ v. IsLeastOf run H (items v)) is
     (none_of_all run H begins) (λ v. least_of_all run H (items v) begins)
 
--- what is known of the entry at a place is known of the entry there
+-- what is known about the entry at a place is known about the same entry read again
 pub moved : (log : List Entry) (i j : ℕ) (x y : Entry) (Q : ℕ → Entry → Type 0) → slice_get log i ≡ Some x → i + 1 ≡ j + 1 → slice_get log j ≡ Some y → Q j y → Q i x
 moved log i j x y Q at is at_j h = let same : j ≡ i = omega arith in
     let one : y ≡ x = same_entry log i y x (rw same at at_j) at in
     rw (same, one) at h
 
--- an entry that is not bad alone, and with none
+-- an entry that is bad neither alone nor with another
 pub bad_with_nothing : (run : List Log) (A : ℕ → ℕ → Entry → Type 0) (P : ℕ → ℕ → Entry → ℕ → ℕ → Entry → Type 0) (p i : ℕ) (x : Entry) → slice_get (log_of run p) i ≡ Some x
     → (A p i x → ⊥) → HoldsOfNone (IsOne run (P p i x)) → NoneFrom (IsOneOrTwo run A P) p i
 bad_with_nothing run A P p i x at not_alone never = record { none = λ rest h. go rest h }
@@ -105,7 +105,7 @@ pub bad_with_none : (run : List Log) (A : ℕ → ℕ → Entry → Type 0) (P :
     → (A p i x → ⊥) → NoneOf run (IsOne run (P p i x)) → NoneFrom (IsOneOrTwo run A P) p i
 bad_with_none run A P p i x at not_alone never = bad_with_nothing run A P p i x at not_alone (none_of_all run (IsOne run (P p i x)) (one_begins run (P p i x)) never)
 
--- an entry that is not bad alone, and with others
+-- an entry that is not bad alone, but with others
 pub bad_with_some : (run : List Log) (A : ℕ → ℕ → Entry → Type 0) (P : ℕ → ℕ → Entry → ℕ → ℕ → Entry → Type 0) (p i : ℕ) (x : Entry) (places : List Place) → slice_get (log_of run p) i ≡ Some x
     → (A p i x → ⊥) → IsLeastOf run (IsOne run (P p i x)) places → IsLeastFrom (IsOneOrTwo run A P) p i places
 bad_with_some run A P p i x places at not_alone least = record { least = record { holds = known places all.holds; first = λ others h. go others h } }

@@ -40,7 +40,7 @@ pub comes_itself : (es : List Place) → ComesFirst es es
 comes_itself [] = tt
 comes_itself (e ∷ es) = inr (refl, comes_itself es)
 
--- the least of some lists, where each other one has one of them at or before it
+-- the least of some lists is the least of more, if each of those has one of the first at or before it
 pub least_of_more : (H G : List Place → Type 0) (places : List Place) → ((ps : List Place) → H ps → G ps) → ((ps : List Place) → G ps → (qs : List Place) × H qs × ComesFirst qs ps) → IsLeast H places → IsLeast G places
 least_of_more H G places to from least = record {
   holds = to places least.holds;

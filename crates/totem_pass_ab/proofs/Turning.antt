@@ -30,7 +30,7 @@ no_succession_without_change log i e at other = record { none = λ j x y ms ns s
 pub no_succession_at_end : (log : List Entry) (i n : ℕ) → length log ≤ n → NoneBetween log i n → HasNoSuccession log i
 no_succession_at_end log i n end before = record { none = λ j x y ms ns succession. before.none j succession.next.later (omega (arith, slice_get_within log j (Conf y ns) succession.second)) succession.next.change }
 
--- what is told of the next change is what is asked of a succession
+-- the next change at an index makes a succession
 pub succession_to_next : (log : List Entry) (i j : ℕ) (x y : ConfId) (ms ns : List ℕ) → slice_get log i ≡ Some (Conf x ms) → slice_get log j ≡ Some (Conf y ns) → IsNextOrEnd log i j → ChangesNext log i j x y ms ns
 succession_to_next log i j x y ms ns at_i at_j next = record { first = at_i; second = at_j; next = record { change = (y, (ns, at_j)); later = next.later; none_between = next.none_between } }
 
@@ -105,7 +105,7 @@ same_wrong x x' y y' ms ms' ns ns' a b c d h =
     let e : P x' ms' y' ns' ≡ P x ms y ns = cc in
     rw e at h
 
--- a right succession is the neighbour of no wrong one
+-- a right succession is not one of wrong neighbours
 pub right_not_wrong : (log : List Entry) (i j k : ℕ) (x y : ConfId) (ms ns : List ℕ) → ChangesNext log i j x y ms ns → (IsWrongSuccession x ms y ns → ⊥) → AreWrongNeighbours log i k → ⊥
 right_not_wrong log i j k x y ms ns succession right (x', y', ms', ns', succession', how) =
     let one = one_succession log i k j x' x y' y ms' ms ns' ns succession' succession in
@@ -121,7 +121,7 @@ pub succession_of_rest : (run : List Log) (p i j : ℕ) (rest : List Place) → 
 succession_of_rest run p i j [] (x, y, ms, ns, succession, how) = (x, y, ms, ns, succession)
 succession_of_rest run p i j (g ∷ rest) (c, t, ms, ns, moves, succession, other) = (Regular c, t, ms, ns, succession)
 
--- no list begins where no succession is, and no log begins
+-- no list begins where there is neither a succession nor a transitional first change
 pub none_without_succession : (run : List Log) (p i : ℕ) → (BeginsTransitional (log_of run p) i → ⊥) → HasNoSuccession (log_of run p) i → NoneFrom (IsTurnFault run) p i
 none_without_succession run p i not_first never = record { none = λ rest h. go rest h }
   where
@@ -132,7 +132,7 @@ none_without_succession run p i not_first never = record { none = λ rest h. go 
     go [] (k, is, h) = let same : k ≡ i = omega arith in not_first (rw same at h)
     go (f ∷ rest) (k, is, (j, js, (procs, h))) = at_index k f rest j (omega arith) h
 
--- no list begins with what is no change
+-- no list begins with an entry that is no change
 pub none_without_change : (run : List Log) (p i : ℕ) → (IsChange (log_of run p) i → ⊥) → NoneFrom (IsTurnFault run) p i
 none_without_change run p i never = none_without_succession run p i (λ (x, change, moves, none). never (x, change)) (record { none = λ j x y ms ns succession. never (x, (ms, succession.first)) })
 

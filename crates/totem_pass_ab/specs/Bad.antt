@@ -1,10 +1,10 @@
--- What is bad of one entry, and of two (docs/SPECIFICATIONS.md, "Faults").
+-- Which entries are bad alone, and which two are bad together (docs/SPECIFICATIONS.md, "Faults").
 use Rattle.std.specs.Prelude.{◌≡◌, ◌≢◌, ◌⊎◌, ℕ, Contains}
 use Rattle.totem_evs.specs.declared.entry.Entry.{Entry}
 use Rattle.totem_evs.specs.declared.entry.Entry.TheVariants.{Conf, Send, Deliver, Fail}
 use Rattle.totem_evs.specs.Events.{IsTransitional}
 
--- a change by p, which it does not list
+-- a change by p to a configuration of which p is not a member
 abbrev pub IsForeignChange : ℕ → ℕ → Entry → Type 0
 IsForeignChange p i (Conf x ms) = Contains ms p → ⊥
 IsForeignChange p i (Send m x service) = ⊥

@@ -10,7 +10,7 @@ use Rattle.totem_table.specs.declared.keys.Change.{Change}
 use Rattle.totem_pass_ab.specs.Met.{Knows}
 use Rattle.totem_table.specs.Search.{place}
 
--- the place of p's change is met under p and its configuration, and its members under the configuration
+-- the place of p's change is recorded under p and its configuration, and the members under the configuration
 pub record KnowsChange (by_change : Change → Change → Ordering) (by_conf : ConfId → ConfId → Ordering) (changes : BTreeMap Change (Option Place)) (members : BTreeMap ConfId (Option (List ℕ)))
     (p : ℕ) (log : List Entry) (i : ℕ) : Type 0 where
   pub placed : (x : ConfId) (ms : List ℕ) → ChangesWith log i x ms → Knows by_change changes (record { proc = p; conf = x }) (place p i)

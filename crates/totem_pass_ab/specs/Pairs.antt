@@ -6,17 +6,17 @@ use Rattle.totem_evs.specs.declared.log.Log.{Log}
 use Rattle.totem_evs.specs.Events.{log_of}
 use Rattle.totem_evs.specs.Places.{At}
 
--- a fact of the entry at an index of p's log
+-- a fact holds for the entry at an index of p's log
 abbrev pub Has : List Log → (ℕ → ℕ → Entry → Type 0) → ℕ → ℕ → Type 0
 Has run P p i = (x : Entry) × (slice_get (log_of run p) i ≡ Some x) × P p i x
 
--- one entry that has the fact
+-- the list is one entry for which the fact holds
 abbrev pub IsOne : List Log → (ℕ → ℕ → Entry → Type 0) → List Place → Type 0
 IsOne run P [] = ⊥
 IsOne run P (e ∷ []) = At e (Has run P)
 IsOne run P (e ∷ f ∷ rest) = ⊥
 
--- one entry that is bad alone, or two that are bad together
+-- the list is one entry that is bad alone, or two that are bad together
 abbrev pub IsOneOrTwo : List Log → (ℕ → ℕ → Entry → Type 0) → (ℕ → ℕ → Entry → ℕ → ℕ → Entry → Type 0) → List Place → Type 0
 IsOneOrTwo run Alone Pair [] = ⊥
 IsOneOrTwo run Alone Pair (e ∷ []) = At e (Has run Alone)

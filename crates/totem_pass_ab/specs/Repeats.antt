@@ -11,7 +11,7 @@ use Rattle.totem_pass_ab.specs.declared.keys.Delivery.{Delivery}
 use Rattle.totem_pass_ab.specs.Met.{Knows}
 use Rattle.totem_table.specs.Search.{place}
 
--- the place of p's entry is met under the message that it sends, or under its delivery by p
+-- the place of p's entry is recorded under the message that it sends, or under its delivery by p
 pub record KnowsAct (by_message : MsgId → MsgId → Ordering) (by_delivery : Delivery → Delivery → Ordering) (sends : BTreeMap MsgId (Option Place)) (deliveries : BTreeMap Delivery (Option Place))
     (p : ℕ) (log : List Entry) (i : ℕ) : Type 0 where
   pub sent : (m : MsgId) (x : ConfId) → Sends log i m x → Knows by_message sends m (place p i)

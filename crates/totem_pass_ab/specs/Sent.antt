@@ -1,4 +1,4 @@
--- 1.3, as it is searched: the sends for a delivery (docs/SPECIFICATIONS.md, "1 Basic delivery").
+-- 1.3 in the form of a search: the sends for a delivery (docs/SPECIFICATIONS.md, "1 Basic delivery").
 use Rattle.std.specs.Prelude.{◌≡◌, ℕ, List, All, Option, None, Some}
 use Rattle.totem_ids.specs.declared.conf.ConfId.{ConfId}
 use Rattle.totem_ids.specs.declared.conf.ConfId.TheVariants.{Regular}
@@ -17,7 +17,7 @@ pub record IsSendIn (entry : Entry) (m : MsgId) (c : RingId) : Type 0 where
   pub service : Service
   pub is : entry ≡ Send m (Regular c) service
 
--- where a send is noted, there is one
+-- a send that is noted exists
 abbrev pub IsKnownSend : List Log → Option KnownSend → Type 0
 IsKnownSend run None = Unit {0}
 IsKnownSend run (Some s) = WasSentIn run s.message (Regular s.ring)
@@ -25,10 +25,10 @@ IsKnownSend run (Some s) = WasSentIn run s.message (Regular s.ring)
 abbrev pub AreKnownSends : List Log → List (Option KnownSend) → Type 0
 AreKnownSends run = All (IsKnownSend run)
 
--- what this entry of p's log delivers was sent for it
+-- if this entry of p's log is a delivery, its message was sent for it
 pub record IsSentBy (run : List Log) (p : ℕ) (entry : Entry) : Type 0 where
   pub each : (m : MsgId) (d : ConfId) → entry ≡ Deliver m d → WasSentTo run (log_of run p) m d
 
--- what the entry at i of the log delivers was sent for it
+-- if the entry at i of the log is a delivery, its message was sent for it
 pub record IsSentHere (run : List Log) (p : ℕ) (log : List Entry) (i : ℕ) : Type 0 where
   pub each : (m : MsgId) (d : ConfId) → Delivers log i m d → WasSentTo run log m d

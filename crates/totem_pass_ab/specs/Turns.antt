@@ -1,4 +1,4 @@
--- 2.4, as it is searched: neighbours in their order, and after p's two changes those of another log
+-- 2.4 in the form of a search: neighbours in their order, and after p's two changes those of another log
 -- (docs/SPECIFICATIONS.md, "Faults").
 use Rattle.std.specs.Prelude.{◌≡◌, ◌≢◌, ℕ, ◌<◌, List, [], ◌∷◌}
 use Rattle.totem_ids.specs.declared.ring.RingId.{RingId}
@@ -12,7 +12,7 @@ use Rattle.totem_evs.specs.Changes.{ChangesNext}
 use Rattle.totem_evs.specs.ChangeFaults.{BeginsTransitional, AreWrongNeighbours}
 use Rattle.totem_evs.specs.Places.{At}
 
--- the entry at i is no change, or none comes after it
+-- the entry at i is no change, or no change follows it
 pub record HasNoSuccession (log : List Entry) (i : ℕ) : Type 0 where
   pub none : (j : ℕ) (x y : ConfId) (ms ns : List ℕ) → ChangesNext log i j x y ms ns → ⊥
 
@@ -25,14 +25,14 @@ IsOfOtherRing c (Transitional next least) = ⊥
 abbrev pub ComesFromElsewhere : List Log → ℕ → RingId → ConfId → ℕ → ℕ → ℕ → Type 0
 ComesFromElsewhere run p c t q k l = (p < q) × (d : RingId) × (ks ls : List ℕ) × (c ≢ d) × ChangesNext (log_of run q) k l (Regular d) t ks ls
 
--- the two changes by which it does
+-- the two changes by which it does so
 abbrev pub IsOtherOrigin : List Log → ℕ → RingId → ConfId → List Place → Type 0
 IsOtherOrigin run p c t [] = ⊥
 IsOtherOrigin run p c t (g ∷ []) = ⊥
 IsOtherOrigin run p c t (g ∷ h ∷ []) = At g (λ q k. At h (λ s l. (q ≡ s) × ComesFromElsewhere run p c t q k l))
 IsOtherOrigin run p c t (g ∷ h ∷ x ∷ rest) = ⊥
 
--- how the list goes on after p's changes at i and j
+-- the rest of the list after p's changes at i and j
 abbrev pub IsTurnRest : List Log → ℕ → ℕ → ℕ → List Place → Type 0
 IsTurnRest run p i j [] = AreWrongNeighbours (log_of run p) i j
 IsTurnRest run p i j (g ∷ rest) = (c : RingId) × (t : ConfId) × (ms ns : List ℕ) × IsTransitional t

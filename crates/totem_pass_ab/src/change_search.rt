@@ -1,4 +1,4 @@
-//! Finds the least list of events of a run for which something holds, where each begins with a change of configuration.
+//! Finds the least list of events of a run for which something holds, where each such list begins with a change of configuration.
 ghost use Rattle.std.specs.Prelude.{◌≡◌, ◌↔◌, ℕ, ◌<◌, ◌≤◌, IsTrue, IfOk, MatchOption, List, ◌∷◌, length, slice_index_or};
 ghost use Rattle.totem_ids.specs.declared.place.Place.{Place};
 ghost use Rattle.totem_evs.specs.declared.log.Log.{Log};
@@ -17,16 +17,16 @@ pub trait ChangeRelation {
     /// The logs of the run.
     ghost of: { Self → List Log };
 
-    /// What the relation says of a list of places.
+    /// What the relation says about a list of places.
     ghost holds: { Self → List Place → Type 0 };
 
-    /// No list begins with an entry that is no change.
+    /// Does nothing. Its contract says that no list begins with an entry that is no change.
     fn spares(&self)
         ensures { (p i : ℕ) → i < length (log_of (of self.now) p) → (IsChange (log_of (of self.now) p) i → ⊥) → NoneFrom (holds self.now) p i };
 
-    /// Returns how the least list goes on that begins with the change at index `at` of a process's log, or `None` if none
-    /// does. `next` is the index of the change after it, or the length of the log, and `is_later` says whether a change
-    /// stands before it.
+    /// Returns the rest of the least list that begins with the change at index `at` of a process's log, or `None` if no
+    /// list does. `next` is the index of the change after it, or the length of the log, and `is_later` says whether there
+    /// is a change before it.
     fn rest(
         &self,
         alloc: Global,
@@ -44,7 +44,7 @@ pub trait ChangeRelation {
         ensures { IfOk result (λ found. MatchOption found (NoneFrom (holds self.now) proc at) (λ rest. IsLeastFrom (holds self.now) proc at rest.items)) };
 }
 
-/// Returns whether a change stands before the one of this number.
+/// Returns whether there is a change before the one with this number.
 fn comes_later(log: &[Entry], changes: &[u32], number: usize) -> bool
     requires lists { ListsChanges log.now (length log.now) changes.now }
     requires within { number < length changes.now }
@@ -55,7 +55,7 @@ fn comes_later(log: &[Entry], changes: &[u32], number: usize) -> bool
     number > 0
 }
 
-/// Returns the least list that begins in this log.
+/// Returns the least list that begins in this log, or `None` if there is none.
 fn least_in<R: ChangeRelation>(
     relation: &R,
     alloc: Global,

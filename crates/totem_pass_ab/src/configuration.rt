@@ -16,7 +16,7 @@ use totem_evs::{Entry, Places, Run, SpecNo};
 use totem_ids::{ConfId, Place, Proc};
 use totem_table::{Change, Changes, enter_changes, places_of};
 
-/// Looks for changes by processes that are no members, for two changes of one log to one configuration, and for two
+/// Looks for changes by processes that are not members, for two changes of one log to one configuration, and for two
 /// forms of a configuration.
 #[derive(Drop)]
 struct TwoForms<'r> {
@@ -87,7 +87,7 @@ impl ChangeRelation for TwoForms<'_> {
     }
 }
 
-/// Finds the least list of one or two changes that are bad.
+/// Finds the least list of one change that is bad alone or of two that are bad together.
 fn least_form(
     two_forms: &TwoForms,
     alloc: Global,

@@ -1,4 +1,4 @@
-//! 2.1: where a quiet log ends, each member ends too or may still come (docs/SPECIFICATIONS.md, "2 Changes of configuration").
+//! 2.1: where a quiet log ends, each member ends too or may still arrive (docs/SPECIFICATIONS.md, "2 Changes of configuration").
 ghost use Rattle.std.specs.Prelude.{IfOk};
 ghost use Rattle.totem_evs.specs.Answers.{Finds};
 

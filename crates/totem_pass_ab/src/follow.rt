@@ -46,7 +46,7 @@ fn follows(log: &[Entry], ring: &RingId, conf: &ConfId) -> bool
     succession.next.is(conf)
 }
 
-/// Returns whether `conf` is the regular configuration of the ring, or what follows that one in this log.
+/// Returns whether `conf` is the regular configuration of the ring, or follows that one in this log.
 pub fn is_in(log: &[Entry], ring: &RingId, conf: &ConfId) -> bool
     ensures { IsTrue result ↔ Com log.now ring.now conf.now }
 {

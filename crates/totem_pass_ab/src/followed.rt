@@ -10,7 +10,7 @@ use totem_evs::Entry;
 use totem_ids::{ConfId, Proc, RingId};
 use totem_table::{Change, ChangeRegister};
 
-/// Which process changed to which regular configuration, and, for each process and transitional configuration, the ring
+/// The changes of each process to regular configurations, and for each process and transitional configuration the ring
 /// of the regular one that it follows there.
 #[derive(Drop)]
 pub struct Followed {

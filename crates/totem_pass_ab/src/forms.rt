@@ -14,8 +14,8 @@ impl Same for Members {
     }
 }
 
-/// The place of each process's change to each configuration, and the members of each configuration. Where there are
-/// several, it keeps only that there are several.
+/// The place of each process's change to each configuration, and the members of each configuration. If there are
+/// several, only that fact is kept.
 #[derive(Drop)]
 pub struct Forms {
     pub changes: Met<Change, Place>,

@@ -1,4 +1,4 @@
-//! What the maps and sets of the passes are kept by.
+//! The keys of the maps and sets of the passes.
 use totem_ids::{ConfId, MsgId, Proc, RingId};
 
 /// A message, and a process that delivers it.

@@ -1,5 +1,5 @@
-//! A quick test of 1.3 (docs/SPECIFICATIONS.md, "1 Basic delivery"): where each message is sent is noted under its number, and read
-//! back at each delivery.
+//! A quick test of 1.3 (docs/SPECIFICATIONS.md, "1 Basic delivery"): the send of each message is noted under its number, and looked up
+//! at each delivery.
 ghost use Rattle.std.specs.Prelude.{◌≡◌, IfOk, IfSome, Some, length, slice_set};
 ghost use Rattle.std.specs.Bool.{OnTrue};
 ghost use Rattle.totem_evs.specs.Delivery.{DeliversWhatWasSent};
@@ -23,7 +23,7 @@ pub struct KnownSend {
     pub ring: RingId,
 }
 
-/// Returns what an entry sends, if it sends in a regular configuration.
+/// Returns the send of an entry in a regular configuration, or `None` for any other entry.
 fn sent_by(entry: &Entry) -> Option<KnownSend>
     ensures { IfSome result (λ s. IsSendIn entry.now s.message s.ring) }
 {
@@ -36,7 +36,7 @@ fn sent_by(entry: &Entry) -> Option<KnownSend>
     }
 }
 
-/// Notes a send under a number. A number past the end is left out.
+/// Notes a send under a number. A number past the end is ignored.
 fn note(sends: &mut [Option<KnownSend>], number: usize, send: KnownSend)
     ensures { sends.new ≡ slice_set sends.old number (Some send) }
 {
@@ -45,7 +45,7 @@ fn note(sends: &mut [Option<KnownSend>], number: usize, send: KnownSend)
     }
 }
 
-/// Notes what this process sends, each under the number of its entry.
+/// Notes the sends of this process, each under the number of its entry.
 fn note_log(run: &Run, sends: &mut [Option<KnownSend>], proc: Proc, entries: &[Entry], row: &[u32])
     requires known { AreKnownSends run.now.logs sends.old }
     requires log { entries.now ≡ log_of run.now.logs proc }
@@ -60,7 +60,7 @@ fn note_log(run: &Run, sends: &mut [Option<KnownSend>], proc: Proc, entries: &[E
     }
 }
 
-/// Returns what is sent in regular configurations, each under the number of its message. Each is tested where it is read.
+/// Returns the sends in regular configurations, each under the number of its message. Whoever reads one has to test it.
 fn known_sends(
     alloc: Global,
     run: &Run,
@@ -83,7 +83,7 @@ fn known_sends(
     Ok(sends)
 }
 
-/// Returns whether the message is noted under this number as one that is sent in the regular configuration of this ring.
+/// Returns whether the message is noted under this number as sent in the regular configuration of this ring.
 fn is_sent(
     run: &Run,
     sends: &[Option<KnownSend>],
@@ -112,7 +112,7 @@ fn number_at(row: &[u32], at: usize) -> u32 {
     }
 }
 
-/// Whether what this process delivers in this configuration was sent for it, as far as can be seen from what is noted under the number.
+/// Returns `true` only if the message that this process delivers in `conf` was sent for it, judged by the send noted under the number.
 fn is_known(
     run: &Run,
     sends: &[Option<KnownSend>],
@@ -138,7 +138,7 @@ fn is_known(
     }
 }
 
-/// Returns whether what an entry of this process delivers was sent for it, as far as can be seen from what is noted under the number.
+/// Returns `true` only if what an entry of this process delivers was sent for it, judged by the send noted under the number.
 fn entry_is_known(
     run: &Run,
     sends: &[Option<KnownSend>],
@@ -159,7 +159,7 @@ fn entry_is_known(
     }
 }
 
-/// Returns whether all that this log delivers is known to be sent for it.
+/// Returns `true` only if all messages that this log delivers were sent for it.
 fn log_is_known(
     run: &Run,
     sends: &[Option<KnownSend>],
@@ -181,7 +181,7 @@ fn log_is_known(
     true
 }
 
-/// Returns whether all that the logs of the run deliver is known to be sent for it.
+/// Returns `true` only if all messages that the logs of the run deliver were sent for their deliveries.
 fn all_known(run: &Run, sends: &[Option<KnownSend>], followed: &Followed, rows: &[Row]) -> bool
     requires sends { AreKnownSends run.now.logs sends.now }
     requires followed { AreFollowed ⟦<Change as Ord>⟧.cmp followed.now.rings run.now.logs }
@@ -205,7 +205,7 @@ fn all_known(run: &Run, sends: &[Option<KnownSend>], followed: &Followed, rows: 
     true
 }
 
-/// Returns whether all that a run delivers is known to be sent for it. A no is not to be trusted.
+/// Returns `true` only if the run meets 1.3. `false` means nothing.
 pub fn is_met(
     alloc: Global,
     run: &Run,

@@ -1,4 +1,4 @@
-//! What was met under each key: one value, or several.
+//! What was recorded under each key: one value, or several.
 ghost use Rattle.std.specs.Prelude.{◌≡◌, ◌↔◌, Some, IsTrue, OnOk, OnErr};
 ghost use Rattle.std.specs.BTreeMap.{get, IsEmpty, IsUnchanged};
 ghost use Rattle.totem_pass_ab.specs.Met.{IsMet};
@@ -12,7 +12,7 @@ pub trait Same {
         ensures { IsTrue result ↔ (self.now ≡ other.now) };
 }
 
-/// The value that was met under each key, or `None` if several were.
+/// The value that was recorded under each key, or `None` if there were several.
 #[derive(Drop)]
 pub struct Met<K: Ord, V> {
     pub values: BTreeMap<K, Option<V>>,
@@ -27,7 +27,7 @@ impl<K: Ord + Drop, V: Same + Drop> Met<K, V> {
         }
     }
 
-    /// Notes that this value was met under this key. If memory is refused, nothing changes.
+    /// Records this value under this key. If memory is refused, nothing changes.
     pub fn meet(&mut self, key: K, value: V) -> Result<(), AllocError>
         ensures met { OnOk result (IsMet K.cmp self.old.values self.new.values key value) }
         ensures err { OnErr result (IsUnchanged self.old.values self.new.values) }
@@ -46,7 +46,7 @@ impl<K: Ord + Drop, V: Same + Drop> Met<K, V> {
         Ok(())
     }
 
-    /// Returns whether this value and no other was met under this key.
+    /// Returns whether this value and no other was recorded under this key.
     pub fn is_only(&self, key: &K, value: &V) -> bool
         ensures { IsTrue result ↔ (get K.cmp self.now.values key.now ≡ Some (Some value.now)) }
     {

@@ -1,4 +1,4 @@
-//! 2.2: each entry stands where it may (docs/SPECIFICATIONS.md, "2 Changes of configuration").
+//! 2.2: each entry is where it is allowed (docs/SPECIFICATIONS.md, "2 Changes of configuration").
 ghost use Rattle.std.specs.Prelude.{ℕ, IfSome, IfNone, IfOk, [], ◌∷◌};
 ghost use Rattle.totem_evs.specs.Events.{log_of};
 ghost use Rattle.totem_evs.specs.Changes.{StaysInPlace};
@@ -9,7 +9,7 @@ use totem_evs::{Places, Run, SpecNo};
 use totem_ids::Place;
 use totem_run_rules::first_misplaced;
 
-/// Returns the first event of a run that stands out of place.
+/// Returns the first event of a run that is out of place.
 fn first_of(run: &Run) -> Option<Place>
     ensures least { IfSome result (λ e. IsLeastBreak run.now.logs SpecNo.Misplaced (e ∷ [])) }
     ensures none { IfNone result ((p : ℕ) → StaysInPlace (log_of run.now.logs p)) }

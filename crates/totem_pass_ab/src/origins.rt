@@ -1,4 +1,4 @@
-//! From which rings logs come to each configuration.
+//! The rings from which logs come to each configuration.
 ghost use Rattle.totem_pass_ab.specs.Origins.{KnowsOrigin};
 
 use crate::met::{Met, Same};
@@ -14,8 +14,8 @@ impl Same for RingId {
     }
 }
 
-/// The ring of the regular configuration from which logs come to each configuration. Where there are several, it keeps
-/// only that there are several.
+/// The ring of the regular configuration from which logs come to each configuration. If there are several,
+/// only that fact is kept.
 #[derive(Drop)]
 pub struct Origins {
     pub rings: Met<ConfId, RingId>,

@@ -14,7 +14,7 @@ use totem_evs::{Entry, Places, Run};
 use totem_ids::{Place, Proc};
 use totem_table::{Relation, least, places_of};
 
-/// An entry, with the process and the index at which it stands.
+/// An entry, with its process and its index.
 #[derive(Clone, Copy)]
 pub struct Standing<'a> {
     pub proc: Proc,
@@ -40,7 +40,7 @@ pub trait Test {
     fn is_pair(&self, first: &Standing, second: &Standing) -> bool
         ensures { IsTrue result ↔ pair self.now first.now.proc first.now.at first.now.entry.now second.now.proc second.now.at second.now.entry.now };
 
-    /// Returns `false` only if no entry is bad together with this one: a quick test, which then spares the search.
+    /// Returns `false` only if no entry is bad together with this one: a quick test that can make the search unnecessary.
     fn may_pair(&self, first: &Standing) -> bool
         requires { first.now.at < 1000000 }
         ensures { OnFalse result (HoldsOfNone (IsOne (of self.now) (pair self.now first.now.proc first.now.at first.now.entry.now))) };
@@ -75,8 +75,8 @@ impl<T: Test> Relation for Partners<'_, '_, T> {
     }
 }
 
-/// Returns how the least list of one or two bad entries goes on that begins with the entry at index `at` of a process's log,
-/// or `None` if none does.
+/// Returns the rest of the least list of one or two bad entries that begins with the entry at index `at` of a process's log,
+/// or `None` if no list does.
 pub fn bad_from<T: Test>(
     test: &T,
     alloc: Global,
@@ -123,7 +123,7 @@ impl<T: Test> Relation for OneOrTwo<'_, T> {
     }
 }
 
-/// Finds the least list of one or two entries of the run that are bad by this test.
+/// Finds the least list of one or two entries of the run that are bad according to this test.
 pub fn least_bad<T: Test>(test: &T, alloc: Global) -> Result<Option<Places>, AllocError>
     ensures { IfOk result (λ found. MatchOption found (HoldsOfNone (IsOneOrTwo (T.of test.now) (T.alone test.now) (T.pair test.now)))
         (IsLeast (IsOneOrTwo (T.of test.now) (T.alone test.now) (T.pair test.now)))) }

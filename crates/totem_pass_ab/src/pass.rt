@@ -47,8 +47,8 @@ fn pass_b_over(
     with_found(Vec::new(alloc), SpecNo::Unsent, unsent)
 }
 
-/// Pass A: for each of 1.4, 2.1, 2.2, 2.3 and 2.4 that the run breaks, in this order, its least events. `Err` is want of
-/// memory, and says nothing of the run.
+/// Pass A: for each of 1.4, 2.1, 2.2, 2.3 and 2.4 that the run breaks, in this order, its least events. `Err` means
+/// out of memory, and says nothing about the run.
 pub fn pass_a(alloc: Global, run: &Run) -> Result<Vec<Fault>, AllocError>
     ensures { IfOk result (λ faults. Lists run.now.logs pass_a faults.items) }
 {
@@ -67,7 +67,7 @@ pub fn pass_b(alloc: Global, run: &Run) -> Result<Vec<Fault>, AllocError>
     pass_b_over(alloc, run, table.as_ref(), &changes)
 }
 
-/// Passes A and B, made quick by a table of the run and by where its changes stand: the faults of pass A, or if it has none those of pass B.
+/// Passes A and B, made quick by a table of the run and the places of its changes: the faults of pass A, or if it has none those of pass B.
 pub fn pass_a_and_b(
     alloc: Global,
     run: &Run,

@@ -15,8 +15,8 @@ impl Same for Place {
     }
 }
 
-/// The place of each message's send, and of each process's delivery of it. Where there are several, it keeps only that
-/// there are several.
+/// The place of each message's send, and of each process's delivery of it. If there are several, only that
+/// fact is kept.
 #[derive(Drop)]
 pub struct Repeats {
     pub sends: Met<MsgId, Place>,

@@ -10,7 +10,7 @@ use totem_evs::Entry;
 use totem_ids::{ConfId, Proc};
 use totem_table::Register;
 
-/// The sends in regular configurations: each message, with the ring.
+/// The sends in regular configurations: each message, with the ring of the configuration.
 #[derive(Drop)]
 pub struct Sendings {
     pub sends: BTreeSet<Sending>,

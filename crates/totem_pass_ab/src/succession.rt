@@ -18,7 +18,7 @@ pub struct Succession<'a> {
     pub next_members: &'a Members,
 }
 
-/// Returns the change at this index and the next one, or `None` unless there are both.
+/// Returns the change at this index and the next one, or `None` unless both exist.
 pub fn succession_at(log: &[Entry], at: usize) -> Option<Succession<'_>>
     requires { at < length log.now }
     ensures found { IfSome result (λ succession. ChangesNext log.now at succession.next_at succession.conf.now succession.next.now succession.members.now succession.next_members.now) }
@@ -42,7 +42,7 @@ pub fn succession_at(log: &[Entry], at: usize) -> Option<Succession<'_>>
     None
 }
 
-/// Returns the change at this index and the one at `next_at`, or `None` unless there are both. No change stands between.
+/// Returns the change at this index and the one at `next_at`, or `None` unless both exist. No change may be between them.
 pub fn succession_between(log: &[Entry], at: usize, next_at: usize) -> Option<Succession<'_>>
     requires { IsNextOrEnd log.now at next_at }
     ensures found { IfSome result (λ succession. ChangesNext log.now at succession.next_at succession.conf.now succession.next.now succession.members.now succession.next_members.now) }

@@ -1,4 +1,4 @@
-//! 2.4: regular and transitional configurations take turns (docs/SPECIFICATIONS.md, "2 Changes of configuration").
+//! 2.4: regular and transitional configurations alternate (docs/SPECIFICATIONS.md, "2 Changes of configuration").
 ghost use Rattle.std.specs.Prelude.{◌≡◌, ◌↔◌, ℕ, ◌<◌, IsTrue, IfOk, MatchOption, length};
 ghost use Rattle.totem_evs.specs.Events.{log_of, IsChange, IsTransitional};
 ghost use Rattle.totem_evs.specs.ChangeFaults.{BeginsTransitional};
@@ -19,7 +19,7 @@ use totem_run_rules::is_wrong;
 use totem_table::{Changes, Relation, begin_at, enter_changes, least, places_of};
 
 /// Returns whether the change at this index is the first of its log, and to a transitional configuration. `is_later` says
-/// whether a change stands before it.
+/// whether there is a change before it.
 fn begins_transitional(log: &[Entry], at: usize, is_later: bool) -> bool
     requires within { at < length log.now }
     requires later { IsTrue is_later ↔ ((k : ℕ) × (k < at) × IsChange log.now k) }

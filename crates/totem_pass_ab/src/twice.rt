@@ -74,7 +74,7 @@ impl Test for Twice<'_> {
     }
 }
 
-/// Returns `true` only if the run meets 1.4: a quick test over the numbers of the messages. `false` says nothing.
+/// Returns `true` only if the run meets 1.4: a quick test over the numbers of the messages. `false` means nothing.
 fn is_met(alloc: Global, run: &Run, table: Option<&Table>) -> Result<bool, AllocError>
     requires { IfSome table (λ t. IsTable run.now.logs t.now) }
     ensures { IfOk result (λ met. OnTrue met (DeliversOnce run.now.logs)) }

@@ -1,4 +1,4 @@
-//! 1.3: what is delivered was sent for its configuration (docs/SPECIFICATIONS.md, "1 Basic delivery").
+//! 1.3: a message that is delivered was sent for its configuration (docs/SPECIFICATIONS.md, "1 Basic delivery").
 ghost use Rattle.std.specs.Prelude.{◌≡◌, ◌↔◌, ◌<◌, IsTrue, IfOk, MatchOption, length};
 ghost use Rattle.std.specs.Bool.{OnTrue};
 ghost use Rattle.totem_evs.specs.Events.{log_of, WasSentIn};
@@ -20,7 +20,7 @@ use totem_evs::{Entry, Places, Run, SpecNo};
 use totem_ids::{ConfId, MsgId, Place, Proc, RingId};
 use totem_table::{Change, Changes, Relation, Table, enter_changes, enter_run, least, places_of};
 
-/// Looks for the sends for which one delivery may stand.
+/// Looks for the sends that one delivery may be of.
 #[derive(Clone, Copy)]
 struct Sends<'r, 'l, 'm, 'c> {
     run: &'r Run,
@@ -102,7 +102,7 @@ impl Unsent<'_> {
         self.sendings.sends.contains(&Sending { message, ring })
     }
 
-    /// Returns `true` only if what this process delivers in `conf` was sent for it: a quick test, which spares a search.
+    /// Returns `true` only if what this process delivers in `conf` was sent for it: a quick test that can make a search unnecessary.
     fn is_sent(&self, proc: Proc, message: MsgId, conf: &ConfId) -> bool
         ensures { OnTrue result (WasSentTo self.now.run.now.logs (log_of self.now.run.now.logs proc) message conf.now) }
     {
