@@ -14,7 +14,7 @@ use Rattle.totem_certificate.specs.Keeping.{IsBelowLine, IsCertificate}
 abbrev pub HasFirstLife : Numbering → Type 0
 HasFirstLife line = life_of line.proc ≡ 1
 
--- the first version of which texts can write these lines
+-- the first version whose texts can write these lines
 abbrev pub IsFirstVersion : Version → List Numbering → Type 0
 IsFirstVersion One lines = All HasFirstLife lines
 IsFirstVersion Two lines = All HasFirstLife lines → ⊥

@@ -74,7 +74,7 @@ module _ (run : List Log) (c : RingId) (meets : MeetsPasses run) where
               let e : Regular c ≡ Regular r = one_change (log_of run q) g.from (Regular c) (Regular r) (rw from at h.first.change) g.first.change in
               cc
 
--- ---- which processes go on together
+-- ---- which processes move on together
 
 -- if all or none of a group are in a set, and one is, each is
 each_of : (group set : LogSet) (j k : ℕ) → IsWhole group set → Has group j → Has group k → Has set j → Has set k

@@ -16,8 +16,8 @@ fn is_whole(group: LogSet, set: LogSet) -> bool
     group.is_apart(set) || group.is_within(set)
 }
 
-/// Returns whether all or none of the logs that go on to this configuration deliver the message before it, and all or none of those
-/// that go on from it deliver the message in it.
+/// Returns whether all or none of the logs that move on to this configuration deliver the message before it, and all or none of those
+/// that move on from it deliver the message in it.
 fn is_together(got: &Got, following: &Following) -> bool
     ensures { IsTrue result ↔ IsTogether got.now following.now }
 {

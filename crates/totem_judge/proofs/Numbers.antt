@@ -113,7 +113,7 @@ module _ (run : List Log) (lines : List Numbering) (rising : Rising run) (certif
         | inr (inr (m, (c, one), other)) ↦ absurd (let a : Some (Conf x ms) ≡ Some (Deliver m c) = sym e.entry ∙ one in cc)
       ]
 
--- ---- lists of numbers that rise
+-- ---- lists of ascending numbers
 
 pub same_index : (numbers : List ℕ) (j k n m : ℕ) → RisesBefore numbers (length numbers) → slice_get numbers j ≡ Some n → slice_get numbers k ≡ Some m → n ≡ m → j ≡ k
 same_index numbers j k n m rise at_j at_k same = elim (less_or_not j k) [

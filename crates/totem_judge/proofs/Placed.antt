@@ -50,7 +50,7 @@ module _ (run : List Log) (lines : List Numbering) (g : Gathered) (traffic : Tra
   entries_at : (l p : ℕ) (log : Log) → IsLogAt run l p → slice_get run l ≡ Some log → log.entries ≡ log_of run p
   entries_at l p log at stands = ap (λ (x : Log). x.entries) (one_at run l log at.log stands at.stands) ∙ sym (entries_of run l p is_run.rising at)
 
-  -- ---- who comes
+  -- ---- which processes come
 
   pub logs_are : AreLogsOf run traffic.logs (λ p. (i : ℕ) × ChangesTo (log_of run p) i (Regular g.ring))
   logs_are = record { exact = λ l p log. (from l p log, to l p log) }

@@ -9,7 +9,7 @@ use Rattle.totem_judge.specs.declared.gathered.Stay.{Stay}
 use Rattle.totem_judge.specs.Ends.{Selects}
 use Rattle.totem_judge.specs.Members.{AreMemberLogs}
 
--- the log of the stay goes on to x, with these members
+-- the log of the stay moves on to x, with these members
 pub record TurnsTo (run : List Log) (stay : Stay) (x : ConfId) (members : List ℕ) : Type 0 where
   pub log : Log
   pub stands : slice_get run stay.log ≡ Some log

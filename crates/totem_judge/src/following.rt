@@ -9,14 +9,14 @@ use totem_configuration_rules::{Following, LogSet};
 use totem_evs::{Entry, Log, Members};
 use totem_ids::ConfId;
 
-/// The change by which a log goes on from a regular configuration.
+/// The change by which a log moves on from a regular configuration.
 #[derive(Clone, Copy)]
 struct Turn<'a> {
     conf: &'a ConfId,
     members: &'a Members,
 }
 
-/// Returns the change by which the log of the stay goes on, or `None` if it stays in the regular configuration.
+/// Returns the change by which the log of the stay moves on, or `None` if it stays in the regular configuration.
 fn turn_of<'a>(logs: &'a [Log], stay: &Stay) -> Option<Turn<'a>>
     ensures some { IfSome result (λ turn. TurnsTo logs.now stay.now turn.conf.now turn.members.now) }
     ensures none { IfNone result (TurnsNowhere logs.now stay.now) }
@@ -36,7 +36,7 @@ fn turn_of<'a>(logs: &'a [Log], stay: &Stay) -> Option<Turn<'a>>
     }
 }
 
-/// Returns whether the log of the stay goes on to this configuration.
+/// Returns whether the log of the stay moves on to this configuration.
 fn turns_to(logs: &[Log], stay: &Stay, conf: &ConfId) -> bool
     ensures { IsTrue result ↔ TurnsToConf logs.now conf.now stay.now }
 {

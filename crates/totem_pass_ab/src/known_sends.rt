@@ -60,7 +60,7 @@ fn note_log(run: &Run, sends: &mut [Option<KnownSend>], proc: Proc, entries: &[E
     }
 }
 
-/// Returns the sends in regular configurations, each under the number of its message. Whoever reads one has to test it.
+/// Returns the sends in regular configurations, each under the number of its message. Each is compared where it is read.
 fn known_sends(
     alloc: Global,
     run: &Run,

@@ -1,4 +1,4 @@
--- Where the logs of a run end, and who waits there (docs/SPECIFICATIONS.md, "Pending and waiting").
+-- Where the logs of a run end, and which processes wait there (docs/SPECIFICATIONS.md, "Pending and waiting").
 use Rattle.std.specs.Prelude.{◌≡◌, ◌↔◌, ℕ, ◌<◌, List, length, slice_get, Option, None, Some, AllPairs, Contains}
 use Rattle.totem_ids.specs.declared.conf.ConfId.{ConfId}
 use Rattle.totem_evs.specs.declared.entry.Entry.{Entry}
