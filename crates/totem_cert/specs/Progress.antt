@@ -139,7 +139,7 @@ pub record IsFirstLeft (run : List Log) (lines : List Numbering) (k : ℕ) : Typ
 abbrev pub IsOpenSend : List Log → List Numbering → Entry → ℕ → ℕ → Type 0
 IsOpenSend run lines x q i = (y : Entry) × (slice_get (log_of run q) i ≡ Some y) × AreSendAndDelivery y x × (length (numbers_of lines q) ≤ i)
 
--- the event at i of q's log is in the class of the entry x at j of p's log, and that class waits for a send or the entry before has no number
+-- the event at i of q's log is in the class of the entry x at j of p's log; the class waits for a send or the entry before has no number
 abbrev pub IsHeldMate : List Log → List Numbering → ℕ → ℕ → Entry → Bool → ℕ → ℕ → Type 0
 IsHeldMate run lines p j x waits q i = (y : Entry) × (slice_get (log_of run q) i ≡ Some y) × IsMate p j x q i y × (IsTrue waits ⊎ (length (numbers_of lines q) < i))
 
