@@ -32,7 +32,7 @@ impl Table {
         Ok(table)
     }
 
-    /// Enters the entry at this index. All entries before it must have been entered. If memory is refused, the table can't be used any more.
+    /// Enters the entry at this index, after all entries before it. If memory is refused, the table can't be used any more.
     fn enter(&mut self, log: &[Entry], at: usize) -> Result<(), AllocError>
         requires within { at < length log.now }
         requires before { KnowsLog self.old log.now at }

@@ -39,7 +39,7 @@ impl Deliveries {
         Ok(deliveries)
     }
 
-    /// Enters the entry at this index. All entries before it must have been entered. If memory is refused, the deliveries can't be used any more.
+    /// Enters the entry at this index, after all entries before it. If memory is refused, the deliveries can't be used any more.
     fn enter(
         &mut self,
         log: &[Entry],
