@@ -28,7 +28,7 @@ HasCome run c p = (i : ℕ) × ChangesTo (log_of run p) i (Regular c)
 pub record NeverComes (run : List Log) (c : RingId) (p : ℕ) : Type 0 where
   pub never : (i : ℕ) → ChangesTo (log_of run p) i (Regular c) → ⊥
 
--- the entry at k stands in the stay and delivers m
+-- the entry at k is in the stay and delivers m
 pub record DeliversHere (stay : Stay) (m : MsgId) (k : ℕ) : Type 0 where
   pub after : stay.from < k
   pub until : k < stay.end
@@ -43,7 +43,7 @@ pub record DeliversNot (log : List Entry) (c : RingId) (m : MsgId) : Type 0 wher
 pub record IsSendingOf (run : List Log) (c : RingId) (m : MsgId) (sending : Sending) : Type 0 where
   pub sends : slice_get (log_of run sending.proc) sending.at ≡ Some (Send m (Regular c) sending.service)
 
--- nobody sent m in c
+-- no process sent m in c
 pub record NobodySent (run : List Log) (c : RingId) (m : MsgId) : Type 0 where
   pub never : WasSentIn run m (Regular c) → ⊥
 
