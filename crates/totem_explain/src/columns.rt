@@ -148,7 +148,7 @@ impl Column {
         Ok(column)
     }
 
-    /// Takes the cell of this row from the column, if it has one. Rows have to be taken in order.
+    /// Takes the cell of this row from the column, if it has one. Rows are taken in order.
     fn take(&mut self, row: u32) -> Option<String> {
         if self.cells.last()?.row != row {
             return None;

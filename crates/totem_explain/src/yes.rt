@@ -88,8 +88,8 @@ fn push_headed(text: &mut String, heading: &str, lines: &str) -> Result<(), Allo
     write!(text, "{heading}\n{lines}")
 }
 
-/// Explains the yes of a run: how much was judged, what is pending and which processes wait for which. Both lists have to be ascending,
-/// as the audit returns them.
+/// Explains the yes of a run: how much was judged, what is pending and which processes wait for which. Both lists are expected to be
+/// ascending, as the audit returns them.
 pub fn explain_yes(
     alloc: Global,
     run: &Run,

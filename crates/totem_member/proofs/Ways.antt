@@ -93,7 +93,7 @@ pub refused : (t : CommitToken) (v : CommitView) (report : Report) (s : Shown) (
     → Err fault ≡ act_of (on_commit t (view_of s) (own_report s)) → IsAnswer (Err fault) (on_commit t v report)
 refused t v report s nobody fault view none same e = (chooses t v report).refused fault (e ∙ ap act_of (lent v report s nobody view none same t))
 
--- a token that is taken may be out of memory
+-- out of memory is a possible result for a token that is taken
 pub grown : (t : CommitToken) (v : CommitView) (report : Report) (act : Act) (answer : Result CommitOut MemberFault)
     → on_commit t v report ≡ Ok (taken_as t v report act) → answer ≡ Err Memory → IsAnswer answer (on_commit t v report)
 grown t v report act answer taken wanting = subst (λ a. IsAnswer a (on_commit t v report)) (sym wanting) (subst (λ w. IsOk w) (sym taken) refl)

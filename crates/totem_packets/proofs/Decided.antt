@@ -308,7 +308,7 @@ range_is_first bytes e = elim (which_fault bytes Range e) [
       }
 ]
 
--- ---- what decoding answers
+-- ---- what decoding returns
 
 pub found : (bytes : List ℕ) (r : Result packet.Packet PacketFault) → AreBytes bytes → Gives r (decode_packet bytes) → IfOk r (λ p. IsPacket p × (bytes ≡ packet_bytes p))
 found bytes (Ok p) fits given = read_spelled bytes p fits given

@@ -83,7 +83,7 @@ service_in (Some e) = service_of e
 abbrev pub service_at : List Entry → ℕ → Option Service
 service_at log i = service_in (slice_get log i)
 
--- the entry at i stands in the stay and does this with m
+-- the entry at i is in the stay and does this with m
 pub record IsActAt (stay : Stay) (act : Act) (m : MsgId) (i : ℕ) : Type 0 where
   pub after : stay.from < i
   pub until : i < stay.end

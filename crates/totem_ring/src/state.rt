@@ -88,7 +88,7 @@ impl RingState {
     ghost use Rattle.totem_ring.specs.Undoing.{AnswersUndoably, taken_back, visit_taken_back};
     ghost use Rattle.totem_ring.specs.Invariant.{RisesFrom};
 
-    /// Makes the state of a member of a new ring. The members have to be strictly ascending, with `me` among them.
+    /// Makes the state of a member of a new ring. The members are expected to be strictly ascending, with `me` among them.
     pub fn new(
         alloc: Global,
         me: ProcId,
