@@ -1,4 +1,4 @@
--- From what the first three passes come to, to what is listed and what is answered.
+-- From the results of the first three passes to what they list and what the answer is.
 use Rattle.std.specs.Prelude.{◌≢◌}
 use Rattle.std.proofs.Common.{◌≡◌, inl, inr, List, [], ◌∷◌, refl}
 use Rattle.totem_evs.specs.declared.log.Log.{Log}
@@ -14,7 +14,7 @@ use Rattle.totem_audit.specs.declared.first_passes.FirstPasses.{FirstPasses}
 use Rattle.totem_audit.specs.declared.first_passes.FirstPasses.TheVariants.{Ordered}
 use Rattle.totem_audit.specs.Early.{IsEarly, IsOrdered, BreaksEarly, ListsEarly}
 
--- where passes A and B list faults, these are those of the first of the two that has one; where they list none, neither has one
+-- if passes A and B list faults, these are those of the first of the two that has one; if they list none, neither has one
 pub first_breaks : (run : List Log) (faults : List Fault) → ListsFirst run faults → faults ≢ [] → BreaksEarly run faults
 first_breaks run faults (inl (some, a)) more = record { some = some; first = inl a }
 first_breaks run faults (inr (a, b)) some = record { some = some; first = inr (inl (a, b)) }
@@ -34,7 +34,7 @@ cycle_breaks run fault faults a b cycle is = record {
   first = inr (inr (a, b, (fault, is, cycle)));
 }
 
--- what the first three passes list, where one of them has a fault, and where none has
+-- what the first three passes list if one of them has a fault, and if none has
 pub broken_early : (run : List Log) (faults : List Fault) → BreaksEarly run faults → ListsEarly run faults
 broken_early run [] breaks = absurd (breaks.some refl)
 broken_early run (fault ∷ faults) breaks = breaks
@@ -42,13 +42,13 @@ broken_early run (fault ∷ faults) breaks = breaks
 pub ordered_early : (run : List Log) (lines : List Numbering) (faults : List Fault) → IsOrdered run lines → faults ≡ [] → ListsEarly run faults
 ordered_early run lines faults ordered none = rw none (record { meets = meets_passes run ordered.a ordered.b; ordered = (lines, ordered.c.certified) })
 
--- a run whose events they have put in order meets the specifications of the first two
+-- a run whose events they have ordered meets the specifications of the first two
 pub ordered_meets : (run : RunRecord) (passes : FirstPasses) (certificate : CertRecord) → passes ≡ Ordered certificate → IsEarly run passes → MeetsPasses run.logs
 ordered_meets run passes certificate is early =
     let here : IsEarly run (Ordered certificate) = rw is at early in
     meets_passes run.logs here.0.a here.0.b
 
--- and it is the answer
+-- and their order is the answer
 pub broken_answer : (run : List Log) (faults : List Fault) → BreaksEarly run faults → IsAnswered run (No faults)
 broken_answer run faults breaks = (
   breaks.some,

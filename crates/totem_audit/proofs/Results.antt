@@ -1,4 +1,4 @@
--- What a result of a job says, and the jobs of its run.
+-- What the result of a job says, and the jobs of its run.
 use Rattle.std.proofs.Common.{◌≡◌, ◌<◌, ◌≤◌, ◌+◌, ℕ, inl, inr, List, length, slice_get, Some, arith}
 use Rattle.std.proofs.lemmas.Option.{slice_get_within, slice_get_cases}
 use Rattle.totem_ids.specs.declared.ring.RingId.{RingId}
@@ -10,18 +10,18 @@ use Rattle.totem_audit.specs.Jobs.{IsRight}
 use Rattle.totem_audit.specs.Results.{IsJobOf, HasJob, IsFoundBy}
 use Rattle.totem_audit.proofs.Rings.{one_list}
 
--- a job stands in whatever list of the rings
+-- a job is in every list of the rings
 stands : (run : List Log) (rings : List RingId) (job : ℕ) (c : RingId) → AreRings run rings → (is : IsJobOf run job c) → slice_get rings is.index ≡ Some c
 stands run rings job c are is = rw (one_list run rings is.rings are is.are) is.at
 
--- a number beyond the rings is that of no job
+-- a number beyond the rings belongs to no job
 pub none_of : (run : List Log) (rings : List RingId) (job count : ℕ) → AreRings run rings → count ≡ length rings → ((index : ℕ) → job ≡ index + 1 → count ≤ index) → HasJob run job → ⊥
 none_of run rings job count are is beyond (c, of) =
     let within : of.index < length rings = slice_get_within rings of.index c (stands run rings job c are of) in
     let past : count ≤ of.index = beyond of.index of.number in
     omega (arith, within, past, is)
 
--- what was found at an index is what that job finds
+-- what was found at an index is what the job there finds
 pub found_by : (run : List Log) (rings : List RingId) (job index : ℕ) (findings : Findings) → AreRings run rings → job ≡ index + 1 → index < length rings → AreFindingsAt run rings index findings → IsFoundBy run job findings
 found_by run rings job index findings are number lt h = elim (slice_get_cases rings index).1 [
   | inl (c, within, at, read) ↦ record {
@@ -32,11 +32,11 @@ found_by run rings job index findings are number lt h = elim (slice_get_cases ri
   | inr (past, none) ↦ absurd (omega (arith, lt, past))
 ]
 
--- jobs count from 1
+-- jobs are counted from 1
 pub counted : (run : List Log) (job : ℕ) (findings : Findings) → IsFoundBy run job findings → 0 < job
 counted run job findings h = omega (arith, h.is.number)
 
--- a result of the run is right for the index of its job
+-- a result of the run is correct for the index of its job
 pub right_of : (run logs : List Log) (rings : List RingId) (job index : ℕ) (findings : Findings) → AreRings run rings → logs ≡ run → index + 1 ≡ job → IsFoundBy logs job findings
     → IsRight run rings (record { index = index; findings = findings })
 right_of run logs rings job index findings are same number h =

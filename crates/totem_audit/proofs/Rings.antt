@@ -1,4 +1,4 @@
--- The rings of a run's regular configurations are one list.
+-- A run has one list of its regular configurations.
 use Rattle.std.proofs.Common.{◌≡◌, ◌⊎◌, ◌∙◌, zero, suc, inl, inr, List, [], ◌∷◌, refl, sym, subst, arith}
 use Rattle.std.specs.Prelude.{AllPairs, Contains}
 use Rattle.totem_ids.specs.Orders.{RingBelow}
@@ -6,7 +6,7 @@ use Rattle.totem_ids.specs.declared.ring.RingId.{RingId}
 use Rattle.totem_evs.specs.declared.log.Log.{Log}
 use Rattle.totem_evs.specs.Answers.{AreRings}
 
--- of two rings only one is below the other
+-- of two rings at most one is below the other
 one_way : (a b : RingId) → RingBelow a b → RingBelow b a → ⊥
 one_way a b (inl lt) (inl gt) = omega arith
 one_way a b (inl lt) (inr gt) = omega (arith, gt.0)
@@ -30,7 +30,7 @@ first_below a xs c rising (i, lt, is) = let P : RingId → Type 0 = λ x. RingBe
 rest_rises : (a : RingId) (xs : List RingId) → AllPairs RingBelow (a ∷ xs) → AllPairs RingBelow xs
 rest_rises a xs rising = λ i j d lt within. rising (suc i) (suc j) d (omega (arith, lt)) (omega (arith, within))
 
--- lists that contain the same
+-- lists with the same elements
 record Same (xs ys : List RingId) : Type 0 where
   into : (c : RingId) → Contains xs c → Contains ys c
   back : (c : RingId) → Contains ys c → Contains xs c
@@ -44,7 +44,7 @@ same_first a b xs ys rising others same = elim (first_or_rest b ys a (same.into 
   ]
 ]
 
--- what the one list has after its first, the other has after its first
+-- what one list has after its first element, the other has after its first
 behind_both : (a b : RingId) (xs ys : List RingId) (c : RingId) → AllPairs RingBelow (a ∷ xs) → a ≡ b → ((d : RingId) → Contains (a ∷ xs) d → Contains (b ∷ ys) d) → Contains xs c → Contains ys c
 behind_both a b xs ys c rising first into h = elim (first_or_rest b ys c (into c (in_rest a xs c h))) [
   | inl is ↦

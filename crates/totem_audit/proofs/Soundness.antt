@@ -1,4 +1,4 @@
--- What the written answer means, of a call that answers.
+-- What the result of a call means, given its answer.
 use Rattle.std.proofs.Common.{List, Result, Ok, Err, IfOk}
 use Rattle.totem_evs.specs.declared.log.Log.{Log}
 use Rattle.totem_evs.specs.Answers.{IsAnswered}

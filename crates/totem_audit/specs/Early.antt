@@ -1,4 +1,4 @@
--- What the first three passes come to (docs/SPECIFICATIONS.md, "Passes").
+-- The results of the first three passes (docs/SPECIFICATIONS.md, "Passes").
 use Rattle.std.specs.Prelude.{◌≡◌, ◌≢◌, ◌⊎◌, List, [], ◌∷◌}
 use Rattle.totem_evs.specs.declared.log.Log.{Log}
 use Rattle.totem_evs.specs.declared.fault.Fault.{Fault}
@@ -10,7 +10,7 @@ use Rattle.totem_certificate.specs.Keeping.{certificate_version}
 use Rattle.totem_audit.specs.declared.first_passes.FirstPasses.{FirstPasses}
 use Rattle.totem_audit.specs.declared.first_passes.FirstPasses.TheVariants.{Broken, Ordered}
 
--- the first three passes have no fault, and the events are ordered so
+-- the first three passes have no fault, and the lines order the events
 pub record IsOrdered (run : List Log) (lines : List Numbering) : Type 0 where
   pub a : Lists run pass_a []
   pub b : Lists run pass_b []
@@ -21,18 +21,17 @@ pub record BreaksEarly (run : List Log) (faults : List Fault) : Type 0 where
   pub some : faults ≢ []
   pub first : Lists run pass_a faults ⊎ (Lists run pass_a [] × Lists run pass_b faults) ⊎ (Lists run pass_a [] × Lists run pass_b [] × ListsCycle run faults)
 
--- what they come to: the faults of the first that has one, or the order of the events, in the version that goes with the run's
+-- their result: the faults of the first that has one, or the order of the events, in the certificate version that belongs to the run's
 abbrev pub IsEarly : RunRecord → FirstPasses → Type 0
 IsEarly run (Broken faults) = BreaksEarly run.logs faults.items
 IsEarly run (Ordered certificate) = IsOrdered run.logs certificate.lines × (certificate.version ≡ certificate_version run.version)
 
--- none of the three has a fault: the run meets the specifications of the first two, and its events can be numbered as the
--- order asks
+-- none of the three has a fault: the run meets the specifications of the first two, and has a certificate
 pub record PassesEarly (run : List Log) : Type 0 where
   pub meets : MeetsPasses run
   pub ordered : HasCertificate run
 
--- what they list: the faults of the first that has one, and nothing where none has
+-- what they list: the faults of the first that has one, or nothing if none has
 abbrev pub ListsEarly : List Log → List Fault → Type 0
 ListsEarly run [] = PassesEarly run
 ListsEarly run (fault ∷ faults) = BreaksEarly run (fault ∷ faults)

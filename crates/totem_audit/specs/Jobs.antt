@@ -7,12 +7,12 @@ use Rattle.totem_pass_d.specs.declared.jobs.Jobs.{Jobs}
 use Rattle.totem_pass_d.specs.Jobs.{AreFindingsAt}
 use Rattle.totem_audit.specs.declared.job.DoneJob.{DoneJob}
 
--- it is right for the job that it names, one of these
+-- the result is correct for the job that it names, which is one of the jobs
 pub record IsRight (run : List Log) (rings : List RingId) (r : DoneJob) : Type 0 where
   pub within : r.index < length rings
   pub right : AreFindingsAt run rings r.index r.findings
 
--- and so is each of these
+-- each result is
 pub record AreRight (run : List Log) (rings : List RingId) (results : List DoneJob) : Type 0 where
   pub each : All (IsRight run rings) results
 
@@ -21,7 +21,7 @@ pub record AreNamed (logs : List Log) (rings : List RingId) (jobs : Jobs) : Type
   pub run : jobs.run.now.logs ≡ logs
   pub confs : jobs.rings.items ≡ rings
 
--- what is known of each job, if anything, is right for it
+-- what is known of each job, if anything, is correct for it
 pub record AreKnown (run : List Log) (rings : List RingId) (known : List (Option Findings)) : Type 0 where
   pub count : length known ≡ length rings
   pub right : (i : ℕ) → i < length rings → IfSome (slice_index_or known i None) (AreFindingsAt run rings i)

@@ -8,7 +8,7 @@ use Rattle.totem_pass_d.specs.declared.findings.Findings.{Findings}
 use Rattle.totem_pass_d.specs.Findings.{AreFindings}
 use Rattle.totem_audit.specs.JobRecord.{JobRecord}
 
--- the job of this number is that of the regular configuration c: jobs are numbered from 1, in the order of the rings
+-- the job of this number belongs to the regular configuration c: jobs are numbered from 1, in the order of the rings
 pub record IsJobOf (run : List Log) (job : ℕ) (c : RingId) : Type 0 where
   pub rings : List RingId
   pub are : AreRings run rings
@@ -20,13 +20,13 @@ pub record IsJobOf (run : List Log) (job : ℕ) (c : RingId) : Type 0 where
 abbrev pub HasJob : List Log → ℕ → Type 0
 HasJob run job = (c : RingId) × IsJobOf run job c
 
--- the run has a job of this number, and this is what it finds
+-- the run has a job of this number, and these are its findings
 pub record IsFoundBy (run : List Log) (job : ℕ) (findings : Findings) : Type 0 where
   pub ring : RingId
   pub is : IsJobOf run job ring
   pub found : AreFindings run ring findings
 
--- the result names this run and this job, and has what the job finds
+-- the result names this run and this job, and has the job's findings
 pub record IsResultOf (v : Version) (run : List Log) (number : ℕ) (r : JobRecord) : Type 0 where
   pub version : r.version ≡ v
   pub logs : r.logs ≡ run

@@ -21,8 +21,8 @@ use totem_evs::Run;
 use totem_pass_d::{Jobs, Judged, pass_d_of, pending_of, waiting};
 use totem_table::Changes;
 
-/// The verdict of a run that has passed the first three passes, from its jobs and what the last one comes to: where that has no fault, a
-/// yes with what is left open.
+/// Returns the verdict of a run that has passed the first three passes, from its jobs and the result of the last pass: a yes with
+/// what is left open, if that has no fault.
 fn settle(
     alloc: Global,
     jobs: &Jobs<'_>,
@@ -47,7 +47,7 @@ fn settle(
     })
 }
 
-/// The passes in their order, on the thread that asks.
+/// Runs the passes in order, on the calling thread.
 #[tactic(auto, using(crate::proofs::Firsts::broken_answer))]
 fn pass_all(alloc: Global, run: &Run) -> Result<Verdict, AllocError>
     ensures answer { IfOk result (λ verdict. IsAnswered run.now.logs (answer_of verdict)) }
@@ -64,7 +64,7 @@ fn pass_all(alloc: Global, run: &Run) -> Result<Verdict, AllocError>
     }
 }
 
-/// The passes in their order, the last one by these workers.
+/// Runs the passes in order, the last one with these workers.
 #[tactic(auto, using(crate::proofs::Firsts::broken_answer))]
 fn pass_all_with<T: Threads + Wait + Sync, G: Gate>(
     rt: &T,
@@ -87,7 +87,7 @@ fn pass_all_with<T: Threads + Wait + Sync, G: Gate>(
     }
 }
 
-/// Judges a run by passes A, B, C and D (docs/SPECIFICATIONS.md, "Passes"). Running out of memory is no verdict.
+/// Judges a run by passes A, B, C and D (docs/SPECIFICATIONS.md, "Passes"). Out of memory is an error and not a verdict.
 pub fn audit(alloc: Global, run: &Run) -> Result<Verdict, AllocError>
     ensures answer { IfOk result (λ verdict. IsAnswered run.now.logs (answer_of verdict)) }
     ensures sound { IfOk result (λ verdict. IsSound run.now.logs (answer_of verdict)) }
@@ -96,9 +96,9 @@ pub fn audit(alloc: Global, run: &Run) -> Result<Verdict, AllocError>
     pass_all(alloc, run)
 }
 
-/// The same, by as many threads as there are workers: each takes jobs of the last pass from a channel whenever it is idle, and sends
-/// what it found through another. The gate is notified of each job. Out of memory is answered only where the thread that asks meets it
-/// itself.
+/// Does the same as `audit`, with one thread per worker. An idle worker takes jobs of the last pass from one channel, and sends what it
+/// finds through another. The gate is notified of each job. Out of memory is returned only if it happens on the calling
+/// thread.
 pub fn audit_with<T: Threads + Wait + Sync, G: Gate>(
     rt: &T,
     alloc: Global,

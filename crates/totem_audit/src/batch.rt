@@ -1,11 +1,11 @@
-//! What workers found, as it goes through a channel.
+//! Results of workers, as they are sent through a channel.
 ghost use Rattle.std.specs.Prelude.{◌≡◌};
 ghost use Rattle.totem_audit.specs.Jobs.{AreRight};
 
 use crate::job::DoneJob;
 use std::marker::{Brand, Model, PhantomData};
 
-/// The name of the jobs of a run. It is a type of which no value is made; a function that is generic over it is called at `Brand`.
+/// The name of the jobs of a run. No value of such a type is ever made; a function that is generic over it is called at `Brand`.
 pub trait JobsName {
     ghost use Rattle.std.specs.Prelude.{List};
     ghost use Rattle.totem_ids.specs.declared.ring.RingId.{RingId};
@@ -24,7 +24,7 @@ impl JobsName for Brand {
     ghost rings = { [] };
 }
 
-/// Results of jobs of this name, each right for the job that it names, whatever way they come.
+/// Results of jobs with this name, each correct for the job that it names, wherever they come from.
 #[derive(Drop)]
 pub struct Batch<N: JobsName> {
     results: Vec<DoneJob>,
@@ -55,7 +55,7 @@ impl<N: JobsName> Batch<N> {
         }
     }
 
-    /// Gives the results, without taking memory.
+    /// Returns the results, without taking memory.
     pub fn into_results(self) -> Vec<DoneJob>
         ensures value { result.items ≡ self }
         ensures right { AreRight N.logs N.rings result.items }

@@ -1,4 +1,4 @@
-//! From what jobs found to the faults of pass D (docs/SPECIFICATIONS.md, "Passes").
+//! From the findings of jobs to the faults of pass D (docs/SPECIFICATIONS.md, "Passes").
 ghost use Rattle.std.specs.Prelude.{◌≡◌, ◌-◌, ◌<◌, IfOk, IfSome, IsSome, None, Some, replicate, slice_index_or, slice_set, vec_len};
 ghost use Rattle.totem_evs.specs.Answers.{MeetsPasses, ListsConfigurations};
 ghost use Rattle.totem_pass_d.specs.Findings.{AreComplete};
@@ -13,7 +13,7 @@ use std::mem;
 use totem_evs::{Fault, Run};
 use totem_pass_d::{Findings, Found, Jobs, Judged};
 
-/// Nothing is known of any job.
+/// Returns a list in which nothing is known of any job.
 #[tactic(auto, using(crate::proofs::KnownJobs::nothing_more))]
 pub fn nothing_known(alloc: Global, count: usize) -> Result<Vec<Option<Findings>>, AllocError>
     ensures { IfOk result (λ known. known.items ≡ replicate count None) }
@@ -25,7 +25,7 @@ pub fn nothing_known(alloc: Global, count: usize) -> Result<Vec<Option<Findings>
     Ok(known)
 }
 
-/// Notes a result. A second one for a job is refused.
+/// Notes a result. A second result for a job is ignored.
 #[tactic(auto, using(crate::proofs::KnownJobs::known_set))]
 pub fn note(jobs: &Jobs<'_>, known: &mut Vec<Option<Findings>>, done: DoneJob)
     requires right { IsRight jobs.now.run.now.logs jobs.now.rings.items done }
@@ -40,7 +40,7 @@ pub fn note(jobs: &Jobs<'_>, known: &mut Vec<Option<Findings>>, done: DoneJob)
     known[done.index] = Some(done.findings);
 }
 
-/// What is known of the job at this index; or it is done now.
+/// Returns what is known of the job at this index, or does the job now.
 fn known_or_done<G: Gate>(
     alloc: Global,
     jobs: &Jobs<'_>,
@@ -61,7 +61,7 @@ fn known_or_done<G: Gate>(
     Ok(done.findings)
 }
 
-/// What the pass comes to, from what is known of its jobs. A job of which nothing is known is done here.
+/// Returns the result of the pass, from what is known of its jobs. Does the jobs of which nothing is known.
 pub fn complete<G: Gate>(
     alloc: Global,
     jobs: &Jobs<'_>,
@@ -81,7 +81,7 @@ pub fn complete<G: Gate>(
     found.into_judged()
 }
 
-/// Notes a result of the run whose jobs these are. One of another run is refused.
+/// Notes a result, if it is from the run of these jobs. Otherwise it is ignored.
 fn take_in(jobs: &Jobs<'_>, known: &mut Vec<Option<Findings>>, done: JobResult<'_>)
     requires jobs { AreJobs jobs.now.run.now.logs jobs.now }
     requires known { AreKnown jobs.now.run.now.logs jobs.now.rings.items known.old.items }
@@ -98,9 +98,9 @@ fn take_in(jobs: &Jobs<'_>, known: &mut Vec<Option<Findings>>, done: JobResult<'
     note(jobs, known, DoneJob { index, findings });
 }
 
-/// The faults of pass D from results of its jobs, whatever is handed in: a second result of a job is refused, and so is one of
-/// another run; a job without a result is done here. The run is one in which `early` finds nothing. Runs are compared by
-/// value, once for each result: that takes the results times the entries.
+/// Returns the faults of pass D from any results of its jobs: second results for a job and results of another run are ignored, and a
+/// job without a result is done here. The run has to be one in which `early` finds nothing. Runs are compared by value,
+/// once for each result, so this takes time in proportion to the results times the entries.
 #[tactic(auto, using(crate::proofs::KnownJobs::nothing_is_known))]
 pub fn collect(
     alloc: Global,

@@ -11,12 +11,12 @@ use totem_evs::{Fault, Run};
 use totem_pass_ab::pass_a_and_b;
 use totem_table::{Changes, Table};
 
-/// How the first three passes end.
+/// The result of the first three passes.
 #[derive(Drop)]
 pub enum FirstPasses {
-    /// One of them found faults: those of the first that did.
+    /// At least one of them found faults. These are the faults of the first that did.
     Broken(Vec<Fault>),
-    /// None of them did, and the certificate gives the order of the events.
+    /// None of them found a fault, and the certificate gives the order of the events.
     Ordered(Certificate),
 }
 
@@ -28,7 +28,7 @@ fn one_fault(alloc: Global, fault: Fault) -> Result<Vec<Fault>, AllocError>
     Ok(faults)
 }
 
-/// Does pass C, over a table of the run if there is one. The run has passed A and B.
+/// Does pass C, over a table of the run if there is one. The run has to have passed A and B.
 fn pass_c(alloc: Global, run: &Run, table: Option<Table>) -> Result<FirstPasses, AllocError>
     requires a { Lists run.now.logs pass_a [] }
     requires b { Lists run.now.logs pass_b [] }
@@ -41,7 +41,7 @@ fn pass_c(alloc: Global, run: &Run, table: Option<Table>) -> Result<FirstPasses,
     }
 }
 
-/// Does passes A, B and C, up to the first that finds a fault. The run makes these changes.
+/// Does passes A, B and C, up to the first that finds a fault. `changes` has to be the changes of the run.
 #[tactic(auto, using(crate::proofs::Firsts::first_breaks, crate::proofs::Firsts::first_a, crate::proofs::Firsts::first_b))]
 pub fn first_passes(alloc: Global, run: &Run, changes: &Changes) -> Result<FirstPasses, AllocError>
     requires { AreChanges run.now.logs changes.now.rows.items }
@@ -55,8 +55,8 @@ pub fn first_passes(alloc: Global, run: &Run, changes: &Changes) -> Result<First
     pass_c(alloc, run, table)
 }
 
-/// Returns the faults of the first of passes A, B and C that finds one. If the list is empty, the run may be judged job by job
-/// (`do_job`, `collect`).
+/// Returns the faults of the first of passes A, B and C that finds any. If the list is empty, the run can be judged job by
+/// job (`do_job`, `collect`).
 #[tactic(auto, using(crate::proofs::Firsts::broken_early, crate::proofs::Firsts::ordered_early))]
 pub fn early(alloc: Global, run: &Run) -> Result<Vec<Fault>, AllocError>
     ensures { IfOk result (λ faults. ListsEarly run.now.logs faults.items) }

@@ -1,7 +1,7 @@
-//! Who is notified of the jobs of an audit.
+//! Notification of the jobs of an audit.
 
-/// Each thread notifies the gate before and after a job that it does, and again if the job has to be done again. Jobs are
-/// counted from 1, in the order of their configurations.
+/// Receives notifications: each thread notifies the gate before and after a job that it does, and again if the job has to be done
+/// again. Jobs are counted from 1, in the order of their configurations.
 pub trait Gate: Sync {
     fn before(&self, job: u32);
 

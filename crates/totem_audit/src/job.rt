@@ -1,4 +1,4 @@
-//! One job of an audit, of which its gate is notified.
+//! One job of an audit, with notification of its gate.
 ghost use Rattle.std.specs.Prelude.{◌≡◌, ◌<◌, IfOk, vec_len};
 ghost use Rattle.totem_pass_d.specs.Jobs.{AreJobs};
 ghost use Rattle.totem_audit.specs.Jobs.{IsRight};
@@ -7,7 +7,7 @@ use crate::gate::Gate;
 use std::alloc::{AllocError, Global};
 use totem_pass_d::{Findings, Jobs};
 
-/// A job that is done: which one it was, and what it found.
+/// A job that is done: its index and its findings.
 #[derive(Drop)]
 pub struct DoneJob {
     /// Counted from 0.

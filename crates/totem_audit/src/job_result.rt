@@ -1,4 +1,4 @@
-//! The jobs of the last pass as calls of their own, for whoever runs them (docs/SPECIFICATIONS.md, "Passes").
+//! The jobs of the last pass as separate calls, for a caller that runs them (docs/SPECIFICATIONS.md, "Passes").
 ghost use Rattle.std.specs.Prelude.{◌≡◌, ◌+◌, ◌<◌, ◌≤◌, ℕ, IfOk, MatchOption};
 ghost use Rattle.totem_evs.specs.Answers.{MeetsPasses};
 ghost use Rattle.totem_audit.specs.Results.{HasJob, IsFoundBy, IsResultOf};
@@ -8,8 +8,8 @@ use std::marker::Model;
 use totem_evs::Run;
 use totem_pass_d::{Findings, Jobs};
 
-/// What one job of a run found. It names the run and the job, and whatever way it comes, what it says was found is what that job
-/// of that run finds.
+/// The findings of one job of a run, with the run and the job. Wherever the value comes from, its findings are those of that job of
+/// that run.
 #[derive(Drop)]
 pub struct JobResult<'r> {
     run: &'r Run,
@@ -53,7 +53,7 @@ impl<'r> JobResult<'r> {
         &self.findings
     }
 
-    /// Returns what the job found. It takes no memory.
+    /// Returns what the job found. Takes no memory.
     pub fn into_findings(self) -> Findings
         ensures value { result ≡ self.entry.findings }
         ensures right { IsFoundBy self.entry.logs self.entry.job result }
@@ -63,7 +63,7 @@ impl<'r> JobResult<'r> {
     }
 }
 
-/// Returns the index of a job, counted from 0, or `None` where there are not so many.
+/// Returns the index of a job, counted from 0, or `None` if there are fewer jobs.
 fn index_of(job: u32, count: usize) -> Option<usize>
     ensures { MatchOption result ((index : ℕ) → job ≡ index + 1 → count ≤ index) (λ index. (job ≡ index + 1) × (index < count)) }
 {
@@ -74,8 +74,8 @@ fn index_of(job: u32, count: usize) -> Option<usize>
     Some(index)
 }
 
-/// Does the job of this number, counted from 1 in the order of the configurations. Returns `None` if the run has no such job. Ask only
-/// for jobs of a run in which `early` finds nothing.
+/// Does the job of this number, counted from 1 in the order of the configurations. Returns `None` if the run has no such job. Call
+/// it only for a run in which `early` finds nothing.
 #[tactic(auto, using(crate::proofs::Results::found_by))]
 pub fn do_job(alloc: Global, run: &Run, job: u32) -> Result<Option<JobResult<'_>>, AllocError>
     requires { MeetsPasses run.now.logs }

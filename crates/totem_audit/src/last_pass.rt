@@ -1,4 +1,4 @@
-//! Pass D by many threads (docs/SPECIFICATIONS.md, "Passes").
+//! Pass D with many threads (docs/SPECIFICATIONS.md, "Passes").
 ghost use Rattle.std.specs.Prelude.{◌<◌, IfOk};
 ghost use Rattle.totem_evs.specs.Answers.{ListsConfigurations};
 ghost use Rattle.totem_pass_d.specs.Findings.{AreComplete};
@@ -31,7 +31,7 @@ fn note_all(jobs: &Jobs<'_>, known: &mut Vec<Option<Findings>>, mut results: Vec
     }
 }
 
-/// What is known of each job, once all has come that was found.
+/// Returns what is known of each job, once all results have been received.
 #[tactic(auto, using(crate::proofs::KnownJobs::nothing_is_known, crate::proofs::KnownJobs::right_by_jobs))]
 fn by_job<N: JobsName, T: Wait>(
     rt: &T,
@@ -52,8 +52,8 @@ fn by_job<N: JobsName, T: Wait>(
     Ok(known)
 }
 
-/// What is known of each job, by so many workers, and no more than there are jobs. The workers take jobs from one channel and send
-/// what they found through another, which has space for all of it.
+/// Returns what is known of each job, using at most the given number of workers, and at most one per job. The workers take jobs from one
+/// channel and send their results through another, which has space for all of them.
 fn shared<N: JobsName + Send + Sync, T: Threads + Wait + Sync, G: Gate>(
     rt: &T,
     alloc: Global,
@@ -76,7 +76,7 @@ fn shared<N: JobsName + Send + Sync, T: Threads + Wait + Sync, G: Gate>(
     by_job(rt, alloc, jobs, &results)
 }
 
-/// Pass D by its jobs, which so many workers share. One worker alone does them one after the other, without a channel.
+/// Does pass D, with the jobs shared by the given number of workers. A single worker does them one after the other, without a channel.
 #[tactic(auto, using(crate::proofs::KnownJobs::nothing_is_known))]
 pub fn pass_d_with<T: Threads + Wait + Sync, G: Gate>(
     rt: &T,

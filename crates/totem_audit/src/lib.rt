@@ -1,4 +1,4 @@
-//! The audit of a run: the verdict of its passes, its parts as calls of their own, and the walk that decides for two processes whether one
+//! The audit of a run: the verdict of its passes, its parts as separate calls, and the walk that decides for two processes whether one
 //! keeps the order of the other.
 #![tactic(auto)]
 

@@ -1,4 +1,4 @@
-//! Jobs in a channel, from which workers take.
+//! Jobs in a channel, and the workers that take them from it.
 ghost use denote.Param.Send.{IsSync, IsSend};
 ghost use Rattle.totem_pass_d.specs.Jobs.{AreJobs};
 ghost use Rattle.totem_audit.specs.Jobs.{AreRight, AreNamed};
@@ -13,8 +13,8 @@ use std::sync::Wait;
 use std::thread::{Threads, join};
 use totem_pass_d::Jobs;
 
-/// Returns a channel that holds these spans, in their order, and ends after them. Nothing waits for space, and no more memory is
-/// taken. A span that could not be sent is left out: whoever collects the results does its jobs.
+/// Returns a channel that holds these spans in order, and ends after them. Nothing waits for space, and no more memory is
+/// taken. A span that could not be sent is left out: the jobs in it are done when the results are collected.
 pub fn channel_of<T: Wait>(
     rt: &T,
     alloc: Global,
@@ -29,7 +29,7 @@ pub fn channel_of<T: Wait>(
     Ok(receiver)
 }
 
-/// Does the jobs of a span, in turn. Whatever span it is, no job is taken beyond the last. When memory runs out, the rest is
+/// Does the jobs of a span in turn. No job beyond the last is done, whatever the span says. When memory runs out, the rest is
 /// left out.
 fn do_span<G: Gate>(
     alloc: Global,
@@ -48,7 +48,7 @@ fn do_span<G: Gate>(
     Ok(())
 }
 
-/// Takes spans, does their jobs and sends what was found, until none is left, or memory runs out.
+/// Takes spans, does their jobs and sends the results, until no span is left or memory runs out.
 #[tactic(auto, using(crate::proofs::KnownJobs::none_right, crate::proofs::KnownJobs::right_by_name))]
 fn work<N: JobsName, T: Wait, G: Gate>(
     rt: &T,
@@ -74,7 +74,7 @@ fn work<N: JobsName, T: Wait, G: Gate>(
     }
 }
 
-/// So many workers side by side, of which the thread that asks is one.
+/// Runs the given number of workers side by side. The calling thread is one of them.
 #[cycle(halves)]
 pub fn work_together<N: JobsName + Send + Sync, T: Threads + Wait + Sync, G: Gate>(
     rt: &T,

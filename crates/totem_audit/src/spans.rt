@@ -1,21 +1,21 @@
-//! Which jobs workers take at a time.
+//! How many jobs a worker takes at a time.
 ghost use Rattle.std.specs.Prelude.{◌<◌, ◌≤◌, IfOk};
 ghost use Rattle.totem_audit.specs.Spans.{AreCut};
 
 use std::alloc::{AllocError, Global};
 
-/// Jobs in a row: from one index up to another, counted from 0.
+/// Consecutive jobs: from one index up to another, counted from 0.
 #[derive(Clone, Copy)]
 pub struct Span {
     pub from: usize,
     pub to: usize,
 }
 
-/// How many jobs are taken at a time at most. So what a message costs is shared by the jobs where these are cheap, and where one is
-/// dear, few wait after it.
+/// How many jobs are taken at a time at most. Cheap jobs then share the cost of a channel message, and few jobs wait after an
+/// expensive one.
 const MOST: usize = 16;
 
-/// How many jobs are taken next, when so many are left: half a worker's equal share of them, but one at least, and not too many.
+/// Returns how many of the jobs that are left are taken next: half of a worker's equal share, but at least one, and not too many.
 fn size(left: usize, workers: u32) -> usize
     requires some { 0 < left }
     requires workers { 0 < workers }
@@ -25,7 +25,7 @@ fn size(left: usize, workers: u32) -> usize
     half.clamp(1, MOST)
 }
 
-/// So many jobs, cut into spans. The last ones are single jobs, so that no worker has much to do when the others have nothing left.
+/// Cuts the given number of jobs into spans. The last ones are single jobs, so that no worker has much to do when the others are done.
 pub fn spans(alloc: Global, count: usize, workers: u32) -> Result<Vec<Span>, AllocError>
     requires { 0 < workers }
     ensures { IfOk result (λ spans. AreCut 0 spans.items count) }

@@ -6,11 +6,11 @@ use std::alloc::{AllocError, Global};
 use totem_cert::Certificate;
 use totem_evs::{Fault, Pending, Waiting};
 
-/// What the audit says of a run (docs/SPECIFICATIONS.md, "Passes").
+/// The verdict of the audit on a run (docs/SPECIFICATIONS.md, "Passes").
 #[derive(Debug, Drop)]
 pub enum Verdict {
-    /// The run meets the specifications. The certificate gives the order of its events; the lists of what is pending and of who
-    /// waits rise.
+    /// The run meets the specifications. The certificate gives the order of its events. The lists of what is pending and of
+    /// which processes wait are ascending.
     Yes {
         certificate: Certificate,
         pending: Vec<Pending>,

@@ -19,7 +19,7 @@ impl Model for Workers {
 }
 
 impl Workers {
-    /// Returns so many workers, or `None` unless the count is 1 to 64.
+    /// Returns this many workers, or `None` unless the count is from 1 to 64.
     pub fn new(count: u32) -> Option<Workers>
         ensures { MatchOption result ((count ≡ 0) ⊎ (64 < count)) (λ w. w ≡ count) }
     {
@@ -29,14 +29,14 @@ impl Workers {
         Some(Workers { count })
     }
 
-    /// Returns the thread that asks, and no other.
+    /// Returns one worker: the calling thread.
     pub fn one() -> Workers
         ensures { result ≡ 1 }
     {
         Workers { count: 1 }
     }
 
-    /// Returns how many threads they are, from 1 to 64.
+    /// Returns the number of threads, from 1 to 64.
     pub fn count(self) -> u32
         ensures value { result ≡ self }
         ensures range { (0 < result) × (result ≤ 64) }

@@ -17,7 +17,7 @@ use Rattle.totem_cert.proofs.Kept.{alone_alike}
 
 module _ (run : List Log) (old : List Numbering) (k j : ℕ) (log : Log) (x : Entry) (rising : Rising run) (sound : IsSound run old) (log_at : slice_get run k ≡ Some log)
     (at : slice_get (log_of run log.proc) j ≡ Some x) (next : IsNext run old (place log.proc j)) (alone : class_key x ≡ None) where
-  -- its line, of which it is the head
+  -- it is the first entry of its log without a number
   head_of : (line : Numbering) → slice_get old k ≡ Some line → (j ≡ length line.numbers) × (length line.numbers < length log.entries) × (slice_get log.entries (length line.numbers) ≡ Some x)
   head_of line line_at =
       let h = ready_head run old (place log.proc j) next.ready in

@@ -1,4 +1,4 @@
--- A run has one closed list at most.
+-- A run has at most one closed list.
 use Rattle.std.proofs.Common.{◌≡◌, ℕ, zero, suc, ◌+◌, ◌-◌, ◌<◌, ◌⊎◌, inl, inr, List, [], ◌∷◌, length, drop, get_or, slice_get, Some, refl, sym, ◌∙◌, ap, subst, arith}
 use Rattle.std.proofs.lemmas.Option.{slice_get_within, slice_get-get_or}
 use Rattle.totem_ids.specs.declared.place.Place.{Place}
@@ -26,7 +26,7 @@ one_holder run f g e (inr (_, a)) (inr (_, b)) =
 visit_same : (v w : Step) → v.from ≡ w.from → v.to ≡ w.to → v ≡ w
 visit_same v w f t = ap (λ (e : Place). let x : Step = record { from = e; to = v.to } in x) f ∙ ap (λ (e : Place). let x : Step = record { from = w.from; to = e } in x) t
 
--- one step is that of a class
+-- a class has at most one step
 pub one_step_of : (run : List Log) (k : Place) (v w : Step) → IsStepOf run k v → IsStepOf run k w → v ≡ w
 one_step_of run k v w a b =
     let to : v.to ≡ w.to = antisym v.to w.to (a.least w.from w.to b.shares b.holds) (b.least v.from v.to a.shares a.holds) in
@@ -51,7 +51,7 @@ module _ (run : List Log) (start : Place) (xs ys : List Step) (a : IsWalk run st
       let e : i + 1 ≡ suc i = omega arith in
       one_step_of run u.0.from v w (a.next i u.0 v u.1 (rw e at_v)) (rw same (b.next i t.0 w t.1 (rw e at_w)))
 
-  -- a walk that came back is no shorter
+  -- a walk that has returned is no shorter
   pub not_shorter : (again : ℕ) (last : Step) → ComesBack run start xs again last → length xs < length ys → ⊥
   not_shorter again last back lt = go (length xs) refl back.at_end
     where
@@ -81,7 +81,7 @@ same_list (x ∷ xs) (y ∷ ys) e h =
     let rest : xs ≡ ys = same_list xs ys (omega arith) (λ i v w at_v at_w. h (suc i) v w at_v at_w) in
     ap (λ z. z ∷ xs) one ∙ ap (λ zs. y ∷ zs) rest
 
--- two walks from one event that come back are one
+-- two walks from one event that return are equal
 pub one_walk : (run : List Log) (start : Place) (xs ys : List Step) (i j : ℕ) (v w : Step) → ComesBack run start xs i v → ComesBack run start ys j w → xs ≡ ys
 one_walk run start xs ys i j v w a b = elim (less_or_not (length xs) (length ys)) [
   | inl under ↦ absurd (not_shorter run start xs ys a.walk b.walk i v a under)
@@ -91,7 +91,7 @@ one_walk run start xs ys i j v w a b = elim (less_or_not (length xs) (length ys)
   ]
 ]
 
--- and come back to one class, from one step
+-- and they return to the same class, at the same step
 pub one_return : (run : List Log) (start : Place) (xs : List Step) (i j : ℕ) (v w : Step) → ComesBack run start xs i v → ComesBack run start xs j w → (i ≡ j) × (v ≡ w)
 one_return run start xs i j v w a b =
     let last : v ≡ w = same_head xs v w (length xs - 1) a.at_end b.at_end in
@@ -108,7 +108,7 @@ one_spec run k l a (inl (_, h)) (inr (_, none)) = absurd (none h)
 one_spec run k l a (inr (_, none)) (inl (_, h)) = absurd (none h)
 one_spec run k l a (inr (x, _)) (inr (y, _)) = x ∙ sym y
 
--- two closed lists that begin their walks at one event
+-- two closed lists whose walks start at one event
 from_one : (run : List Log) (start : Place) (k l : SpecNo) (a b : List Place) (x : IsClosedList run k a) (y : IsClosedList run l b) → x.start ≡ start → y.start ≡ start → (k ≡ l) × (a ≡ b)
 from_one run start k l a b x y at_x at_y =
     let back_x : ComesBack run start x.steps x.again x.last = rw at_x at x.back in

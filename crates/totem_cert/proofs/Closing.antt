@@ -14,7 +14,7 @@ use Rattle.totem_evs.specs.ClosedLists.{HoldsUp, same_place, unless, forward, Ar
 use Rattle.totem_cert.proofs.Classmates.{class_sym, event_of}
 use Rattle.totem_cert.proofs.Walking.{step_in}
 
--- steps along a list, and from its last to z
+-- steps along a list, and from its last event to z
 abbrev Path : (Place → Place → Type 0) → List Place → Place → Type 0
 Path Leads [] z = Unit {0}
 Path Leads (x ∷ xs) z = Chain Leads x xs z
@@ -50,7 +50,7 @@ append_nil (x ∷ xs) = ap (λ (ys : List Place). x ∷ ys) (append_nil xs)
 closed_same : (run : List Log) (Leads : Place → Place → Type 0) (xs ys : List Place) → xs ≡ ys → IsClosed run Leads xs → IsClosed run Leads ys
 closed_same run Leads xs ys same h = rw same at h
 
--- a closed list may begin elsewhere
+-- a closed list can start at any of its events
 turn : (run : List Log) (Leads : Place → Place → Type 0) (front back : List Place) → IsClosed run Leads (front ++ back) → IsClosed run Leads (back ++ front)
 turn run Leads [] back h = rw append_nil h
 turn run Leads (a ∷ as') [] h = closed_same run Leads ((a ∷ as') ++ []) (a ∷ as') (append_nil (a ∷ as')) h
@@ -63,7 +63,7 @@ turn run Leads (a ∷ as') (b ∷ bs) (chain, strict) =
       ],
     )
 
--- each step is strict, and leads to the class of the one before; the first one's event is of p's class
+-- each step is strict, and leads to the class of the one before it; the first one's event is in p's class
 abbrev Linked : List Log → Place → List Step → Type 0
 Linked run p [] = Unit {0}
 Linked run p (v ∷ vs) = Strict run v.from v.to × InClass run v.to p × Linked run v.from vs
@@ -109,7 +109,7 @@ forward_strict run p v vs e es h is = go (forward v.from vs) is
         let b : xs ++ (v.from ∷ unless v.to p) ≡ es = cc in
         rw (← a, ← b) (some_right (Strict run) x xs (unless v.to p) v.from p (last_part run v p h.0 h.1).1)
 
--- it begins with what its last step comes from
+-- it starts with the event from which its last step leads
 forward_head : (p : Place) (v : Step) (vs : List Step) (l : Step) → slice_get (v ∷ vs) (length vs) ≡ Some l → (es : List Place) × (forward p (v ∷ vs) ≡ l.from ∷ es)
 forward_head p v [] l at = (unless v.to p, (let same : v ≡ l = cc in ap (λ (u : Step). u.from ∷ unless v.to p) same))
 forward_head p v (w ∷ ws) l at = let rest = forward_head v.from w ws l at in (rest.0 ++ (v.from ∷ unless v.to p), rw rest.1 refl)
@@ -137,7 +137,7 @@ holds_strict : (run : List Log) (f e : Place) → IsEvent run e → HoldsUp run 
 holds_strict run f e event (inl prev) = inl (prev.left.event, event, (prev.proc, (let b = prev.before in omega arith)))
 holds_strict run f e event (inr (_, least)) = inr (least.message, least.send.conf, least.send.sends, least.delivers)
 
--- without different deliveries of one message, each step is one of the first kind
+-- if no message has two different deliveries in it, each step is one of the first kind
 no_twins : (run : List Log) (e : Place) (es : List Place) (z : Place) → Chain (IsOrderStep run) e es z → (Somewhere (AreTwinDeliveries run) e es z → ⊥) → Chain (IsStep run) e es z
 no_twins run e [] z (inl s) never = s
 no_twins run e [] z (inr d) never = absurd (never d)

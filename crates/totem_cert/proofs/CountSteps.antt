@@ -1,4 +1,4 @@
--- What counts change where one more entry gets a number.
+-- How the counts change when one more entry gets a number.
 use Rattle.std.proofs.Common.{◌≡◌, ◌≢◌, ℕ, zero, suc, ◌+◌, ◌-◌, ◌*◌, ◌<◌, ◌≤◌, ◌⊎◌, inl, inr, List, [], ◌∷◌, ◌++◌, length, map, get_or, slice_get, Option, Some, None, Bool, true, false, refl, sym, ◌∙◌, ap, arith, length-append}
 use Rattle.std.specs.Prelude.{◌==◌}
 use Rattle.std.proofs.Math.Dec.{leb}
@@ -67,7 +67,7 @@ others_here messages (Some x) n a b c =
     moved : (p q r s : ℕ) → p ≡ q + r → s + p ≡ (s + q) + r
     moved p q r s h = omega arith
 
--- a log, the head of which gets its number
+-- a log whose head gets its number
 pub kept_step : (messages : ℕ) (entries : List Entry) (row : List ℕ) (head c : ℕ) → head < length entries
     → kept_in messages entries row head (suc head) c ≡ kept_in messages entries row (suc head) (suc (suc head)) c + passed messages entries row head c
 kept_step messages entries row head c lt =
@@ -89,7 +89,7 @@ kept_step messages entries row head c lt =
           rw past (let h = same in omega arith))
     ]
 
--- the counts of a run, a head of which gets its number
+-- the counts of a run in which the head of a log gets its number
 pub counts_step : (run : List Log) (table : Table) (old new : List Numbering) (k n : ℕ) (log : Log) (was : Numbering) (counts next : List ℕ)
     → Counts run table old counts → Pushes old new k n → slice_get run k ≡ Some log → slice_get old k ≡ Some was → length was.numbers < length log.entries
     → Takes counts next (passed (length table.messages.items) log.entries (get_or table.rows.items k []) (length was.numbers)) → Counts run table new next
@@ -117,7 +117,7 @@ counts_step run table old new k n log was counts next counted pushes log_at was_
     each c within = less _ _ _ _ (passed (length table.messages.items) log.entries (get_or table.rows.items k []) (length was.numbers) c) (takes.each c within) (counted.each c (rw (takes.long) at within))
         (sum_change (length run) k (passed (length table.messages.items) log.entries (get_or table.rows.items k []) (length was.numbers) c) (λ j. kept_at run table (given_at old j) c j) (λ j. kept_at run table (given_at new j) c j) (slice_get_within run k log log_at) (here c) (λ j le other. others c j other))
 
--- what is taken away in two steps
+-- a count that shrinks in two steps
 pub takes_both : (old mid new : List ℕ) (f g h : ℕ → ℕ) → Takes old mid f → Takes mid new g → ((c : ℕ) → h c ≡ f c + g c) → Takes old new h
 takes_both old mid new f g h one_step other both = record {
   long = other.long ∙ one_step.long;
@@ -144,7 +144,7 @@ one_most (Some n) c = go (n == c) refl
     go true e = rw e (omega arith)
     go false e = rw e (omega arith)
 
--- what is kept from the start on
+-- what an entry keeps from the start
 pub is_kept : (messages : ℕ) (entry : Entry) (n at : ℕ) (class : Option ℕ) → IsKept messages entry n at class → (c : ℕ) → keeping messages (Some entry) n 0 1 c at ≤ 1
 is_kept messages entry n at class kept c = let h = kept.each c in let m = one_most class c in omega arith
 
@@ -188,7 +188,7 @@ kept_first messages entry n at feeds none = record {
       rw feeds (let z = a in let w = b in omega arith));
 }
 
--- one entry more is counted
+-- one more entry is counted
 pub adds_more : (old mid new : List ℕ) (messages : ℕ) (entries : List Entry) (row : List ℕ) (i : ℕ) (entry : Entry) (n : ℕ) (class : Option ℕ)
     → Adds old mid (λ c. sum_to i (keeping_at messages entries row 0 1 c)) → Adds mid new (one class) → IsKept messages entry n i class → slice_get entries i ≡ Some entry → get_or row i 0 ≡ n
     → Adds old new (λ c. sum_to (i + 1) (keeping_at messages entries row 0 1 c))
@@ -222,7 +222,7 @@ keeping_most messages (Some (Send m x s)) n c i = is_kept_any messages (Send m x
 keeping_most messages (Some (Deliver m x)) n c i = is_kept_any messages (Deliver m x) n c i (inl refl)
 keeping_most messages (Some (Fail x)) n c i = is_kept_any messages (Fail x) n c i (inl refl)
 
--- no count is greater than the entries before
+-- no count is greater than the number of entries before
 pub counted_few : (old new : List ℕ) (messages : ℕ) (entries : List Entry) (row : List ℕ) (i : ℕ) → AtMost old 31000000 → i ≤ 1000000 → Adds old new (λ c. sum_to i (keeping_at messages entries row 0 1 c)) → AtMost new 100000000
 counted_few old new messages entries row i few le adds = record { each = λ c. each c (less_or_not c (length new)) }
   where
@@ -234,7 +234,7 @@ counted_few old new messages entries row i few le adds = record { each = λ c. e
         omega arith
     each c (inr past) = (let p : get_or new c 0 ≡ 0 = get_or_past new c 0 (grind arith) in omega arith)
 
--- what has been counted so far is not much
+-- the counts so far are small enough
 pub counts_few : (run : List Log) (table : Table) (counts : List ℕ) (k : ℕ) → ((j : ℕ) (log : Log) → slice_get run j ≡ Some log → length log.entries ≤ 1000000) → k ≤ 31 → CountsTo run table counts k → AtMost counts 31000000
 counts_few run table counts k short le to = record { each = λ c. each c (less_or_not c (length counts)) }
   where
@@ -257,7 +257,7 @@ counts_few run table counts k short le to = record { each = λ c. each c (less_o
         omega arith
     each c (inr past) = (let p : get_or counts c 0 ≡ 0 = get_or_past counts c 0 (grind arith) in omega arith)
 
--- one log more is counted
+-- one more log is counted
 pub counts_more : (run : List Log) (table : Table) (old new : List ℕ) (k messages : ℕ) (log : Log) (entries : List Entry) (row : List ℕ) → CountsTo run table old k → slice_get run k ≡ Some log
     → messages ≡ length table.messages.items → entries ≡ log.entries → row ≡ get_or table.rows.items k [] → Adds old new (kept_in messages entries row 0 1) → CountsTo run table new (k + 1)
 counts_more run table old new k messages log entries row to log_at messages_is entries_is row_is adds = record {
@@ -293,7 +293,7 @@ counts_whole run table counts k is to = record {
 pub counts_none : (run : List Log) (table : Table) (counts : List ℕ) → length counts ≡ length table.messages.items + length table.confs.items → ((c : ℕ) → get_or counts c 0 ≡ 0) → CountsTo run table counts 0
 counts_none run table counts long zeros = record { long = long; each = λ c within. zeros c }
 
--- a line with one number more
+-- a line with one more number
 pub pushes_of : (old new : List Numbering) (k n : ℕ) (read now : Numbering) → k < length old → read ≡ get_or old k read → new ≡ set old k now → now ≡ record read { numbers = read.numbers ++ n ∷ [] } → Pushes old new k n
 pushes_of old new k n read now within is new_is now_is =
     let changes = set_changes old new k now within new_is in
@@ -307,7 +307,7 @@ pushes_of old new k n read now within is new_is now_is =
 pub pushes_changes : (old new : List Numbering) (k n : ℕ) (was : Numbering) → Pushes old new k n → slice_get old k ≡ Some was → Changes old new k (record was { numbers = was.numbers ++ n ∷ [] })
 pushes_changes old new k n was pushes at = record { count = pushes.count; here = pushes.here was at; others = pushes.others }
 
--- a log whose head is of some class has a head
+-- a log whose head is in some class has a head
 pub mate_has_head : (p j : ℕ) (x : Entry) (log : Log) (lines : List Numbering) (k : ℕ) (line : Numbering) → HeadIsMate p j x log line → slice_get lines k ≡ Some line → HasHead log lines k
 mate_has_head p j x log lines k line (y, at, mate) line_at = record { line = line; line_at = line_at; more = slice_get_within log.entries (length line.numbers) y at }
 
@@ -317,7 +317,7 @@ takes_as old new m n xs ys row other h g a b c d takes = rw (a, b, c, d) at take
 pub class_as : (o : Option ℕ) (m n : ℕ) (x : Entry) (row other : List ℕ) (h g : ℕ) → m ≡ n → row ≡ other → h ≡ g → o ≡ class_in m x (get_or row h 0) → o ≡ class_in n x (get_or other g 0)
 class_as o m n x row other h g a b c is = rw (a, b, c) at is
 
--- the row of a log, as it is read
+-- the row of a log, as the code reads it
 pub table_row : (run : List Log) (table : Table) (k : ℕ) (log : Log) (entries : List Entry) (row read : List ℕ) → IsTable run table → slice_get run k ≡ Some log → entries ≡ log.entries → read ≡ get_or table.rows.items k read → row ≡ read
     → (row ≡ get_or table.rows.items k []) × (length entries ≡ length row)
 table_row run table k log entries row read is log_at entries_is read_is row_is =

@@ -1,4 +1,4 @@
--- Which classes are ready, by the counts of what keeps them back.
+-- Which classes are ready, found from the counts of what keeps them back.
 use Rattle.std.proofs.Common.{◌≡◌, ℕ, suc, ◌+◌, ◌<◌, ◌≤◌, ◌⊎◌, inl, inr, List, [], length, get_or, slice_get, Option, Some, None, Bool, true, false, IsTrue, ◌↔◌, refl, sym, ◌∙◌, ap, arith, rules}
 use Rattle.std.specs.Prelude.{◌==◌}
 use Rattle.std.proofs.lemmas.Option.{slice_get_within, slice_get_cases}
@@ -231,7 +231,7 @@ no_key m n (Send o x s) h = refl
 no_key m n (Deliver o x) h = absurd cc
 no_key m n (Fail x) h = refl
 
--- the head of a log that is alone in its class is ready
+-- a head that is alone in its class is ready
 pub alone_counted : (run : List Log) (lines : List Numbering) (p j m n : ℕ) (x : Entry) → slice_get (log_of run p) j ≡ Some x → length (numbers_of lines p) ≡ j → class_in m x n ≡ None
     → IsTrue true ↔ IsReady run lines (place p j)
 alone_counted run lines p j m n x at head alone = (λ _. nothing_keeps run lines p j x at (omega arith) (record { none = λ q i within (y, at_y, k). go q i y k }), λ _. refl)

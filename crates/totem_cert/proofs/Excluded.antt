@@ -17,7 +17,7 @@ one_number : (run : List Log) (lines : List Numbering) → Certified run lines �
 one_number run lines cert e f k (inl (event, same)) at = rw same at at
 one_number run lines cert e f k (inr same) at = sym (cert.shared e f same) ∙ at
 
--- what a certificate numbers gets its number, sooner or later
+-- an event that a certificate numbers gets its number sooner or later
 numbered_placed : (run : List Log) (lines : List Numbering) → Certified run lines → (n k : ℕ) (e : Place) → k < n → number_at lines e ≡ Some k → Placed run e
 numbered_placed run lines cert zero k e lt at = absurd (omega arith)
 numbered_placed run lines cert (suc n) k e lt at = placed (λ g waits. go (numbered_placed run lines cert n) g waits (below_of run lines cert g waits.member waits.step))

@@ -54,7 +54,7 @@ set_changes old new k line lt is = record {
 pub nothing_changes : (old : List Numbering) (k : ℕ) (line : Numbering) → k < length old → line ≡ get_or old k line → Changes old old k line
 nothing_changes old k line lt is = record { count = refl; here = slice_get_read old _ k line refl lt is; others = λ i other. refl }
 
--- one log more
+-- one more log
 pub given_more : (run : List Log) (old new next : List Numbering) (p j : ℕ) (x : Entry) (n k : ℕ) (log : Log) (was now : Numbering)
     → GivenUpTo run old new p j x n k → slice_get run k ≡ Some log → k < length new → was ≡ get_or new k was → Changes new next k now → LineGiven p j x n log was now
     → GivenUpTo run old next p j x n (k + 1)
@@ -85,7 +85,7 @@ push_other [] y (suc i) other = refl
 push_other (x ∷ xs) y zero other = refl
 push_other (x ∷ xs) y (suc i) other = push_other xs y i (λ h. other (omega (arith, h)))
 
--- the line that stands beside another one
+-- the line next to another one
 line_at : (xs ys : List Numbering) (k : ℕ) (x : Numbering) → length xs ≡ length ys → slice_get xs k ≡ Some x → (y : Numbering) × (slice_get ys k ≡ Some y)
 line_at [] ys k x same at = absurd cc
 line_at (a ∷ xs) [] k x same at = absurd (omega arith)
@@ -128,7 +128,7 @@ left_less (l ∷ logs) (a ∷ old) (b ∷ new) (suc k) log was now c d grows at_
 
 module _ (run : List Log) (old new : List Numbering) (p j : ℕ) (x : Entry) (n k : ℕ) (rising : Rising run) (sound : IsSound run old)
     (at : slice_get (log_of run p) j ≡ Some x) (next : IsNext run old (place p j)) (end : length run ≤ k) (up : GivenUpTo run old new p j x n k) where
-  -- what became of each line
+  -- how each line has changed
   given : (i : ℕ) (log : Log) (was now : Numbering) → slice_get run i ≡ Some log → slice_get old i ≡ Some was → slice_get new i ≡ Some now → LineGiven p j x n log was now
   given i log was now at_l at_w at_n = up.before i log was now (let lt = slice_get_within run i log at_l in omega arith) at_l at_w at_n
 

@@ -3,7 +3,7 @@ use Rattle.std.proofs.Common.{◌≡◌, ℕ, zero, suc, ◌+◌, ◌<◌, ◌�
 use Rattle.std.specs.Prelude.{◌==◌}
 use Rattle.totem_evs.specs.Certificates.{Numbering, numbers_of}
 
--- the lines before i are of other processes
+-- the lines before i belong to other processes
 pub record NoneFor (lines : List Numbering) (p i : ℕ) : Type 0 where
   pub rest : numbers_of lines p ≡ numbers_of (drop i lines) p
 

@@ -1,4 +1,4 @@
--- Which classes are ready, by the keyed with their key.
+-- Which classes are ready, found among the keyed entries with their key.
 use Rattle.std.proofs.Common.{◌≡◌, ℕ, ◌<◌, ◌≤◌, ◌⊎◌, inl, inr, List, [], length, get_or, slice_get, Some, None, Bool, true, false, IsTrue, ◌↔◌, refl, sym, ◌∙◌, ap, arith}
 use Rattle.std.proofs.lemmas.Option.{slice_get_within, slice_get_cases, slice_get_read}
 use Rattle.totem_evs.specs.declared.entry.Entry.{Entry}
@@ -17,7 +17,7 @@ use Rattle.totem_evs.proofs.LogOf.{Rising, log_of_at}
 use Rattle.totem_cert.proofs.LineFacts.{Stands, where_is, stands_at}
 use Rattle.totem_cert.proofs.LogHeads.{nothing_keeps, something_keeps}
 
--- an entry of one class with x has x's key
+-- an entry in x's class has x's key
 pub mate_key : (x y : Entry) (key : Key) → class_key x ≡ Some key → AreOfOneClass x y → (key_of y ≡ Some key) × (shares y ≡ true)
 mate_key (Conf x ms) (Conf y ns) key h same = (rw same at h, refl)
 mate_key (Conf x ms) (Send m y s) key h same = absurd same
@@ -30,7 +30,7 @@ mate_key (Deliver m x) (Fail y) key h same = absurd same
 mate_key (Send m x s) y key h same = absurd same
 mate_key (Fail x) y key h same = absurd same
 
--- a send of what x delivers has x's key
+-- a send of the message that x delivers has x's key
 pub send_key : (y x : Entry) (key : Key) → class_key x ≡ Some key → AreSendAndDelivery y x → (key_of y ≡ Some key) × (shares y ≡ false)
 send_key (Send m c s) (Deliver n d) key h same = (rw (← same) at h, refl)
 send_key (Send m c s) (Conf d ms) key h same = absurd same
@@ -40,7 +40,7 @@ send_key (Conf c ms) x key h same = absurd same
 send_key (Deliver m c) x key h same = absurd same
 send_key (Fail c) x key h same = absurd same
 
--- an entry without such a key is alone, and waits for no send
+-- an entry without a class key is alone, and waits for no send
 pub alone_alike : (x y : Entry) → class_key x ≡ None → AreOfOneClass x y → ⊥
 alone_alike (Conf x ms) y h same = cc
 alone_alike (Deliver m x) y h same = cc
@@ -56,7 +56,7 @@ alone_fed (Conf c ms) x h same = same
 alone_fed (Deliver m c) x h same = same
 alone_fed (Fail c) x h same = same
 
--- an entry with x's key is in its class, or sends what it delivers
+-- an entry with x's key is in its class, or sends the message that it delivers
 pub key_alike : (x y : Entry) (key : Key) → class_key x ≡ Some key → key_of y ≡ Some key → shares y ≡ true → AreOfOneClass x y
 key_alike (Conf x ms) (Conf y ns) key h k s = cc
 key_alike (Conf x ms) (Send m y t) key h k s = cc
@@ -78,11 +78,11 @@ key_feeds (Conf c ms) x key h k f = absurd cc
 key_feeds (Deliver m c) x key h k f = absurd cc
 key_feeds (Fail c) x key h k f = absurd cc
 
--- what a log has numbered, by its place in the run
+-- the numbers of a log, by its index in the run
 pub given_is : (run : List Log) (lines : List Numbering) (k q : ℕ) (log : Log) (line : Numbering) → Stands run lines q k log line → given_at lines k ≡ length (numbers_of lines q)
 given_is run lines k q log line s = ap count_of s.line_at ∙ ap length (sym s.line_is)
 
--- where a keyed entry stands
+-- the place of a keyed entry
 pub member_stands : (run : List Log) (lines : List Numbering) (m : KeyedEntry) (log : Log) (entry : Entry) → Rising run → Fits run lines → IsKeyedOf run m log entry
     → (line : Numbering) × Stands run lines log.proc m.log log line × (slice_get (log_of run log.proc) m.at ≡ Some entry)
 member_stands run lines m log entry rising fits of = go (slice_get_cases lines m.log).1
@@ -97,7 +97,7 @@ module _ (run : List Log) (lines : List Numbering) (keyed : List KeyedEntry) (ri
   not_itself : (q i : ℕ) → p ≡ q → j ≡ i → length (numbers_of lines q) < i → ⊥
   not_itself q i same also lt = let h : length (numbers_of lines p) ≡ length (numbers_of lines q) = ap (λ (r : ℕ). length (numbers_of lines r)) same in omega arith
 
-  -- it is among the keyed with its key
+  -- the entry is among the keyed entries with its key
   among : (q i : ℕ) (y : Entry) (key : Key) (shared : Bool) → slice_get (log_of run q) i ≡ Some y → key_of y ≡ Some key → shares y ≡ shared
       → (k : ℕ) × (s : ℕ) × (slice_get keyed s ≡ Some (record { key = key; shares = shared; log = k; at = i })) × (given_at lines k ≡ length (numbers_of lines q))
   among q i y key shared at_y is_key is_shared = go (where_is run lines q fits)
@@ -158,7 +158,7 @@ module _ (run : List Log) (lines : List Numbering) (keyed : List KeyedEntry) (ri
           something_keeps run lines p j x at log.proc keeps.member.at
           (back y log.proc keeps.member.at (given_at lines keeps.member.log) (of.key ∙ ap Some keeps.keeps.0) keeps.member.shares of.shared (given_is run lines keeps.member.log log.proc log s.0 s.1) s.2 keeps.keeps.1) ready
 
--- the head of a log, as it is read
+-- the head of a log, as the code reads it
 pub head_entry : (run : List Log) (log : Log) (line : Numbering) (entries : List Entry) (numbers : List ℕ) (x : Entry) → log_of run log.proc ≡ log.entries → entries ≡ log.entries → numbers ≡ line.numbers
     → length numbers < length entries → x ≡ get_or entries (length numbers) x → slice_get (log_of run log.proc) (length line.numbers) ≡ Some x
 head_entry run log line entries numbers x log_is entries_is numbers_is lt is = rw (log_is, ← entries_is, ← numbers_is) (slice_get_read entries (length entries) (length numbers) x refl lt is)

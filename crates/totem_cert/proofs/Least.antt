@@ -67,7 +67,7 @@ first_left_least run lines k log line rising sound none first log_at line_at = r
         past : (i : ℕ) → f ≡ place f.proc i → length (numbers_of lines f.proc) ≤ i
         past i is = unnumbered_past lines f.proc i (let h = left_unnumbered run lines sound none f left in rw is at h)
 
--- what the k-th log and line say of its least left event
+-- what the k-th log and line say about the least event left
 pub least_left_is : (run items : List Log) (lines : List Numbering) (k n : ℕ) (log : Log) (line : Numbering) (numbers : List ℕ) → IsRun run → IsSound run lines → NoneReady run lines → IsFirstLeft run lines k
     → items ≡ run → log ≡ get_or items k log → line ≡ get_or lines k line → numbers ≡ line.numbers → IsLeastLeft run (record { proc = log.proc; at = length numbers + 1 })
 least_left_is run items lines k n log line numbers is_run sound none first same log_is line_is numbers_is =
@@ -77,7 +77,7 @@ least_left_is run items lines k n log line numbers is_run sound none first same 
     let e : suc (length line.numbers) ≡ length numbers + 1 = rw numbers_is (omega arith) in
     rw e at h
 
--- what was written of the round is the closed list
+-- what is written for the round is the closed list
 pub cycle : (run : List Log) (start : Place) (steps : List Step) (again : ℕ) (written places : List Place) (k : SpecNo) → IsLeastLeft run start → IsRound run start steps again → IsForwardFrom steps again again written
     → IsTurned written places → BeginsLeast places → IsBrokenBy run k places → IsClosedList run k places
 cycle run start steps again written places k begins round from turned least broken = record {

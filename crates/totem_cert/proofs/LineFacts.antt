@@ -11,7 +11,7 @@ use Rattle.totem_evs.proofs.LogOf.{Rising, in_order}
 use Rattle.totem_cert.specs.Search.{place}
 use Rattle.totem_cert.specs.Progress.{Fits, IsNumbered}
 
--- the log and the line of process p, which stand at k
+-- the log and the line of process p, which are at index k
 pub record Stands (run : List Log) (lines : List Numbering) (p k : ℕ) (log : Log) (line : Numbering) : Type 0 where
   pub log_at : slice_get run k ≡ Some log
   pub line_at : slice_get lines k ≡ Some line
@@ -26,7 +26,7 @@ fits_tail log logs line lines fits = record {
   short = λ k l n at_l at_n. fits.short (suc k) l n at_l at_n;
 }
 
--- a process has neither log nor line, or both
+-- a process has both a log and a line, or neither
 pub where_is : (run : List Log) (lines : List Numbering) (p : ℕ) → Fits run lines
     → ((log_of run p ≡ []) × (numbers_of lines p ≡ [])) ⊎ ((k : ℕ) × (log : Log) × (line : Numbering) × Stands run lines p k log line)
 where_is [] [] p fits = inl (refl, refl)
@@ -43,7 +43,7 @@ where_is (log ∷ logs) (line ∷ lines) p fits = go (log.proc == p) refl (fits.
 Rising-tail : (log : Log) (logs : List Log) → Rising (log ∷ logs) → Rising logs
 Rising-tail log logs rising = λ i j d lt below. rising (suc i) (suc j) d (omega arith) (omega arith)
 
--- where the processes rise, each log and line is that of its process
+-- if the processes are ascending, each log and line is found by its process
 pub stands_at : (run : List Log) (lines : List Numbering) (k : ℕ) (log : Log) (line : Numbering) → Rising run → Fits run lines → slice_get run k ≡ Some log → slice_get lines k ≡ Some line
     → Stands run lines log.proc k log line
 stands_at [] lines k log line rising fits at_l at_n = absurd cc
@@ -61,7 +61,7 @@ stands_at (x ∷ xs) (y ∷ ys) (suc k) log line rising fits at_l at_n =
     let test : (x.proc == log.proc) ≡ false = search rules in
     record { log_at = at_l; line_at = at_n; proc = refl; log_is = rw test rest.log_is; line_is = rw (proc, test) rest.line_is }
 
--- an event stands at an index of its log
+-- an event has an index in its log
 pub index_of : (run : List Log) (e : Place) (x : Entry) → entry_at run e ≡ Some x → (i : ℕ) × (e ≡ place e.proc i) × (slice_get (log_of run e.proc) i ≡ Some x)
 index_of run e x at = go e.at refl at
   where
@@ -69,7 +69,7 @@ index_of run e x at = go e.at refl at
     go zero h k = absurd cc
     go (suc i) h k = (i, ap (λ (a : ℕ). let e' : Place = record { proc = e.proc; at = a } in e') h, k)
 
--- what has a number stands before the end of its line
+-- an event with a number is before the end of its line
 pub numbered_within : (lines : List Numbering) (p i : ℕ) → IsNumbered lines (place p i) → i < length (numbers_of lines p)
 numbered_within lines p i h = slice_get_within (numbers_of lines p) i h.number h.given
 
@@ -85,7 +85,7 @@ unnumbered_past lines p i none = elim (slice_get_cases (numbers_of lines p) i).1
 pub past_unnumbered : (lines : List Numbering) (p i : ℕ) → length (numbers_of lines p) ≤ i → number_at lines (place p i) ≡ None
 past_unnumbered lines p i le = slice_get_past (numbers_of lines p) i le
 
--- what a loop reads at k
+-- what a loop reads at index k
 pub read_both : (run items : List Log) (lines : List Numbering) (k : ℕ) (log : Log) (line : Numbering) → Fits run lines → items ≡ run → k < length items → log ≡ get_or items k log → line ≡ get_or lines k line
     → (slice_get run k ≡ Some log) × (slice_get lines k ≡ Some line)
 read_both run items lines k log line fits same lt log_is line_is = (

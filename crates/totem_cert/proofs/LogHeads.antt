@@ -1,4 +1,4 @@
--- Which classes are ready, by the heads of the logs.
+-- Which classes are ready, found from the heads of the logs.
 use Rattle.std.proofs.Common.{◌≡◌, ℕ, zero, suc, ◌<◌, ◌≤◌, ◌⊎◌, inl, inr, List, [], ◌∷◌, length, slice_get, Option, Some, None, refl, ◌∙◌, ap, arith}
 use Rattle.std.proofs.lemmas.Option.{slice_get_within}
 use Rattle.totem_ids.specs.declared.conf.ConfId.{ConfId}
@@ -18,7 +18,7 @@ use Rattle.totem_cert.specs.Progress.{IsNumbered, Sound, IsReady, IsMate, KeepsB
 use Rattle.totem_cert.proofs.Classmates.{class_sym, event_of, one_message, waits_same}
 use Rattle.totem_cert.proofs.LineFacts.{index_of, numbered_within, within_numbered, unnumbered_past, past_unnumbered}
 
--- entries of one class are alike
+-- places whose entries are of one class are in the same class
 alike_class : (x y : Entry) (run : List Log) (e f : Place) → AreOfOneClass x y → entry_at run e ≡ Some x → entry_at run f ≡ Some y → SameClass run e f
 alike_class (Conf x ms) (Conf y ns) run e f h at_e at_f = inl (x, (ms, at_e), (ns, rw h at_f))
 alike_class (Conf x ms) (Send m y s) run e f h at_e at_f = absurd h
@@ -46,7 +46,7 @@ pub class_mate : (run : List Log) (p j q i : ℕ) (x y : Entry) → slice_get (l
 class_mate run p j q i x y at_x at_y (inl (event, same)) = inl (ap (λ (e : Place). e.proc) same, (let e : suc j ≡ suc i = ap (λ (e : Place). e.at) same in omega arith))
 class_mate run p j q i x y at_x at_y (inr same) = inr (class_alike run (place p j) (place q i) x y same at_x at_y)
 
--- a send of what an event delivers
+-- a send of the message that an event delivers
 pub feeds_send : (y x : Entry) (run : List Log) (g e : Place) → AreSendAndDelivery y x → entry_at run g ≡ Some y → entry_at run e ≡ Some x → (m : MsgId) × (c : ConfId) × SendsAt run g m c × DeliversAt run e m
 feeds_send (Send m c s) (Deliver n d) run g e h at_g at_e = (m, c, (s, at_g), (d, rw h at_e))
 feeds_send (Send m c s) (Conf d ms) run g e h at_g at_e = absurd h
@@ -65,7 +65,7 @@ class_delivers run e f m (inl (_, same)) d = rw same d
 class_delivers run e f m (inr (inl (x, (ms, a), (ns, b)))) (c, d) = absurd cc
 class_delivers run e f m (inr (inr (n, a, b))) d = let same : m ≡ n = one_message run f m n d b in rw same a
 
--- a place is its parts
+-- a place is given by its parts
 pub same_place_of : (g : Place) (q a : ℕ) → g.proc ≡ q → g.at ≡ suc a → g ≡ place q a
 same_place_of g q a h k =
     ap (λ (p : ℕ). let e : Place = record { proc = p; at = g.at } in e) h ∙ ap (λ (i : ℕ). let e : Place = record { proc = q; at = i } in e) k
@@ -79,7 +79,7 @@ previous run p i y at = before (log_of run p) i y at
     before (x ∷ xs) (suc i) y h = before xs i y h
 
 module _ (run : List Log) (lines : List Numbering) (p j : ℕ) (x : Entry) (at : slice_get (log_of run p) j ≡ Some x) where
-  -- where nothing keeps a class back, it is ready
+  -- if nothing keeps a class back, it is ready
   pub nothing_keeps : length (numbers_of lines p) ≤ j → NoneOf run (KeepsBack run lines p j x) → IsReady run lines (place p j)
   nothing_keeps le none = record { event = (x, at); unnumbered = past_unnumbered lines p j le; waits = λ g waits. go g waits }
     where
@@ -111,7 +111,7 @@ module _ (run : List Log) (lines : List Numbering) (p j : ℕ) (x : Entry) (at :
       go : (g : Place) → WaitsFor run (place p j) g → IsNumbered lines g
       go g waits = strict g waits.member waits.shares waits.step
 
-  -- what keeps a class back shows that it isn't ready
+  -- a class that is kept back is not ready
   pub something_keeps : (q i : ℕ) → KeepsBack run lines p j x q i → IsReady run lines (place p j) → ⊥
   something_keeps q zero (y, at_y, inl (mate, past)) ready = omega arith
   something_keeps q (suc i) (y, at_y, inl (mate, past)) ready =

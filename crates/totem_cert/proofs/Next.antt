@@ -1,4 +1,4 @@
--- The first log whose head is ready has the next class.
+-- The first log with a ready head has the next class.
 use Rattle.std.proofs.Common.{◌≡◌, ℕ, suc, ◌+◌, ◌<◌, ◌≤◌, ◌⊎◌, inl, inr, List, [], length, get_or, slice_get, Some, refl, sym, ◌∙◌, ap, arith}
 use Rattle.std.proofs.lemmas.Option.{slice_get_within}
 use Rattle.totem_ids.specs.declared.place.Place.{Place}
@@ -15,7 +15,7 @@ use Rattle.totem_cert.proofs.Classmates.{class_self}
 use Rattle.totem_cert.proofs.LineFacts.{Stands, where_is, stands_at, read_both}
 use Rattle.totem_cert.proofs.LogHeads.{ready_head, ready_same}
 
--- where a ready event stands
+-- the place of a ready event
 pub ready_stands : (run : List Log) (lines : List Numbering) (e : Place) → Fits run lines → IsReady run lines e
     → (k : ℕ) × (log : Log) × (line : Numbering) × Stands run lines e.proc k log line × (e ≡ place log.proc (length line.numbers))
 ready_stands run lines e fits ready = go (ready_head run lines e ready) (where_is run lines e.proc fits)

@@ -1,4 +1,4 @@
--- The steps of a walk, by the events to which they led.
+-- The steps of a walk, noted by the events to which they led.
 use Rattle.std.proofs.Common.{◌≡◌, ℕ, ◌<◌, ◌⊎◌, inl, inr, List, [], ◌∷◌, ◌++◌, length, slice_get, Some, None, Bool, true, false, refl, sym, ◌∙◌, ap, nat_cmp}
 use Rattle.std.specs.Ordering.{is_eq, ordering_then}
 use Rattle.std.specs.declared.cmp.Ordering.{Ordering}
@@ -36,7 +36,7 @@ bool_cases : (b : Bool) → (b ≡ true) ⊎ (b ≡ false)
 bool_cases true = inl refl
 bool_cases false = inr refl
 
--- the same place, or one that is told apart
+-- the two places are equal, or the order tells them apart
 apart_or_same : (e f : Place) → (e ≡ f) ⊎ (is_eq (place_order e f) ≡ false)
 apart_or_same e f = elim (bool_cases (is_eq (place_order e f))) [ inl h ↦ inl (same_place e f (equal_if (place_order e f) h)) | inr h ↦ inr h ]
 

@@ -1,4 +1,4 @@
--- A run has one certificate at most.
+-- A run has at most one certificate.
 use Rattle.std.proofs.Common.{◌≡◌, ℕ, zero, suc, ◌<◌, inl, inr, List, [], ◌∷◌, Some, Bool, true, false, refl, sym, ◌∙◌, ap, arith}
 use Rattle.std.specs.Prelude.{All, ◌==◌}
 use Rattle.std.proofs.lemmas.Option.{slice_get_within, slice_get_cases, get_or_from_slice_get}
@@ -25,7 +25,7 @@ all_of (line ∷ lines) p all = go (line.proc == p) refl (All-head (λ l. All (�
     go true e here rest = rw e here
     go false e here rest = rw e rest
 
--- a place with a number is an event, and its number is not 0
+-- a place with a number is an event, and the number is not 0
 numbered : (run : List Log) (lines : List Numbering) (e : Place) (k : ℕ) → Matches run lines → number_at lines e ≡ Some k → IsEvent run e
 numbered run lines e k matches at = go e.at at
   where
@@ -60,7 +60,7 @@ waits_below run lines f g k cert at waits = go waits.step
     go (inl (is_g, is_m, before)) = below (cert.rises g waits.member is_g is_m before)
     go (inr (m, x, sends, delivers)) = below (cert.sent g waits.member m x sends delivers)
 
--- the two agree on the numbers below k
+-- both certificates have the same numbers below k
 record Agree (a b : List Numbering) (k : ℕ) : Type 0 where
   to : (x : Place) (j : ℕ) → j < k → number_at a x ≡ Some j → number_at b x ≡ Some j
   from : (x : Place) (j : ℕ) → j < k → number_at b x ≡ Some j → number_at a x ≡ Some j

@@ -1,4 +1,4 @@
--- The first wanted keyed are the least events that hold a class up.
+-- The first wanted keyed entry is the least event that holds a class up.
 use Rattle.std.proofs.Common.{◌≡◌, ℕ, ◌+◌, ◌<◌, ◌≤◌, ◌⊎◌, inl, inr, List, [], length, slice_get, Option, Some, None, Bool, true, false, IsTrue, refl, ◌∙◌, ap, arith}
 use Rattle.std.specs.Prelude.{IfSome, IfNone}
 use Rattle.std.proofs.lemmas.Option.{slice_get_within, get_or_from_slice_get}
@@ -35,7 +35,7 @@ itself_key (Send m x s) key h = absurd cc
 itself_key (Fail x) key h = absurd cc
 
 module _ (run : List Log) (lines : List Numbering) (keyed : List KeyedEntry) (rising : Rising run) (fits : Fits run lines) (index : IsIndex run keyed) where
-  -- an entry with a key is among the keyed
+  -- an entry with a key is among the keyed entries
   record Found (q i : ℕ) (key : Key) (shared : Bool) : Type 0 where
     k : ℕ
     log : Log
@@ -55,7 +55,7 @@ module _ (run : List Log) (lines : List Numbering) (keyed : List KeyedEntry) (ri
           let w = index.whole m log y (record { log_at = s.log_at; entry_at = rw s.log_is at at_y; key = is_key; shared = is_shared }) in
           record { k = k; log = log; log_at = s.log_at; proc = s.proc; s = w.0; at = w.1; given = given_is run lines k q log line s }
 
-  -- where the first wanted one stands
+  -- the place of the first wanted entry
   record Picked (m : KeyedEntry) (e : Place) : Type 0 where
     log : Log
     log_at : slice_get run m.log ≡ Some log

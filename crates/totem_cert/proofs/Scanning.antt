@@ -1,4 +1,4 @@
--- Scans over the keyed with one key.
+-- Scans over the keyed entries with one key.
 use Rattle.std.proofs.Common.{◌≡◌, ℕ, ◌+◌, ◌≤◌, inl, inr, List, length, slice_get, Some, arith}
 use Rattle.std.proofs.lemmas.Option.{slice_get_within, get_or_from_slice_get}
 use Rattle.totem_evs.specs.Certificates.{Numbering}
@@ -8,7 +8,7 @@ use Rattle.totem_cert.specs.Keys.{KeyBelow, KeysRise}
 use Rattle.totem_cert.specs.Keepers.{EntryKeeps, KeepsAt, NoneKeepsFrom, IsEnd}
 use Rattle.totem_evs.proofs.LogOf.{less_or_not}
 
--- the keyed whose keys rise: none is below one before it
+-- the keys of the keyed entries are ascending: none is below one before it
 pub rises : (keyed : List KeyedEntry) (s t : ℕ) (a b : KeyedEntry) → KeysRise keyed → slice_get keyed s ≡ Some a → slice_get keyed t ≡ Some b → s ≤ t → KeyBelow b.key a.key → ⊥
 rises keyed s t a b rise at_a at_b le below =
     rise.rise s t a le (slice_get_within keyed t b at_b) (rw (get_or_from_slice_get keyed t b a at_b, get_or_from_slice_get keyed s a a at_a) below)

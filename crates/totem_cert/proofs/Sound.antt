@@ -1,4 +1,4 @@
--- What holds of the numbers given so far, and what one more class adds.
+-- What holds of the numbers given so far, and after one more class.
 use Rattle.std.proofs.Common.{◌≡◌, ℕ, ◌+◌, ◌<◌, ◌≤◌, ◌⊎◌, inl, inr, List, Option, Some, None, refl, sym, ◌∙◌, arith}
 use Rattle.totem_ids.specs.declared.place.Place.{Place}
 use Rattle.totem_evs.specs.declared.log.Log.{Log}
@@ -30,7 +30,7 @@ module _ (run : List Log) (old new : List Numbering) (e : Place) (n : ℕ) (soun
   below_kept : (x : Place) (k : ℕ) → IsNumberedBelow old x k → IsNumberedBelow new x k
   below_kept x k h = record { number = h.number; given = kept x h.number h.given; below = h.below }
 
-  -- a number below one that was there was there too
+  -- a number below an old one was given before too
   below_was : (x : Place) (k : ℕ) → k ≤ n + 1 → IsNumberedBelow new x k → IsNumberedBelow old x k
   below_was x k le h = elim (was x h.number h.given) [
     | inl (in_class, is) ↦ absurd (let lt = h.below in omega arith)
@@ -43,7 +43,7 @@ module _ (run : List Log) (old new : List Numbering) (e : Place) (n : ℕ) (soun
   waits_was : (x : Place) (k : ℕ) → k ≤ n + 1 → IsReadyAt run new x k → IsReadyAt run old x k
   waits_was x k le h = record { each = λ g waits. below_was g k le (h.each g waits) }
 
-  -- what the new class waits for was there
+  -- what the new class waits for has a number already
   new_waits : (x : Place) → InClass run e x → IsReadyAt run new x (n + 1)
   new_waits x in_class = record { each = λ g waits. go g (next.ready.waits g (waits_same run e x g in_class waits)) }
     where

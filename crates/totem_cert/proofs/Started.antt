@@ -1,4 +1,4 @@
--- Where no entry has a number yet.
+-- The lines before any entry has a number.
 use Rattle.std.proofs.Common.{◌≡◌, ℕ, zero, suc, ◌*◌, ◌≤◌, List, [], ◌∷◌, length, map, slice_get, Some, None, refl, sym, ap, arith, Bool, true, false}
 use Rattle.std.specs.Prelude.{◌==◌}
 use Rattle.std.proofs.lemmas.Option.{get_or_from_slice_get, slice_get_within}

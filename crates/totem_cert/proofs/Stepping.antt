@@ -1,4 +1,4 @@
--- Steps at classes that are left.
+-- Steps to classes without a number.
 use Rattle.std.proofs.Common.{◌≡◌, ℕ, zero, suc, ◌+◌, ◌<◌, ◌≤◌, ◌⊎◌, inl, inr, List, length, get_or, slice_get, Option, Some, None, Bool, IsTrue, refl, sym, ap, arith}
 use Rattle.std.specs.Prelude.{unwrap_or, is_some, IfSome, IfNone}
 use Rattle.std.proofs.lemmas.Option.{slice_get_within, slice_get_read, slice_get_past}
@@ -36,7 +36,7 @@ strict_event run e f (inl (is_e, is_f, before)) = is_e
 strict_event run e f (inr (m, x, (s, at), delivers)) = (Send m x s, at)
 
 module _ (run : List Log) (lines : List Numbering) (sound : IsSound run lines) (none : NoneReady run lines) where
-  -- what gets a position has one already
+  -- what gets a position has got it already
   placed_numbered : (e : Place) → Placed run e → IsEvent run e → IsNumbered lines e
   placed_numbered e (placed waits) event = elim (option_cases (number_at lines e)) [
     | inr (k, is) ↦ record { number = k; given = is }
@@ -60,7 +60,7 @@ module _ (run : List Log) (lines : List Numbering) (sound : IsSound run lines) (
 
   module _ (p j : ℕ) (x : Entry) (at : slice_get (log_of run p) j ≡ Some x) (left : IsLeft run (place p j)) (waits : Bool) (send : Option Place) (waits_is : waits ≡ is_some send)
       (found : IfSome send (λ e. IsLeast run (IsOpenSend run lines x) e)) (nothing : IfNone send (NoneOf run (IsOpenSend run lines x))) where
-    -- a left send of the message of the class is one that has no number
+    -- a send of the class's message that is left has no number
     open_of : (m : MsgId) (g : Place) → IsLeftSend run g m → DeliversAt run (place p j) m → At g (λ q i. (i < length (log_of run q)) × IsOpenSend run lines x q i)
     open_of m g h delivers =
         let y : Entry = Send m h.conf h.sends.0 in
@@ -69,7 +69,7 @@ module _ (run : List Log) (lines : List Numbering) (sound : IsSound run lines) (
         let past = left_past g.proc i.0 (rw i.1 at h.left) in
         (i.0, (let e : g.at ≡ suc i.0 = ap (λ (f : Place). f.at) i.1 in omega arith), (slice_get_within _ i.0 y i.2, (y, i.2, send_feeds y x run (place g.proc i.0) (place p j) m h.conf here delivers i.2 at, past)))
 
-    -- where such a send is, the class waits
+    -- if there is such a send, the class waits
     waits_for : (q i : ℕ) → i < length (log_of run q) → IsOpenSend run lines x q i → IsTrue waits
     waits_for q i within h = rw waits_is (go send nothing)
       where

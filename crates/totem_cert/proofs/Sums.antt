@@ -1,4 +1,4 @@
--- Sums of a function's values.
+-- Sums of the values of a function.
 use Rattle.std.proofs.Common.{◌≡◌, ◌≢◌, ℕ, zero, suc, ◌+◌, ◌*◌, ◌<◌, ◌≤◌, ◌⊎◌, inl, inr, refl, arith}
 use Rattle.totem_evs.proofs.LogOf.{less_or_not}
 use Rattle.totem_cert.specs.Counts.{sum_to}
@@ -10,7 +10,7 @@ sum_same (suc n) f g same =
     let here : f n ≡ g n = same n (omega arith) in
     omega arith
 
--- one value is greater by t, and the others are the same
+-- one value is greater by t, and the others are equal
 pub sum_change : (n i t : ℕ) (f g : ℕ → ℕ) → i < n → f i ≡ g i + t → ((j : ℕ) → j < n → j ≢ i → f j ≡ g j) → sum_to n f ≡ sum_to n g + t
 sum_change zero i t f g lt here others = absurd (omega arith)
 sum_change (suc n) i t f g lt here others = elim (less_or_not i n) [

@@ -1,4 +1,4 @@
--- A closed list has each of its places once, so that it is begun at its least place in one way.
+-- A closed list has each of its places once, so there is one way to start it at its least place.
 use Rattle.std.proofs.Common.{◌≡◌, ℕ, zero, suc, ◌+◌, ◌-◌, ◌<◌, ◌≤◌, ◌⊎◌, inl, inr, List, [], ◌∷◌, ◌++◌, length, drop, get_or, slice_get, Some, Bool, true, false, refl, sym, ◌∙◌, ap, subst, arith}
 use Rattle.std.specs.Prelude.{Contains}
 use Rattle.std.proofs.lemmas.Option.{slice_get_within, slice_get-get_or}
@@ -15,7 +15,7 @@ use Rattle.totem_cert.proofs.Walking.{antisym, step_in}
 use Rattle.totem_cert.proofs.Closing.{same_is, not_same}
 use Rattle.totem_cert.proofs.Written.{one_before}
 
--- no place of the list is e
+-- e is not in the list
 abbrev Fresh : Place → List Place → Type 0
 Fresh e xs = Contains xs e → ⊥
 
@@ -47,7 +47,7 @@ distinct_append (x ∷ xs) ys a b apart = (
   distinct_append xs ys a.1 b (λ f in_x in_y. apart f (tail_in x f xs in_x) in_y),
 )
 
--- a list of different places has an element at one place alone
+-- in a list of different places each has one index
 one_split : (f g b c : List Place) (x : Place) → IsDistinct (f ++ (x ∷ b)) → f ++ (x ∷ b) ≡ g ++ (x ∷ c) → (f ≡ g) × (b ≡ c)
 one_split [] [] b c x d e = (refl, cc)
 one_split [] (y ∷ g) b c x d e =
@@ -67,7 +67,7 @@ append_nil : (xs : List Place) → xs ++ [] ≡ xs
 append_nil [] = refl
 append_nil (x ∷ xs) = ap (λ ys. x ∷ ys) (append_nil xs)
 
--- a turned list, by its first place
+-- a turned list, given its first place
 record Turned (whole turned : List Place) : Type 0 where
   first : Place
   front : List Place
@@ -86,7 +86,7 @@ turned_at whole turned t least = go t.front t.back t.was t.is
 at_most_all : (x : Place) (xs : List Place) (f : Place) → BeginsLeast (x ∷ xs) → Contains xs f → IsAtMost x f
 at_most_all x xs f least (k, lt, is) = least k f (slice_get-get_or xs k f lt ∙ ap Some is)
 
--- the first place of a turned list is at most each of the whole one
+-- the first place of a turned list is at most each place of the whole list
 first_least : (whole turned : List Place) (t : Turned whole turned) → BeginsLeast turned → (f : Place) → Contains whole f → IsAtMost t.first f
 first_least whole turned t least f h =
     let l : BeginsLeast (t.first ∷ (t.back ++ t.front)) = rw t.is at least in
@@ -115,13 +115,13 @@ one_turn whole a b distinct turned_a turned_b least_a least_b =
     s.is ∙ ap (λ (x : Place). x ∷ (s.back ++ s.front)) one ∙ ap (λ (xs : List Place). t.first ∷ (xs ++ s.front)) r.1 ∙ ap (λ (xs : List Place). t.first ∷ (t.back ++ xs)) r.0 ∙ sym t.is
 
 module _ (run : List Log) (start : Place) (xs : List Step) (again : ℕ) (last : Step) (back : ComesBack run start xs again last) where
-  -- e is where the step at i came from
+  -- e is the event from which the step at i leads
   record IsFrom (i : ℕ) (e : Place) : Type 0 where
     step : Step
     at : slice_get xs i ≡ Some step
     is : e ≡ step.from
 
-  -- e is where the step at i led, and not what stands after it
+  -- e is the event to which the step at i leads, and is not what follows it
   record IsTo (i : ℕ) (e : Place) : Type 0 where
     step : Step
     at : slice_get xs i ≡ Some step
@@ -140,7 +140,7 @@ module _ (run : List Log) (start : Place) (xs : List Step) (again : ℕ) (last :
     | inr rest ↦ elim rest [ inl gt ↦ absurd (back.walk.new j i w v at_w at_v gt (class_sym run v.to w.to shares)) | inr e ↦ e ]
   ]
 
-  -- the class of what a step came from is that of the next step, or of the step at `again`
+  -- the class of the event from which a step leads is the class of the next step, or of the step at `again`
   follows : (i : ℕ) (e : Place) → IsFrom i e → ((w : Step) × (slice_get xs (suc i) ≡ Some w) × InClass run e w.to) ⊎ ((suc i ≡ length xs) × (e ≡ last.from) × InClass run e back.step.to)
   follows i e from = go (less_or_not (suc i) (length xs))
     where
@@ -221,7 +221,7 @@ module _ (run : List Log) (start : Place) (xs : List Step) (again : ℕ) (last :
       go true h = inl (same_is e p h, rw h refl)
       go false h = inr (not_same e p h, rw h refl)
 
-  -- what a step writes
+  -- the events that a step writes
   step_tag : (t : ℕ) (v : Step) (p e : Place) → slice_get xs t ≡ Some v → StandsBefore xs again t p → Contains (v.from ∷ unless v.to p) e → IsFrom t e ⊎ IsTo t e
   step_tag t v p e at stands h = elim (in_cases v.from e (unless v.to p) h) [
     | inl same ↦ inl (record { step = v; at = at; is = sym same })

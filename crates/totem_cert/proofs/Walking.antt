@@ -30,7 +30,7 @@ push_below [] y i lt = absurd (omega arith)
 push_below (x ∷ xs) y zero lt = refl
 push_below (x ∷ xs) y (suc i) lt = push_below xs y i (omega arith)
 
--- what stands in a list with one more
+-- the elements of a list with one more at the end
 pub push_cases : {A : Type 0} (xs : List A) (y z : A) (i : ℕ) → slice_get (xs ++ y ∷ []) i ≡ Some z → ((i < length xs) × (slice_get xs i ≡ Some z)) ⊎ ((i ≡ length xs) × (y ≡ z))
 push_cases [] y z zero h = inr (refl, cc)
 push_cases [] y z (suc i) h = absurd cc
@@ -89,7 +89,7 @@ walking_yet run start steps next is step = rw is (record {
   later = λ i v at len. absurd cc;
 })
 
--- one step more
+-- one more step
 module _ (run : List Log) (start : Place) (steps : List Step) (next : Step) (walking : IsWalking run start steps next) (new : IsNotVisited steps next.to (length steps)) where
   pub walk_more : IsWalk run start (steps ++ next ∷ [])
   walk_more = record {
@@ -130,7 +130,7 @@ module _ (run : List Log) (start : Place) (steps : List Step) (next : Step) (wal
   pub left_next : IsLeft run next.from
   left_next = let t = next_step run start steps next walking in left_from run t.0 next t.1
 
--- a walk that came to a class again
+-- a walk that returned to a class
 pub round : (run : List Log) (start : Place) (steps : List Step) (next : Step) (again : ℕ) → IsWalking run start steps next → IsVisitedAt steps next.to again → IsRound run start steps again
 round run start [] next again walking at = absurd (let h = at.at in cc)
 round run start (x ∷ xs) next again walking at =
@@ -152,7 +152,7 @@ round run start (x ∷ xs) next again walking at =
     last x [] = (x, refl)
     last x (y ∷ ys) = last y ys
 
--- the steps are no more than there can be events
+-- there are no more steps than events
 code : Step → ℕ
 code v = v.to.proc * 1048576 + v.to.at
 

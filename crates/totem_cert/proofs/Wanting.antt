@@ -1,4 +1,4 @@
--- The first of the wanted keyed, step by step.
+-- The first wanted keyed entry, found step by step.
 use Rattle.std.proofs.Common.{◌≡◌, ℕ, ◌+◌, ◌<◌, ◌≤◌, ◌⊎◌, inl, inr, List, slice_get, Option, Some, None, sym, ◌∙◌, ap, arith}
 use Rattle.totem_evs.specs.Certificates.{Numbering}
 use Rattle.totem_cert.specs.declared.key.Key.{Key}

@@ -1,4 +1,4 @@
--- How many entries keep each class from being ready, the classes being numbered by a table.
+-- How many entries keep each class from being ready. The classes are numbered by a table.
 use Rattle.std.specs.Prelude.{◌≡◌, ◌≢◌, ◌↔◌, ℕ, zero, suc, ◌+◌, ◌-◌, ◌<◌, ◌≤◌, ◌==◌, if◌then◌else◌, nat_le, List, [], ◌∷◌, ◌++◌, length, slice_get, slice_index_or, Option, Some, None}
 use Rattle.totem_ids.specs.declared.message.MsgId.{MsgId}
 use Rattle.totem_ids.specs.declared.conf.ConfId.{ConfId}
@@ -15,7 +15,7 @@ abbrev pub sum_to : ℕ → (ℕ → ℕ) → ℕ
 sum_to zero f = 0
 sum_to (suc n) f = sum_to n f + f n
 
--- the class of an entry whose number in the table is n: that of its message, or after all messages that of its configuration
+-- the class of an entry with the number n in the table: its message's, or its configuration's, which come after those of all messages
 abbrev pub class_in : ℕ → Entry → ℕ → Option ℕ
 class_in messages (Conf x ms) n = Some (messages + n)
 class_in messages (Send m x s) n = None
@@ -29,25 +29,25 @@ class_fed (Send m x s) n = Some n
 class_fed (Deliver m x) n = None
 class_fed (Fail x) n = None
 
--- 1 for that class, and 0 for any other
+-- 1 for the given class, 0 for any other
 abbrev pub one : Option ℕ → ℕ → ℕ
 one None c = 0
 one (Some n) c = if n == c then 1 else 0
 
--- counts from the bound on
+-- n from the bound on, 0 below it
 abbrev pub from : ℕ → ℕ → ℕ → ℕ
 from bound i n = if nat_le bound i then n else 0
 
--- 1 if the entry at i keeps the class c: as a send from one bound on, as an entry of the class from the other on
+-- how often the entry at i keeps class c: as a send from index `sends` on, as an entry of the class from index `others` on
 abbrev pub keeping : ℕ → Option Entry → ℕ → ℕ → ℕ → ℕ → ℕ → ℕ
 keeping messages None n sends others c i = 0
 keeping messages (Some entry) n sends others c i = from sends i (one (class_fed entry n) c) + from others i (one (class_in messages entry n) c)
 
--- the same of the entry at i of a log
+-- the same for the entry at i of a log
 abbrev pub keeping_at : ℕ → List Entry → List ℕ → ℕ → ℕ → ℕ → ℕ → ℕ
 keeping_at messages entries row sends others c i = keeping messages (slice_get entries i) (slice_index_or row i 0) sends others c i
 
--- how many entries of a log keep it
+-- how many entries of a log keep class c
 abbrev pub kept_in : ℕ → List Entry → List ℕ → ℕ → ℕ → ℕ → ℕ
 kept_in messages entries row sends others c = sum_to (length entries) (keeping_at messages entries row sends others c)
 
@@ -55,15 +55,15 @@ abbrev pub entries_of : Option Log → List Entry
 entries_of None = []
 entries_of (Some log) = log.entries
 
--- how many entries of the k-th log keep it, `given` of which have numbers
+-- how many entries of the k-th log keep class c if `given` of them have numbers
 abbrev pub kept_at : List Log → Table → ℕ → ℕ → ℕ → ℕ
 kept_at run table given c k = kept_in (length table.messages.items) (entries_of (slice_get run k)) (slice_index_or table.rows.items k []) given (suc given) c
 
--- how many entries of the run keep it
+-- how many entries of the run keep class c
 abbrev pub kept_by : List Log → Table → List Numbering → ℕ → ℕ
 kept_by run table lines c = sum_to (length run) (λ k. kept_at run table (given_at lines k) c k)
 
--- what a class keeps back is counted under its number
+-- the counts have the number of entries that keep each class
 pub record Counts (run : List Log) (table : Table) (lines : List Numbering) (counts : List ℕ) : Type 0 where
   pub long : length counts ≡ length table.messages.items + length table.confs.items
   pub each : (c : ℕ) → c < length counts → slice_index_or counts c 0 ≡ kept_by run table lines c
@@ -76,16 +76,16 @@ abbrev pub shared_by : ℕ → Option Entry → ℕ → Option ℕ
 shared_by messages None n = None
 shared_by messages (Some entry) n = class_in messages entry n
 
--- how many entries keep a class no longer, where the entry at `head` gets its number
+-- how many entries no longer keep class c once the entry at `head` gets its number
 abbrev pub passed : ℕ → List Entry → List ℕ → ℕ → ℕ → ℕ
 passed messages entries row head c = one (fed_by (slice_get entries head) (slice_index_or row head 0)) c + one (shared_by messages (slice_get entries (suc head)) (slice_index_or row (suc head) 0)) c
 
--- each count, with as many more
+-- each count has grown by f
 pub record Adds (old new : List ℕ) (f : ℕ → ℕ) : Type 0 where
   pub long : length new ≡ length old
   pub each : (c : ℕ) → c < length new → slice_index_or new c 0 ≡ slice_index_or old c 0 + f c
 
--- each count, with as many less
+-- each count has shrunk by f
 pub record Takes (old new : List ℕ) (f : ℕ → ℕ) : Type 0 where
   pub long : length new ≡ length old
   pub each : (c : ℕ) → c < length new → slice_index_or new c 0 ≡ slice_index_or old c 0 - f c
@@ -93,18 +93,18 @@ pub record Takes (old new : List ℕ) (f : ℕ → ℕ) : Type 0 where
 pub record AtMost (counts : List ℕ) (most : ℕ) : Type 0 where
   pub each : (c : ℕ) → slice_index_or counts c 0 ≤ most
 
--- the entry with this number keeps that class, or none, where no entry of its log has a number
+-- the entry with number n keeps the given class, or none, if no entry of its log has a number
 pub record IsKept (messages : ℕ) (entry : Entry) (n at : ℕ) (class : Option ℕ) : Type 0 where
   pub each : (c : ℕ) → keeping messages (Some entry) n 0 1 c at ≡ one class c
 
--- what the numbers of a table tell
+-- the numbers of a table are equal exactly for equal messages, and for equal configurations
 pub record Tells (run : List Log) (table : Table) : Type 0 where
   pub messages : (k i l j : ℕ) (e f : Entry) (m n : MsgId) → IsEntryAt run k i e → IsEntryAt run l j f → NamesMessage e m → NamesMessage f n
       → (number_at table k i ≡ number_at table l j) ↔ (m ≡ n)
   pub confs : (k i l j : ℕ) (e f : Entry) (x y : ConfId) → IsEntryAt run k i e → IsEntryAt run l j f → NamesConf e x → NamesConf f y
       → (number_at table k i ≡ number_at table l j) ↔ (x ≡ y)
 
--- only the line at k changed: its next entry got number n
+-- only the line at k has changed: its next entry got number n
 pub record Pushes (old new : List Numbering) (k n : ℕ) : Type 0 where
   pub count : length new ≡ length old
   pub here : (line : Numbering) → slice_get old k ≡ Some line → slice_get new k ≡ Some (record line { numbers = line.numbers ++ n ∷ [] })
@@ -116,7 +116,7 @@ pub record HasHead (log : Log) (lines : List Numbering) (k : ℕ) : Type 0 where
   pub line_at : slice_get lines k ≡ Some line
   pub more : length line.numbers < length log.entries
 
--- the counts of the first k logs, no entry of which has a number
+-- the counts cover the first k logs, of which no entry has a number
 pub record CountsTo (run : List Log) (table : Table) (counts : List ℕ) (k : ℕ) : Type 0 where
   pub long : length counts ≡ length table.messages.items + length table.confs.items
   pub each : (c : ℕ) → c < length counts → slice_index_or counts c 0 ≡ sum_to k (kept_at run table 0 c)

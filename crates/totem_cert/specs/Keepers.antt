@@ -17,7 +17,7 @@ count_of None = 0
 abbrev pub given_at : List Numbering → ℕ → ℕ
 given_at lines k = count_of (slice_get lines k)
 
--- an entry of the class stands after the first one of its log without a number, or a send has no number
+-- an entry of the class is after the first entry of its log without a number, or a send has no number
 abbrev pub StandsBehind : Bool → ℕ → ℕ → Type 0
 StandsBehind shares given at = (IsTrue shares × (given < at)) ⊎ ((shares ≡ false) × (given ≤ at))
 
@@ -30,7 +30,7 @@ pub record KeepsAt (lines : List Numbering) (keyed : List KeyedEntry) (key : Key
   pub at : slice_get keyed s ≡ Some member
   pub keeps : EntryKeeps lines key member
 
--- no entry from s on keeps it
+-- no entry from s on keeps the class from being ready
 pub record NoneKeepsFrom (lines : List Numbering) (keyed : List KeyedEntry) (key : Key) (s : ℕ) : Type 0 where
   pub none : (t : ℕ) (member : KeyedEntry) → s ≤ t → slice_get keyed t ≡ Some member → EntryKeeps lines key member → ⊥
 
@@ -39,8 +39,8 @@ pub record IsEnd (keyed : List KeyedEntry) (key : Key) (s : ℕ) : Type 0 where
   pub within : s ≤ length keyed
   pub after : (t : ℕ) (member : KeyedEntry) → s ≤ t → slice_get keyed t ≡ Some member → member.key ≡ key → ⊥
 
--- what is sought among the entries with a key: sends without a number, or entries of the class that are held up, `waits`
--- saying whether a send of their message has no number
+-- the wanted entries with a key: sends without a number, or entries of the class that are held up. `waits` says whether a
+-- send of their message has no number
 abbrev pub IsWanted : Wanted → ℕ → KeyedEntry → Type 0
 IsWanted Sends given m = (m.shares ≡ false) × (given ≤ m.at)
 IsWanted (Mates waits) given m = IsTrue m.shares × (IsTrue waits ⊎ (given < m.at))
@@ -48,7 +48,7 @@ IsWanted (Mates waits) given m = IsTrue m.shares × (IsTrue waits ⊎ (given < m
 abbrev pub Wants : List Numbering → Key → Wanted → KeyedEntry → Type 0
 Wants lines key wanted m = (m.key ≡ key) × IsWanted wanted (given_at lines m.log) m
 
--- m stands at n's place or before it
+-- m is at n's place or before it
 abbrev pub IsNoLater : KeyedEntry → KeyedEntry → Type 0
 IsNoLater m n = (m.log < n.log) ⊎ ((m.log ≡ n.log) × (m.at ≤ n.at))
 
@@ -56,7 +56,7 @@ IsNoLater m n = (m.log < n.log) ⊎ ((m.log ≡ n.log) × (m.at ≤ n.at))
 pub record NoneWantedFrom (lines : List Numbering) (keyed : List KeyedEntry) (key : Key) (wanted : Wanted) (s : ℕ) : Type 0 where
   pub none : (t : ℕ) (n : KeyedEntry) → s ≤ t → slice_get keyed t ≡ Some n → Wants lines key wanted n → ⊥
 
--- of the wanted ones from s on, m is the first by its place
+-- of the wanted entries from s on, m has the least place
 pub record IsFirstWantedFrom (lines : List Numbering) (keyed : List KeyedEntry) (key : Key) (wanted : Wanted) (s : ℕ) (m : KeyedEntry) : Type 0 where
   pub index : ℕ
   pub at : slice_get keyed index ≡ Some m
@@ -67,24 +67,24 @@ abbrev pub IsBestFrom : List Numbering → List KeyedEntry → Key → Wanted �
 IsBestFrom lines keyed key wanted s None = NoneWantedFrom lines keyed key wanted s
 IsBestFrom lines keyed key wanted s (Some m) = IsFirstWantedFrom lines keyed key wanted s m
 
--- the earlier of what was found so far and m
+-- the earlier of the best one so far and m
 abbrev pub IsEarlier : Option KeyedEntry → KeyedEntry → KeyedEntry → Type 0
 IsEarlier None m r = r ≡ m
 IsEarlier (Some best) m r = ((r ≡ best) × IsNoLater best m) ⊎ ((r ≡ m) × IsNoLater m best)
 
--- what was found so far, with m
+-- the best one so far, taking m into account
 abbrev pub IsBestWith : List Numbering → Key → Wanted → Option KeyedEntry → KeyedEntry → Option KeyedEntry → Type 0
 IsBestWith lines key wanted best m found =
     (Wants lines key wanted m × (r : KeyedEntry) × (found ≡ Some r) × IsEarlier best m r)
     ⊎ ((Wants lines key wanted m → ⊥) × (found ≡ best))
 
--- e is its place
+-- e is the place of the keyed entry
 pub record IsPlaceOf (run : List Log) (m : KeyedEntry) (e : Place) : Type 0 where
   pub log : Log
   pub log_at : slice_get run m.log ≡ Some log
   pub is : e ≡ place log.proc m.at
 
--- the place of the first wanted one, if there is one
+-- the place of the first wanted entry, if there is one
 abbrev pub IsFirstPlace : List Log → List Numbering → List KeyedEntry → Key → Wanted → Option Place → Type 0
 IsFirstPlace run lines keyed key wanted None = NoneWantedFrom lines keyed key wanted 0
 IsFirstPlace run lines keyed key wanted (Some e) = (m : KeyedEntry) × IsFirstWantedFrom lines keyed key wanted 0 m × IsPlaceOf run m e

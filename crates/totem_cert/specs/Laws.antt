@@ -11,10 +11,10 @@ use Rattle.totem_evs.specs.ClosedLists.{IsClosedList}
 abbrev pub PositionsAreOne : Type 0
 PositionsAreOne = (run : List Log) (a b : List Numbering) → IsPositions run a → IsPositions run b → (e : Place) → number_at a e ≡ number_at b e
 
--- a run with a closed list is certified by no lines
+-- no lines certify a run with a closed list
 abbrev pub ClosedListsExcludeCertificates : Type 0
 ClosedListsExcludeCertificates = (run : List Log) (k : SpecNo) (places : List Place) (lines : List Numbering) → IsClosedList run k places → Certified run lines → ⊥
 
--- two closed lists of one run are one, and break one specification
+-- two closed lists of one run are equal, and break the same specification
 abbrev pub ClosedListsAreOne : Type 0
 ClosedListsAreOne = (run : List Log) (k l : SpecNo) (a b : List Place) → IsClosedList run k a → IsClosedList run l b → (k ≡ l) × (a ≡ b)

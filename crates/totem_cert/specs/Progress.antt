@@ -1,4 +1,4 @@
--- How far the numbering has come, and the walk to a closed list.
+-- The numbering so far, and the walk to a closed list.
 use Rattle.std.specs.Prelude.{◌≡◌, ◌⊎◌, ℕ, ◌+◌, ◌-◌, ◌<◌, ◌≤◌, List, [], ◌∷◌, ◌++◌, length, drop, slice_get, unwrap_or, Bool, IsTrue, Option, Some, None}
 use Rattle.totem_ids.specs.declared.place.Place.{Place}
 use Rattle.totem_evs.specs.declared.entry.Entry.{Entry}
@@ -22,7 +22,7 @@ pub record IsNumbered (lines : List Numbering) (e : Place) : Type 0 where
 pub record NotBelow (lines : List Numbering) (e : Place) (k : ℕ) : Type 0 where
   pub none : (l : ℕ) → number_at lines e ≡ Some l → k ≤ l
 
--- the classes numbered so far, n of them
+-- n classes are numbered so far
 pub record Sound (run : List Log) (lines : List Numbering) (n : ℕ) : Type 0 where
   pub only : (e : Place) (k : ℕ) → number_at lines e ≡ Some k → IsEvent run e
   pub positive : (e : Place) (k : ℕ) → number_at lines e ≡ Some k → 0 < k
@@ -34,7 +34,7 @@ pub record Sound (run : List Log) (lines : List Numbering) (n : ℕ) : Type 0 wh
   pub least : (e f : Place) (k : ℕ) → number_at lines e ≡ Some k → IsEvent run f → IsReadyAt run lines f k → NotBelow lines f k → ClassAtMost run e f
   pub placed : (e : Place) (k : ℕ) → number_at lines e ≡ Some k → Placed run e
 
--- e's class may get the next number
+-- e's class is ready for the next number
 pub record IsReady (run : List Log) (lines : List Numbering) (e : Place) : Type 0 where
   pub event : IsEvent run e
   pub unnumbered : number_at lines e ≡ None
@@ -45,11 +45,11 @@ pub record IsNext (run : List Log) (lines : List Numbering) (e : Place) : Type 0
   pub ready : IsReady run lines e
   pub least : (f : Place) → IsReady run lines f → ClassAtMost run e f
 
--- the numbers where e's class got number n too
+-- the new numbers are the old ones, with n for e's class
 pub record Gives (run : List Log) (old new : List Numbering) (e : Place) (n : ℕ) : Type 0 where
   pub each : (x : Place) → (InClass run e x × (number_at new x ≡ Some n)) ⊎ ((InClass run e x → ⊥) × (number_at new x ≡ number_at old x))
 
--- a line for each log, not longer than it
+-- each log has a line that is not longer than it
 pub record Fits (run : List Log) (lines : List Numbering) : Type 0 where
   pub count : length lines ≡ length run
   pub proc : (k : ℕ) (log : Log) (line : Numbering) → slice_get run k ≡ Some log → slice_get lines k ≡ Some line → line.proc ≡ log.proc
@@ -78,7 +78,7 @@ pub record IsNextHead (run : List Log) (lines : List Numbering) (k : ℕ) : Type
   pub line_at : slice_get lines k ≡ Some line
   pub next : IsNext run lines (place log.proc (length line.numbers))
 
--- nothing is ready
+-- no class is ready
 pub record NoneReady (run : List Log) (lines : List Numbering) : Type 0 where
   pub none : (e : Place) → IsReady run lines e → ⊥
 
@@ -86,7 +86,7 @@ pub record NoneReady (run : List Log) (lines : List Numbering) : Type 0 where
 pub record NoneReadyBefore (run : List Log) (lines : List Numbering) (k : ℕ) : Type 0 where
   pub none : (j : ℕ) (log : Log) (line : Numbering) → j < k → slice_get run j ≡ Some log → slice_get lines j ≡ Some line → IsReady run lines (place log.proc (length line.numbers)) → ⊥
 
--- some classes are numbered, and each as it should be
+-- some classes are numbered, all of them correctly
 pub record IsSound (run : List Log) (lines : List Numbering) : Type 0 where
   pub fits : Fits run lines
   pub number : ℕ
@@ -97,13 +97,13 @@ pub record IsSound (run : List Log) (lines : List Numbering) : Type 0 where
 abbrev pub HeadIsMate : ℕ → ℕ → Entry → Log → Numbering → Type 0
 HeadIsMate p j x log line = (y : Entry) × (slice_get log.entries (length line.numbers) ≡ Some y) × IsMate p j x log.proc (length line.numbers) y
 
--- a line, and that line where the class of the entry x at j of p's log got number n
+-- the line after the class of the entry x at j of p's log got number n
 abbrev pub LineGiven : ℕ → ℕ → Entry → ℕ → Log → Numbering → Numbering → Type 0
 LineGiven p j x n log was now =
     (HeadIsMate p j x log was × (now ≡ record was { numbers = was.numbers ++ n ∷ [] }))
     ⊎ ((HeadIsMate p j x log was → ⊥) × (now ≡ was))
 
--- the lines of the first i logs got it
+-- the lines of the first i logs have got it
 pub record GivenUpTo (run : List Log) (old new : List Numbering) (p j : ℕ) (x : Entry) (n i : ℕ) : Type 0 where
   pub count : length new ≡ length old
   pub before : (k : ℕ) (log : Log) (was now : Numbering) → k < i → slice_get run k ≡ Some log → slice_get old k ≡ Some was → slice_get new k ≡ Some now → LineGiven p j x n log was now
@@ -112,7 +112,7 @@ pub record GivenUpTo (run : List Log) (old new : List Numbering) (p j : ℕ) (x 
 abbrev pub empty_line : Log → Numbering
 empty_line log = record { proc = log.proc; numbers = [] }
 
--- n classes are numbered, and there is room for the others
+-- n classes are numbered, and enough numbers are left for the others
 pub record IsNumberedSoFar (run : List Log) (lines : List Numbering) (n : ℕ) : Type 0 where
   pub fits : Fits run lines
   pub sound : Sound run lines n
@@ -139,38 +139,38 @@ pub record IsFirstLeft (run : List Log) (lines : List Numbering) (k : ℕ) : Typ
 abbrev pub IsOpenSend : List Log → List Numbering → Entry → ℕ → ℕ → Type 0
 IsOpenSend run lines x q i = (y : Entry) × (slice_get (log_of run q) i ≡ Some y) × AreSendAndDelivery y x × (length (numbers_of lines q) ≤ i)
 
--- the event at i of q's log is in the class of the entry x at j of p's log, and that class waits for a send, or the entry before has no number
+-- the event at i of q's log is in the class of the entry x at j of p's log; the class waits for a send or the entry before has no number
 abbrev pub IsHeldMate : List Log → List Numbering → ℕ → ℕ → Entry → Bool → ℕ → ℕ → Type 0
 IsHeldMate run lines p j x waits q i = (y : Entry) × (slice_get (log_of run q) i ≡ Some y) × IsMate p j x q i y × (IsTrue waits ⊎ (length (numbers_of lines q) < i))
 
--- from holds to up: the entry before, where it has no number, or else the send
+-- from holds `to` up: it is the entry before, if that has no number, otherwise the send
 abbrev pub IsHeldBy : List Numbering → Option Place → Place → Place → Type 0
 IsHeldBy lines send to from =
     ((length (numbers_of lines to.proc) + 1 < to.at) × (from.proc ≡ to.proc) × (from.at + 1 ≡ to.at))
     ⊎ ((to.at ≤ length (numbers_of lines to.proc) + 1) × (from ≡ unwrap_or send to))
 
--- the step at i leads to that event
+-- the step at i leads to the event
 pub record IsVisitedAt (steps : List Step) (to : Place) (i : ℕ) : Type 0 where
   pub step : Step
   pub at : slice_get steps i ≡ Some step
   pub same : step.to ≡ to
 
--- no step before the i-th leads to that event
+-- no step before the i-th leads to the event
 pub record IsNotVisited (steps : List Step) (to : Place) (i : ℕ) : Type 0 where
   pub none : (j : ℕ) (step : Step) → j < i → slice_get steps j ≡ Some step → step.to ≡ to → ⊥
 
--- a walk, and the step that comes next
+-- a walk so far, and the next step
 pub record IsWalking (run : List Log) (start : Place) (steps : List Step) (next : Step) : Type 0 where
   pub walk : IsWalk run start steps
   pub first : length steps ≡ 0 → IsStepOf run start next
   pub later : (i : ℕ) (step : Step) → slice_get steps i ≡ Some step → length steps ≡ i + 1 → IsStepOf run step.from next
 
--- the walk of these steps came back to the class of the step at `again`
+-- these steps form a walk that returns to the class of the step at `again`
 pub record IsRound (run : List Log) (start : Place) (steps : List Step) (again : ℕ) : Type 0 where
   pub last : Step
   pub back : ComesBack run start steps again last
 
--- p is what the step at i comes after in forward order's end: the event from which the step before it leads, or the last step's for the first
+-- p is the event from which the step before the i-th leads, or for the step at `again` the last step
 abbrev pub StandsBefore : List Step → ℕ → ℕ → Place → Type 0
 StandsBefore steps again i p =
     ((again < i) × (v : Step) × (slice_get steps (i - 1) ≡ Some v) × (p ≡ v.from))
@@ -180,7 +180,7 @@ StandsBefore steps again i p =
 pub record IsForwardFrom (steps : List Step) (again i : ℕ) (places : List Place) : Type 0 where
   pub each : (p : Place) → StandsBefore steps again i p → places ≡ forward p (drop i steps)
 
--- no event before the i-th is below that at k
+-- no event before the i-th is below the one at k
 pub record IsLeastUpTo (places : List Place) (k i : ℕ) : Type 0 where
   pub least : (j : ℕ) (e f : Place) → j < i → slice_get places k ≡ Some e → slice_get places j ≡ Some f → IsAtMost e f
 
@@ -198,7 +198,7 @@ pub record NeverDelivers (run : List Log) (e : Place) : Type 0 where
 abbrev pub StandsNext : List Place → ℕ → Place → Type 0
 StandsNext places i f = (slice_get places (i + 1) ≡ Some f) ⊎ ((length places ≡ i + 1) × (slice_get places 0 ≡ Some f))
 
--- no event of a closed list before the i-th is a delivery of the message that the next one delivers too
+-- no event of a closed list before the i-th delivers the message that the next one delivers too
 pub record NoTwinsBefore (run : List Log) (places : List Place) (i : ℕ) : Type 0 where
   pub none : (j : ℕ) (e f : Place) → j < i → slice_get places j ≡ Some e → StandsNext places j f → AreTwinDeliveries run e f → ⊥
 

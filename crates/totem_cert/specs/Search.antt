@@ -1,4 +1,4 @@
--- Events of a run of which a fact holds, and the least of them.
+-- The events of a run that have a property, and the least of them.
 use Rattle.std.specs.Prelude.{ℕ, suc, ◌<◌, List, length}
 use Rattle.totem_ids.specs.declared.place.Place.{Place}
 use Rattle.totem_evs.specs.declared.log.Log.{Log}
@@ -10,11 +10,11 @@ use Rattle.totem_evs.specs.Classes.{IsAtMost}
 abbrev pub place : ℕ → ℕ → Place
 place p i = record { proc = p; at = suc i }
 
--- no event of the run has it
+-- no event of the run has the property
 pub record NoneOf (run : List Log) (P : ℕ → ℕ → Type 0) : Type 0 where
   pub none : (p i : ℕ) → i < length (log_of run p) → P p i → ⊥
 
--- it is the least event that has it
+-- e is the least event that has the property
 pub record IsLeast (run : List Log) (P : ℕ → ℕ → Type 0) (e : Place) : Type 0 where
   pub holds : At e P
   pub least : (f : Place) → At f (λ p i. (i < length (log_of run p)) × P p i) → IsAtMost e f

@@ -7,7 +7,7 @@ use crate::step::Step;
 use std::alloc::{AllocError, Global};
 use totem_ids::Place;
 
-/// Returns the event from which the step comes that is next to step `i` in forward order.
+/// Returns the event from which the step after step `i` in forward order leads.
 fn before(steps: &[Step], again: usize, i: usize) -> Place
     requires from { again ≤ i }
     requires within { i < length steps.now }
@@ -18,7 +18,7 @@ fn before(steps: &[Step], again: usize, i: usize) -> Place
     step.from
 }
 
-/// Appends the two events of a step. The second is left out where the next step comes from it.
+/// Appends the two events of a step. The second is left out if the next step leads from it.
 fn write_step(places: &mut Vec<Place>, step: &Step, before: &Place) -> Result<(), AllocError>
     ensures { OnOk result (places.new.items ≡ places.old.items ++ (step.now.from ∷ unless step.now.to before.now)) }
 {
@@ -29,7 +29,7 @@ fn write_step(places: &mut Vec<Place>, step: &Step, before: &Place) -> Result<()
     Ok(())
 }
 
-/// Returns the events of a round's steps in forward order.
+/// Returns the events of a round's steps, in forward order.
 pub fn forward(alloc: Global, steps: &[Step], again: usize) -> Result<Vec<Place>, AllocError>
     requires { again < length steps.now }
     ensures { IfOk result (λ places. IsForwardFrom steps.now again again places.items) }
@@ -67,7 +67,7 @@ fn least_of(places: &[Place]) -> usize
     least
 }
 
-/// Returns the same list, begun at its least place.
+/// Returns the same list, starting at its least place.
 pub fn turned(alloc: Global, places: &[Place]) -> Result<Vec<Place>, AllocError>
     requires { 0 < length places.now }
     ensures turned { IfOk result (λ list. IsTurned places.now list.items) }

@@ -39,7 +39,7 @@ fn broken_by(run: &Run, places: &[Place]) -> SpecNo
     }
 }
 
-/// Returns the closed list as a fault. No class is ready, and the k-th log is the first that is not numbered to its end.
+/// Returns the closed list as a fault. No class is ready, and the k-th log is the first that has an entry without a number.
 pub fn closed_list(
     alloc: Global,
     run: &Run,

@@ -1,4 +1,4 @@
-//! Numbers the classes of a run over a table of it, by counts of what keeps each from being ready.
+//! Numbers the classes of a run over its table, by counting the entries that keep each class from being ready.
 ghost use Rattle.std.specs.Prelude.{◌≡◌, ◌+◌, ◌<◌, ◌≤◌, ◌↔◌, IsTrue, IfOk, IfSome, IfNone, OnOk, Some, length, slice_get};
 ghost use Rattle.totem_evs.specs.Runs.{IsRun};
 ghost use Rattle.totem_evs.specs.Events.{log_of};
@@ -18,7 +18,7 @@ use totem_evs::{Entry, Log, Run};
 use totem_ids::Proc;
 use totem_table::{Table, numbers_tell_confs, numbers_tell_messages};
 
-/// Returns whether a log has a head, its first entry without a number, and the class of that head is ready.
+/// Returns whether a log has a head, which is its first entry without a number, and the head's class is ready.
 fn is_head_ready(
     run: &Run,
     table: &Table,
@@ -67,7 +67,7 @@ fn first_counted(run: &Run, table: &Table, lines: &[OpenLine], counts: &[u32]) -
     None
 }
 
-/// Gives the number to each entry of the class that is next.
+/// Gives the number to each entry of the next class.
 fn give_mates(
     run: &Run,
     table: &Table,
@@ -96,7 +96,7 @@ fn give_mates(
     Ok(())
 }
 
-/// Gives the number to the class of the k-th log's head, which is next.
+/// Gives the number to the class of the k-th log's head, which is the next class.
 fn give_class(
     run: &Run,
     table: &Table,
@@ -153,7 +153,7 @@ fn give_counted(
     give_class(run, table, lines, counts, k, log, at, entry, number + 1)
 }
 
-/// Numbers class after class, until none is ready.
+/// Numbers one class after another until none is ready.
 pub fn number_by_counts(
     alloc: Global,
     run: &Run,

@@ -1,5 +1,5 @@
-//! Counts for each class of a run how many entries keep it from being ready: those after the first entry of their log without a
-//! number, and sends without a number. The classes go by the numbers of a table, those of messages before those of configurations.
+//! Counts the entries that keep each class of a run from being ready: entries of the class after the first entry of their log without a
+//! number, and sends without a number. The classes are numbered as in a table, those of messages before those of configurations.
 ghost use Rattle.std.specs.Prelude.{◌≡◌, ◌↔◌, ◌+◌, ◌<◌, ◌≤◌, ◌^◌, IfOk, IsTrue, OnOk, Some, length, map, slice_get, slice_index_or};
 ghost use Rattle.totem_table.specs.Tables.{IsTable};
 ghost use Rattle.totem_cert.specs.Progress.{empty_line};
@@ -20,7 +20,7 @@ fn class_fed(entry: &Entry, number: u32) -> Option<usize>
     }
 }
 
-/// Returns the class of an entry, or `None` if it is alone in its class. The table numbers as many `messages`.
+/// Returns the class of an entry, or `None` if it is alone in its class. The table has the given number of `messages`.
 pub fn class_in(messages: usize, entry: &Entry, number: u32) -> Option<usize>
     requires { messages < 2 ^ 63 }
     ensures { result ≡ class_in messages entry.now number }
@@ -32,7 +32,7 @@ pub fn class_in(messages: usize, entry: &Entry, number: u32) -> Option<usize>
     }
 }
 
-/// Counts one more for a class.
+/// Adds one to the count of a class.
 #[tactic(auto, using(crate::proofs::CountingOne::adds_one, crate::proofs::CountingOne::adds_past, crate::proofs::CountingOne::adds_nothing))]
 fn add(counts: &mut [u32], class: Option<usize>)
     requires { AtMost counts.old 100000000 }
@@ -46,7 +46,7 @@ fn add(counts: &mut [u32], class: Option<usize>)
     }
 }
 
-/// Counts one less for a class.
+/// Takes one from the count of a class.
 #[tactic(auto, using(crate::proofs::CountingOne::takes_one, crate::proofs::CountingOne::takes_past, crate::proofs::CountingOne::takes_nothing))]
 fn take(counts: &mut [u32], class: Option<usize>)
     ensures { Takes counts.old counts.new (one class) }
@@ -59,7 +59,7 @@ fn take(counts: &mut [u32], class: Option<usize>)
     }
 }
 
-/// Returns the class that an entry keeps from being ready where no entry of its log has a number.
+/// Returns the class that an entry keeps from being ready, if no entry of its log has a number.
 #[tactic(auto, using(crate::proofs::CountSteps::kept_fed, crate::proofs::CountSteps::kept_shared, crate::proofs::CountSteps::kept_first))]
 fn class_kept(messages: usize, at: usize, entry: &Entry, number: u32) -> Option<usize>
     requires { messages < 2 ^ 63 }
@@ -77,7 +77,7 @@ fn class_kept(messages: usize, at: usize, entry: &Entry, number: u32) -> Option<
     }
 }
 
-/// Counts what the entries of a log keep from being ready, none of which has a number.
+/// Counts the classes that the entries of a log keep from being ready. None of the entries has a number.
 fn count_log(counts: &mut [u32], messages: usize, entries: &[Entry], row: &[u32])
     requires messages { messages < 2 ^ 63 }
     requires few { AtMost counts.old 31000000 }
@@ -90,7 +90,7 @@ fn count_log(counts: &mut [u32], messages: usize, entries: &[Entry], row: &[u32]
     }
 }
 
-/// Counts what the entries of each log keep from being ready, none of which has a number.
+/// Counts the classes that the entries of each log keep from being ready. None of the entries has a number.
 fn count_logs(counts: &mut [u32], run: &Run, table: &Table)
     requires table { IsTable run.now.logs table.now }
     requires none { CountsTo run.now.logs table.now counts.old 0 }
@@ -103,7 +103,7 @@ fn count_logs(counts: &mut [u32], run: &Run, table: &Table)
     }
 }
 
-/// Counts for each class how many entries keep it from being ready where no entry has a number.
+/// Returns for each class how many entries keep it from being ready, if no entry has a number.
 pub fn count_all(alloc: Global, run: &Run, table: &Table) -> Result<Vec<u32>, AllocError>
     requires { IsTable run.now.logs table.now }
     ensures { IfOk result (λ counts. Counts run.now.logs table.now (map empty_line run.now.logs) counts.items) }
@@ -114,7 +114,7 @@ pub fn count_all(alloc: Global, run: &Run, table: &Table) -> Result<Vec<u32>, Al
     Ok(counts)
 }
 
-/// Counts anew where the entry at `head` gets its number.
+/// Updates the counts for the entry at `head`, which gets its number.
 fn advance(counts: &mut [u32], messages: usize, entries: &[Entry], row: &[u32], head: usize)
     requires messages { messages < 2 ^ 63 }
     requires head { head < length entries.now }

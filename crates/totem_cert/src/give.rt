@@ -8,7 +8,7 @@ use totem_certificate::OpenLine;
 use totem_evs::{Entry, Log, Run};
 use totem_ids::Proc;
 
-/// Returns whether the entry at index `at` of a process's log is in the class of the other one.
+/// Returns whether the entry at index `at` of a process's log is in the other entry's class.
 fn is_mate(
     proc: Proc,
     at: usize,
@@ -35,7 +35,7 @@ pub fn is_head_mate(proc: Proc, at: usize, entry: &Entry, log: &Log, line: &Open
     }
 }
 
-/// Gives the number to each entry of the class that is next.
+/// Gives the number to each entry of the next class.
 pub fn give(
     run: &Run,
     lines: &mut Vec<OpenLine>,

@@ -1,4 +1,4 @@
-//! Finds what keeps a class from being ready, among the entries with its key.
+//! Finds an entry that keeps a class from being ready, among the entries with its key.
 ghost use Rattle.std.specs.Prelude.{◌≡◌, ◌↔◌, IsTrue, IfSome, IfNone};
 ghost use Rattle.totem_cert.specs.Keys.{KeysRise};
 ghost use Rattle.totem_cert.specs.Keepers.{given_at, StandsBehind, EntryKeeps, KeepsAt, NoneKeepsFrom, IsEnd};
@@ -31,7 +31,7 @@ fn keeps(lines: &[OpenLine], key: &Key, entry: &KeyedEntry) -> bool
     entry.key.is(key) && stands_behind(entry.shares, given, entry.at as usize)
 }
 
-/// Returns where the entries with a key end. The entry at index `at` of this log has the key.
+/// Returns the end of the entries with a key. The entry at index `at` of this log has the key.
 #[tactic(auto, using(crate::proofs::Scanning::end_here, crate::proofs::Scanning::end_of_all))]
 pub fn end_of(index: &Index<'_>, key: &Key, log: usize, at: usize) -> usize
     requires { KeysRise index.now }
@@ -45,8 +45,8 @@ pub fn end_of(index: &Index<'_>, key: &Key, log: usize, at: usize) -> usize
     }
 }
 
-/// Returns the index of a entry that keeps the class of a key from being ready, if one does. Asks first the one that
-/// did so `last`.
+/// Returns the index of an entry that keeps the class of a key from being ready, if there is one. Tries first the entry at
+/// `last`, which did so the last time.
 #[tactic(auto, using(crate::proofs::Scanning::keeps_here, crate::proofs::Scanning::none_yet, crate::proofs::Scanning::none_more, crate::proofs::Scanning::none_below))]
 pub fn keeper(
     index: &Index<'_>,

@@ -4,7 +4,7 @@ ghost use Rattle.totem_cert.specs.Keys.{KeyBelow, key_of, class_key, shares};
 use totem_evs::Entry;
 use totem_ids::{ConfId, MsgId};
 
-/// What the entries of a class have in common: the message that they deliver, or the configuration to which they change.
+/// What the entries of a class share: the message that they deliver, or the configuration to which they change.
 #[derive(Clone, Copy, PartialEq, Eq, PartialOrd, Ord)]
 pub enum Key {
     Message(MsgId),
@@ -23,14 +23,14 @@ impl Key {
         }
     }
 
-    /// Returns whether this key comes before the other: `<` in a form that contracts can use.
+    /// Returns whether this key is below the other: `<` in a form that contracts can use.
     pub fn is_below(&self, other: &Key) -> bool
         ensures { IsTrue result ↔ KeyBelow self.now other.now }
     {
         *self < *other
     }
 
-    /// Returns the key of an entry: that of its class, or for a send that of the deliveries. A failure has none.
+    /// Returns the key of an entry: its class's, or for a send that of the deliveries of its message. A failure has none.
     pub fn of(entry: &Entry) -> Option<Key>
         ensures { result ≡ key_of entry.now }
     {
@@ -57,7 +57,7 @@ impl Key {
 #[derive(Clone, Copy)]
 pub struct KeyedEntry {
     pub key: Key,
-    /// Whether the entry is in the class of its key. Otherwise it sends the message.
+    /// Whether the entry is in the class of its key. If not, it sends the message.
     pub shares: bool,
     pub log: u32,
     pub at: u32,

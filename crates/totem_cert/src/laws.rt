@@ -1,4 +1,4 @@
-//! Laws of certificates and closed lists, each the contract of a function that does nothing.
+//! Laws of certificates and closed lists. Each is the contract of an empty function.
 ghost use Rattle.totem_cert.specs.Laws.{PositionsAreOne, ClosedListsAreOne, ClosedListsExcludeCertificates};
 
 /// A run has at most one certificate of its positions.
@@ -11,7 +11,7 @@ pub fn closed_lists_are_one()
     ensures { ClosedListsAreOne }
 {}
 
-/// A run that has a closed list is certified by no lines.
+/// No lines certify a run that has a closed list.
 pub fn closed_lists_exclude_certificates()
     ensures { ClosedListsExcludeCertificates }
 {}

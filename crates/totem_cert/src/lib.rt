@@ -1,4 +1,4 @@
-//! Pass C: the certificate of a run, or a closed list of its events because of which it has none.
+//! Pass C: the certificate of a run, or a closed list of events that shows that the run has none.
 #![tactic(auto)]
 
 mod closed;

@@ -10,7 +10,7 @@ use std::alloc::{AllocError, Global};
 use totem_certificate::OpenLine;
 use totem_evs::{Log, Run};
 
-/// Returns a line without numbers for each log, with room for all of them.
+/// Returns for each log a line without numbers, with space for all of its numbers.
 pub fn started(alloc: Global, logs: &[Log]) -> Result<Vec<OpenLine>, AllocError>
     ensures { IfOk result (λ lines. lines.items ≡ map empty_line logs.now) }
 {
@@ -22,7 +22,7 @@ pub fn started(alloc: Global, logs: &[Log]) -> Result<Vec<OpenLine>, AllocError>
     Ok(lines)
 }
 
-/// Numbers class after class, until none is ready.
+/// Numbers one class after another until none is ready.
 pub fn number_all(alloc: Global, run: &Run, index: &Index<'_>) -> Result<Vec<OpenLine>, AllocError>
     requires { IsIndex run.now.logs index.now }
     ensures sound { IfOk result (λ lines. IsSound run.now.logs lines.items) }

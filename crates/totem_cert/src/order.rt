@@ -14,7 +14,7 @@ use totem_evs::{Fault, Run};
 use totem_ids::Version;
 use totem_table::Table;
 
-/// The positions of a run's events, or the closed list because of which they have none.
+/// The positions of a run's events, or the closed list that shows that they have none.
 #[derive(Debug, Drop)]
 pub enum Order {
     Positions(Certificate),
@@ -42,7 +42,7 @@ fn certificate_version(version: Version) -> Version
     }
 }
 
-/// Makes the certificate of lines in which every entry has its number.
+/// Makes the certificate from lines in which every entry has its number.
 fn certificate(alloc: Global, run: &Run, lines: Vec<OpenLine>) -> Result<Certificate, AllocError>
     requires sound { IsSound run.now.logs lines.items }
     requires full { IsFull run.now.logs lines.items }
@@ -60,8 +60,8 @@ fn certificate(alloc: Global, run: &Run, lines: Vec<OpenLine>) -> Result<Certifi
     })
 }
 
-/// Gives each event a number: again and again the ready class that holds the least place gets the next one
-/// (docs/SPECIFICATIONS.md, "Positions"). If classes are left and none is ready, names a closed list of steps instead.
+/// Gives each event a number: the ready class with the least place gets the next number, again and again
+/// (docs/SPECIFICATIONS.md, "Positions"). If classes are left and none is ready, returns a closed list instead.
 pub fn positions(alloc: Global, run: &Run) -> Result<Order, AllocError>
     ensures { IfOk result (λ order. IsOrder run.now order) }
 {
@@ -69,7 +69,7 @@ pub fn positions(alloc: Global, run: &Run) -> Result<Order, AllocError>
     positions_over(alloc, run, table)
 }
 
-/// Numbers over a table of the run, and finds a closed list only where one is needed.
+/// Numbers over a table of the run, and looks for a closed list only if one is needed.
 fn over_table(alloc: Global, run: &Run, table: Table) -> Result<Order, AllocError>
     requires { IsTable run.now.logs table }
     ensures { IfOk result (λ order. IsOrder run.now order) }
@@ -84,7 +84,7 @@ fn over_table(alloc: Global, run: &Run, table: Table) -> Result<Order, AllocErro
     }
 }
 
-/// Numbers by keys, which are sorted.
+/// Numbers by sorted keys.
 fn by_keys(alloc: Global, run: &Run) -> Result<Order, AllocError>
     ensures { IfOk result (λ order. IsOrder run.now order) }
 {
@@ -96,7 +96,7 @@ fn by_keys(alloc: Global, run: &Run) -> Result<Order, AllocError>
     }
 }
 
-/// The same over a table of the run. Without one it sorts, and takes longer.
+/// Does the same as `positions` over a table of the run. Without a table it sorts, and takes longer.
 pub fn positions_over(alloc: Global, run: &Run, table: Option<Table>) -> Result<Order, AllocError>
     requires { IfSome table (IsTable run.now.logs) }
     ensures { IfOk result (λ order. IsOrder run.now order) }

@@ -12,7 +12,7 @@ use crate::key::Key;
 use totem_certificate::OpenLine;
 use totem_evs::{Log, Run};
 
-/// Returns what kept the head of a log back last. Where that is not known it may be any number.
+/// Returns the index of what last kept the head of a log back. If it is not known, the result may be any number.
 fn noted(held: &[usize], k: usize) -> usize {
     match held.get(k) {
         Some(s) => *s,
@@ -26,7 +26,7 @@ fn note(held: &mut [usize], k: usize, s: usize) {
     }
 }
 
-/// Returns whether a log has a head, its first entry without a number, and the class of that head is ready.
+/// Returns whether a log has a head, which is its first entry without a number, and the head's class is ready.
 fn is_head_ready(
     run: &Run,
     index: &Index<'_>,
@@ -60,7 +60,7 @@ fn is_head_ready(
     }
 }
 
-/// Returns the index of the first log whose head is ready. Notes what keeps the others back, to ask that first the next time.
+/// Returns the index of the first log whose head is ready. Notes what keeps the others back, so as to try that first the next time.
 pub fn first_ready(
     run: &Run,
     index: &Index<'_>,

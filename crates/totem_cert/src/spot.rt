@@ -1,4 +1,4 @@
-//! Where the entries stand that have a key.
+//! Spots of the entries that have a key.
 ghost use Rattle.std.specs.Prelude.{◌≡◌};
 ghost use Rattle.totem_cert.specs.Keys.{key_at, no_key, keyed_at};
 
@@ -6,14 +6,14 @@ use crate::key::{Key, KeyedEntry, shares};
 use totem_evs::Run;
 use totem_ids::{ConfId, ProcId, RingId};
 
-/// Where an entry stands: the index of its log, and its index there.
+/// Where an entry is: the index of its log, and its index there.
 #[derive(Clone, Copy)]
 pub struct Spot {
     pub log: u32,
     pub at: u32,
 }
 
-/// Returns a key for where there is none.
+/// Returns a key that stands for no key.
 fn no_key() -> Key
     ensures { result ≡ no_key }
 {
@@ -21,7 +21,7 @@ fn no_key() -> Key
     Key::Conf(ConfId::Regular(RingId { seq: 1, rep }))
 }
 
-/// Returns the keyed entry at a spot. At the spots of an index one stands, and has a key.
+/// Returns the keyed entry at a spot. Every spot of an index has an entry with a key.
 pub fn keyed_at(run: &Run, spot: &Spot) -> KeyedEntry
     ensures { result ≡ keyed_at run.now.logs spot.now }
 {

@@ -16,7 +16,7 @@ use totem_certificate::OpenLine;
 use totem_evs::{Entry, Run};
 use totem_ids::{Place, Proc};
 
-/// A step to an entry from the one that holds it up.
+/// A step to an entry, from the one that holds it up.
 #[derive(Clone, Copy)]
 pub struct Step {
     pub from: Place,
@@ -33,7 +33,7 @@ impl Model for Step {
     ghost inverse = { λ v. record { from = v.from; to = v.to } };
 }
 
-/// An entry, with the process and the index at which it stands.
+/// An entry with its process and its index.
 #[derive(Clone, Copy)]
 struct Standing<'a> {
     proc: Proc,
@@ -41,7 +41,7 @@ struct Standing<'a> {
     entry: &'a Entry,
 }
 
-/// Returns how many entries of a process have a number.
+/// Returns how many entries of a process's log have a number.
 #[tactic(auto, using(crate::proofs::Given::numbers_of_here, crate::proofs::Given::numbers_of_more, crate::proofs::Given::numbers_of_end))]
 pub fn given(lines: &[OpenLine], proc: Proc) -> usize
     ensures { result ≡ length (numbers_of lines.now proc) }
@@ -81,7 +81,7 @@ fn log_index(run: &Run, proc: Proc) -> usize {
     0
 }
 
-/// Returns the least send without a number of the message that an entry delivers. The entry stands at index `at` of the k-th log.
+/// Returns the least send without a number of the message that an entry delivers. The entry is at index `at` of the k-th log.
 fn open_send(
     run: &Run,
     index: &Index<'_>,
@@ -118,8 +118,8 @@ fn held_alone(lines: &[OpenLine], proc: Proc, at: usize, waits: bool) -> Option<
     }
 }
 
-/// Returns the least event of a class that is held up. `waits` says whether the class waits for a send. An entry of the
-/// class stands in the k-th log, at the process and the index that `left` has.
+/// Returns the least event of a class that is held up. `waits` says whether the class waits for a send. `left` is an entry
+/// of the class, and is in the k-th log.
 fn held_mate(
     run: &Run,
     index: &Index<'_>,
@@ -142,7 +142,7 @@ fn held_mate(
     }
 }
 
-/// Returns the step to the least event of its class that is held up, from what holds it up.
+/// Returns the step to the least event of its class that is held up, from what holds it up: the entry before it, or the send.
 fn step_to(lines: &[OpenLine], send: Option<Place>, to: &Place) -> Step
     requires { 0 < to.now.at }
     ensures to { result.to ≡ to.now }

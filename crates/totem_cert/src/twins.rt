@@ -60,7 +60,7 @@ fn are_twins(run: &Run, e: &Place, f: &Place) -> bool
     and_not(same, one)
 }
 
-/// Returns the place that follows the i-th in a closed list; after the last comes the first.
+/// Returns the place that follows the i-th in a closed list. The first follows the last.
 fn next_of(places: &[Place], i: usize) -> Place
     requires { i < length places.now }
     ensures { StandsNext places.now i result }

@@ -14,14 +14,14 @@ use totem_certificate::OpenLine;
 use totem_evs::Run;
 use totem_ids::Place;
 
-/// Steps from class to class, until they came back to the class of step `again`.
+/// Steps from class to class that return to the class of step `again`.
 #[derive(Drop)]
 pub struct Round {
     pub steps: Vec<Step>,
     pub again: usize,
 }
 
-/// Returns which step led to an event.
+/// Returns the index of the step that led to an event.
 fn visited(seen: &BTreeMap<Place, usize>, to: &Place) -> Option<usize>
     ensures { result ≡ get place_order seen.now to.now }
 {
@@ -35,7 +35,7 @@ fn note(seen: &mut BTreeMap<Place, usize>, to: Place, step: usize) -> Result<(),
     Ok(())
 }
 
-/// Goes from class to class, beginning at the class of an event without a number, until a class comes a second time.
+/// Walks from class to class, starting at the class of an event without a number, until a class is reached a second time.
 pub fn walk_round(
     alloc: Global,
     run: &Run,

@@ -1,4 +1,4 @@
-//! Finds the first by its place of the wanted entries that have a key.
+//! Finds the wanted entry with a key that has the least place.
 ghost use Rattle.std.specs.Prelude.{◌≡◌, ◌↔◌, ◌<◌, IsTrue, length};
 ghost use Rattle.totem_evs.specs.Runs.{IsRun};
 ghost use Rattle.totem_cert.specs.Keys.{KeysRise, IsIndex};
@@ -16,8 +16,8 @@ use totem_ids::Place;
 pub enum Wanted {
     /// Sends without a number.
     Sends,
-    /// Entries of the class that are held up: all of them if the class waits for a send, and otherwise those after an
-    /// entry without a number.
+    /// Entries of the class that are held up: all of them if the class waits for a send, otherwise those after an entry without
+    /// a number.
     Mates { waits: bool },
 }
 
@@ -74,7 +74,7 @@ fn best_with(
     }
 }
 
-/// Returns the first by its place of the wanted entries with a key. The entry at index `at` of this log has the key.
+/// Returns the wanted entry with a key that has the least place. The entry at index `at` of this log has the key.
 #[tactic(auto, using(crate::proofs::Wanting::best_yet, crate::proofs::Wanting::best_more, crate::proofs::Wanting::best_below))]
 fn first_wanted(
     index: &Index<'_>,

@@ -1,4 +1,4 @@
--- From the certificate and the passes to the checker's answer.
+-- From the certificate and the passes to the checker's result.
 use Rattle.std.proofs.Common.{◌≡◌, ◌≢◌, inl, inr, List, [], ◌∷◌, Option, Some, None, Result, Ok, Err, subst, arith}
 use Rattle.totem_evs.specs.declared.log.Log.{Log}
 use Rattle.totem_evs.specs.declared.fault.Fault.{Fault}
@@ -22,12 +22,12 @@ use Rattle.totem_certificate_check.proofs.Exactly.{not_certified}
 not_nothing : (fault : Fault) (others : List Fault) → (fault ∷ others) ≢ []
 not_nothing fault others e = absurd cc
 
--- what is listed first breaks its specification
+-- a fault that is listed first breaks its specification
 first_listed : (run : List Log) (fault : Fault) (others : List Fault) → IsAnswered run (No (fault ∷ others)) → IsFirstFault run fault
 first_listed run fault others answered =
     record { others = others; listed = answered; breaks = (sound run (No (fault ∷ others)) answered).1 0 fault (omega arith) }
 
--- what passes A and B list begins with their first fault; where they list nothing, the run meets their specifications
+-- passes A and B list their first fault first; if they list nothing, the run meets their specifications
 pub first_of_early : (run : List Log) (listed : List Fault) (found : Option Fault) → ListsFirst run listed → BeginsWith listed found → IsEarlyFault run found
 first_of_early run listed None (inl (some, a)) none = absurd (some none)
 first_of_early run listed None (inr (a, b)) none = record { a = a; b = subst (λ (fs : List Fault). Lists run pass_b fs) none b }
@@ -41,18 +41,18 @@ first_of_early run listed (Some fault) (inr (a, b)) (others, is) =
 pub has_met : (run : List Log) → HasPassed run → MeetsPasses run
 has_met run passed = meets_passes run passed.a passed.b
 
--- the first fault of the last pass, where the others have none
+-- the first fault of the last pass, if the others have none
 pub first_of_last : (run : List Log) (listed : List Fault) (fault : Fault) → HasCertificate run → HasPassed run → ListsConfigurations run listed → BeginsWith listed (Some fault) → IsFirstFault run fault
 first_of_last run listed fault certified passed d (others, is) =
     let here : ListsConfigurations run (fault ∷ others) = subst (λ (fs : List Fault). ListsConfigurations run fs) is d in
     first_listed run fault others (not_nothing fault others, inr (inr (inr (passed.a, passed.b, certified, here))))
 
--- where it has none either, the run meets all specifications
+-- if it has none either, the run meets all specifications
 pub none_of_last : (run : List Log) (listed : List Fault) → HasCertificate run → HasPassed run → ListsConfigurations run listed → listed ≡ [] → IsVirtuallySynchronous run
 none_of_last run listed (lines, certified) passed d none =
     synchronous run lines (has_met run passed) certified (meets_configurations run (subst (λ (fs : List Fault). ListsConfigurations run fs) none d))
 
--- what is answered of a certified run is the checker's answer
+-- the result for a certified run is the checker's result
 pub judged : (run : List Log) (lines : List Numbering) (r : Result Accepted CheckFault) → Certified run lines → Judges run r → Checks run lines r
 judged run lines (Ok accepted) c (meets, open_lists) = (record { certified = c; meets = meets }, open_lists)
 judged run lines (Err faults.Count) c h = absurd h

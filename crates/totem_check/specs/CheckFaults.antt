@@ -25,7 +25,7 @@ fault_name faults.SharedPosition = codes "SharedPosition"
 fault_name (faults.Broken f) = codes "Broken"
 fault_name faults.Memory = codes "Memory"
 
--- what a fault of a certificate is for the checker
+-- the checker's fault for a fault of a certificate
 abbrev pub check_fault : CertificateFault → CheckFault
 check_fault certificate.Count = faults.Count
 check_fault certificate.NotRising = faults.NotRising

@@ -1,4 +1,4 @@
--- What the checker answers (docs/SPECIFICATIONS.md, "The checker").
+-- The results of the checker (docs/SPECIFICATIONS.md, "The checker").
 use Rattle.std.specs.Prelude.{◌≡◌, List, [], ◌∷◌, Option, Some, None, Result, Ok, Err}
 use Rattle.totem_evs.specs.declared.log.Log.{Log}
 use Rattle.totem_evs.specs.declared.fault.Fault.{Fault}
@@ -18,7 +18,7 @@ pub record IsAcceptable (run : List Log) (lines : List Numbering) : Type 0 where
   pub certified : Certified run lines
   pub meets : IsVirtuallySynchronous run
 
--- what is accepted lists all that is pending and all who wait
+-- an accepted run comes with all that is pending and all processes that wait
 pub record ListsOpen (run : List Log) (accepted : Accepted) : Type 0 where
   pub pending : ArePending run accepted.pending.items
   pub waiting : AreWaiting run accepted.waiting.items
@@ -39,15 +39,15 @@ abbrev pub IsEarlyFault : List Log → Option Fault → Type 0
 IsEarlyFault run None = HasPassed run
 IsEarlyFault run (Some fault) = IsFirstFault run fault
 
--- what is answered of a certified run
+-- the result for a certified run
 abbrev pub Judges : List Log → Result Accepted CheckFault → Type 0
 Judges run (Ok accepted) = IsVirtuallySynchronous run × ListsOpen run accepted
 Judges run (Err (faults.Broken fault)) = IsFirstFault run fault
 Judges run (Err faults.Memory) = Unit {0}
 Judges run (Err _) = ⊥
 
--- the run and the lines are accepted; or this is the first reason why they are not; or memory was refused, which the first two
--- reasons take none of
+-- the run and the lines are accepted; or this is the first reason why they are not; or memory was refused. In the last case the
+-- first two reasons do not hold, as the search for them takes no memory
 abbrev pub Checks : List Log → List Numbering → Result Accepted CheckFault → Type 0
 Checks run lines (Ok accepted) = IsAcceptable run lines × ListsOpen run accepted
 Checks run lines (Err faults.Count) = Answers run lines (Err certificate.Count)
@@ -58,13 +58,13 @@ Checks run lines (Err faults.SharedPosition) = Answers run lines (Err certificat
 Checks run lines (Err (faults.Broken fault)) = Certified run lines × IsFirstFault run fault
 Checks run lines (Err faults.Memory) = Matches run lines × Rise run lines
 
--- of what was refused nothing is acceptable, but for out of memory
+-- if the run was refused for any reason but memory, it is not acceptable
 abbrev pub RefusesRightly : List Log → List Numbering → Result Accepted CheckFault → Type 0
 RefusesRightly run lines (Ok accepted) = Unit {0}
 RefusesRightly run lines (Err faults.Memory) = Unit {0}
 RefusesRightly run lines (Err _) = IsAcceptable run lines → ⊥
 
--- the faults of one pass begin with this one, or there is none
+-- the faults of one pass start with this one, or there are none
 abbrev pub BeginsWith : List Fault → Option Fault → Type 0
 BeginsWith faults None = faults ≡ []
 BeginsWith faults (Some fault) = (others : List Fault) × (faults ≡ fault ∷ others)

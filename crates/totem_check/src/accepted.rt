@@ -3,8 +3,8 @@ ghost use Rattle.std.specs.Prelude.{◌≡◌, IfOk};
 use std::alloc::{AllocError, Global};
 use totem_evs::{Pending, Waiting};
 
-/// What the checker accepts: the certificate certifies the run, the run meets the specifications, and these lists, in
-/// ascending order, say what is pending and who waits.
+/// What the checker accepts: the certificate certifies the run, the run meets the specifications, and these ascending lists
+/// have what is pending and which processes wait.
 #[derive(Debug, Drop)]
 pub struct Accepted {
     pub pending: Vec<Pending>,

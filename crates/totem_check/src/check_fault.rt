@@ -8,7 +8,7 @@ use thiserror::Error;
 use totem_certificate_check::CertificateFault;
 use totem_evs::Fault;
 
-/// Why a run with a certificate was not accepted. Each reason is looked for in the whole run before the next one is.
+/// Why a run with a certificate was not accepted. Each reason is sought in the whole run before the next one.
 #[derive(Debug, Drop, Error)]
 pub enum CheckFault {
     #[error("the lines do not match the logs and their entries")]

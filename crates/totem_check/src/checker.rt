@@ -26,7 +26,7 @@ fn first_of(mut faults: Vec<Fault>) -> Option<Fault>
     }
 }
 
-/// Returns the first fault of passes A and B, if they have one. The run makes these changes.
+/// Returns the first fault of passes A and B, if they have one. `changes` has to be the changes of the run.
 fn early_fault(alloc: Global, run: &Run, changes: &Changes) -> Result<Option<Fault>, AllocError>
     requires { AreChanges run.now.logs changes.now.rows.items }
     ensures { IfOk result (IsEarlyFault run.now.logs) }
@@ -35,7 +35,7 @@ fn early_fault(alloc: Global, run: &Run, changes: &Changes) -> Result<Option<Fau
     Ok(first_of(pass_a_and_b(alloc, run, table.as_ref(), changes)?))
 }
 
-/// Judges a certified run that has passed A and B by the last pass.
+/// Returns the result of the last pass for a certified run that has passed A and B.
 fn settle(alloc: Global, run: &Run, changes: Changes) -> Result<Accepted, CheckFault>
     requires certificate { HasCertificate run.now.logs }
     requires passed { HasPassed run.now.logs }
@@ -53,7 +53,7 @@ fn settle(alloc: Global, run: &Run, changes: Changes) -> Result<Accepted, CheckF
     })
 }
 
-/// Names what a certified run breaks, by the passes of the audit. Its certificate orders the events, so pass C has no fault.
+/// Returns what a certified run breaks, using the passes of the audit. Its certificate orders the events, so pass C finds no fault.
 fn search(alloc: Global, run: &Run) -> Result<Accepted, CheckFault>
     requires { HasCertificate run.now.logs }
     ensures { Judges run.now.logs result }
@@ -65,7 +65,7 @@ fn search(alloc: Global, run: &Run) -> Result<Accepted, CheckFault>
     settle(alloc, run, changes)
 }
 
-/// Judges a certified run. A yes is the judge's; where it has none, a search names what is broken.
+/// Judges a certified run. The judge says yes if it can; otherwise a search finds what is broken.
 fn judged(alloc: Global, run: &Run, certificate: &Certificate) -> Result<Accepted, CheckFault>
     requires { Certified run.now.logs certificate.now.lines }
     ensures { Judges run.now.logs result }
@@ -80,7 +80,7 @@ fn judged(alloc: Global, run: &Run, certificate: &Certificate) -> Result<Accepte
 }
 
 /// Checks that the certificate certifies the run and that the run meets specifications 1 to 7 (docs/SPECIFICATIONS.md,
-/// "The checker"). It does not matter who made the certificate, or what an audit said.
+/// "The checker"). It does not matter who made the certificate, or what an audit reported.
 pub fn check(alloc: Global, run: &Run, certificate: &Certificate) -> Result<Accepted, CheckFault>
     ensures answer { Checks run.now.logs certificate.now.lines result }
     ensures exact { RefusesRightly run.now.logs certificate.now.lines result }

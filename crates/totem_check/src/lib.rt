@@ -1,4 +1,4 @@
-//! The checker: whether a certificate certifies a run, and whether the run meets the specifications.
+//! The checker: decides whether a certificate certifies a run, and whether the run meets the specifications.
 #![tactic(auto)]
 
 mod accepted;

@@ -1,4 +1,4 @@
-//! The bands of configurations, and the names of processes in front of them.
+//! The bands of configurations, and the names of processes before them.
 use crate::frame::Frame;
 use crate::shapes::{Point, push_band, push_label, push_words};
 use std::alloc::{AllocError, Global};
@@ -14,7 +14,7 @@ struct Band {
     to: u32,
 }
 
-/// Adds a band with the configuration's name above it. Which colour it has is seen from the list of those that came before.
+/// Adds a band with the configuration's name above it. Its colour depends on the list of the configurations so far.
 fn push_one(
     alloc: Global,
     text: &mut String,
@@ -45,14 +45,14 @@ fn push_one(
     push_label(text, above, name.as_str())
 }
 
-/// Ends the last band in front of a slot.
+/// Ends the last band before a slot.
 fn end_before(bands: &mut Vec<Band>, slot: u32) {
     if let Some(band) = bands.last_mut() {
         band.to = slot.saturating_sub(1).max(band.to);
     }
 }
 
-/// Returns the bands of a lane, in order. Each goes on to the next, and that of a process which has not failed to the end.
+/// Returns the bands of a lane, in order. Each extends to the next. The last extends to the end, unless the process failed.
 fn bands_of(alloc: Global, lane: &Lane, slots: u32) -> Result<Vec<Band>, AllocError> {
     let mut bands: Vec<Band> = Vec::new(alloc);
     for spot in lane.spots.as_slice() {
@@ -88,7 +88,7 @@ fn ending(lane: &Lane) -> &'static str {
     }
 }
 
-/// Adds the lane's process and how its log ends, and its bands.
+/// Adds the lane's process with how its log ends, and its bands.
 fn push_lane(
     alloc: Global,
     text: &mut String,

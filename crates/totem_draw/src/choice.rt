@@ -4,25 +4,25 @@ use totem_evs::{Entry, Log, Run};
 use totem_explain::{Lane, entry_at};
 use totem_ids::{MsgId, Place};
 
-/// A run with no more entries is drawn whole.
+/// A run with at most this many entries is drawn whole.
 const WHOLE: usize = 120;
 
-/// How many entries are drawn on both sides of a place.
+/// How many entries are drawn before and after a place.
 const AROUND: u32 = 3;
 
-/// How many places a picture is drawn around, and how many of their messages are followed.
+/// Around how many places a picture is drawn, and for how many the messages are followed.
 const PLACES: usize = 32;
 
-/// How many further entries are drawn, at most, of the messages at the places.
+/// How many further entries with the messages at the places are drawn at most.
 const FOLLOWED: usize = 150;
 
-/// What is drawn: all, or what lies around these places and concerns these messages.
+/// What is drawn: everything, or the entries near these places and those with these messages.
 #[derive(Drop)]
 struct Choice<'a> {
     is_whole: bool,
     places: &'a [Place],
     messages: Vec<MsgId>,
-    /// How many entries of the messages may still be added.
+    /// How many entries with the messages may still be added.
     left: usize,
 }
 
@@ -57,13 +57,13 @@ fn messages_at(alloc: Global, run: &Run, places: &[Place]) -> Result<Vec<MsgId>,
 }
 
 impl<'a> Choice<'a> {
-    /// Returns whether an entry lies around one of the places.
+    /// Returns whether an entry is near one of the places.
     fn is_near(&self, place: Place) -> bool {
         let mut places = self.places.iter().take(PLACES);
         places.any(|near| near.proc == place.proc && near.at.abs_diff(place.at) <= AROUND)
     }
 
-    /// Returns whether an entry concerns one of the messages, and notes that it is drawn if so.
+    /// Returns whether an entry has one of the messages and may be drawn, and if so counts it.
     fn is_followed(&mut self, entry: &Entry) -> bool {
         if self.left == 0 {
             return false;
@@ -75,7 +75,7 @@ impl<'a> Choice<'a> {
         is_followed
     }
 
-    /// Returns of each entry of a log whether it is drawn.
+    /// Returns for each entry of a log whether it is drawn.
     fn shown_of(&mut self, alloc: Global, log: &Log) -> Result<Vec<bool>, AllocError> {
         let entries = log.entries.as_slice();
         let mut shown = Vec::with_capacity(alloc, entries.len())?;
@@ -89,8 +89,8 @@ impl<'a> Choice<'a> {
     }
 }
 
-/// Returns the lanes of a run: all its entries if it is small, else those around the places and those that send or deliver the
-/// messages there. A log of which nothing is drawn has no lane.
+/// Returns the lanes of a run: all its entries if it is small, otherwise those near the places and those that send or deliver
+/// the messages there. A log of which nothing is drawn has no lane.
 pub fn lanes_of(alloc: Global, run: &Run, places: &[Place]) -> Result<Vec<Lane>, AllocError> {
     let mut choice = Choice {
         is_whole: length(run) <= WHOLE,

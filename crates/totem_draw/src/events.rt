@@ -22,7 +22,7 @@ fn push_name(
     push_label(text, below, name.as_str())
 }
 
-/// Returns how many letters the name has that is written at a spot: of a message, or of a configuration.
+/// Returns how many letters the name at a spot has. It is the name of a message or of a configuration.
 fn letters_at(alloc: Global, spot: &Spot) -> Result<usize, AllocError> {
     match spot.what {
         What::Send(message) | What::Delivery(message) => {
@@ -47,7 +47,7 @@ pub fn most_letters(alloc: Global, lanes: &[Lane]) -> Result<usize, AllocError> 
     Ok(most)
 }
 
-/// Adds the shape of what happens at a spot.
+/// Adds the shape of the event at a spot.
 fn push_shape(alloc: Global, text: &mut String, at: Point, what: What) -> Result<(), AllocError> {
     match what {
         What::Change => push_bar(text, at),
@@ -71,7 +71,7 @@ fn push_shape(alloc: Global, text: &mut String, at: Point, what: What) -> Result
     }
 }
 
-/// Returns where a spot of a lane at this height is drawn: a change at the beginning of its slot, all others in the middle.
+/// Returns the point at which a spot of a lane at this height is drawn: a change at the start of its slot, anything else in the middle.
 fn point_of(frame: &Frame, y: u32, spot: &Spot) -> Point {
     let x = match spot.what {
         What::Change => frame.x(spot.slot).saturating_add(2),
@@ -80,7 +80,7 @@ fn point_of(frame: &Frame, y: u32, spot: &Spot) -> Point {
     Point { x, y }
 }
 
-/// Adds what is drawn at a spot, with what happened there for who points at it or cannot see it.
+/// Adds the shape of a spot, with a text about the event for people who point at it or cannot see it.
 fn push_spot(
     alloc: Global,
     text: &mut String,

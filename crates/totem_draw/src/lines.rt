@@ -6,7 +6,7 @@ use totem_evs::Pending;
 use totem_explain::Lane;
 use totem_ids::MsgId;
 
-/// Returns where a message is sent, if that is drawn.
+/// Returns the point at which a message is sent, if the send is drawn.
 fn send_of(frame: &Frame, lanes: &[Lane], message: MsgId) -> Option<Point> {
     let mut number = 0u32;
     for lane in lanes {
@@ -53,7 +53,7 @@ pub fn push_lines(text: &mut String, frame: &Frame, lanes: &[Lane]) -> Result<()
     Ok(())
 }
 
-/// Adds a dashed line for each delivery that is pending, whose send and whose process are drawn.
+/// Adds a dashed line for each pending delivery whose send and process are drawn.
 pub fn push_pending(
     text: &mut String,
     frame: &Frame,

@@ -1,13 +1,13 @@
-//! The places that a picture marks, and what it says of them.
+//! The places that a picture marks, and the text about them.
 use std::alloc::{AllocError, Global};
 use totem_evs::Run;
 use totem_explain::{entry_at, event_of, place_name};
 use totem_ids::Place;
 
-/// How many places are described in words.
+/// How many places are described.
 const TOLD: usize = 12;
 
-/// Returns the number of a place among those that are marked, counted from 1, or `None` if it is not.
+/// Returns the number of a place among the marked ones, counted from 1, or `None` if it is not marked.
 pub fn number_of(places: &[Place], place: Place) -> Option<usize> {
     let index = places.iter().position(|marked| *marked == place)?;
     Some(index.saturating_add(1))
@@ -21,7 +21,7 @@ pub fn told(alloc: Global, run: &Run, place: Place) -> Result<String, AllocError
     }
 }
 
-/// Returns a line for each place: its number, the place, and what happened there. Of many places the first are described.
+/// Returns a line for each place: its number, the place, and what happened there. If there are many, only the first are described.
 pub fn lines_of(alloc: Global, run: &Run, places: &[Place]) -> Result<Vec<String>, AllocError> {
     let mut lines = Vec::new(alloc);
     let mut number = 0u32;

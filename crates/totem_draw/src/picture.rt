@@ -13,11 +13,11 @@ use totem_evs::{Fault, Pending, Run};
 use totem_explain::{Lane, lay_out, rule_of};
 use totem_ids::Place;
 
-/// What is said below a picture of how it is to be read.
+/// The text below a picture that says how to read it.
 const LEGEND: &str =
     "From left to right as each process saw it. A dot is a send, a ring a delivery, a bar a change of the configuration, whose band follows (dashed: transitional), a cross a failure, a dashed line a pending delivery.";
 
-/// Adds lines of text, one below the other, the first with its foot at this height.
+/// Adds lines of text, one below the other. The height is that of the first one's baseline.
 fn push_text(text: &mut String, from: u32, lines: &[String]) -> Result<(), AllocError> {
     let mut y = from;
     for line in lines {
@@ -27,7 +27,7 @@ fn push_text(text: &mut String, from: u32, lines: &[String]) -> Result<(), Alloc
     Ok(())
 }
 
-/// Adds all that lies in the lanes.
+/// Adds everything in the lanes.
 fn push_lanes(
     alloc: Global,
     text: &mut String,
@@ -42,7 +42,7 @@ fn push_lanes(
     push_events(alloc, text, frame, lanes, subject)
 }
 
-/// Returns the picture's beginning, which names and describes it for who cannot see it.
+/// Returns the beginning of the picture, which names and describes it for people who cannot see it.
 fn opening(
     alloc: Global,
     width: u32,
@@ -86,7 +86,7 @@ fn draw(alloc: Global, subject: &Subject<'_>) -> Result<String, AllocError> {
     Ok(text)
 }
 
-/// Returns what is said of a fault above its picture.
+/// Returns the title of a fault's picture.
 fn title_of(alloc: Global, fault: &Fault, count: usize) -> Result<String, AllocError> {
     let spec = fault.spec;
     let rule = rule_of(spec);
@@ -130,8 +130,8 @@ fn ends_of(alloc: Global, run: &Run) -> Result<Vec<Place>, AllocError> {
     Ok(ends)
 }
 
-/// Draws a run that meets the specifications as a picture in SVG, with the deliveries that are pending. A small run is drawn
-/// whole, of any other the ends of its logs.
+/// Draws a run that meets the specifications as a picture in SVG, with the pending deliveries. A small run is drawn whole. Of any
+/// other, the ends of the logs are drawn.
 pub fn draw_yes(alloc: Global, run: &Run, pending: &[Pending]) -> Result<String, AllocError> {
     let places = ends_of(alloc, run)?;
     draw(

@@ -1,14 +1,14 @@
-//! The shapes of a picture, as elements of SVG. What they say has digits, letters, spaces and punctuation that XML takes as it is.
+//! The shapes of a picture, as elements of SVG. Their texts have digits, letters, spaces and punctuation that XML needs no escapes for.
 use std::alloc::AllocError;
 
-/// Where something is drawn.
+/// A point of a picture.
 #[derive(Clone, Copy, PartialEq, Eq)]
 pub struct Point {
     pub x: u32,
     pub y: u32,
 }
 
-/// The colours of configurations, which people who see few colours can tell apart.
+/// The colours of configurations, which colour-blind people can tell apart.
 const COLOURS: [&str; 6] = [
     "#56b4e9", "#e69f00", "#009e73", "#f0e442", "#cc79a7", "#0072b2",
 ];
@@ -21,13 +21,13 @@ fn colour(n: usize) -> &'static str {
     }
 }
 
-/// Adds a line of text that begins at a point.
+/// Adds a line of text that starts at a point.
 pub fn push_words(text: &mut String, at: Point, words: &str) -> Result<(), AllocError> {
     let Point { x, y } = at;
     write!(text, "<text x='{x}' y='{y}'>{words}</text>\n")
 }
 
-/// Adds a few words with their middle at a point.
+/// Adds a short text centred at a point.
 pub fn push_label(text: &mut String, at: Point, words: &str) -> Result<(), AllocError> {
     let Point { x, y } = at;
     write!(
@@ -67,7 +67,7 @@ pub fn push_line(text: &mut String, from: Point, to: Point) -> Result<(), AllocE
     )
 }
 
-/// Adds the dashed line of a message from its send to where it may still be delivered.
+/// Adds the dashed line of a message from its send to a delivery that may still happen.
 pub fn push_dashed(text: &mut String, from: Point, to: Point) -> Result<(), AllocError> {
     let Point { x, y } = from;
     let Point { x: end, y: bottom } = to;

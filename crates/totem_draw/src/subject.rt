@@ -1,4 +1,4 @@
-//! What a picture shows.
+//! The subject of a picture.
 use totem_evs::{Pending, Run};
 use totem_ids::Place;
 
@@ -7,9 +7,9 @@ use totem_ids::Place;
 pub struct Subject<'a> {
     pub run: &'a Run,
     pub title: &'a str,
-    /// Around these it is drawn.
+    /// The places around which the run is drawn.
     pub places: &'a [Place],
-    /// These are marked, by their numbers.
+    /// The places that are marked with their numbers.
     pub marked: &'a [Place],
     pub pending: &'a [Pending],
 }

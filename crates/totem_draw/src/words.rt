@@ -4,7 +4,7 @@ use std::alloc::{AllocError, Global};
 /// How many letters a line has at most, unless a word is longer.
 const LETTERS: usize = 110;
 
-/// Returns the words in lines of at most 110 letters.
+/// Returns the text in lines of at most 110 letters.
 pub fn wrapped(alloc: Global, words: &str) -> Result<Vec<String>, AllocError> {
     let mut lines = Vec::new(alloc);
     let mut line = String::new(alloc);

@@ -7,16 +7,16 @@ use std::alloc::{AllocError, Global};
 use totem_evs::{Ending, Log, Run};
 use totem_ids::{Place, Version};
 
-/// How many entries are shown in front of a place, and after it.
+/// How many entries are shown before and after a place.
 const AROUND: u32 = 2;
 
-/// How many letters a row has at most, unless one column alone has more.
+/// How many letters a row has at most, unless a single column has more.
 const WIDTH: usize = 110;
 
-/// How many spaces stand before the first column.
+/// How many spaces precede the first column.
 const INDENT: usize = 2;
 
-/// How many spaces stand between two columns, at least.
+/// How many spaces are between two columns at least.
 const BETWEEN: usize = 4;
 
 /// Whether an entry is shown.
@@ -43,7 +43,7 @@ fn mark(shown: &mut Vec<Shown>, at: u32) {
     }
 }
 
-/// Returns of each entry of a log whether it is shown.
+/// Returns for each entry of a log whether it is shown.
 fn shown_of(alloc: Global, log: &Log, places: &[Place]) -> Result<Vec<Shown>, AllocError> {
     let entries = log.entries.as_slice();
     let mut shown = Vec::with_capacity(alloc, entries.len())?;
@@ -67,7 +67,7 @@ fn lane_of(alloc: Global, log: &Log, shown: &[Shown]) -> Result<Lane, AllocError
     Lane::of(alloc, log, is_shown.as_slice())
 }
 
-/// What stands in a row of a column.
+/// The text of a column in one row.
 #[derive(Drop)]
 struct Cell {
     row: u32,
@@ -91,7 +91,7 @@ fn closing(ending: Ending) -> &'static str {
     }
 }
 
-/// Returns what stands in the cell of a spot: the entry with its number, and whether it is marked, or how many are left out.
+/// Returns the text of the cell of a spot: the entry with its number and its mark, if any, or how many entries are left out.
 fn cell_text(
     alloc: Global,
     version: Version,
@@ -148,7 +148,7 @@ impl Column {
         Ok(column)
     }
 
-    /// Takes the cell of this row from the column, if it has one. Rows are asked for in their order.
+    /// Takes the cell of this row from the column, if it has one. Rows are taken in order.
     fn take(&mut self, row: u32) -> Option<String> {
         if self.cells.last()?.row != row {
             return None;
@@ -165,7 +165,7 @@ fn push_spaces(text: &mut String, count: usize) -> Result<(), AllocError> {
     Ok(())
 }
 
-/// Adds a row of the columns, if one of them has a cell there.
+/// Adds a row of the columns, if one of them has a cell in it.
 fn push_row(text: &mut String, columns: &mut [Column], row: u32) -> Result<(), AllocError> {
     let mut spaces = INDENT;
     let mut is_any = false;
@@ -196,7 +196,7 @@ fn push_rows(text: &mut String, columns: &mut [Column], last: u32) -> Result<(),
     Ok(())
 }
 
-/// Adds the columns side by side, as many as there is space for, and the others below them.
+/// Adds as many columns side by side as there is space for, and the others below them.
 fn push_columns(
     alloc: Global,
     text: &mut String,
@@ -217,8 +217,8 @@ fn push_columns(
     push_rows(text, side_by_side.as_mut_slice(), last)
 }
 
-/// Returns the logs in which a place lies, side by side: the places, marked with `>`, and up to two entries on both sides. Each
-/// log stands in its order from top to bottom, and a delivery below its send where both are shown.
+/// Returns the logs that have one of the places, side by side: the places, marked with `>`, and up to two entries before and after
+/// each. Each log goes from top to bottom, and a delivery is below its send if both are shown.
 pub fn columns(alloc: Global, run: &Run, places: &[Place]) -> Result<String, AllocError> {
     let mut shown = Vec::new(alloc);
     let mut lanes = Vec::new(alloc);

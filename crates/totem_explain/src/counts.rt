@@ -1,4 +1,4 @@
-//! How much a run holds.
+//! The size of a run.
 use std::alloc::{AllocError, Global};
 use totem_evs::{Entry, Run};
 
@@ -38,7 +38,7 @@ fn count_all(run: &Run) -> Counts {
     counts
 }
 
-/// Returns a line that says how much the run holds.
+/// Returns a line that says how many entries of each kind the run has.
 pub fn summary(alloc: Global, run: &Run) -> Result<String, AllocError> {
     let logs = run.logs.as_slice().len();
     let Counts {

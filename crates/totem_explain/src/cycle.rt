@@ -5,7 +5,7 @@ use std::alloc::{AllocError, Global};
 use totem_evs::{Entry, Run};
 use totem_ids::Place;
 
-/// Returns why the event at one place comes before that at the next, or is one event with it.
+/// Returns why the event at one place comes before the one at the next place, or is the same event.
 fn step(run: &Run, from: Place, to: Place) -> &'static str {
     if from.proc == to.proc && from.at < to.at {
         return "they stand in one log, in this order";
@@ -37,7 +37,7 @@ fn push_step(
     write!(text, "  {from} and {to}: {why}.\n")
 }
 
-/// Returns the list step by step, and that no order can be right.
+/// Returns the list step by step, and says that no order can fit it.
 pub fn cycle(alloc: Global, run: &Run, places: &[Place]) -> Result<String, AllocError> {
     let mut text = String::new(alloc);
     let Some(first) = places.first() else {

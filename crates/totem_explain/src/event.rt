@@ -1,4 +1,4 @@
-//! What an entry of a log says, as its line and as a sentence.
+//! The text of a log's entry, as its line and as a sentence.
 ghost use Rattle.std.specs.Prelude.{◌≡◌, IfOk};
 ghost use Rattle.std.specs.String.{string_bytes};
 ghost use Rattle.totem_ids.specs.Processes.{process_text};
@@ -15,7 +15,7 @@ pub fn place_name(alloc: Global, version: Version, place: Place) -> Result<Strin
     format!(in alloc; "{proc}@{at}")
 }
 
-/// Returns the processes as texts of this version write them, with a space before each.
+/// Returns the processes as texts of this version write them, each preceded by a space.
 pub(crate) fn spaced(alloc: Global, version: Version, procs: &[Proc]) -> Result<String, AllocError>
     ensures { IfOk result (λ text. string_bytes text ≡ members_text (process_text version) procs.now) }
 {
@@ -28,7 +28,7 @@ pub(crate) fn spaced(alloc: Global, version: Version, procs: &[Proc]) -> Result<
     Ok(text)
 }
 
-/// Returns the line of a run's text of this version that stands for the entry, without its end, as in `send r4.1 a 4.1#1`.
+/// Returns the entry's line in a run text of this version, without its end, as in `send r4.1 a 4.1#1`.
 pub fn line_of(alloc: Global, version: Version, entry: &Entry) -> Result<String, AllocError>
     ensures { IfOk result (λ text. string_bytes text ≡ entry_text (process_text version) entry.now) }
 {
@@ -50,7 +50,7 @@ fn service_name(service: Service) -> &'static str {
     }
 }
 
-/// Returns what a process did by the entry, as in `process 2 delivered 4.1#1 in r4.1`.
+/// Returns a sentence about what a process did by the entry, as in `process 2 delivered 4.1#1 in r4.1`.
 pub fn event_of(
     alloc: Global,
     version: Version,

@@ -1,11 +1,11 @@
-//! What became of a process that has to deliver something.
+//! What happened to a process that has to deliver something.
 use crate::event::place_name;
 use crate::lookup::{change_behind, change_in, log_of};
 use std::alloc::{AllocError, Global};
 use totem_evs::{Ending, Log, Run};
 use totem_ids::{ConfId, Place, Proc, Version};
 
-/// What became of a process in a configuration and what follows it.
+/// What happened to a process in a configuration and in what follows it.
 #[derive(Clone, Copy, PartialEq, Eq)]
 pub enum Fate {
     WithoutLog,
@@ -17,13 +17,13 @@ pub enum Fate {
 }
 
 impl Fate {
-    /// Returns whether nothing excuses the process: it neither failed nor is still there. A quiet log is not: it says that
-    /// nothing more was to come.
+    /// Returns whether nothing excuses the process: it neither failed nor is still in the configuration. A quiet log is no excuse, since
+    /// it says that nothing more was to come.
     pub fn owes(&self) -> bool {
         !matches!(self, Fate::Failed(_) | Fate::StillThere(_))
     }
 
-    /// Returns what is said about it, after the process.
+    /// Returns the text about the fate that goes after the process.
     pub fn told(&self, alloc: Global, version: Version) -> Result<String, AllocError> {
         match self {
             Fate::WithoutLog => format!(in alloc; "has no log"),
@@ -48,7 +48,7 @@ fn end_of(log: &Log, conf: ConfId) -> Fate {
     }
 }
 
-/// Returns what comes after the transitional configuration that follows, to which entry `at` changes.
+/// Returns the fate after the following transitional configuration, to which entry `at` changes.
 fn behind_following(log: &Log, conf: ConfId, at: u32) -> Fate {
     match change_behind(log, at) {
         Some((place, next)) => Fate::WentOn(next, place),
@@ -56,8 +56,8 @@ fn behind_following(log: &Log, conf: ConfId, at: u32) -> Fate {
     }
 }
 
-/// Returns what a process did after entry `at` of its log, with which it stands in `conf`. The transitional configuration
-/// that follows still counts as there.
+/// Returns what a process did after entry `at` of its log, at which it is in `conf`. The transitional configuration that follows
+/// still counts as part of it.
 pub fn next_of(log: &Log, conf: ConfId, at: u32) -> Fate {
     match change_behind(log, at) {
         Some((place, next)) => match next {
@@ -68,7 +68,7 @@ pub fn next_of(log: &Log, conf: ConfId, at: u32) -> Fate {
     }
 }
 
-/// Returns what became of a process in a configuration and what follows it.
+/// Returns what happened to a process in a configuration and in what follows it.
 pub fn fate_of(run: &Run, proc: Proc, conf: ConfId) -> Fate {
     let Some(log) = log_of(run, proc) else {
         return Fate::WithoutLog;

@@ -3,14 +3,14 @@ use std::alloc::{AllocError, Global};
 use totem_evs::{Ending, Entry, Log};
 use totem_ids::{ConfId, MsgId, Place, Proc};
 
-/// What is shown at a spot of a lane.
+/// What a spot of a lane shows.
 #[derive(Clone, Copy, Debug, PartialEq, Eq)]
 pub enum What {
     Change,
     Send(MsgId),
     Delivery(MsgId),
     Failure,
-    /// So many entries that are left out.
+    /// This many entries that are left out.
     LeftOut(u32),
 }
 
@@ -29,16 +29,16 @@ impl What {
 #[derive(Clone, Copy, Debug, PartialEq, Eq)]
 pub struct Spot {
     pub what: What,
-    /// How many entries of the log stand before it; of several that are left out, how many were read with them.
+    /// How many entries of the log are before it; for entries that are left out, how many were read including them.
     pub before: u32,
-    /// The configuration of the process once it has happened.
+    /// The configuration of the process after it.
     pub conf: Option<ConfId>,
-    /// Where it stands among what is shown of all logs: `lay_out` gives it.
+    /// Its position among what is shown of all logs, which `lay_out` sets.
     pub slot: u32,
 }
 
 impl Spot {
-    /// Returns the message that is sent here.
+    /// Returns the message that is sent at this spot.
     pub fn sends(&self) -> Option<MsgId> {
         match self.what {
             What::Send(message) => Some(message),
@@ -46,7 +46,7 @@ impl Spot {
         }
     }
 
-    /// Returns the message that is delivered here.
+    /// Returns the message that is delivered at this spot.
     pub fn delivers(&self) -> Option<MsgId> {
         match self.what {
             What::Delivery(message) => Some(message),
@@ -61,18 +61,18 @@ pub struct Lane {
     pub proc: Proc,
     pub ending: Ending,
     pub spots: Vec<Spot>,
-    /// How many of the spots have their slot.
+    /// How many of the spots have got their slots.
     pub placed: usize,
 }
 
-/// A log of which so many entries have been read, and what is shown of them.
+/// A log of which some entries have been read, and what is shown of them.
 #[derive(Drop)]
 struct Reading {
     spots: Vec<Spot>,
     read: u32,
     /// The configuration of the process.
     conf: Option<ConfId>,
-    /// How many entries have been left out since the last that is shown.
+    /// How many entries have been left out since the last one that is shown.
     left_out: u32,
 }
 
@@ -87,7 +87,7 @@ impl Reading {
         Ok(())
     }
 
-    /// Adds how many entries were left out, if any were.
+    /// Adds a spot for the entries left out, if any were.
     fn end_gap(&mut self) -> Result<(), AllocError> {
         if self.left_out == 0 {
             return Ok(());
@@ -124,7 +124,7 @@ impl Lane {
         }
     }
 
-    /// Returns the lane of a log of which these entries are shown.
+    /// Returns the lane of a log. `shown` says for each entry whether it is shown.
     pub fn of(alloc: Global, log: &Log, shown: &[bool]) -> Result<Lane, AllocError> {
         let mut reading = Reading {
             spots: Vec::new(alloc),

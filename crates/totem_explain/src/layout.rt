@@ -1,10 +1,10 @@
-//! An order of what is shown of the logs that fits all of them.
+//! An order that fits what is shown of all logs.
 use crate::lane::{Lane, Spot};
 use std::alloc::{AllocError, Global};
 use std::collections::BTreeSet;
 use totem_ids::MsgId;
 
-/// The messages whose sends are shown, and those whose sends have their slots.
+/// The messages whose sends are shown, and those whose sends have got their slots.
 #[derive(Drop)]
 struct Sends {
     shown: BTreeSet<MsgId>,
@@ -27,7 +27,7 @@ impl Sends {
         })
     }
 
-    /// Returns whether a spot may lie here: a delivery lies after its send, if that is shown.
+    /// Returns whether a spot may be placed now. A delivery has to be after its send, if the send is shown.
     fn let_through(&self, spot: &Spot) -> bool {
         match spot.delivers() {
             Some(message) => self.placed.contains(&message) || !self.shown.contains(&message),
@@ -50,7 +50,7 @@ fn may_place(lane: &Lane, sends: &Sends) -> bool {
     next.is_some_and(|spot| sends.let_through(spot))
 }
 
-/// Places one spot of each lane that has one that may lie here. Returns whether there was any.
+/// Places one spot of each lane whose next spot may be placed now. Returns whether there was any.
 fn place_ready(
     alloc: Global,
     lanes: &mut [Lane],
@@ -73,7 +73,7 @@ fn place_ready(
     Ok(is_any)
 }
 
-/// Places the next spot of the first lane that has one left, whatever stands there. Returns whether there was any.
+/// Places the next spot of the first lane that has one left, whatever it is. Returns whether there was any.
 fn place_first(lanes: &mut [Lane], slot: u32, sends: &mut Sends) -> Result<bool, AllocError> {
     for lane in lanes.iter_mut() {
         if lane.placed < lane.spots.len() {
@@ -86,8 +86,8 @@ fn place_first(lanes: &mut [Lane], slot: u32, sends: &mut Sends) -> Result<bool,
     Ok(false)
 }
 
-/// Gives each spot its slot. The spots of a lane keep their order, and a delivery lies after its send where that is shown; where
-/// that can't be, since events come before themselves, the first lane goes on. Returns how many slots there are.
+/// Gives each spot its slot. The spots of a lane keep their order, and a delivery is after its send if that is shown. Where that
+/// is impossible, since events come before themselves, the first lane continues. Returns the number of slots.
 pub fn lay_out(alloc: Global, lanes: &mut [Lane]) -> Result<u32, AllocError> {
     let mut sends = Sends::of(alloc, lanes)?;
     for slot in 0..u32::MAX {

@@ -1,4 +1,4 @@
-//! An audit in words for people: what a fault's places are, what is missing, and the log lines around them.
+//! Explanations of an audit for people: what happened at the places of a fault, what is missing, and the log lines around them.
 #![tactic(auto)]
 
 mod columns;

@@ -1,4 +1,4 @@
-//! Where things stand in a run. Each search reads a log from its first entry on.
+//! Searches in a run. Each one reads a log from its first entry on.
 use totem_evs::{Entry, Log, Run};
 use totem_ids::{ConfId, MsgId, Place, Proc};
 
@@ -18,12 +18,12 @@ pub fn entry_of<'r>(log: &'r Log, at: u32) -> Option<&'r Entry> {
     log.entries.as_slice().get(index as usize)
 }
 
-/// Returns the entry at a place of the run, or `None` if nothing stands there.
+/// Returns the entry at a place of the run, or `None` if there is none.
 pub fn entry_at<'r>(run: &'r Run, place: Place) -> Option<&'r Entry> {
     entry_of(log_of(run, place.proc)?, place.at)
 }
 
-/// Returns the place of the log's entry with this index, counted from 0.
+/// Returns the place of the log's entry at this index, counted from 0.
 pub fn place_of(log: &Log, index: usize) -> Place {
     let before = u32::try_from(index).unwrap_or(u32::MAX);
     Place {
@@ -32,7 +32,7 @@ pub fn place_of(log: &Log, index: usize) -> Place {
     }
 }
 
-/// Returns where a log first delivers a message, or `None` if it does not.
+/// Returns the place at which a log first delivers a message, or `None` if it does not.
 pub fn delivery_in(log: &Log, message: MsgId) -> Option<Place> {
     for (index, entry) in log.entries.as_slice().iter().enumerate() {
         if let Entry::Deliver(delivered, _) = entry {
@@ -44,7 +44,7 @@ pub fn delivery_in(log: &Log, message: MsgId) -> Option<Place> {
     None
 }
 
-/// Returns where a log first sends a message, and in which configuration, or `None` if it does not.
+/// Returns the place at which a log first sends a message, with the configuration, or `None` if it does not.
 pub fn send_in(log: &Log, message: MsgId) -> Option<(Place, ConfId)> {
     for (index, entry) in log.entries.as_slice().iter().enumerate() {
         if let Entry::Send(sent, conf, _) = entry {
@@ -56,7 +56,7 @@ pub fn send_in(log: &Log, message: MsgId) -> Option<(Place, ConfId)> {
     None
 }
 
-/// Returns where a log first changes to a configuration, or `None` if it does not.
+/// Returns the place at which a log first changes to a configuration, or `None` if it does not.
 pub fn change_in(log: &Log, conf: &ConfId) -> Option<Place> {
     for (index, entry) in log.entries.as_slice().iter().enumerate() {
         if let Entry::Conf(to, _) = entry {
@@ -68,7 +68,7 @@ pub fn change_in(log: &Log, conf: &ConfId) -> Option<Place> {
     None
 }
 
-/// Returns the last change of a log in front of entry `at`, with its members.
+/// Returns the last change of a log before entry `at`, with its members.
 pub fn change_before<'r>(log: &'r Log, at: u32) -> Option<(ConfId, &'r [Proc])> {
     let before = at.saturating_sub(1) as usize;
     let mut last = None;

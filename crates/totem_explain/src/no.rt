@@ -1,4 +1,4 @@
-//! A no in words.
+//! The explanation of a no.
 ghost use Rattle.std.specs.Prelude.{◌≡◌, IfOk, map};
 
 use crate::columns::columns;
@@ -11,14 +11,14 @@ use std::alloc::{AllocError, Global};
 use totem_evs::{Fault, Run, SpecNo};
 use totem_ids::Place;
 
-/// A fault and its explanation: lines, each with its end.
+/// A fault and its explanation, which consists of whole lines.
 #[derive(Debug, Drop)]
 pub struct Explained {
     pub fault: Fault,
     pub text: String,
 }
 
-/// A no in words: a heading, and then each fault.
+/// The explanation of a no: a heading, and then each fault.
 #[derive(Debug, Drop)]
 pub struct ExplainedNo {
     pub heading: String,
@@ -28,7 +28,7 @@ pub struct ExplainedNo {
 /// How many faults are explained in full.
 const IN_FULL: usize = 100;
 
-/// Returns a line for each place, with what happened there.
+/// Returns a line for each place, which says what happened there.
 fn events(alloc: Global, run: &Run, places: &[Place]) -> Result<String, AllocError> {
     let mut text = String::new(alloc);
     for place in places {
@@ -58,8 +58,8 @@ fn told(alloc: Global, run: &Run, fault: &Fault) -> Result<String, AllocError> {
     format!(in alloc; "{beginning}Why it is broken:\n{reason}The logs there:\n{columns}")
 }
 
-/// Explains each of these faults of the run, in their order: the first 100 in full, the others by what is asked and what happened at
-/// their places.
+/// Explains each of these faults of the run, in order: the first 100 in full, the others by the rule and what happened at their
+/// places.
 fn explain_each(alloc: Global, run: &Run, faults: &[Fault]) -> Result<Vec<Explained>, AllocError>
     ensures { IfOk result (λ list. map (λ one. one.fault) list.items ≡ faults.now) }
 {
@@ -78,8 +78,8 @@ fn explain_each(alloc: Global, run: &Run, faults: &[Fault]) -> Result<Vec<Explai
     Ok(list)
 }
 
-/// Returns which specifications an audit that stopped at a fault of this one did not look at (docs/SPECIFICATIONS.md, "Passes"); nothing
-/// where it looked at all.
+/// Returns which specifications an audit that stopped at a fault of this one did not check (docs/SPECIFICATIONS.md, "Passes"), or
+/// nothing if it checked all.
 fn unseen_behind(spec: SpecNo) -> &'static str {
     match spec {
         SpecNo::Twice | SpecNo::End | SpecNo::Misplaced | SpecNo::Configuration | SpecNo::Turns => {
@@ -100,7 +100,7 @@ fn unseen_behind(spec: SpecNo) -> &'static str {
     }
 }
 
-/// Returns what is said above these faults.
+/// Returns the heading for these faults.
 fn heading(alloc: Global, run: &Run, faults: &[Fault]) -> Result<String, AllocError> {
     let summary = summary(alloc, run)?;
     let unseen = match faults.first() {
@@ -119,7 +119,7 @@ fn heading(alloc: Global, run: &Run, faults: &[Fault]) -> Result<String, AllocEr
     )
 }
 
-/// Explains the no of a run: how much was judged, and each of these faults, in their order. Only the first 100 are explained in full.
+/// Explains the no of a run: how much was judged, and each of these faults in order. Only the first 100 are explained in full.
 pub fn explain_no(alloc: Global, run: &Run, faults: &[Fault]) -> Result<ExplainedNo, AllocError>
     ensures { IfOk result (λ words. map (λ one. one.fault) words.faults.items ≡ faults.now) }
 {

@@ -5,7 +5,7 @@ use std::alloc::{AllocError, Global};
 use totem_evs::{Ending, Entry, Log, Run};
 use totem_ids::{ConfId, Place, Proc, Version};
 
-/// Returns where a log fails first, or `None` if it does not.
+/// Returns the place at which a log first fails, or `None` if it does not.
 fn failure_in(log: &Log) -> Option<Place> {
     for (index, entry) in log.entries.as_slice().iter().enumerate() {
         if let Entry::Fail(_) = entry {
@@ -15,7 +15,7 @@ fn failure_in(log: &Log) -> Option<Place> {
     None
 }
 
-/// Returns what a process did after this place, at which it came to the configuration, or `None` if it changed no more.
+/// Returns what a process did after this place, at which it changed to the configuration, or `None` if it did not change again.
 fn behind(
     alloc: Global,
     version: Version,
@@ -39,7 +39,7 @@ fn ends_in(log: &Log, conf: &ConfId) -> bool {
     }
 }
 
-/// Returns what a process did in place of ending in the configuration, or `None` if it ended there or may still come.
+/// Returns what a process did instead of ending in the configuration, or `None` if it ended there or may still come.
 fn parted(
     alloc: Global,
     version: Version,
@@ -62,7 +62,7 @@ fn parted(
     }
 }
 
-/// Adds what a member did in place of ending in the configuration, if it neither ended there nor may still come.
+/// Adds what a member did instead of ending in the configuration, if it neither ended there nor may still come.
 fn push_parted(
     alloc: Global,
     text: &mut String,
@@ -81,7 +81,7 @@ fn push_parted(
     Ok(())
 }
 
-/// 2.1: which members of the configuration, in which a quiet log ends by this change, neither end there nor may still come.
+/// 2.1: returns which members of the configuration neither end in it nor may still come. A quiet log ends in it by this change.
 pub fn ended_alone(alloc: Global, run: &Run, change: Place) -> Result<String, AllocError> {
     let mut text = String::new(alloc);
     let Some(Entry::Conf(conf, members)) = entry_at(run, change) else {

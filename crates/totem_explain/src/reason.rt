@@ -1,4 +1,4 @@
-//! What breaks the specification at the places of a fault, and what is missing there.
+//! Why the places of a fault break the specification, and what is missing there.
 use crate::cycle::cycle;
 use crate::event::place_name;
 use crate::fate::{fate_of, next_of};
@@ -17,7 +17,7 @@ fn message_at(run: &Run, place: Place) -> Option<MsgId> {
     }
 }
 
-/// 1.4: what is done twice.
+/// 1.4: returns what is done twice.
 fn twice(alloc: Global, run: &Run, places: &[Place]) -> Result<String, AllocError> {
     let Some(first) = places.first() else {
         return Ok(String::new(alloc));
@@ -35,7 +35,7 @@ fn twice(alloc: Global, run: &Run, places: &[Place]) -> Result<String, AllocErro
     }
 }
 
-/// 2.2: why the entry may not stand where it stands.
+/// 2.2: returns why the entry may not be at its place.
 fn misplaced(alloc: Global, run: &Run, place: Place) -> Result<String, AllocError> {
     let Some(log) = log_of(run, place.proc) else {
         return Ok(String::new(alloc));
@@ -52,7 +52,7 @@ fn misplaced(alloc: Global, run: &Run, place: Place) -> Result<String, AllocErro
     }
 }
 
-/// 2.3: what does not fit.
+/// 2.3: returns what does not fit.
 fn configuration(alloc: Global, run: &Run, places: &[Place]) -> Result<String, AllocError> {
     let Some(first) = places.first() else {
         return Ok(String::new(alloc));
@@ -67,7 +67,7 @@ fn configuration(alloc: Global, run: &Run, places: &[Place]) -> Result<String, A
     }
 }
 
-/// 2.4: what does not take turns or fit.
+/// 2.4: returns what does not alternate or does not fit.
 fn turns(alloc: Global, places: &[Place]) -> Result<String, AllocError> {
     match places.len() {
         1 => format!(in alloc; "  A log can't begin with a transitional configuration.\n"),
@@ -80,7 +80,7 @@ fn turns(alloc: Global, places: &[Place]) -> Result<String, AllocError> {
     }
 }
 
-/// 3: what the sender did in place of delivering its message.
+/// 3: returns what the sender did instead of delivering its message.
 fn undelivered(alloc: Global, run: &Run, send: Place) -> Result<String, AllocError> {
     let (Some(log), Some(Entry::Send(message, conf, _))) = (
         log_of(run, send.proc),
@@ -95,7 +95,7 @@ fn undelivered(alloc: Global, run: &Run, send: Place) -> Result<String, AllocErr
     )
 }
 
-/// Returns that the process at `missing` lacks the message at `delivery`, or delivers it too late.
+/// Returns a line that says that the process at `missing` lacks the message at `delivery`, or delivers it too late.
 fn lacks(alloc: Global, run: &Run, delivery: Place, missing: Place) -> Result<String, AllocError> {
     let (Some(message), Some(log)) = (message_at(run, delivery), log_of(run, missing.proc)) else {
         return Ok(String::new(alloc));
@@ -117,7 +117,7 @@ fn has_delivered(run: &Run, proc: Proc, message: MsgId) -> bool {
     }
 }
 
-/// Adds what became of a process in a configuration if it lacks the message and nothing excuses it.
+/// Adds what happened to a process in a configuration if it lacks the message and nothing excuses it.
 fn push_lacking(
     alloc: Global,
     text: &mut String,
@@ -138,7 +138,7 @@ fn push_lacking(
     )
 }
 
-/// 7.1: which members lack the message and are not excused, and what became of them.
+/// 7.1: returns which members lack the message and are not excused, and what happened to them.
 fn unsafe_for(alloc: Global, run: &Run, delivery: Place) -> Result<String, AllocError> {
     let mut text = String::new(alloc);
     let (Some(message), Some(log)) = (message_at(run, delivery), log_of(run, delivery.proc)) else {
@@ -153,7 +153,7 @@ fn unsafe_for(alloc: Global, run: &Run, delivery: Place) -> Result<String, Alloc
     Ok(text)
 }
 
-/// 7.2: which members never came.
+/// 7.2: returns which members never changed to the configuration.
 fn absent(alloc: Global, run: &Run, delivery: Place) -> Result<String, AllocError> {
     let mut text = String::new(alloc);
     let Some(log) = log_of(run, delivery.proc) else {
@@ -175,7 +175,7 @@ fn absent(alloc: Global, run: &Run, delivery: Place) -> Result<String, AllocErro
     Ok(text)
 }
 
-/// Returns lines that say what breaks the specification at the places of the fault, and what is missing.
+/// Returns lines that say why the places of the fault break the specification, and what is missing there.
 pub fn reason(alloc: Global, run: &Run, fault: &Fault) -> Result<String, AllocError> {
     let places = fault.places.as_slice();
     match (fault.spec, places) {

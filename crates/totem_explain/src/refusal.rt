@@ -1,12 +1,12 @@
-//! A text that could not be read, shown where it is refused, with what is wanted there (docs/SPECIFICATIONS.md, "Run text").
+//! A text that could not be read, shown at the place where it is refused, with what is expected there (docs/SPECIFICATIONS.md, "Run text").
 use std::alloc::{AllocError, Global};
 use totem_evs::RunFault;
 use totem_ids::TextPlace;
 
-/// How many bytes of a line are shown before the one that is refused.
+/// How many bytes of a line are shown before the refused one.
 const BEFORE: usize = 72;
 
-/// The beginnings of lines, and what follows them.
+/// The beginnings of lines, each with what may follow it.
 const BEHIND: [(&[u8], &str); 5] = [
     (
         b"log ",
@@ -30,11 +30,11 @@ const BEHIND: [(&[u8], &str); 5] = [
     ),
 ];
 
-/// What is printed where a process stands without its life.
+/// The text for a process without its life.
 const WANT_OF_A_LIFE: &str =
     "A process without its life stands here: from version 2 on each is written with it, as in `2:1`. `tools/logs join --lives` adds lives to members.\n";
 
-/// Returns what may stand in a line that begins so.
+/// Returns what may follow this beginning of a line.
 fn behind(line: &[u8]) -> &'static str {
     for (front, wanted) in &BEHIND {
         if line.starts_with(front) {
@@ -48,7 +48,7 @@ fn is_digit(byte: &u8) -> bool {
     byte.is_ascii_digit()
 }
 
-/// Returns the bytes in front of the number at the end, or `None` if no number stands there.
+/// Returns the bytes before the number at the end, or `None` if there is no number.
 fn before_number(bytes: &[u8]) -> Option<&[u8]> {
     let front = match bytes.iter().rposition(|byte| !is_digit(byte)) {
         Some(at) => bytes.get(..at.saturating_add(1))?,
@@ -61,8 +61,8 @@ fn before_number(bytes: &[u8]) -> Option<&[u8]> {
     }
 }
 
-/// Returns whether a process was read last and this byte refused where the colon of its life is wanted. Where no lives are written, a
-/// process is followed by just these bytes.
+/// Returns whether a process was read last and this byte was refused where the colon of its life is expected. In texts without
+/// lives, these are the bytes that follow a process.
 fn lacks_life(line: &[u8], refused: u8) -> bool {
     let is_behind = refused == b' ' || refused == b'\n';
     match before_number(line) {
@@ -73,7 +73,7 @@ fn lacks_life(line: &[u8], refused: u8) -> bool {
     }
 }
 
-/// Returns what is wanted where a text is refused, in a line that begins so; nothing if the text is not what was refused.
+/// Returns what is expected where a text is refused, after this beginning of the line; nothing if the text itself was not refused.
 fn wanted(alloc: Global, fault: &RunFault, line: &[u8]) -> Result<String, AllocError> {
     let text = match fault {
         RunFault::Header =>
@@ -105,7 +105,7 @@ fn wanted(alloc: Global, fault: &RunFault, line: &[u8]) -> Result<String, AllocE
     format!(in alloc; "{text}\n")
 }
 
-/// Adds a byte as a person can read it: `?` where it is none that can be printed.
+/// Adds a byte in readable form: `?` if it can't be printed.
 fn push_byte(text: &mut String, byte: u8) -> Result<(), AllocError> {
     let shown = if (b' '..=b'~').contains(&byte) {
         char::from(byte)
@@ -122,14 +122,14 @@ fn push_bytes(text: &mut String, bytes: &[u8]) -> Result<(), AllocError> {
     Ok(())
 }
 
-/// Returns the last bytes of a list, so many at most.
+/// Returns at most this many bytes from the end of a list.
 fn last_of(bytes: &[u8], most: usize) -> &[u8] {
     bytes
         .get(bytes.len().saturating_sub(most)..)
         .unwrap_or(bytes)
 }
 
-/// Adds what stands in the line before the byte that is refused: its last bytes, and dots where there are more.
+/// Adds what the line has before the refused byte: its last bytes, with dots before them if there are more.
 fn push_front(text: &mut String, front: &[u8], read: &[u8], column: u64) -> Result<(), AllocError> {
     let read = last_of(read, BEFORE);
     let front = last_of(front, BEFORE.saturating_sub(read.len()));
@@ -140,7 +140,7 @@ fn push_front(text: &mut String, front: &[u8], read: &[u8], column: u64) -> Resu
     push_bytes(text, read)
 }
 
-/// Returns the line of a place, and below it a caret under the byte that is refused.
+/// Returns the line of a place, with a caret below it under the refused byte.
 fn drawing(alloc: Global, place: &TextPlace<'_>) -> Result<String, AllocError> {
     let mut line = String::new(alloc);
     let (read, last) = match place.read.split_last() {
@@ -163,7 +163,7 @@ fn drawing(alloc: Global, place: &TextPlace<'_>) -> Result<String, AllocError> {
     Ok(line)
 }
 
-/// Returns where the text is refused, with its line.
+/// Returns the place where the text is refused, with its line.
 fn shown(alloc: Global, place: &TextPlace<'_>) -> Result<String, AllocError> {
     let line = place.line;
     let column = place.column;
@@ -173,7 +173,7 @@ fn shown(alloc: Global, place: &TextPlace<'_>) -> Result<String, AllocError> {
     Ok(text)
 }
 
-/// Returns whether the fault is one of the byte that was read last.
+/// Returns whether the fault is in the byte that was read last.
 fn is_of_a_byte(fault: &RunFault) -> bool {
     !matches!(
         fault,
@@ -181,7 +181,7 @@ fn is_of_a_byte(fault: &RunFault) -> bool {
     )
 }
 
-/// Returns whether the text is refused since a process stands without its life where lives are written.
+/// Returns whether the text is refused because a process has no life where lives are written.
 fn is_for_want_of_a_life(
     alloc: Global,
     fault: &RunFault,
@@ -196,8 +196,8 @@ fn is_for_want_of_a_life(
     Ok(lacks_life(line.as_slice(), *refused))
 }
 
-/// Returns the explanation of a text that is no run: its line with a caret under the byte that is refused, if the source knew its
-/// place, and what is expected there. Nothing is printed about a failed source or out of memory.
+/// Returns the explanation of a text that is no run: its line with a caret under the refused byte, if the source knew the place,
+/// and what is expected there. A failed source and out of memory have no such explanation.
 pub fn explain_refusal(
     alloc: Global,
     fault: &RunFault,

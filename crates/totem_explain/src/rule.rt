@@ -1,7 +1,7 @@
 //! The specifications in one sentence each (docs/SPECIFICATIONS.md, "The seven specifications").
 use totem_evs::SpecNo;
 
-/// Returns what a specification asks, in one sentence.
+/// Returns what a specification requires, in one sentence.
 pub fn rule_of(spec: SpecNo) -> &'static str {
     match spec {
         SpecNo::Cycle => "No event comes before itself.",

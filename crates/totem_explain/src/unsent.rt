@@ -5,7 +5,7 @@ use std::alloc::{AllocError, Global};
 use totem_evs::{Ending, Log, Run};
 use totem_ids::{ConfId, MsgId, Place};
 
-/// Adds where each log sends the message.
+/// Adds a line for each log that sends the message, with the place.
 fn push_sends(
     alloc: Global,
     text: &mut String,
@@ -25,8 +25,8 @@ fn push_sends(
     Ok(())
 }
 
-/// Returns the entry in front of which the last change is to the configuration where a message had to be sent that entry `at` of the log
-/// delivers: after a transitional change it is the regular one before it.
+/// Returns the entry before which the last change is to the configuration in which the message that entry `at` of the log delivers had
+/// to be sent: after a transitional change it is the regular one before that.
 fn origin(log: &Log, at: u32) -> u32 {
     let Some((conf, _)) = change_before(log, at) else {
         return at;
@@ -46,8 +46,8 @@ fn last_of(log: &Log) -> Option<Place> {
     Some(place_of(log, index))
 }
 
-/// Returns what is said about a log that ends in the configuration, or before it came there, so that its last lines may be missing; nothing
-/// of another log, nor of one that is quiet.
+/// Returns the text about a log that ends in the configuration, or before its change to it, so that its last lines may be missing.
+/// Returns nothing for any other log, and for a quiet one.
 fn cut_off(
     alloc: Global,
     run: &Run,
@@ -79,7 +79,7 @@ fn cut_off(
     }
 }
 
-/// Adds the logs of other members that may lack the send of what entry `delivery` delivers.
+/// Adds the logs of other members that may lack the send of the message that entry `delivery` delivers.
 fn push_cut_off(
     alloc: Global,
     text: &mut String,
@@ -106,7 +106,7 @@ fn push_cut_off(
     Ok(())
 }
 
-/// 1.3: where the message of a delivery was sent; or, where no log sends it, which logs may lack the send.
+/// 1.3: returns where the message of a delivery was sent, or, if no log sends it, which logs may lack the send.
 pub fn unsent(
     alloc: Global,
     run: &Run,

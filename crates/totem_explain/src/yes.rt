@@ -1,11 +1,11 @@
-//! A yes in words.
+//! The explanation of a yes.
 use crate::counts::summary;
 use crate::fate::fate_of;
 use std::alloc::{AllocError, Global};
 use totem_evs::{Pending, Run, Waiting};
 use totem_ids::{MsgId, Version};
 
-/// Deliveries that one process may still make of the messages of one ring.
+/// Pending deliveries of one process, of the messages of one ring.
 #[derive(Clone, Copy, PartialEq, Eq)]
 struct Group {
     first: Pending,
@@ -46,7 +46,7 @@ impl Group {
     }
 }
 
-/// Returns a line for each process and ring of which deliveries are pending.
+/// Returns a line for each process and ring with pending deliveries.
 fn pending_lines(alloc: Global, version: Version, list: &[Pending]) -> Result<String, AllocError> {
     let mut text = String::new(alloc);
     let Some(first) = list.first() else {
@@ -65,7 +65,7 @@ fn pending_lines(alloc: Global, version: Version, list: &[Pending]) -> Result<St
     Ok(text)
 }
 
-/// Returns a line for each two processes of which one waits for the other, and what became of the other.
+/// Returns a line for each two processes of which one waits for the other, with what happened to the other.
 fn waiting_lines(alloc: Global, run: &Run, list: &[Waiting]) -> Result<String, AllocError> {
     let mut text = String::new(alloc);
     for Waiting { proc, conf, other } in list {
@@ -80,7 +80,7 @@ fn waiting_lines(alloc: Global, run: &Run, list: &[Waiting]) -> Result<String, A
     Ok(text)
 }
 
-/// Adds a heading with its lines, and nothing where there are none.
+/// Adds a heading with its lines, or nothing if there are no lines.
 fn push_headed(text: &mut String, heading: &str, lines: &str) -> Result<(), AllocError> {
     if lines.is_empty() {
         return Ok(());
@@ -88,8 +88,8 @@ fn push_headed(text: &mut String, heading: &str, lines: &str) -> Result<(), Allo
     write!(text, "{heading}\n{lines}")
 }
 
-/// Explains the yes of a run: how much was judged, what is pending and who waits for whom. Both lists are ascending, as the audit
-/// gives them.
+/// Explains the yes of a run: how much was judged, what is pending and which processes wait for which. Both lists are expected to be
+/// ascending, as the audit returns them.
 pub fn explain_yes(
     alloc: Global,
     run: &Run,

@@ -1,4 +1,4 @@
--- What breaks a specification is no part of a run that meets it.
+-- A run that meets a specification has nothing that breaks it.
 use Rattle.std.proofs.Common.{ℕ, inl, inr, List, [], ◌∷◌, get_or}
 use Rattle.totem_ids.specs.declared.conf.ConfId.{ConfId}
 use Rattle.totem_ids.specs.declared.conf.ConfId.TheVariants.{Regular, Transitional}

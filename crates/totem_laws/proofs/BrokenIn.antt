@@ -1,4 +1,4 @@
--- What breaks a specification in one regular configuration is no part of a run that meets it there.
+-- A run that meets a specification in a regular configuration has nothing that breaks it there.
 use Rattle.std.proofs.Common.{ℕ, List, [], ◌∷◌}
 use Rattle.totem_ids.specs.declared.ring.RingId.{RingId}
 use Rattle.totem_ids.specs.declared.conf.ConfId.{ConfId}

@@ -1,4 +1,4 @@
--- Who is excused since it is open is among the pending.
+-- A process that is excused because its log is open is listed as pending.
 use Rattle.std.proofs.Common.{◌≡◌, ℕ, inl, inr, List, sym, arith}
 use Rattle.std.specs.Prelude.{Contains}
 use Rattle.totem_ids.specs.declared.ring.RingId.{RingId}
@@ -29,11 +29,11 @@ listed run pending q c m are sent owes ends =
 pub sender : SenderIsPending
 sender run pending ev are p i m c sends owes = listed run pending p c m are (p, i, sends) owes (ev.own p i m c sends)
 
--- one change is to one configuration
+-- one entry changes to one configuration
 one_ring : (log : List Entry) (b c : RingId) (i : ℕ) → ChangesTo log i (Regular b) → ChangesTo log i (Regular c) → b ≡ c
 one_ring log b c i (ms, at) (ns, also) = cc
 
--- what a log changes to once follows one configuration
+-- what a log changes to once follows at most one configuration
 one_origin : (log : List Entry) (b c : RingId) (d : ConfId) → ((i j : ℕ) → ChangesTo log i d → ChangesTo log j d → i ≡ j) → Com log b d → Com log c d → b ≡ c
 one_origin log b c d once (inl is) stays = same_com log c b (rw is at stays)
 one_origin log b c d once stays (inl is) = sym (same_com log b c (rw is at stays))

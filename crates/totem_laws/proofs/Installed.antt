@@ -1,4 +1,4 @@
--- Where each entry names what it stands in, who never changed to a configuration did nothing in it.
+-- If each entry names the configuration that it is in, a process that never changed to a configuration did nothing in it.
 use Rattle.std.proofs.Common.{ℕ, inl, inr, List, [], ◌∷◌, refl}
 use Rattle.totem_ids.specs.declared.ring.RingId.{RingId}
 use Rattle.totem_ids.specs.declared.conf.ConfId.{ConfId}
@@ -12,7 +12,7 @@ use Rattle.totem_evs.specs.Changes.{StaysInPlace}
 use Rattle.totem_laws.specs.Laws.{InstalledBreaksWithSafety}
 
 module _ (run : List Log) (q : ℕ) (c : RingId) (never : (j : ℕ) → ChangesTo (log_of run q) j (Regular c) → ⊥) where
-  -- nothing was changed to by which the log could be in c or in what follows it
+  -- no change could have put the log in c or in what follows it
   not_there : (d : ConfId) (j : ℕ) → ChangesTo (log_of run q) j d → Com (log_of run q) c d → ⊥
   not_there d j change (inl same) = never j (rw same at change)
   not_there d j change (inr follows) = never follows.from follows.first.change

@@ -29,7 +29,7 @@ cycles_one run a b (f, is, first) (g, are, second) =
 not_cyclic : (run : List Log) (faults : List Fault) → ListsCycle run faults → HasCertificate run → ⊥
 not_cyclic run faults (f, is, cycle) (lines, certified) = excluded run f.spec f.places lines cycle.list certified
 
--- how a no comes about
+-- the cases of a no
 abbrev Refuted : List Log → List Fault → Type 0
 Refuted run faults =
     Lists run pass_a faults
@@ -37,7 +37,7 @@ Refuted run faults =
     ⊎ (Lists run pass_a [] × Lists run pass_b [] × ListsCycle run faults)
     ⊎ (Lists run pass_a [] × Lists run pass_b [] × HasCertificate run × ListsConfigurations run faults)
 
--- the first pass that has a fault is one
+-- at most one pass is the first that has a fault
 module _ (run : List Log) where
   a_none : (faults : List Fault) → Lists run pass_a faults → Lists run pass_a [] → faults ≡ []
   a_none faults some none = passes_one run pass_a faults [] some none

@@ -1,4 +1,4 @@
--- A run has one certificate, line by line.
+-- A run has at most one certificate, line by line.
 use Rattle.std.proofs.Common.{◌≡◌, ℕ, suc, ◌<◌, List, [], ◌∷◌, length, slice_get, Some, true, false, refl, sym, ◌∙◌, ap, arith, rules}
 use Rattle.std.specs.Prelude.{◌==◌}
 use Rattle.totem_evs.specs.declared.log.Log.{Log}
@@ -7,7 +7,7 @@ use Rattle.totem_evs.proofs.LogOf.{Rising, Rising-tail, in_order}
 use Rattle.totem_cert.proofs.One.{one}
 use Rattle.totem_laws.specs.OneAnswer.{CertificatesAreOne}
 
--- two lists with the same element at each index are one
+-- two lists with the same element at each index are equal
 same_list : (xs ys : List ℕ) → ((i : ℕ) → slice_get xs i ≡ slice_get ys i) → xs ≡ ys
 same_list [] [] each = refl
 same_list [] (y ∷ ys) each = absurd (let h = each 0 in cc)

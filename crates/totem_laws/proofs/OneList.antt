@@ -1,4 +1,4 @@
--- A run has one list of its regular configurations, of what is pending and of who waits.
+-- A run has at most one list of its regular configurations, of what is pending, and of the waiting processes.
 use Rattle.std.proofs.Common.{◌≡◌, inl, inr, sym, arith}
 use Rattle.totem_ids.specs.declared.conf.ConfId.{ConfId}
 use Rattle.totem_ids.specs.Orders.{RingBelow, MessageBelow, ConfBelow, IsStrictOrder}

@@ -1,4 +1,4 @@
--- Two ascending lists of the same elements are one list.
+-- Two ascending lists of the same elements are equal.
 use Rattle.std.proofs.Common.{◌≡◌, zero, suc, ◌⊎◌, inl, inr, List, [], ◌∷◌, refl, sym, ◌∙◌, subst, arith}
 use Rattle.std.specs.Prelude.{AllPairs, Contains}
 
@@ -18,7 +18,7 @@ contains_more a xs x (k, within, is) = (suc k, omega arith, is)
 pairs_tail : {X : Type 0} (R : X → X → Type 0) (a : X) (xs : List X) → AllPairs R (a ∷ xs) → AllPairs R xs
 pairs_tail R a xs pairs = λ i j d less within. pairs (suc i) (suc j) d (omega arith) (omega arith)
 
--- nothing is below itself, or above what is above it
+-- no element is below itself, or above one that is above it
 pub record IsOneWay {X : Type 0} (R : X → X → Type 0) : Type 0 where
   pub never : (a b : X) → R a b → R b a → ⊥
 
@@ -31,7 +31,7 @@ same_heads R a b xs ys way rise_a rise_b (inl same) h = sym same
 same_heads R a b xs ys way rise_a rise_b h (inl same) = same
 same_heads R a b xs ys way rise_a rise_b (inr in_b) (inr in_a) = absurd (way.never a b (head_below R a xs b rise_a in_a) (head_below R b ys a rise_b in_b))
 
--- what stands after the head of one list stands after the same head of the other
+-- an element after the head of one list is after the same head of the other
 behind : {X : Type 0} (R : X → X → Type 0) (a b : X) (xs ys : List X) → IsOneWay R → AllPairs R (a ∷ xs) → a ≡ b
     → ((x : X) → Contains (a ∷ xs) x → Contains (b ∷ ys) x) → (x : X) → Contains xs x → Contains ys x
 behind R a b xs ys way rise same each x here = elim (contains_cases b ys x (each x (contains_more a xs x here))) [

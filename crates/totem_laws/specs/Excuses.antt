@@ -16,13 +16,13 @@ pub record StillOwes (run : List Log) (q : ℕ) (c : RingId) (m : MsgId) : Type 
   pub missing : HasDelivered (log_of run q) c m → ⊥
   pub goes_on : FailedIn (log_of run q) c → ⊥
 
--- 3: who still owes a message that it sent itself is among the pending
+-- 3: a process that still owes a message that it sent is listed as pending
 abbrev pub SenderIsPending : Type 0
 SenderIsPending = (run : List Log) (pending : List Pending) → IsVirtuallySynchronous run → ArePending run pending
     → (p i : ℕ) (m : MsgId) (c : RingId) → Sends (log_of run p) i m (Regular c)
     → StillOwes run p c m → Contains pending (record { proc = p; msg = m })
 
--- 7.1: who still owes a safe message that was delivered in a configuration of which it is a member is among the pending
+-- 7.1: a process that still owes a safe message delivered in a configuration of which it is a member is listed as pending
 abbrev pub MemberIsPending : Type 0
 MemberIsPending = (run : List Log) (pending : List Pending) → IsVirtuallySynchronous run → ArePending run pending
     → (c : RingId) (m : MsgId) (p i : ℕ) (d : ConfId) (q : ℕ) → IsSafe run m → Delivers (log_of run p) i m d → Com (log_of run p) c d → IsMember run d q

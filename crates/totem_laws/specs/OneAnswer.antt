@@ -13,7 +13,7 @@ use Rattle.totem_evs.specs.Certificates.{Numbering}
 use Rattle.totem_evs.specs.Positions.{IsPositions}
 use Rattle.totem_evs.specs.Answers.{Answer, IsAnswered, IsLeastBreak, AreRings, Lists, ListsConfigurations}
 
--- of the lists of places that break a specification at most one is the least
+-- at most one of the lists of places that break a specification is the least
 abbrev pub LeastBreaksAreOne : Type 0
 LeastBreaksAreOne = (run : List Log) (k : SpecNo) (a b : List Place) → IsLeastBreak run k a → IsLeastBreak run k b → a ≡ b
 
@@ -21,27 +21,27 @@ LeastBreaksAreOne = (run : List Log) (k : SpecNo) (a b : List Place) → IsLeast
 abbrev pub RingsAreOne : Type 0
 RingsAreOne = (run : List Log) (a b : List RingId) → AreRings run a → AreRings run b → a ≡ b
 
--- at most one list of what is pending
+-- a run has at most one list of what is pending
 abbrev pub PendingIsOne : Type 0
 PendingIsOne = (run : List Log) (a b : List Pending) → ArePending run a → ArePending run b → a ≡ b
 
--- at most one list of who waits
+-- a run has at most one list of the waiting processes
 abbrev pub WaitingIsOne : Type 0
 WaitingIsOne = (run : List Log) (a b : List Waiting) → AreWaiting run a → AreWaiting run b → a ≡ b
 
--- at most one list of the faults of these specifications, as passes A and B list them
+-- a run has at most one list of the faults of these specifications, as passes A and B list them
 abbrev pub PassFaultsAreOne : Type 0
 PassFaultsAreOne = (run : List Log) (ks : List SpecNo) (a b : List Fault) → Lists run ks a → Lists run ks b → a ≡ b
 
--- at most one list of the faults of pass D
+-- a run has at most one list of the faults of pass D
 abbrev pub ConfigurationFaultsAreOne : Type 0
 ConfigurationFaultsAreOne = (run : List Log) (a b : List Fault) → ListsConfigurations run a → ListsConfigurations run b → a ≡ b
 
--- at most one certificate of its positions, line by line. It has to be a run, in which the processes of the logs rise: of two
--- lines for one process only the first is read
+-- a run has at most one certificate of its positions, line by line. The logs have to be a run, so that their processes are
+-- ascending: of two lines for one process only the first is read
 abbrev pub CertificatesAreOne : Type 0
 CertificatesAreOne = (run : List Log) (a b : List Numbering) → IsRun run → IsPositions run a → IsPositions run b → a ≡ b
 
--- and at most one answer
+-- a run has at most one answer
 abbrev pub AnswersAreOne : Type 0
 AnswersAreOne = (run : List Log) (a b : Answer) → IsRun run → IsAnswered run a → IsAnswered run b → a ≡ b

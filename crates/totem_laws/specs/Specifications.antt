@@ -1,4 +1,4 @@
--- What it means that a run meets one specification, by its number (docs/SPECIFICATIONS.md, "The seven specifications").
+-- What it means that a run meets a specification, by its number (docs/SPECIFICATIONS.md, "The seven specifications").
 use Rattle.std.specs.Prelude.{ℕ, List}
 use Rattle.totem_ids.specs.declared.ring.RingId.{RingId}
 use Rattle.totem_ids.specs.declared.conf.ConfId.{ConfId}
@@ -19,7 +19,7 @@ abbrev pub SafeReaches : List Log → Type 0
 SafeReaches run = (c : RingId) (m : MsgId) (p i : ℕ) (d : ConfId) (q : ℕ) → IsSafe run m → Delivers (log_of run p) i m d → Com (log_of run p) c d
     → IsMember run d q → DeliversOrEnds run q c m
 
--- 7.2: where a safe message is delivered in c, each member of c changes to c
+-- 7.2: if a safe message is delivered in c, each member of c changes to c
 abbrev pub SafeIsInstalled : List Log → Type 0
 SafeIsInstalled run = (m : MsgId) (p i : ℕ) (c : RingId) (q : ℕ) → IsSafe run m → Delivers (log_of run p) i m (Regular c)
     → IsMember run (Regular c) q → (j : ℕ) × ChangesTo (log_of run q) j (Regular c)

@@ -1,4 +1,4 @@
-//! Laws of the judgement: of each specification, of what a yes leaves open, and that a run has one answer.
+//! Laws of the verdict: about each specification, about what a yes leaves open, and that a run has one answer.
 #![tactic(auto)]
 
 mod excuses;

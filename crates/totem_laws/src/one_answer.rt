@@ -1,4 +1,4 @@
-//! Laws that a run has one answer, each the contract of a function that does nothing.
+//! Laws that a run has one answer. Each is the contract of an empty function.
 ghost use Rattle.totem_laws.specs.OneAnswer.{
   LeastBreaksAreOne,
   RingsAreOne,
@@ -10,7 +10,7 @@ ghost use Rattle.totem_laws.specs.OneAnswer.{
   AnswersAreOne,
 };
 
-/// Of the lists of places that break a specification at most one is the least.
+/// At most one of the lists of places that break a specification is the least.
 pub fn least_breaks_are_one()
     ensures { LeastBreaksAreOne }
 {}
@@ -25,17 +25,17 @@ pub fn pending_is_one()
     ensures { PendingIsOne }
 {}
 
-/// A run has at most one list of who waits.
+/// A run has at most one list of the waiting processes.
 pub fn waiting_is_one()
     ensures { WaitingIsOne }
 {}
 
-/// The faults that passes A and B list of a run are one list at most.
+/// A run has at most one list of the faults of passes A and B.
 pub fn pass_faults_are_one()
     ensures { PassFaultsAreOne }
 {}
 
-/// The faults that pass D lists of a run are one list at most.
+/// A run has at most one list of the faults of pass D.
 pub fn configuration_faults_are_one()
     ensures { ConfigurationFaultsAreOne }
 {}

@@ -1,4 +1,4 @@
--- The members of a commit token stay in order while they report.
+-- The members of a commit token stay in order while they fill in their reports.
 use Rattle.std.proofs.Common.{◌≡◌, ℕ, ◌<◌, ◌==◌, ⊎_elim, true, false, List, [], ◌∷◌, length, map, refl, arith}
 use Rattle.std.proofs.lemmas.Bool.{cases_Bool}
 use Rattle.std.proofs.lemmas.List.{length-map}

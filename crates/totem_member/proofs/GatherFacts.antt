@@ -1,4 +1,4 @@
--- What a gathering keeps: who failed is known, and I have not failed.
+-- The invariant of a gathering: the failed processes are known, and the process itself has not failed.
 use Rattle.std.proofs.Common.{◌≡◌, ℕ, ◌<◌, ◌≤◌, ◌==◌, ◌&&◌, ⊎_elim, true, false, not, List, [], length, filter, refl, sym, ◌∙◌, ap, arith, Result, Ok, Err}
 use Rattle.std.specs.Prelude.{nat_lt}
 use Rattle.std.proofs.lemmas.Bool.{eq-eqb, eqb-true, eqb-false, ne_eqb, ltb-false, not-true, not-false, and_parts, and_from, and_right, or_cases, or_parts, or_from, or_left, or_right}
@@ -12,7 +12,7 @@ use Rattle.totem_packets.proofs.SetFacts.{Up, up_of, up_with, up_union, has_with
 use Rattle.totem_member.specs.Gathers.{Gather, IsGather, IsStanding, gathered, agrees, is_stranger, turning_away, joined}
 use Rattle.totem_member.proofs.Within.{IsPart, part_of, within_from, no_longer, above, has_filter}
 
--- a Join that is taken
+-- the sender and the sets of a Join that is not refused
 pub record IsTaken (g : Gather) (j : Join) : Type 0 where
   pub other : j.sender ≡ g.me → ⊥
   pub sender : has j.processes j.sender ≡ true
@@ -33,7 +33,7 @@ taken g j e =
       few = ltb-false 32 (length (union g.sets.processes j.processes)) f.1;
     }
 
--- there is room for a set of at most 32
+-- making a set of at most 32 is never TooMany
 pub room : (made : Result (List ℕ) SetFault) (set : List ℕ) → Makes made set → length set ≤ 32 → made ≡ Err TooMany → ⊥
 room (Ok p) set makes few e = cc
 room (Err TooMany) set makes few e = omega (arith, makes, few)
@@ -61,7 +61,7 @@ union_part ps fs qs gs p f q g mine theirs = record {
       (or_cases (has fs x) (has gs x) (sym (has_union fs 0 gs x f g) ∙ e));
 }
 
--- one of those more is within all
+-- adding a process of the second set stays within the union
 with_in_union : (s : ℕ) (ps qs : List ℕ) → Up 0 ps → Up 0 qs → has qs s ≡ true → IsPart (with_process ps s) (union ps qs)
 with_in_union s ps qs up others there = record {
   had = λ x e.
@@ -74,7 +74,7 @@ with_in_union s ps qs up others there = record {
 
 -- ---- hearing a Join
 
--- what hearing a Join comes to: there is room for its sets, and they keep the rules
+-- after a Join the sets are not too large, and they keep the rules
 pub record IsHeard (me : ℕ) (s : Sets) : Type 0 where
   pub processes : length s.processes ≤ 32
   pub failed : length s.failed ≤ 32
@@ -183,11 +183,11 @@ given_up g is = record {
 
 -- ---- who is gathered
 
--- I am
+-- the process itself is gathered
 pub gathered_has_me : (g : Gather) → IsGather g → has (gathered g) g.me ≡ true
 gathered_has_me g is = has_filter (λ p. not (has g.sets.failed p)) g.sets.processes g.me ∙ and_from (has g.sets.processes g.me) (not (has g.sets.failed g.me)) is.standing.mine is.standing.standing
 
--- a gathering begins so
+-- a new gathering keeps the invariant
 pub begins : (me : ℕ) (base : List ℕ) → IsProcesses base → IsStanding me (record { processes = with_process base me; failed = [] })
 begins me base is = record {
   known = refl;
@@ -195,12 +195,12 @@ begins me base is = record {
   standing = refl;
 }
 
--- what was made is the set
+-- a set that was made is the set that was to be made
 pub made_is : (made : Result (List ℕ) SetFault) (p set : List ℕ) → made ≡ Ok p → Makes made set → p ≡ set
 made_is (Ok q) p set e makes = let first = makes.0 in cc
 made_is (Err TooMany) p set e makes = cc
 made_is (Err Memory) p set e makes = cc
 
--- and stands as the set does
+-- and keeps the invariant as that set does
 pub standing_so : (me : ℕ) (s : Sets) (ps fs : List ℕ) → ps ≡ s.processes → fs ≡ s.failed → IsStanding me s → IsStanding me (record { processes = ps; failed = fs })
 standing_so me s ps fs same gone stands = rw (same, gone) stands

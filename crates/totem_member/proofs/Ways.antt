@@ -1,4 +1,4 @@
--- The way in which a commit token is taken decides what comes of it.
+-- How a commit token is taken decides the result.
 use Rattle.std.proofs.Common.{◌≡◌, ℕ, ◌-◌, ◌≤◌, ◌∙◌, List, [], ◌∷◌, drop, length, Bool, true, false, not, Result, Ok, Err, refl, sym, ap, subst, arith, nat_lt, nat_eq}
 use Rattle.std.proofs.lemmas.Bool.{eq-eqb, ne_eqb}
 use Rattle.std.proofs.lemmas.List.{length-drop}
@@ -20,7 +20,7 @@ use Rattle.totem_member.specs.Commits.{on_commit, may_fill, may_enter, may_start
 use Rattle.totem_member.specs.Shown.{view_of, own_report, act_of, passed_on}
 use Rattle.totem_member.specs.Steps.{IsAnswer}
 
--- what comes of a token that is taken so
+-- the result of taking the token in this way
 abbrev pub taken_as : CommitToken → CommitView → Report → Act → CommitOut
 taken_as t v report act = record { act = act; token = passed_on t v.me report act }
 
@@ -32,7 +32,7 @@ chosen t v report same fill enter many start =
     else if start then Ok (taken_as t v report Started)
     else Err Stale
 
--- the way that is chosen, and what comes of it
+-- the way that is chosen gives the result
 pub record Chooses (t : CommitToken) (v : CommitView) (report : Report) (written : Result CommitOut MemberFault) : Type 0 where
   pub taken : (act : Act) → Ok act ≡ act_of written → written ≡ Ok (taken_as t v report act)
   pub refused : (fault : MemberFault) → Err fault ≡ act_of written → IsAnswer (Err fault) written
@@ -72,7 +72,7 @@ chooses t v report =
 
 -- ---- what is lent
 
--- who is left where nobody failed
+-- if no process failed, all are left
 pub without_nobody : (ps : List ℕ) → without ps [] ≡ ps
 without_nobody [] = refl
 without_nobody (p ∷ ps) = ap (λ qs. p ∷ qs) (without_nobody ps)
@@ -93,7 +93,7 @@ pub refused : (t : CommitToken) (v : CommitView) (report : Report) (s : Shown) (
     → Err fault ≡ act_of (on_commit t (view_of s) (own_report s)) → IsAnswer (Err fault) (on_commit t v report)
 refused t v report s nobody fault view none same e = (chooses t v report).refused fault (e ∙ ap act_of (lent v report s nobody view none same t))
 
--- a token that is taken is not passed on where memory is wanting
+-- out of memory is a possible result for a token that is taken
 pub grown : (t : CommitToken) (v : CommitView) (report : Report) (act : Act) (answer : Result CommitOut MemberFault)
     → on_commit t v report ≡ Ok (taken_as t v report act) → answer ≡ Err Memory → IsAnswer answer (on_commit t v report)
 grown t v report act answer taken wanting = subst (λ a. IsAnswer a (on_commit t v report)) (sym wanting) (subst (λ w. IsOk w) (sym taken) refl)

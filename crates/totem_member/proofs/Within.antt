@@ -1,14 +1,14 @@
--- Sets within each other: what a set within another has, and that it is no larger.
+-- Subsets: what a subset has, and that it is no longer.
 use Rattle.std.proofs.Common.{◌≡◌, ℕ, ◌<◌, ◌≤◌, ◌==◌, ◌&&◌, ⊎_elim, Bool, true, false, List, [], ◌∷◌, length, filter, refl, sym, ◌∙◌, ap, subst, arith}
 use Rattle.std.proofs.lemmas.Bool.{cases_order, cases_Bool, eq-eqb, eqb-true, and_parts, and_from, or_cases, or_left, or_right, false≢true}
 use Rattle.totem_packets.specs.Sets.{has, is_within}
 use Rattle.totem_packets.proofs.SetFacts.{Up}
 
--- each of these is one of those
+-- the first list is a subset of the second
 pub record IsPart (ps qs : List ℕ) : Type 0 where
   pub had : (x : ℕ) → has ps x ≡ true → has qs x ≡ true
 
--- the test says so
+-- where the test says so, it is
 pub part_of : (ps qs : List ℕ) → is_within ps qs ≡ true → IsPart ps qs
 part_of ps qs e = record { had = go ps e }
   where
@@ -18,7 +18,7 @@ part_of ps qs e = record { had = go ps e }
         let both = and_parts (has qs p) (is_within ps qs) e in
         ⊎_elim (λ (here : (p == x) ≡ true). subst (λ y. has qs y ≡ true) (eqb-true p x here) both.0) (λ there. go ps both.1 x there) (or_cases (p == x) (has ps x) had)
 
--- and the other way round
+-- and the converse
 pub within_from : (ps qs : List ℕ) → IsPart ps qs → is_within ps qs ≡ true
 within_from ps qs part = go ps part.had
   where
@@ -28,13 +28,13 @@ within_from ps qs part = go ps part.had
         and_from (has qs p) (is_within ps qs) (had p (or_left (p == p) (has ps p) (eq-eqb p p refl)))
         (go ps (λ x there. had x (or_right (p == x) (has ps x) there)))
 
--- what a list above `last` has is above `last`
+-- every element of a list above `last` is above `last`
 pub above : (last : ℕ) (ps : List ℕ) (x : ℕ) → Up last ps → has ps x ≡ true → last < x
 above last [] x up had = absurd (false≢true had)
 above last (p ∷ ps) x up had =
     ⊎_elim (λ (here : (p == x) ≡ true). omega (arith, up.0, eqb-true p x here)) (λ there. omega (arith, up.0, above p ps x up.1 there)) (or_cases (p == x) (has ps x) had)
 
--- what is above the first and there is after it
+-- an element above the first is among the others
 behind : (q : ℕ) (qs : List ℕ) (x : ℕ) → q < x → has (q ∷ qs) x ≡ true → has qs x ≡ true
 behind q qs x lt had = ⊎_elim (λ (here : (q == x) ≡ true). absurd (omega (arith, lt, eqb-true q x here))) (λ there. there) (or_cases (q == x) (has qs x) had)
 
@@ -55,7 +55,7 @@ not_before p q ps qs lt others part = ⊎_elim
     (λ there. omega (arith, lt, above q qs p others there))
     (or_cases (q == p) (has qs p) (part.had p (first_had p ps)))
 
--- an ascending list within another is no longer
+-- an ascending list is no longer than one of which it is a subset
 pub no_longer : (last least : ℕ) (ps qs : List ℕ) → Up last ps → Up least qs → IsPart ps qs → length ps ≤ length qs
 no_longer last least [] qs up others part = omega arith
 no_longer last least (p ∷ ps) [] up others part = absurd (false≢true (part.had p (first_had p ps)))
@@ -67,7 +67,7 @@ no_longer last least (p ∷ ps) (q ∷ qs) up others part = ⊎_elim
     other)
     (cases_order p q)
 
--- what is left of a list by a test
+-- what a filtered list has
 pub has_filter : (test : ℕ → Bool) (ps : List ℕ) (x : ℕ) → has (filter test ps) x ≡ (has ps x && test x)
 has_filter test [] x = refl
 has_filter test (p ∷ ps) x = ⊎_elim

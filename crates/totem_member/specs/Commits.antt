@@ -1,4 +1,4 @@
--- The commit token: made, filled by each member, and read by each (docs/PROTOCOL.md, "The commit token").
+-- The commit token: how it is made, filled by each member, and taken by each (docs/PROTOCOL.md, "The commit token").
 use Rattle.std.specs.Prelude.{ℕ, ◌+◌, ◌^◌, ◌==◌, ◌&&◌, not, List, [], ◌∷◌, length, map, Bool, true, false, if◌then◌else◌, nat_lt, nat_le, Option, None, Some, Result, Ok, Err, is_some}
 use Rattle.totem_ids.specs.Names.{RingName}
 use Rattle.totem_packets.specs.declared.commit.CommitToken.{CommitToken}
@@ -16,18 +16,18 @@ use Rattle.totem_member.specs.declared.views.Act.TheVariants.{Filled, Entered, S
 use Rattle.totem_member.specs.declared.fault.MemberFault.{MemberFault}
 use Rattle.totem_member.specs.declared.fault.MemberFault.TheVariants.{Stale, Range}
 
--- the ring that I form
+-- the ring that the member forms
 abbrev pub next_ring : CommitView → RingName
 next_ring v = record { seq = v.seq + 4; rep = v.me }
 
--- this process's report is this one; the others stay
+-- the process's report is filled in; the others stay
 abbrev pub filled_by : ℕ → Report → CommitMember → CommitMember
 filled_by p report m = if m.proc == p then record { proc = m.proc; report = Some report } else m
 
 abbrev pub unfilled : ℕ → CommitMember
 unfilled p = record { proc = p; report = None }
 
--- the commit token as the least member makes it: round 1, its own report filled
+-- the commit token as the least member makes it: in round 1, with its own report filled in
 abbrev pub first_commit : CommitView → Report → Result CommitToken MemberFault
 first_commit v report =
     if nat_le (2 ^ 32) (v.seq + 4) then Err Range
@@ -46,12 +46,12 @@ abbrev pub same_report : Report → Report → Bool
 same_report a b =
     (a.life == b.life) && same_ring a.ring b.ring && (a.aru == b.aru) && (a.delivered == b.delivered) && same_processes a.obligation b.obligation
 
--- it was reported, and is this
+-- there is a report, and it is this one
 abbrev pub is_report : Option Report → Report → Bool
 is_report None report = false
 is_report (Some r) report = same_report r report
 
--- the commit token that I made or filled last is this ring's
+-- the member made or filled this ring's commit token last
 abbrev pub is_filled_ring : Option RingName → RingName → Bool
 is_filled_ring None ring = false
 is_filled_ring (Some r) ring = same_ring r ring
@@ -66,12 +66,12 @@ is_in_recovery InGather = false
 is_in_recovery InCommit = false
 is_in_recovery InRecovery = true
 
--- Filled: round 1, my report is missing, the ring's number is above my own
+-- Filled: round 1, the member's report is missing, and the ring's number is above the greatest it knows
 abbrev pub may_fill : CommitToken → CommitView → Bool
 may_fill t v = is_first t.round && not (is_some (report_of t.members v.me)) && nat_lt v.seq t.ring.seq
 
--- Entered: I have filled this ring's token and am in Commit; all have reported, I what I report now;
--- I am the least and the round is 1, or I am another and the round is 2
+-- Entered: the member has filled this ring's token and is in Commit; all have reported, and the member what it would report now;
+-- it is the least and the round is 1, or it is another and the round is 2
 abbrev pub may_enter : CommitToken → CommitView → Report → Bool
 may_enter t v report =
     is_filled_ring v.filled t.ring
@@ -80,7 +80,7 @@ may_enter t v report =
     && is_report (report_of t.members v.me) report
     && (if is_least v.members v.me then is_first t.round else not (is_first t.round))
 
--- Started: I am the least, in Recovery on this ring, the round is 2, and I haven't started
+-- Started: the member is the least, in Recovery on this ring, the round is 2, and it hasn't started
 abbrev pub may_start : CommitToken → CommitView → Bool
 may_start t v =
     is_least v.members v.me
@@ -89,11 +89,11 @@ may_start t v =
     && not (is_first t.round)
     && not v.started
 
--- it goes on with my report
+-- the token continues with the member's report
 abbrev pub filling : CommitToken → CommitView → Report → CommitOut
 filling t v report = record { act = Filled; token = record t { members = map (filled_by v.me report) t.members } }
 
--- it goes on with round 2, unless the obligation union is too large
+-- the token continues in round 2, unless the obligation union is too large
 abbrev pub entering : CommitToken → Report → Result CommitOut MemberFault
 entering t report =
     if nat_lt 32 (length (obligation_union report.ring t.members)) then Err Range

@@ -1,4 +1,4 @@
--- What a member shows of itself to a commit token, lent, and in which way it takes the token (docs/PROTOCOL.md, "The commit token").
+-- What a member shows of itself to a commit token, borrowed, and how it takes the token (docs/PROTOCOL.md, "The commit token").
 use Rattle.std.specs.Prelude.{ℕ, map, Result, Ok, Err}
 use Rattle.totem_packets.specs.declared.commit.CommitToken.{CommitToken}
 use Rattle.totem_packets.specs.declared.commit.Round.TheVariants.{Second}
@@ -12,7 +12,7 @@ use Rattle.totem_member.specs.declared.views.Act.TheVariants.{Filled, Entered, S
 use Rattle.totem_member.specs.declared.fault.MemberFault.{MemberFault}
 use Rattle.totem_member.specs.Commits.{filled_by}
 
--- the view that is lent
+-- the borrowed view
 abbrev pub view_of : Shown → CommitView
 view_of s = record {
   me = s.me;
@@ -23,16 +23,16 @@ view_of s = record {
   started = s.started;
 }
 
--- and the report
+-- the borrowed report
 abbrev pub own_report : Shown → Report
 own_report s = record { life = s.life; ring = s.ring; aru = s.aru; delivered = s.delivered; obligation = s.obligation.now }
 
--- in which way it was taken, or its refusal
+-- how the token was taken, or its refusal
 abbrev pub act_of : Result CommitOut MemberFault → Result Act MemberFault
 act_of (Ok out) = Ok out.act
 act_of (Err fault) = Err fault
 
--- the token as it goes on: with my report, in its second round, or as it came
+-- the token after it is taken: with the member's report, in its second round, or unchanged
 abbrev pub passed_on : CommitToken → ℕ → Report → Act → CommitToken
 passed_on t me report Filled = record t { members = map (filled_by me report) t.members }
 passed_on t me report Entered = record t { round = Second }

@@ -58,7 +58,7 @@ fn unfilled(alloc: Global, members: &Processes) -> Result<CommitMembers, AllocEr
 }
 
 /// Makes the commit token, as the least member does. The number of its ring is 4 above the greatest that the member
-/// knows; `Range` if that would pass the greatest number. The caller has to know that `view.members` contains `view.me`.
+/// knows; `Range` if that would pass the greatest number. The caller has to ensure that `view.members` contains `view.me`.
 pub fn first_commit(
     alloc: Global,
     view: &CommitView,
@@ -82,7 +82,7 @@ pub fn first_commit(
     })
 }
 
-/// Returns the token as it goes on when it is taken in this way.
+/// Returns the token after the member has taken it in this way.
 fn passed_on(
     alloc: Global,
     token: &CommitToken,

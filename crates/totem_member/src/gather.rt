@@ -35,7 +35,7 @@ impl Model for Gather {
     ghost invariant = { λ g. IsStanding g.me g.sets };
 }
 
-/// Drops the fault `TooMany` from the making of a set for which there is room, so that only out of memory is left.
+/// Leaves out of memory as the only fault of making a set that is known not to be too large.
 fn with_room(made: Result<Processes, SetFault>) -> Result<Processes, AllocError>
     requires { made ≡ Err TooMany → ⊥ }
     ensures { IfOk result (λ p. made ≡ Ok p) }
@@ -47,7 +47,7 @@ fn with_room(made: Result<Processes, SetFault>) -> Result<Processes, AllocError>
     }
 }
 
-/// Returns whether the sets that this process told last are equal to `sets`.
+/// Returns whether the sets noted of this process are equal to `sets`.
 fn noted_equal(noted: &[Noted], proc: ProcId, sets: &Sets) -> bool
     ensures { result ≡ noted_equal noted.now proc sets.now }
 {
@@ -56,7 +56,7 @@ fn noted_equal(noted: &[Noted], proc: ProcId, sets: &Sets) -> bool
         .any(|note| note.proc == proc && note.sets.are(sets))
 }
 
-/// Returns a copy of all that was noted.
+/// Returns a copy of all notes.
 fn noted_all(alloc: Global, noted: &[Noted]) -> Result<Vec<Noted>, AllocError>
     ensures { IfOk result (λ v. v.items ≡ noted.now) }
 {
@@ -67,7 +67,7 @@ fn noted_all(alloc: Global, noted: &[Noted]) -> Result<Vec<Noted>, AllocError>
     Ok(list)
 }
 
-/// Returns a copy of what was noted of every process but this one.
+/// Returns a copy of the notes of every process but this one.
 fn noted_of_others(alloc: Global, noted: &[Noted], proc: ProcId) -> Result<Vec<Noted>, AllocError>
     ensures { IfOk result (λ v. v.items ≡ filter (λ n. not (n.proc == proc)) noted.now) }
 {
@@ -81,8 +81,8 @@ fn noted_of_others(alloc: Global, noted: &[Noted], proc: ProcId) -> Result<Vec<N
 }
 
 impl Gather {
-    /// Begins a gathering of the processes of `base` and `me`, of which no other was heard so far. `TooMany` if they
-    /// are more than 32.
+    /// Begins a gathering of `me` and the processes of `base`, none of which has been heard yet. `TooMany` if they are more
+    /// than 32.
     pub fn new(alloc: Global, me: ProcId, base: &Processes, seq: Number) -> Result<Gather, SetFault>
         ensures { Begins result me base.now seq }
     {
@@ -108,7 +108,7 @@ impl Gather {
         })
     }
 
-    /// Tells contracts the rule that the type keeps.
+    /// Proves the rule that the type keeps.
     fn keeps_its_rule(&self)
         ensures { IsGather self.now }
     {
@@ -130,14 +130,14 @@ impl Gather {
         self.seq
     }
 
-    /// Returns the processes that are thought of as reachable, with those of them that failed.
+    /// Returns the processes that this process knows, including those that it thinks have failed.
     pub fn processes(&self) -> &Processes
         ensures { result.now ≡ self.now.sets.processes }
     {
         &self.sets.processes
     }
 
-    /// Returns those of the processes that are thought to have failed.
+    /// Returns the processes that it knows and thinks have failed.
     pub fn failed(&self) -> &Processes
         ensures { result.now ≡ self.now.sets.failed }
     {
@@ -156,7 +156,7 @@ impl Gather {
         })
     }
 
-    /// Returns the processes that would form a ring: all that are known and have not failed.
+    /// Returns the processes that would form a ring: all known processes that have not failed.
     pub fn gathered(&self, alloc: Global) -> Result<Processes, AllocError>
         ensures { IfOk result (λ m. m ≡ gathered self.now) }
     {
@@ -175,7 +175,7 @@ impl Gather {
         members.as_slice().iter().all(|proc| self.agrees(*proc))
     }
 
-    /// Returns the processes on which there is consensus, or `None` if there is none yet.
+    /// Returns the processes on which there is consensus, or `None` if there is no consensus yet.
     pub fn consensus(&self, alloc: Global) -> Result<Option<Processes>, AllocError>
         ensures value { IfOk result (λ members. members ≡ consensus self.now) }
         ensures mine { IfOk result (λ members. IfSome members (λ m. IsTrue (has m self.now.me))) }
@@ -188,7 +188,7 @@ impl Gather {
         Ok(None)
     }
 
-    /// Returns whether this Join would be refused, since its sender can't be gathered with. Takes no memory.
+    /// Returns whether this Join would be refused because its sender can't be gathered with. Takes no memory.
     pub fn is_stranger(&self, join: &Join) -> bool
         ensures { result ≡ is_stranger self.now join.now }
     {
@@ -222,7 +222,7 @@ impl Gather {
         })
     }
 
-    /// Returns what is noted of each process after this Join.
+    /// Returns what is noted of other processes after this Join.
     fn noted_after(&self, alloc: Global, join: &Join) -> Result<Vec<Noted>, AllocError>
         ensures { IfOk result (λ n. n.items ≡ (after_join self.now join.now).noted) }
     {
@@ -257,7 +257,7 @@ impl Gather {
         })
     }
 
-    /// Takes a Join that has come. `Stranger` if its sender can't be gathered with.
+    /// Takes a received Join. `Stranger` if its sender can't be gathered with.
     pub fn on_join(&mut self, alloc: Global, join: &Join) -> Result<GatherOut, MemberFault>
         ensures step { IsStep self.old self.new result (on_join self.old join.now) }
         ensures mine { IfOk result (λ out. IfSome out.members (λ m. IsTrue (has m self.old.me))) }
@@ -272,7 +272,7 @@ impl Gather {
         Ok(GatherOut { again, members })
     }
 
-    /// Returns those of these processes that don't agree with this one's sets.
+    /// Returns the processes among these that don't agree with this one's sets.
     fn late(&self, alloc: Global, members: &Processes) -> Result<Processes, AllocError>
         ensures { IfOk result (λ late. late ≡ filter (λ p. not (agrees self.now p)) members.now) }
     {
@@ -285,7 +285,7 @@ impl Gather {
         Ok(Processes::of(late))
     }
 
-    /// Returns the process's own two sets after those that don't agree have been given up.
+    /// Returns the process's own two sets after it gave up the processes that don't agree.
     fn sets_without_late(&self, alloc: Global) -> Result<Sets, AllocError>
         ensures value { IfOk result (λ s. s ≡ (after_timeout self.now).sets) }
         ensures standing { IfOk result (λ s. IsStanding self.now.me s) }
@@ -310,7 +310,7 @@ impl Gather {
         })
     }
 
-    /// Gives up the processes that don't agree, because time has passed: from now on they count as failed.
+    /// Gives up the processes that don't agree, after a timeout: from now on they count as failed.
     pub fn on_timeout(&mut self, alloc: Global) -> Result<GatherOut, MemberFault>
         ensures step { IsStep self.old self.new result (Ok (on_timeout self.old)) }
         ensures mine { IfOk result (λ out. IfSome out.members (λ m. IsTrue (has m self.old.me))) }

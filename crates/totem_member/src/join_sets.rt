@@ -10,11 +10,11 @@ use totem_packets::Processes;
 pub struct Sets {
     /// All processes that the sender knows.
     pub processes: Processes,
-    /// Those of them that failed.
+    /// The processes among them that have failed.
     pub failed: Processes,
 }
 
-/// The sets that a process told last.
+/// The sets in the last noted Join of a process.
 #[derive(Debug, Drop)]
 pub struct Noted {
     pub proc: ProcId,

@@ -1,4 +1,4 @@
-//! Membership: which processes gather, and the commit token that forms a ring of them.
+//! Membership: which processes gather, and the commit token that forms their ring.
 #![tactic(auto)]
 
 mod commit;

@@ -1,4 +1,4 @@
-//! In which way a member takes a commit token (docs/PROTOCOL.md, "The commit token"). Nothing here takes memory.
+//! How a member takes a commit token (docs/PROTOCOL.md, "The commit token"). Nothing here takes memory.
 ghost use Rattle.std.specs.Prelude.{◌≡◌, is_some};
 ghost use Rattle.totem_packets.specs.OldRings.{processes_of};
 ghost use Rattle.totem_packets.specs.Sets.{is_least, same_processes, without};
@@ -15,11 +15,11 @@ use totem_packets::{
 /// How many processes an obligation union may have at most.
 const MOST: usize = 32;
 
-/// What a member shows of itself when a commit token comes, lent: a `CommitView` and a `Report`, which own the same.
+/// What a member shows of itself when a commit token arrives, borrowed. `CommitView` and `Report` own the same values.
 #[derive(Drop)]
 pub struct Shown<'a> {
     pub me: ProcId,
-    /// The processes that it knows, with those that failed: the others would form a ring.
+    /// The processes that it knows, including those that failed. The others would form a ring.
     pub processes: &'a Processes,
     pub failed: &'a Processes,
     /// The greatest ring number that it knows.
@@ -29,7 +29,7 @@ pub struct Shown<'a> {
     pub phase: Phase,
     /// Whether it has taken the first token of the new ring.
     pub started: bool,
-    /// What it would report of its life and of its installed ring.
+    /// What it would report about its life and its installed ring.
     pub life: Life,
     pub ring: RingId,
     pub aru: u32,
@@ -59,7 +59,7 @@ fn is_filled_ring(filled: &Option<RingId>, ring: &RingId) -> bool
 }
 
 impl<'a> Shown<'a> {
-    /// Lends a view, in which none failed of the processes that would form a ring, and a report.
+    /// Borrows a report, and a view in which no process that would form the ring has failed.
     pub(crate) fn of(view: &'a CommitView, nobody: &'a Processes, report: &'a Report) -> Shown<'a>
         ensures view { view_of result ≡ record view.now { members = without view.now.members nobody.now } }
         ensures report { own_report result ≡ report.now }
@@ -82,7 +82,7 @@ impl<'a> Shown<'a> {
 }
 
 impl Shown<'_> {
-    /// Returns whether these are exactly the members of the ring that the member would form.
+    /// Returns whether the token's members are exactly those of the ring that the member would form.
     fn are(&self, members: &CommitMembers) -> bool
         ensures { result ≡ same_processes (processes_of members.now) (view_of self.now).members }
     {
@@ -112,7 +112,7 @@ impl Shown<'_> {
         false
     }
 
-    /// Returns whether this is what the member would report.
+    /// Returns whether the member would report exactly this.
     fn is_report(&self, reported: &Report) -> bool
         ensures { result ≡ same_report reported.now (own_report self.now) }
     {
@@ -173,8 +173,8 @@ impl Shown<'_> {
     }
 }
 
-/// Returns in which way the member takes this commit token, or why it refuses it. `Range` if it would enter a ring
-/// whose obligation union has more than 32 processes. `on_commit` takes the token so.
+/// Returns how the member takes this commit token, or why it refuses it. `Range` if it would enter a ring whose
+/// obligation union has more than 32 processes. `on_commit` takes the token in this way.
 pub fn commit_act(token: &CommitToken, shown: &Shown<'_>) -> Result<Act, MemberFault>
     ensures { result ≡ act_of (on_commit token.now (view_of shown.now) (own_report shown.now)) }
 {

@@ -12,7 +12,7 @@ pub enum Phase {
     Recovery,
 }
 
-/// What a member shows of itself when a commit token comes.
+/// What a member shows of itself when a commit token arrives.
 #[derive(Debug, Drop)]
 pub struct CommitView {
     pub me: ProcId,
@@ -30,7 +30,7 @@ pub struct CommitView {
 /// What a gathering process has to do next.
 #[derive(Debug, Drop)]
 pub struct GatherOut {
-    /// Broadcast its Join anew.
+    /// Broadcast its Join again.
     pub again: bool,
     /// Form a ring of these processes, on which there is consensus.
     pub members: Option<Processes>,
@@ -43,11 +43,11 @@ pub enum Act {
     Filled,
     /// The member begins its recovery, and the token goes to the next member in its second round.
     Entered,
-    /// The token has come back after its second round, and the member takes the first token of the new ring.
+    /// The token has returned after its second round, and the member takes the first token of the new ring.
     Started,
 }
 
-/// How a member took a commit token, and the token as it goes on.
+/// How a member took a commit token, and the token after that.
 #[derive(Debug, Drop)]
 pub struct CommitOut {
     pub act: Act,

@@ -4,12 +4,12 @@ use Rattle.rand_pcg.specs.Lcg.{Lcg}
 use Rattle.rand_pcg.specs.Pcg.{pcg32}
 use Rattle.totem_net.specs.Words.{word_at}
 
--- the next word is the first of all
+-- the next word is the first one
 pub first_word : (generator : Lcg) → word_at 0 generator ≡ (pcg32 generator).0
 unfolding word_at
 first_word generator = refl
 
--- a later word is the one before, of what is left when one word is drawn
+-- a later word is one place earlier once a word is drawn
 pub later_word : (n : ℕ) (generator : Lcg) → word_at (suc n) generator ≡ word_at n (pcg32 generator).1
 unfolding word_at
 later_word n generator = refl

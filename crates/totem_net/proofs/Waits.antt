@@ -60,7 +60,7 @@ kept_one m n c cs false e more =
     ap (λ (xs : List HeldCopy). kept n xs) (kept_not m c cs e)
     ∙ (more ∙ sym (kept_not (m + n) c cs (le-ltb (m + n) c.left above)))
 
--- n further packets, after m
+-- n further packets after m
 kept-kept : (m n : ℕ) (cs : List HeldCopy) → kept n (kept m cs) ≡ kept (m + n) cs
 kept-kept m n [] = refl
 kept-kept m n (c ∷ cs) = kept_one m n c cs (nat_lt m c.left) refl (kept-kept m n cs)
@@ -106,7 +106,7 @@ counted_one n c cs false e more =
     let above : c.left ≤ n = ltb-false n c.left e in
     rw (due_yes n c cs (le-leb c.left n above), kept_not n c cs e) (omega arith)
 
--- what is due and what is kept is all
+-- the due copies and the kept copies are all copies
 counted : (n : ℕ) (cs : List HeldCopy) → length (due n cs) + length (kept n cs) ≡ length cs
 counted n [] = refl
 counted n (c ∷ cs) = counted_one n c cs (nat_lt n c.left) refl (counted n cs)

@@ -1,4 +1,4 @@
--- The ways, node after node.
+-- The ways, one node after another.
 use Rattle.std.proofs.Common.{◌≡◌, ℕ, ◌+◌, ◌<◌, List, [], ◌∷◌, ◌++◌, length, get_or, drop, refl, ap, Bool, true, false, add-one, drop-cons}
 use Rattle.std.specs.Prelude.{slice_index_or, if◌then◌else◌}
 use Rattle.totem_net.specs.declared.address.Address.{Address}
@@ -9,13 +9,13 @@ use Rattle.totem_net.specs.Wires.{still_held}
 use Rattle.totem_net.specs.Ways.{next_fate, drawn, past, handed_at, all_handed, all_held, past_all}
 use Rattle.totem_net.specs.Settling.{changed_at, all_changed, settled}
 
--- the ways from the i-th on are that one and those after it
+-- the ways from the i-th on are that one and the later ones
 pub drop_next :
     (i : ℕ) (ws : List (List HeldCopy)) (d : List HeldCopy) → i < length ws
     → drop i ws ≡ get_or ws i d ∷ drop (i + 1) ws
 drop_next i ws d below = rw (add-one, drop-cons ws i d) refl
 
--- one node more, of those from the i-th on
+-- one more node, of those from the i-th on
 pub handed_more :
     (a : Address) (p : List ℕ) (i : ℕ) (f : ToCome) (ws : List (List HeldCopy)) (d : List HeldCopy) → i < length ws
     → all_handed a p (i + 1) f (drop i ws)
@@ -33,7 +33,7 @@ pub past_more :
     → past_all a (i + 1) f (drop i ws) ≡ past_all a (i + 1 + 1) (past a (i + 1) f) (drop (i + 1) ws)
 past_more a i f ws d below = ap (λ (xs : List (List HeldCopy)). past_all a (i + 1) f xs) (drop_next i ws d below)
 
--- the changed ways in their places are the ways that are to be held
+-- putting the changed ways in their places gives the ways as they are held
 pub settled_of_changed :
     (a : Address) (p : List ℕ) (n : ℕ) (f : ToCome) (ws : List (List HeldCopy))
     → settled a n ws (all_changed a p n f ws) ≡ all_held a p n f ws

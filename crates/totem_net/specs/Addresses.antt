@@ -1,4 +1,4 @@
--- For whom a packet is (docs/PROTOCOL.md, "The network").
+-- The receivers of a packet (docs/PROTOCOL.md, "The network").
 use Rattle.std.specs.Prelude.{ℕ, Bool, ◌==◌, not}
 use Rattle.totem_net.specs.declared.address.Address.{Address}
 use Rattle.totem_net.specs.declared.address.Address.TheVariants.{AllBut, One}

@@ -1,4 +1,4 @@
--- What a node has still to deal with of the words that it was given (docs/PROTOCOL.md, "The network").
+-- The channel messages that a node was given and still has to handle (docs/PROTOCOL.md, "The network").
 use Rattle.std.specs.Prelude.{ℕ, Bool, ◌+◌, ◌-◌, ◌^◌, min, if◌then◌else◌}
 use Rattle.totem_net.specs.declared.debt.Debt.{Debt}
 
@@ -6,19 +6,19 @@ use Rattle.totem_net.specs.declared.debt.Debt.{Debt}
 abbrev pub no_words : Debt
 no_words = record { words = 0; of_turn = 0 }
 
--- so many more; a count of words is below 2 ^ 64
+-- the sum of two counts of channel messages, which is at most 2 ^ 64 - 1
 abbrev pub more : ℕ → ℕ → ℕ
 more count added = min (count + added) (2 ^ 64 - 1)
 
--- it is handed a packet
+-- the node is given a packet
 abbrev pub with_packet : Debt → Debt
 with_packet debt = record debt { words = more debt.words 1 }
 
--- it is given the two words of a turn
+-- the node is given the two channel messages of a turn
 abbrev pub with_turn : Debt → Debt
 with_turn debt = record { words = more debt.words 2; of_turn = more debt.of_turn 2 }
 
--- it has dealt with one word, which may be one of a turn
+-- the node has handled one channel message, which may be of a turn
 abbrev pub one_less : Debt → Bool → Debt
 one_less debt of_turn = record {
   words = debt.words - 1;

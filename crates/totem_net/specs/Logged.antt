@@ -5,7 +5,7 @@ use Rattle.totem_net.specs.Debts.{more}
 abbrev pub nothing : Logged
 nothing = record { deliveries = 0; configurations = 0 }
 
--- both together
+-- the sums of both counts
 abbrev pub together : Logged → Logged → Logged
 together a b = record {
   deliveries = more a.deliveries b.deliveries;

@@ -1,4 +1,4 @@
--- The ways that a packet changes, alone, and how they are put in their places.
+-- The ways that a packet changes, and how they are put back in their places.
 use Rattle.std.specs.Prelude.{ℕ, ◌+◌, List, [], ◌∷◌, ◌++◌, drop, slice_index_or, if◌then◌else◌}
 use Rattle.totem_net.specs.declared.address.Address.{Address}
 use Rattle.totem_net.specs.declared.held.HeldCopy.{HeldCopy}
@@ -7,18 +7,18 @@ use Rattle.totem_net.specs.Words.{ToCome}
 use Rattle.totem_net.specs.Wires.{still_held}
 use Rattle.totem_net.specs.Ways.{next_fate, past}
 
--- what one node's way becomes, if the packet is for it
+-- the changed way of one node, if the packet is for it
 abbrev pub changed_at : Address → List ℕ → ℕ → ToCome → List HeldCopy → List (List HeldCopy)
 changed_at address packet node fates held =
     (if is_for address node then still_held (next_fate fates) packet held ∷ [] else [])
 
--- what the changed ways of the nodes from this one on become
+-- the changed ways of the nodes from this one on
 abbrev pub all_changed : Address → List ℕ → ℕ → ToCome → List (List HeldCopy) → List (List HeldCopy)
 all_changed address packet node fates [] = []
 all_changed address packet node fates (held ∷ more) =
     changed_at address packet node fates held ++ all_changed address packet (node + 1) (past address node fates) more
 
--- the ways from a node on, each that the packet is for being the next of the changed ones
+-- the ways from a node on, where each way that the packet is for is replaced by the next changed one
 abbrev pub settled : Address → ℕ → List (List HeldCopy) → List (List HeldCopy) → List (List HeldCopy)
 settled address node [] changed = []
 settled address node (held ∷ more) changed =

@@ -9,19 +9,19 @@ pub record Arrival : Type 0 where
   pub packet : List ℕ
   pub fate : Fate
 
--- what is held when these packets arrived, one after another
+-- what is held after these packets have arrived, one after another
 abbrev pub held_after : List Arrival → List HeldCopy → List HeldCopy
 held_after [] held = held
 held_after (a ∷ more) held = held_after more (still_held a.fate a.packet held)
 
--- when one or more further packets arrived, just those copies are still held that let more than these by; after them
--- stand newer ones
+-- after one or more further packets have arrived, exactly those copies are still held that let more than these pass; newer ones
+-- follow them
 abbrev pub WaitTheirTime : Type 0
 WaitTheirTime =
     (first : Arrival) (more : List Arrival) (held : List HeldCopy)
     → (newer : List HeldCopy) × (held_after (first ∷ more) held ≡ kept (length (first ∷ more)) held ++ newer)
 
--- no copy is lost and none is made but those of the packet that arrives
+-- no copy is lost, and the only new ones are those of the packet that arrives
 abbrev pub NoneIsLost : Type 0
 NoneIsLost =
     (fate : Fate) (packet : List ℕ) (held : List HeldCopy)

@@ -15,39 +15,39 @@ pub record Standing : Type 0 where
   pub held : List (List HeldCopy)
   pub to_come : ToCome
 
--- the fate that is drawn next
+-- the next fate
 abbrev pub next_fate : ToCome → Fate
 next_fate fates = fate_of (pcg32 fates.generator).0 fates.plan
 
--- the fates to come when it is drawn
+-- the fates to come after that
 abbrev pub drawn : ToCome → ToCome
 drawn fates = record fates { generator = (pcg32 fates.generator).1 }
 
--- the fates to come after a node, which draws one only where the packet is for it
+-- the fates to come after a node, which takes one only if the packet is for it
 abbrev pub past : Address → ℕ → ToCome → ToCome
 past address node fates = (if is_for address node then drawn fates else fates)
 
--- what a node is handed, each packet with its name
+-- the deliveries of these packets to a node
 abbrev pub deliveries : ℕ → List (List ℕ) → List Delivery
 deliveries node packets = map (λ p. record { to = node; packet = p }) packets
 
--- what one node is handed
+-- the deliveries to one node
 abbrev pub handed_at : Address → List ℕ → ℕ → ToCome → List HeldCopy → List Delivery
 handed_at address packet node fates held =
     (if is_for address node then deliveries node (handed_on (next_fate fates) packet held) else [])
 
--- what is held for one node then
+-- what is then held for one node
 abbrev pub held_at : Address → List ℕ → ℕ → ToCome → List HeldCopy → List HeldCopy
 held_at address packet node fates held =
     (if is_for address node then still_held (next_fate fates) packet held else held)
 
--- what the nodes from this one on are handed, in ascending order
+-- the deliveries to the nodes from this one on, in ascending order
 abbrev pub all_handed : Address → List ℕ → ℕ → ToCome → List (List HeldCopy) → List Delivery
 all_handed address packet node fates [] = []
 all_handed address packet node fates (held ∷ more) =
     handed_at address packet node fates held ++ all_handed address packet (node + 1) (past address node fates) more
 
--- what is held for the nodes from this one on
+-- what is then held for the nodes from this one on
 abbrev pub all_held : Address → List ℕ → ℕ → ToCome → List (List HeldCopy) → List (List HeldCopy)
 all_held address packet node fates [] = []
 all_held address packet node fates (held ∷ more) =

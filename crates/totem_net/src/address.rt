@@ -1,15 +1,15 @@
-//! For whom a packet is.
+//! The receivers of a packet.
 ghost use Rattle.std.specs.Prelude.{◌≡◌};
 ghost use Rattle.totem_net.specs.Addresses.{is_for};
 
 use totem_ids::ProcId;
 
-/// For whom a packet is.
+/// The receivers of a packet.
 #[derive(Clone, Copy, Debug, PartialEq, Eq)]
 pub enum Address {
-    /// For every node but this one, its sender.
+    /// Every node but this one, the sender.
     AllBut(ProcId),
-    /// For this node, which may be the sender itself.
+    /// This node, which may be the sender itself.
     One(ProcId),
 }
 

@@ -1,13 +1,13 @@
-//! What a node still has to deal with.
+//! The channel messages that a node still has to handle.
 ghost use Rattle.std.specs.Prelude.{◌≡◌};
 ghost use Rattle.totem_net.specs.Debts.{no_words, with_packet, with_turn, one_less};
 
-/// The words that a node was given and still has to deal with.
+/// The channel messages that a node was given and still has to handle.
 #[derive(Clone, Copy, PartialEq, Eq)]
 pub struct Debt {
     /// How many there are.
     pub words: u64,
-    /// How many of them are words of its turns.
+    /// How many of them are for its turns.
     pub of_turn: u64,
 }
 
@@ -22,7 +22,7 @@ impl Debt {
         }
     }
 
-    /// Returns the debt of a node that is handed one packet more.
+    /// Returns the debt of a node that is given one more packet.
     pub fn with_packet(self) -> Debt
         ensures { result ≡ with_packet self }
     {
@@ -32,7 +32,7 @@ impl Debt {
         }
     }
 
-    /// Returns the debt of a node that is given the two words of its turn.
+    /// Returns the debt of a node that is given the two channel messages of its turn.
     pub fn with_turn(self) -> Debt
         ensures { result ≡ with_turn self }
     {
@@ -42,7 +42,7 @@ impl Debt {
         }
     }
 
-    /// Returns the debt of a node that has dealt with one word, of its turn or a packet.
+    /// Returns the debt of a node that has handled one channel message, of its turn or with a packet.
     pub fn less_one(self, of_turn: bool) -> Debt
         ensures { result ≡ one_less self of_turn }
     {

@@ -1,8 +1,8 @@
-//! What the network hands on.
+//! What the network forwards.
 use bytes::Bytes;
 use totem_ids::ProcId;
 
-/// An encoded packet, and the node that is handed it.
+/// An encoded packet, and the node that receives it.
 #[derive(Debug, Drop)]
 pub struct Delivery {
     pub to: ProcId,

@@ -1,4 +1,4 @@
-//! What the three threads of a node hold of the network.
+//! The ends of the network's channels that the three threads of a node hold.
 use crate::address::Address;
 use crate::progress::Logged;
 use crate::sending::give;
@@ -9,11 +9,11 @@ use std::alloc::AllocError;
 use std::sync::Wait;
 use totem_ids::ProcId;
 
-/// Where a thread of a node puts the packets that the node sends.
+/// The end through which a thread of a node sends the node's packets.
 #[derive(Drop)]
 pub struct Outlet {
     node: ProcId,
-    /// Whether the thread is given the words of a turn.
+    /// Whether the thread is given the channel messages of turns.
     of_turn: bool,
     inbound: Sender<Inbound>,
 }
@@ -36,14 +36,14 @@ impl Outlet {
         Outlet::new(self.node, self.of_turn, &self.inbound)
     }
 
-    /// Sends an encoded packet to every other node. Once the switch has ended the packet goes nowhere, which is no error.
+    /// Sends an encoded packet to every other node. If the switch has ended, the packet is dropped, which is no error.
     pub fn send_to_all<R: Wait>(&self, rt: &R, packet: Bytes) -> Result<(), AllocError> {
         let address = Address::AllBut(self.node);
         give(rt, &self.inbound, Inbound::Packet { address, packet })
     }
 
-    /// Sends an encoded packet to one node, which may be this one. Once the switch has ended the packet goes nowhere,
-    /// which is no error.
+    /// Sends an encoded packet to one node, which may be this one. If the switch has ended, the packet is dropped, which is no
+    /// error.
     pub fn send_to<R: Wait>(
         &self,
         rt: &R,
@@ -54,8 +54,8 @@ impl Outlet {
         give(rt, &self.inbound, Inbound::Packet { address, packet })
     }
 
-    /// Tells the switch that a word has been dealt with, and what the node has logged at it. The thread sends what came of
-    /// the word before it tells.
+    /// Reports to the switch that a channel message has been handled, and what the node has logged at it. Before that the thread has to
+    /// send the packets that resulted.
     pub fn tell_done<R: Wait>(&self, rt: &R, logged: Logged) -> Result<(), AllocError> {
         let done = Inbound::Done {
             node: self.node,
@@ -65,21 +65,21 @@ impl Outlet {
         give(rt, &self.inbound, done)
     }
 
-    /// Tells the switch that a thread of this node has ended at a fault, at which the switch ends the run. Asks for no memory.
+    /// Reports to the switch that a thread of this node has ended at a fault. The switch then ends the run. Takes no memory.
     pub fn tell_gone<R: Wait>(&self, rt: &R) {
         let _ = give(rt, &self.inbound, Inbound::Gone);
     }
 }
 
-/// What one thread of a node holds: the words that it is given, and where it puts packets. If `words.recv` fails the
-/// switch is gone, which a thread takes for a stop word.
+/// The ends that one thread of a node holds: for the channel messages that it is given, and for sending packets. If `words.recv` fails,
+/// the switch is gone, which a thread treats like a stop message.
 #[derive(Drop)]
 pub struct ThreadEnd<W: Drop> {
     pub words: Receiver<W>,
     pub outlet: Outlet,
 }
 
-/// What the three threads of a node hold of the network.
+/// The ends that the three threads of a node hold.
 #[derive(Drop)]
 pub struct NodeEnds {
     pub node: ProcId,

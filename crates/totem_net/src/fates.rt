@@ -13,7 +13,7 @@ use rand_pcg::Pcg32;
 use std::alloc::AllocError;
 use std::marker::Model;
 
-/// The fates that the words of a generator give, one after another.
+/// The fates given by the words of a random generator, one after another.
 #[derive(Debug, Drop)]
 pub struct Fates {
     words: Pcg32,
@@ -29,7 +29,7 @@ impl Model for Fates {
 }
 
 impl Fates {
-    /// Begins the fates that this seed gives under this plan.
+    /// Makes the fates for this seed under this plan.
     pub fn new(seed: u64, plan: Plan) -> Fates
         ensures generator { result.generator ≡ begun_with seed }
         ensures plan { result.plan ≡ plan }
@@ -40,7 +40,7 @@ impl Fates {
         }
     }
 
-    /// Copies the fates: the copy draws the same ones.
+    /// Copies the fates. The copy draws the same ones.
     pub fn try_clone(&self) -> Result<Fates, AllocError>
         ensures { IfOk result (λ copy. copy ≡ self.now) }
     {
@@ -59,7 +59,7 @@ impl Fates {
         fate(self.words.next_word(), self.plan)
     }
 
-    /// Returns the fate that comes after `before` others. Draws them all: the n-th fate is that of the generator's n-th word.
+    /// Returns the fate that follows `before` others, by drawing them all. The n-th fate is given by the generator's n-th word.
     #[tactic(auto, using(crate::proofs::Drawing::word_less, crate::proofs::Drawing::word_last))]
     pub fn nth(seed: u64, plan: Plan, before: u32) -> Fate
         ensures { result ≡ fate_of (word_at before (begun_with seed)) plan }

@@ -1,4 +1,4 @@
-//! The fate that a random word gives.
+//! The fate given by a random word.
 ghost use Rattle.std.specs.Prelude.{◌≡◌};
 ghost use Rattle.totem_net.specs.Fates.{fate_of};
 
@@ -19,7 +19,7 @@ fn copies(word: u32, plan: Plan) -> u8
     1
 }
 
-/// Returns the fate that a random word gives under a plan (docs/PROTOCOL.md, "The network").
+/// Returns the fate given by a random word under a plan (docs/PROTOCOL.md, "The network").
 pub fn fate(word: u32, plan: Plan) -> Fate
     ensures { result ≡ fate_of word plan }
 {

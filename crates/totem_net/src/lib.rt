@@ -1,4 +1,4 @@
-//! The network of a run in threads: a plan of losses, the fates of packets, the ways to the receivers, and the switch.
+//! The network of a run in threads: the plan of losses, the fates of packets, the ways to the receivers, and the switch.
 #![tactic(auto)]
 
 mod address;

@@ -15,22 +15,22 @@ use crossbeam_channel::bounded;
 use std::alloc::{AllocError, Global};
 use totem_ids::ProcId;
 
-/// How many words the switch's inbound channel has room for. Their memory is there from the beginning, so a thread that has
-/// something to tell the switch never lacks it; where the channel is full it waits, which the switch never does.
+/// The capacity of the switch's inbound channel. Its memory is reserved at the start, so that a thread never lacks memory when it
+/// reports something to the switch. If the channel is full, the thread waits. The switch itself never waits to send.
 const INBOUND: usize = 1024;
 
-/// What the threads of a run hold: that of the switch, the pacing one, and three for each node.
+/// What the threads of a run hold: the switch's thread, the pacing thread, and three threads for each node.
 #[derive(Drop)]
 pub struct Network {
     pub switch: Switch,
     pub pacer: Pacer,
-    /// The ends of the nodes in ascending order. The nodes have the numbers from 1 on.
+    /// The ends of the nodes in ascending order. The nodes are numbered from 1.
     pub nodes: Vec<NodeEnds>,
 }
 
 impl Network {
-    /// Makes the network of so many nodes for so many ticks. The switch hands the packet `first` on before anything
-    /// else, to node 1 and without a fate.
+    /// Makes the network of this many nodes, for this many ticks. Before anything else, the switch forwards the packet `first` to
+    /// node 1, without a fate.
     #[tactic(auto, using(crate::proofs::Numbers::ends_more))]
     pub fn new(
         alloc: Global,

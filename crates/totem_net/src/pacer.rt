@@ -15,8 +15,8 @@ impl Pacer {
         Pacer { inbound, paces }
     }
 
-    /// Sends a tick and waits for its answer before the next, until the ticks are used up or the switch is gone. No tick
-    /// asks for memory.
+    /// Sends a tick and waits for its answer before it sends the next, until the ticks are used up or the switch is gone. Ticks take
+    /// no memory.
     pub fn run<R: Wait>(self, rt: &R) {
         for _ in rt.forever() {
             if self.inbound.send(rt, Inbound::Tick).is_err() {

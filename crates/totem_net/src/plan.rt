@@ -3,8 +3,8 @@ ghost use Rattle.std.specs.Prelude.{◌≡◌, ◌+◌, ◌<◌, ◌≤◌, Matc
 
 use std::marker::Model;
 
-/// How many of a hundred packets are lost and how many go on twice, together a hundred at most, and by how many further
-/// packets a copy is held back at most (docs/PROTOCOL.md, "The network").
+/// How many of a hundred packets are lost and how many are repeated, at most a hundred in all, and how many further packets
+/// a held copy lets pass at most (docs/PROTOCOL.md, "The network").
 #[derive(Clone, Copy, Debug, PartialEq, Eq)]
 pub struct Plan {
     pub lose: u8,
@@ -26,7 +26,7 @@ impl Model for Plan {
 }
 
 impl Plan {
-    /// Returns the plan with these numbers, or `None` if `lose` and `repeat` are together above 100.
+    /// Returns the plan with these numbers, or `None` if the sum of `lose` and `repeat` is above 100.
     pub fn new(lose: u8, repeat: u8, hold: u8) -> Option<Plan>
         ensures none { MatchOption result (100 < lose + repeat) (λ _. lose + repeat ≤ 100) }
         ensures lose { MatchOption result (100 < lose + repeat) (λ p. p.lose ≡ lose) }

@@ -11,7 +11,7 @@ use std::alloc::{AllocError, Global};
 use std::sync::Wait;
 use totem_ids::{ProcId, Service};
 
-/// The channels to a node's threads, and the words that it was given and still has to deal with.
+/// The channels to a node's threads, and the channel messages that the node was given and still has to handle.
 #[derive(Drop)]
 pub struct Port {
     packets: Sender<PacketWord>,
@@ -21,7 +21,7 @@ pub struct Port {
 }
 
 impl Port {
-    /// Makes the port of a node, and the ends that the node's threads hold.
+    /// Makes the port of a node, and the ends for the node's threads.
     pub fn new(
         alloc: Global,
         node: ProcId,
@@ -56,35 +56,35 @@ impl Port {
         Ok((port, ends))
     }
 
-    /// Hands a packet on to the receiving thread.
+    /// Forwards a packet to the receiving thread.
     pub fn hand_on<R: Wait>(&mut self, rt: &R, packet: Bytes) -> Result<(), AllocError> {
         self.debt = self.debt.with_packet();
         give(rt, &self.packets, PacketWord::Packet(packet))
     }
 
-    /// Gives the node its turn: a word for its timer thread, and one for its client thread.
+    /// Gives the node its turn: a channel message for its timer thread, and one for its client thread.
     pub fn take_turn<R: Wait>(&mut self, rt: &R, service: Service) -> Result<(), AllocError> {
         self.debt = self.debt.with_turn();
         give(rt, &self.timer, TimerWord::Timer)?;
         give(rt, &self.client, ClientWord::Submit(service))
     }
 
-    /// Returns how many words there are to wait for.
+    /// Returns how many channel messages the node still has to handle.
     pub fn left(&self) -> u64 {
         self.debt.words
     }
 
-    /// Returns whether words of a turn are among them.
+    /// Returns whether any of them are for a turn.
     pub fn has_turn(&self) -> bool {
         self.debt.of_turn > 0
     }
 
-    /// Notes that the node has dealt with one word.
+    /// Notes that the node has handled one channel message.
     pub fn done(&mut self, of_turn: bool) {
         self.debt = self.debt.less_one(of_turn);
     }
 
-    /// Gives each thread a stop word. A thread that can't be sent one because memory ran out sees its channel end.
+    /// Sends each thread a stop message. If memory for it is refused, the thread sees its channel end instead.
     pub fn stop<R: Wait>(self, rt: &R) {
         let _ = give(rt, &self.packets, PacketWord::Stop);
         let _ = give(rt, &self.timer, TimerWord::Stop);

@@ -1,8 +1,8 @@
-//! Who is told how far a run is.
+//! Reports of the progress of a run.
 ghost use Rattle.std.specs.Prelude.{◌≡◌};
 ghost use Rattle.totem_net.specs.Logged.{nothing, together};
 
-/// What all nodes of a run have logged so far, of what people look at.
+/// Counts of what all nodes of a run have logged so far.
 #[derive(Clone, Copy, Debug, PartialEq, Eq)]
 pub struct Logged {
     /// How many messages were delivered, counted at each node.
@@ -12,7 +12,7 @@ pub struct Logged {
 }
 
 impl Logged {
-    /// Returns what a node has logged that has logged nothing.
+    /// Returns the counts of a node that has logged nothing.
     pub fn nothing() -> Logged
         ensures { result ≡ nothing }
     {
@@ -22,7 +22,7 @@ impl Logged {
         }
     }
 
-    /// Returns both together.
+    /// Returns the sums of both counts.
     pub fn and(self, more: Logged) -> Logged
         ensures { result ≡ together self more }
     {
@@ -33,12 +33,12 @@ impl Logged {
     }
 }
 
-/// Is told how far a run is, by the thread that runs the switch.
+/// Receives reports of the progress of a run, on the thread that runs the switch.
 pub trait Progress {
-    /// Is called at each tick: so many of these ticks have passed, and this the nodes have logged so far.
+    /// Called at each tick: how many of the ticks have passed, and what the nodes have logged so far.
     fn ticked(&mut self, passed: u32, ticks: u32, logged: Logged);
 
-    /// Is called once, when the run has ended and nothing of it has been written yet.
+    /// Called once, when the run has ended and nothing of it has been written yet.
     fn ended(&mut self);
 }
 

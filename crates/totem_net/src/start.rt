@@ -1,12 +1,12 @@
-//! Who is told that the nodes of a run begin.
+//! Notification that the nodes of a run start.
 use totem_ids::ProcId;
 
-/// Is told that a node begins, by the node's receiving thread before that thread receives.
+/// Notified when a node starts, by the node's receiving thread before it receives anything.
 pub trait Start: Sync {
     fn begun(&self, node: ProcId);
 }
 
-/// A `Start` that does nothing when a node begins.
+/// A `Start` that does nothing when a node starts.
 #[derive(Clone, Copy, Debug, PartialEq, Eq)]
 pub struct Quiet;
 

@@ -14,7 +14,7 @@ use std::alloc::{AllocError, Global};
 use std::sync::Wait;
 use totem_ids::ProcId;
 
-/// What the switch's thread holds (docs/PROTOCOL.md, "The network"). If it is dropped without being run, each thread of
+/// The state of the switch's thread (docs/PROTOCOL.md, "The network"). If it is dropped without being run, each thread of
 /// the network sees its channel end.
 #[derive(Drop)]
 pub struct Switch {
@@ -26,25 +26,25 @@ pub struct Switch {
     pub(crate) turns: Turns,
     /// Whether the pacing thread waits for an answer.
     pub(crate) asked: bool,
-    /// How many words the nodes have to deal with before the next tick comes.
+    /// How many channel messages the nodes have to handle before the next tick passes.
     pub(crate) awaited: u64,
     /// What the nodes have logged so far.
     pub(crate) logged: Logged,
-    /// The packet that is handed on before anything else, to the first node.
+    /// The packet that is forwarded to the first node before anything else.
     pub(crate) first: Bytes,
 }
 
-/// How many words a node may still have to deal with. A packet for a node that has so many is lost.
+/// How many channel messages a node may have to handle. A packet for a node that already has this many is lost.
 const ROOM: u64 = 64;
 
 impl Switch {
-    /// Hands packets on and gives words, until the ticks are used up, a node ends at a fault, or nobody sends any more; then
-    /// gives each thread a stop word. If memory is refused it stops the threads at once.
+    /// Forwards packets and gives turns, until the ticks are used up, a node ends at a fault, or there is no sender any more. Then it
+    /// sends each thread a stop message. If memory is refused, it stops the threads at once.
     ///
-    /// Keeps pace with the nodes (docs/PROTOCOL.md, "The network"): a tick comes once they have dealt with as many words
-    /// as they had left at the tick before, though with no more than there are nodes, and with all words of a turn. Each thread of
-    /// a node has to tell of each word that it has dealt with, and that its node is gone if it ends at a fault. At each tick it
-    /// tells how far the run is.
+    /// Keeps pace with the nodes (docs/PROTOCOL.md, "The network"): a tick passes once they have handled the number of channel messages
+    /// that they had left at the tick before, but at most as many as there are nodes, and all messages of a turn. Each thread of a
+    /// node has to report each channel message that it has handled, and that its node is gone if it ends at a fault. At each
+    /// tick the progress of the run is reported.
     pub fn run_in_pace<R: Wait, P: Progress>(
         mut self,
         rt: &R,
@@ -83,7 +83,7 @@ impl Switch {
         Ok(())
     }
 
-    /// Deals with a word. Returns whether the run goes on.
+    /// Handles a channel message. Returns whether the run continues.
     fn take<R: Wait>(&mut self, rt: &R, alloc: Global, word: &Inbound) -> Result<bool, AllocError> {
         match word {
             Inbound::Packet { address, packet } => self.carry(rt, alloc, address, packet)?,
@@ -98,7 +98,7 @@ impl Switch {
         Ok(true)
     }
 
-    /// Hands the first packet on, without a fate.
+    /// Forwards the first packet, without a fate.
     fn begin<R: Wait>(&mut self, rt: &R) -> Result<(), AllocError> {
         let first = self.first.clone()?;
         match self.ports.first_mut() {
@@ -107,7 +107,7 @@ impl Switch {
         }
     }
 
-    /// Takes a packet, and hands what the ways make of it to the receiving threads.
+    /// Takes a packet, and forwards what the ways make of it to the receiving threads.
     fn carry<R: Wait>(
         &mut self,
         rt: &R,
@@ -121,7 +121,7 @@ impl Switch {
         Ok(())
     }
 
-    /// Hands a packet on. One for a node that has no room for it is lost.
+    /// Forwards a packet. A packet for a node that has no space for it is lost.
     fn hand_on<R: Wait>(&mut self, rt: &R, delivery: Delivery) -> Result<(), AllocError> {
         match self.port(delivery.to) {
             Some(port) if port.left() < ROOM => port.hand_on(rt, delivery.packet),
@@ -133,17 +133,17 @@ impl Switch {
         self.ports.get_mut(usize::from(node.number() - 1))
     }
 
-    /// Returns whether a tick comes. If the nodes have nothing left to deal with, the pacing thread's word brings it.
+    /// Returns whether a tick passes now. If the nodes have nothing left to handle, it passes once the pacing thread has sent it.
     fn is_due(&self) -> bool {
         self.awaited == 0 && !self.has_turn() && (self.asked || self.left() > 0)
     }
 
-    /// Returns whether a node still has to deal with words of its turn.
+    /// Returns whether a node still has to handle channel messages of its turn.
     fn has_turn(&self) -> bool {
         self.ports.iter().any(|port| port.has_turn())
     }
 
-    /// Lets a tick pass: gives a node the turn that it brings, if any, and the pacing thread its answer.
+    /// Lets a tick pass: gives a node the turn of this tick, if any, and answers the pacing thread.
     fn tick<R: Wait>(&mut self, rt: &R) -> Result<(), AllocError> {
         if let Some(turn) = self.turns.tick() {
             self.give_turn(rt, turn)?;
@@ -152,13 +152,13 @@ impl Switch {
         self.answer(rt)
     }
 
-    /// Returns how many words the nodes still have to deal with.
+    /// Returns how many channel messages the nodes still have to handle.
     fn left(&self) -> u64 {
         let ports = self.ports.iter();
         ports.fold(0u64, |left, port| left.saturating_add(port.left()))
     }
 
-    /// Notes that a node has dealt with a word, and what it has logged.
+    /// Notes that a node has handled a channel message, and what it has logged.
     fn note_done(&mut self, node: ProcId, of_turn: bool, logged: Logged) {
         if let Some(port) = self.port(node) {
             port.done(of_turn);
@@ -167,7 +167,7 @@ impl Switch {
         self.logged = self.logged.and(logged);
     }
 
-    /// Answers the pacing thread, if that waits for an answer.
+    /// Answers the pacing thread, if it waits for an answer.
     fn answer<R: Wait>(&mut self, rt: &R) -> Result<(), AllocError> {
         if !self.asked {
             return Ok(());

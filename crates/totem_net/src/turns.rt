@@ -9,7 +9,7 @@ use totem_ids::{ProcId, Service};
 /// How many ticks there are to each turn.
 const TICKS_OF_A_TURN: u32 = 8;
 
-/// The ticks of a run with so many nodes, numbered from 1. Every eighth tick brings a turn.
+/// The ticks of a run with the given number of nodes, numbered from 1. Every eighth tick brings a turn.
 #[derive(Debug, Drop)]
 pub struct Turns {
     nodes: u16,
@@ -29,7 +29,7 @@ impl Model for Turns {
 }
 
 impl Turns {
-    /// Returns the state before the first of so many ticks.
+    /// Returns the state before the first tick, with the given number of ticks to come.
     pub fn new(nodes: u16, ticks: u32) -> Turns
         requires { 0 < nodes }
         ensures nodes { result.nodes ≡ nodes }
@@ -57,7 +57,7 @@ impl Turns {
         self.passed
     }
 
-    /// Returns how many ticks there are.
+    /// Returns how many ticks there are in all.
     pub fn ticks(&self) -> u32
         ensures { result ≡ self.now.ticks }
     {
@@ -88,7 +88,7 @@ impl Turns {
         Some(self.nth((tick / TICKS_OF_A_TURN).saturating_sub(1)))
     }
 
-    /// Lets the next tick pass, and returns the turn that it brings, if it brings one. If the ticks are used up, nothing changes.
+    /// Lets the next tick pass, and returns the turn that it brings, if any. If the ticks are used up, nothing changes.
     pub fn tick(&mut self) -> Option<Turn>
         ensures turn { result ≡ next_turn self.old }
         ensures count { self.new ≡ ticked self.old }

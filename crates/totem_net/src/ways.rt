@@ -13,7 +13,7 @@ use std::collections::VecDeque;
 use std::marker::Model;
 use totem_ids::ProcId;
 
-/// The ways to the nodes, which have the numbers from 1 on, and the fates to come.
+/// The ways to the nodes, which are numbered from 1, and the fates to come.
 #[derive(Debug, Drop)]
 pub struct Ways {
     wires: Vec<Wire>,
@@ -31,7 +31,7 @@ impl Model for Ways {
     ghost invariant = { λ w. length w.wires.items < 2 ^ 16 };
 }
 
-/// What a packet does: the deliveries that it causes, the ways that it changes, in ascending order, and the fates to come.
+/// The effects of a packet: the deliveries that it causes, the ways that it changes, in ascending order, and the fates to come.
 #[derive(Drop)]
 struct Effects {
     handed: Vec<Delivery>,
@@ -49,7 +49,7 @@ fn deliver(out: &mut Vec<Delivery>, to: ProcId, packets: Vec<Bytes>) -> Result<(
 }
 
 impl Effects {
-    /// Lets the packet come to the way of a node. It passes that way if it is for the node.
+    /// Sends the packet along the way to a node, if the packet is for the node.
     fn pass(
         &mut self,
         alloc: Global,
@@ -73,7 +73,7 @@ impl Effects {
 }
 
 impl Ways {
-    /// Makes the ways to so many nodes, with nothing held on them.
+    /// Makes the ways to this many nodes, with nothing held on them.
     pub fn new(alloc: Global, nodes: u16, fates: Fates) -> Result<Ways, AllocError>
         ensures held { IfOk result (λ ways. ways.held ≡ replicate nodes []) }
         ensures fates { IfOk result (λ ways. ways.to_come ≡ fates) }
@@ -123,8 +123,8 @@ impl Ways {
         handed
     }
 
-    /// Sends a packet to each node that it is for, in ascending order, with a fate for each. Returns what is handed on. If
-    /// memory is refused, nothing changes.
+    /// Sends a packet to each node that it is for, in ascending order, with a fate for each. Returns what is forwarded. If memory is
+    /// refused, nothing changes.
     #[tactic(auto, using(crate::proofs::Walking::settled_of_changed))]
     pub fn carry(
         &mut self,

@@ -1,4 +1,4 @@
-//! The way of packets to one receiver.
+//! The way to one receiver.
 ghost use Rattle.std.specs.Prelude.{◌≡◌, ◌++◌, [], IfOk, OnOk};
 ghost use Rattle.totem_net.specs.Wires.{copies_made, due, kept, handed_on, still_held};
 
@@ -8,7 +8,7 @@ use bytes::Bytes;
 use std::alloc::{AllocError, Global};
 use std::marker::Model;
 
-/// The copies that are held back on the way to one receiver, in the order in which they came.
+/// The copies that are held back on the way to one receiver, in the order in which they arrived.
 #[derive(Debug, Drop)]
 pub struct Wire {
     held: Vec<HeldCopy>,
@@ -23,12 +23,12 @@ impl Model for Wire {
     ghost view = { λ w. w.held.items };
 }
 
-/// What comes of a packet that arrives on a way.
+/// The effect of a packet that arrives on a way.
 #[derive(Drop)]
 pub struct Passage {
-    /// The packets that are handed on to the receiver, in order.
+    /// The packets that are forwarded to the receiver, in order.
     pub handed: Vec<Bytes>,
-    /// The way as it is then.
+    /// The way after that.
     pub wire: Wire,
 }
 
@@ -79,8 +79,8 @@ impl Wire {
         }
     }
 
-    /// Lets a packet arrive with its fate. First its own copies that are not held are handed on, then the held copies
-    /// that come due, in the order in which they came.
+    /// Lets a packet arrive with its fate. First the packet's own copies that are not held are forwarded, then the held copies
+    /// that are due, in the order in which they arrived.
     pub fn pass(&self, alloc: Global, packet: &Bytes, fate: Fate) -> Result<Passage, AllocError>
         ensures handed { IfOk result (λ passage. passage.handed.items ≡ handed_on fate packet.now self.now) }
         ensures held { IfOk result (λ passage. passage.wire ≡ still_held fate packet.now self.now) }

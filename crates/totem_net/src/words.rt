@@ -1,10 +1,10 @@
-//! What goes over the channels of a run in threads.
+//! The channel messages of a run in threads.
 use crate::address::Address;
 use crate::progress::Logged;
 use bytes::Bytes;
 use totem_ids::{ProcId, Service};
 
-/// What comes to the switch over its one inbound channel.
+/// The channel messages that the switch receives, all through one channel.
 #[derive(Debug, Drop)]
 pub enum Inbound {
     /// An encoded packet that a node sends.
@@ -12,9 +12,9 @@ pub enum Inbound {
         address: Address,
         packet: Bytes,
     },
-    /// A tick of the pacing thread, which the switch answers by a `Pace`.
+    /// A tick of the pacing thread, which the switch answers with a `Pace`.
     Tick,
-    /// This node has dealt with a word, of its turn or a packet, and has sent what came of it before. This it has logged.
+    /// This node has handled a channel message, of its turn or with a packet, has sent what resulted, and has logged this at it.
     Done {
         node: ProcId,
         of_turn: bool,
@@ -33,15 +33,15 @@ pub enum Pace {
     Over,
 }
 
-/// What a node's receiving thread is given.
+/// The channel messages of a node's receiving thread.
 #[derive(Debug, Drop)]
 pub enum PacketWord {
-    /// An encoded packet that came over the network.
+    /// An encoded packet from the network.
     Packet(Bytes),
     Stop,
 }
 
-/// What a node's timer thread is given.
+/// The channel messages of a node's timer thread.
 #[derive(Clone, Copy, Debug, PartialEq, Eq)]
 pub enum TimerWord {
     /// The node's timer has run out.
@@ -49,7 +49,7 @@ pub enum TimerWord {
     Stop,
 }
 
-/// What a node's client thread is given.
+/// The channel messages of a node's client thread.
 #[derive(Clone, Copy, Debug, PartialEq, Eq)]
 pub enum ClientWord {
     /// Submit a message of this service.

@@ -1,4 +1,4 @@
--- Lists whose numbers rise, one after the other and pair by pair.
+-- Lists with ascending numbers, one after the other and pair by pair.
 use Rattle.std.proofs.Common.{ℕ, suc, ◌<◌, ◌≤◌, List, [], ◌∷◌, arith}
 use Rattle.std.specs.Prelude.{All, AllPairs}
 use Rattle.std.specs.List.{AllByRecursion}

@@ -22,7 +22,7 @@ use Rattle.totem_packets.proofs.TakenPackets.{packet_takes, packet_again}
 
 -- ---- from a packet with what is left to a packet alone
 
--- the fault of the packet is that of the whole
+-- the fault of the packet is the fault of the whole
 whole_fault : (bytes : List ℕ) (f : PacketFault) → packet_at bytes ≡ Err f → decode_packet bytes ≡ Err f
 unfolding decode_packet
 whole_fault bytes f e = rw e refl
@@ -35,7 +35,7 @@ whole_more : (bytes : List ℕ) (p : packet.Packet) (b : ℕ) (rest : List ℕ) 
 unfolding decode_packet
 whole_more bytes p b rest e = let test : (length (b ∷ rest) == 0) ≡ false = ne_eqb _ _ (λ h. omega (arith, h)) in rw (e, test) refl
 
--- a fault of the whole: that of the packet, or more after it
+-- a fault of the whole is the packet's, or Trailing
 data WhichFault (bytes : List ℕ) (f : PacketFault) : Type 0 where
   of_packet : packet_at bytes ≡ Err f → WhichFault bytes f
   of_rest : (p : packet.Packet) (b : ℕ) (rest : List ℕ) → packet_at bytes ≡ Ok (p, b ∷ rest) → f ≡ Trailing → WhichFault bytes f
@@ -108,7 +108,7 @@ short_is Range h = absurd cc
 short_is Trailing h = absurd cc
 short_is Memory h = absurd cc
 
--- before what is a packet, or short of one, comes nothing but Short
+-- before the end of a packet, or of what is Short, there is only Short
 short_front : (front : List ℕ) (b : ℕ) (rest : List ℕ) (p : packet.Packet) → packet_at (front ++ b ∷ rest) ≡ Ok (p, []) → packet_at front ≡ Err Short
 short_front front b rest p e = go (packet_at front) refl
   where
@@ -160,7 +160,7 @@ packet_none : packet_at [] ≡ Err Short
 unfolding packet_at
 packet_none = rw none_at refl
 
--- a field's fault is no Kind
+-- a field's fault is not Kind
 no_kind : {Y : Type 0} (parse : List ℕ → Parsed Y) → IsField parse → (bytes : List ℕ) → parse bytes ≡ Err Kind → ⊥
 no_kind parse field bytes e = rw e at (field.fault bytes)
 
@@ -260,7 +260,7 @@ trailing_is_last bytes fits = (λ e. there e, λ h. back h)
 
 -- ---- Range
 
--- the first byte with which the packet's fault is Range
+-- the byte at which the packet's fault becomes Range
 record FirstRange (bytes : List ℕ) : Type 0 where
   front : List ℕ
   byte : ℕ
@@ -308,7 +308,7 @@ range_is_first bytes e = elim (which_fault bytes Range e) [
       }
 ]
 
--- ---- what decoding answers
+-- ---- what decoding returns
 
 pub found : (bytes : List ℕ) (r : Result packet.Packet PacketFault) → AreBytes bytes → Gives r (decode_packet bytes) → IfOk r (λ p. IsPacket p × (bytes ≡ packet_bytes p))
 found bytes (Ok p) fits given = read_spelled bytes p fits given

@@ -1,4 +1,4 @@
--- A fault of one field is that of the whole.
+-- A fault of one field is the fault of the whole packet.
 use Rattle.std.proofs.Common.{Result, refl}
 use Rattle.totem_packets.specs.declared.fault.PacketFault.{PacketFault}
 use Rattle.totem_packets.specs.Parsing.{◌>>=◌, Fails}

@@ -17,7 +17,7 @@ pub none_at : number_at w8 [] ≡ Err Short
 unfolding number_at bytes_at
 none_at = refl
 
--- a kind that was read is the first byte
+-- the kind that was read is the first byte
 pub kind_is_read : (bytes : List ℕ) (kind : ℕ) (rest : List ℕ) → number_at w8 bytes ≡ Ok (kind, rest) → 0 < kind → kind ≤ 5 → IsOfKind bytes
 kind_is_read [] kind rest e some few = let both : ◌≡◌ {A = Parsed ℕ} (Err Short) (Ok (kind, rest)) = sym none_at ∙ e in absurd cc
 kind_is_read (b ∷ more) kind rest e some few =

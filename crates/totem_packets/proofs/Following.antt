@@ -1,10 +1,10 @@
--- What more bytes do to the answer of a parser of packets, and which faults its fields have.
+-- How more bytes change the result of a parser of packets, and which faults its fields have.
 use Rattle.std.specs.Prelude.{◌≡◌, ℕ, List, ◌++◌, Bool, true, false, Ok, Err}
 use Rattle.totem_packets.specs.declared.fault.PacketFault.{PacketFault}
 use Rattle.totem_packets.specs.declared.fault.PacketFault.TheVariants.{Short, Kind, Range, Trailing, Memory}
 use Rattle.totem_packets.specs.Parsing.{Parsed}
 
--- the fault of bytes that are too few
+-- the fault of too few bytes
 abbrev pub is_short : PacketFault → Bool
 is_short Short = true
 is_short Kind = false
@@ -12,12 +12,12 @@ is_short Range = false
 is_short Trailing = false
 is_short Memory = false
 
--- the answer once more bytes have come: the same value or fault, unless there were too few
+-- the result when more bytes follow: the same value or fault, unless there were too few
 abbrev pub Follows : {Y : Type 0} → List ℕ → Parsed Y → Parsed Y → Type 0
 Follows more (Ok x) later = later ≡ Ok (x.0, x.1 ++ more)
 Follows more (Err fault) later = is_short fault ≡ false → later ≡ Err fault
 
--- the faults of a field
+-- the faults that a field can have
 abbrev pub IsOfField : PacketFault → Type 0
 IsOfField Short = Unit {0}
 IsOfField Kind = ⊥

@@ -10,7 +10,7 @@ use Rattle.totem_packets.specs.Lives.{has_later_life, reported_life}
 use Rattle.totem_packets.specs.Laws.{TellsLaterLife}
 use Rattle.totem_packets.specs.Spelling.{packet_bytes, number_bytes}
 
--- a member with a later life stands there
+-- a member at some index has a later life
 abbrev Later : List CommitMember → Type 0
 Later members = (at : ℕ) × (member : CommitMember) × (slice_get members at ≡ Some member) × (1 < reported_life member.report)
 
@@ -25,7 +25,7 @@ later_at (m ∷ members) has = by (nat_lt 1 (reported_life m.report)) refl (late
     by true is rest = (zero, m, refl, ltb-true _ _ is)
     by false is rest = further (rest (let h : (nat_lt 1 (reported_life m.report) || has_later_life members) ≡ true = has in rw is at h))
 
--- and where one stands, some are there
+-- a member with a later life makes the test true
 later_of : (members : List CommitMember) (at : ℕ) (member : CommitMember) → slice_get members at ≡ Some member → 1 < reported_life member.report → has_later_life members ≡ true
 later_of members at member is later = any_passes_from_place (λ m. nat_lt 1 (reported_life m.report)) members at member is (lt-ltb _ _ later)
 

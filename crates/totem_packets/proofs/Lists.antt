@@ -12,7 +12,7 @@ use Rattle.totem_packets.specs.Rising.{IsNumber, IsRequests, IsProcesses}
 use Rattle.totem_packets.proofs.Chains.{Rises, pairs_rise}
 use Rattle.totem_packets.proofs.Steps.{after, guard_then, parsed_is}
 
--- a number that was read is above the one that it was to be above
+-- a number that was read is above the given one
 pub above_is : (w : Width) (least : ℕ) (bytes : List ℕ) (n : ℕ) (rest : List ℕ) → above_at w least bytes ≡ Ok (n, rest) → least < n
 unfolding above_at
 above_is w least bytes n rest e =
@@ -21,7 +21,7 @@ above_is w least bytes n rest e =
     let same = parsed_is m n mid rest t.1 in
     rw (← same.0) (ltb-true _ _ t.0))
 
--- a number that was read is at most what it was to be
+-- a number that was read is at most the given one
 pub up_to_is : (w : Width) (most : ℕ) (bytes : List ℕ) (n : ℕ) (rest : List ℕ) → up_to_at w most bytes ≡ Ok (n, rest) → n ≤ most
 unfolding up_to_at
 up_to_is w most bytes n rest e =
@@ -30,11 +30,11 @@ up_to_is w most bytes n rest e =
     let same = parsed_is m n mid rest t.1 in
     rw (← same.0) (leb-true _ _ t.0))
 
--- what each reading of one thing says
+-- what reading one element guarantees
 pub record IsAbove {Y : Type 0} (one_above : ℕ → List ℕ → Parsed Y) (number_of : Y → ℕ) : Type 0 where
   pub above : (last : ℕ) (bytes : List ℕ) (y : Y) (rest : List ℕ) → one_above last bytes ≡ Ok (y, rest) → last < number_of y
 
--- a list that was read rises and is as long as it was to be
+-- a list that was read is ascending and has the given length
 pub record IsRow {Y : Type 0} (number_of : Y → ℕ) (count last : ℕ) (ys : List Y) : Type 0 where
   pub rises : Rises number_of last ys
   pub long : length ys ≡ count

@@ -18,12 +18,12 @@ use Rattle.totem_packets.specs.OldRings.{processes_of, reports_ring, same_ring, 
 use Rattle.totem_packets.proofs.Chains.{Rises, pairs_rise, rise_from_pairs}
 use Rattle.totem_packets.proofs.SetFacts.{Up, up_of, fewer_pass, up_union, has_union, each_union, length_union}
 
--- the least aru of these reports and of the one so far
+-- the least aru of the reports and of the one so far
 abbrev pub least_since : Option ℕ → List Report → ℕ
 least_since None rs = least_aru_of rs
 least_since (Some n) rs = fold (λ least s. min least s.aru) n rs
 
--- the processes of ascending members rise
+-- the processes of ascending members are ascending
 rising_of : (last : ℕ) (members : List CommitMember) → Rises (λ m. m.proc) last members → Up last (processes_of members)
 rising_of last [] up = tt
 rising_of last (m ∷ ms) up = (up.0, rising_of m.proc ms up.1)
@@ -45,7 +45,7 @@ all_are members is = record {
 
 -- ---- obligations
 
--- these processes with all obligation sets of these reports
+-- the processes with all obligation sets of the reports
 abbrev pub obliged : List ℕ → List Report → List ℕ
 obliged ps rs = fold (λ all r. union all r.obligation) ps rs
 
@@ -72,7 +72,7 @@ pub each_obliged : (ps : List ℕ) (rs : List Report) → All IsProcess ps → A
 each_obliged ps [] each are = each
 each_obliged ps (r ∷ rs) each are = each_obliged (union ps r.obligation) rs (each_union IsProcess ps r.obligation each (are 0 r (omega arith)).each) (All-tail (λ r. IsProcesses r.obligation) r rs are)
 
--- who is among them: one of these, or of an obligation set
+-- a member of the union is one of the processes, or in an obligation set
 pub has_obliged : (ps : List ℕ) (rs : List Report) (x : ℕ) → Up 0 ps → AreReports rs → has (obliged ps rs) x ≡ (has ps x || list_any (λ r. has r.obligation x) rs)
 has_obliged ps [] x up are = or_none (has ps x)
   where
@@ -88,7 +88,7 @@ has_obliged ps (r ∷ rs) x up are =
     or_three true b c = refl
     or_three false b c = refl
 
--- one member more obliges to what is new in its obligation set
+-- one more member adds what is new in its obligation set
 one_obliges : (old : RingName) (all : List ℕ) (proc : ℕ) (report : Option Report) → Up 0 all → IfSome report IsReport
     → length (obliged all (reports_from old (record { proc = proc; report = report } ∷ []))) ≡ length all + length (filter (λ p. not (has all p)) (obligation_from old report))
 one_obliges old all proc None up is = omega arith
@@ -102,7 +102,7 @@ reports_more old front m =
     ap (filter_map (λ (m : CommitMember). m.report)) (filter-append (λ (m : CommitMember). reports_ring old m.report) front (m ∷ []))
     ∙ filter_map-append (λ (m : CommitMember). m.report) (those_from old front) (those_from old (m ∷ []))
 
--- the obligation union, a member further
+-- the obligation union with one more member
 pub obliged_more : (old : RingName) (members : List CommitMember) (i : ℕ) (m : CommitMember) → IsCommitMembers members → i < length members → m ≡ get_or members i m
     → length (obliged (transitional_set old members) (reports_from old (take (i + 1) members)))
     ≡ length (obliged (transitional_set old members) (reports_from old (take i members))) + length (filter (λ p. not (is_obliged old members (take i members) p)) (obligation_from old m.report))
@@ -132,7 +132,7 @@ obliged_more old members i m is lt at =
     one_is : IsCommitMember m
     one_is = rw at (is.each i m lt)
 
--- and the count of it
+-- and its length
 pub count_more : (old : RingName) (members list : List CommitMember) (i : ℕ) (m : CommitMember) (count new : ℕ) → list ≡ members → IsCommitMembers members → i < length list → m ≡ get_or list i m
     → count ≡ length (obliged (transitional_set old members) (reports_from old (take i list)))
     → new ≡ length (filter (λ p. not (is_obliged old members (take i list) p)) (obligation_from old m.report))

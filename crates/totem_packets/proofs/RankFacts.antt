@@ -26,6 +26,6 @@ ids_of_each (m ∷ ms) each = rw (id_of_member m (All-head IsCommitMember m ms e
 pub ids_of_members : (members : List CommitMember) → IsCommitMembers members → map id_of (member_ranks members) ≡ processes_of members
 ids_of_members members is = ids_of_each members is.each
 
--- and those of the transitional set in its lives are the transitional set
+-- the identifiers of the transitional set in its lives are the transitional set
 pub ids_of_transitional : (old : RingName) (members : List CommitMember) → IsCommitMembers members → map id_of (transitional_ranks old members) ≡ transitional_set old members
 ids_of_transitional old members is = ids_of_each (those_from old members) (All-filter (λ (m : CommitMember). reports_ring old m.report) IsCommitMember members is.each)

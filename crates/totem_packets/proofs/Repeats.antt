@@ -1,11 +1,11 @@
--- Reading one thing after the other, as a loop does.
+-- Reading one element after the other, as a loop does.
 use Rattle.std.proofs.Common.{◌≡◌, ℕ, suc, ◌-◌, ◌+◌, ◌≤◌, ◌<◌, List, [], ◌∷◌, ◌++◌, Ok, Err, refl, sym, ap, ◌∙◌, append_assoc, arith}
 use Rattle.std.proofs.lemmas.List.{append-nil}
 use Rattle.totem_packets.specs.declared.fault.PacketFault.{PacketFault}
 use Rattle.totem_packets.specs.Parsing.{Parsed, ◌>>=◌, Fails}
 use Rattle.totem_packets.specs.Fields.{rising_at}
 
--- what was read before, and what is still read
+-- what was read before, and what is still to be read
 abbrev pub with_front : {Y : Type 0} → List Y → Parsed (List Y) → Parsed (List Y)
 with_front front read = read >>= λ x. Ok (front ++ x.0, x.1)
 
@@ -13,7 +13,7 @@ regroup : {Y : Type 0} (front : List Y) (y : Y) (read : Parsed (List Y)) → wit
 regroup {Y = Y} front y (Ok x) = ap (λ (ys : List Y). Ok (ys, x.1)) (simp append_assoc)
 regroup front y (Err f) = refl
 
--- the list so far, and what the rest of the bytes gives, are what all bytes give
+-- the list so far and the result for the remaining bytes make the result for all bytes
 pub record IsReadTo {Y : Type 0} (one_above : ℕ → List ℕ → Parsed Y) (number_of : Y → ℕ) (front : List Y) (count i last : ℕ) (bytes : List ℕ) (total : Parsed (List Y)) : Type 0 where
   pub so_far : with_front front (rising_at one_above number_of (count - i) last bytes) ≡ total
 

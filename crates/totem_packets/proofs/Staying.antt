@@ -1,4 +1,4 @@
--- What a parser answers doesn't change by what follows, unless there were too few bytes; and a field's fault is Short or Range.
+-- A parser's result does not change with what follows, unless there were too few bytes; and a field's fault is Short or Range.
 use Rattle.std.specs.Prelude.{nat_lt, ◌==◌}
 use Rattle.std.specs.Int.{Width, w8, w16, w32, w64, byte_len}
 use Rattle.std.proofs.Common.{◌≡◌, ℕ, zero, suc, ◌≤◌, List, [], ◌++◌, length, take, drop, Bool, true, false, cond, Ok, Err, refl, arith}
@@ -15,7 +15,7 @@ use Rattle.totem_packets.specs.Fields.{bytes_at, number_at, above_at, up_to_at, 
 use Rattle.totem_packets.specs.Grammar.{app_at, old_at, body_of, body_at, message_at, token_at, join_at, round_at, life_at, report_at, filled_at, maybe_report_at, member_at, members_at, commit_at, later_commit_at, message_packet_at, token_packet_at, join_packet_at, commit_packet_at, later_commit_packet_at}
 use Rattle.totem_packets.proofs.Following.{Follows, HasFieldFault}
 
--- a parser of one field or more
+-- a parser of at least one field
 pub record IsField {Y : Type 0} (parse : List ℕ → Parsed Y) : Type 0 where
   pub stays : (bytes more : List ℕ) → Follows more (parse bytes) (parse (bytes ++ more))
   pub fault : (bytes : List ℕ) → HasFieldFault (parse bytes)
@@ -157,7 +157,7 @@ pub commit_field : (lives : Lives) → IsField (commit_at lives)
 unfolding commit_at
 commit_field lives = bind_field _ _ ring_field (λ ring. bind_field _ _ round_field (λ round. bind_field _ _ (members_field lives) (λ members. gives_field _)))
 
--- a test after a parser: it is made as soon as the last field is read, and what follows changes nothing
+-- a test after a parser is made as soon as the last field is read, and what follows does not change it
 pub later_commit_field : IsField later_commit_at
 unfolding later_commit_at
 later_commit_field = bind_field _ _ (commit_field Told) (λ token. cond_field _ _ _ (gives_field token) range_field)

@@ -25,7 +25,7 @@ AreBytes-take n bytes h i =
       | inr le ↦ rw (get_or_past (take n bytes) i 0 (omega (arith, length-take n bytes))) (omega arith)
     ]
 
--- what a reader took from the front
+-- the bytes that a reader took from the front
 pub record Takes (bytes text rest : List ℕ) : Type 0 where
   pub parts : bytes ≡ text ++ rest
   pub rest_fits : AreBytes rest
@@ -33,7 +33,7 @@ pub record Takes (bytes text rest : List ℕ) : Type 0 where
 pub then_takes : (a x b y c : List ℕ) → Takes a x b → Takes b y c → Takes a (x ++ y) c
 then_takes a x b y c p q = record { parts = p.parts ∙ ap (λ (t : List ℕ). x ++ t) q.parts ∙ sym (append_assoc x y c); rest_fits = q.rest_fits }
 
--- that many bytes, the front of what there is
+-- the given number of bytes, from the front
 pub record IsFront (n : ℕ) (bytes text rest : List ℕ) : Type 0 where
   pub takes : Takes bytes text rest
   pub long : length text ≡ n
@@ -59,7 +59,7 @@ bytes_again n text rest len =
 
 -- ---- numbers
 
--- numbers below a limit are the bytes of a width
+-- a number below the limit is written as the bytes of the width, and back
 pub record IsWide (w : Width) (limit : ℕ) : Type 0 where
   pub len : (n : ℕ) → length (to_be_bytes w n) ≡ byte_len w
   pub back : (bytes : List ℕ) → length bytes ≡ byte_len w → AreBytes bytes → to_be_bytes w (from_be_bytes w bytes) ≡ bytes

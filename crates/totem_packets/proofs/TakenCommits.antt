@@ -59,7 +59,7 @@ round_again Second rest = rw (number_again w8 (2 ^ 8) wide8 2 rest (omega arith)
 
 -- ---- lives
 
--- a life that was read, or the first where lives are not told
+-- a life that was read, or the first where reports carry no lives
 record IsLifeRead (lives : Lives) (bytes : List ℕ) (life : ℕ) (rest : List ℕ) : Type 0 where
   takes : Takes bytes (life_bytes lives life) rest
   fits : IsLife life

@@ -16,12 +16,12 @@ use Rattle.totem_packets.proofs.Taken.{Takes, then_takes, IsWide, wide8, wide16,
 
 -- ---- one after the other
 
--- one thing is read as it is spelled, and spelled as it is read
+-- one element is read as it is spelled, and spelled as it is read
 pub record IsReading {Y : Type 0} (one_above : ℕ → List ℕ → Parsed Y) (number_of : Y → ℕ) (spell : Y → List ℕ) (Fits : Y → Type 0) : Type 0 where
   pub takes : (last : ℕ) (bytes : List ℕ) (y : Y) (rest : List ℕ) → AreBytes bytes → one_above last bytes ≡ Ok (y, rest) → Takes bytes (spell y) rest × Fits y
   pub again : (last : ℕ) (y : Y) (rest : List ℕ) → Fits y → last < number_of y → one_above last (spell y ++ rest) ≡ Ok (y, rest)
 
--- a row of things that was read
+-- a list of elements that was read
 pub record IsRowRead {Y : Type 0} (spell : Y → List ℕ) (Fits : Y → Type 0) (bytes : List ℕ) (ys : List Y) (rest : List ℕ) : Type 0 where
   pub takes : Takes bytes (flat_map spell ys) rest
   pub fits : AllByRecursion Fits ys

@@ -5,7 +5,7 @@ use Rattle.totem_packets.specs.declared.commit_member.Report.{Report}
 use Rattle.totem_packets.specs.declared.commit_member.CommitMember.{CommitMember}
 use Rattle.totem_packets.specs.Rising.{IsProcesses}
 
--- which life of an identifier
+-- the number of a life of an identifier
 abbrev pub IsLife : ℕ → Type 0
 IsLife = IsUpTo 65535
 

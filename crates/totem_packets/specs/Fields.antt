@@ -5,7 +5,7 @@ use Rattle.totem_ids.specs.Names.{RingName}
 use Rattle.totem_packets.specs.declared.fault.PacketFault.TheVariants.{Short, Range}
 use Rattle.totem_packets.specs.Parsing.{Parsed, ◌>>=◌}
 
--- that many bytes
+-- the given number of bytes
 unfoldable pub bytes_at : ℕ → List ℕ → Parsed (List ℕ)
 bytes_at n bytes = if nat_lt (length bytes) n then Err Short else Ok (take n bytes, drop n bytes)
 
@@ -27,7 +27,7 @@ up_to_at w most bytes = do
   n ← number_at w bytes
   if nat_le n.0 most then Ok n else Err Range
 
--- that many things, each above the one before by its number, the first one above `last`
+-- n elements, each above the one before by its number, the first one above `last`
 unfoldable pub rising_at : {Y : Type 0} → (ℕ → List ℕ → Parsed Y) → (Y → ℕ) → ℕ → ℕ → List ℕ → Parsed (List Y)
 rising_at one_above number_of zero last bytes = Ok ([], bytes)
 rising_at one_above number_of (suc n) last bytes = do
@@ -54,7 +54,7 @@ maybe_at bytes = do
   n ← number_at w16 bytes
   Ok ((if n.0 == 0 then None else Some n.0), n.1)
 
--- ascending numbers of one width, at most that many, after their count
+-- ascending numbers of one width, at most `most` of them, after their count
 unfoldable pub list_at : Width → ℕ → List ℕ → Parsed (List ℕ)
 list_at w most bytes = do
   count ← up_to_at w8 most bytes

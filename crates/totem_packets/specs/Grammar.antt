@@ -38,7 +38,7 @@ old_at service bytes = do
   payload ← payload_at sender.1
   Ok (Old ring.0 number.0 sender.0 service payload.0, payload.1)
 
--- what a message of this kind says
+-- the body of a message of this kind
 unfoldable pub body_of : ℕ → List ℕ → Parsed Body
 body_of kind bytes =
     if kind == 0 then app_at Agreed bytes
@@ -89,7 +89,7 @@ round_at bytes = do
   round ← number_at w8 bytes
   if round.0 == 1 then Ok (First, round.1) else if round.0 == 2 then Ok (Second, round.1) else Err Range
 
--- the life of a report; where lives are not told, each is the first
+-- the life of a report; where reports carry no lives, each is the first
 unfoldable pub life_at : Lives → List ℕ → Parsed ℕ
 life_at Untold bytes = Ok (1, bytes)
 life_at Told bytes = above_at w16 0 bytes
@@ -108,7 +108,7 @@ filled_at lives bytes = do
   report ← report_at lives bytes
   Ok (Some report.0, report.1)
 
--- 0 is no report, 1 stands before one
+-- 0 is no report, 1 precedes one
 unfoldable pub maybe_report_at : Lives → List ℕ → Parsed (Option Report)
 maybe_report_at lives bytes = do
   filled ← number_at w8 bytes
@@ -134,7 +134,7 @@ commit_at lives bytes = do
   members ← members_at lives round.1
   Ok (record { ring = ring.0; round = round.0; members = members.0 }, members.1)
 
--- a commit token whose reports tell lives, one of them above the first
+-- a commit token whose reports carry lives, one of them above the first
 unfoldable pub later_commit_at : List ℕ → Parsed CommitToken
 later_commit_at bytes = do
   token ← commit_at Told bytes

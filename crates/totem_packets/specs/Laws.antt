@@ -19,14 +19,14 @@ abbrev pub IsOfKind : List ℕ → Type 0
 IsOfKind [] = ⊥
 IsOfKind (kind ∷ rest) = (0 < kind) × (kind ≤ 5)
 
--- a commit token of which a member reports from a life above the first
+-- a commit token in which a member reports from a life above the first
 abbrev pub TellsLaterLife : packet.Packet → Type 0
 TellsLaterLife (packets.Commit token) = (at : ℕ) × (member : CommitMember) × (slice_get token.members at ≡ Some member) × (1 < reported_life member.report)
 TellsLaterLife (packets.Message m) = ⊥
 TellsLaterLife (packets.Token t) = ⊥
 TellsLaterLife (packets.Join j) = ⊥
 
--- a packet's spelling, and one byte or more after it
+-- a packet's spelling, with one byte or more after it
 pub record HasMore (bytes : List ℕ) : Type 0 where
   pub packet : packet.Packet
   pub byte : ℕ
@@ -34,7 +34,7 @@ pub record HasMore (bytes : List ℕ) : Type 0 where
   pub fits : IsPacket packet
   pub whole : bytes ≡ packet_bytes packet ++ byte ∷ rest
 
--- up to a byte nothing is wrong, and with it a field has a value that is not allowed, whatever follows
+-- nothing is wrong before some byte; with it a field has a value that is not allowed, whatever follows
 pub record IsFirstWrong (bytes : List ℕ) : Type 0 where
   pub front : List ℕ
   pub byte : ℕ

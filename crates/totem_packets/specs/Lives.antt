@@ -1,4 +1,4 @@
--- The lives that the members of a commit token report, and where its packet tells them (docs/PROTOCOL.md, "Packets").
+-- The lives that the members of a commit token report, and when its packet carries them (docs/PROTOCOL.md, "Packets").
 use Rattle.std.specs.Prelude.{ℕ, List, map, Option, Some, None, Bool, nat_lt, if◌then◌else◌}
 use Rattle.std.specs.List.{list_any}
 use Rattle.totem_ids.specs.Names.{RingName}
@@ -18,7 +18,7 @@ reported_life (Some r) = r.life
 abbrev pub has_later_life : List CommitMember → Bool
 has_later_life members = list_any (λ m. nat_lt 1 (reported_life m.report)) members
 
--- the reports tell lives where one is above the first
+-- the reports carry lives where one is above the first
 abbrev pub lives_of : List CommitMember → Lives
 lives_of members = if has_later_life members then Told else Untold
 
@@ -29,7 +29,7 @@ commit_kind Told = 5
 
 -- ---- members as processes of a run
 
--- the process that a member is, with the life that it reports from
+-- a member as a process of a run, in the life that it reports from
 abbrev pub member_rank : CommitMember → ℕ
 member_rank m = rank_of m.proc (reported_life m.report)
 

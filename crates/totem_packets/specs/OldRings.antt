@@ -1,4 +1,4 @@
--- What the reports of a commit token say of an old ring (docs/PROTOCOL.md, "Recovery").
+-- What the reports of a commit token say about an old ring (docs/PROTOCOL.md, "Recovery").
 use Rattle.std.specs.Prelude.{ℕ, ◌==◌, ◌&&◌, ◌||◌, if◌then◌else◌, List, [], ◌∷◌, map, filter, fold, min, max, Bool, false, Option, Some, None, is_some}
 use Rattle.std.specs.List.{filter_map, list_all, list_any}
 use Rattle.totem_ids.specs.Names.{RingName}
@@ -9,7 +9,7 @@ use Rattle.totem_packets.specs.Sets.{has, union}
 abbrev pub same_ring : RingName → RingName → Bool
 same_ring a b = (a.seq == b.seq) && (a.rep == b.rep)
 
--- who the members are
+-- the members' processes
 abbrev pub processes_of : List CommitMember → List ℕ
 processes_of members = map (λ m. m.proc) members
 
@@ -26,11 +26,11 @@ reports_ring old (Some r) = same_ring r.ring old
 abbrev pub those_from : RingName → List CommitMember → List CommitMember
 those_from old members = filter (λ m. reports_ring old m.report) members
 
--- the transitional set: who comes from this old ring
+-- the transitional set: the processes that come from this old ring
 abbrev pub transitional_set : RingName → List CommitMember → List ℕ
 transitional_set old members = processes_of (those_from old members)
 
--- what these reported
+-- the reports of these members
 abbrev pub reports_from : RingName → List CommitMember → List Report
 reports_from old members = filter_map (λ m. m.report) (those_from old members)
 
@@ -43,11 +43,11 @@ least_aru_of (r ∷ rs) = fold (λ least s. min least s.aru) r.aru rs
 abbrev pub least_aru : RingName → List CommitMember → ℕ
 least_aru old members = least_aru_of (reports_from old members)
 
--- the greatest number that the transitional set reported as handed up
+-- the greatest number that the transitional set reported as delivered to the node
 abbrev pub greatest_delivered : RingName → List CommitMember → ℕ
 greatest_delivered old members = fold (λ greatest r. max greatest r.delivered) 0 (reports_from old members)
 
--- the transitional set with all obligation sets that it reported
+-- the transitional set and all obligation sets that it reported
 abbrev pub obligation_union : RingName → List CommitMember → List ℕ
 obligation_union old members = fold (λ all r. union all r.obligation) (transitional_set old members) (reports_from old members)
 
@@ -56,6 +56,6 @@ abbrev pub obligation_from : RingName → Option Report → List ℕ
 obligation_from old None = []
 obligation_from old (Some r) = if same_ring r.ring old then r.obligation else []
 
--- p is in the transitional set, or in an obligation set that these of its members reported
+-- p is in the transitional set, or in an obligation set that one of the front members from this ring reported
 unfoldable pub is_obliged : RingName → List CommitMember → List CommitMember → ℕ → Bool
 is_obliged old members front p = has (transitional_set old members) p || list_any (λ r. has r.obligation p) (reports_from old front)

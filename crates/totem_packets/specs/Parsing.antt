@@ -1,4 +1,4 @@
--- What a parser of packets answers, and what a reader of packets answers beside it.
+-- The results of the parsers of packets, and how the results of a reader agree with them.
 use Rattle.std.specs.Prelude.{◌≡◌, ◌≢◌, ℕ, ◌<◌, List, slice_index, Result, Ok, Err}
 use Rattle.totem_packets.specs.declared.fault.PacketFault.{PacketFault}
 use Rattle.totem_packets.specs.declared.fault.PacketFault.TheVariants.{Memory}
@@ -7,7 +7,7 @@ use Rattle.totem_packets.specs.declared.fault.PacketFault.TheVariants.{Memory}
 abbrev pub Parsed : Type 0 → Type 0
 Parsed Y = Result (Y × List ℕ) PacketFault
 
--- one thing after the other
+-- one parser after the other
 infixl 10 ◌>>=◌
 abbrev pub ◌>>=◌ : {A B : Type 0} → Result A PacketFault → (A → Result B PacketFault) → Result B PacketFault
 (Ok x) >>= f = f x
@@ -17,12 +17,12 @@ abbrev pub ◌>>=◌ : {A B : Type 0} → Result A PacketFault → (A → Result
 pub record Fails {Y : Type 0} (fault : PacketFault) (parsed : Result Y PacketFault) : Type 0 where
   pub is : fault ≢ Memory → parsed ≡ Err fault
 
--- what was answered is what the parser gives, but for out of memory
+-- the call's result is the parser's, except that it may be out of memory
 abbrev pub Gives : {Y : Type 0} → Result Y PacketFault → Result Y PacketFault → Type 0
 Gives (Ok y) parsed = parsed ≡ Ok y
 Gives (Err fault) parsed = Fails fault parsed
 
--- what a reader answered, seen by `view`, and what it left are what the parser gives, but for out of memory
+-- the reader's result, seen by `view`, and the bytes it left are the parser's, except that it may be out of memory
 abbrev pub Reads : {X Y : Type 0} → (X → Y) → Result X PacketFault → List ℕ → Parsed Y → Type 0
 Reads view (Ok x) left parsed = parsed ≡ Ok (view x, left)
 Reads view (Err fault) left parsed = Fails fault parsed

@@ -13,7 +13,7 @@ use Rattle.totem_packets.specs.CommitMembers.{IsCommitMembers}
 use Rattle.totem_packets.specs.Payload.{IsPayload}
 use Rattle.totem_packets.specs.Rising.{IsNumber, IsRequests, IsProcesses}
 
--- a client's words; an old message's names are in range; a mark has none
+-- a client's payload is not too long; an old message's names are in range too; a mark has nothing
 abbrev pub IsBody : Body → Type 0
 IsBody (App service payload) = IsPayload payload
 IsBody (Old ring number sender service payload) = IsRing ring × IsNumber number × IsProcess sender × IsPayload payload

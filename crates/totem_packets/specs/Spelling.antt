@@ -27,11 +27,11 @@ use Rattle.totem_packets.specs.Lives.{lives_of, commit_kind}
 unfoldable pub number_bytes : Width → ℕ → List ℕ
 number_bytes w n = to_be_bytes w n
 
--- a ring: its number, its representative
+-- a ring: its number and its representative
 unfoldable pub ring_bytes : RingName → List ℕ
 ring_bytes c = number_bytes w32 c.seq ++ number_bytes w16 c.rep
 
--- a payload: its length, its bytes
+-- a payload: its length and its bytes
 unfoldable pub payload_bytes : List ℕ → List ℕ
 payload_bytes payload = number_bytes w16 (length payload) ++ payload
 
@@ -56,7 +56,7 @@ abbrev pub old_kind : Service → ℕ
 old_kind Agreed = 2
 old_kind Safe = 3
 
--- what a message says, after its byte; 4 is a mark
+-- the body of a message, after its byte; 4 is a mark
 unfoldable pub body_bytes : Body → List ℕ
 body_bytes (App service payload) = number_bytes w8 (app_kind service) ++ payload_bytes payload
 body_bytes (Old ring number sender service payload) =
@@ -78,7 +78,7 @@ join_bytes j = number_bytes w16 j.sender ++ number_bytes w32 j.seq ++ list_bytes
 
 -- ---- commit tokens
 
--- the life of a report, where lives are told
+-- the life of a report, where reports carry lives
 abbrev pub life_bytes : Lives → ℕ → List ℕ
 life_bytes Untold life = []
 life_bytes Told life = number_bytes w16 life
@@ -103,7 +103,7 @@ commit_bytes lives t =
 
 -- ---- packets
 
--- a packet: its byte, its fields
+-- a packet: its first byte and its fields
 unfoldable pub packet_bytes : packet.Packet → List ℕ
 packet_bytes (packets.Message m) = number_bytes w8 1 ++ message_bytes m
 packet_bytes (packets.Token t) = number_bytes w8 2 ++ token_bytes t

@@ -4,7 +4,7 @@ use crate::commit_members::CommitMembers;
 use std::alloc::{AllocError, Global};
 use totem_ids::RingId;
 
-/// Which time a commit token goes round the ring: the first time it is filled in, the second time it is full.
+/// The round of a commit token on the ring: in the first each member fills in its report, in the second all reports are filled in.
 #[derive(Clone, Copy, Debug, PartialEq, Eq, PartialOrd, Ord, Hash)]
 pub enum Round {
     First,

@@ -15,7 +15,7 @@ pub struct Report {
     pub ring: RingId,
     /// The member holds all messages up to this number; 0 means none.
     pub aru: u32,
-    /// The member has handed up all messages up to this number; 0 means none.
+    /// The member has delivered all messages up to this number to its node; 0 means none.
     pub delivered: u32,
     pub obligation: Processes,
 }
@@ -28,7 +28,7 @@ pub struct CommitMember {
 }
 
 impl Report {
-    /// Tells contracts that each value of a report is in its range: the types of its parts see to that.
+    /// Proves that each value of a report is in its range, as the types of its parts ensure.
     pub fn keeps_its_rule(&self)
         ensures { IsReport self.now }
     {
@@ -64,7 +64,7 @@ impl Report {
 }
 
 impl CommitMember {
-    /// Tells contracts that each value of a member is in its range: the types of its parts see to that.
+    /// Proves that each value of a member is in its range, as the types of its parts ensure.
     pub fn keeps_its_rule(&self)
         ensures { IsCommitMember self.now }
     {

@@ -38,7 +38,7 @@ impl CommitMembers {
         Ok(CommitMembers { list })
     }
 
-    /// Makes the members from a list that is known to keep the rules.
+    /// Makes the members from a list that the caller knows keeps the rules.
     pub fn of(list: Vec<CommitMember>) -> CommitMembers
         requires { IsCommitMembers list.items }
         ensures { result ≡ list.items }

@@ -1,4 +1,4 @@
-//! Packets, read from left to right.
+//! Reading packets from left to right.
 ghost use Rattle.std.specs.Prelude.{◌≡◌, Err, IfOk};
 ghost use Rattle.totem_packets.specs.Grammar.{token_at, join_at, packet_of, packet_at, decode_packet};
 ghost use Rattle.totem_packets.specs.Laws.{IsOfKind};
@@ -51,7 +51,7 @@ fn join(alloc: Global, reader: &mut Reader) -> Result<Join, PacketFault>
     })
 }
 
-/// Reads a packet, after which more bytes may follow.
+/// Reads a packet, which more bytes may follow.
 #[tactic(auto, using(crate::proofs::Falling::passes_on), unfolding(crate::specs::Grammar::packet_at, crate::specs::Grammar::packet_of, crate::specs::Grammar::message_packet_at, crate::specs::Grammar::token_packet_at, crate::specs::Grammar::join_packet_at, crate::specs::Grammar::commit_packet_at, crate::specs::Grammar::later_commit_packet_at))]
 fn packet(alloc: Global, reader: &mut Reader) -> Result<Packet, PacketFault>
     ensures reads { Reads (λ x. x) result reader.new (packet_at reader.old) }
@@ -67,7 +67,7 @@ fn packet(alloc: Global, reader: &mut Reader) -> Result<Packet, PacketFault>
     }
 }
 
-/// Returns the packet that all these bytes spell.
+/// Returns the packet whose spelling these bytes are.
 #[tactic(auto, using(crate::proofs::Falling::passes_on), unfolding(crate::specs::Grammar::decode_packet))]
 pub fn decode(alloc: Global, bytes: &[u8]) -> Result<Packet, PacketFault>
     ensures gives { Gives result (decode_packet bytes.now) }

@@ -1,4 +1,4 @@
-//! Packets, written from left to right.
+//! Writing packets from left to right.
 ghost use Rattle.std.specs.Prelude.{◌≡◌, ◌++◌, IfOk, OnOk};
 ghost use Rattle.totem_packets.specs.Spelling.{token_bytes, join_bytes, packet_bytes};
 

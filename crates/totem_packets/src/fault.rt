@@ -6,7 +6,7 @@ ghost use Rattle.totem_packets.specs.PacketFaults.{fault_number, fault_name};
 use std::alloc::{AllocError, AllocFailed};
 use thiserror::Error;
 
-/// Why bytes are not a packet: the first fault that is met from left to right.
+/// Why bytes are not a packet: the first fault from left to right.
 #[derive(Clone, Copy, Debug, PartialEq, Eq, Error)]
 pub enum PacketFault {
     #[error("a field needs more bytes than there are")]

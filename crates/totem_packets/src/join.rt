@@ -5,7 +5,7 @@ use crate::processes::Processes;
 use std::alloc::{AllocError, Global};
 use totem_ids::ProcId;
 
-/// The Join of a process that gathers: with whom it would form a ring, and which of these it thinks have failed.
+/// The Join of a gathering process: the processes with which it would form a ring, and which of them it thinks have failed.
 #[derive(Debug, Drop)]
 pub struct Join {
     pub sender: ProcId,

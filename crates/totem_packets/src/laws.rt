@@ -1,4 +1,4 @@
-//! Laws of the bytes of packets, each the contract of a function that does nothing.
+//! Laws of the bytes of packets. Each is the contract of an empty function.
 ghost use Rattle.std.specs.Prelude.{◌≡◌, ◌≢◌, ℕ, ◌↔◌, List, ◌∷◌, ◌++◌, Ok, Err};
 ghost use Rattle.totem_packets.specs.declared.fault.PacketFault.TheVariants.{Short, Kind, Range, Trailing, Memory};
 ghost use Rattle.totem_packets.specs.declared.packet.Packet.{Packet};
@@ -8,7 +8,7 @@ ghost use Rattle.totem_packets.specs.Parsing.{AreBytes};
 ghost use Rattle.totem_packets.specs.Ranges.{IsPacket};
 ghost use Rattle.totem_packets.specs.Spelling.{packet_bytes};
 
-/// The bytes that the grammar reads as a packet are the packet's spelling, and its values are in range.
+/// Bytes that the grammar reads as a packet are the packet's spelling, and its values are in range.
 #[tactic(auto, using(crate::proofs::Decided::read_spelled))]
 pub fn read_is_spelled()
     ensures { (bytes : List ℕ) (packet : Packet) → AreBytes bytes → decode_packet bytes ≡ Ok packet → IsPacket packet × (bytes ≡ packet_bytes packet) }
@@ -20,7 +20,7 @@ pub fn spelled_is_read()
     ensures { (packet : Packet) → IsPacket packet → decode_packet (packet_bytes packet) ≡ Ok packet }
 {}
 
-/// The first byte of a packet is 5 exactly where it is a commit token of which a member reports from a life above the first.
+/// The first byte of a packet is 5 exactly if the packet is a commit token in which a member reports from a life above the first.
 #[tactic(auto, using(crate::proofs::KindOfLives::told_by_kind))]
 pub fn kind_5_tells_later_lives()
     ensures { (packet : Packet) (kind : ℕ) (rest : List ℕ) → packet_bytes packet ≡ kind ∷ rest → (kind ≡ 5) ↔ TellsLaterLife packet }
@@ -32,38 +32,38 @@ pub fn no_packet_begins_another()
     ensures { (a b : Packet) (more rest : List ℕ) → IsPacket a → IsPacket b → packet_bytes a ++ more ≡ packet_bytes b ++ rest → (a ≡ b) × (more ≡ rest) }
 {}
 
-/// What is left of a packet that is cut is Short.
+/// A packet that is cut short has the fault Short.
 #[tactic(auto, using(crate::proofs::Decided::cut_is_short))]
 pub fn a_cut_packet_is_short()
     ensures { (packet : Packet) (front : List ℕ) (byte : ℕ) (rest : List ℕ) → IsPacket packet → packet_bytes packet ≡ front ++ byte ∷ rest → decode_packet front ≡ Err Short }
 {}
 
-/// At Short nothing is wrong with the bytes that are there: each of their beginnings is Short too.
+/// A Short fault means that nothing is wrong with the bytes so far: each beginning of them is Short too.
 #[tactic(auto, using(crate::proofs::Decided::short_before))]
 pub fn short_has_nothing_wrong()
     ensures { (front rest : List ℕ) → decode_packet (front ++ rest) ≡ Err Short → decode_packet front ≡ Err Short }
 {}
 
-/// Kind is the fault exactly where the first byte is of no kind of packet.
+/// The fault is Kind exactly if the first byte is of no kind of packet.
 #[tactic(auto, using(crate::proofs::Decided::kind_is_first))]
 pub fn kind_is_the_first_byte()
     ensures { (bytes : List ℕ) → (decode_packet bytes ≡ Err Kind) ↔ IsOfNoKind bytes }
 {}
 
-/// Range is the fault as soon as a field's value is known to be wrong: before some byte nothing is wrong, and from that
+/// The fault is Range as soon as a field's value is known to be wrong: before some byte nothing is wrong, and from that
 /// byte on the fault is Range, whatever follows.
 #[tactic(auto, using(crate::proofs::Decided::range_is_first))]
 pub fn range_is_known_at_once()
     ensures { (bytes : List ℕ) → decode_packet bytes ≡ Err Range → IsFirstWrong bytes }
 {}
 
-/// Trailing is the fault exactly where more bytes follow a packet.
+/// The fault is Trailing exactly if more bytes follow a packet.
 #[tactic(auto, using(crate::proofs::Decided::trailing_is_last))]
 pub fn trailing_is_behind_a_packet()
     ensures { (bytes : List ℕ) → AreBytes bytes → (decode_packet bytes ≡ Err Trailing) ↔ HasMore bytes }
 {}
 
-/// The grammar never gives Memory: that is no fault of the bytes.
+/// The grammar never gives Memory, which is no fault of the bytes.
 #[tactic(auto, using(crate::proofs::Decided::never_memory))]
 pub fn memory_is_no_fault_of_bytes()
     ensures { (bytes : List ℕ) → decode_packet bytes ≢ Err Memory }

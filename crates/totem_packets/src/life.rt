@@ -2,7 +2,7 @@ ghost use Rattle.std.specs.Prelude.{◌≡◌, ℕ, ◌<◌, MatchOption};
 
 use std::marker::Model;
 
-/// Which life of its identifier a process is, from 1 to 65535.
+/// The number of one of the lives of an identifier, from 1 to 65535.
 #[derive(Clone, Copy, Debug, PartialEq, Eq, PartialOrd, Ord, Hash)]
 pub struct Life {
     value: u16,
@@ -29,7 +29,7 @@ impl Life {
         Some(Life { value })
     }
 
-    /// Returns the life with a number that is known not to be 0.
+    /// Returns the life with a number that the caller knows is not 0.
     pub fn of(value: u16) -> Life
         requires { 0 < value }
         ensures { result ≡ value }

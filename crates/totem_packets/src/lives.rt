@@ -1,15 +1,15 @@
-//! Where the reports of a commit token tell lives (docs/PROTOCOL.md, "Packets").
+//! Whether the reports of a commit token carry lives (docs/PROTOCOL.md, "Packets").
 ghost use Rattle.std.specs.Prelude.{◌≡◌};
 ghost use Rattle.totem_packets.specs.Lives.{has_later_life, lives_of, commit_kind};
 
 use crate::commit_members::CommitMembers;
 
-/// Whether the reports of a commit token have a field for the life of the member that reports.
+/// Whether the reports of a commit token have a field for the life of the reporting member.
 #[derive(Clone, Copy, Debug, PartialEq, Eq, PartialOrd, Ord, Hash)]
 pub enum Lives {
-    /// Each report is a first life's, and none has the field.
+    /// Every report is from a first life, and none has the field.
     Untold,
-    /// Each report has the field.
+    /// Every report has the field.
     Told,
 }
 
@@ -33,7 +33,7 @@ impl CommitMembers {
         self.as_slice().iter().any(|member| 1 < member.life().get())
     }
 
-    /// Returns whether the reports tell lives: they do where a life is above the first.
+    /// Returns whether the reports carry lives: they do if one is above the first.
     pub(crate) fn lives_told(&self) -> Lives
         ensures { result ≡ lives_of self.now }
     {

@@ -8,12 +8,12 @@ use totem_ids::{ProcId, RingId, Service};
 /// What a message carries.
 #[derive(Debug, Drop)]
 pub enum Body {
-    /// Words that a client asked to send.
+    /// A message of a client.
     App {
         service: Service,
         payload: Payload,
     },
-    /// A message of an older ring, sent again on this one.
+    /// A message of an older ring that is sent again on this one.
     Old {
         ring: RingId,
         number: Number,
@@ -74,8 +74,8 @@ impl Body {
         }
     }
 
-    /// Copies the body without taking memory, since the copies share the payload. Fails only where the payload can
-    /// count no further owner.
+    /// Copies the body without taking memory: the copies share the payload. Fails only if the payload can count no further
+    /// owner.
     pub fn try_clone(&self) -> Result<Body, AllocError>
         ensures { IfOk result (λ b. b ≡ self.now) }
     {
@@ -113,8 +113,8 @@ impl Message {
             && self.body.is(&other.body)
     }
 
-    /// Copies the message without taking memory, since the copies share the payload. Fails only where the payload can
-    /// count no further owner.
+    /// Copies the message without taking memory: the copies share the payload. Fails only if the payload can count no
+    /// further owner.
     pub fn try_clone(&self) -> Result<Message, AllocError>
         ensures { IfOk result (λ m. m ≡ self.now) }
     {

@@ -29,7 +29,7 @@ impl Number {
         Some(Number { value })
     }
 
-    /// Returns the number with a value that is known not to be 0.
+    /// Returns the number with a value that the caller knows is not 0.
     pub fn of(value: u32) -> Number
         requires { 0 < value }
         ensures { result ≡ value }

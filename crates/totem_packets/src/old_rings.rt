@@ -1,4 +1,4 @@
-//! What the reports of a commit token say of an old ring (docs/PROTOCOL.md, "Recovery").
+//! What the reports of a commit token say about an old ring (docs/PROTOCOL.md, "Recovery").
 ghost use Rattle.std.specs.Prelude.{◌≡◌, ◌≤◌, length, map, filter, not, IfOk};
 ghost use Rattle.totem_ids.specs.Ranks.{id_of};
 ghost use Rattle.totem_packets.specs.Lives.{member_ranks, transitional_ranks};
@@ -50,7 +50,7 @@ impl CommitMembers {
         Ok(Processes::of(list))
     }
 
-    /// Returns the members, each in the life that it reports from. A member that has not reported counts as a first life.
+    /// Returns the members, each in the life that it reports from. A member that has not reported counts as being in its first life.
     pub fn lives(&self, alloc: Global) -> Result<Vec<Proc>, AllocError>
         ensures value { IfOk result (λ p. p.items ≡ member_ranks self.now) }
         ensures ids { IfOk result (λ p. map id_of p.items ≡ processes_of self.now) }
@@ -62,7 +62,7 @@ impl CommitMembers {
         Ok(list)
     }
 
-    /// Returns whether exactly these processes are the members. Takes no memory.
+    /// Returns whether the members are exactly these processes. Takes no memory.
     pub fn are(&self, processes: &Processes) -> bool
         ensures { result ≡ same_processes (processes_of self.now) processes.now }
     {
@@ -143,7 +143,7 @@ impl CommitMembers {
         least.unwrap_or(0)
     }
 
-    /// Returns the greatest number that the members from the ring `old` reported as handed up, or 0 if none comes from it.
+    /// Returns the greatest number that the members from the ring `old` reported as delivered to their nodes, or 0 if none comes from it.
     pub fn greatest_delivered(&self, old: &RingId) -> u32
         ensures { result ≡ greatest_delivered old.now self.now }
     {
@@ -158,8 +158,8 @@ impl CommitMembers {
         greatest
     }
 
-    /// Returns whether the process comes from the ring `old`, or is in an obligation set that was reported by one of
-    /// the members of `front` that come from it.
+    /// Returns whether the process comes from the ring `old`, or is in an obligation set that one of the members of
+    /// `front` from that ring reported.
     #[tactic(auto, unfolding(crate::specs::OldRings::is_obliged))]
     fn is_obliged(&self, old: &RingId, front: &[CommitMember], proc: ProcId) -> bool
         ensures { result ≡ is_obliged old.now self.now front.now proc }
@@ -219,7 +219,7 @@ impl CommitMembers {
         count
     }
 
-    /// Returns the obligation union: the transitional set of the ring `old` with all obligation sets that its members
+    /// Returns the obligation union: the transitional set of the ring `old` and all obligation sets that its members
     /// reported. `TooMany` if that would be more than 32 processes.
     pub fn obligation_union(&self, alloc: Global, old: &RingId) -> Result<Processes, SetFault>
         ensures { Makes result (obligation_union old.now self.now) }

@@ -31,7 +31,7 @@ impl Packet {
     #[tactic(auto, using(crate::proofs::Decided::spelled_read))]
     pub fn encode(&self, alloc: Global) -> Result<Vec<u8>, AllocError>
         ensures spelled { IfOk result (λ bytes. bytes.items ≡ packet_bytes self.now) }
-        // What is encoded is decoded.
+        // What is encoded can be decoded.
         ensures read { IfOk result (λ bytes. decode_packet bytes.items ≡ Ok self.now) }
         ensures range { IsPacket self.now }
     {
@@ -39,16 +39,16 @@ impl Packet {
         encode(alloc, self)
     }
 
-    /// Returns the packet that all these bytes spell, or the first fault that is met from left to right.
+    /// Returns the packet whose spelling these bytes are, or the first fault from left to right.
     #[tactic(auto, using(crate::proofs::Decided::spelled_read, crate::proofs::Decided::found))]
     pub fn decode(alloc: Global, bytes: &[u8]) -> Result<Packet, PacketFault>
-        // What is decoded is spelled so, and is in range.
+        // The bytes are the spelling of the decoded packet, which is in range.
         ensures spelled { IfOk result (λ packet. IsPacket packet × (bytes.now ≡ packet_bytes packet)) }
-        // What is spelled so is decoded, unless memory is refused.
+        // The spelling of a packet is decoded, unless memory is refused.
         ensures read { (packet : Packet) → IsPacket packet → bytes.now ≡ packet_bytes packet → Gives result (Ok packet) }
         // Each fault is the grammar's, unless memory is refused.
         ensures exact { Gives result (decode_packet bytes.now) }
-        // Bytes of no kind of packet, or none, take no memory.
+        // Bytes of no kind of packet, and no bytes at all, take no memory.
         ensures memory { result ≡ Err PacketFault.Memory → IsOfKind bytes.now }
     {
         decode(alloc, bytes)

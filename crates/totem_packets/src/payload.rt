@@ -42,7 +42,7 @@ impl Payload {
         Ok(Payload { bytes })
     }
 
-    /// Makes the payload of bytes that are known not to be too many.
+    /// Makes the payload of bytes that the caller knows are not too many.
     pub fn of(bytes: Bytes) -> Payload
         requires { IsPayload bytes }
         ensures { result ≡ bytes }
@@ -72,8 +72,8 @@ impl Payload {
         self.as_slice() == other.as_slice()
     }
 
-    /// Copies the payload without taking memory, since the copies share the bytes. Fails only where the bytes can count
-    /// no further owner.
+    /// Copies the payload without taking memory: the copies share the bytes. Fails only if the bytes can count no further
+    /// owner.
     pub fn try_clone(&self) -> Result<Payload, AllocError>
         ensures { IfOk result (λ p. p ≡ self.now) }
     {

@@ -36,7 +36,7 @@ impl Processes {
         Ok(Processes { procs })
     }
 
-    /// Makes the set of processes that are known to keep the rules.
+    /// Makes the set of processes that the caller knows keep the rules.
     pub fn of(procs: Vec<ProcId>) -> Processes
         requires { IsProcesses procs.items }
         ensures { result ≡ procs.items }

@@ -1,4 +1,4 @@
-//! Proofs, as functions that do nothing, that the types of a packet's parts keep its values in range.
+//! Proofs, as empty functions, that the types of a packet's parts keep its values in range.
 ghost use Rattle.totem_packets.specs.Ranges.{IsBody, IsMessage, IsToken, IsJoin, IsCommitToken, IsPacket};
 
 use crate::commit::CommitToken;
@@ -69,7 +69,7 @@ fn commit_keeps(token: &CommitToken)
     let _ = token.members.as_slice();
 }
 
-/// Tells contracts that each value of a packet is in its range.
+/// Proves that each value of a packet is in its range.
 pub fn keeps_its_ranges(packet: &Packet)
     ensures { IsPacket packet.now }
 {

@@ -1,4 +1,4 @@
-//! Commit tokens, read from left to right.
+//! Reading commit tokens from left to right.
 ghost use Rattle.std.specs.Prelude.{All, IfOk};
 ghost use Rattle.totem_packets.specs.CommitMembers.{IsCommitMember};
 ghost use Rattle.totem_packets.specs.Fields.{rising_at};
@@ -26,7 +26,7 @@ fn round(reader: &mut Reader) -> Result<Round, PacketFault>
     }
 }
 
-/// Reads the life of a report; where lives are not told, each is the first.
+/// Reads the life of a report. Where reports carry no lives, each is the first.
 #[tactic(auto, unfolding(crate::specs::Grammar::life_at))]
 fn life(reader: &mut Reader, lives: Lives) -> Result<Life, PacketFault>
     ensures { Reads (λ x. x) result reader.new (life_at lives reader.old) }
@@ -85,7 +85,7 @@ fn member(
     Ok(CommitMember { proc, report })
 }
 
-/// Reads `count` members whose processes rise strictly.
+/// Reads `count` members with strictly ascending processes.
 fn member_list(
     alloc: Global,
     reader: &mut Reader,
@@ -136,7 +136,7 @@ pub fn commit_token(
     })
 }
 
-/// Reads a commit token whose reports tell lives, which they may only where one is above the first.
+/// Reads a commit token whose reports carry lives. At least one of them has to be above the first.
 #[tactic(auto, using(crate::proofs::Falling::passes_on), unfolding(crate::specs::Grammar::later_commit_at))]
 pub fn later_commit_token(alloc: Global, reader: &mut Reader) -> Result<CommitToken, PacketFault>
     ensures { Reads (λ x. x) result reader.new (later_commit_at reader.old) }

@@ -1,4 +1,4 @@
-//! Strictly ascending lists of numbers and of processes, read from left to right.
+//! Reading strictly ascending lists of numbers and of processes from left to right.
 ghost use Rattle.std.specs.Prelude.{All, IfOk};
 ghost use Rattle.std.specs.Int.{w16, w32};
 ghost use Rattle.totem_ids.specs.Texts.{IsProcess};
@@ -14,7 +14,7 @@ use crate::requests::Requests;
 use std::alloc::Global;
 use totem_ids::ProcId;
 
-/// Reads `count` numbers that rise strictly.
+/// Reads `count` strictly ascending numbers.
 fn numbers(alloc: Global, reader: &mut Reader, count: u8) -> Result<Vec<Number>, PacketFault>
     ensures reads { Reads (λ x. x.items) result reader.new (rising_at (above_at w32) (λ n. n) count 0 reader.old) }
     ensures each { IfOk result (λ x. All IsNumber x.items) }
@@ -29,7 +29,7 @@ fn numbers(alloc: Global, reader: &mut Reader, count: u8) -> Result<Vec<Number>,
     Ok(numbers)
 }
 
-/// Reads `count` processes that rise strictly.
+/// Reads `count` strictly ascending processes.
 fn processes(alloc: Global, reader: &mut Reader, count: u8) -> Result<Vec<ProcId>, PacketFault>
     ensures reads { Reads (λ x. x.items) result reader.new (rising_at (above_at w16) (λ n. n) count 0 reader.old) }
     ensures each { IfOk result (λ x. All IsProcess x.items) }
@@ -44,7 +44,7 @@ fn processes(alloc: Global, reader: &mut Reader, count: u8) -> Result<Vec<ProcId
     Ok(procs)
 }
 
-/// Reads a count and then as many numbers that a token asks for.
+/// Reads a count, and then that many numbers that a token asks for.
 #[tactic(auto, using(crate::proofs::Falling::passes_on, crate::proofs::Lists::are_requests), unfolding(crate::specs::Fields::list_at))]
 pub fn requests(alloc: Global, reader: &mut Reader) -> Result<Requests, PacketFault>
     ensures { Reads (λ x. x) result reader.new (list_at w32 64 reader.old) }
@@ -54,7 +54,7 @@ pub fn requests(alloc: Global, reader: &mut Reader) -> Result<Requests, PacketFa
     Ok(Requests::of(numbers))
 }
 
-/// Reads a count and then the processes of a set.
+/// Reads a count, and then that many processes of a set.
 #[tactic(auto, using(crate::proofs::Falling::passes_on, crate::proofs::Lists::are_processes), unfolding(crate::specs::Fields::list_at))]
 pub fn process_set(alloc: Global, reader: &mut Reader) -> Result<Processes, PacketFault>
     ensures { Reads (λ x. x) result reader.new (list_at w16 32 reader.old) }

@@ -1,4 +1,4 @@
-//! Messages, read from left to right.
+//! Reading messages from left to right.
 ghost use Rattle.totem_packets.specs.Grammar.{app_at, old_at, body_of, body_at, message_at};
 ghost use Rattle.totem_packets.specs.Parsing.{Reads};
 

@@ -1,4 +1,4 @@
-//! The fields of packets, read from left to right.
+//! Reading the fields of packets from left to right.
 ghost use Rattle.std.specs.Prelude.{◌≡◌, ◌≢◌, ◌≤◌, ◌==◌, length, IfOk, IfErr};
 ghost use Rattle.std.specs.Int.{w8, w16, w32, w64};
 ghost use Rattle.totem_packets.specs.Parsing.{Reads};
@@ -14,7 +14,7 @@ use std::alloc::Global;
 use std::marker::Model;
 use totem_ids::{ProcId, RingId};
 
-/// The bytes of a packet that are still to be read. After a fault it is open which bytes are left.
+/// The bytes of a packet that are still to be read. Which bytes are left after a fault is unspecified.
 #[derive(Drop)]
 pub struct Reader<'a> {
     rest: &'a [u8],

@@ -37,7 +37,7 @@ impl Requests {
         Ok(Requests { numbers })
     }
 
-    /// Makes the requests for numbers that are known to keep the rules.
+    /// Makes the requests for numbers that the caller knows keep the rules.
     pub fn of(numbers: Vec<Number>) -> Requests
         requires { IsRequests numbers.items }
         ensures { result ≡ numbers.items }

@@ -10,11 +10,11 @@ use totem_ids::{ProcId, RingId};
 pub struct Token {
     pub ring: RingId,
     pub token_seq: TokenSeq,
-    /// The greatest number that was given to a message; 0 means none.
+    /// The greatest number given to a message; 0 means none.
     pub seq: u32,
-    /// All members are taken to hold all messages up to this number; 0 means none.
+    /// All members are taken to hold the messages up to this number; 0 means none.
     pub aru: u32,
-    /// The member that holds `aru` down, if one does.
+    /// The member that holds `aru` down, if any.
     pub aru_id: Option<ProcId>,
     /// The numbers of the messages that members lack and ask for.
     pub rtr: Requests,

@@ -2,7 +2,7 @@ ghost use Rattle.std.specs.Prelude.{◌≡◌, ℕ, ◌<◌, MatchOption};
 
 use std::marker::Model;
 
-/// How often a token was passed on, from 1 to 18446744073709551615.
+/// How often a token has been passed on, from 1 to 18446744073709551615.
 #[derive(Clone, Copy, Debug, PartialEq, Eq, PartialOrd, Ord, Hash)]
 pub struct TokenSeq {
     value: u64,
@@ -29,7 +29,7 @@ impl TokenSeq {
         Some(TokenSeq { value })
     }
 
-    /// Returns the count with a value that is known not to be 0.
+    /// Returns the count with a value that the caller knows is not 0.
     pub fn of(value: u64) -> TokenSeq
         requires { 0 < value }
         ensures { result ≡ value }

@@ -1,4 +1,4 @@
-//! Commit tokens, written from left to right after the bytes that are there.
+//! Writing commit tokens from left to right, after the bytes that the output has.
 ghost use Rattle.std.specs.Prelude.{◌≡◌, ◌++◌, OnOk};
 ghost use Rattle.std.specs.Int.{w8};
 ghost use Rattle.totem_packets.specs.Spelling.{round_number, number_bytes, life_bytes, report_bytes, member_bytes, commit_bytes};
@@ -19,7 +19,7 @@ fn put_round(out: &mut Vec<u8>, round: Round) -> Result<(), AllocError>
     }
 }
 
-/// Writes the life of a report where lives are told, and nothing where they are not.
+/// Writes the life of a report if reports carry lives, and nothing otherwise.
 fn put_life(out: &mut Vec<u8>, lives: Lives, life: Life) -> Result<(), AllocError>
     ensures { OnOk result (out.new.items ≡ out.old.items ++ life_bytes lives life) }
 {

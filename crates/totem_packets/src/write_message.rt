@@ -1,4 +1,4 @@
-//! Messages, written from left to right after the bytes that are there.
+//! Writing messages from left to right, after the bytes that the output has.
 ghost use Rattle.std.specs.Prelude.{◌≡◌, ◌++◌, OnOk};
 ghost use Rattle.std.specs.Int.{w8};
 ghost use Rattle.totem_packets.specs.Spelling.{app_kind, old_kind, number_bytes, body_bytes, message_bytes};

@@ -1,4 +1,4 @@
-//! The fields of packets, written from left to right after the bytes that are there.
+//! Writing the fields of packets from left to right, after the bytes that the output has.
 ghost use Rattle.std.specs.Prelude.{◌≡◌, ◌≤◌, ◌<◌, ◌^◌, ◌++◌, length, OnOk};
 ghost use Rattle.std.specs.Int.{w8, w16, w32, w64};
 ghost use Rattle.totem_packets.specs.Spelling.{number_bytes, ring_bytes, payload_bytes, number_or_zero, list_bytes};
@@ -70,7 +70,7 @@ pub fn put_payload(out: &mut Vec<u8>, payload: &Payload) -> Result<(), AllocErro
     out.extend_from_slice(bytes)
 }
 
-/// Writes the count of the numbers that a token asks for, and then the numbers.
+/// Writes the count of the numbers that a token asks for, then the numbers.
 #[tactic(auto, unfolding(crate::specs::Spelling::list_bytes))]
 pub fn put_requests(out: &mut Vec<u8>, requests: &Requests) -> Result<(), AllocError>
     ensures { OnOk result (out.new.items ≡ out.old.items ++ list_bytes w32 requests.now) }
@@ -83,7 +83,7 @@ pub fn put_requests(out: &mut Vec<u8>, requests: &Requests) -> Result<(), AllocE
     Ok(())
 }
 
-/// Writes the count of a set's processes, and then the processes.
+/// Writes the count of a set's processes, then the processes.
 #[tactic(auto, unfolding(crate::specs::Spelling::list_bytes))]
 pub fn put_process_set(out: &mut Vec<u8>, processes: &Processes) -> Result<(), AllocError>
     ensures { OnOk result (out.new.items ≡ out.old.items ++ list_bytes w16 processes.now) }

@@ -1,4 +1,4 @@
--- Adding to a list what holds of some index, one index after the other.
+-- Adding to a list everything for which a property holds at some index, one index after the other.
 use Rattle.std.proofs.Common.{◌≡◌, ◌⊎◌, ℕ, ◌+◌, ◌<◌, ◌≤◌, inl, inr, List, [], ◌∷◌, ◌++◌, sym, subst, arith}
 use Rattle.std.specs.Prelude.{Contains}
 use Rattle.std.proofs.lemmas.List.Elements.{Contains-push, Contains-append_left, Contains-push_cases}
@@ -6,7 +6,7 @@ use Rattle.totem_evs.specs.declared.pending.Pending.{Pending}
 use Rattle.totem_evs.proofs.LogOf.{less_or_not}
 use Rattle.totem_pass_d.specs.Pendings.{Adds}
 
--- it holds of an index from lo on and below n
+-- the property holds at an index from lo on and below n
 pub record Between (P : ℕ → Pending → Type 0) (lo n : ℕ) (x : Pending) : Type 0 where
   pub index : ℕ
   pub from : lo ≤ index

@@ -1,4 +1,4 @@
--- Where all is delivered that is sent, nothing is pending.
+-- If all that is sent is delivered, nothing is pending.
 use Rattle.std.proofs.Common.{◌≡◌, ℕ, zero, suc, ◌+◌, ◌-◌, ◌<◌, ◌≤◌, inl, inr, List, length, slice_get, Some, refl, sym, ap, ◌∙◌, arith}
 use Rattle.std.proofs.lemmas.Option.{slice_get_within, slice_get_cases}
 use Rattle.totem_ids.specs.declared.ring.RingId.{RingId}
@@ -24,7 +24,7 @@ use Rattle.totem_pass_d.proofs.Placing.{has_delivered, place_within, sends_at}
 use Rattle.totem_pass_d.specs.declared.origins.Origin.{Origin}
 use Rattle.totem_pass_d.specs.Uniform.{AreReplays, AreOrigins}
 
--- the places of a list that rises are no less than their indices
+-- the places of an ascending list are at least their indices
 at_least : (places : List ℕ) → ((k l u v : ℕ) → slice_get places k ≡ Some u → slice_get places l ≡ Some v → k < l → u < v) → (k u : ℕ) → slice_get places k ≡ Some u → k ≤ u
 at_least places rising zero u at = omega arith
 at_least places rising (suc k) u at = elim (slice_get_cases places k).1 [
@@ -32,7 +32,7 @@ at_least places rising (suc k) u at = elim (slice_get_cases places k).1 [
   | inl (v, below, stands, _) ↦ (let before = at_least places rising k v stands in let up = rising k (suc k) v u stands at (omega arith) in omega (arith, before, up))
 ]
 
--- and as far below a bound as their indices are below the last one
+-- and as far below a bound as the indices are below the last one
 at_most : (places : List ℕ) (n : ℕ) → ((k l u v : ℕ) → slice_get places k ≡ Some u → slice_get places l ≡ Some v → k < l → u < v) → ((k u : ℕ) → slice_get places k ≡ Some u → u < n) → (d k u : ℕ) → k + d + 1 ≡ length places → slice_get places k ≡ Some u → u + d < n
 at_most places n rising within zero k u long at = let under = within k u at in omega (arith, under)
 at_most places n rising within (suc d) k u long at = elim (slice_get_cases places (k + 1)).1 [
@@ -44,7 +44,7 @@ at_most places n rising within (suc d) k u long at = elim (slice_get_cases place
       )
 ]
 
--- so a list as long as its bound has each place
+-- so a list as long as the bound has each place
 has_each : (places : List ℕ) (n u : ℕ) → ((k l u v : ℕ) → slice_get places k ≡ Some u → slice_get places l ≡ Some v → k < l → u < v) → ((k u : ℕ) → slice_get places k ≡ Some u → u < n) → n ≤ length places → u < n → HasPlace places u
 has_each places n u rising within long below = elim (slice_get_cases places u).1 [
   | inr past ↦ absurd (let end = past.0 in omega (arith, long, below, end))
@@ -63,12 +63,12 @@ replay_of messages stays replays k stay are at = elim (slice_get_cases replays k
   | inl (replay, below, stands, _) ↦ (replay, stands, are.each k stay replay at stands)
 ]
 
--- a message of the sequence
+-- a message is in the sequence
 record IsOfSequence (messages : List MsgId) (m : MsgId) : Type 0 where
   pub place : ℕ
   pub is : slice_get messages place ≡ Some m
 
--- what is sent in c is of the sequence where all sends are taken
+-- a message sent in c is in the sequence, if all sends are taken
 sent_there : (run : List Log) (c : RingId) (stays : List Stay) (messages : List MsgId) (replays : List Replay) (origins : List Origin) (taken : List ℕ) (m : MsgId) → Facts run c stays → AreReplays messages stays replays → AreOrigins replays messages origins taken
     → AllTaken replays taken → WasSentIn run m (Regular c) → IsOfSequence messages m
 sent_there run c stays messages replays origins taken m facts are order all (p, i, (service, at)) =
@@ -87,7 +87,7 @@ sent_there run c stays messages replays origins taken m facts are order all (p, 
         let same : listed.sent.message ≡ m = cc in
         record { place = found.place; is = rw same at found.is }
 
--- nothing is pending for who delivers all of the sequence
+-- nothing is pending for a process that delivers all of the sequence
 pub none_pending_of : (run : List Log) (c : RingId) (stays : List Stay) (p : ℕ) (x : Pending) → Facts run c stays → IsCompleteOf stays p → IsPendingIn run c x → x.proc ≡ p → ⊥
 none_pending_of run c stays p x facts complete pending same = pending.missing (rw (sym same) at delivered)
   where
@@ -107,7 +107,7 @@ none_pending_of run c stays p x facts complete pending same = pending.missing (r
         full.count (slice_get_within complete.messages sent.place x.msg sent.is) in
         rw full.proc at (has_delivered run c complete.messages full.stay full.replay sent.place x.msg known is place sent.is)
 
--- where all do, each does
+-- if all processes do, each does
 complete_of : (stays : List Stay) (k : ℕ) (stay : Stay) → slice_get stays k ≡ Some stay → IsComplete stays → IsCompleteOf stays stay.proc
 complete_of stays k stay at complete = (let (replay, stands, is) = replay_of complete.messages stays complete.replays k stay complete.are at in record {
   messages = complete.messages;

@@ -1,4 +1,4 @@
--- Gathering the changes to one regular configuration, log by log.
+-- Collecting the changes to one regular configuration, log by log.
 use Rattle.std.proofs.Common.{◌≡◌, ℕ, ◌+◌, ◌<◌, ◌≤◌, inl, inr, List, [], ◌∷◌, ◌++◌, length, slice_get, Some, None, arith}
 use Rattle.std.specs.Prelude.{All, AllPairs, Contains}
 use Rattle.std.proofs.lemmas.Option.{slice_get_within}

@@ -1,4 +1,4 @@
--- What is found for 4 is the least list that breaks it: a delivery, its process's next change, and that of a process which
+-- The list found for 4 is the least that breaks it: a delivery, its process's next change, and that of a process that
 -- goes along without the message.
 use Rattle.std.proofs.Common.{◌≡◌, ℕ, zero, suc, ◌+◌, ◌<◌, ◌⊎◌, inl, inr, List, [], ◌∷◌, length, slice_get, Some, Bool, true, false, IsTrue, ◌↔◌, refl, sym, arith}
 use Rattle.std.specs.Bool.{OnTrue, OnFalse}
@@ -65,7 +65,7 @@ next_of_turn log c from turn end k is lt next =
       ]
     ]
 
--- what follows c stands at the turn
+-- the change to what follows c is at the turn
 pub turn_of : (run : List Log) (c : RingId) (stays : List Stay) (stay : Stay) (x : ConfId) → Facts run c stays → IsAmong stays stay → Follows (log_of run stay.proc) c x → ChangesTo (log_of run stay.proc) stay.turn x × (stay.turn < stay.end)
 turn_of run c stays stay x facts among f =
     let of = facts.each stay among in
@@ -74,7 +74,7 @@ turn_of run c stays stay x facts among f =
     let change : ChangesTo (log_of run stay.proc) stay.turn x = rw to at f.change in
     (change, (of.is.next (change_within (log_of run stay.proc) stay.turn x change)).0)
 
--- a process changes to x where its span begins, and goes on where it ends
+-- a process changes to x where its span starts, and goes on where it ends
 pub changes_there : (run : List Log) (c : RingId) (stays : List Stay) (stay : Stay) (x : ConfId) (ch nx : ℕ) → Facts run c stays → IsAmong stays stay → IsSpan x stay ch nx → Com (log_of run stay.proc) c x → ChangesTo (log_of run stay.proc) ch x
 changes_there run c stays stay (Regular r) ch nx facts among (is_ch, is_nx) (inl same) = rw (is_ch, same) (facts.each stay among).is.change
 changes_there run c stays stay (Regular r) ch nx facts among (is_ch, is_nx) (inr f) = absurd f.transitional
@@ -119,7 +119,7 @@ belongs run c stays stay (Transitional n l) ch nx facts among (is_ch, is_nx) cha
     let same = same_change (log_of run stay.proc) stay.turn stay.turn turn.conf (Transitional n l) refl turn.change at in
     inr (rw same at turn.follows)
 
--- who goes along without the message
+-- a process that goes along without the message
 partner_at : (run : List Log) (c : RingId) (m : MsgId) (x d : ConfId) (q k : ℕ) (rest : List Place) → IsOnePartner run c m x d (place q k ∷ rest) → IsPartner run c m x d q k
 partner_at run c m x d q k [] (j, is, h) = let same : j ≡ k = omega arith in rw same at h
 partner_at run c m x d q k (f ∷ more) h = absurd h
@@ -216,7 +216,7 @@ not_regular : (x : ConfId) → IsRegular x → IsTransitional x → ⊥
 not_regular (Regular c) r t = t
 not_regular (Transitional n l) r t = r
 
--- what follows c in one log follows it in each log that changes to it
+-- what follows c in one log follows it in each log that changes to what follows
 origin : (run : List Log) (c : RingId) (stays : List Stay) (p q i : ℕ) (x : ConfId) → Facts run c stays → Follows (log_of run p) c x → ChangesTo (log_of run q) i x → Follows (log_of run q) c x
 origin run c stays p q i x facts f change = elim (last_before (log_of run q) i) [
   | inr none ↦ absurd (not_regular x ((facts.meets.turns.each q).regular_first i x change none) f.transitional)
@@ -316,7 +316,7 @@ parted_at run c p i (f ∷ g ∷ []) (a, is, (j, is_f, (k, is_g, (same, (x, insi
 }
 parted_at run c p i (f ∷ g ∷ h ∷ rest) b = absurd b
 
--- the message, the configuration and the next change are those of the delivery
+-- the message, the configuration and the next change belong to the delivery
 record IsPartedBy (run : List Log) (c : RingId) (m : MsgId) (x : ConfId) (p nx : ℕ) (rest : List Place) : Type 0 where
   pub to : ConfId
   pub change : ChangesTo (log_of run p) nx to
@@ -397,7 +397,7 @@ deliveries_begin run c stays facts = record { each = λ places h. go places h }
         begins_at run c stays e i x (f ∷ g ∷ []) facts (rw (← is) refl) (Deliver m x, delivers, refl) inside
     go (e ∷ f ∷ g ∷ h ∷ rest) b = absurd b
 
--- where nothing breaks it, it holds
+-- if nothing breaks 4, it holds
 pub atomic : (run : List Log) (c : RingId) → HoldsOfNone (BreaksAtomicityIn run c) → AtomicityIn run c
 atomic run c none = record {
   each = λ p q x d inside (f, j, from, next, to) (g, k, from', next', to') i m at. elim (delivers_or_not (log_of run q) m x) [

@@ -1,4 +1,4 @@
--- Building the stays, arrival by arrival.
+-- Building the stays, one arrival after the other.
 use Rattle.std.proofs.Common.{◌≡◌, ℕ, ◌+◌, ◌<◌, ◌≤◌, ◌⊎◌, inl, inr, List, [], ◌∷◌, ◌++◌, length, get_or, slice_get, Some, IsTrue, ◌↔◌, refl, sym, ◌∙◌, ap, arith, length-append}
 use Rattle.std.proofs.lemmas.Option.{slice_get-get_or, slice_get_within, get_or_from_slice_get, slice_get_cases}
 use Rattle.totem_ids.specs.declared.ring.RingId.{RingId}
@@ -20,20 +20,20 @@ use Rattle.totem_evs.proofs.Pushing.{nothing, before_push}
 use Rattle.totem_run_rules.proofs.LogEnds.{ending_of_at, quiet_never_fails}
 use Rattle.totem_pass_d.proofs.KnownStays.{keeps_rules}
 
--- the stay is the one that begins at this change
+-- the stay starts at this change
 pub record IsStayAt (run : List Log) (c : RingId) (arrival : Arrival) (stay : Stay) : Type 0 where
   pub log : Log
   pub stands : slice_get run arrival.log ≡ Some log
   pub proc : stay.proc ≡ log.proc
   pub is : IsStayOf run c stay
 
--- the stay is the one that begins at the k-th change
+-- the stay starts at the k-th change
 pub record IsStayOfNth (run : List Log) (c : RingId) (arrivals : List Arrival) (k : ℕ) (stay : Stay) : Type 0 where
   pub arrival : Arrival
   pub listed : slice_get arrivals k ≡ Some arrival
   pub here : IsStayAt run c arrival stay
 
--- the stays that begin at the first n changes
+-- the stays that start at the first n changes
 pub record Gathered (run : List Log) (c : RingId) (arrivals : List Arrival) (stays : List Stay) (n : ℕ) : Type 0 where
   pub count : length stays ≡ n
   pub each : (k : ℕ) (stay : Stay) → slice_get stays k ≡ Some stay → IsStayOfNth run c arrivals k stay
@@ -54,7 +54,7 @@ one_more_stay run c arrivals stays n a s listed here before = record {
     newest : IsStayOfNth run c arrivals n s
     newest = record { arrival = a; listed = listed; here = here }
 
--- the stay that begins at a change to c
+-- the stay that starts at a change to c
 pub stay_at : (run : List Log) (c : RingId) (arrivals : List Arrival) (n : ℕ) (a : Arrival) (log : Log) (s : Stay) → MeetsPasses run → IsRun run → AreArrivals run c arrivals → slice_get arrivals n ≡ Some a
     → slice_get run a.log ≡ Some log → s.proc ≡ log.proc → s.log.now ≡ log.entries → IsTrue s.quiet ↔ (log.ending ≡ Quiet) → s.from ≡ a.at → AreNextTwo log.entries a.at s.turn s.end → IsStayAt run c a s
 stay_at run c arrivals n a log s meets is_run are listed stands proc entries tells from two = record { log = log; stands = stands; proc = proc; is = record { log = logs; few = few; quiet = quiet; unfailed = unfailed; is = is } }

@@ -1,4 +1,4 @@
--- What is found for 5 is the least list that breaks it: a cause, its effect, and a delivery of the effect without the cause
+-- The list found for 5 is the least that breaks it: a cause, its effect, and a delivery of the effect without the cause
 -- before it.
 use Rattle.std.proofs.Common.{◌≡◌, ℕ, ◌<◌, ◌≤◌, inl, inr, List, [], ◌∷◌, slice_get, Some, Bool, true, false, IsTrue, ◌↔◌, refl, sym, arith, rules, nat_lt}
 use Rattle.totem_ids.specs.declared.ring.RingId.{RingId}
@@ -29,7 +29,7 @@ use Rattle.totem_pass_d.proofs.Rests.{none_rest, least_rest, nothing_here, only_
 pub one_delivery_in : (run : List Log) (c : RingId) (stays : List Stay) (p i j : ℕ) (m : MsgId) → Facts run c stays → DeliversIn (log_of run p) c m i → DeliversIn (log_of run p) c m j → i ≡ j
 one_delivery_in run c stays p i j m facts (x, at_i, _) (y, at_j, _) = facts.meets.once.one_delivery p i j m x y at_i at_j
 
--- what no one delivers there, the log doesn't
+-- if no entry there delivers it, the log does not
 pub not_delivered_in : (run : List Log) (c : RingId) (stay : Stay) (m : MsgId) → StayFacts run c stay → DeliversNot stay.log.now c m → HasDelivered (log_of run stay.proc) c m → ⊥
 not_delivered_in run c stay m facts never h = never.never (rw facts.log h)
 
@@ -108,7 +108,7 @@ hop_by_delivery run c stays stay m p i j l b apart facts among here before decid
 pub lt_decided : (a b : ℕ) → IsTrue (nat_lt a b) ↔ (a < b)
 lt_decided a b = search rules
 
--- what is sent inside a stay is sent in c
+-- a message that is sent inside a stay is sent in c
 pub send_here : (run : List Log) (c : RingId) (stays : List Stay) (stay : Stay) (i : ℕ) (m : MsgId) (x : ConfId) (s : Service) → Facts run c stays → IsAmong stays stay → IsInside stay i → slice_get (log_of run stay.proc) i ≡ Some (Send m x s)
     → (x ≡ Regular c) × (i < stay.turn)
 send_here run c stays stay i m x s facts among inside at = (facts.each stay among).sends i m x inside (s, at)
@@ -189,7 +189,7 @@ causes_begin run c stays facts = record { each = λ places h. go places h }
         let there = index_of run e (Send first.0 (Regular c) first.1.0) first.1.1 in
         begins_at run c stays e there.0 (Regular c) rest facts there.1 (Send first.0 (Regular c) first.1.0, there.2, refl) (inl refl)
 
--- where nothing breaks it, it holds
+-- if nothing breaks 5, it holds
 pub causal : (run : List Log) (c : RingId) → HoldsOfNone (BreaksCausalityIn run c) → CausalityIn run c
 causal run c none = record {
   each = λ m n e f send effect hop r j delivers. elim (delivered_before_or_not (log_of run r) c m j) [

@@ -20,7 +20,7 @@ use Rattle.totem_ids.proofs.Exact.{equal_at, apart_or_at}
 use Rattle.totem_table.proofs.Exact.{change_by}
 use Rattle.totem_pass_d.specs.Comings.{KnowsComing, AreComings}
 
--- what is no change comes nowhere
+-- an entry that is not a change changes to no configuration
 pub spares_coming : (by_ring : RingId → RingId → Ordering) (by_change : Change → Change → Ordering) (rings : BTreeSet RingId) (indices : BTreeMap Change ℕ) (p : ℕ) (log : List Entry) (i : ℕ) → (IsChange log i → ⊥)
     → KnowsComing by_ring by_change rings indices p log i
 spares_coming by_ring by_change rings indices p log i never = record {

@@ -1,4 +1,4 @@
--- Whether all stays went as far as they ought to, stay by stay and member by member.
+-- Whether all stays are complete, stay by stay and member by member.
 use Rattle.std.proofs.Common.{◌≡◌, ℕ, ◌+◌, ◌<◌, ◌≤◌, inl, inr, List, length, slice_get, slice_index_or, Some, ap, ◌∙◌, arith}
 use Rattle.std.proofs.lemmas.Option.{slice_get-get_or, slice_get_within}
 use Rattle.totem_evs.proofs.LogOf.{less_or_not}
@@ -12,7 +12,7 @@ use Rattle.totem_pass_d.specs.Uniform.{HasAll, EachComplete}
 use Rattle.totem_pass_d.specs.Owed.{IsAlignment}
 use Rattle.totem_pass_d.specs.Completeness.{AllTaken, HaveAll, AreCompleteOf}
 
--- there are stays of the first n members
+-- the first n members have stays
 pub record HaveUpTo (stays : List Stay) (members : List ℕ) (n : ℕ) : Type 0 where
   pub each : (k q : ℕ) → k < n → slice_get members k ≡ Some q → HasStay stays q
 
@@ -69,7 +69,7 @@ one_more_taken replays taken n replay at sends before = record {
 pub all_taken : (replays : List Replay) (taken : List ℕ) (n : ℕ) → length replays ≤ n → TakenUpTo replays taken n → AllTaken replays taken
 all_taken replays taken n end h = record { each = λ k replay at. h.each k replay (let within = slice_get_within replays k replay at in omega (arith, within)) at }
 
--- who has all of a sequence beside which the stays are laid is complete
+-- a process that has all of a sequence with which the stays are compared is complete
 pub complete_of_all : (stays : List Stay) (found : Alignment) (those : Complete) → IsAlignment stays found → HaveAll stays found.replays.items (length found.messages.items) found.origins.taken.items those → AreCompleteOf stays those
 complete_of_all stays found complete.All is all = record {
   messages = found.messages.items;

@@ -1,4 +1,4 @@
--- What stands in a log, or does not.
+-- Deciding whether a log has an entry of some kind.
 use Rattle.std.proofs.Common.{◌≡◌, ℕ, zero, suc, ◌<◌, ◌⊎◌, inl, inr, List, [], ◌∷◌, length, get_or, slice_get, Some, refl, ap, arith}
 use Rattle.std.proofs.lemmas.Bool.{cases_eq}
 use Rattle.totem_ids.specs.declared.ring.RingId.{RingId}
@@ -20,13 +20,13 @@ use Rattle.totem_evs.proofs.LogOf.{less_or_not}
 use Rattle.totem_run_rules.proofs.Decisions.{same_list_or_not}
 use Rattle.totem_run_rules.proofs.SentOrNot.{first_or_none, same_conf_or_not, same_message_or_not, change_to_or_not, change_of, IsAnyChange, any_change_or_not, in_or_not}
 
--- both facts hold, or not both
+-- both hold, or not both
 pub both_or_not : {A B : Type 0} → A ⊎ (A → ⊥) → B ⊎ (B → ⊥) → (A × B) ⊎ (A × B → ⊥)
 both_or_not (inl a) (inl b) = inl (a, b)
 both_or_not (inl a) (inr never) = inr (λ h. never h.1)
 both_or_not (inr never) b = inr (λ h. never h.0)
 
--- one of them holds, or neither
+-- one of the two holds, or neither
 one_or_not : {A B : Type 0} → A ⊎ (A → ⊥) → B ⊎ (B → ⊥) → (A ⊎ B) ⊎ (A ⊎ B → ⊥)
 one_or_not (inl a) b = inl (inl a)
 one_or_not (inr never) (inl b) = inl (inr b)
@@ -140,7 +140,7 @@ delivers_in log c m i (Send n y s) at h = absurd h
 delivers_in log c m i (Deliver n y) at (same, inside) = (y, rw same at at, inside)
 delivers_in log c m i (Fail y) at h = absurd h
 
--- one before n
+-- such a delivery before n
 pub delivered_before_or_not : (log : List Entry) (c : RingId) (m : MsgId) (n : ℕ) → ((i : ℕ) × (i < n) × DeliversIn log c m i) ⊎ ((i : ℕ) → i < n → DeliversIn log c m i → ⊥)
 unfolding IsDeliveryIn
 delivered_before_or_not log c m n = elim (first_or_none log (λ i e. (i < n) × IsDeliveryIn log c m e) (λ i e. both_or_not (below_or_not i n) (delivery_in_or_not log c m e))) [
@@ -201,7 +201,7 @@ never_fails_or_not log = elim (first_or_none log (λ i e. IsFailure e) (λ i e. 
   | inr none ↦ inl (λ i x at. none i (Fail x) at tt)
 ]
 
--- no change stands after i
+-- there is no change after i
 pub record NoneAfter (log : List Entry) (i : ℕ) : Type 0 where
   pub none : (k : ℕ) (e : Entry) → i < k → slice_get log k ≡ Some e → IsAnyChange e → ⊥
 
@@ -211,7 +211,7 @@ none_after_or_not log i = elim (first_or_none log (λ k e. (i < k) × IsAnyChang
   | inr none ↦ inl (record { none = λ k e lt at h. none k e at (lt, h) })
 ]
 
--- the last change, to one of which P holds
+-- P holds for the last change
 IsLastWhere : (ConfId → Type 0) → List Entry → ℕ → Entry → Type 0
 IsLastWhere P log i (Conf y ms) = P y × NoneAfter log i
 IsLastWhere P log i (Send n y s) = ⊥

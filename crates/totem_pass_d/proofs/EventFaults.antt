@@ -32,12 +32,12 @@ use Rattle.totem_pass_d.proofs.Facts.{Facts, StayFacts, at_turn_no_name, here_de
 use Rattle.totem_pass_d.proofs.OneEvent.{IsOfOne}
 use Rattle.totem_pass_d.proofs.Reaching.{is_among_members, is_member, safe_in}
 
--- a process that has come, that is not excused there and has not delivered m, has missed it
+-- a process that has changed to c, is not excused and has not delivered m has missed it
 pub missed : (run : List Log) (c : RingId) (stay : Stay) (m : MsgId) → IsStayOf run c stay → (IsExcused stay → ⊥) → DeliversNot stay.log.now c m → DeliversOrEnds run stay.proc c m → ⊥
 missed run c stay m is other not (inl delivered) = not.never (rw is.log delivered)
 missed run c stay m is other not (inr ends) = not_excused run c stay is other ends
 
--- so has one that has never come
+-- so has a process that never changed to c
 pub absent : (run : List Log) (c : RingId) (q : ℕ) (m : MsgId) → MeetsPasses run → NeverComes run c q → DeliversOrEnds run q c m → ⊥
 absent run c q m meets never h = go h
   where
@@ -54,13 +54,13 @@ absent run c q m meets never h = go h
     go (inr (inr (loud, (d, fails, last, inl same)))) = never.never last.index (last.change.0, rw same at last.change.1)
     go (inr (inr (loud, (d, fails, last, inr f)))) = never.never f.from f.first.change
 
--- what a test of all members tells
+-- what a test of all members says
 pub all_or_not_all : (b : Bool) (P : ℕ → Type 0) (members : List ℕ) → MatchBool b (AllWithin P members 0 (length members)) ((k : ℕ) × (k < length members) × HoldsAt (λ q. P q → ⊥) members k)
     → OnTrue b (All P members) × OnFalse b (HoldsNotOfAll P members)
 all_or_not_all true P members h = (All-from_all_within P members h, tt)
 all_or_not_all false P members (k, lt, not) = (tt, record { member = get_or members k 0; among = (k, lt, get_or_default_zero members k _ lt); never = not 0 })
 
--- what is broken where a member is one of which it does not hold
+-- what is broken if the property does not hold for some member
 pub where_not : (b : Bool) (P Q : Type 0) → OnFalse b Q → (Q → P) → OnTrue (not b) P
 where_not true P Q h f = tt
 where_not false P Q h f = f h

@@ -1,4 +1,4 @@
--- Whom the end of a stay excuses: where its log is not quiet, the process failed or is open there.
+-- The processes that the end of a stay excuses: their logs are not quiet, and they failed or are open there.
 use Rattle.std.proofs.Common.{◌≡◌, ◌⊎◌, inl, inr, List, length, Bool, true, false, refl, arith}
 use Rattle.std.proofs.lemmas.Bool.{cases_eq}
 use Rattle.totem_ids.specs.declared.ring.RingId.{RingId}

@@ -1,4 +1,4 @@
--- What the stays of a run that meets the specifications of the first two passes tell of its logs.
+-- What the stays of a run that meets the specifications of the first two passes say about its logs.
 use Rattle.std.proofs.Common.{◌≡◌, ℕ, ◌<◌, ◌≤◌, inl, inr, List, length, slice_get, Some, refl, arith}
 use Rattle.totem_ids.specs.declared.ring.RingId.{RingId}
 use Rattle.totem_ids.specs.declared.conf.ConfId.{ConfId}
@@ -33,7 +33,7 @@ pub record StayFacts (run : List Log) (c : RingId) (stay : Stay) : Type 0 where
   pub few : stay.end ≤ 1000000
   pub size : length (log_of run stay.proc) ≤ 1000000
   pub is : IsStay (log_of run stay.proc) c stay.from stay.turn stay.end
-  -- what stands in it stands in c or in what follows it
+  -- an entry of the stay is in c or in what follows it
   pub stands : (i : ℕ) (x : ConfId) → IsInside stay i → Names (log_of run stay.proc) i x → Com (log_of run stay.proc) c x
   pub following : (i : ℕ) (x : ConfId) → stay.turn ≤ i → i < stay.end → Names (log_of run stay.proc) i x → ChangesTo (log_of run stay.proc) stay.turn x
   pub sends : (i : ℕ) (m : MsgId) (x : ConfId) → IsInside stay i → Sends (log_of run stay.proc) i m x → (x ≡ Regular c) × (i < stay.turn)
@@ -49,11 +49,11 @@ not_both : (x : ConfId) → IsRegular x → IsTransitional x → ⊥
 not_both (Regular c) r t = t
 not_both (Transitional n l) r t = r
 
--- what stands where a stay turns names no configuration
+-- the entry at the turn of a stay names no configuration
 pub at_turn_no_name : (log : List Entry) (c : RingId) (from turn end i : ℕ) (x : ConfId) → IsStay log c from turn end → turn < end → i ≡ turn → Names log i x → ⊥
 at_turn_no_name log c from turn end i x is lt same names = let t = is.turns lt in names_no_change log turn x (rw same at names) (t.conf, t.change)
 
--- what an entry inside a stay names is c or follows it
+-- an entry inside a stay names c or what follows it
 pub com_of : (log : List Entry) (c : RingId) (from turn end i : ℕ) (x : ConfId) → IsStay log c from turn end → from < i → i < end → Names log i x → Com log c x
 com_of log c from turn end i x is after until names = elim (less_or_not i turn) [
   | inl lt ↦ inl (is.regular i x after lt names)
@@ -87,7 +87,7 @@ sends_of log c from turn end i m x is r after until (s, at) = elim (less_or_not 
   ]
 ]
 
--- the stay that stands around an entry
+-- the stay around an entry
 stay_around : (run : List Log) (c : RingId) (stays : List Stay) (p i : ℕ) (x : ConfId) → MeetsPasses run → AreStays run c stays → Names (log_of run p) i x → Com (log_of run p) c x → StandsInside stays p i
 stay_around run c stays p i x meets are names belongs = found belongs
   where

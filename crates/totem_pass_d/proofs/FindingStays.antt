@@ -1,4 +1,4 @@
--- Looking for a stay, and in the stays for a send.
+-- Searching for a stay, and for a send in the stays.
 use Rattle.std.proofs.Common.{◌≡◌, ℕ, ◌+◌, ◌<◌, ◌≤◌, inl, inr, List, length, slice_get, Some, refl, ◌∙◌, ap, arith}
 use Rattle.std.proofs.lemmas.Option.{slice_get_within}
 use Rattle.totem_ids.specs.declared.ring.RingId.{RingId}
@@ -40,11 +40,11 @@ never_comes run c stays p n met are end before = record {
 pub record NotSent (log : List Entry) (m : MsgId) (i n : ℕ) : Type 0 where
   pub none : (k : ℕ) (x : ConfId) → i < k → k < n → Sends log k m x → ⊥
 
--- in none of the stays before the n-th is m sent in their regular configuration
+-- none of the stays before the n-th sends m in its regular configuration
 pub record NotSentBefore (stays : List Stay) (m : MsgId) (n : ℕ) : Type 0 where
   pub each : (k : ℕ) (s : Stay) → k < n → slice_get stays k ≡ Some s → NotSent s.log.now m s.from s.turn
 
--- a send in c stands before the turn
+-- a send in c is before the turn
 pub send_before_turn : (log : List Entry) (c : RingId) (from turn end i : ℕ) (m : MsgId) → IsStay log c from turn end → Sends log i m (Regular c) → (from < i) × (i < turn)
 send_before_turn log c from turn end i m is (v, at) = let here = is.here i (Regular c) (Send m (Regular c) v, at, refl) (inl refl) in (here.0, go here.1)
   where

@@ -1,4 +1,4 @@
--- What the indices of the sends and deliveries of the stays tell.
+-- What the indices of the sends and deliveries of the stays say.
 use Rattle.std.proofs.Common.{◌≡◌, ℕ, ◌+◌, ◌<◌, ◌≤◌, inl, inr, List, length, slice_get, Some, refl, sym, arith}
 use Rattle.std.specs.Prelude.{All}
 use Rattle.std.specs.declared.cmp.Ordering.{Ordering}
@@ -46,7 +46,7 @@ one_stay run c stays s t are a b same = elim (less_or_not a.at b.at) [
     below i j x y lt at_i at_j e =
         let h = rw (get_or_from_slice_get stays i x x at_i, get_or_from_slice_get stays j y x at_j) at (are.rising i j x lt (slice_get_within stays j y at_j)) in omega arith
 
--- there are as many indices as stays, and each tells of its own
+-- each stay has its own indices
 pub as_many : (cmp : MsgId → MsgId → Ordering) (act : Act) (stays : List Stay) (list : List Indexes) → ∥ AllTell cmp act stays list ∥₁ → length list ≡ length stays
 as_many cmp act stays list all = known.recovered all (cases_eq (length list) (length stays)) (λ a. a.long)
 
@@ -54,7 +54,7 @@ pub each_tells : (cmp : MsgId → MsgId → Ordering) (act : Act) (stays : List 
     → ∥ Tells (index_told cmp indexes) stay act stay.end ∥₁
 each_tells cmp act stays list k stay indexes all at listed = ∥∥₁_map all (λ a. a.each k stay indexes at listed)
 
--- what stands in a stay as sent is sent in its regular configuration
+-- a message that is sent in a stay is sent in its regular configuration
 pub sends_in : (run : List Log) (c : RingId) (list : List Stay) (stay : Stay) (i : ℕ) (m : MsgId) (x : ConfId) (v : Service) → ∥ MeetsPasses run ∥₁ → ∥ AreStays run c list ∥₁ → IsAmong list stay → stay.from < i → i < stay.end
     → slice_get stay.log.now i ≡ Some (Send m x v) → slice_get (log_of run stay.proc) i ≡ Some (Send m (Regular c) v)
 sends_in run c list stay i m x v met are among after until sends = rw regular at at

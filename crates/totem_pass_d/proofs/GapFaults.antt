@@ -1,5 +1,5 @@
--- What is found for 6.3 is the least list that breaks it: an earlier message, a later one, and who delivers the later one
--- alone.
+-- The list found for 6.3 is the least that breaks it: an earlier message, a later one, and a process that delivers only
+-- the later one.
 use Rattle.std.proofs.Common.{◌≡◌, ℕ, ◌+◌, ◌<◌, ◌≤◌, inl, inr, List, [], ◌∷◌, length, slice_get, Option, Some, None, Bool, true, false, IsTrue, ◌↔◌, refl, arith}
 use Rattle.std.specs.Prelude.{Contains, IfSome, IfNone}
 use Rattle.std.specs.Option.{is_some}
@@ -60,7 +60,7 @@ tells_member run p i q log members b meets logs are decides = record {
   );
 }
 
--- who lacks the earlier message
+-- a process that lacks the earlier message
 lack_at : (run : List Log) (c : RingId) (s : ℕ) (m n : MsgId) (q k : ℕ) (rest : List Place) → IsOneLack run c s m n (place q k ∷ rest) → IsLack run c s m n q k
 lack_at run c s m n q k [] (j, is, h) = let same : j ≡ k = omega arith in rw same at h
 lack_at run c s m n q k (f ∷ more) h = absurd h
@@ -131,7 +131,7 @@ least_lack run c stays stay s m n i j d rest facts among inside at lt least =
     (λ others h. (j, refl, (lt, (n, (d, at, (facts.each stay among).stands j d inside (Deliver n d, at, refl)), h))))
     (λ others h. later_at run c s m n i stay.proc j d others at h) least
 
--- what a look-up found
+-- the result of a look-up
 pub found_there : (o : Option ℕ) (P : ℕ → Type 0) → is_some o ≡ true → IfSome o P → (k : ℕ) × P k
 found_there None P is h = absurd cc
 found_there (Some k) P is h = (k, h)
@@ -183,7 +183,7 @@ none_everywhere run c stays m d p i facts at everyone = nothing_here (BreaksGapI
         let s = facts.inside q k x (Deliver n x, at_k, refl) belongs in
         lacks (rw (same, ← s.proc) (everyone.each s.stay s.among))
 
--- the sender of what is delivered in c or in what follows it sent it in c
+-- the sender of a message that is delivered in c or in what follows it sent it in c
 pub sent_in : (run : List Log) (c : RingId) (stays : List Stay) (m : MsgId) (p i : ℕ) → Facts run c stays → DeliversIn (log_of run p) c m i → WasSentIn run m (Regular c)
 sent_in run c stays m p i facts (d, at, belongs) = go (facts.meets.sent p i m d at)
   where
@@ -195,7 +195,7 @@ pub none_unsent : (run : List Log) (c : RingId) (stays : List Stay) (stay : Stay
 none_unsent run c stays stay m d i facts among inside at nobody = nothing_here (BreaksGapIn run c) stay.proc i (λ rest h.
     nobody.never (sent_in run c stays m stay.proc i facts (d, at, (facts.each stay among).stands i d inside (Deliver m d, at, refl))))
 
--- from the list after the earlier delivery to the whole
+-- from the list after the earlier delivery to the whole list
 later_of : (run : List Log) (c : RingId) (stays : List Stay) (m : MsgId) (d : ConfId) (p i : ℕ) (sending : Sending) → Facts run c stays → slice_get (log_of run p) i ≡ Some (Deliver m d) → IsSendingOf run c m sending
     → (j q k : ℕ) → IsGap run c p i j q k → IsLater run c sending.proc m i (place p j ∷ place q k ∷ [])
 later_of run c stays m d p i sending facts at of j q k (o, n, x, y, s, l, (z, at', b'), later, lt, at_k, belongs, send, member, lacks) =
@@ -209,7 +209,7 @@ gap_of run c m p i j (g ∷ []) sending delivers of (a, is, (lt, (n, later, (k, 
     (i, refl, (a, is, (k, is_g, (refl, (m, n, x, Regular c, sending.proc, sending.at, delivers, later, lt, at_k, belongs, (sending.service, of.sends), member, lacks)))))
 gap_of run c m p i j (g ∷ h ∷ rest) sending delivers of (a, is, (lt, (n, later, one))) = absurd one
 
--- the later delivery stands in the same stay
+-- the later delivery is in the same stay
 pub delivery_inside : (run : List Log) (c : RingId) (stays : List Stay) (stay : Stay) (n : MsgId) (j : ℕ) → Facts run c stays → IsAmong stays stay → DeliversIn (log_of run stay.proc) c n j → IsInside stay j
 delivery_inside run c stays stay n j facts among (d, at, belongs) =
     let bounds = (facts.each stay among).is.here j d (Deliver n d, at, refl) belongs in record { after = bounds.0; until = bounds.1 }
@@ -257,7 +257,7 @@ gaps_begin run c stays facts = record { each = λ places h. go places h }
         begins_at run c stays e i y (f ∷ g ∷ []) facts (rw (← is) refl) (Deliver m y, at, refl) belongs
     go (e ∷ f ∷ g ∷ h ∷ rest) b = absurd b
 
--- where nothing breaks it, it holds
+-- if nothing breaks 6.3, it holds
 pub no_gaps : (run : List Log) (c : RingId) → HoldsOfNone (BreaksGapIn run c) → NoGapsIn run c
 no_gaps run c none = record {
   each = λ m n p i j q k d earlier later lt at belongs s l x send member. elim (has_delivered_or_not (log_of run q) c m) [

@@ -1,4 +1,4 @@
--- Stays that go together, one after the other.
+-- Stays that go to the same configurations, one after the other.
 use Rattle.std.proofs.Common.{◌≡◌, ℕ, ◌+◌, ◌<◌, ◌≤◌, inl, inr, List, length, slice_get, Some, Bool, true, arith}
 use Rattle.std.proofs.lemmas.Option.{slice_get_within}
 use Rattle.totem_evs.proofs.LogOf.{less_or_not}
@@ -6,7 +6,7 @@ use Rattle.totem_pass_d.specs.declared.stay.Stay.{Stay}
 use Rattle.totem_pass_d.specs.declared.replay.Replay.{Replay}
 use Rattle.totem_pass_d.specs.Owed.{TellsTail, DiffersAt, GoAlikeBy, AllGoAlikeTo, IsJoinedBy, JoinsBy}
 
--- the list has what the stay delivers after the regular configuration, as far as its n-th delivery
+-- the list has what the stay delivers after the regular configuration, up to its n-th delivery
 pub record TailTo (first : Replay) (has : List Bool) (n : ℕ) : Type 0 where
   pub each : (k u : ℕ) → first.regular ≤ k → k < n → slice_get first.places.items k ≡ Some u → slice_get has u ≡ Some true
 
@@ -27,7 +27,7 @@ tail_more first has n u at there before = record {
 pub whole_tail : (first : Replay) (has : List Bool) (n : ℕ) → length first.places.items ≤ n → TailTo first has n → TellsTail first has
 whole_tail first has n end h = record { each = λ k u above at. h.each k u above (let within = slice_get_within first.places.items k u at in omega (arith, within, end)) at }
 
--- it holds of the first n stays and their replays
+-- the property holds for the first n stays and their replays
 pub record HoldsTo (stays : List Stay) (replays : List Replay) (P : Stay → Replay → Type 0) (n : ℕ) : Type 0 where
   pub each : (k : ℕ) (s : Stay) (r : Replay) → k < n → slice_get stays k ≡ Some s → slice_get replays k ≡ Some r → P s r
 

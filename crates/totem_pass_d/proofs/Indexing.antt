@@ -32,7 +32,7 @@ delivers_act log i m x at = rw at refl
 pub sends_act : (log : List Entry) (i : ℕ) (m : MsgId) (x : ConfId) → Sends log i m x → message_at log acts.Send i ≡ Some m
 sends_act log i m x (v, at) = rw at refl
 
--- what is delivered at an index
+-- the message that is delivered at an index
 pub act_delivers : (log : List Entry) (i : ℕ) (m : MsgId) → message_at log acts.Deliver i ≡ Some m → (x : ConfId) × Delivers log i m x
 act_delivers log i m does = go (slice_get log i) refl
   where
@@ -43,7 +43,7 @@ act_delivers log i m does = go (slice_get log i) refl
     go (Some (Deliver n x)) at = (x, (let h : Some n ≡ Some m = rw at at does in let same : n ≡ m = cc in rw same at at))
     go (Some (Fail x)) at = absurd (let h = rw at at does in cc)
 
--- what is sent at an index
+-- the message that is sent at an index
 pub act_sends : (log : List Entry) (i : ℕ) (m : MsgId) → message_at log acts.Send i ≡ Some m → (x : ConfId) × (v : Service) × (slice_get log i ≡ Some (Send m x v))
 act_sends log i m does = go (slice_get log i) refl
   where
@@ -54,7 +54,7 @@ act_sends log i m does = go (slice_get log i) refl
     go (Some (Deliver n x)) at = absurd (let h = rw at at does in cc)
     go (Some (Fail x)) at = absurd (let h = rw at at does in cc)
 
--- it is sent for the service that the entry tells
+-- it is sent for the service of the entry
 pub serves : (log : List Entry) (i : ℕ) (m : MsgId) (v : Service) → message_at log acts.Send i ≡ Some m → service_at log i ≡ Some v → (x : ConfId) × (slice_get log i ≡ Some (Send m x v))
 serves log i m v does is = (let sends = act_sends log i m does in let at = sends.2 in let told : Some sends.1 ≡ Some v = rw at at is in let same : sends.1 ≡ v = cc in (sends.0, rw same at at))
 
@@ -64,7 +64,7 @@ serves_not log i m does none = (let sends = act_sends log i m does in let at = s
 pub delivery_here : (stay : Stay) (m : MsgId) (i : ℕ) → IsActAt stay acts.Deliver m i → DeliversHere stay m i
 delivery_here stay m i h = let found = act_delivers stay.log.now i m h.does in record { after = h.after; until = h.until; conf = found.0; delivers = found.1 }
 
--- what a stay never delivers is not delivered in its configurations
+-- a message that a stay never delivers is not delivered in its configurations
 pub delivers_not : (run : List Log) (c : RingId) (stay : Stay) (m : MsgId) → IsStayOf run c stay → NeverActs stay acts.Deliver m → DeliversNot stay.log.now c m
 delivers_not run c stay m is none = record {
   never = λ (i, (x, at, inside)). (let here = is.is.here i x (Deliver m x, at, refl) inside in
@@ -75,7 +75,7 @@ pub never_delivers : (run : List Log) (c : RingId) (stay : Stay) (m : MsgId) (fo
 never_delivers run c stay m None is none = delivers_not run c stay m is none
 never_delivers run c stay m (Some i) is none = tt
 
--- ---- what is told
+-- ---- what the indices say
 
 pub told_yet : (told : MsgId → Option ℕ) (stay : Stay) (act : Act) → Tells told stay act (stay.from + 1)
 told_yet told stay act = record { each = λ i m lt h. absurd (let a = h.after in omega arith) }
@@ -95,12 +95,12 @@ told_whole told stay act n end before = record { each = λ i m lt h. before.each
 pub nothing_told : (told : MsgId → Option ℕ) (stay : Stay) (act : Act) (n : ℕ) → message_at stay.log.now act n ≡ None → Tells told stay act n → Tells told stay act (n + 1)
 nothing_told told stay act n none before = told_more told stay act n (λ m h. absurd (let does = h.does in cc)) before
 
--- this index is told of what is done at it
+-- this index is kept for the message of the act at it
 pub one_told : (told : MsgId → Option ℕ) (stay : Stay) (act : Act) (n : ℕ) (m : MsgId) → message_at stay.log.now act n ≡ Some m → told m ≡ Some n → Tells told stay act n → Tells told stay act (n + 1)
 one_told told stay act n m does at before = told_more told stay act n (λ k h. (let other = h.does in let same : m ≡ k = cc in record { at = n; told_of = rw same at at; does = h })) before
 
 module _ (cmp : MsgId → MsgId → Ordering) (exact : CmpEqualImpliesEq cmp) where
-  -- this index is entered under what is done at it
+  -- this index is entered for the message of the act at it
   pub one_entered : (map new : BTreeMap MsgId ℕ) (stay : Stay) (act : Act) (n : ℕ) (m : MsgId) → stay.from < n → n < stay.end → message_at stay.log.now act n ≡ Some m → tree.Updates cmp map new m (Some n)
       → Tells (tree.get cmp map) stay act n → Tells (tree.get cmp new) stay act (n + 1)
   one_entered map new stay act n m after until does h before = told_more (tree.get cmp new) stay act n (λ k g. (let other = g.does in let same : m ≡ k = cc in rw same at here)) (record {
@@ -113,7 +113,7 @@ module _ (cmp : MsgId → MsgId → Ordering) (exact : CmpEqualImpliesEq cmp) wh
       here : IsTold (tree.get cmp new) stay act m
       here = record { at = n; told_of = h.1; does = record { after = after; until = until; does = does } }
 
--- where an index is told, the stay does this at it or never
+-- if an index is kept for a message, the stay does this at the index or never
 pub told_or_never : (told : MsgId → Option ℕ) (stay : Stay) (act : Act) (m : MsgId) (i : ℕ) → Tells told stay act stay.end → told m ≡ Some i → (IsActAt stay act m i → ⊥) → (k : ℕ) → IsActAt stay act m k → ⊥
 told_or_never told stay act m i tells at not k h =
     let found = tells.each k m h.until h in
@@ -126,7 +126,7 @@ untold_never told stay act m tells none k h = let found = tells.each k m h.until
 
 -- ---- stay by stay
 
--- the indices of the first n stays tell
+-- the indices of the first n stays are complete
 abbrev pub TellTo : (MsgId → MsgId → Ordering) → Act → List Stay → List Indexes → ℕ → Type 0
 TellTo by_message act stays list n = Along (λ stay indexes. Tells (index_told by_message indexes) stay act stay.end) stays list n
 

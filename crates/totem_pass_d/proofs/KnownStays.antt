@@ -1,4 +1,4 @@
--- What the type of the stays keeps holds of them.
+-- The invariant of the stays holds.
 use Rattle.std.proofs.Common.{◌≡◌, ℕ, zero, suc, ◌<◌, ◌≤◌, ◌⊎◌, inl, inr, List, [], ◌∷◌, length, get_or, slice_get, Some, Bool, true, false, IsTrue, refl, arith}
 use Rattle.std.proofs.lemmas.Bool.{cases_eq}
 use Rattle.std.proofs.lemmas.Grind.{not_there}
@@ -25,7 +25,7 @@ use Rattle.totem_pass_d.proofs.Deciding.{both_or_not, below_or_not, same_log_or_
 use Rattle.totem_run_rules.specs.Stays.{Bounds}
 use Rattle.totem_run_rules.proofs.Staying.{KeepsRules, is_stay}
 
--- what is decided, and follows from what is known, holds
+-- what can be decided and follows from what is known holds
 pub recovered : {K A : Type 0} → ∥ K ∥₁ → A ⊎ (A → ⊥) → (K → A) → A
 recovered known (inl a) of = a
 recovered known (inr never) of = absurd (not_there known (λ k. never (of k)))
@@ -47,7 +47,7 @@ any_change_at_or_not log i = elim (first_or_none log (λ k e. (k ≡ i) × IsAny
   | inr none ↦ inr (λ (x, (ms, h)). none i (Conf x ms) h (refl, tt))
 ]
 
--- where a log stands at an index: there its last change before is to x
+-- where a log is at an index: its last change before is to x
 IsLastBefore : List Entry → ConfId → ℕ → ℕ → Entry → Type 0
 IsLastBefore log x n i e = (i < n) × ChangesTo log i x × ((k : ℕ) → i < k → k < n → IsChange log k → ⊥)
 
@@ -203,7 +203,7 @@ known_stay run c stay m known of = record {
     log : stay.log.now ≡ log_of run stay.proc
     log = recovered known (same_log_or_not stay.log.now (log_of run stay.proc)) (λ k. (of k).log)
 
--- what are known to be the stays are the stays
+-- the stays that are known are the stays
 pub stays : (run : List Log) (c : RingId) (list : List Stay) → MeetsPasses run → ∥ AreStays run c list ∥₁ → AreStays run c list
 stays run c list m known = record {
   each = λ k d lt. known_stay run c (get_or list k d) m known (λ a. a.each k d lt);

@@ -1,4 +1,4 @@
--- Where a process stops delivering what another delivers.
+-- The last delivery of a process that another process makes too.
 use Rattle.std.proofs.Common.{◌≡◌, ℕ, ◌+◌, ◌<◌, ◌≤◌, ◌⊎◌, inl, inr, List, [], ◌∷◌, ◌++◌, length, get_or, slice_get, Some, refl, sym, ◌∙◌, arith, length-append}
 use Rattle.std.proofs.Math.ListN.{get_or-append}
 use Rattle.std.proofs.lemmas.List.{get_or_push}
@@ -54,7 +54,7 @@ beyond_from run c p q n i le apart = record { each = λ j lt. apart.each j (omeg
 pub beyond_later : (run : List Log) (c : RingId) (p q i j : ℕ) → i ≤ j → IsBeyond run c p q i → IsBeyond run c p q j
 beyond_later run c p q i j le beyond = record { each = λ k lt. beyond.each k (omega arith) }
 
--- the last ones of the first n stays
+-- the last common deliveries of the first n stays
 pub record LastsTo (run : List Log) (c : RingId) (stays : List Stay) (p : ℕ) (lasts : List ℕ) (n : ℕ) : Type 0 where
   pub long : length lasts ≡ n
   pub each : (k : ℕ) (stay : Stay) → k < n → slice_get stays k ≡ Some stay → IsBeyond run c p stay.proc (get_or lasts k 0)
@@ -105,7 +105,7 @@ settled_more run c stays p m i n lasts stay known at up before = record {
 pub settled_whole : (run : List Log) (c : RingId) (stays : List Stay) (p : ℕ) (m : MsgId) (i n : ℕ) → length stays ≤ n → SettledTo run c stays p m i n → IsSettled run c stays p m i
 settled_whole run c stays p m i n end to = record { each = λ stay among. to.each among.at stay (omega (arith, slice_get_within stays among.at stay among.stands)) among.stands }
 
--- no gap begins at a message that is settled
+-- no gap starts at a message that is settled
 pub none_settled : (run : List Log) (c : RingId) (stays : List Stay) (m : MsgId) (d : ConfId) (p i : ℕ) → Facts run c stays → slice_get (log_of run p) i ≡ Some (Deliver m d) → IsSettled run c stays p m i → NoneFrom (BreaksGapIn run c) p i
 none_settled run c stays m d p i facts at settled = nothing_here (BreaksGapIn run c) p i (λ rest h. let g = gap_at run c p i rest h in go g.0 g.1 g.2 g.4)
   where

@@ -1,4 +1,4 @@
--- From what each job finds to the faults of the pass.
+-- From the findings of each job to the faults of the pass.
 use Rattle.std.proofs.Common.{◌≡◌, ◌<◌, ◌+◌, ℕ, inl, inr, List, [], ◌∷◌, ◌++◌, length, take, slice_get, Option, Some, None, refl, ap, arith}
 use Rattle.std.proofs.Common.{◌≤◌, zero, suc, Result, Ok, Err, IfOk}
 use Rattle.std.specs.Prelude.{slice_index_or}
@@ -26,7 +26,7 @@ one_more run k [] c fs (Some places) is least = rw is (inr (places, [], refl, le
 one_more run k (b ∷ cs) c fs found (inl (meets, more)) h = inl (meets, one_more run k cs c fs found more h)
 one_more run k (b ∷ cs) c fs found (inr (places, rest, is, least, more)) h = inr (places, rest ++ listed k found, rw is refl, least, one_more run k cs c rest found more h)
 
--- who is complete in one more configuration
+-- the complete processes in one more configuration
 more_complete : (run : List Log) (cs : List RingId) (c : RingId) (those : List Complete) (of : Complete) → length those ≡ length cs → AreCompleteIn run c of → AreComplete run cs those
     → (k : ℕ) (d : RingId) (here : Complete) → slice_get (cs ++ c ∷ []) k ≡ Some d → slice_get (those ++ of ∷ []) k ≡ Some here → AreCompleteIn run d here
 more_complete run [] c [] of long is h zero d here at told = (let same : c ≡ d = cc in let alike : of ≡ here = cc in rw (same, alike) at is)
@@ -91,7 +91,7 @@ each_found run rings found h = (
 pub all_listed : (run : List Log) (rings : List RingId) (found : Found) (faults : List Fault) → AreRings run rings → AreFound run rings found → faults ≡ all_found found → ListsConfigurations run faults
 all_listed run rings found faults are h is = record { rings = rings; are = are; lists = rw is (each_found run rings found h) }
 
--- what the job at an index finds, from what was found in its configuration
+-- the findings of the job at an index, given those of its configuration
 pub findings_at : (run : List Log) (rings : List RingId) (i : ℕ) (c of : RingId) (logs : List Log) (findings : Findings) → i < length rings → c ≡ slice_index_or rings i c → logs ≡ run → of ≡ c
     → AreFindings logs of findings → AreFindingsAt run rings i findings
 findings_at run rings i c of logs findings lt read same ring h = record {

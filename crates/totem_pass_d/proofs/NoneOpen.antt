@@ -1,4 +1,4 @@
--- Where no process is open in its stay, nothing is pending.
+-- If no process is open in its stay, nothing is pending.
 use Rattle.std.proofs.Common.{◌≡◌, inr, ℕ, List, All, slice_get, Some}
 use Rattle.std.proofs.lemmas.Option.{slice_get_within, get_or_from_slice_get}
 use Rattle.totem_ids.specs.declared.ring.RingId.{RingId}
@@ -16,14 +16,14 @@ use Rattle.totem_pass_d.proofs.Excusing.{not_excused}
 use Rattle.totem_pass_d.proofs.Facts.{Facts, StayFacts}
 use Rattle.totem_pass_d.proofs.WhatIsPending.{came_to}
 
--- the logs of stays are in place, as all logs of the run
+-- the logs of the stays are in place, like all logs of the run
 pub placed : (run : List Log) (c : RingId) (stays : List Stay) → MeetsPasses run → All (IsStayOf run c) stays → All IsPlacedStay stays
 placed run c stays meets each = λ k d lt. (let of = each k d lt in rw of.log (meets.placed _))
 
 no_failure : (log here : List Entry) → here ≡ log → HasFailed here → NeverFails log → ⊥
 no_failure log here same failed never = never failed.index failed.conf (rw same at failed.fails)
 
--- who is open in c has a stay whose end excuses it, and has not failed
+-- a process that is open in c has a stay whose end excuses it, and has not failed
 pub none_open : (run : List Log) (c : RingId) (stays : List Stay) → Facts run c stays → All EndsClosed stays → HasNonePending run c
 none_open run c stays facts closed = record { none = never }
   where

@@ -34,7 +34,7 @@ begins_inside Fact stays stand = record { each = λ places h. go places h }
         record { stay = s.stay; among = s.among; index = at.0; reached = s.inside; rest = []; is = ap (λ (f : Place). f ∷ []) (place_is e s.stay.proc at.0 s.proc at.1) }
     go (e ∷ f ∷ more) h = absurd h
 
--- it holds of lists of one event alone, of those that have the fact
+-- the relation holds exactly for lists of one event with the property
 pub record IsOfOne (H : List Place → Type 0) (Fact : ℕ → ℕ → Type 0) : Type 0 where
   pub empty : H [] → ⊥
   pub one : (e : Place) → H (e ∷ []) → At e Fact
@@ -54,7 +54,7 @@ least_of_one H Fact places of least = record { holds = to places least.holds; fi
     from (e ∷ []) h = of.one e h
     from (e ∷ f ∷ more) h = of.many e f more h
 
--- what a search for one event answers of a specification
+-- what the result of a search for one event says about a specification
 pub finds_event : {F : Type 0} (run : List Log) (c : RingId) (k : SpecNo) (r : Result (Option (List Place)) F) (Fact : ℕ → ℕ → Type 0) → IsOfOne (BreaksIn run c k) Fact → (((p i : ℕ) → Fact p i → ⊥) → MeetsIn run c k)
     → IfOk r (λ found. MatchOption found (HoldsOfNone (IsOneEvent Fact)) (IsLeast (IsOneEvent Fact))) → IfOk r (FindsIn run c k)
 finds_event run c k (Err e) Fact of meets h = tt

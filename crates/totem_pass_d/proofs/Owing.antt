@@ -1,4 +1,4 @@
--- What a stay lacks, from place to place.
+-- What a stay lacks, place by place.
 use Rattle.std.proofs.Common.{◌≡◌, ℕ, ◌+◌, ◌<◌, ◌≤◌, ◌⊎◌, inl, inr, List, length, get_or, slice_get, slice_set, replicate, Some, Bool, true, false, sym, ◌∙◌, ap, arith}
 use Rattle.std.proofs.lemmas.List.{get_or-replicate, length-replicate, length-set, get_or-set_same, get_or-set_other}
 use Rattle.std.proofs.lemmas.Option.{slice_get_within, slice_get-get_or, get_or_from_slice_get}
@@ -8,7 +8,7 @@ use Rattle.totem_pass_d.specs.declared.stay.Stay.{Stay}
 use Rattle.totem_pass_d.specs.Uniform.{HasPlace, IsTurnMember}
 use Rattle.totem_pass_d.specs.Owed.{TellsPlaces, IsNoted, OrderlyBy, IsGone}
 
--- it holds of each of the first n elements
+-- the property holds of each of the first n elements
 pub record UpTo {X : Type 0} (P : ℕ → X → Type 0) (xs : List X) (n : ℕ) : Type 0 where
   pub each : (i : ℕ) (x : X) → i < n → slice_get xs i ≡ Some x → P i x
 
@@ -50,7 +50,7 @@ nothing_told places n has is = rw is (record {
   whole = λ j u lt at below. absurd (omega arith);
 })
 
--- what stands at another index, and what stands at this one
+-- the elements at other indices, and the one at this index
 other_stays : (has : List Bool) (i u : ℕ) (b c : Bool) → (u ≡ i → ⊥) → slice_get (slice_set has i b) u ≡ Some c → slice_get has u ≡ Some c
 other_stays has i u b c other at =
     let within = slice_get_within (slice_set has i b) u c at in
@@ -124,14 +124,14 @@ all_told places n k has end h = record {
   whole = λ u lt found. h.whole found.at u (let within = slice_get_within places found.at u found.is in omega (arith, within, end)) found.is lt;
 }
 
--- a place that is before the last one and lacked by nobody who is still there
+-- before the last place the stay has every message of a sender that is still a member
 pub full_at : (stays : List Stay) (stay : Stay) (has : List Bool) (last u : ℕ) (o : Origin) → (u < last → (slice_get has u ≡ Some true) ⊎ IsGone stays o stay)
     → (s : Stay) → u < last → slice_get stays o.stay ≡ Some s → IsTurnMember stay s.proc → slice_get has u ≡ Some true
 full_at stays stay has last u o known s lt at member = elim (known lt) [ inl is ↦ is | inr gone ↦ absurd (gone.never s at member) ]
 
--- 5, as far as the first n places tell it
+-- 5, as far as the first n places show it
 pub record OrderlyTo (origins : List Origin) (has lost : List Bool) (gap n : ℕ) : Type 0 where
-  -- of a sender of which nothing is lost, all is there
+  -- nothing is missing of a sender that has lost nothing
   pub kept : (u : ℕ) (o : Origin) → u < n → slice_get origins u ≡ Some o → slice_get lost o.stay ≡ Some false → slice_get has u ≡ Some true
   pub front : (u : ℕ) → u < n → u < gap → slice_get has u ≡ Some true
   pub pairs : (u v : ℕ) (o p : Origin) → v < n → u < v → slice_get has v ≡ Some true → slice_get origins u ≡ Some o → slice_get origins v ≡ Some p → (o.stay ≡ p.stay) ⊎ (u < p.sent.before) → slice_get has u ≡ Some true

@@ -1,4 +1,4 @@
--- Where the messages of a uniform configuration stand in its sequence, in its stays, and with those who sent them.
+-- Where the messages of a uniform configuration are in its sequence, in its stays, and with their senders.
 use Rattle.std.proofs.Common.{◌≡◌, ℕ, ◌<◌, ◌≤◌, ◌⊎◌, inl, inr, List, length, slice_get, slice_index_or, Some, true, refl, ap, ◌∙◌, arith}
 use Rattle.std.proofs.lemmas.Option.{slice_get_within, slice_get_cases}
 use Rattle.totem_ids.specs.declared.ring.RingId.{RingId}
@@ -28,7 +28,7 @@ use Rattle.totem_pass_d.proofs.Facts.{Facts, StayFacts, here_delivers}
 
 -- ---- places
 
--- the k-th delivery of a stay delivers what stands at its place
+-- the k-th delivery of a stay delivers the message at its place
 pub delivers_at_rank : (run : List Log) (c : RingId) (messages : List MsgId) (stay : Stay) (replay : Replay) (k u : ℕ) → StayFacts run c stay → IsReplay messages stay replay → slice_get replay.places.items k ≡ Some u
     → (m : MsgId) × (slice_get messages u ≡ Some m) × ((i : ℕ) × (rank stay i ≡ k) × DeliversHere stay m i)
 delivers_at_rank run c messages stay replay k u known is at =
@@ -61,7 +61,7 @@ has_delivered run c messages stay replay u m known is has stands =
     let found = delivers_place run c messages stay replay has.at u m known is has.is stands in
     (found.0, here_delivers run c stay m found.0 known found.2)
 
--- where a stay delivers a message, it delivers each of those before it first that it has
+-- before it delivers a message, a stay delivers each earlier one that it has
 pub delivers_before : (run : List Log) (c : RingId) (messages : List MsgId) (stay : Stay) (replay : Replay) (j u v : ℕ) (m : MsgId) → StayFacts run c stay → IsReplay messages stay replay → IsInside stay j → slice_get replay.places.items (rank stay j) ≡ Some v
     → HasPlace replay.places.items u → u < v → slice_get messages u ≡ Some m → (i : ℕ) × (i < j) × DeliversIn (log_of run stay.proc) c m i
 delivers_before run c messages stay replay j u v m known is inside at has lt stands = (found.0, before, here_delivers run c stay m found.0 known found.2)
@@ -108,14 +108,14 @@ uniform_stay stays uniform stay among = elim (slice_get_cases uniform.replays am
   }
 ]
 
--- what the list of a stay tells
+-- what the list of a stay says
 pub told : (run : List Log) (c : RingId) (stays : List Stay) (uniform : IsUniform stays) (stay : Stay) (u : ℕ) → StayFacts run c stay → (of : IsUniformStay stays uniform stay) → HasPlace of.replay.places.items u → slice_get of.by.has u ≡ Some true
 told run c stays uniform stay u known of has =
     let within = place_within run c uniform.messages stay of.replay u known of.is has in
     let count = uniform.order.count in
     of.by.tells.whole u (omega (arith, within, count)) has
 
--- what a stay delivers stands at a place
+-- what a stay delivers has a place
 pub record IsPlaced (stays : List Stay) (uniform : IsUniform stays) (stay : Stay) (of : IsUniformStay stays uniform stay) (i : ℕ) (m : MsgId) : Type 0 where
   pub inside : IsInside stay i
   pub place : ℕ
@@ -160,7 +160,7 @@ delivers_as log own i m x y logs same at = rw (logs, same) at at
 pub sends_as : (log own : List Entry) (i : ℕ) (m n : MsgId) (x : ConfId) (service : Service) → log ≡ own → m ≡ n → slice_get log i ≡ Some (Send m x service) → slice_get own i ≡ Some (Send n x service)
 sends_as log own i m n x service logs same at = rw (logs, same) at at
 
--- who sent the v-th message
+-- the sender of the v-th message
 pub record HasOrigin (run : List Log) (c : RingId) (stays : List Stay) (uniform : IsUniform stays) (v : ℕ) (n : MsgId) : Type 0 where
   pub origin : Origin
   pub listed : slice_get uniform.origins v ≡ Some origin
@@ -199,7 +199,7 @@ origin_of run c stays uniform v n facts at = elim (slice_get_cases uniform.origi
               sends = sends_as stay.log.now (log_of run stay.proc) origin.sent.at origin.sent.message n sent.conf origin.sent.service known.log of.message sent.sends;
             }
 
--- what is delivered in c stands before the turn, and what is delivered in what follows c doesn't
+-- a delivery in c is before the turn, and a delivery in what follows c is not
 pub in_regular : (run : List Log) (c : RingId) (stays : List Stay) (stay : Stay) (i : ℕ) (m : MsgId) (x : ConfId) → Facts run c stays → StayFacts run c stay → IsInside stay i → Delivers (log_of run stay.proc) i m x → x ≡ Regular c → i < stay.turn
 in_regular run c stays stay i m x facts known inside at same = elim (less_or_not i stay.turn) [
   | inl lt ↦ lt
@@ -217,7 +217,7 @@ pub not_regular : (x : ConfId) (c : RingId) → x ≡ Regular c → IsTransition
 not_regular (Regular r) c same t = t
 not_regular (Transitional n l) c same t = cc
 
--- what the sender of the v-th message sent before it, or delivered in c before it, has a place before v
+-- what the sender of the v-th message sent, or delivered in c, before it has a place before v
 pub record IsCause (uniform_messages : List MsgId) (origins : List Origin) (v : ℕ) (n_origin : Origin) (m : MsgId) : Type 0 where
   pub place : ℕ
   pub below : place < v
@@ -277,7 +277,7 @@ heard_before run c stays uniform v n facts from i m lt at = record { place = pla
 
 -- ---- members and fronts
 
--- who is a member of what follows c is one of the change at the turn
+-- a member of what follows c is a member of the change at the turn
 pub turn_member : (run : List Log) (c : RingId) (stays : List Stay) (stay : Stay) (q : ℕ) (d : ConfId) → Facts run c stays → StayFacts run c stay → ChangesTo (log_of run stay.proc) stay.turn d → IsMember run d q → IsTurnMember stay q
 turn_member run c stays stay q d facts known (ms, at) (r, i, members, change, contains) =
     let same : ms ≡ members = facts.meets.one.members stay.proc stay.turn r i d ms members at change in

@@ -1,4 +1,4 @@
--- How many deliveries of a stay stand before an index.
+-- How many deliveries of a stay are before an index.
 use Rattle.std.proofs.Common.{◌≡◌, ℕ, zero, suc, ◌+◌, ◌-◌, ◌<◌, ◌≤◌, inl, inr, slice_get, Option, Some, None, refl, sym, ◌∙◌, ap, arith}
 use Rattle.totem_ids.specs.declared.conf.ConfId.{ConfId}
 use Rattle.totem_ids.specs.declared.message.MsgId.{MsgId}
@@ -18,7 +18,7 @@ rank_next stay i lt =
     let here : stay.from + suc (i - (stay.from + 1)) ≡ i = omega arith in
     rw one_more (ap (λ k. delivered stay.log.now stay.from (i - (stay.from + 1)) + one_if_delivered (slice_get stay.log.now k)) here)
 
--- after a delivery there is one more, and after another entry there are as many
+-- a delivery adds one, any other entry none
 pub rank_more : (stay : Stay) (i : ℕ) (m : MsgId) (x : ConfId) → stay.from < i → Delivers stay.log.now i m x → rank stay (i + 1) ≡ rank stay i + 1
 rank_more stay i m x lt at = rank_next stay i lt ∙ ap (λ o. rank stay i + one_if_delivered o) at
 

@@ -1,4 +1,4 @@
--- Safe messages, the members of the configuration in which a message is delivered, and whom they reach.
+-- Safe messages, the members of the configuration in which a message is delivered, and the members that it reaches.
 use Rattle.std.proofs.Common.{◌≡◌, ℕ, ◌<◌, ◌≤◌, inl, inr, List, slice_get, Some, Bool, true, false, IsTrue, ◌↔◌, refl, arith}
 use Rattle.std.specs.Prelude.{Contains}
 use Rattle.totem_ids.specs.declared.ring.RingId.{RingId}
@@ -24,7 +24,7 @@ use Rattle.totem_pass_d.specs.Acts.{IsSendingOf}
 use Rattle.totem_pass_d.specs.Reached.{IsSafeIn, AreMembersAt}
 use Rattle.totem_pass_d.proofs.KnownStays as known
 
--- a message that is sent with another service is not safe
+-- a message sent for another service is not safe
 pub not_safe : (run : List Log) (c : RingId) (m : MsgId) (s : Sending) → ∥ MeetsPasses run ∥₁ → IsSendingOf run c m s → (s.service ≡ Safe → ⊥) → IsSafeIn run c m → ⊥
 not_safe run c m s met sending other safe =
     let one = (known.meets run met).once.one_send safe.proc safe.index s.proc s.at m (Regular c) (Regular c) (Safe, safe.sends) (s.service, sending.sends) in
@@ -42,7 +42,7 @@ safe_or_not run c m s b met sending decides = (
     back true safe decides = refl
     back false safe decides = absurd (not_safe run c m s met sending (λ e. let t = decides.1 e in cc) safe)
 
--- one configuration follows c in a log
+-- at most one configuration follows c in a log
 pub one_follows : (log : List Entry) (c : RingId) (d e : ConfId) → Follows log c d → Follows log c e → d ≡ e
 one_follows log c d e f g =
     let from = same_first log (Regular c) f.from g.from f.first g.first in

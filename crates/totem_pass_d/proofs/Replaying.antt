@@ -56,7 +56,7 @@ places_same messages stay n places same none before = record {
   ];
 }
 
--- one that stands at the next place
+-- a delivery of the message at the next place
 places_more : (messages : List MsgId) (stay : Stay) (n place : ℕ) (places : List ℕ) (m : MsgId) (x : ConfId) → stay.from < n → Delivers stay.log.now n m x → slice_get messages place ≡ Some m → (n < stay.turn → place ≡ length places)
     → ((k u : ℕ) → slice_get places k ≡ Some u → u < place) → PlacesUpTo messages stay n places → PlacesUpTo messages stay (n + 1) (places ++ (place ∷ []))
 places_more messages stay n place places m x after here stands front below before = record { count = count; rising = rising; is = is }

@@ -1,4 +1,4 @@
--- How lists of places go on.
+-- How lists of places continue.
 use Rattle.std.proofs.Common.{◌≡◌, ℕ, zero, suc, ◌+◌, List, [], ◌∷◌, slice_get, Option, Some, None, Result, Ok, Err, IfOk, MatchOption, refl, ap, add-one, arith}
 use Rattle.std.specs.declared.alloc.AllocError.{AllocError}
 use Rattle.totem_ids.specs.declared.ring.RingId.{RingId}
@@ -19,7 +19,7 @@ use Rattle.totem_pass_d.specs.declared.stay.Stay.{Stay}
 use Rattle.totem_pass_d.specs.Search.{IsLeastWithin, IsInside, BeginsWithin}
 use Rattle.totem_pass_d.proofs.Facts.{Facts}
 
--- what holds of a list and what holds of the rest after a place
+-- what holds of a list, in terms of the rest after a place
 pub none_rest : (A B : List Place → Type 0) (p i : ℕ) → ((rest : List Place) → B (place p i ∷ rest) → A rest) → HoldsOfNone A → NoneFrom B p i
 none_rest A B p i from none = record { none = λ rest h. none.none rest (from rest h) }
 
@@ -29,7 +29,7 @@ least_rest A B p i rest to from least = record { least = record { holds = to res
 pub nothing_here : (B : List Place → Type 0) (p i : ℕ) → ((rest : List Place) → B (place p i ∷ rest) → ⊥) → NoneFrom B p i
 nothing_here B p i never = record { none = never }
 
--- the one index of a stay at which a list may begin
+-- the one index of a stay at which a list can start
 pub only_here : (Reaches : Stay → ℕ → Type 0) (H : List Place → Type 0) (stay : Stay) (k : ℕ) (places : List Place) → H (place stay.proc k ∷ []) → ((i : ℕ) (rest : List Place) → H (place stay.proc i ∷ rest) → i ≡ k)
     → places ≡ place stay.proc k ∷ [] → IsLeastWithin Reaches H stay places
 only_here Reaches H stay k places holds one is = record {
@@ -40,14 +40,14 @@ only_here Reaches H stay k places holds one is = record {
   none_before = record { none = λ i rest lt reached h. let same = one i rest h in omega arith };
 }
 
--- what a search answers for a specification
+-- what the result of a search says about a specification
 pub answered : (r : Result (Option (List Place)) AllocError) (run : List Log) (c : RingId) (k : SpecNo) → (HoldsOfNone (BreaksIn run c k) → MeetsIn run c k)
     → IfOk r (λ found. MatchOption found (HoldsOfNone (BreaksIn run c k)) (IsLeast (BreaksIn run c k))) → IfOk r (FindsIn run c k)
 answered (Err e) run c k meets h = tt
 answered (Ok None) run c k meets h = meets h
 answered (Ok (Some x)) run c k meets h = h
 
--- what stands at a place
+-- the entry at a place
 at_next : (log : List Entry) (i : ℕ) → at_place log (i + 1) ≡ slice_get log i
 at_next log i = rw add-one refl
 
@@ -57,7 +57,7 @@ sends_there run p i m x (s, at) = (s, rw at_next at at)
 pub there_sends : (run : List Log) (p i : ℕ) (m : MsgId) (x : ConfId) → Sends (log_of run p) i m x → SendsAt run (place p i) m x
 there_sends run p i m x (s, at) = (s, rw at_next at)
 
--- an event stands somewhere in its log
+-- an event is at some index of its log
 pub index_of : (run : List Log) (e : Place) (x : Entry) → entry_at run e ≡ Some x → (i : ℕ) × (e ≡ place e.proc i) × (slice_get (log_of run e.proc) i ≡ Some x)
 index_of run e x at = go e.at refl at
   where
@@ -68,7 +68,7 @@ index_of run e x at = go e.at refl at
     go zero h k = absurd cc
     go (suc i) h k = (i, rw add-one (named (suc i) h), k)
 
--- a list begins at an entry that names c or what follows it
+-- a list starts at an entry that names c or what follows it
 pub begins_at : (run : List Log) (c : RingId) (stays : List Stay) (e : Place) (i : ℕ) (x : ConfId) (rest : List Place) → Facts run c stays → e ≡ place e.proc i → Names (log_of run e.proc) i x → Com (log_of run e.proc) c x → BeginsWithin stays IsInside (e ∷ rest)
 begins_at run c stays e i x rest facts is names belongs =
     let s = facts.inside e.proc i x names belongs in

@@ -1,4 +1,4 @@
--- The rings that are gathered are those of the run, in their order.
+-- The rings that are collected are those of the run, in order.
 use Rattle.std.proofs.Common.{ℕ, List, IsTrue}
 use Rattle.std.specs.declared.cmp.Ordering.{Ordering}
 use Rattle.std.specs.BTreeSet.{BTreeSet, IsOrdered}

@@ -1,4 +1,4 @@
--- What is found stay by stay is the least of all.
+-- The least list found stay by stay is the least of all.
 use Rattle.std.proofs.Common.{◌≡◌, ℕ, ◌+◌, ◌<◌, ◌≤◌, inl, inr, List, ◌∷◌, length, slice_get, Some, refl, sym, ap, arith}
 use Rattle.std.proofs.lemmas.Option.{slice_get_within, get_or_from_slice_get}
 use Rattle.totem_ids.specs.declared.ring.RingId.{RingId}
@@ -31,7 +31,7 @@ none_inside H stay n end before = record { none = λ i rest inside h. let until 
 pub least_inside : (H : List Place → Type 0) (stay : Stay) (n : ℕ) (rest places : List Place) → places ≡ place stay.proc n ∷ rest → IsLeastFrom H stay.proc n rest → NoneBelow IsInside H stay n → IsLeastWithin IsInside H stay places
 least_inside H stay n rest places is least before = record { at = n; rest = rest; is = is; least = least; none_before = before }
 
--- stay by stay: it holds of no list that begins in a stay before the k-th
+-- stay by stay: no list that starts in a stay before the k-th is in the relation
 pub record NoneBefore (stays : List Stay) (Reaches : Stay → ℕ → Type 0) (H : List Place → Type 0) (k : ℕ) : Type 0 where
   pub none : (j i : ℕ) (stay : Stay) (rest : List Place) → j < k → slice_get stays j ≡ Some stay → Reaches stay i → H (place stay.proc i ∷ rest) → ⊥
 
@@ -58,7 +58,7 @@ none_at_end stays Reaches H k end begins before = record {
       before.none b.among.at b.index b.stay b.rest (omega (arith, slice_get_within stays b.among.at b.stay b.among.stands)) b.among.stands b.reached (rw b.is at h);
 }
 
--- of two stays, the earlier is that of the lesser process
+-- of two stays the earlier is that of the lesser process
 rises : (run : List Log) (c : RingId) (stays : List Stay) (j k : ℕ) (a b : Stay) → AreStays run c stays → slice_get stays j ≡ Some a → slice_get stays k ≡ Some b → j < k → a.proc < b.proc
 rises run c stays j k a b are at_j at_k lt =
     let h = are.rising j k a lt (slice_get_within stays k b at_k) in

@@ -1,4 +1,4 @@
--- Whether no stay lacks anything that its process owes, stay by stay.
+-- Whether every stay has all that its process owes, stay by stay.
 use Rattle.std.proofs.Common.{ℕ, ◌+◌, ◌<◌, ◌≤◌, inl, inr, List, length, arith}
 use Rattle.totem_evs.proofs.LogOf.{less_or_not}
 use Rattle.totem_pass_d.specs.declared.stay.Stay.{Stay}

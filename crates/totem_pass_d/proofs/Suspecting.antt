@@ -99,7 +99,7 @@ module _ (cmp : MsgId → MsgId → Ordering) where
 
 -- ---- one walk
 
--- what the sender sends at i or later the receiver delivers at `early` or later
+-- the receiver delivers what the sender sends at i or later at `early` or later
 pub record Earliest (run : List Log) (c : RingId) (sender receiver : Stay) (i early : ℕ) : Type 0 where
   pub each : (j k : ℕ) (n : MsgId) (x : ConfId) (service : Service) → i ≤ j → j < sender.turn → slice_get (log_of run sender.proc) j ≡ Some (Send n x service) → DeliversIn (log_of run receiver.proc) c n k → early ≤ k
 
@@ -207,9 +207,9 @@ senders_more cmp now then run c stays sender n at here has before = record {
 pub all_senders : (cmp : MsgId → MsgId → Ordering) (s : BTreeSet MsgId) (run : List Log) (c : RingId) (stays : List Stay) (n : ℕ) → length stays ≤ n → AreSuspects cmp s run c stays n → AreSuspects cmp s run c stays (length stays)
 all_senders cmp s run c stays n end are = record { each = λ k sender l receiver lt at_k at_l. are.each k sender l receiver (omega arith) at_k at_l }
 
--- ---- what breaks 5 begins with a suspect
+-- ---- what breaks 5 starts with a suspect
 
--- a send in c stands in the regular part of its process's stay
+-- a send in c is in the regular part of its process's stay
 record SentInside (stays : List Stay) (p j : ℕ) : Type 0 where
   stay : Stay
   among : IsAmong stays stay
@@ -242,7 +242,7 @@ module _ (cmp : MsgId → MsgId → Ordering) (s : BTreeSet MsgId) (run : List L
   from_delivery : (p i j r k : ℕ) (m n : MsgId) (v : Service) → i < j → Delivers (log_of run p) i m (Regular c) → slice_get (log_of run p) j ≡ Some (Send n (Regular c) v) → DeliversIn (log_of run r) c n k → ComesNotBefore run c r m k → IsSuspect cmp s m
   from_delivery p i j r k m n v lt at_i at_j d never = by_walk p i j r k (Deliver m (Regular c)) m n v lt at_i (Deliver m (Regular c), at_i, refl) refl at_j d never
 
-  -- the send of the earlier message stands in the later one's log
+  -- the send of the earlier message is in the later one's log
   in_one_log : (p q a j r k : ℕ) (m n : MsgId) (u v : Service) → at_place (log_of run q) a ≡ Some (Send m (Regular c) u) → q ≡ p → a < suc j → slice_get (log_of run p) j ≡ Some (Send n (Regular c) v) → DeliversIn (log_of run r) c n k
       → ComesNotBefore run c r m k → IsSuspect cmp s m
   in_one_log p q zero j r k m n u v at_e same lt at_j d never = absurd cc

@@ -1,4 +1,4 @@
--- Taking sends one after the other, as the messages of a sequence ask for them.
+-- Taking sends one after the other, in the order of the messages of a sequence.
 use Rattle.std.proofs.Common.{◌≡◌, ℕ, zero, ◌+◌, ◌<◌, ◌≤◌, inl, inr, List, [], ◌∷◌, ◌++◌, length, slice_get, slice_index_or, slice_set, replicate, Some, refl, sym, ◌∙◌, ap, arith, length-append}
 use Rattle.std.proofs.lemmas.List.{get_or-replicate, length-replicate, get_or_past, length-set, get_or-set_same, get_or-set_other}
 use Rattle.std.proofs.lemmas.Option.{slice_get_within}
@@ -10,7 +10,7 @@ use Rattle.totem_pass_d.specs.declared.origins.Origin.{Origin}
 use Rattle.totem_pass_d.specs.Uniform.{IsBelow, SendsNext, IsOrigin, OriginsUpTo}
 use Rattle.totem_evs.proofs.Pushing.{before_push, stands_before, stands_last}
 
--- one number of a list is greater by one, and the others are as they were
+-- one number of a list is greater by one, and the others are unchanged
 pub record IsOneMore (old new : List ℕ) (k : ℕ) : Type 0 where
   pub long : length new ≡ length old
   pub here : slice_index_or new k 0 ≡ slice_index_or old k 0 + 1
@@ -52,7 +52,7 @@ grows old new k i more = elim (less_or_not i k) [
   ]
 ]
 
--- one more origin keeps those before
+-- one more origin keeps the earlier ones
 raised : (messages : List MsgId) (origins : List Origin) (o : Origin) (n k : ℕ) (m : MsgId) → IsBelow messages origins n k m → IsBelow messages (origins ++ (o ∷ [])) (n + 1) k m
 raised messages origins o n k m h = record { place = h.place; below = (let below = h.below in omega arith); is = h.is; origin = h.origin; listed = stands_before origins o h.place h.origin h.listed; stay = h.stay }
 

@@ -1,4 +1,4 @@
--- In a uniform configuration who goes together delivers the same messages.
+-- In a uniform configuration, processes that go together deliver the same messages.
 use Rattle.std.proofs.Common.{◌≡◌, ℕ, ◌-◌, ◌<◌, ◌≤◌, inl, inr, List, slice_get, Some, refl, sym, arith}
 use Rattle.totem_ids.specs.declared.ring.RingId.{RingId}
 use Rattle.totem_ids.specs.declared.conf.ConfId.{ConfId}
@@ -23,7 +23,7 @@ use Rattle.totem_run_rules.proofs.Staying.{same_change}
 use Rattle.totem_pass_d.proofs.AtomicityFaults.{turn_of, goes_along, next_of_from, next_of_turn}
 use Rattle.totem_pass_d.proofs.Placing.{IsUniformStay, uniform_stay, IsPlaced, placed, delivers_place, delivers_as, in_regular, not_regular}
 
--- what a stay delivers after the regular configuration stands at a place after those of that
+-- what a stay delivers after the regular configuration has a place after those of the regular configuration
 tail_above : (run : List Log) (c : RingId) (messages : List MsgId) (stay : Stay) (replay : Replay) (k u : ℕ) → StayFacts run c stay → IsReplay messages stay replay → replay.regular ≤ k → slice_get replay.places.items k ≡ Some u → replay.regular ≤ u
 tail_above run c messages stay replay k u known is above at = elim (less_or_not 0 replay.regular) [
   | inl some ↦ (
@@ -40,14 +40,14 @@ tail_above run c messages stay replay k u known is above at = elim (less_or_not 
   | inr rest ↦ elim rest [ inl over ↦ absurd (omega (arith, over)) | inr none ↦ omega (arith, none) ]
 ]
 
--- a stay of which the log goes from c to d changes to d at its turn
+-- a stay whose log goes from c to d changes to d at its turn
 turns_to : (run : List Log) (c : RingId) (stays : List Stay) (stay : Stay) (d : ConfId) → Facts run c stays → StayFacts run c stay → Goes (log_of run stay.proc) (Regular c) d → ChangesTo (log_of run stay.proc) stay.turn d
 turns_to run c stays stay d facts known (a, b, change, next, to) =
     let from = facts.meets.one.once stay.proc a stay.from (Regular c) change known.is.change in
     let turns = next_of_from (log_of run stay.proc) c stay.from stay.turn stay.end b known.is (rw from at next) in
     rw turns at to
 
--- and one of which the log goes from what follows c to d changes to that at its turn and to d at its end
+-- a stay whose log goes from what follows c to d changes to the former at its turn and to d at its end
 record GoesOn (run : List Log) (stay : Stay) (x d : ConfId) : Type 0 where
   pub turn : ChangesTo (log_of run stay.proc) stay.turn x
   pub end : ChangesTo (log_of run stay.proc) stay.end d

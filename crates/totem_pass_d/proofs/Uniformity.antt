@@ -123,7 +123,7 @@ caused run c stays facts uniform = record { each = each }
 
 -- ---- 6.3
 
--- two stays of one process are one
+-- two stays of one process are equal
 same_index : (run : List Log) (c : RingId) (stays : List Stay) (k l : ℕ) (s t : Stay) → AreStays run c stays → slice_get stays k ≡ Some s → slice_get stays l ≡ Some t → s.proc ≡ t.proc → k ≡ l
 same_index run c stays k l s t are at_s at_t same = elim (less_or_not k l) [
   | inl lt ↦ absurd (rises k l s t at_s at_t lt same)
@@ -136,7 +136,7 @@ same_index run c stays k l s t are at_s at_t same = elim (less_or_not k l) [
         let below : a.proc < b.proc = rw (get_or_from_slice_get stays i a a at_a, get_or_from_slice_get stays j b a at_b) at up in
         omega (arith, below, equal)
 
--- a message stands at one place
+-- a message is at one place only
 one_place : (run : List Log) (c : RingId) (stays : List Stay) (uniform : IsUniform stays) (u v : ℕ) (n : MsgId) → Facts run c stays → AreStays run c stays → slice_get uniform.messages u ≡ Some n → slice_get uniform.messages v ≡ Some n → u ≡ v
 one_place run c stays uniform u v n facts are at_u at_v = elim (less_or_not u v) [
   | inl lt ↦ absurd (apart u v at_u at_v lt)
@@ -213,7 +213,7 @@ no_gaps run c stays facts are uniform = record { each = λ m n p i j q k d first
         sender : from.stay.proc ≡ s
         sender = (facts.meets.once.one_send from.stay.proc from.origin.sent.at s l m from.conf x (from.origin.sent.service, from.sends) (service, sends)).0
 
-        -- in the regular configuration a stay has all places before, and in what follows it those of members
+        -- in the regular configuration a stay has all places before; in what follows it, those of members
         in_front : k < other.stay.turn → HasPlace other.of.replay.places.items one.place
         in_front early =
             let front = three.front early in
@@ -239,7 +239,7 @@ no_gaps run c stays facts are uniform = record { each = λ m n p i j q k d first
 
 -- ---- 7
 
--- who is a member of c or of what follows it in a log has a stay
+-- a member of c, or of what follows it in a log, has a stay
 member_stay : (run : List Log) (c : RingId) (stays : List Stay) (uniform : IsUniform stays) (stay : Stay) (d : ConfId) (q : ℕ) → Facts run c stays → IsAmong stays stay → Com (log_of run stay.proc) c d → IsMember run d q → HasStay stays q
 member_stay run c stays uniform stay d q facts among belongs (r, i, members, change, contains) = go belongs
   where
@@ -315,7 +315,7 @@ reached run c stays facts uniform = record { each = λ m p i d q safe at belongs
             let both : Some (Send m from.conf from.origin.sent.service) ≡ Some (Send m x Safe) = sym there ∙ sends in
             cc
 
-        -- in the regular configuration nothing is delivered beyond it; after it members join
+        -- in the regular configuration no such message is delivered; after it members join
         regular : i < the.stay.turn → IsBeyond uniform.replays one.place → ⊥
         regular early beyond =
             let front = one.front early in
@@ -352,7 +352,7 @@ reached run c stays facts uniform = record { each = λ m p i d q safe at belongs
               )
         ]
 
--- all of them
+-- all specifications together
 pub all_met : (run : List Log) (c : RingId) (stays : List Stay) (findings : Findings) → Facts run c stays → AreStays run c stays → IsUniform stays → AreNone findings → AreCompleteIn run c findings.complete → AreFindings run c findings
 all_met run c stays findings facts are uniform none complete = record {
   own = rw none.own (own run c stays facts uniform);

@@ -1,4 +1,4 @@
--- What is pending, from send to send, from stay to stay and from ring to ring.
+-- What is pending: send by send, stay by stay and ring by ring.
 use Rattle.std.proofs.Common.{◌≡◌, ◌⊎◌, ◌↔◌, ℕ, ◌+◌, ◌<◌, ◌≤◌, inl, inr, List, length, slice_get, Some, Bool, true, false, not, IsTrue, Result, Ok, Err, refl, sym, ◌∙◌, ap, arith}
 use Rattle.std.specs.Prelude.{All, Contains, OnOk}
 use Rattle.std.specs.Bool.{OnTrue, OnFalse}
@@ -78,7 +78,7 @@ no_send c stay sender i e at other = record { never = λ m b. other m b.sent.con
 
 -- ---- one sender
 
--- x is of this process, and the entry at i sends it
+-- x's process is this one, and the entry at i sends its message
 pub record MissesBy (c : RingId) (stay sender : Stay) (i : ℕ) (x : Pending) : Type 0 where
   pub misses : MissesAt c stay sender.log.now i x.msg
   pub proc : x.proc ≡ stay.proc
@@ -96,7 +96,7 @@ all_of_sender c stay sender n s t up down h = adds_alike (Between (MissesBy c st
 
 -- ---- all senders
 
--- the k-th of the stays sent x
+-- the k-th stay sent x's message
 pub record MissesOf (c : RingId) (stays : List Stay) (stay : Stay) (k : ℕ) (x : Pending) : Type 0 where
   pub sender : Stay
   pub stands : slice_get stays k ≡ Some sender
@@ -118,7 +118,7 @@ was_sent run c stay sender x meets is m =
 no_send_at_turn : (log : List Entry) (c : RingId) (i turn : ℕ) (m : MsgId) (v : Service) → i ≡ turn → TurnsAt log c turn → slice_get log i ≡ Some (Send m (Regular c) v) → ⊥
 no_send_at_turn log c i turn m v same turns at = let change : slice_get log i ≡ Some (Conf turns.conf turns.change.0) = rw (sym same) at turns.change.1 in cc
 
--- what the process of a stay misses was sent by one of the stays
+-- a message that the process of a stay misses was sent by one of the stays
 pub one_sent : (run : List Log) (c : RingId) (stays : List Stay) (stay : Stay) (n : ℕ) → MeetsPasses run → AreStays run c stays → ((sender : Stay) → IsAmong stays sender → IsStayOf run c sender) → length stays ≤ n
     → (x : Pending) → Misses run c stay x → Between (MissesOf c stays stay) 0 n x
 one_sent run c stays stay n meets are is end x m = from x m m.sent
@@ -162,9 +162,9 @@ all_senders run c stays stay n s t meets are is end h = adds_alike (Between (Mis
     to : (x : Pending) (k : ℕ) → MissesOf c stays stay k x → Misses run c stay x
     to x k m = record { sent = was_sent run c stay m.sender x meets (is m.sender (record { at = k; stands = m.stands })) m.misses; missing = m.misses.misses.missing; proc = m.misses.proc }
 
--- ---- one who is open
+-- ---- one open process
 
--- what its process misses is pending, and the other way round
+-- what the process misses is pending, and the converse
 pub of_open : (run : List Log) (c : RingId) (stay : Stay) (s t : List Pending) → IsStayOf run c stay → OpenIn run stay.proc c → Adds (Misses run c stay) s t → Adds (IsPendingFor run c stay.proc) s t
 of_open run c stay s t of still_open h = adds_alike (Misses run c stay) (IsPendingFor run c stay.proc) s t to from h
   where
@@ -187,11 +187,11 @@ of_open_if_ok run c stay b s t (Err e) of is decides h = tt
 pub not_open : (run : List Log) (c : RingId) (p : ℕ) (s : List Pending) → (OpenIn run p c → ⊥) → Adds (IsPendingFor run c p) s s
 not_open run c p s closed = adds_nothing (IsPendingFor run c p) s (λ x m. closed (rw m.proc at m.is.still_open))
 
--- nothing is for one of those that are complete
+-- nothing is pending for a complete process
 pub not_complete : (run : List Log) (c : RingId) (procs : List ℕ) (p : ℕ) (s : List Pending) → All (HasNonePendingOf run c) procs → Contains procs p → Adds (IsPendingFor run c p) s s
 not_complete run c procs p s none (k, lt, same) = (let here : HasNonePendingOf run c p = rw same at (none k p lt) in adds_nothing (IsPendingFor run c p) s (λ x m. here.none x m.is m.proc))
 
--- ---- all who are open
+-- ---- all open processes
 
 -- x is pending for the process of the k-th stay
 pub record PendingOf (run : List Log) (c : RingId) (stays : List Stay) (k : ℕ) (x : Pending) : Type 0 where

@@ -28,7 +28,7 @@ HasCome run c p = (i : ℕ) × ChangesTo (log_of run p) i (Regular c)
 pub record NeverComes (run : List Log) (c : RingId) (p : ℕ) : Type 0 where
   pub never : (i : ℕ) → ChangesTo (log_of run p) i (Regular c) → ⊥
 
--- the entry at k stands in the stay and delivers m
+-- the entry at k is in the stay and delivers m
 pub record DeliversHere (stay : Stay) (m : MsgId) (k : ℕ) : Type 0 where
   pub after : stay.from < k
   pub until : k < stay.end
@@ -43,7 +43,7 @@ pub record DeliversNot (log : List Entry) (c : RingId) (m : MsgId) : Type 0 wher
 pub record IsSendingOf (run : List Log) (c : RingId) (m : MsgId) (sending : Sending) : Type 0 where
   pub sends : slice_get (log_of run sending.proc) sending.at ≡ Some (Send m (Regular c) sending.service)
 
--- nobody sent m in c
+-- no process sent m in c
 pub record NobodySent (run : List Log) (c : RingId) (m : MsgId) : Type 0 where
   pub never : WasSentIn run m (Regular c) → ⊥
 
@@ -83,7 +83,7 @@ service_in (Some e) = service_of e
 abbrev pub service_at : List Entry → ℕ → Option Service
 service_at log i = service_in (slice_get log i)
 
--- the entry at i stands in the stay and does this with m
+-- the entry at i is in the stay and does this with m
 pub record IsActAt (stay : Stay) (act : Act) (m : MsgId) (i : ℕ) : Type 0 where
   pub after : stay.from < i
   pub until : i < stay.end

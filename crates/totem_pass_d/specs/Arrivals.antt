@@ -6,13 +6,13 @@ use Rattle.totem_evs.specs.declared.log.Log.{Log}
 use Rattle.totem_evs.specs.Events.{ChangesTo}
 use Rattle.totem_pass_d.specs.declared.comings.Arrival.{Arrival}
 
--- its log changes to c there
+-- the log of the arrival changes to c at its index
 pub record IsArrival (run : List Log) (c : RingId) (arrival : Arrival) : Type 0 where
   pub log : Log
   pub stands : slice_get run arrival.log ≡ Some log
   pub change : ChangesTo log.entries arrival.at (Regular c)
 
--- one log stands before the other
+-- one log is before the other
 abbrev pub IsBelowArrival : Arrival → Arrival → Type 0
 IsBelowArrival a b = a.log < b.log
 

@@ -1,5 +1,5 @@
--- 5, as it is searched: a send of a cause, a later send of its effect, and a delivery of the effect without the cause before it
--- (docs/SPECIFICATIONS.md, "5 Causal delivery", "Passes").
+-- 5, in the form in which it is searched: a send of a cause, a later send of its effect, and a delivery of the effect without the cause
+-- before it (docs/SPECIFICATIONS.md, "5 Causal delivery", "Passes").
 use Rattle.std.specs.Prelude.{ℕ, ◌<◌, List, [], ◌∷◌}
 use Rattle.totem_ids.specs.declared.ring.RingId.{RingId}
 use Rattle.totem_ids.specs.declared.conf.ConfId.TheVariants.{Regular}
@@ -12,7 +12,7 @@ use Rattle.totem_evs.specs.Following.{DeliversIn}
 use Rattle.totem_evs.specs.Places.{At}
 use Rattle.totem_evs.specs.RingAgreement.{IsHop}
 
--- the entry delivers the effect, and none before it the cause
+-- the entry delivers the effect, and no entry before it delivers the cause
 abbrev pub IsSurprise : List Log → RingId → MsgId → MsgId → ℕ → ℕ → Type 0
 IsSurprise run c cause effect r k = DeliversIn (log_of run r) c effect k × ((l : ℕ) → l < k → DeliversIn (log_of run r) c cause l → ⊥)
 

@@ -1,4 +1,4 @@
--- Where the processes come to the regular configurations (docs/SPECIFICATIONS.md, "Passes").
+-- Where the processes change to the regular configurations (docs/SPECIFICATIONS.md, "Passes").
 use Rattle.std.specs.Prelude.{◌≡◌, ◌≢◌, ℕ, ◌<◌, IsTrue, List, Some, None, length}
 use Rattle.std.specs.declared.cmp.Ordering.{Ordering}
 use Rattle.std.specs.BTreeMap.{BTreeMap}

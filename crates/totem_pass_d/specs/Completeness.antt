@@ -1,4 +1,4 @@
--- Who delivers all that was sent in a regular configuration, or has nothing pending there for another reason
+-- Which processes deliver all that was sent in a regular configuration, or have nothing pending there for another reason
 -- (docs/SPECIFICATIONS.md, "Pending and waiting").
 use Rattle.std.specs.Prelude.{◌≡◌, ℕ, ◌≤◌, List, All, length, slice_get, slice_index_or, Some}
 use Rattle.totem_ids.specs.declared.ring.RingId.{RingId}
@@ -17,7 +17,7 @@ use Rattle.totem_pass_d.specs.Uniform.{AreReplays, AreOrigins, EachComplete, IsC
 pub record AllTaken (replays : List Replay) (taken : List ℕ) : Type 0 where
   pub each : (k : ℕ) (replay : Replay) → slice_get replays k ≡ Some replay → length replay.sends.items ≤ slice_index_or taken k 0
 
--- p delivers all of so many messages, and all that is sent is taken
+-- p delivers all of the given number of messages, and all that is sent is taken
 pub record IsFullOf (stays : List Stay) (replays : List Replay) (messages : ℕ) (taken : List ℕ) (p : ℕ) : Type 0 where
   pub at : ℕ
   pub stay : Stay
@@ -28,12 +28,12 @@ pub record IsFullOf (stays : List Stay) (replays : List Replay) (messages : ℕ)
   pub count : messages ≤ length replay.places.items
   pub all : AllTaken replays taken
 
--- so do all processes, or those that are named
+-- all processes do, or those that are listed
 abbrev pub HaveAll : List Stay → List Replay → ℕ → List ℕ → Complete → Type 0
 HaveAll stays replays messages taken complete.All = EachComplete replays messages taken
 HaveAll stays replays messages taken (complete.Only procs) = All (IsFullOf stays replays messages taken) procs.items
 
--- p delivers all of one sequence, and all that is sent is in that
+-- p delivers all of one sequence, which has all that is sent
 pub record IsCompleteOf (stays : List Stay) (p : ℕ) : Type 0 where
   pub messages : List MsgId
   pub replays : List Replay
@@ -43,7 +43,7 @@ pub record IsCompleteOf (stays : List Stay) (p : ℕ) : Type 0 where
   pub order : AreOrigins replays messages origins taken
   pub full : IsFullOf stays replays (length messages) taken p
 
--- so do all processes, or those that are named
+-- all processes do, or those that are listed
 abbrev pub AreCompleteOf : List Stay → Complete → Type 0
 AreCompleteOf stays complete.All = IsComplete stays
 AreCompleteOf stays (complete.Only procs) = All (IsCompleteOf stays) procs.items
@@ -52,7 +52,7 @@ AreCompleteOf stays (complete.Only procs) = All (IsCompleteOf stays) procs.items
 pub record HasNonePendingOf (run : List Log) (c : RingId) (p : ℕ) : Type 0 where
   pub none : (x : Pending) → IsPendingIn run c x → x.proc ≡ p → ⊥
 
--- nothing is pending in c for anyone, or for those that are named
+-- nothing is pending in c for any process, or for those that are listed
 abbrev pub AreCompleteIn : List Log → RingId → Complete → Type 0
 AreCompleteIn run c complete.All = HasNonePending run c
 AreCompleteIn run c (complete.Only procs) = All (HasNonePendingOf run c) procs.items

@@ -1,5 +1,5 @@
--- What one job finds: for each specification of the last pass the least events that break it in one regular configuration,
--- or that the run meets it there (docs/SPECIFICATIONS.md, "Passes").
+-- The findings of one job: for each specification of the last pass the least events that break it in one regular configuration,
+-- or none if the run meets it there (docs/SPECIFICATIONS.md, "Passes").
 use Rattle.std.specs.Prelude.{◌≡◌, ◌++◌, ℕ, List, [], ◌∷◌, length, slice_get, Some, None}
 use Rattle.totem_ids.specs.declared.ring.RingId.{RingId}
 use Rattle.totem_evs.specs.declared.log.Log.{Log}
@@ -40,7 +40,7 @@ pub record IsNothing (found : Found) : Type 0 where
   pub installed : found.installed.items ≡ []
   pub complete : found.complete.items ≡ []
 
--- each list has what was found for its specification after what it had, and who is complete stands after the others
+-- the findings are appended to the list of each specification, and the complete processes to theirs
 pub record GrowsBy (old : Found) (findings : Findings) (new : Found) : Type 0 where
   pub own : new.own.items ≡ old.own.items ++ listed spec.OwnDelivery findings.own
   pub atomicity : new.atomicity.items ≡ old.atomicity.items ++ listed spec.Atomicity findings.atomicity
@@ -54,11 +54,11 @@ pub record GrowsBy (old : Found) (findings : Findings) (new : Found) : Type 0 wh
 abbrev pub all_found : Found → List Fault
 all_found found = found.own.items ++ (found.atomicity.items ++ (found.causality.items ++ (found.gap.items ++ (found.safety.items ++ found.installed.items))))
 
--- nothing is pending in these configurations for those that are complete there
+-- nothing is pending in these configurations for the processes that are complete there
 pub record AreComplete (run : List Log) (cs : List RingId) (complete : List Complete) : Type 0 where
   pub each : (k : ℕ) (c : RingId) (those : Complete) → slice_get cs k ≡ Some c → slice_get complete k ≡ Some those → AreCompleteIn run c those
 
--- the faults of each specification in these configurations, and who is complete in each of these
+-- the faults of each specification in these configurations, and the complete processes of each configuration
 pub record AreFound (run : List Log) (cs : List RingId) (found : Found) : Type 0 where
   pub own : ListsRings run spec.OwnDelivery cs found.own.items
   pub atomicity : ListsRings run spec.Atomicity cs found.atomicity.items

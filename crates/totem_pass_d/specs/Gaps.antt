@@ -1,5 +1,5 @@
--- 6.3, as it is searched: a delivery, a later one of the same log, and a delivery of the later message where the earlier one
--- is missing (docs/SPECIFICATIONS.md, "6 Total order", "Passes").
+-- 6.3, in the form in which it is searched: a delivery, a later one of the same log, and a delivery of the later message by a process
+-- that lacks the earlier one (docs/SPECIFICATIONS.md, "6 Total order", "Passes").
 use Rattle.std.specs.Prelude.{◌↔◌, ◌≡◌, ◌⊎◌, ℕ, ◌<◌, Bool, IsTrue, List, [], ◌∷◌, length, slice_get, slice_index_or, Some}
 use Rattle.totem_ids.specs.declared.ring.RingId.{RingId}
 use Rattle.totem_ids.specs.declared.conf.ConfId.{ConfId}
@@ -34,15 +34,15 @@ IsLater run c sender earlier i (f ∷ rest) = At f (λ p j. (i < j) × ((later :
 pub record IsEverywhere (run : List Log) (c : RingId) (stays : List Stay) (m : MsgId) : Type 0 where
   pub each : (stay : Stay) → IsAmong stays stay → HasDelivered (log_of run stay.proc) c m
 
--- the test tells whether q is a member of the configuration that the entry at i names
+-- the test says whether q is a member of the configuration that the entry at i names
 pub record TellsMember (run : List Log) (log : List Entry) (i q : ℕ) (test : Bool) : Type 0 where
   pub each : (x : ConfId) → Names log i x → IsTrue test ↔ IsMember run x q
 
--- what p delivers at j, if it delivers something there, q does not deliver
+-- q does not deliver what p delivers at j, if p delivers something there
 pub record IsApart (run : List Log) (c : RingId) (p q j : ℕ) : Type 0 where
   pub never : (n : MsgId) → DeliversIn (log_of run p) c n j → HasDelivered (log_of run q) c n → ⊥
 
--- nor what p delivers anywhere after i
+-- q does not deliver anything that p delivers after i
 pub record IsBeyond (run : List Log) (c : RingId) (p q i : ℕ) : Type 0 where
   pub each : (j : ℕ) → i < j → IsApart run c p q j
 
@@ -51,6 +51,6 @@ pub record AreLasts (run : List Log) (c : RingId) (stays : List Stay) (p : ℕ) 
   pub long : length stays ≡ length lasts
   pub each : (k : ℕ) (stay : Stay) → slice_get stays k ≡ Some stay → IsBeyond run c p stay.proc (slice_index_or lasts k 0)
 
--- the process of each stay delivers m, or nothing that p delivers after i
+-- the process of each stay delivers m, or delivers nothing that p delivers after i
 pub record IsSettled (run : List Log) (c : RingId) (stays : List Stay) (p : ℕ) (m : MsgId) (i : ℕ) : Type 0 where
   pub each : (stay : Stay) → IsAmong stays stay → IsBeyond run c p stay.proc i ⊎ HasDelivered (log_of run stay.proc) c m

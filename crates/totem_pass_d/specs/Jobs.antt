@@ -11,7 +11,7 @@ use Rattle.totem_pass_d.specs.declared.jobs.Jobs.{Jobs}
 use Rattle.totem_pass_d.specs.Comings.{HoldsComings}
 use Rattle.totem_pass_d.specs.Findings.{AreFindings}
 
--- they are the jobs of this run, which has passed the passes before: one for each regular configuration, in their order
+-- the jobs are those of this run, which has passed the earlier passes: one for each regular configuration, in order
 pub record AreJobs (run : List Log) (jobs : Jobs) : Type 0 where
   pub logs : jobs.run.now.logs ≡ run
   pub meets : MeetsPasses run
@@ -19,6 +19,6 @@ pub record AreJobs (run : List Log) (jobs : Jobs) : Type 0 where
   pub changes : AreChanges run jobs.changes.rows.items
   pub comings : HoldsComings ring.cmp-value.it change.cmp-value.it jobs.comings.rings jobs.comings.indices run
 
--- what is found in the configuration at this index of the list, if there is one
+-- what is found in the configuration at this index of the list, if any
 pub record AreFindingsAt (run : List Log) (rings : List RingId) (index : ℕ) (findings : Findings) : Type 0 where
   pub at : (c : RingId) → slice_get rings index ≡ Some c → AreFindings run c findings

@@ -16,7 +16,7 @@ use Rattle.totem_pass_d.specs.declared.stay.Stay.{Stay}
 use Rattle.totem_pass_d.specs.Stays.{IsExcused}
 use Rattle.totem_run_rules.specs.Endings.{HasFailed}
 
--- the new list has what the old one had and all of which this holds
+-- the new list has what the old one had and everything for which P holds
 pub record Adds (P : Pending → Type 0) (old new : List Pending) : Type 0 where
   pub each : (x : Pending) → Contains new x ↔ (Contains old x ⊎ P x)
 
@@ -26,7 +26,7 @@ pub record SendsHere (log : List Entry) (i : ℕ) (m : MsgId) : Type 0 where
   pub service : Service
   pub sends : slice_get log i ≡ Some (Send m conf service)
 
--- the entry at i of the sender's log sends what the process of this stay has not delivered in c or in what follows it
+-- the entry at i of the sender's log sends a message that the process of this stay has not delivered in c or in what follows it
 pub record MissesAt (c : RingId) (stay : Stay) (sender : List Entry) (i : ℕ) (m : MsgId) : Type 0 where
   pub sent : SendsHere sender i m
   pub missing : HasDelivered stay.log.now c m → ⊥
@@ -55,7 +55,7 @@ pub record IsPendingIn (run : List Log) (c : RingId) (x : Pending) : Type 0 wher
   pub still_open : OpenIn run x.proc c
   pub missing : HasDelivered (log_of run x.proc) c x.msg → ⊥
 
--- and its process is p
+-- x is pending in c, and its process is p
 pub record IsPendingFor (run : List Log) (c : RingId) (p : ℕ) (x : Pending) : Type 0 where
   pub is : IsPendingIn run c x
   pub proc : x.proc ≡ p
@@ -68,6 +68,6 @@ pub record HasNonePending (run : List Log) (c : RingId) : Type 0 where
 abbrev pub IsPlacedStay : Stay → Type 0
 IsPlacedStay stay = StaysInPlace stay.log.now
 
--- where the end of a stay excuses its process, that has failed
+-- if the end of a stay excuses its process, the process has failed
 abbrev pub EndsClosed : Stay → Type 0
 EndsClosed stay = IsExcused stay → HasFailed stay.log.now

@@ -1,4 +1,4 @@
--- Whom a safe message has to reach (docs/SPECIFICATIONS.md, "7 Safe delivery").
+-- The processes that a safe message has to reach (docs/SPECIFICATIONS.md, "7 Safe delivery").
 use Rattle.std.specs.Prelude.{◌≡◌, ℕ, List, slice_get, Some, Contains}
 use Rattle.totem_ids.specs.declared.ring.RingId.{RingId}
 use Rattle.totem_ids.specs.declared.conf.ConfId.{ConfId}
@@ -17,14 +17,14 @@ pub record IsSafeIn (run : List Log) (c : RingId) (m : MsgId) : Type 0 where
   pub index : ℕ
   pub sends : slice_get (log_of run proc) index ≡ Some (Send m (Regular c) Safe)
 
--- these are the members of the configuration that the entry at i names, by a change of this log
+-- these are the members of the configuration that the entry at i names, given by a change of this log
 pub record AreMembersAt (log : List Entry) (i : ℕ) (members : List ℕ) : Type 0 where
   pub change : ℕ
   pub conf : ConfId
   pub with : ChangesWith log change conf members
   pub named : (d : ConfId) → Names log i d → d ≡ conf
 
--- one of the members is none of which it holds
+-- P does not hold for one of the members
 pub record HoldsNotOfAll (P : ℕ → Type 0) (members : List ℕ) : Type 0 where
   pub member : ℕ
   pub among : Contains members member

@@ -1,4 +1,4 @@
--- Lists of events that begin in the stay of a process (docs/SPECIFICATIONS.md, "Faults").
+-- Lists of events that start in the stay of a process (docs/SPECIFICATIONS.md, "Faults").
 use Rattle.std.specs.Prelude.{◌≡◌, ℕ, ◌<◌, ◌≤◌, List, [], ◌∷◌}
 use Rattle.totem_ids.specs.declared.place.Place.{Place}
 use Rattle.totem_evs.specs.Places.{At}
@@ -6,28 +6,28 @@ use Rattle.totem_table.specs.Search.{place, IsLeastFrom}
 use Rattle.totem_pass_d.specs.declared.stay.Stay.{Stay}
 use Rattle.totem_pass_d.specs.Acts.{IsAmong}
 
--- the index stands in the stay, after the change to the regular configuration
+-- the index is in the stay, after the change to the regular configuration
 pub record IsInside (stay : Stay) (i : ℕ) : Type 0 where
   pub after : stay.from < i
   pub until : i < stay.end
 
--- the index stands in p's stay
+-- the index is in p's stay
 pub record StandsInside (stays : List Stay) (p i : ℕ) : Type 0 where
   pub stay : Stay
   pub among : IsAmong stays stay
   pub proc : stay.proc ≡ p
   pub inside : IsInside stay i
 
--- each event that has the fact stands in a stay
+-- each event with the property is in a stay
 pub record EachStandsInside (stays : List Stay) (Fact : ℕ → ℕ → Type 0) : Type 0 where
   pub each : (p i : ℕ) → Fact p i → StandsInside stays p i
 
--- one event, which has the fact
+-- one event, which has the property
 abbrev pub IsOneEvent : (ℕ → ℕ → Type 0) → List Place → Type 0
 IsOneEvent Fact (e ∷ []) = At e Fact
 IsOneEvent Fact _ = ⊥
 
--- the list begins in one of the stays, at an index that is reached
+-- the list starts in one of the stays, at an index that is reached
 pub record BeginsWithin (stays : List Stay) (Reaches : Stay → ℕ → Type 0) (places : List Place) : Type 0 where
   pub stay : Stay
   pub among : IsAmong stays stay
@@ -36,19 +36,19 @@ pub record BeginsWithin (stays : List Stay) (Reaches : Stay → ℕ → Type 0) 
   pub rest : List Place
   pub is : places ≡ place stay.proc index ∷ rest
 
--- each list of which it holds begins so
+-- each list for which it holds starts so
 pub record EachBeginsWithin (stays : List Stay) (Reaches : Stay → ℕ → Type 0) (Holds : List Place → Type 0) : Type 0 where
   pub each : (places : List Place) → Holds places → BeginsWithin stays Reaches places
 
--- it holds of no list that begins in the stay, at an index that is reached and stands before n
+-- it holds for no list that starts in the stay at a reached index before n
 pub record NoneBelow (Reaches : Stay → ℕ → Type 0) (Holds : List Place → Type 0) (stay : Stay) (n : ℕ) : Type 0 where
   pub none : (i : ℕ) (rest : List Place) → i < n → Reaches stay i → Holds (place stay.proc i ∷ rest) → ⊥
 
--- it holds of no list that begins in the stay, at an index that is reached
+-- it holds for no list that starts in the stay at a reached index
 pub record NoneWithin (Reaches : Stay → ℕ → Type 0) (Holds : List Place → Type 0) (stay : Stay) : Type 0 where
   pub none : (i : ℕ) (rest : List Place) → Reaches stay i → Holds (place stay.proc i ∷ rest) → ⊥
 
--- of the lists that begin in the stay, at an index that is reached, this one comes first
+-- of the lists for which it holds that start in the stay at a reached index, this one is the least
 pub record IsLeastWithin (Reaches : Stay → ℕ → Type 0) (Holds : List Place → Type 0) (stay : Stay) (places : List Place) : Type 0 where
   pub at : ℕ
   pub rest : List Place
@@ -56,7 +56,7 @@ pub record IsLeastWithin (Reaches : Stay → ℕ → Type 0) (Holds : List Place
   pub least : IsLeastFrom Holds stay.proc at rest
   pub none_before : NoneBelow Reaches Holds stay at
 
--- it ends among the first million entries
+-- the stay ends among the first million entries
 pub record IsShort (stay : Stay) : Type 0 where
   pub some : stay.from < stay.end
   pub few : stay.end ≤ 1000000

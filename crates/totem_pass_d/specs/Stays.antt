@@ -1,4 +1,4 @@
--- The parts of the logs that stand in one regular configuration and in what follows it
+-- The parts of the logs that are in one regular configuration and in what follows it
 -- (docs/SPECIFICATIONS.md, "Following", "Passes").
 use Rattle.std.specs.Prelude.{◌≡◌, ◌↔◌, ℕ, ◌<◌, ◌≤◌, false, IsTrue, List, length, slice_get, Some, All, AllPairs}
 use Rattle.totem_ids.specs.declared.ring.RingId.{RingId}
@@ -9,13 +9,13 @@ use Rattle.totem_evs.specs.Following.{NeverFails}
 use Rattle.totem_run_rules.specs.Stays.{IsStay}
 use Rattle.totem_pass_d.specs.declared.stay.Stay.{Stay}
 
--- it lies within its log, which is not too long
+-- the stay is within its log, which is not too long
 pub record IsShortStay (stay : Stay) : Type 0 where
   pub some : stay.from < stay.end
   pub within : stay.end ≤ length stay.log.now
   pub few : length stay.log.now ≤ 1000000
 
--- it goes up to the end of its log, which is not quiet: there the process failed, or it is open
+-- the stay extends to the end of its log, which is not quiet: the process failed there, or it is open
 abbrev pub IsExcused : Stay → Type 0
 IsExcused stay = (stay.end ≡ length stay.log.now) × (stay.quiet ≡ false)
 
@@ -31,7 +31,7 @@ pub record IsStayOf (run : List Log) (c : RingId) (stay : Stay) : Type 0 where
 abbrev pub IsBelowStay : Stay → Stay → Type 0
 IsBelowStay a b = a.proc < b.proc
 
--- there is a stay of p among them
+-- one of the stays is p's
 pub record HasStay (stays : List Stay) (p : ℕ) : Type 0 where
   pub at : ℕ
   pub stay : Stay

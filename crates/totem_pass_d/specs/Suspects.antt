@@ -31,7 +31,7 @@ pub record ComesBefore (run : List Log) (c : RingId) (q : ℕ) (m : MsgId) (k : 
   pub before : index < k
   pub delivers : DeliversIn (log_of run q) c m index
 
--- q doesn't
+-- q does not deliver m there before k
 abbrev pub ComesNotBefore : List Log → RingId → ℕ → MsgId → ℕ → Type 0
 ComesNotBefore run c q m k = (l : ℕ) → l < k → DeliversIn (log_of run q) c m l → ⊥
 
@@ -45,7 +45,7 @@ module _ (by_message : MsgId → MsgId → Ordering) (suspects : BTreeSet MsgId)
   abbrev pub IsSuspect : MsgId → Type 0
   IsSuspect m = IsTrue (sorted.contains by_message suspects m)
 
-  -- all of these are suspects
+  -- all messages in the set are suspects
   pub record HasAllOf (others : BTreeSet MsgId) : Type 0 where
     pub each : (m : MsgId) → IsTrue (sorted.contains by_message others m) → IsSuspect m
 
@@ -53,21 +53,21 @@ module _ (by_message : MsgId → MsgId → Ordering) (suspects : BTreeSet MsgId)
   pub record IsNoted (run : List Log) (c : RingId) (receiver : Stay) (entry : Entry) (early : ℕ) : Type 0 where
     pub each : (m : MsgId) → early < receiver.end → Handles entry m → ComesNotBefore run c receiver.proc m early → IsSuspect m
 
-  -- what the sender sent or delivered at i or later, and before it sent another message in c, is a suspect, unless the receiver
-  -- delivers it before that other one, if it delivers that
+  -- a message that the sender sent or delivered at i or later, and before it sent another one in c, is a suspect, unless the receiver
+  -- delivers it before that other one, or does not deliver that
   pub record AreNotedFrom (run : List Log) (c : RingId) (sender receiver : Stay) (i : ℕ) : Type 0 where
     pub each : (h j k : ℕ) (e : Entry) (m n : MsgId) (x : ConfId) (service : Service) → i ≤ h → h < j → j < sender.turn
         → slice_get (log_of run sender.proc) h ≡ Some e → Handles e m → slice_get (log_of run sender.proc) j ≡ Some (Send n x service)
         → DeliversIn (log_of run receiver.proc) c n k → ComesNotBefore run c receiver.proc m k → IsSuspect m
 
-  -- so is what it sent or delivered anywhere in c
+  -- the same for all that it sent or delivered in c
   pub record AreNoted (run : List Log) (c : RingId) (sender receiver : Stay) : Type 0 where
     pub from : (i : ℕ) → sender.from < i → AreNotedFrom run c sender receiver i
 
-  -- for each of the first n receivers
+  -- the same for each of the first n receivers
   pub record AllNoted (run : List Log) (c : RingId) (stays : List Stay) (sender : Stay) (n : ℕ) : Type 0 where
     pub each : (k : ℕ) (receiver : Stay) → k < n → slice_get stays k ≡ Some receiver → AreNoted run c sender receiver
 
-  -- of each of the first n senders
+  -- the same for each of the first n senders
   pub record AreSuspects (run : List Log) (c : RingId) (stays : List Stay) (n : ℕ) : Type 0 where
     pub each : (k : ℕ) (sender : Stay) (l : ℕ) (receiver : Stay) → k < n → slice_get stays k ≡ Some sender → slice_get stays l ≡ Some receiver → AreNoted run c sender receiver

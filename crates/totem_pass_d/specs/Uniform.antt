@@ -1,4 +1,4 @@
--- When a regular configuration is uniform: its processes deliver messages of one sequence in its order, and who lacks one is excused
+-- Uniform regular configurations: the processes deliver messages of one sequence in its order, and a process that lacks one is excused
 -- (docs/DECISIONS.md, "The audit").
 use Rattle.std.specs.Prelude.{◌≡◌, ℕ, zero, suc, ◌+◌, ◌-◌, ◌<◌, ◌≤◌, Bool, IsTrue, List, length, slice_get, slice_index_or, Option, Some, None, Contains}
 use Rattle.totem_ids.specs.declared.conf.ConfId.{ConfId}
@@ -13,7 +13,7 @@ use Rattle.totem_pass_d.specs.declared.replay.Replay.{Replay}
 use Rattle.totem_pass_d.specs.declared.origins.Origin.{Origin}
 use Rattle.totem_pass_d.specs.Stays.{HasStay}
 
--- 1 for a delivery
+-- 1 for a delivery, 0 for any other entry
 abbrev pub one_if_delivered : Option Entry → ℕ
 one_if_delivered None = 0
 one_if_delivered (Some (Conf x members)) = 0
@@ -26,22 +26,22 @@ abbrev pub delivered : List Entry → ℕ → ℕ → ℕ
 delivered log from zero = 0
 delivered log from (suc n) = delivered log from n + one_if_delivered (slice_get log (from + suc n))
 
--- how many deliveries of the stay stand before i
+-- how many deliveries of the stay are before i
 abbrev pub rank : Stay → ℕ → ℕ
 rank stay i = delivered stay.log.now stay.from (i - (stay.from + 1))
 
--- the message at this place is m, and the place is no less than the next one; in the regular configuration it is the count
+-- m is at this place, and the place is not below the next one; in the regular configuration it is the count
 pub record IsNextIn (messages : List MsgId) (next place : ℕ) (m : MsgId) (is_regular : Bool) (count : ℕ) : Type 0 where
   pub at : slice_get messages place ≡ Some m
   pub above : next ≤ place
   pub front : IsTrue is_regular → place ≡ count
 
--- u is one of these places
+-- u is one of the places
 pub record HasPlace (places : List ℕ) (u : ℕ) : Type 0 where
   pub at : ℕ
   pub is : slice_get places at ≡ Some u
 
--- the place of the delivery at i is one at which m stands
+-- m is at the place that is listed for the delivery at i
 pub record IsPlaceOf (messages : List MsgId) (places : List ℕ) (stay : Stay) (i : ℕ) (m : MsgId) : Type 0 where
   pub place : ℕ
   pub listed : slice_get places (rank stay i) ≡ Some place
@@ -66,20 +66,20 @@ pub record IsSent (stay : Stay) (n : ℕ) (sent : Sent) : Type 0 where
   pub conf : ConfId
   pub sends : slice_get stay.log.now sent.at ≡ Some (Send sent.message conf sent.service)
 
--- one of them stands at i
+-- one of the sends is at i
 pub record IsListed (sends : List Sent) (i : ℕ) : Type 0 where
   pub at : ℕ
   pub sent : Sent
   pub stands : slice_get sends at ≡ Some sent
   pub is : sent.at ≡ i
 
--- the sends of the stay before n, in their order
+-- the sends of the stay before n, in order
 pub record AreSends (stay : Stay) (n : ℕ) (sends : List Sent) : Type 0 where
   pub each : (k : ℕ) (s : Sent) → slice_get sends k ≡ Some s → IsSent stay n s
   pub rising : (k l : ℕ) (s t : Sent) → slice_get sends k ≡ Some s → slice_get sends l ≡ Some t → k < l → s.at < t.at
   pub whole : (i : ℕ) (m : MsgId) → stay.from < i → i < n → SendsHere stay.log.now i m → IsListed sends i
 
--- the stay delivers messages of the list in their order, at these places, and these are its sends
+-- the stay delivers messages of the list in order, at these places, and these are its sends
 pub record IsReplay (messages : List MsgId) (stay : Stay) (replay : Replay) : Type 0 where
   pub places : PlacesUpTo messages stay stay.end replay.places.items
   pub regular : replay.regular ≡ rank stay stay.turn
@@ -90,20 +90,20 @@ pub record AreReplays (messages : List MsgId) (stays : List Stay) (replays : Lis
   pub long : length stays ≡ length replays
   pub each : (k : ℕ) (stay : Stay) (replay : Replay) → slice_get stays k ≡ Some stay → slice_get replays k ≡ Some replay → IsReplay messages stay replay
 
--- the send after the first ones is one of m, and no more than n deliveries stand before it
+-- the send after the first `taken` ones sends m, and no more than n deliveries are before it
 pub record IsNextSend (replay : Replay) (taken n : ℕ) (m : MsgId) (sent : Sent) : Type 0 where
   pub stands : slice_get replay.sends.items taken ≡ Some sent
   pub message : sent.message ≡ m
   pub early : sent.before ≤ n
 
--- so it is in the replay that the origin names
+-- the same for the replay that the origin names
 pub record SendsNext (replays : List Replay) (taken : List ℕ) (n : ℕ) (m : MsgId) (origin : Origin) : Type 0 where
   pub replay : Replay
   pub stands : slice_get replays origin.stay ≡ Some replay
   pub index : origin.index ≡ slice_index_or taken origin.stay 0
   pub next : IsNextSend replay origin.index n m origin.sent
 
--- one of the first n messages is m, and the k-th stay sent it
+-- m is one of the first n messages, and the k-th stay sent it
 pub record IsBelow (messages : List MsgId) (origins : List Origin) (n k : ℕ) (m : MsgId) : Type 0 where
   pub place : ℕ
   pub below : place < n
@@ -112,7 +112,7 @@ pub record IsBelow (messages : List MsgId) (origins : List Origin) (n k : ℕ) (
   pub listed : slice_get origins place ≡ Some origin
   pub stay : origin.stay ≡ k
 
--- the n-th message is this send, with no more than n deliveries before it; those that its sender sent before are among the messages before
+-- the n-th message is this send, with no more than n deliveries before it; its sender's earlier sends are among the earlier messages
 pub record IsOrigin (replays : List Replay) (messages : List MsgId) (origins : List Origin) (n : ℕ) (m : MsgId) (origin : Origin) : Type 0 where
   pub replay : Replay
   pub stands : slice_get replays origin.stay ≡ Some replay
@@ -121,7 +121,7 @@ pub record IsOrigin (replays : List Replay) (messages : List MsgId) (origins : L
   pub early : origin.sent.before ≤ n
   pub front : (j : ℕ) (s : Sent) → j < origin.index → slice_get replay.sends.items j ≡ Some s → IsBelow messages origins n origin.stay s.message
 
--- the origins of the first n messages, which are so many of the first sends of each replay
+-- the origins of the first n messages, which are the first `taken` sends of each replay
 pub record OriginsUpTo (replays : List Replay) (messages : List MsgId) (origins : List Origin) (taken : List ℕ) (n : ℕ) : Type 0 where
   pub long : length replays ≡ length taken
   pub count : length origins ≡ n
@@ -133,11 +133,11 @@ pub record OriginsUpTo (replays : List Replay) (messages : List MsgId) (origins 
 abbrev pub AreOrigins : List Replay → List MsgId → List Origin → List ℕ → Type 0
 AreOrigins replays messages origins taken = OriginsUpTo replays messages origins taken (length messages)
 
--- there is a stay of each of these
+-- each of the members has a stay
 pub record HasAll (stays : List Stay) (members : List ℕ) : Type 0 where
   pub each : (q : ℕ) → Contains members q → HasStay stays q
 
--- there is a stay of each member of the regular configuration and of what follows it
+-- each member of the regular configuration and of what follows it has a stay
 pub record HasMembers (stays : List Stay) (stay : Stay) : Type 0 where
   pub regular : (x : ConfId) (members : List ℕ) → ChangesWith stay.log.now stay.from x members → HasAll stays members
   pub following : (x : ConfId) (members : List ℕ) → stay.turn < stay.end → ChangesWith stay.log.now stay.turn x members → HasAll stays members
@@ -149,15 +149,15 @@ pub record IsTurnMember (stay : Stay) (q : ℕ) : Type 0 where
   pub change : ChangesWith stay.log.now stay.turn conf members
   pub is : Contains members q
 
--- none of the stays delivers the u-th message in the regular configuration
+-- no stay delivers the u-th message in the regular configuration
 pub record IsBeyond (replays : List Replay) (u : ℕ) : Type 0 where
   pub each : (l : ℕ) (r : Replay) → slice_get replays l ≡ Some r → r.regular ≤ u
 
--- each replay has so many deliveries, and all of its sends are taken
+-- each replay has the given number of deliveries, and all of its sends are taken
 pub record EachComplete (replays : List Replay) (messages : ℕ) (taken : List ℕ) : Type 0 where
   pub each : (k : ℕ) (replay : Replay) → slice_get replays k ≡ Some replay → (messages ≤ length replay.places.items) × (length replay.sends.items ≤ slice_index_or taken k 0)
 
--- all processes deliver all of one sequence, and all that they send is in that
+-- all processes deliver all of one sequence, which has all that they send
 pub record IsComplete (stays : List Stay) : Type 0 where
   pub messages : List MsgId
   pub replays : List Replay

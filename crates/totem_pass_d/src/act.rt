@@ -13,7 +13,7 @@ pub enum Act {
 }
 
 impl Act {
-    /// The message with which an entry does this.
+    /// Returns the message with which an entry does this.
     pub fn message_of(self, entry: &Entry) -> Option<MsgId>
         ensures { result ≡ message_of self entry.now }
     {
@@ -25,7 +25,7 @@ impl Act {
     }
 }
 
-/// The service for which an entry sends.
+/// Returns the service for which an entry sends.
 pub fn service_of(entry: &Entry) -> Option<Service>
     ensures { result ≡ service_of entry.now }
 {

@@ -1,4 +1,4 @@
-//! Stays that go together, and what they deliver in the same configurations (docs/DECISIONS.md, "The audit").
+//! Whether stays that go to the same configurations deliver the same messages (docs/DECISIONS.md, "The audit").
 ghost use Rattle.std.specs.Prelude.{◌≡◌, length};
 ghost use Rattle.std.specs.Bool.{OnTrue, OnFalse};
 ghost use Rattle.totem_pass_d.specs.Owed.{TellsTail, DiffersAt, GoAlikeBy, AllGoAlikeTo, IsJoinedBy, JoinsBy};
@@ -8,7 +8,7 @@ use crate::replay::Replay;
 use crate::stay::Stay;
 use totem_evs::Entry;
 
-/// Returns whether the stay delivers nothing after the regular configuration that the list does not have.
+/// Returns whether the list has everything that the stay delivers after the regular configuration.
 fn has_tail(first: &Replay, has: &[bool]) -> bool
     ensures { OnTrue result (TellsTail first.now has.now) }
 {
@@ -21,7 +21,7 @@ fn has_tail(first: &Replay, has: &[bool]) -> bool
     true
 }
 
-/// Returns whether both logs change to one configuration, at these indices.
+/// Returns whether both logs change to the same configuration at these indices.
 fn is_same_change(stay: &Stay, at: usize, other: &Stay, index: usize) -> bool
     ensures { OnFalse result (DiffersAt stay.now at other.now index) }
 {
@@ -31,7 +31,7 @@ fn is_same_change(stay: &Stay, at: usize, other: &Stay, index: usize) -> bool
     }
 }
 
-/// Returns whether the first one agrees with the other, whose places are in the list.
+/// Returns whether the first stay agrees with the other, whose places are in the list.
 fn go_alike(first: &Stay, other: &Stay, replay: &Replay, another: &Replay, has: &[bool]) -> bool
     ensures { OnTrue result (GoAlikeBy first.now other.now replay.now another.now has.now) }
 {
@@ -44,7 +44,7 @@ fn go_alike(first: &Stay, other: &Stay, replay: &Replay, another: &Replay, has: 
     !is_same_change(first, first.end, other, other.end) || has_tail(replay, has)
 }
 
-/// Returns whether each stay agrees with this one, whose places are in the list.
+/// Returns whether each stay agrees with the given one, whose places are in the list.
 pub fn all_go_alike(
     stays: &[Stay],
     replays: &[Replay],
@@ -63,15 +63,15 @@ pub fn all_go_alike(
     true
 }
 
-/// Returns whether the list has what the stay delivers after the regular configuration, if this process is a member there.
+/// Returns whether the list has what the stay delivers after the regular configuration, if the other process is a member there.
 fn is_joined(stay: &Stay, replay: &Replay, other: &Stay, has: &[bool]) -> bool
     ensures { OnTrue result (IsJoinedBy stay.now replay.now other.now has.now) }
 {
     stay.turn >= stay.end || !is_turn_member(stay, other.proc) || has_tail(replay, has)
 }
 
-/// Returns whether the list has what each stay delivers after the regular configuration in a configuration of which this process is a
-/// member.
+/// Returns whether the list has what each stay delivers after the regular configuration, for the stays in which the other process is
+/// a member there.
 pub fn joins(stays: &[Stay], replays: &[Replay], other: &Stay, has: &[bool]) -> bool
     requires { length stays.now ≡ length replays.now }
     ensures { OnTrue result (JoinsBy stays.now replays.now other.now has.now) }

@@ -1,4 +1,4 @@
-//! 4: processes that go together from a configuration to the next one deliver the same messages there
+//! 4: processes that go from one configuration to the next together deliver the same messages in it
 //! (docs/SPECIFICATIONS.md, "4 Failure atomicity", "Passes").
 ghost use Rattle.std.specs.Prelude.{◌≡◌, ◌↔◌, ℕ, IsTrue, IfSome, IfNone, IfOk};
 ghost use Rattle.std.specs.Bool.{OnTrue, OnFalse};
@@ -16,14 +16,14 @@ use totem_evs::{Entry, Places, SpecNo};
 use totem_ids::{ConfId, MsgId, Place};
 use totem_table::begin_at;
 
-/// Where a stay changes to one of its two configurations, and where to the next one: there its log may have ended.
+/// The index at which a stay changes to one of its two configurations, and the index of the next change or of the end of the stay.
 #[derive(Clone, Copy)]
 struct Span {
     change: usize,
     next: usize,
 }
 
-/// The span of this configuration, which is the regular one or what follows it.
+/// Returns the span of this configuration, which is the regular one or what follows it.
 fn span_of(stay: &Stay, conf: &ConfId) -> Span
     ensures { IsSpan conf.now stay.now result.change result.next }
 {
@@ -39,7 +39,7 @@ fn span_of(stay: &Stay, conf: &ConfId) -> Span
     }
 }
 
-/// To which configuration the log of this stay changes at an index.
+/// Returns the configuration to which the log of this stay changes at an index, if any.
 fn change_at<'l>(stay: &Stay<'l>, at: usize) -> Option<&'l ConfId>
     ensures found { IfSome result (λ conf. ChangesTo stay.now.log.now at conf.now) }
     ensures none { IfNone result (IsNoChange stay.now.log.now at) }
@@ -59,7 +59,7 @@ fn changes_to(stay: &Stay, at: usize, conf: &ConfId) -> bool
     }
 }
 
-/// The changes to the next configuration of processes that do not deliver the message before.
+/// The changes to the next configuration by processes that do not deliver the message before.
 #[derive(Clone, Copy)]
 struct Partings<'s, 'r, 'm> {
     stays: &'s Stays<'r>,
@@ -107,7 +107,7 @@ impl Finder for Partings<'_, '_, '_> {
     }
 }
 
-/// The deliveries of processes that go on to a next configuration.
+/// The deliveries by processes that go on to a next configuration.
 #[derive(Clone, Copy)]
 struct Deliveries<'s, 'r> {
     stays: &'s Stays<'r>,
@@ -144,7 +144,7 @@ impl Relation for Deliveries<'_, '_> {
     }
 }
 
-/// The least events that break 4 in this configuration.
+/// Returns the least events that break 4 in this configuration.
 pub fn find(alloc: Global, stays: &Stays) -> Result<Option<Places>, AllocError>
     ensures { IfOk result (FindsIn stays.now.run.now.logs stays.now.ring SpecNo.Atomicity) }
 {

@@ -19,7 +19,7 @@ use std::collections::BTreeSet;
 use totem_evs::{Entry, Places, SpecNo};
 use totem_ids::{MsgId, Place, Proc};
 
-/// The deliveries of a message that come without its cause.
+/// The deliveries of a message without its cause before it.
 #[derive(Clone, Copy)]
 struct Surprises<'s, 'r, 'm> {
     stays: &'s Stays<'r>,
@@ -47,7 +47,7 @@ impl Finder for Surprises<'_, '_, '_> {
     }
 }
 
-/// The sends of what follows from a message that this process sent at this index.
+/// The sends of effects of a message, which this process sent at this index.
 #[derive(Clone, Copy)]
 struct Effects<'s, 'r, 'm> {
     stays: &'s Stays<'r>,
@@ -57,7 +57,7 @@ struct Effects<'s, 'r, 'm> {
 }
 
 impl Effects<'_, '_, '_> {
-    /// Returns whether a send at this index of a stay comes one hop after the cause: its process sent the cause, or delivered it.
+    /// Returns whether a send at this index of a stay is one hop after the cause: its process sent or delivered the cause.
     fn is_hop(&self, stay: &Stay, at: usize) -> bool
         requires among { IsAmong self.now.stays.now.list.items stay.now }
         requires before { at < stay.now.turn }
@@ -99,7 +99,7 @@ impl Relation for Effects<'_, '_, '_> {
     }
 }
 
-/// The sends of causes. Those that are no suspects have no effect that comes without them.
+/// The sends of causes. Only suspects can have an effect that is delivered without them.
 #[derive(Drop)]
 struct Causes<'s, 'r> {
     stays: &'s Stays<'r>,
@@ -134,7 +134,7 @@ impl Relation for Causes<'_, '_> {
     }
 }
 
-/// The least events that break 5 in this configuration.
+/// Returns the least events that break 5 in this configuration.
 pub fn find(alloc: Global, stays: &Stays) -> Result<Option<Places>, AllocError>
     ensures { IfOk result (FindsIn stays.now.run.now.logs stays.now.ring SpecNo.Causality) }
 {

@@ -1,4 +1,4 @@
-//! The changes to regular configurations: the rings, and where each process comes to each.
+//! The changes to regular configurations: the rings, and where each process changes to each.
 ghost use Rattle.std.specs.Prelude.{◌≡◌, ◌<◌, ◌≤◌, List, length};
 
 use crate::stay::{Stay, stay_from};
@@ -8,14 +8,14 @@ use totem_evs::{Entry, Run};
 use totem_ids::{ConfId, Proc, RingId};
 use totem_table::{Change, ChangeRegister, Changes, enter_changes};
 
-/// A change to a regular configuration: in which log of the run, counted from 0, and at which index of that log.
+/// A change to a regular configuration: the index of the log in the run, and the index of the change in that log.
 #[derive(Clone, Copy, PartialEq, Eq, PartialOrd, Ord)]
 pub struct Arrival {
     pub log: usize,
     pub at: usize,
 }
 
-/// The rings of the regular configurations, and the index at which each process changes to each of these.
+/// The rings of the regular configurations, and the index at which each process changes to each of them.
 #[derive(Drop)]
 pub struct Comings {
     pub rings: BTreeSet<RingId>,
@@ -73,7 +73,7 @@ impl Comings {
         }
     }
 
-    /// Keeps the changes of a run to regular configurations, in n log n steps for n changes.
+    /// Collects the changes of a run to regular configurations, in n log n steps for n changes.
     pub fn build(alloc: Global, run: &Run, changes: &Changes) -> Result<Comings, AllocError>
         requires { AreChanges run.now.logs changes.now.rows.items }
         ensures { IfOk result (λ comings. HoldsComings ⟦<RingId as Ord>⟧.cmp ⟦<Change as Ord>⟧.cmp comings.rings comings.indices run.now.logs) }

@@ -1,4 +1,4 @@
-//! Who is known to be complete in a regular configuration: nothing is pending there for its process
+//! Which processes are known to be complete in a regular configuration: nothing is pending there for them
 //! (docs/SPECIFICATIONS.md, "Pending and waiting").
 ghost use Rattle.std.specs.Prelude.{All};
 ghost use Rattle.std.specs.Bool.{OnTrue};
@@ -12,14 +12,14 @@ use totem_evs::Run;
 use totem_ids::{Proc, RingId};
 use totem_run_rules::has_failed;
 
-/// The processes for which nothing is pending in a configuration, as far as is known. Of others nothing is said.
+/// The processes known to have nothing pending in a configuration. Nothing is said about the others.
 #[derive(Debug, Drop)]
 pub enum Complete {
     All,
     Only(Vec<Proc>),
 }
 
-/// Returns whether none of these processes is open in its stay: each goes on, is quiet, or has failed.
+/// Returns whether no process is open in its stay: each log continues, is quiet, or has failed.
 fn none_is_open(stays: &[Stay]) -> bool
     requires { All IsPlacedStay stays.now }
     ensures { OnTrue result (All EndsClosed stays.now) }
@@ -33,8 +33,8 @@ fn none_is_open(stays: &[Stay]) -> bool
     true
 }
 
-/// For whom nothing is pending in the regular configuration of a ring with these stays: those that deliver all that was sent there, or
-/// all if none of them is open.
+/// Returns the processes for which nothing is pending in the regular configuration of a ring with these stays: those that deliver all
+/// that was sent there, or all processes if none of them is open.
 pub fn complete_in(run: &Run, ring: RingId, stays: &[Stay], complete: Complete) -> Complete
     requires meets { MeetsPasses run.now.logs }
     requires are { AreStays run.now.logs ring stays.now }

@@ -1,4 +1,4 @@
-//! The least event of a run that breaks a specification by itself.
+//! The least single event of a run that breaks a specification.
 ghost use Rattle.std.specs.Prelude.{◌≡◌, ℕ, IfOk, MatchOption, List};
 ghost use Rattle.std.specs.Bool.{OnTrue, OnFalse};
 ghost use Rattle.totem_evs.specs.Answers.{IsLeast};
@@ -14,15 +14,15 @@ use std::alloc::{AllocError, Global};
 use totem_evs::Places;
 use totem_ids::Place;
 
-/// Tells which events break a specification, each by itself.
+/// A test for events that break a specification, each by itself.
 pub trait EventTest {
     /// The stays.
     ghost among: { Self → List Stay };
 
-    /// What it means that the event at an index of a process's log breaks it.
+    /// What it means that the event at an index of a process's log breaks the specification.
     ghost breaks: { Self → ℕ → ℕ → Type 0 };
 
-    /// Returns whether the event at this index of a stay breaks it.
+    /// Returns whether the event at this index of a stay breaks the specification.
     fn breaks_at(&self, stay: &Stay, at: usize) -> bool
         requires among { IsAmong (among self.now) stay.now }
         requires inside { IsInside stay.now at }
@@ -30,7 +30,7 @@ pub trait EventTest {
         ensures never { OnFalse result (breaks self.now stay.now.proc at → ⊥) };
 }
 
-/// The lists of one event that a test finds.
+/// The lists of one event for the events that a test finds.
 #[derive(Clone, Copy)]
 struct OneEvent<'t, T> {
     test: &'t T,
@@ -55,7 +55,7 @@ impl<T: EventTest> Relation for OneEvent<'_, T> {
     }
 }
 
-/// The least event that a test finds.
+/// Returns the least event that a test finds.
 pub fn least_event<T: EventTest>(
     test: &T,
     alloc: Global,

@@ -8,8 +8,8 @@ use crate::{atomicity, causality, gap, installed, own, safety};
 use std::alloc::{AllocError, Global};
 use totem_evs::Places;
 
-/// What one job finds: for each specification of the last pass the least events that break it in one regular
-/// configuration, or none where the run meets it there.
+/// The findings of one job: for each specification of the last pass the least events that break it in one regular
+/// configuration, or none if the run meets it there.
 #[derive(Debug, Drop)]
 pub struct Findings {
     /// What breaks specification 3.
@@ -24,7 +24,7 @@ pub struct Findings {
     pub safety: Option<Places>,
     /// What breaks specification 7.2.
     pub installed: Option<Places>,
-    /// For whom nothing is pending in the configuration, as far as is known.
+    /// The processes known to have nothing pending in the configuration.
     pub complete: Complete,
 }
 
@@ -32,7 +32,7 @@ impl Findings {
     ghost use Rattle.std.specs.Prelude.{◌≡◌};
     ghost use Rattle.totem_pass_d.specs.Findings.{AreNone};
 
-    /// Returns the findings of a configuration in which nothing is broken, and nothing is pending for those that are complete.
+    /// Returns the findings of a configuration in which nothing is broken, and in which nothing is pending for the complete processes.
     pub fn none(complete: Complete) -> Findings
         ensures none { AreNone result }
         ensures complete { result.complete ≡ complete }
@@ -49,7 +49,7 @@ impl Findings {
     }
 }
 
-/// Does the job of one regular configuration, in which nothing is pending for those that are complete.
+/// Does the job of one regular configuration, in which nothing is pending for the complete processes.
 pub fn findings_in(alloc: Global, stays: &Stays, complete: Complete) -> Result<Findings, AllocError>
     requires { AreCompleteIn stays.now.run.now.logs stays.now.ring complete }
     ensures { IfOk result (AreFindings stays.now.run.now.logs stays.now.ring) }

@@ -1,4 +1,4 @@
-//! 6.3: who delivers a later message delivers the earlier one too, where its sender is still a member
+//! 6.3: a process that delivers a later message delivers the earlier one too, if its sender is still a member
 //! (docs/SPECIFICATIONS.md, "6 Total order", "Passes").
 ghost use Rattle.std.specs.Prelude.{◌≡◌, ◌↔◌, ◌⊎◌, ◌<◌, ◌≤◌, IsTrue, IfOk, MatchOption, Contains};
 ghost use Rattle.std.specs.Bool.{OnTrue, OnFalse};
@@ -25,7 +25,7 @@ fn is_among(members: &[Proc], proc: Proc) -> bool
     members.contains(&proc)
 }
 
-/// The deliveries of a later message by processes that do not deliver the earlier one, where its sender is a member.
+/// The deliveries of a later message by processes that do not deliver the earlier one, although its sender is a member.
 #[derive(Clone, Copy)]
 struct Lacks<'s, 'r, 'm> {
     stays: &'s Stays<'r>,
@@ -66,7 +66,7 @@ impl Finder for Lacks<'_, '_, '_> {
     }
 }
 
-/// The deliveries after that of an earlier message.
+/// The deliveries after the delivery of an earlier message.
 #[derive(Clone, Copy)]
 struct Later<'s, 'r, 'm> {
     stays: &'s Stays<'r>,
@@ -109,7 +109,7 @@ struct Gaps<'s, 'r> {
 }
 
 impl Gaps<'_, '_> {
-    /// A quick test, which spares a search: whether all processes of the configuration deliver the message.
+    /// Returns whether all processes of the configuration deliver the message. This quick test saves a search.
     fn is_everywhere(&self, message: &MsgId) -> bool
         ensures { OnTrue result (IsEverywhere self.now.stays.now.run.now.logs self.now.stays.now.ring self.now.stays.now.list.items message.now) }
     {
@@ -152,7 +152,7 @@ impl Relation for Gaps<'_, '_> {
     }
 }
 
-/// Returns whether the follower delivers the message that stands at this index of the leader's stay, if one does.
+/// Returns whether the entry at this index of the leader's stay delivers a message that the follower delivers too.
 fn is_common(stays: &Stays, leader: &Stay, follower: &Stay, at: usize) -> bool
     requires leader { IsAmong stays.now.list.items leader.now }
     requires follower { IsAmong stays.now.list.items follower.now }
@@ -185,7 +185,7 @@ fn last_common(stays: &Stays, leader: &Stay, follower: &Stay) -> usize
     leader.from
 }
 
-/// Returns this last index for each follower of a leader, in the order of the stays.
+/// Returns this last index for each follower of the leader, in the order of the stays.
 fn lasts_of(alloc: Global, stays: &Stays, leader: &Stay) -> Result<Vec<usize>, AllocError>
     requires { IsAmong stays.now.list.items leader.now }
     ensures { IfOk result (λ lasts. AreLasts stays.now.run.now.logs stays.now.ring stays.now.list.items leader.now.proc lasts.items) }
@@ -231,7 +231,7 @@ struct EachLeader<'s, 'r> {
 }
 
 impl EachLeader<'_, '_> {
-    /// How the least gap goes on that begins at this index of the leader's stay.
+    /// Returns the rest of the least gap that starts at this index of the leader's stay.
     fn rest_at(
         &self,
         alloc: Global,
@@ -274,7 +274,7 @@ impl Finder for EachLeader<'_, '_> {
     }
 }
 
-/// The least events that break 6.3 in this configuration.
+/// Returns the least events that break 6.3 in this configuration.
 pub fn find(alloc: Global, stays: &Stays) -> Result<Option<Places>, AllocError>
     ensures { IfOk result (FindsIn stays.now.run.now.logs stays.now.ring SpecNo.Gap) }
 {

@@ -1,4 +1,4 @@
-//! Where a stay sends, or delivers, each message.
+//! The index at which a stay sends, or delivers, each message.
 ghost use Rattle.std.specs.Prelude.{◌≡◌, All, IfSome, IfNone, IfOk};
 ghost use Rattle.std.specs.Bool.{OnTrue};
 ghost use Rattle.std.specs.BTreeMap as tree;
@@ -13,7 +13,7 @@ use std::alloc::{AllocError, Global};
 use std::collections::BTreeMap;
 use totem_ids::MsgId;
 
-/// The index of each send, or of each delivery, of a stay: in a row by number where that has all of them, else by message.
+/// The index of each send, or of each delivery, of a stay: in a row by message number if that has all of them, else by message.
 #[derive(Drop)]
 pub enum Indexes {
     ByNumber(Row),
@@ -35,7 +35,7 @@ fn tells_all(row: &Row, stay: &Stay, act: Act) -> bool
     true
 }
 
-/// The index at which the stay does this with each message.
+/// Returns the index at which the stay does this with each message.
 fn by_message(alloc: Global, stay: &Stay, act: Act) -> Result<BTreeMap<MsgId, usize>, AllocError>
     requires { IsShortStay stay.now }
     ensures { IfOk result (λ map. Tells (tree.get ⟦<MsgId as Ord>⟧.cmp map) stay.now act stay.now.end) }
@@ -50,8 +50,8 @@ fn by_message(alloc: Global, stay: &Stay, act: Act) -> Result<BTreeMap<MsgId, us
 }
 
 impl Indexes {
-    /// Finds the indices at which the stay does this, in as many steps as it has entries where the numbers of the messages lie close
-    /// together, and in n log n otherwise.
+    /// Finds the indices at which the stay does this, in as many steps as it has entries if the numbers of the messages are close
+    /// together, and in n log n steps otherwise.
     pub fn of(alloc: Global, stay: &Stay, act: Act) -> Result<Indexes, AllocError>
         requires { IsShortStay stay.now }
         ensures { IfOk result (λ indexes. Tells (index_told ⟦<MsgId as Ord>⟧.cmp indexes) stay.now act stay.now.end) }
@@ -63,7 +63,7 @@ impl Indexes {
         Ok(Indexes::ByMessage(by_message(alloc, stay, act)?))
     }
 
-    /// What is noted for the message.
+    /// Returns what is noted for the message.
     fn told(&self, message: &MsgId) -> Option<usize>
         ensures { result ≡ index_told ⟦<MsgId as Ord>⟧.cmp self.now message.now }
     {
@@ -76,7 +76,7 @@ impl Indexes {
         }
     }
 
-    /// The index at which the stay does this with the message. These are the indices of the stay.
+    /// Returns the index at which the stay does this with the message. `self` has to be the indices of the stay.
     pub fn index_of(&self, stay: &Stay, act: Act, message: &MsgId) -> Option<usize>
         requires { ∥ Tells (index_told ⟦<MsgId as Ord>⟧.cmp self.now) stay.now act stay.now.end ∥₁ }
         ensures found { IfSome result (IsActAt stay.now act message.now) }
@@ -91,7 +91,7 @@ impl Indexes {
     }
 }
 
-/// The indices at which each of these stays does this.
+/// Returns the indices at which each of these stays does this.
 pub fn indexes_of(alloc: Global, stays: &[Stay], act: Act) -> Result<Vec<Indexes>, AllocError>
     requires { All IsShortStay stays.now }
     ensures { IfOk result (λ list. AllTell ⟦<MsgId as Ord>⟧.cmp act stays.now list.items) }

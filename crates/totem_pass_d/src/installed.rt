@@ -1,4 +1,4 @@
-//! 7.2: where a safe message is delivered in the regular configuration, each of its members changes to it
+//! 7.2: if a safe message is delivered in the regular configuration, each of its members changes to it
 //! (docs/SPECIFICATIONS.md, "7 Safe delivery").
 ghost use Rattle.std.specs.Prelude.{◌↔◌, IsTrue, IfOk, All};
 ghost use Rattle.std.specs.Bool.{OnTrue, OnFalse};
@@ -14,7 +14,7 @@ use std::alloc::{AllocError, Global};
 use totem_evs::{Entry, Places, SpecNo};
 use totem_ids::Proc;
 
-/// The deliveries of safe messages in the regular configuration, to which a member never changes.
+/// The deliveries of safe messages in the regular configuration if a member never changes to it.
 #[derive(Clone, Copy)]
 struct Uninstalled<'s, 'r> {
     stays: &'s Stays<'r>,
@@ -31,7 +31,7 @@ impl Uninstalled<'_, '_> {
         }
     }
 
-    /// Returns whether the log of each of these members changes to it.
+    /// Returns whether the log of each of these members changes to the regular configuration.
     fn have_come(&self, members: &[Proc]) -> bool
         ensures all { OnTrue result (All (HasCome self.now.stays.now.run.now.logs self.now.stays.now.ring) members.now) }
         ensures not_all { OnFalse result (HoldsNotOfAll (HasCome self.now.stays.now.run.now.logs self.now.stays.now.ring) members.now) }
@@ -59,7 +59,7 @@ impl EventTest for Uninstalled<'_, '_> {
     }
 }
 
-/// The least event that breaks it in this configuration.
+/// Returns the least event that breaks 7.2 in this configuration.
 pub fn find(alloc: Global, stays: &Stays) -> Result<Option<Places>, AllocError>
     ensures { IfOk result (FindsIn stays.now.run.now.logs stays.now.ring SpecNo.Installed) }
 {

@@ -14,8 +14,8 @@ use totem_evs::Run;
 use totem_ids::RingId;
 use totem_table::Changes;
 
-/// The jobs of a run that has passed the passes before, in the order of their configurations. Each sees no other part of the run
-/// than its configuration and what follows it, so they can be done in any order and by any thread.
+/// The jobs of a run that has passed the earlier passes, in the order of their configurations. Each job reads only its configuration
+/// and what follows it, so jobs can be done in any order and by any thread.
 #[derive(Drop)]
 pub struct Jobs<'r> {
     pub run: &'r Run,
@@ -26,7 +26,7 @@ pub struct Jobs<'r> {
 }
 
 impl<'r> Jobs<'r> {
-    /// Builds the list of a run's jobs. The run meets the specifications of passes A and B.
+    /// Builds the list of a run's jobs. The run has to meet the specifications of passes A and B.
     pub fn build(alloc: Global, run: &'r Run) -> Result<Jobs<'r>, AllocError>
         requires { MeetsPasses run.now.logs }
         ensures { IfOk result (AreJobs run.now.logs) }
@@ -35,7 +35,7 @@ impl<'r> Jobs<'r> {
         Jobs::over(alloc, run, changes)
     }
 
-    /// Builds the list of a run's jobs as `build` does, where the changes of the run are known.
+    /// Builds the list of a run's jobs like `build`, from the known changes of the run.
     pub fn over(alloc: Global, run: &'r Run, changes: Changes) -> Result<Jobs<'r>, AllocError>
         requires meets { MeetsPasses run.now.logs }
         requires changes { AreChanges run.now.logs changes.rows.items }

@@ -1,5 +1,5 @@
-//! The last pass of the audit: what processes have to deliver for themselves and for one another in each regular configuration and in what
-//! follows it; and what a run leaves open (docs/SPECIFICATIONS.md, "Passes", "Pending and waiting").
+//! The last pass of the audit: which messages processes have to deliver, for themselves and for each other, in each regular configuration
+//! and in what follows it; and what a run leaves open (docs/SPECIFICATIONS.md, "Passes", "Pending and waiting").
 #![tactic(auto)]
 
 mod act;

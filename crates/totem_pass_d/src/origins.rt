@@ -1,5 +1,5 @@
-//! Who sent the messages of a sequence: whether each sender sent its own ones in their order, and none of them after it had
-//! delivered what comes later.
+//! The senders of a sequence of messages: whether each sent its own messages in their order, and none of them after it had
+//! delivered a later one.
 ghost use Rattle.std.specs.Prelude.{◌≡◌, IfOk, IfSome, length};
 ghost use Rattle.std.specs.Bool.{OnTrue};
 ghost use Rattle.totem_pass_d.specs.Uniform.{IsNextSend, SendsNext, AreOrigins};
@@ -8,7 +8,7 @@ use crate::replay::{Replay, Sent};
 use std::alloc::{AllocError, Global};
 use totem_ids::MsgId;
 
-/// Which send of which stay a message is: the indices of the stay and of the send among its sends.
+/// The send of a message: the index of the stay, the index among the sends of the stay, and the send.
 #[derive(Clone, Copy)]
 pub struct Origin {
     pub stay: usize,
@@ -16,15 +16,15 @@ pub struct Origin {
     pub sent: Sent,
 }
 
-/// The origins of the messages of a sequence, and how many sends of each stay they are.
+/// The origins of the messages of a sequence, and how many of the first sends of each stay they take.
 #[derive(Drop)]
 pub struct Origins {
     pub list: Vec<Origin>,
     pub taken: Vec<usize>,
 }
 
-/// The next send that is not taken yet, if it sends this message and its sender had delivered no more than what comes before this
-/// place.
+/// Returns the next send that is not taken yet, if it sends this message and its sender had delivered no more messages than there are
+/// before this place.
 fn next_send(replay: &Replay, taken: usize, place: usize, message: &MsgId) -> Option<Sent>
     ensures { IfSome result (IsNextSend replay.now taken place message.now) }
 {
@@ -36,7 +36,7 @@ fn next_send(replay: &Replay, taken: usize, place: usize, message: &MsgId) -> Op
     }
 }
 
-/// Which of the replays sends this message next.
+/// Returns the origin of this message in the first replay of which it is the next send.
 fn next_origin(replays: &[Replay], taken: &[usize], place: usize, message: &MsgId) -> Option<Origin>
     requires { length replays.now ≡ length taken.now }
     ensures { IfSome result (SendsNext replays.now taken.now place message.now) }
@@ -50,7 +50,7 @@ fn next_origin(replays: &[Replay], taken: &[usize], place: usize, message: &MsgI
     None
 }
 
-/// The origins of these messages, if they are sent in this order.
+/// Returns the origins of these messages, if they were sent in this order.
 pub fn origins_of(
     alloc: Global,
     replays: &[Replay],

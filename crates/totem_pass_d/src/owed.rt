@@ -1,4 +1,4 @@
-//! What a stay lacks of the sequence in which the messages of its configuration are delivered, and whether it may lack it.
+//! What a stay lacks of the sequence in which its configuration's messages are delivered, and whether it may lack it.
 ghost use Rattle.std.specs.Prelude.{◌≡◌, ◌≤◌, IfOk, length};
 ghost use Rattle.std.specs.Bool.{OnTrue, OnFalse};
 ghost use Rattle.totem_pass_d.specs.Uniform.{IsBeyond};
@@ -11,7 +11,7 @@ use crate::stays::members_of;
 use std::alloc::{AllocError, Global};
 use totem_ids::{Proc, Service};
 
-/// For each number below the count whether it is one of these places.
+/// Returns a list that says for each number below `count` whether it is one of these places.
 pub fn tell_places(alloc: Global, places: &[usize], count: usize) -> Result<Vec<bool>, AllocError>
     ensures { IfOk result (λ has. TellsPlaces places.now count has.items) }
 {
@@ -24,7 +24,7 @@ pub fn tell_places(alloc: Global, places: &[usize], count: usize) -> Result<Vec<
     Ok(has)
 }
 
-/// Notes that something of the stay with this index is lacked.
+/// Notes that a message sent by the stay with this index is lacking.
 fn note_lost(lost: &mut [bool], stay: usize)
     ensures noted { IsNoted lost.old lost.new stay }
     ensures long { length lost.new ≡ length lost.old }
@@ -34,8 +34,8 @@ fn note_lost(lost: &mut [bool], stay: usize)
     }
 }
 
-/// Returns whether the stay lacks nothing that comes before a message that it delivers and was sent or delivered by the sender of that
-/// before.
+/// Returns whether the stay has, for each message that it delivers, all earlier ones of the sequence that the sender of that message
+/// sent, or delivered, before it.
 pub fn is_orderly(
     alloc: Global,
     origins: &[Origin],
@@ -63,7 +63,7 @@ pub fn is_orderly(
     Ok(true)
 }
 
-/// The greatest of these places, or 0.
+/// Returns the greatest of these places, or 0.
 pub fn last_place(places: &[usize]) -> usize
     ensures { IsLast places.now result }
 {
@@ -86,7 +86,7 @@ pub fn is_turn_member(stay: &Stay, proc: Proc) -> bool
     }
 }
 
-/// Returns whether the sender is no member of what follows the regular configuration in this stay.
+/// Returns whether the sender is not a member of what follows the regular configuration in this stay.
 fn is_gone(stays: &[Stay], origin: &Origin, stay: &Stay) -> bool
     ensures { OnTrue result (IsGone stays.now origin.now stay.now) }
 {
@@ -96,7 +96,7 @@ fn is_gone(stays: &[Stay], origin: &Origin, stay: &Stay) -> bool
     }
 }
 
-/// Returns whether the stay lacks nothing before the last place that was sent by a member of what follows the regular configuration in it.
+/// Returns whether the stay has every message before place `last` that was sent by a member of what follows the regular configuration.
 pub fn is_full(stays: &[Stay], origins: &[Origin], stay: &Stay, has: &[bool], last: usize) -> bool
     requires { length origins.now ≡ length has.now }
     ensures { OnTrue result (FullBy stays.now origins.now stay.now has.now last) }
@@ -109,7 +109,7 @@ pub fn is_full(stays: &[Stay], origins: &[Origin], stay: &Stay, has: &[bool], la
     true
 }
 
-/// Returns whether the stay with this index lacks nothing that it sent.
+/// Returns whether the stay with this index has every message that it sent.
 pub fn has_own(origins: &[Origin], index: usize, has: &[bool]) -> bool
     requires { length origins.now ≡ length has.now }
     ensures { OnTrue result (OwnBy origins.now index has.now) }
@@ -122,7 +122,7 @@ pub fn has_own(origins: &[Origin], index: usize, has: &[bool]) -> bool
     true
 }
 
-/// Returns whether none of the stays delivers what stands at this place in the regular configuration.
+/// Returns whether no stay delivers the message at this place in the regular configuration.
 fn is_beyond(replays: &[Replay], place: usize) -> bool
     ensures { OnTrue result (IsBeyond replays.now place) }
 {
@@ -134,8 +134,8 @@ fn is_beyond(replays: &[Replay], place: usize) -> bool
     true
 }
 
-/// Returns whether the stay lacks no safe message, or, where it joins with those that are with it after the regular configuration, none
-/// that is delivered in the regular one.
+/// Returns whether the stay has every safe message. If it `joins` the others after the regular configuration, it may lack those that
+/// no stay delivers in the regular configuration.
 pub fn has_safe(origins: &[Origin], replays: &[Replay], has: &[bool], joins: bool) -> bool
     requires { length origins.now ≡ length has.now }
     ensures { OnTrue result (SafeBy origins.now replays.now has.now joins) }

@@ -1,4 +1,4 @@
-//! 3: who sends a message in the regular configuration delivers it there or in what follows
+//! 3: a process that sends a message in the regular configuration delivers it there or in what follows
 //! (docs/SPECIFICATIONS.md, "3 Self-delivery").
 ghost use Rattle.std.specs.Prelude.{IfOk};
 ghost use Rattle.totem_evs.specs.Answers.{FindsIn};
@@ -10,7 +10,7 @@ use crate::stays::Stays;
 use std::alloc::{AllocError, Global};
 use totem_evs::{Entry, Places, SpecNo};
 
-/// The sends of what their process does not deliver, though the end of its stay does not excuse it.
+/// The sends of messages that their sender does not deliver, though the end of its stay does not excuse it.
 #[derive(Clone, Copy)]
 struct Undelivered<'s, 'r> {
     stays: &'s Stays<'r>,
@@ -35,7 +35,7 @@ impl EventTest for Undelivered<'_, '_> {
     }
 }
 
-/// The least event that breaks it in this configuration.
+/// Returns the least event that breaks 3 in this configuration.
 pub fn find(alloc: Global, stays: &Stays) -> Result<Option<Places>, AllocError>
     ensures { IfOk result (FindsIn stays.now.run.now.logs stays.now.ring SpecNo.OwnDelivery) }
 {

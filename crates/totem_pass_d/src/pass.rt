@@ -11,15 +11,15 @@ use std::alloc::{AllocError, Global};
 use totem_evs::{Fault, Run, SpecNo};
 use totem_table::with_found;
 
-/// What the jobs of the pass come to.
+/// The result of all jobs of the pass.
 #[derive(Drop)]
 pub struct Judged {
     pub faults: Vec<Fault>,
-    /// For each job in their order, for whom nothing is pending in its configuration, as far as is known.
+    /// For each job in order, the processes known to have nothing pending in its configuration.
     pub complete: Vec<Complete>,
 }
 
-/// The faults of each specification: one for each configuration in which it is broken, in their order.
+/// The faults of each specification: one for each configuration in which it is broken, in the order of the configurations.
 #[derive(Drop)]
 pub struct Found {
     pub own: Vec<Fault>,
@@ -28,11 +28,11 @@ pub struct Found {
     pub gap: Vec<Fault>,
     pub safety: Vec<Fault>,
     pub installed: Vec<Fault>,
-    /// For each configuration, for whom it is known that nothing is pending in it.
+    /// For each configuration, the processes known to have nothing pending in it.
     pub complete: Vec<Complete>,
 }
 
-/// Returns the list with the other after it.
+/// Returns the first list with the second appended.
 fn joined(mut faults: Vec<Fault>, others: Vec<Fault>) -> Result<Vec<Fault>, AllocError>
     ensures { IfOk result (λ list. list.items ≡ faults.items ++ others.items) }
 {
@@ -78,7 +78,7 @@ impl Found {
         })
     }
 
-    /// Returns all faults, specification by specification, and for whom nothing is known to be pending.
+    /// Returns all faults, specification by specification, and the processes known to have nothing pending.
     pub fn into_judged(self) -> Result<Judged, AllocError>
         ensures faults { IfOk result (λ judged. judged.faults.items ≡ all_found self) }
         ensures complete { IfOk result (λ judged. judged.complete.items ≡ self.complete.items) }
@@ -93,8 +93,8 @@ impl Found {
     }
 }
 
-/// Does these jobs in their order, on the thread that asks. Returns, for each of 3, 4, 5, 6.3, 7.1 and 7.2 and for each regular
-/// configuration in which the run breaks it, the least events that do, and for whom nothing is known to be pending.
+/// Does these jobs in order, on the calling thread. Returns, for each of 3, 4, 5, 6.3, 7.1 and 7.2 and for each regular configuration in
+/// which the run breaks it, the least events that do, and the processes known to have nothing pending.
 pub fn pass_d_of(alloc: Global, jobs: &Jobs<'_>) -> Result<Judged, AllocError>
     requires { AreJobs jobs.now.run.now.logs jobs.now }
     ensures faults { IfOk result (λ judged. ListsConfigurations jobs.now.run.now.logs judged.faults.items) }
@@ -107,7 +107,7 @@ pub fn pass_d_of(alloc: Global, jobs: &Jobs<'_>) -> Result<Judged, AllocError>
     found.into_judged()
 }
 
-/// Does pass D of a run that has passed the others.
+/// Does pass D for a run that has passed the others.
 pub fn pass_d(alloc: Global, run: &Run) -> Result<Vec<Fault>, AllocError>
     requires { MeetsPasses run.now.logs }
     ensures { IfOk result (λ faults. ListsConfigurations run.now.logs faults.items) }

@@ -1,4 +1,4 @@
-//! What is left open (docs/SPECIFICATIONS.md, "Pending and waiting").
+//! What a run leaves open (docs/SPECIFICATIONS.md, "Pending and waiting").
 ghost use Rattle.std.specs.Prelude.{◌≡◌, ◌↔◌, ◌<◌, All, IsTrue, IfSome, IfNone, IfOk, OnOk, length};
 ghost use Rattle.totem_evs.specs.Answers.{MeetsPasses};
 ghost use Rattle.totem_evs.specs.Following.{OpenIn};
@@ -29,7 +29,7 @@ fn is_open(stays: &RingStays, stay: &Stay) -> bool
     stay.is_excused() && !has_failed(stay.log)
 }
 
-/// The message that this entry sends, if the process of the stay has not delivered it.
+/// Returns the message that this entry sends, if the process of the stay has not delivered it.
 fn missing_at(
     stays: &RingStays,
     deliveries: &Indexes,
@@ -52,7 +52,7 @@ fn missing_at(
     }
 }
 
-/// Adds what this sender sent and the process of the stay has not delivered.
+/// Adds the messages of this sender that the process of the stay has not delivered.
 fn add_missing_from(
     list: &mut Vec<Pending>,
     stays: &RingStays,
@@ -74,7 +74,7 @@ fn add_missing_from(
     Ok(())
 }
 
-/// Adds what was sent and the process of the stay, which delivers at these indices, has not delivered.
+/// Adds the messages that the process of the stay has not delivered. `deliveries` has the indices at which it delivers.
 fn add_missing_by(
     list: &mut Vec<Pending>,
     stays: &RingStays,
@@ -91,7 +91,7 @@ fn add_missing_by(
     Ok(())
 }
 
-/// Adds what was sent and the process of the stay has not delivered.
+/// Adds the messages that the process of the stay has not delivered.
 fn add_missing(
     alloc: Global,
     list: &mut Vec<Pending>,
@@ -123,7 +123,7 @@ fn add_open(
     add_missing(alloc, list, stays, stay)
 }
 
-/// Adds what is pending in one configuration. Nothing is for those that are complete.
+/// Adds what is pending in one configuration. For complete processes nothing is.
 fn add_pending(
     alloc: Global,
     list: &mut Vec<Pending>,
@@ -139,7 +139,7 @@ fn add_pending(
     Ok(())
 }
 
-/// Adds what is pending in the configuration of this ring. Nothing is for those that are complete.
+/// Adds what is pending in the configuration of this ring. For complete processes nothing is.
 fn add_ring(
     alloc: Global,
     list: &mut Vec<Pending>,
@@ -156,7 +156,7 @@ fn add_ring(
     add_pending(alloc, list, &stays, complete)
 }
 
-/// Adds what is pending in the configuration of this ring, of which this is known.
+/// Adds what is pending in the configuration of this ring, given what is known of it.
 fn add_known(
     alloc: Global,
     list: &mut Vec<Pending>,
@@ -175,8 +175,8 @@ fn add_known(
     }
 }
 
-/// Returns all that is pending in the run of these jobs, by process and then by message. Nothing is looked for where it is known of
-/// the configuration of a job that nothing is pending for any process, or for this one.
+/// Returns all that is pending in the run of these jobs, by process and then by message. Skips the configurations in which all
+/// processes are known to have nothing pending, and in the others the processes for which that is known.
 pub fn pending_of(
     alloc: Global,
     jobs: &Jobs<'_>,
@@ -202,7 +202,7 @@ pub fn pending(alloc: Global, run: &Run) -> Result<Vec<Pending>, AllocError>
     pending_of(alloc, &jobs, &[])
 }
 
-/// Returns who waits in a run that has passed the first two passes, and for whom: by process and then by the other process.
+/// Returns the waiting processes of a run that has passed the first two passes, and whom they wait for: by process, then by the other.
 #[tactic(auto, using(totem_run_rules::proofs::Orderliness::passed_is_orderly))]
 pub fn waiting(alloc: Global, run: &Run) -> Result<Vec<Waiting>, AllocError>
     requires { MeetsPasses run.now.logs }

@@ -1,5 +1,5 @@
-//! A stay beside the sequence in which the messages of its configuration are delivered: at which place of that each of its
-//! deliveries stands, and how far it had come when it sent.
+//! A stay compared with the sequence in which its configuration's messages are delivered: the place in the sequence of each of its
+//! deliveries, and how many deliveries were before each of its sends.
 ghost use Rattle.std.specs.Prelude.{◌≡◌, IsTrue, IfOk, IfSome, All};
 ghost use Rattle.std.specs.Bool.{OnTrue};
 ghost use Rattle.totem_pass_d.specs.Stays.{IsShortStay};
@@ -10,7 +10,7 @@ use std::alloc::{AllocError, Global};
 use totem_evs::Entry;
 use totem_ids::{MsgId, Service};
 
-/// A send of a stay: what is sent and as what, at which index of the log, and how many deliveries stand before it in the stay.
+/// A send of a stay: the message, its service, the index in the log, and how many deliveries of the stay are before it.
 #[derive(Clone, Copy)]
 pub struct Sent {
     pub message: MsgId,
@@ -19,7 +19,7 @@ pub struct Sent {
     pub before: usize,
 }
 
-/// The sends of a stay in their order, the places of its deliveries in the sequence, and how many of these stand in the regular
+/// The sends of a stay in order, the places of its deliveries in the sequence, and how many of the deliveries are in the regular
 /// configuration.
 #[derive(Drop)]
 pub struct Replay {
@@ -28,7 +28,7 @@ pub struct Replay {
     pub regular: usize,
 }
 
-/// The place at which this message stands, from this one on, or the end. It is a guess: nothing is claimed of it.
+/// Returns the first place of this message from the given place on, or the end. It is a guess: nothing is claimed about it.
 fn place_from(messages: &[MsgId], first: usize, message: &MsgId) -> usize {
     for place in first..messages.len() {
         if messages[place] == *message {
@@ -38,8 +38,8 @@ fn place_from(messages: &[MsgId], first: usize, message: &MsgId) -> usize {
     messages.len()
 }
 
-/// Returns whether the message stands at this place, and the place is no less than the next one; in the regular configuration no place is
-/// left out, so that `count` places come before it.
+/// Returns whether the message is at this place, and the place is not below the next one. In the regular configuration no place may
+/// be left out, so that `count` places are before it.
 fn is_next(
     messages: &[MsgId],
     next: usize,
@@ -56,7 +56,7 @@ fn is_next(
     next <= place && place < messages.len() && messages[place] == *message
 }
 
-/// How many deliveries stand in the regular configuration, after one that makes them so many.
+/// Returns how many deliveries are in the regular configuration: `count` after a delivery there, `before` after any other.
 fn regular_count(is_regular: bool, count: usize, before: usize) -> usize
     ensures regular { IsTrue is_regular → result ≡ count }
     ensures following { (IsTrue is_regular → ⊥) → result ≡ before }
@@ -64,7 +64,7 @@ fn regular_count(is_regular: bool, count: usize, before: usize) -> usize
     if is_regular { count } else { before }
 }
 
-/// The replay of the stay, if it delivers messages of the sequence in their order, and in the regular configuration the front of it.
+/// Returns the replay of the stay, if it delivers messages of the sequence in order, and a prefix of it in the regular configuration.
 pub fn replayed(
     alloc: Global,
     stay: &Stay,
@@ -113,7 +113,7 @@ pub fn replayed(
     }))
 }
 
-/// The replays of all stays, if there is one of each.
+/// Returns the replays of all stays, if each has one.
 pub fn replay_all(
     alloc: Global,
     stays: &[Stay],

@@ -11,8 +11,8 @@ use crate::stay::Stay;
 use totem_evs::Run;
 use totem_ids::{MsgId, RingId};
 
-/// The stays of a run that meets the specifications of the first two passes, by process. Where one of them delivers is found for those
-/// alone of which it is asked.
+/// The stays of a run that meets the specifications of the first two passes, by process. Indices of deliveries are looked up only for
+/// the stays that are asked for.
 #[derive(Drop)]
 pub struct RingStays<'r> {
     pub run: &'r Run,
@@ -23,7 +23,7 @@ pub struct RingStays<'r> {
 }
 
 impl<'r> RingStays<'r> {
-    /// Takes these stays, which are all those in the regular configuration of the ring.
+    /// Takes these stays, which have to be all stays in the regular configuration of the ring.
     pub fn of(run: &'r Run, ring: RingId, list: Vec<Stay<'r>>) -> RingStays<'r>
         requires meets { MeetsPasses run.now.logs }
         requires are { AreStays run.now.logs ring list.items }
@@ -34,7 +34,7 @@ impl<'r> RingStays<'r> {
     }
 
     /// Returns the index at which the process of this stay delivers the message, in the regular configuration or in what follows it.
-    /// These are the indices of what it delivers.
+    /// `deliveries` has to be the indices of its deliveries.
     pub fn delivery_of(&self, deliveries: &Indexes, stay: &Stay, message: &MsgId) -> Option<usize>
         requires among { IsAmong self.now.list.items stay.now }
         requires tells { Tells (index_told ⟦<MsgId as Ord>⟧.cmp deliveries.now) stay.now Act.Deliver stay.now.end }

@@ -4,17 +4,17 @@ use crate::stay::Stay;
 use std::alloc::{AllocError, Global};
 use totem_ids::MsgId;
 
-/// How many places a row may have for each entry of a stay.
+/// How many places a row may have at most for each entry of a stay.
 const SPARSEST: usize = 4;
 
-/// What is noted of each message by its number, from `first` on. Where nothing is noted stands 0.
+/// A note for each message by its number, from `first` on. 0 means that nothing is noted.
 #[derive(Drop)]
 pub struct Row {
     first: u32,
     notes: Vec<u32>,
 }
 
-/// The least and the greatest of some numbers of messages, if there are any.
+/// The least and the greatest of some message numbers, if there are any.
 #[derive(Clone, Copy)]
 struct Span {
     least: u32,
@@ -29,7 +29,7 @@ impl Span {
         }
     }
 
-    /// The span of these numbers and those of the messages with which the stay does this.
+    /// Returns the span of these numbers and of the messages with which the stay does this.
     fn with(self, stay: &Stay, act: Act) -> Span {
         let mut span = self;
         for at in stay.from..stay.end {
@@ -41,7 +41,7 @@ impl Span {
         span
     }
 
-    /// A row for these numbers of messages in so many entries. It has no places if the numbers lie too far apart.
+    /// Returns a row for these message numbers, for the given number of entries. It has no places if the numbers are too far apart.
     fn row(self, alloc: Global, entries: usize) -> Result<Row, AllocError> {
         let width = self.greatest.saturating_sub(self.least) as usize;
         let places = if self.least <= self.greatest && width / SPARSEST < entries {
@@ -60,7 +60,7 @@ impl Row {
     ghost use Rattle.std.specs.Prelude.{◌≡◌};
     ghost use Rattle.totem_pass_d.specs.Indexes.{noted};
 
-    /// Notes this for the message, where there is space for it.
+    /// Notes this for the message, if the row has space for it.
     fn note(&mut self, message: &MsgId, note: u32) {
         let place = message.number.saturating_sub(self.first) as usize;
         if let Some(found) = self.notes.get_mut(place) {
@@ -68,7 +68,7 @@ impl Row {
         }
     }
 
-    /// The index at which the stay does this, for each message. Nothing is claimed of it: whoever takes one looks there.
+    /// Returns the index at which the stay does this, for each message. Nothing is claimed about it: a reader has to check the entry there.
     pub fn of(alloc: Global, stay: &Stay, act: Act) -> Result<Row, AllocError> {
         let entries = stay.end.saturating_sub(stay.from);
         let mut row = Span::empty().with(stay, act).row(alloc, entries)?;
@@ -80,7 +80,7 @@ impl Row {
         Ok(row)
     }
 
-    /// The number of the stay that sends each message. Nothing is claimed of it: whoever takes one looks there.
+    /// Returns the number of the stay that sends each message. Nothing is claimed about it: a reader has to check that stay.
     pub fn of_senders(alloc: Global, stays: &[Stay]) -> Result<Row, AllocError> {
         let mut span = Span::empty();
         let mut entries = 0usize;
@@ -99,7 +99,7 @@ impl Row {
         Ok(row)
     }
 
-    /// What is noted of the message.
+    /// Returns what is noted for the message.
     pub fn get(&self, message: &MsgId) -> Option<u32>
         ensures { result ≡ noted self.now message.now }
     {

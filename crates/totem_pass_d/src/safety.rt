@@ -14,14 +14,14 @@ use std::alloc::{AllocError, Global};
 use totem_evs::{Entry, Places, SpecNo};
 use totem_ids::{MsgId, Proc};
 
-/// The deliveries of safe messages that a member neither delivers nor is excused from.
+/// The deliveries of safe messages that some member neither delivers nor is excused from delivering.
 #[derive(Clone, Copy)]
 struct Unreached<'s, 'r> {
     stays: &'s Stays<'r>,
 }
 
 impl Unreached<'_, '_> {
-    /// Returns whether this process delivers the message, or is excused from it.
+    /// Returns whether this process delivers the message, or is excused from delivering it.
     fn is_reached(&self, proc: Proc, message: &MsgId) -> bool
         ensures { IsTrue result ↔ DeliversOrEnds self.now.stays.now.run.now.logs proc self.now.stays.now.ring message.now }
     {
@@ -37,7 +37,7 @@ impl Unreached<'_, '_> {
         }
     }
 
-    /// Returns whether each of these members delivers the message, or is excused from it.
+    /// Returns whether each of these members delivers the message, or is excused from delivering it.
     fn are_reached(&self, members: &[Proc], message: &MsgId) -> bool
         ensures all { OnTrue result (All (λ q. DeliversOrEnds self.now.stays.now.run.now.logs q self.now.stays.now.ring message.now) members.now) }
         ensures not_all { OnFalse result (HoldsNotOfAll (λ q. DeliversOrEnds self.now.stays.now.run.now.logs q self.now.stays.now.ring message.now) members.now) }
@@ -64,7 +64,7 @@ impl EventTest for Unreached<'_, '_> {
     }
 }
 
-/// The least event that breaks it in this configuration.
+/// Returns the least event that breaks 7.1 in this configuration.
 pub fn find(alloc: Global, stays: &Stays) -> Result<Option<Places>, AllocError>
     ensures { IfOk result (FindsIn stays.now.run.now.logs stays.now.ring SpecNo.Safety) }
 {

@@ -1,4 +1,4 @@
-//! The least list of events of a run that begins in a regular configuration or in what follows it.
+//! The least list of events of a run that starts in a regular configuration or in what follows it.
 ghost use Rattle.std.specs.Prelude.{◌≡◌, ◌<◌, ℕ, IfOk, MatchOption, List, [], ◌∷◌};
 ghost use Rattle.totem_ids.specs.declared.place.Place.{Place};
 ghost use Rattle.totem_table.specs.Search.{place, NoneFrom, IsLeastFrom, HoldsOfNone};
@@ -14,40 +14,40 @@ use totem_evs::Places;
 use totem_ids::{Place, Proc};
 use totem_table::{begin_at, places_of};
 
-/// A relation on lists of events that begin in one of the stays.
+/// A relation on lists of events that start in one of the stays.
 pub trait Relation {
     /// The stays.
     ghost among: { Self → List Stay };
 
-    /// What it says of a list of places.
+    /// What the relation means for a list of places.
     ghost holds: { Self → List Place → Type 0 };
 
-    /// How the least list goes on that begins at this index of a stay.
+    /// Returns the rest of the least list that starts at this index of a stay.
     fn rest(&self, alloc: Global, stay: &Stay, at: usize) -> Result<Option<Vec<Place>>, AllocError>
         requires among { IsAmong (among self.now) stay.now }
         requires inside { IsInside stay.now at }
         ensures { IfOk result (λ found. MatchOption found (NoneFrom (holds self.now) stay.now.proc at) (λ rest. IsLeastFrom (holds self.now) stay.now.proc at rest.items)) };
 }
 
-/// A relation on lists of events of which the least that begins in a stay can be found.
+/// A relation on lists of events for which the least list that starts in a stay can be found.
 pub trait Finder {
     /// The stays.
     ghost among: { Self → List Stay };
 
-    /// At which indices of a stay a list may begin.
+    /// The indices of a stay at which a list may start.
     ghost reaches: { Self → Stay → ℕ → Type 0 };
 
-    /// What it says of a list of places.
+    /// What the relation means for a list of places.
     ghost holds: { Self → List Place → Type 0 };
 
-    /// The least list that begins in this stay.
+    /// Returns the least list that starts in this stay.
     fn find_in(&self, alloc: Global, stay: &Stay) -> Result<Option<Vec<Place>>, AllocError>
         requires among { IsAmong (among self.now) stay.now }
         requires short { IsShort stay.now }
         ensures { IfOk result (λ found. MatchOption found (NoneWithin (reaches self.now) (holds self.now) stay.now) (λ list. IsLeastWithin (reaches self.now) (holds self.now) stay.now list.items)) };
 }
 
-/// The list of the one event at this index of a process's log.
+/// Returns the list of one place: this index of a process's log.
 pub fn only(alloc: Global, proc: Proc, at: usize) -> Result<Vec<Place>, AllocError>
     requires { at < 1000000 }
     ensures { IfOk result (λ list. list.items ≡ place proc at ∷ []) }
@@ -55,7 +55,7 @@ pub fn only(alloc: Global, proc: Proc, at: usize) -> Result<Vec<Place>, AllocErr
     begin_at(proc, at, Vec::new(alloc))
 }
 
-/// Asks a relation at each index of a stay.
+/// Tries a relation at each index of a stay.
 #[derive(Clone, Copy)]
 struct EachIndex<'r, R> {
     relation: &'r R,
@@ -78,7 +78,7 @@ impl<R: Relation> Finder for EachIndex<'_, R> {
     }
 }
 
-/// The least list of events of which a relation holds that begins in this stay.
+/// Returns the least list of events in a relation that starts in this stay.
 pub fn least_in<R: Relation>(
     relation: &R,
     alloc: Global,
@@ -91,7 +91,7 @@ pub fn least_in<R: Relation>(
     EachIndex { relation }.find_in(alloc, stay)
 }
 
-/// The least list that a finder finds.
+/// Returns the least list that a finder finds.
 pub fn first_found<F: Finder>(
     finder: &F,
     alloc: Global,
@@ -109,7 +109,7 @@ pub fn first_found<F: Finder>(
     Ok(None)
 }
 
-/// The least list of events of which a relation holds.
+/// Returns the least list of events in a relation.
 pub fn least_list<R: Relation>(
     relation: &R,
     alloc: Global,
@@ -122,7 +122,7 @@ pub fn least_list<R: Relation>(
     first_found(&EachIndex { relation }, alloc, stays)
 }
 
-/// The least list of events of which it holds.
+/// Returns the least list of events in a relation, as places.
 pub fn least<R: Relation>(
     relation: &R,
     alloc: Global,
@@ -135,7 +135,7 @@ pub fn least<R: Relation>(
     least_found(&EachIndex { relation }, alloc, stays)
 }
 
-/// The least list that a finder finds, as places.
+/// Returns the least list that a finder finds, as places.
 pub fn least_found<F: Finder>(
     finder: &F,
     alloc: Global,

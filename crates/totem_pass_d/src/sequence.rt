@@ -1,11 +1,11 @@
-//! The sequence in which the processes of a regular configuration are likely to deliver its messages. Nothing is claimed of it:
-//! whoever takes it compares each delivery with it.
+//! A sequence in which the processes of a regular configuration are likely to deliver its messages. Nothing is claimed about it:
+//! its user has to compare each delivery with it.
 use crate::stay::Stay;
 use std::alloc::{AllocError, Global};
 use totem_evs::Entry;
 use totem_ids::MsgId;
 
-/// The message that the log of this stay delivers at an index, if it delivers there.
+/// Returns the message that the log of this stay delivers at an index, if any.
 fn delivered_at(stay: &Stay, at: usize) -> Option<MsgId> {
     match stay.log.get(at) {
         Some(Entry::Deliver(message, _)) => Some(*message),
@@ -13,7 +13,7 @@ fn delivered_at(stay: &Stay, at: usize) -> Option<MsgId> {
     }
 }
 
-/// How many messages the stay delivers from its beginning up to this index.
+/// Returns how many messages the stay delivers from its start up to this index.
 fn deliveries(stay: &Stay, end: usize) -> usize {
     let mut count = 0usize;
     for at in stay.from..end {
@@ -24,7 +24,7 @@ fn deliveries(stay: &Stay, end: usize) -> usize {
     count
 }
 
-/// The stay that delivers most, or most in the regular configuration, or none where there are no stays.
+/// Returns the stay with the most deliveries, in all or in the regular configuration, or `None` if there are no stays.
 fn fullest<'s, 'r>(stays: &'s [Stay<'r>], regular: bool) -> Option<&'s Stay<'r>> {
     let mut most = 0;
     let mut found = stays.first();
@@ -38,7 +38,7 @@ fn fullest<'s, 'r>(stays: &'s [Stay<'r>], regular: bool) -> Option<&'s Stay<'r>>
     found
 }
 
-/// The stay over the most entries, or none where there are no stays.
+/// Returns the stay with the most entries, or `None` if there are no stays.
 fn longest<'s, 'r>(stays: &'s [Stay<'r>]) -> Option<&'s Stay<'r>> {
     let mut most = 0;
     let mut found = stays.first();
@@ -52,7 +52,7 @@ fn longest<'s, 'r>(stays: &'s [Stay<'r>]) -> Option<&'s Stay<'r>> {
     found
 }
 
-/// What the stay delivers.
+/// Returns the messages that the stay delivers.
 fn delivered_by(alloc: Global, stay: &Stay) -> Result<Vec<MsgId>, AllocError> {
     let mut messages = Vec::new(alloc);
     for at in stay.from..stay.end {
@@ -63,7 +63,7 @@ fn delivered_by(alloc: Global, stay: &Stay) -> Result<Vec<MsgId>, AllocError> {
     Ok(messages)
 }
 
-/// What the stay over the most entries delivers. No entries are counted for it.
+/// Returns the messages that the stay with the most entries delivers. Reads no entries to find that stay.
 pub fn longest_sequence_of(alloc: Global, stays: &[Stay]) -> Result<Vec<MsgId>, AllocError> {
     match longest(stays) {
         Some(stay) => delivered_by(alloc, stay),
@@ -84,7 +84,7 @@ fn are_same(messages: &[MsgId], others: &[MsgId]) -> bool {
     true
 }
 
-/// What the stay that delivers most delivers. Returns `None` where the stay over the most entries delivers the same.
+/// Returns the messages of the stay with the most deliveries, or `None` if the stay with the most entries delivers the same.
 pub fn fullest_sequence_of(
     alloc: Global,
     stays: &[Stay],
@@ -102,7 +102,7 @@ pub fn fullest_sequence_of(
     Ok(Some(messages))
 }
 
-/// What the stays deliver after the regular configuration, in the order of the messages, each as often as it is delivered there.
+/// Returns what the stays deliver after the regular configuration, in the order of the messages, each as often as it is delivered there.
 fn delivered_later(alloc: Global, stays: &[Stay]) -> Result<Vec<MsgId>, AllocError> {
     let mut later = Vec::new(alloc);
     for stay in stays {
@@ -116,8 +116,8 @@ fn delivered_later(alloc: Global, stays: &[Stay]) -> Result<Vec<MsgId>, AllocErr
     Ok(later)
 }
 
-/// What the stay that delivers most in the regular configuration delivers there, and then what comes after that in the order of the
-/// messages and is delivered by any stay after the regular configuration.
+/// Returns what the stay with the most deliveries in the regular configuration delivers there, followed, in the order of the messages,
+/// by the greater ones that any stay delivers after the regular configuration.
 pub fn ordered_sequence(alloc: Global, stays: &[Stay]) -> Result<Vec<MsgId>, AllocError> {
     let mut messages = Vec::new(alloc);
     let mut last = None;

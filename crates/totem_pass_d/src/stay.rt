@@ -1,4 +1,4 @@
-//! The part of a log that stands in a regular configuration and in what follows it.
+//! The part of a log that is in a regular configuration and in what follows it.
 ghost use Rattle.std.specs.Prelude.{◌≡◌, ◌↔◌, ◌<◌, IsTrue, length};
 ghost use Rattle.totem_evs.specs.Following.{IsNextOrEnd};
 ghost use Rattle.totem_table.specs.Changes.{ListsChanges};
@@ -12,9 +12,9 @@ use totem_ids::{MsgId, Proc, Service};
 use totem_run_rules::walk_to_change;
 use totem_table::next_change;
 
-/// The stay of a process: its log changes to the regular configuration at `from` and to what follows that at `turn`, and
-/// the entries before `end` are those that stand in these two. Where nothing follows, `turn` is `end`. A log may be quiet: nothing
-/// more was to come after it.
+/// The stay of a process. Its log changes to the regular configuration at `from` and to what follows that at `turn`; the entries
+/// before `end` are in these two. If nothing follows, `turn` is `end`. A quiet log claims that nothing more was to come
+/// after it.
 #[derive(Clone, Copy)]
 pub struct Stay<'r> {
     pub proc: Proc,
@@ -26,14 +26,14 @@ pub struct Stay<'r> {
 }
 
 impl Stay<'_> {
-    /// Returns whether the stay goes up to the end of a log that is not quiet: there the process failed, or it is open.
+    /// Returns whether the stay extends to the end of a log that is not quiet: the process failed there, or it is open.
     pub fn is_excused(&self) -> bool
         ensures { IsTrue result ↔ IsExcused self.now }
     {
         self.end == self.log.len() && !self.quiet
     }
 
-    /// The message with which the entry at this index of the log does this.
+    /// Returns the message with which the entry at this index of the log does this.
     pub fn message_at(&self, act: Act, at: usize) -> Option<MsgId>
         ensures { result ≡ message_at self.now.log.now act at }
     {
@@ -43,7 +43,7 @@ impl Stay<'_> {
         }
     }
 
-    /// The service for which the entry at this index of the log sends.
+    /// Returns the service for which the entry at this index of the log sends.
     pub fn service_at(&self, at: usize) -> Option<Service>
         ensures { result ≡ service_at self.now.log.now at }
     {
@@ -53,7 +53,7 @@ impl Stay<'_> {
         }
     }
 
-    /// Returns whether the entry at this index stands in the stay and does this with the message.
+    /// Returns whether the entry at this index is in the stay and does this with the message.
     pub fn does_at(&self, act: Act, at: usize, message: &MsgId) -> bool
         ensures { IsTrue result ↔ IsActAt self.now act message.now at }
     {
@@ -61,14 +61,14 @@ impl Stay<'_> {
     }
 }
 
-/// Where among the changes the one at this index is likely to stand, counted from 0. Nothing is claimed of it: whoever takes it looks
-/// there.
+/// Returns the likely number of the change at this index among the changes, counted from 0. Nothing is claimed about it: a reader has
+/// to check it.
 fn number_of(changes: &[u32], at: usize) -> usize {
     changes.partition_point(|change| (*change as usize) < at)
 }
 
-/// The index of the next change after this index, or the length of the log where none follows. Where the change of this number stands at
-/// this index, the list of the changes has it.
+/// Returns the index of the next change after this index, or the length of the log if there is none. If the change of this number is
+/// at this index, the list of changes is used.
 fn change_after(log: &[Entry], changes: &[u32], at: usize, number: usize) -> usize
     requires lists { ListsChanges log.now (length log.now) changes.now }
     requires within { at < length log.now }
@@ -81,7 +81,7 @@ fn change_after(log: &[Entry], changes: &[u32], at: usize, number: usize) -> usi
     }
 }
 
-/// The part of a log from this index up to the change after the next one. `changes` lists the changes of the log.
+/// Returns the part of a log from this index up to the change after the next one. `changes` lists the changes of the log.
 pub fn stay_from<'r>(log: &'r Log, changes: &[u32], from: usize) -> Stay<'r>
     requires lists { ListsChanges log.now.entries (length log.now.entries) changes.now }
     requires within { from < length log.now.entries }

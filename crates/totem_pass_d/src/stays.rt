@@ -18,7 +18,7 @@ use std::alloc::{AllocError, Global};
 use totem_evs::{Entry, Run};
 use totem_ids::{MsgId, Proc, RingId, Service};
 
-/// A send: by whom, at which index of the log, and as what.
+/// A send: its process, the index in the log, and the service.
 #[derive(Clone, Copy)]
 pub struct Sending {
     pub proc: Proc,
@@ -47,7 +47,7 @@ fn is_safe_service(service: Service) -> bool
     matches!(service, Service::Safe)
 }
 
-/// The members of a change.
+/// Returns the members of a change.
 pub fn members_of(entry: &Entry) -> &[Proc]
     ensures { result.now ≡ members_of entry.now }
 {
@@ -58,7 +58,7 @@ pub fn members_of(entry: &Entry) -> &[Proc]
 }
 
 impl<'r> Stays<'r> {
-    /// Takes these stays, which are all those in the regular configuration of the ring, and notes what they sent and delivered.
+    /// Takes these stays, which have to be all stays in the regular configuration of the ring, and notes what they sent and delivered.
     pub fn build(
         alloc: Global,
         run: &'r Run,
@@ -83,7 +83,7 @@ impl<'r> Stays<'r> {
         })
     }
 
-    /// The stay of this process, if its log changes to the regular configuration.
+    /// Returns the stay of this process, if its log changes to the regular configuration.
     pub fn stay_of(&self, proc: Proc) -> Option<&Stay<'r>>
         ensures found { IfSome result (λ stay. IsAmong self.now.list.items stay.now) }
         ensures proc { IfSome result (λ stay. stay.now.proc ≡ proc) }
@@ -107,7 +107,7 @@ impl<'r> Stays<'r> {
         self.deliveries[number].index_of(stay, Act::Deliver, message)
     }
 
-    /// The position of this stay in the list.
+    /// Returns the index of this stay in the list.
     fn position(&self, stay: &Stay) -> usize
         requires { IsAmong self.now.list.items stay.now }
         ensures { slice_get self.now.list.items result ≡ Some stay.now }
@@ -171,7 +171,7 @@ impl<'r> Stays<'r> {
         }
     }
 
-    /// The members of the configuration in which the entry at this index stands.
+    /// Returns the members of the configuration that the entry at this index is in.
     pub fn members_at<'s>(&self, stay: &'s Stay<'r>, at: usize) -> &'s [Proc]
         requires among { IsAmong self.now.list.items stay.now }
         requires inside { IsInside stay.now at }
@@ -181,7 +181,7 @@ impl<'r> Stays<'r> {
         members_of(&stay.log[change])
     }
 
-    /// The entry at this index of a stay.
+    /// Returns the entry at this index of a stay.
     pub fn entry_in<'l>(&self, stay: &Stay<'l>, at: usize) -> &'l Entry
         requires among { IsAmong self.now.list.items stay.now }
         requires inside { IsInside stay.now at }

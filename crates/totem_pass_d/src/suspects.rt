@@ -1,5 +1,5 @@
-//! The messages for which 5 may be broken: a walk back along each sender's log, for each receiver
-//! (docs/SPECIFICATIONS.md, "5 Causal delivery"). It spares the search for all other causes.
+//! The messages for which 5 may be broken, found by walking back along each sender's log for each receiver
+//! (docs/SPECIFICATIONS.md, "5 Causal delivery"). Other messages need not be searched as causes.
 ghost use Rattle.std.specs.Prelude.{◌≡◌, IfSome, IfNone, IfOk, OnOk, length};
 ghost use Rattle.std.specs.Bool.{OnTrue};
 ghost use Rattle.totem_pass_d.specs.Acts.{IsAmong};
@@ -12,7 +12,7 @@ use std::collections::BTreeSet;
 use totem_evs::Entry;
 use totem_ids::MsgId;
 
-/// The message that this entry sends or delivers.
+/// Returns the message that this entry sends or delivers.
 fn handled(entry: &Entry) -> Option<MsgId>
     ensures found { IfSome result (Handles entry.now) }
     ensures none { IfNone result (HandlesNothing entry.now) }
@@ -34,7 +34,7 @@ fn comes_before(stays: &Stays, receiver: &Stay, message: &MsgId, index: usize) -
     }
 }
 
-/// The earlier one of this index and that at which the receiver delivers what the entry sends.
+/// Returns the earlier of this index and the index at which the receiver delivers what the entry sends.
 fn earlier(stays: &Stays, receiver: &Stay, entry: &Entry, early: usize) -> usize
     requires { IsAmong stays.now.list.items receiver.now }
     ensures { IsEarlier stays.now.run.now.logs stays.now.ring receiver.now.proc entry.now early result }
@@ -48,8 +48,8 @@ fn earlier(stays: &Stays, receiver: &Stay, entry: &Entry, early: usize) -> usize
     }
 }
 
-/// Notes what the entry sends or delivers, unless the receiver delivers that before `early`, the index at which it delivers the
-/// first of what the sender sends later. Where it delivers nothing of that, `early` is the end of its stay.
+/// Notes the message that the entry sends or delivers, unless the receiver delivers it before `early`, the index at which it first
+/// delivers something that the sender sends later. If it delivers nothing of that, `early` is the end of its stay.
 fn note(
     suspects: &mut BTreeSet<MsgId>,
     stays: &Stays,
@@ -74,7 +74,7 @@ fn note(
     Ok(())
 }
 
-/// Notes what a sender sent or delivered and this receiver may deliver too late.
+/// Notes the messages that a sender sent or delivered and that this receiver may deliver too late.
 fn note_pair(
     suspects: &mut BTreeSet<MsgId>,
     stays: &Stays,
@@ -98,7 +98,7 @@ fn note_pair(
     Ok(())
 }
 
-/// Notes what a sender sent or delivered and some receiver may deliver too late.
+/// Notes the messages that a sender sent or delivered and that some receiver may deliver too late.
 fn note_sender(
     suspects: &mut BTreeSet<MsgId>,
     stays: &Stays,
@@ -114,8 +114,8 @@ fn note_sender(
     Ok(())
 }
 
-/// The messages that some process sent or delivered before it sent another one, of which some process delivers that other one
-/// alone or first. Each two stays are walked once.
+/// Returns the messages that some process sent or delivered before it sent another one, and for which some process delivers the other
+/// one alone or first. Walks each pair of stays once.
 pub fn suspects_of(alloc: Global, stays: &Stays) -> Result<BTreeSet<MsgId>, AllocError>
     ensures { IfOk result (λ suspects. AreSuspects ⟦<MsgId as Ord>⟧.cmp suspects stays.now.run.now.logs stays.now.ring stays.now.list.items (length stays.now.list.items)) }
 {

@@ -1,5 +1,5 @@
-//! A quick test of 3 to 7 in one regular configuration: it is uniform where all processes deliver messages of one sequence in its order,
-//! and who lacks one of them is excused (docs/DECISIONS.md, "The audit"). It takes a few walks through each stay, and no map.
+//! A quick test of 3 to 7 in one regular configuration. It is uniform if all processes deliver messages of one sequence in its order,
+//! and a process that lacks one is excused (docs/DECISIONS.md, "The audit"). Takes a few walks through each stay, and no map.
 ghost use Rattle.std.specs.Prelude.{◌≡◌, ◌<◌, IfOk, IfSome, All, length, slice_index_or};
 ghost use Rattle.std.specs.Bool.{OnTrue};
 ghost use Rattle.totem_pass_d.specs.Stays.{IsShortStay, HasStay};
@@ -29,7 +29,7 @@ fn has_stay(stays: &[Stay], proc: Proc) -> bool
     false
 }
 
-/// Returns whether there is a stay of each of these.
+/// Returns whether each of these members has a stay.
 fn have_stays(stays: &[Stay], members: &[Proc]) -> bool
     ensures { OnTrue result (HasAll stays.now members.now) }
 {
@@ -41,7 +41,7 @@ fn have_stays(stays: &[Stay], members: &[Proc]) -> bool
     true
 }
 
-/// Returns whether there is a stay of each member of the configurations of this stay.
+/// Returns whether each member of the configurations of this stay has a stay.
 fn has_members(stays: &[Stay], stay: &Stay) -> bool
     requires { IsShortStay stay.now }
     ensures { OnTrue result (HasMembers stays.now stay.now) }
@@ -50,7 +50,7 @@ fn has_members(stays: &[Stay], stay: &Stay) -> bool
         && (stay.turn >= stay.end || have_stays(stays, members_of(&stay.log[stay.turn])))
 }
 
-/// The stays beside one sequence: their replays, and the origins of its messages.
+/// The stays compared with one sequence: their replays, and the origins of its messages.
 #[derive(Drop)]
 struct Alignment {
     messages: Vec<MsgId>,
@@ -58,7 +58,7 @@ struct Alignment {
     origins: Origins,
 }
 
-/// The stays beside these messages, if each delivers some of them in their order, and each of them was sent in that order.
+/// Compares the stays with these messages, if each stay delivers some of them in order, and they were sent in that order.
 fn aligned(
     alloc: Global,
     stays: &[Stay],
@@ -80,7 +80,7 @@ fn aligned(
     }))
 }
 
-/// Returns whether a stay that is not excused lacks nothing that its process has to deliver: what it sent itself, and safe messages.
+/// Returns whether a stay that is not excused has everything that its process has to deliver: its own messages, and safe messages.
 fn pays(stays: &[Stay], replays: &[Replay], origins: &Origins, index: usize, has: &[bool]) -> bool
     requires replays { length stays.now ≡ length replays.now }
     requires taken { length stays.now ≡ length origins.now.taken.items }
@@ -99,7 +99,7 @@ fn pays(stays: &[Stay], replays: &[Replay], origins: &Origins, index: usize, has
         )
 }
 
-/// Returns whether the stay at this index lacks nothing that its process has to deliver.
+/// Returns whether the stay at this index has everything that its process has to deliver.
 fn is_settled(
     alloc: Global,
     stays: &[Stay],
@@ -129,7 +129,7 @@ fn is_settled(
     Ok(stay.is_excused() || pays(stays, replays, origins, index, &has))
 }
 
-/// Returns whether no stay lacks anything that its process has to deliver.
+/// Returns whether every stay has everything that its process has to deliver.
 fn all_settled(
     alloc: Global,
     stays: &[Stay],
@@ -175,7 +175,7 @@ fn are_complete(replays: &[Replay], messages: usize, taken: &[usize]) -> bool
     true
 }
 
-/// The processes that deliver all of the messages, if all that is sent is among these.
+/// Returns the processes that deliver all of the messages, if all that is sent is among the messages.
 fn full_of(
     alloc: Global,
     stays: &[Stay],
@@ -199,7 +199,7 @@ fn full_of(
     Ok(procs)
 }
 
-/// Who delivers all of the messages, if all that is sent is among these.
+/// Returns which processes deliver all of the messages, if all that is sent is among the messages.
 fn complete_along(
     alloc: Global,
     stays: &[Stay],
@@ -217,23 +217,23 @@ fn complete_along(
     Ok(Complete::Only(full_of(alloc, stays, replays, messages, taken)?))
 }
 
-/// What is seen of a configuration by laying its stays beside a sequence. A no is not to be trusted.
+/// What the comparison of a configuration's stays with a sequence shows. A no is not conclusive.
 #[derive(Drop)]
 pub struct Uniformity {
     /// Whether the configuration is uniform.
     pub uniform: bool,
-    /// Who delivers all that was sent in the configuration.
+    /// The processes that deliver all that was sent in the configuration.
     pub complete: Complete,
 }
 
 impl Uniformity {
-    /// Returns whether nothing is seen.
+    /// Returns whether the comparison shows nothing.
     fn is_blank(&self) -> bool {
         !self.uniform && matches!(&self.complete, Complete::Only(procs) if procs.is_empty())
     }
 }
 
-/// What is seen in the second way, or in the first one if nothing is seen in the second.
+/// Returns what the second comparison shows, or what the first does if the second shows nothing.
 fn either(stays: &[Stay], first: Uniformity, second: Uniformity) -> Uniformity
     requires first { IsSeenOf stays.now first }
     requires second { IsSeenOf stays.now second }
@@ -243,7 +243,7 @@ fn either(stays: &[Stay], first: Uniformity, second: Uniformity) -> Uniformity
     if second.is_blank() { first } else { second }
 }
 
-/// What is seen with this sequence.
+/// Returns what the comparison with this sequence shows.
 fn uniformity_along(
     alloc: Global,
     stays: &[Stay],
@@ -269,7 +269,7 @@ fn uniformity_along(
     Ok(Uniformity { uniform, complete })
 }
 
-/// What is seen with the sequence of the stay that delivers most, or with that of the stay over the most entries.
+/// Returns what the comparison with the sequence of the stay with the most deliveries shows, or with that of the longest stay.
 fn uniformity_of_fullest(
     alloc: Global,
     stays: &[Stay],
@@ -289,7 +289,7 @@ fn uniformity_of_fullest(
     Ok(either(stays, first, second))
 }
 
-/// What is seen with the sequences that the stays suggest, up to one with which the configuration is uniform.
+/// Returns what the comparisons with the sequences of the stays show, up to a sequence with which the configuration is uniform.
 pub fn uniformity_of(alloc: Global, stays: &[Stay]) -> Result<Uniformity, AllocError>
     requires { All IsShortStay stays.now }
     ensures { IfOk result (IsSeenOf stays.now) }

@@ -1,4 +1,4 @@
--- Writing what an old ring leaves, one held message after another.
+-- Writing the deliveries of an old ring, one held message after another.
 use Rattle.std.proofs.Common.{◌≡◌, ℕ, ◌+◌, ◌≤◌, List, ◌++◌, length, Bool, true, false}
 use Rattle.totem_ids.specs.declared.conf.ConfId.{ConfId}
 use Rattle.totem_packets.specs.declared.message.Message as message
@@ -7,12 +7,12 @@ use Rattle.totem_ring.specs.Rings.{Held, going_up}
 use Rattle.totem_recover.specs.Exchange.{held_above}
 use Rattle.totem_recover.specs.Finish.{deliveries, rest_from, owed_of}
 
--- what is written, and what the messages that are left still give, is the regular part
+-- the entries so far and the deliveries still to be written make the regular part
 pub record RegularGoesOn (x : ConfId) (high handed : ℕ) (held : Held) (before entries : List Entry) (last : ℕ) (left : Held) : Type 0 where
   pub written : entries ++ deliveries x (going_up last high left) ≡ before ++ deliveries x (going_up handed high held)
   pub counted : last + length (going_up last high left) ≡ handed + length (going_up handed high held)
 
--- after the first gap, or before it
+-- the messages after the first gap, or before it
 abbrev pub rest_at : Bool → List ℕ → ℕ → Held → List message.Message
 rest_at true obliged at left = owed_of obliged left
 rest_at false obliged at left = rest_from obliged at left

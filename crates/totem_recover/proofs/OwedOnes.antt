@@ -20,7 +20,7 @@ use Rattle.totem_recover.specs.Exchange.{Leaving, IsReady, new_recovery, held_ab
 use Rattle.totem_recover.specs.Finish.{delivery, deliveries, owed_of, rest_from, between_rings, finish}
 use Rattle.totem_recover.specs.Owed.{Delivers}
 
--- the message stands in the list
+-- the message is in the list
 record Stands (m : message.Message) (ms : List message.Message) : Type 0 where
   front : List message.Message
   back : List message.Message
@@ -35,7 +35,7 @@ stands_later x m ms in_rest = record { front = x ∷ in_rest.front; back = in_re
 stands_in : (m : message.Message) (xs ys : List message.Message) → xs ≡ ys → Stands m ys → Stands m xs
 stands_in m xs ys same there = record { front = there.front; back = there.back; all = same ∙ there.all }
 
--- the message that is held under the number of the first is the first
+-- the message held under the number of the first one is the first one
 is_first : (n : ℕ) (m : message.Message) (e : ℕ × message.Message) (es : Held) → n ≡ e.0 → message_at (e ∷ es) n ≡ Some m → e.1 ≡ m
 is_first n m e es same at = let first = at_same e es n same in cc
 
@@ -119,7 +119,7 @@ up_ends : (handed high : ℕ) (e : ℕ × message.Message) (es : Held) → hande
 up_ends handed high e es above no' =
     rw (lt-leb e.0 handed above) (cond-false ((e.0 == handed + 1) && may_go_up high e) (e.1 ∷ going_up (handed + 1) high es) [] no')
 
--- it goes up, or what goes up ends before it
+-- the message is among those to deliver, or these end before it
 abbrev GoesOrNot : ℕ → ℕ → ℕ → message.Message → Held → Type 0
 GoesOrNot handed high n m es = Stands m (going_up handed high es) ⊎ (handed + length (going_up handed high es) < n)
 
@@ -150,7 +150,7 @@ in_regular handed high n m (e ∷ es) at above =
 
 -- ---- what is written
 
--- the delivery of a message that stands in a list stands among the deliveries
+-- the delivery of a message in a list is among the deliveries
 spread : (x : ConfId) (m : message.Message) (ms : List message.Message) (stands : Stands m ms) → deliveries x ms ≡ deliveries x stands.front ++ (deliveries x (m ∷ []) ++ deliveries x stands.back)
 spread x m ms stands =
     ap (λ ys. deliveries x ys) stands.all

@@ -1,4 +1,4 @@
--- The lives of a ring's members are the members of a configuration.
+-- The lives of a ring's members as the members of a configuration.
 use Rattle.std.proofs.Common.{◌≡◌, ℕ, ◌<◌, List, [], ◌∷◌, length, get_or, refl, ap, ◌∙◌, arith}
 use Rattle.std.specs.Prelude.{AllPairs}
 use Rattle.std.proofs.lemmas.List.{length-map, get_or-map}
@@ -9,7 +9,7 @@ use Rattle.totem_ids.specs.declared.refused.ListFault.{ListFault}
 use Rattle.totem_ids.specs.Ranks.{id_of}
 use Rattle.totem_recover.specs.Lives.{first_rank, first_ranks, ids_of, IsRingMembers}
 
--- processes whose identifiers are those of a ring's members rise
+-- processes whose identifiers are those of a ring's members are ascending
 lives_rise : (lives : List ℕ) → IsRingMembers (ids_of lives) → AllPairs IsBelow lives
 lives_rise lives is = λ i j d less inside.
     let count = length-map lives id_of in
@@ -19,13 +19,13 @@ lives_rise lives is = λ i j d less inside.
     let above = is.processes.rising i j 0 less (omega (arith, count, inside)) in
     omega (arith, above, first, second)
 
--- they are refused by none of the rules of members
+-- no rule of members refuses them
 pub none_refuses : (lives : List ℕ) (fault : ListFault) → IsRingMembers (ids_of lives) → Refuses 1 32 IsBelow lives fault → ⊥
 none_refuses lives fault is refused =
     let count = length-map lives id_of in
     not_refused 1 32 IsBelow lives fault (omega (arith, is.some, count)) (omega (arith, is.processes.few, count)) (lives_rise lives is) refused
 
--- first lives are of the identifiers that they were made from
+-- the identifiers of first lives are those that they were made from
 pub first_are_of : (ids : List ℕ) → ids_of (first_ranks ids) ≡ ids
 first_are_of [] = refl
 first_are_of (id ∷ ids) =

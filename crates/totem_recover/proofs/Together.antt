@@ -1,4 +1,4 @@
--- Members that hold the same leave alike.
+-- Members that hold the same messages leave in the same way.
 use Rattle.std.proofs.Common.{length-append, ◌≡◌, ℕ, ◌+◌, ◌<◌, ◌≤◌, List, [], ◌∷◌, ◌++◌, length, refl, sym, ◌∙◌, ap, subst, append_assoc, arith, ⊎_elim}
 use Rattle.std.proofs.lemmas.Bool.{cases_eq, cases_lt}
 use Rattle.std.proofs.lemmas.Bool.Decides.{nat_tests}
@@ -39,14 +39,14 @@ between_next low high e es above below = grind (arith, nat_tests)
 between_above : (low high : ℕ) (e : ℕ × message.Message) (es : Held) → high < e.0 → messages_between low high (e ∷ es) ≡ messages_between low high es
 between_above low high e es above = grind (arith, nat_tests)
 
--- nothing lies between a number and itself
+-- there is nothing between a number and itself
 between_none : (at low high : ℕ) (es : Held) → RisesFrom at es → high ≤ at → messages_between low high es ≡ []
 between_none at low high [] rises le = refl
 between_none at low high (e ∷ es) rises le =
     let above : high < e.0 = omega (arith, rises.0) in
     between_above low high e es above ∙ between_none e.0 low high es rises.2 (omega arith)
 
--- where all are above both, either number may stand for the other
+-- if all are above both lower bounds, either bound gives the same messages
 between_from : (at low low' high : ℕ) (es : Held) → RisesFrom at es → low ≤ at → low' ≤ at → messages_between low high es ≡ messages_between low' high es
 between_from at low low' high [] rises le le' = refl
 between_from at low low' high (e ∷ es) rises le le' =
@@ -60,7 +60,7 @@ between_from at low low' high (e ∷ es) rises le le' =
 
 -- ---- catching up
 
--- from the lower number on goes up what lies between the two, and then what goes up from the higher one on
+-- the messages to deliver from the lower number on are those in between and then those from the higher number on
 pub record CatchesUp (low high safe_to : ℕ) (held : Held) : Type 0 where
   pub goes_up : going_up low safe_to held ≡ messages_between low high held ++ going_up high safe_to held
   pub counted : low + length (messages_between low high held) ≡ high
@@ -118,7 +118,7 @@ catches_up at low high safe_to (e ∷ es) rises begins le whole safe =
 
 -- ---- what is written
 
--- the finish by what it is made of: the old and the new ring, the new members, T, O, the regular part and its last number
+-- the finish, given its parts: the old and the new ring, the new members, T, O, the regular part and its last number
 written : RingName → RingName → List ℕ → List ℕ → List ℕ → List message.Message → ℕ → Held → List Entry
 written old ring members transitional obliged regular last held =
     let between = Transitional ring (id_of (slice_index transitional 0)) in

@@ -1,4 +1,4 @@
--- What the members of a new ring tell each other of their old rings (docs/PROTOCOL.md, "Recovery").
+-- What the members of a new ring report to each other about their old rings (docs/PROTOCOL.md, "Recovery").
 use Rattle.std.specs.Prelude.{ℕ, ◌==◌, ◌&&◌, ◌≤◌, List, [], ◌∷◌, ◌++◌, length, map, filter, fold, take, drop, min, max, Bool, true, false, if◌then◌else◌, nat_lt, nat_le, IsTrue, Option, None, Some}
 use Rattle.std.specs.List.{filter_map}
 use Rattle.totem_ids.specs.Names.{RingName}
@@ -26,9 +26,9 @@ pub record Leaving : Type 0 where
   pub transitional : List ℕ  -- T
   pub high : ℕ  -- H
   pub obliged : List ℕ  -- O
-  pub list : List Body  -- what is left to send on the new ring
-  pub sent : ℕ  -- the greatest of my numbers on the new ring that was noted
-  pub obligation : List ℕ  -- my obligation set
+  pub list : List Body  -- what is still to be sent on the new ring
+  pub sent : ℕ  -- the greatest of the member's numbers on the new ring that was noted
+  pub obligation : List ℕ  -- the member's obligation set
 
 -- ---- the list to send
 
@@ -41,11 +41,11 @@ sent_again m = again m.body
     again (Old ring number sender service payload) = None
     again Mark = None
 
--- what is held above a number, in ascending order
+-- the messages held above a number, in ascending order
 abbrev pub held_above : ℕ → Held → Held
 held_above low held = filter (λ e. nat_lt low e.0) held
 
--- the held messages above low in ascending order, each as a body that carries it; then one mark
+-- the messages held above low in ascending order, each in a body that carries it; then one mark
 abbrev pub list_to_send : ℕ → Held → List Body
 list_to_send low held = filter_map (λ e. sent_again e.1) (held_above low held) ++ Mark ∷ []
 
@@ -79,11 +79,11 @@ new_recovery me prev token = record {
 abbrev pub most_at_a_visit : ℕ
 most_at_a_visit = 16
 
--- what is sent at the next visit
+-- the bodies for the next visit
 abbrev pub next_bodies : Leaving → List Body
 next_bodies r = take most_at_a_visit r.list
 
--- the number of a message that this process broadcast, if it is above those noted
+-- the number of a message that this process broadcast, if it is above the noted ones
 abbrev pub sent_anew : ℕ → ℕ → To × packet.Packet → Option ℕ
 sent_anew me sent sending = numbered sending.0 sending.1
   where
@@ -94,7 +94,7 @@ sent_anew me sent sending = numbered sending.0 sending.1
     numbered All (packets.Commit t) = None
     numbered (One p) other = None
 
--- my messages that the visit numbered
+-- the numbers of the member's messages that the visit numbered
 abbrev pub numbers_sent : Leaving → List (To × packet.Packet) → List ℕ
 numbers_sent r sendings = filter_map (sent_anew r.me r.sent) sendings
 
@@ -103,7 +103,7 @@ is_mark (App service payload) = false
 is_mark (Old ring number sender service payload) = false
 is_mark Mark = true
 
--- the number of the process's mark: the least, should it have sent several
+-- the number of the process's mark, the least if it sent several
 abbrev pub mark_of : Held → ℕ → Option ℕ
 mark_of [] p = None
 mark_of (e ∷ es) p = if (e.1.sender == p) && is_mark e.1.body then Some e.0 else mark_of es p
@@ -112,26 +112,26 @@ abbrev pub at_least : ℕ → Option ℕ → Option ℕ
 at_least n None = None
 at_least n (Some k) = Some (max n k)
 
--- the greatest of these, if all are there
+-- the greatest of the numbers, if all exist
 abbrev pub greatest_of_all : List (Option ℕ) → Option ℕ
 greatest_of_all [] = Some 0
 greatest_of_all (None ∷ ns) = None
 greatest_of_all (Some n ∷ ns) = at_least n (greatest_of_all ns)
 
--- the number of the last mark, if every member's is held
+-- the number of the last mark, if every member's mark is held
 abbrev pub last_mark : Leaving → Ring → Option ℕ
 last_mark r ring = greatest_of_all (map (λ p. mark_of ring.held (id_of p)) r.members)
 
--- this number is there, and is at most top
+-- the number exists and is at most top
 abbrev pub is_reached : Option ℕ → ℕ → Bool
 is_reached None top = false
 is_reached (Some n) top = nat_le n top
 
--- my obligation set after a visit that left the new ring so: where all marks are held and the aru is at or above each, it is O
+-- the member's obligation set after a visit: if all marks are held and its aru on the new ring is at or above each, it is O
 abbrev pub obligation_after : Leaving → Ring → List ℕ
 obligation_after r ring = if is_reached (last_mark r ring) (aru_of ring.held) then r.obliged else r.obligation
 
--- After a visit: what it numbered is off the list, and the obligation set may have become O.
+-- After a visit: what it numbered is removed from the list, and the obligation set may have become O.
 abbrev pub on_ring : Leaving → Ring → List (To × packet.Packet) → Leaving
 on_ring r ring sendings =
     let numbers = numbers_sent r sendings in
@@ -141,13 +141,13 @@ on_ring r ring sendings =
       obligation = obligation_after r ring;
     }
 
--- every member's mark is handed up
+-- every member's mark is delivered to the node
 abbrev pub is_done : Leaving → Ring → Bool
 is_done r ring = is_reached (last_mark r ring) ring.handed
 
 -- ---- the duty
 
--- A recovery may begin: the token reports the ring that is left for me, and O is a set of at most 32 processes.
+-- A recovery may begin: in the token the member reports the ring that it leaves, and O is a set of at most 32 processes.
 pub record IsReady (me : ℕ) (prev : Ring) (token : CommitToken) : Type 0 where
   pub mine : IsTrue (has (transitional_set prev.ring token.members) me)
   pub few : length (obligation_union prev.ring token.members) ≤ 32

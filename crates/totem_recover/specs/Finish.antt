@@ -13,7 +13,7 @@ use Rattle.totem_evs.specs.declared.entry.Entry.TheVariants.{Conf, Deliver}
 use Rattle.totem_ring.specs.Rings.{Ring, Held, going_up}
 use Rattle.totem_recover.specs.Exchange.{Leaving, held_above}
 
--- a client's message is delivered in the configuration; those that carry old ones, and marks, write no entries
+-- the delivery of a client's message in the configuration; messages that carry old ones, and marks, have no entry
 abbrev pub delivery : ConfId → message.Message → Option Entry
 delivery x m = entry m.body
   where
@@ -25,20 +25,20 @@ delivery x m = entry m.body
 abbrev pub deliveries : ConfId → List message.Message → List Entry
 deliveries x ms = filter_map (delivery x) ms
 
--- Regular part: from handed + 1 on, while the next number is held, and it is agreed or at most H.
+-- Regular part: from handed + 1 on, while the next number is held and is agreed or at most H.
 abbrev pub regular_part : ℕ → Ring → List message.Message
 regular_part high old = going_up old.handed high old.held
 
--- after the first gap: only those whose sender is in O
+-- after the first gap: only the messages whose sender is in O
 abbrev pub owed_of : List ℕ → Held → List message.Message
 owed_of obliged held = filter (λ m. has obliged m.sender) (map (λ e. e.1) held)
 
--- The rest, in ascending order: before the first gap all, after it only those whose sender is in O.
+-- The rest, in ascending order: all before the first gap, after it only messages whose sender is in O.
 abbrev pub rest_from : List ℕ → ℕ → Held → List message.Message
 rest_from obliged last [] = []
 rest_from obliged last (e ∷ es) = if e.0 == last + 1 then e.1 ∷ rest_from obliged (last + 1) es else owed_of obliged (e ∷ es)
 
--- the transitional configuration: of the new ring, by the least identifier of T
+-- the transitional configuration, named by the new ring and the least identifier of T
 abbrev pub between_rings : Leaving → ConfId
 between_rings r = Transitional r.ring (id_of (slice_index r.transitional 0))
 

@@ -1,4 +1,4 @@
--- Processes and their lives, where rings know identifiers and configurations know lives (docs/PROTOCOL.md, "The node").
+-- Processes and their lives: rings know identifiers, configurations know lives (docs/PROTOCOL.md, "The node").
 use Rattle.std.specs.Prelude.{ℕ, ◌<◌, List, length, map}
 use Rattle.totem_ids.specs.Ranks.{rank_of, id_of}
 use Rattle.totem_packets.specs.Rising.{IsProcesses}

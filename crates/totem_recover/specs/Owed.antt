@@ -10,19 +10,19 @@ use Rattle.totem_ring.specs.Rings.{Ring, message_at}
 use Rattle.totem_recover.specs.Exchange.{Leaving, IsReady, new_recovery}
 use Rattle.totem_recover.specs.Finish.{deliveries, between_rings, finish}
 
--- the message's delivery in this configuration, if it has one, stands among these entries
+-- the message's delivery in this configuration, if it has one, is among the entries
 pub record Delivers (entries : List Entry) (x : ConfId) (m : message.Message) : Type 0 where
   pub before : List Entry
   pub after : List Entry
   pub all : entries ≡ before ++ deliveries x (m ∷ []) ++ after
 
--- A message that is held, was not handed up and is of a process in O is delivered, in the old configuration or in the
--- transitional one.
+-- A message that is held, was not delivered to the node and was sent by a process in O is delivered, in the old
+-- configuration or in the transitional one.
 abbrev pub OwedAreDelivered : Type 0
 OwedAreDelivered = (r : Leaving) (old : Ring) (n : ℕ) (m : message.Message)
     → message_at old.held n ≡ Some m → old.handed < n → has r.obliged m.sender ≡ true
     → Delivers (finish r old) (Regular old.ring) m ⊎ Delivers (finish r old) (between_rings r) m
 
--- Who begins a recovery is in its O.
+-- A member that begins a recovery is in its O.
 abbrev pub OwesItself : Type 0
 OwesItself = (me : ℕ) (prev : Ring) (token : CommitToken) → IsReady me prev token → has (new_recovery me prev token).obliged me ≡ true

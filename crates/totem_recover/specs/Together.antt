@@ -7,12 +7,12 @@ use Rattle.totem_ring.specs.Invariant.{RisesFrom}
 use Rattle.totem_recover.specs.Exchange.{Leaving}
 use Rattle.totem_recover.specs.Finish.{deliveries, finish}
 
--- what is held above one number and up to another
+-- the messages held above one number and up to another
 abbrev pub messages_between : ℕ → ℕ → Held → List message.Message
 messages_between low high held = map (λ e. e.1) (filter (λ e. nat_lt low e.0 && nat_le e.0 high) held)
 
--- Two members go from one ring to one: they know the same of it, the exchange has given them the same messages, and the one
--- has handed up no more than the other, who holds all that it handed up, and reported it.
+-- Two members leave the same ring for the same new ring: they know the same about it, they hold the same messages after the exchange,
+-- and the first has delivered no more to its node than the second, which holds all that it delivered, and reported it.
 pub record LeaveTogether (r s : Leaving) (a b : Ring) : Type 0 where
   pub ring : r.ring ≡ s.ring
   pub members : r.members ≡ s.members
@@ -26,7 +26,7 @@ pub record LeaveTogether (r s : Leaving) (a b : Ring) : Type 0 where
   pub whole : b.handed ≤ aru_of b.held
   pub reported : b.handed ≤ s.high
 
--- The one that is behind delivers in the old configuration what the other handed up; from there on they write the same.
+-- The first delivers in the old configuration what only the second had delivered; from there on both write the same.
 abbrev pub LeavesAlike : Type 0
 LeavesAlike = (r s : Leaving) (a b : Ring) → LeaveTogether r s a b
     → finish r a ≡ deliveries (Regular b.ring) (messages_between a.handed b.handed b.held) ++ finish s b

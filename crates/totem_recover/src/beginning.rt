@@ -15,7 +15,7 @@ use totem_ring::RingState;
 /// How many processes a set may have at most.
 const MOST: usize = 32;
 
-/// Returns whether a recovery may begin: the token reports for `me` the ring of `prev`, and O has at most 32 processes.
+/// Returns whether a recovery may begin: in the token `me` reports the ring of `prev`, and O has at most 32 processes.
 /// Takes no memory.
 pub fn is_ready(me: ProcId, prev: &RingState, token: &CommitToken) -> bool
     ensures { IsTrue result ↔ IsReady me prev.now token.now }
@@ -34,7 +34,7 @@ pub(crate) fn members_of(alloc: Global, members: &CommitMembers) -> Result<Membe
     Ok(members_with(lives))
 }
 
-/// Returns the transitional set: the members that come from the ring `old`, as `me` does, in the lives that they reported.
+/// Returns the transitional set: the members that come from the ring `old`, in the lives that they reported. `me` is one of them.
 #[tactic(auto, using(crate::proofs::Reported::transitional_are))]
 pub(crate) fn transitional_of(
     alloc: Global,

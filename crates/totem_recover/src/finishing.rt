@@ -1,4 +1,4 @@
-//! The entries that are written when the old ring is left (docs/PROTOCOL.md, "The finish").
+//! The entries that a member writes when it leaves the old ring (docs/PROTOCOL.md, "The finish").
 ghost use Rattle.std.specs.Prelude.{◌≡◌, ◌+◌, ◌++◌, ◌∷◌, [], IfOk, OnOk, length};
 ghost use Rattle.totem_ring.specs.Rings.{going_up};
 ghost use Rattle.totem_recover.specs.Exchange.{held_above};
@@ -63,7 +63,7 @@ pub(crate) fn write_regular(
     Ok(last)
 }
 
-/// Appends the deliveries of the rest: before the first gap all, after it only those of messages that processes in O sent.
+/// Appends the deliveries of the rest: all before the first gap, and after it only messages that processes in O sent.
 pub(crate) fn write_rest(
     entries: &mut Vec<Entry>,
     conf: &ConfId,

@@ -1,4 +1,4 @@
-//! Recovery: what members tell each other of their old rings, and what they write when they leave them.
+//! Recovery: what members report of their old rings, and what they write when they leave them.
 #![tactic(auto)]
 
 mod beginning;

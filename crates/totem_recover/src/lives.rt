@@ -1,4 +1,4 @@
-//! Processes and their lives: rings know their members by identifier, configurations know which lives these are in.
+//! Processes and their lives: a ring knows its members by identifier, a configuration knows the lives that they are in.
 ghost use Rattle.std.specs.Prelude.{◌≡◌, IfOk};
 ghost use Rattle.totem_recover.specs.Lives.{first_ranks, ids_of, IsRingMembers};
 
@@ -28,7 +28,7 @@ pub fn ids_of(alloc: Global, procs: &[Proc]) -> Result<Vec<ProcId>, AllocError>
     Ok(ids)
 }
 
-/// Returns the members of a configuration in these lives, whose identifiers are known to be those of a ring's members.
+/// Returns the members of a configuration in these lives. Their identifiers have to be those of a ring's members.
 #[tactic(auto, using(crate::proofs::RingLives::none_refuses))]
 pub fn members_with(lives: Vec<Proc>) -> Members
     requires { IsRingMembers (ids_of lives.items) }

@@ -1,4 +1,4 @@
-//! Marks: each says that its sender has sent all its old messages (docs/PROTOCOL.md, "Recovery").
+//! Marks: each says that its sender has sent all its messages of older rings (docs/PROTOCOL.md, "Recovery").
 ghost use Rattle.std.specs.Prelude.{◌≡◌, map};
 ghost use Rattle.totem_ids.specs.Ranks.{id_of};
 ghost use Rattle.totem_recover.specs.Exchange.{is_mark, mark_of, greatest_of_all, is_reached};
@@ -29,7 +29,7 @@ fn mark_of(held: &BTreeMap<u32, Message>, proc: ProcId) -> Option<u32>
     None
 }
 
-/// Returns the number of the last of the members' marks, or `None` unless a mark of each member is held.
+/// Returns the number of the last of the members' marks, or `None` unless a mark of every member is held.
 pub(crate) fn last_mark(members: &[Proc], held: &BTreeMap<u32, Message>) -> Option<u32>
     ensures { result ≡ greatest_of_all (map (λ p. mark_of held.now.entries (id_of p)) members.now) }
 {
@@ -40,7 +40,7 @@ pub(crate) fn last_mark(members: &[Proc], held: &BTreeMap<u32, Message>) -> Opti
     Some(last)
 }
 
-/// Returns whether there is this mark and its number is at most `top`.
+/// Returns whether the mark exists and its number is at most `top`.
 pub(crate) fn is_reached(mark: Option<u32>, top: u32) -> bool
     ensures { result ≡ is_reached mark top }
 {

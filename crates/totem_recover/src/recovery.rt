@@ -19,17 +19,17 @@ pub struct Recovery {
     members: Members,
     /// The members of the new ring that come from this process's old ring.
     transitional: Members,
-    /// The greatest number that one of these members reported as handed up on the old ring.
+    /// The greatest number that one of these members reported as delivered to its node on the old ring.
     high: u32,
-    /// The processes to which the delivery of their messages is owed once all marks are held.
+    /// The processes whose messages this one owes to deliver once all marks are held.
     obliged: Processes,
-    /// The processes to which it is owed until then.
+    /// The processes whose messages it owes to deliver until then.
     obliged_before: Processes,
     holds_all_marks: bool,
     list: Vec<Body>,
-    /// How many bodies of the list visits have numbered.
+    /// How many bodies of the list have been numbered by visits.
     numbered: usize,
-    /// The greatest number on the new ring that was noted as this process's own.
+    /// The greatest number of this process on the new ring that was noted.
     sent: u32,
 }
 
@@ -58,7 +58,7 @@ impl Recovery {
     ghost use Rattle.totem_recover.specs.Exchange.{IsReady, new_recovery, next_bodies, on_ring, obligation_after, last_mark, is_done};
     ghost use Rattle.totem_recover.specs.Finish.{finish};
 
-    /// Begins the recovery to which this commit token leads, from the ring of `prev` to the ring of the token.
+    /// Begins the recovery for this commit token, from the ring of `prev` to the ring of the token.
     /// `is_ready` tests whether it may begin.
     pub fn new(
         alloc: Global,
@@ -86,7 +86,7 @@ impl Recovery {
         })
     }
 
-    /// Returns the next bodies of the list, 16 at most: they are to wait on the new ring for its next visit.
+    /// Returns the next bodies of the list, at most 16, which are to wait on the new ring for its next visit.
     pub fn coming_bodies(&self) -> &[Body]
         ensures { result.now ≡ next_bodies self.now }
     {
@@ -104,7 +104,7 @@ impl Recovery {
         copies_of(alloc, self.coming_bodies())
     }
 
-    /// Notes a visit of the new ring's token: which bodies it numbered, and what the obligation set is from now on.
+    /// Notes a visit of the new ring's token: the bodies that it numbered, and the obligation set after it.
     /// Returns whether the recovery is done. Takes no memory.
     pub fn on_ring(&mut self, ring: &RingState, out: &RingOut) -> bool
         ensures after { self.new ≡ on_ring self.old ring.now out.now.packets.items }
@@ -119,7 +119,7 @@ impl Recovery {
         is_reached(last, ring.handed())
     }
 
-    /// Returns the obligation set: the processes to which this one owes the delivery of their messages.
+    /// Returns the obligation set: the processes whose messages this one owes to deliver.
     pub fn obligation(&self) -> &Processes
         ensures { result.now ≡ self.now.obligation }
     {
@@ -141,21 +141,21 @@ impl Recovery {
         }
     }
 
-    /// Returns the number of the last of the members' marks on the new ring, or `None` unless each member's mark is held.
+    /// Returns the number of the last of the members' marks on the new ring, or `None` unless every member's mark is held.
     pub fn last_mark(&self, ring: &RingState) -> Option<u32>
         ensures { result ≡ last_mark self.now ring.now }
     {
         last_mark(self.members.as_slice(), ring.held())
     }
 
-    /// Returns whether every member's mark is handed up, so that the old ring can be left.
+    /// Returns whether every member's mark was delivered to the node, so that the old ring can be left.
     pub fn is_done(&self, ring: &RingState) -> bool
         ensures { result ≡ is_done self.now ring.now }
     {
         is_reached(self.last_mark(ring), ring.handed())
     }
 
-    /// Returns the entries that are written when the old ring is left (docs/PROTOCOL.md, "The finish").
+    /// Returns the entries that the member writes when it leaves the old ring (docs/PROTOCOL.md, "The finish").
     pub fn finish(&self, alloc: Global, prev: &RingState) -> Result<Vec<Entry>, AllocError>
         ensures { IfOk result (λ entries. entries.items ≡ finish self.now prev.now) }
     {

@@ -1,4 +1,4 @@
-//! What is sent on the new ring (docs/PROTOCOL.md, "Recovery").
+//! The messages that a member sends on the new ring (docs/PROTOCOL.md, "Recovery").
 ghost use Rattle.std.specs.Prelude.{◌≡◌, ◌++◌, ◌∷◌, [], IfOk, OnOk, length, fold, max};
 ghost use Rattle.std.specs.List.{filter_map};
 ghost use Rattle.totem_recover.specs.Exchange.{sent_again, list_to_send, sent_anew};
@@ -29,7 +29,7 @@ fn sent_again(message: &Message) -> Result<Option<Body>, AllocError>
     })
 }
 
-/// Returns the list to send: the held messages above `low`, each as a body that carries it, and then one mark.
+/// Returns the list to send: the held messages above `low`, each in a body that carries it, and then one mark.
 pub(crate) fn list_to_send(
     alloc: Global,
     low: u32,
@@ -76,8 +76,8 @@ fn sent_anew(me: ProcId, sent: u32, to: &To, packet: &Packet) -> Option<u32>
     }
 }
 
-/// Counts the broadcast messages of process `me` with numbers above `sent`. Returns the count, and the greatest of
-/// these numbers or `sent` itself.
+/// Counts the broadcast messages of process `me` with numbers above `sent`. Returns the count and the greatest of these
+/// numbers, or `sent` itself if there are none.
 pub(crate) fn count_anew(me: ProcId, sent: u32, packets: &[(To, Packet)]) -> (usize, u32)
     ensures count { result.0 ≡ length (filter_map (sent_anew me sent) packets.now) }
     ensures greatest { result.1 ≡ fold max sent (filter_map (sent_anew me sent) packets.now) }

@@ -9,7 +9,7 @@ use Rattle.totem_ring.specs.Rings.{Held, holds}
 use Rattle.totem_ring.specs.Visits.{missing}
 use Rattle.totem_ring.specs.Requests.{with_number, with_requests, numbers_above}
 
--- the numbers rise from above low, and each is the number of a message
+-- the numbers are ascending above low, and each is the number of a message
 abbrev pub Rises : ℕ → List ℕ → Type 0
 Rises low [] = Unit {0}
 Rises low (n ∷ ns) = (low < n) × (n ≤ 4294967295) × Rises n ns
@@ -81,7 +81,7 @@ length-with_number (k ∷ ks) n = go (nat_lt n k) (n == k) (length-with_number k
     go false true le = omega arith
     go false false le = omega arith
 
--- what is added keeps the rules
+-- adding requests keeps the rules
 pub with_requests_are : (rtr ns : List ℕ) (low : ℕ) → Rises low ns → length rtr ≤ 64 → Rises 0 rtr → IsRequests (with_requests rtr ns)
 with_requests_are rtr [] low above few h = are_requests rtr few h
 with_requests_are rtr (n ∷ ns) low above few h =
@@ -96,14 +96,14 @@ pub Rises-numbers : (low count : ℕ) → low + count ≤ 4294967295 → Rises l
 Rises-numbers low zero fits = tt
 Rises-numbers low (suc count) fits = (omega arith, omega arith, Rises-numbers (low + 1) count (omega arith))
 
--- what is left of requests
+-- the requests that are left
 pub left_are : (test : ℕ → Bool) (numbers : List ℕ) → IsRequests numbers → IsRequests (filter test numbers)
 left_are test numbers h = are_requests (filter test numbers) (let few : length numbers ≤ 64 = h.few in omega (arith, length-filtered test numbers)) (Rises-filter test 0 numbers (of_requests numbers h))
 
--- the numbers that are missing rise
+-- the missing numbers are ascending
 pub missing_rise : (held : Held) (seq : ℕ) → seq < 2 ^ 32 → Rises 0 (missing held seq)
 missing_rise held seq fits = Rises-filter (λ n. not (holds held n)) 0 (numbers_above 0 seq) (Rises-numbers 0 seq (omega arith))
 
--- what a token asks for as it leaves
+-- the requests of a token as it leaves
 pub asked_are : (rtr : List ℕ) (held : Held) (seq : ℕ) → IsRequests rtr → seq < 2 ^ 32 → IsRequests (with_requests rtr (missing held seq))
 asked_are rtr held seq h fits = with_requests_are rtr (missing held seq) 0 (missing_rise held seq fits) h.few (of_requests rtr h)

@@ -1,4 +1,4 @@
--- A token's refusals: those that come at once, and the one that looks at what waits.
+-- A token's refusals: those that are made at once, and the one that depends on what is waiting.
 use Rattle.std.proofs.Common.{◌≡◌, Bool, true, false, not, [], Option, None, Some, refl, ap}
 use Rattle.std.proofs.lemmas.List.{append-nil}
 use Rattle.std.specs.Prelude.{if◌then◌else◌, nat_le}
@@ -32,11 +32,11 @@ pub refused_at_once : (s : Ring) (t : Token) (fault : RingFault) → refusal_at_
 unfolding first_of_two all_three
 refused_at_once s t fault e = at_once (same_ring t.ring s.ring) (nat_le t.token_seq s.last) (is_token_in_range s t) fault e
 
--- else it is refused where it is out of range
+-- otherwise it is refused if it is out of range
 pub refused_later : (s : Ring) (t : Token) → refusal_at_once s t ≡ None → token_refusal s t ≡ (if not (is_token_in_range s t) then Some Range else None)
 unfolding first_of_two all_three
 refused_later s t e = later (same_ring t.ring s.ring) (nat_le t.token_seq s.last) (is_token_in_range s t) e
 
--- where no bodies are given, nothing more waits
+-- if no bodies are given, nothing more is waiting
 pub given_nothing : (s : Ring) (t : Token) → token_refusal (given s []) t ≡ token_refusal s t
 given_nothing s t = ap (λ waiting. token_refusal (record s { waiting = waiting }) t) (append-nil s.waiting)

@@ -1,4 +1,4 @@
--- What a step sends are tokens and messages of the lists.
+-- Every packet that a step sends is from the lists.
 use Rattle.std.proofs.Common.{◌≡◌, ℕ, List, [], ◌∷◌, ◌++◌, map, cond, Option, Some, None, refl, subst}
 use Rattle.std.specs.Prelude.{All}
 use Rattle.std.specs.List.{filter_map, cons_option}
@@ -33,7 +33,7 @@ All-packets tokens msgs (x ∷ xs) h = All-cons (IsOf tokens msgs) x.1 (map (λ 
 at_number : (msgs : List Message) → AreNumbered msgs → (n : ℕ) (m : Message) → IsNth msgs n m → IsNth msgs m.number m
 at_number msgs numbers n m nth = record { before = nth.before; after = numbers.number nth.before m nth.at; at = nth.at }
 
--- a message that is found is one of the list
+-- a message that is found is from the list
 found : (msgs : List Message) (held : Held) (n : ℕ) (m : Message) → AreNumbered msgs → AreOf msgs held → message_at held n ≡ Some m → IsNth msgs m.number m
 found msgs [] n m numbers h e = absurd cc
 found msgs (e ∷ es) n m numbers h is = go (nat_cmp n e.0) is (λ is. found msgs es n m numbers h.1 is)

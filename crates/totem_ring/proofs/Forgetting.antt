@@ -12,7 +12,7 @@ use Rattle.totem_ring.specs.Invariant.{RisesFrom, KeepsAru}
 use Rattle.totem_ring.proofs.Rising.{none_below, whole_is, whole_holds}
 use Rattle.totem_ring.proofs.Holding.{here, there}
 
--- what rises from a number rises from a lower one
+-- what is ascending above a number is ascending above a lower one
 pub Rises-lower : (low least : ℕ) (es : Held) → least ≤ low → RisesFrom low es → RisesFrom least es
 Rises-lower low least [] le h = tt
 Rises-lower low least (e ∷ es) le h = (omega (arith, h.0), h.1, h.2)
@@ -57,7 +57,7 @@ still_there e es new q same = elim (cases_eq q e.0) [
   | inr other ↦ there e new q other ∙ same ∙ sym (there e es q other)
 ]
 
--- the others are still held
+-- the other messages are still held
 pub holds_without : (n q : ℕ) (es : Held) → (q ≡ n → ⊥) → holds (without es n) q ≡ holds es q
 holds_without n q [] other = refl
 holds_without n q (e ∷ es) other = go (nat_cmp n e.0) (ranks n e.0) (holds_without n q es other)
@@ -67,7 +67,7 @@ holds_without n q (e ∷ es) other = go (nat_cmp n e.0) (ranks n e.0) (holds_wit
     go Equal same rest = sym (there e es q (λ at. other (at ∙ sym same)))
     go Greater gt rest = still_there e es (without es n) q rest
 
--- and it is not
+-- and the forgotten one is not
 pub gone : (low n : ℕ) (es : Held) → RisesFrom low es → holds (without es n) n ≡ false
 gone low n [] h = refl
 gone low n (e ∷ es) h = go (nat_cmp n e.0) (ranks n e.0) (gone e.0 n es h.2)

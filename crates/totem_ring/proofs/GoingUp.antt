@@ -1,4 +1,4 @@
--- What goes up is the next part of the list.
+-- The messages delivered to the node are the next part of the list.
 use Rattle.std.proofs.Common.{◌≡◌, ℕ, ◌+◌, ◌==◌, ◌&&◌, nat_le, List, [], ◌∷◌, ◌++◌, length, slice_get, Bool, true, false, Some, if◌then◌else◌, refl, ◌∙◌, ap, append_assoc, append-nil, arith, eqb-true, length-append}
 use Rattle.totem_packets.specs.declared.message.Message.{Message}
 use Rattle.totem_ring.specs.Order.{IsPrefixOf}

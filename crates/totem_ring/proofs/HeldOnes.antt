@@ -1,4 +1,4 @@
--- Held messages that are those of one list.
+-- Held messages that are all from one list.
 use Rattle.std.proofs.Common.{◌≡◌, ℕ, ◌<◌, List, [], ◌∷◌, ◌++◌}
 use Rattle.std.specs.Ordering.{nat_cmp, MatchOrdering, match_ordering}
 use Rattle.std.specs.Cmp.{ranks}
@@ -30,7 +30,7 @@ AreOf-insert msgs (e ∷ es) n m h nth = go (nat_cmp n e.0) (ranks n e.0) (AreOf
 pub AreOf-with_message : (msgs : List Message) (held : Held) (m : Message) → AreOf msgs held → IsNth msgs m.number m → AreOf msgs (with_message held m)
 AreOf-with_message msgs held m h nth = AreOf-insert msgs held m.number m h nth
 
--- each of these messages stands at its number
+-- each of the messages is at its number in the list
 abbrev pub StandIn : List Message → List Message → Type 0
 StandIn msgs [] = Unit {0}
 StandIn msgs (m ∷ ms) = IsNth msgs m.number m × StandIn msgs ms

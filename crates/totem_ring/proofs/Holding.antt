@@ -17,7 +17,7 @@ use Rattle.totem_ring.specs.Refusals.{message_refusal}
 use Rattle.totem_ring.specs.Invariant.{RisesFrom, IsWholeTo, KeepsAru}
 use Rattle.totem_ring.proofs.Rising.{at_same, at_other, whole_is, whole_holds, Rises-insert, remove-insert, going_fits}
 
--- nothing that was held is gone
+-- nothing that was held is lost
 pub record Grows (held new : Held) : Type 0 where
   pub still : (q : ℕ) → holds held q ≡ true → holds new q ≡ true
 
@@ -42,7 +42,7 @@ still_insert (e ∷ es) k m q h = go (nat_cmp k e.0) (λ h. still_insert es k m 
 pub Grows-insert : (es : Held) (k : ℕ) (m : Message) → Grows es (insert_entry nat_cmp es k m)
 Grows-insert es k m = record { still = still_insert es k m }
 
--- the aru after more came
+-- the aru after one more message
 pub KeepsAru-grown : (held new : Held) (my_aru n : ℕ) → KeepsAru held my_aru → Grows held new → RisesFrom 0 new → IsWholeTo new my_aru n → KeepsAru new n
 KeepsAru-grown held new my_aru n h grows rises whole = record {
   aru_is = sym (whole_is 0 n new rises (record {
@@ -73,13 +73,13 @@ none_at (Some m) h = absurd cc
 pub not_held : (s : Ring) (m : Message) → message_refusal s m ≡ None → message_at s.held m.number ≡ None
 not_held s m h = none_at _ (refusal_parts (same_ring m.ring s.ring) (holds s.held m.number) (has s.members m.sender) h)
 
--- what is forgotten again leaves what was there
+-- removing the message again leaves what was held before
 pub undone : (s : Ring) (m : Message) (held new newer : Held) → message_refusal s m ≡ None → s.held ≡ held → new ≡ with_message held m → newer ≡ without new m.number → newer ≡ held
 undone s m held new newer passed same put taken =
     let none : message_at held m.number ≡ None = rw (← same) (not_held s m passed) in
     taken ∙ ap (λ held. without held m.number) put ∙ remove-insert 0 held m.number m none
 
--- out of memory is an answer to a step that isn't refused
+-- out of memory is a possible result of a step that isn't refused
 pub memory_answers : (refusal : Option RingFault) (done : Done) (old new : Ring) → refusal ≡ None → new ≡ old → Answers (Err Memory) old new (unless_refused refusal done)
 memory_answers None done old new passed same = record { unchanged = same; fault_is = refl }
 memory_answers (Some fault) done old new passed same = absurd cc

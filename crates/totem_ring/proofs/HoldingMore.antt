@@ -1,4 +1,4 @@
--- Holding several messages, and forgetting them again.
+-- Holding several messages, and removing them again.
 use Rattle.std.proofs.Common.{◌≡◌, ℕ, ◌+◌, ◌<◌, ◌≤◌, nat_le, List, [], ◌∷◌, ◌++◌, length, get_or, take, drop, Some, None, Bool, true, false, not, cond, refl, sym, ◌∙◌, ap, arith, append-nil, append_assoc, add-one, drop-cons, le-leb}
 use Rattle.std.specs.Prelude.{filter, All}
 use Rattle.std.specs.List.{filter_map, cons_option}
@@ -14,7 +14,7 @@ use Rattle.totem_packets.specs.declared.message.Message.{Message}
 use Rattle.totem_ring.specs.Rings.{Held, message_at, holds, with_message, with_messages, up_to}
 use Rattle.totem_ring.specs.Invariant.{RisesFrom}
 
--- what comes above seq changes nothing up to it
+-- what is added above seq changes nothing up to it
 pub up_to-insert : (seq : ℕ) (es : Held) (k : ℕ) (m : Message) → seq < k → up_to seq (insert_entry nat_cmp es k m) ≡ up_to seq es
 up_to-insert seq [] k m above = ap (λ (b : Bool). cond {A = Held} b ((k, m) ∷ []) []) (lt-leb k seq above)
 up_to-insert seq (e ∷ es) k m above = go (nat_cmp k e.0) (ranks k e.0) (up_to-insert seq es k m above)
@@ -55,7 +55,7 @@ one_held now new before seq messages i n m h lt here all number put =
     opened : (d : Message) → drop i messages ≡ get_or messages i d ∷ drop (i + 1) messages
     opened d = rw (add-one, drop-cons messages i d)
 
--- what comes above all is put at the end
+-- a message above all others is put at the end
 above_each : (low : ℕ) (es rest : Held) (k : ℕ) (m : Message) → RisesFrom low (es ++ (k, m) ∷ rest) → low < k
 above_each low [] rest k m h = h.0
 above_each low (e ∷ es) rest k m h = let above : e.0 < k = above_each e.0 es rest k m h.2 in omega (arith, h.0)
@@ -70,13 +70,13 @@ insert_end low (e ∷ es) rest k m h = go (nat_cmp k e.0) (ranks k e.0) (above_e
     go Equal same above rest = absurd (omega arith)
     go Greater gt above rest = ap (λ tail. e ∷ tail) rest
 
--- a copy so far, with what is still to come
+-- the copy so far with what is still to be copied
 pub copies_on : (now new all left rest : Held) (k : ℕ) (m : Message) → RisesFrom 0 all → now ++ left ≡ all → left ≡ (k, m) ∷ rest → new ≡ insert_entry nat_cmp now k m → new ++ rest ≡ all
 copies_on now new all left rest k m rises far next put =
     let whole : now ++ (k, m) ∷ rest ≡ all = ap (λ es. now ++ es) (sym next) ∙ far in
     ap (λ es. es ++ rest) (put ∙ insert_end 0 now rest k m (rw whole rises)) ∙ append_assoc now ((k, m) ∷ []) rest ∙ whole
 
--- what is held up to seq is all, where nothing is held above it
+-- what is held up to seq is everything, if nothing above it is held
 pub up_to-all : (seq : ℕ) (held : Held) → (all : All (λ (e : ℕ × Message). e.0 ≤ seq) held) → up_to seq held ≡ held
 up_to-all seq [] all = refl
 up_to-all seq (e ∷ es) all =
@@ -87,7 +87,7 @@ up_to-all seq (e ∷ es) all =
 pub number_at : (numbers : List ℕ) (i k n : ℕ) → i < length numbers → n ≡ get_or numbers i n → k ≡ n → get_or numbers i 0 ≡ k
 number_at numbers i k n lt is same = get_or_default numbers i 0 n lt ∙ sym is ∙ sym same
 
--- asked so far
+-- what was found so far
 pub asked_one : (held : Held) (numbers : List ℕ) (i k : ℕ) (found more : List Message) (m copy : Message) → found ≡ filter_map (message_at held) (take i numbers) → i < length numbers
     → get_or numbers i 0 ≡ k → message_at held k ≡ Some m → copy ≡ m → more ≡ found ++ copy ∷ [] → more ≡ filter_map (message_at held) (take (i + 1) numbers)
 asked_one held numbers i k found more m copy far lt here at same is =
@@ -104,7 +104,7 @@ asked_none held numbers i k found far lt here at =
     ∙ sym (filter_map-append (message_at held) (take i numbers) (get_or numbers i 0 ∷ []))
     ∙ ap (filter_map (message_at held)) (sym (take_more numbers i 0 lt))
 
--- still asked so far
+-- what is still asked for so far
 abbrev pub IsAskedTo : Held → List ℕ → List ℕ → ℕ → Type 0
 IsAskedTo held numbers rtr i = rtr ≡ filter (λ n. not (holds held n)) (take i numbers)
 

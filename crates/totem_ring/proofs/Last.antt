@@ -1,11 +1,11 @@
--- The last of the messages that are held.
+-- The last of the held messages.
 use Rattle.std.proofs.Common.{◌≡◌, ℕ, zero, suc, ◌+◌, ◌<◌, ◌||◌, nat_lt, [], ◌∷◌, length, slice_get, Bool, true, false, Some, refl, sym, ◌∙◌, ap, arith, lt-ltb, ltb-true}
 use Rattle.totem_packets.specs.declared.message.Message.{Message}
 use Rattle.totem_ring.specs.Rings.{Held}
 use Rattle.totem_ring.specs.Refusals.{holds_above}
 use Rattle.totem_ring.specs.Invariant.{RisesFrom}
 
--- what stands anywhere is above where the list begins
+-- every element is above the lower bound of the list
 above_at : (low k : ℕ) (es : Held) (e : ℕ × Message) → RisesFrom low es → slice_get es k ≡ Some e → low < e.0
 above_at low k [] e h at = absurd cc
 above_at low zero (x ∷ xs) e h at = let same : x ≡ e = cc in let number : x.0 ≡ e.0 = ap (λ (y : ℕ × Message). y.0) same in omega (arith, h.0)
@@ -15,7 +15,7 @@ alone : (b : Bool) → b || false ≡ b
 alone true = refl
 alone false = refl
 
--- a number above seq is held where the last one is
+-- a number above seq is held exactly where the last one is above it
 pub last_above : (low k seq : ℕ) (es : Held) (e : ℕ × Message) → RisesFrom low es → k + 1 ≡ length es → slice_get es k ≡ Some e → holds_above es seq ≡ nat_lt seq e.0
 last_above low k seq [] e h len at = absurd cc
 last_above low zero seq (x ∷ []) e h len at = let same : x ≡ e = cc in alone (nat_lt seq x.0) ∙ ap (λ (y : ℕ × Message). nat_lt seq y.0) same

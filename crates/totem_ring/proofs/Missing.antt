@@ -1,4 +1,4 @@
--- The walk over what is missing.
+-- The walk over the missing numbers.
 use Rattle.std.proofs.Common.{◌≡◌, ℕ, zero, suc, ◌+◌, ◌-◌, ◌<◌, ◌≤◌, List, [], ◌∷◌, ◌++◌, length, take, get_or, Bool, true, false, not, cond, refl, sym, ◌∙◌, ap, arith, le-ltb, lt-ltb, inl, inr}
 use Rattle.std.specs.Prelude.{filter}
 use Rattle.std.proofs.lemmas.Bool.{cases_lt}
@@ -39,7 +39,7 @@ gaps_from held seq (suc k) le = elim (cases_lt k seq) [
   | inr ge ↦ no_gaps held (suc k) seq (omega arith) ∙ sym (no_gaps held k seq ge) ∙ gaps_from held seq k (omega arith)
 ]
 
--- what is asked for so far, with what is still to come
+-- the requests so far with those still to be added
 pub record IsAsking (rtr before : List ℕ) (held : Held) (n seq : ℕ) : Type 0 where
   pub all : with_requests rtr (gaps held n seq) ≡ with_requests before (missing held seq)
 
@@ -75,7 +75,7 @@ asking_there rtr before held n seq h lt at room is = asking_more rtr rtr before 
 pub asking_ends : (rtr before : List ℕ) (held : Held) (n seq : ℕ) → IsAsking rtr before held n seq → seq ≤ n → rtr ≡ with_requests before (missing held seq)
 asking_ends rtr before held n seq h le = sym (ap (with_requests rtr) (no_gaps held n seq le)) ∙ h.all
 
--- one number more is given
+-- one more number is given
 pub numbered_push : (s : Ring) (seq : ℕ) (bodies : List Body) (body : Body) → numbered s seq (bodies ++ body ∷ []) ≡ numbered s seq bodies ++ record { ring = s.ring; number = (seq + length bodies) + 1; sender = s.me; body = body } ∷ []
 numbered_push s seq [] body =
     let none : seq ≡ seq + 0 = omega arith in

@@ -1,4 +1,4 @@
--- What a token that isn't refused has passed.
+-- The tests that a token passes if it isn't refused.
 use Rattle.std.proofs.Common.{◌≡◌, ◌<◌, nat_le, Bool, true, false, not, if◌then◌else◌, ◌&&◌, Some, None, refl, eqb-true, leb-false}
 use Rattle.totem_packets.specs.declared.token.Token.{Token}
 use Rattle.totem_ring.specs.declared.fault.RingFault.TheVariants.{OtherRing, Repeat, Range}

@@ -1,4 +1,4 @@
--- What stands at the n-th place of a list, from 1.
+-- The n-th element of a list, counted from 1.
 use Rattle.std.proofs.Common.{◌≡◌, ℕ, ◌+◌, List, ◌++◌, slice_get, Some}
 use Rattle.totem_packets.specs.declared.message.Message.{Message}
 use Rattle.totem_packets.specs.declared.token.Token.{Token}

@@ -7,7 +7,7 @@ use Rattle.totem_ring.specs.Visits.{numbered}
 use Rattle.totem_ring.specs.Order.{bodies_of}
 use Rattle.totem_ring.proofs.HeldOnes.{StandIn}
 
--- the number of each message is its place
+-- the number of each message is its place in the list
 pub record AreNumbered (msgs : List Message) : Type 0 where
   pub number : (k : ℕ) (m : Message) → slice_get msgs k ≡ Some m → m.number ≡ k + 1
 

@@ -37,7 +37,7 @@ at_start ring members = record {
   };
 }
 
--- a step without a token
+-- a step that takes no token
 same_tokens : (w : World) (p : ℕ) (act : Act) (done : Done) → (h : HasOrder w) → done.state.last ≡ (w.state p).last → AllFit (h.earlier ++ h.newest ∷ []) h.msgs done.packets
     → Keeps w.members (h.earlier ++ h.newest ∷ []) h.msgs p done.state (w.up p ++ done.handed) (w.accepted p ++ submitted act) → HasOrder (world_after w p act (Ok done))
 same_tokens w p act done h same_last fit mine = record {

@@ -1,10 +1,10 @@
--- The walk to a number's place.
+-- The search for a number's place.
 use Rattle.std.proofs.Common.{◌≡◌, ℕ, ◌+◌, ◌<◌, ◌≤◌, ◌==◌, List, [], ◌∷◌, ◌++◌, length, get_or, take, drop, Bool, cond, refl, sym, ◌∙◌, ap, arith, add-one, drop-cons, append_assoc, le-ltb, lt-ltb, eq-eqb, ne_eqb}
 use Rattle.std.specs.Prelude.{insert}
 use Rattle.std.proofs.lemmas.List.{take-append-drop, take_more, take_all, drop_all}
 use Rattle.totem_ring.specs.Requests.{with_number}
 
--- the numbers before place i are below the number
+-- the numbers before index i are below the number
 pub record IsAt (numbers : List ℕ) (number i : ℕ) : Type 0 where
   pub split : with_number numbers number ≡ take i numbers ++ with_number (drop i numbers) number
 

@@ -1,4 +1,4 @@
--- Lists of which one begins the other.
+-- Lists of which one is a prefix of the other.
 use Rattle.std.proofs.Common.{◌≡◌, ◌==◌, ℕ, zero, suc, ◌⊎◌, inl, inr, List, [], ◌∷◌, ◌++◌, length, slice_get, Some, None, map, refl, sym, ◌∙◌, ap, append_assoc}
 use Rattle.std.specs.Prelude.{filter}
 use Rattle.std.proofs.lemmas.List.{map-append}
@@ -11,7 +11,7 @@ slice_get-append [] ys k x h = absurd cc
 slice_get-append (y ∷ xs) ys zero x h = h
 slice_get-append (y ∷ xs) ys (suc k) x h = slice_get-append xs ys k x h
 
--- of two lists that begin a third one begins the other
+-- of two prefixes of a list one is a prefix of the other
 pub one_begins : {X : Type 0} (xs ys zs : List X) → IsPrefixOf xs zs → IsPrefixOf ys zs → IsPrefixOf xs ys ⊎ IsPrefixOf ys xs
 one_begins [] ys zs p q = inl (ys, refl)
 one_begins (x ∷ xs) [] zs p q = inr (x ∷ xs, refl)
@@ -24,11 +24,11 @@ one_begins (x ∷ xs) (y ∷ ys) zs (r, e) (t, f) =
       | inr (rest, h) ↦ inr (rest, (let joined : y ∷ (ys ++ rest) ≡ x ∷ xs = cc in joined))
     ]
 
--- what begins a list begins a longer one too
+-- a prefix of a list is a prefix of a longer one
 pub begins_longer : {X : Type 0} (xs ys more : List X) → IsPrefixOf xs ys → IsPrefixOf xs (ys ++ more)
 begins_longer xs ys more (rest, e) = (rest ++ more, sym (append_assoc xs rest more) ∙ ap (λ zs. zs ++ more) e)
 
--- the element at the end of a prefix goes on with it
+-- a longer prefix has the element after the prefix
 pub goes_on : {X : Type 0} (xs zs : List X) (x : X) → IsPrefixOf xs zs → slice_get zs (length xs) ≡ Some x → IsPrefixOf (xs ++ x ∷ []) zs
 goes_on [] zs x ([], e) h = let none : slice_get zs 0 ≡ None = rw (← e) refl in absurd cc
 goes_on {X} [] zs x (r ∷ rest, e) h =
@@ -47,6 +47,6 @@ bodies_of-append p xs ys =
     ap (λ ms. map (λ (m : Message). m.body) ms) (filter-append (λ (m : Message). m.sender == p) xs ys)
     ∙ map-append (λ (m : Message). m.body) (filter (λ (m : Message). m.sender == p) xs) (filter (λ (m : Message). m.sender == p) ys)
 
--- what a process says in a prefix begins what it says in all
+-- what a process sends in a prefix is a prefix of what it sends in the whole
 pub bodies_begin : (p : ℕ) (xs zs : List Message) → IsPrefixOf xs zs → IsPrefixOf (bodies_of p xs) (bodies_of p zs)
 bodies_begin p xs zs (rest, e) = (bodies_of p rest, sym (bodies_of-append p xs rest) ∙ ap (bodies_of p) e)

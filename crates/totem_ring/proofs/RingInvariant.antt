@@ -1,4 +1,4 @@
--- What every schedule keeps, by two lists: the tokens in the order in which they were made, and the messages by number.
+-- The invariant of every schedule, over two lists: the tokens in the order in which they were made, and the messages by number.
 use Rattle.std.proofs.Common.{◌≡◌, ℕ, ◌+◌, ◌==◌, ◌<◌, List, [], ◌∷◌, ◌++◌, length, Bool, true, false, if◌then◌else◌, Option, Some, None, Ok, refl, ◌∙◌, ap, append-nil, eqb-true, length-append}
 use Rattle.std.specs.Prelude.{All, ⊤}
 use Rattle.std.proofs.lemmas.List.Elements.{All-append}
@@ -22,7 +22,7 @@ abbrev pub KeptIsOf : List Token → Option Token → Type 0
 KeptIsOf tokens None = ⊤
 KeptIsOf tokens (Some t) = IsNth tokens t.token_seq t
 
--- what one member has
+-- what holds of one member
 pub record Keeps (ring_members : List ℕ) (tokens : List Token) (msgs : List Message) (p : ℕ) (s : Ring) (up : List Message) (accepted : List Body) : Type 0 where
   pub me : s.me ≡ p
   pub members : s.members ≡ ring_members
@@ -50,7 +50,7 @@ pub kept_longer : (tokens more : List Token) (kept : Option Token) → KeptIsOf 
 kept_longer tokens more None h = h
 kept_longer tokens more (Some t) h = IsNth-append tokens more t.token_seq t h
 
--- a member that does nothing while others make more
+-- a member that does nothing while other members make more
 pub Keeps-longer : (members : List ℕ) (tokens more : List Token) (msgs new : List Message) (p : ℕ) (s : Ring) (up : List Message) (accepted : List Body)
     → bodies_of p new ≡ [] → Keeps members tokens msgs p s up accepted → Keeps members (tokens ++ more) (msgs ++ new) p s up accepted
 Keeps-longer members tokens more msgs new p s up accepted silent h = record {
@@ -63,7 +63,7 @@ Keeps-longer members tokens more msgs new p s up accepted silent h = record {
   kept = kept_longer tokens more s.kept h.kept;
 }
 
--- handing up keeps the order
+-- delivering to the node keeps the order
 pub Keeps-hand_up : (members : List ℕ) (tokens : List Token) (msgs : List Message) (p : ℕ) (s : Ring) (up : List Message) (accepted : List Body)
     → Keeps members tokens msgs p s up accepted → Keeps members tokens msgs p (after_hand_up s) (up ++ handed_up s) accepted
 Keeps-hand_up members tokens msgs p s up accepted h = record {
@@ -98,7 +98,7 @@ Keeping-same_tokens w earlier newest msgs p act done h same_last fit mine = reco
     each q true is = rw (eqb-true q p is) mine
     each q false is = h.each q
 
--- a step that keeps the order where it isn't refused keeps it
+-- a step that keeps the order if it isn't refused keeps the order
 pub unless_refused_keeps : (w : World) (p : ℕ) (act : Act) (refusal : Option RingFault) (done : Done)
     → HasOrder w → (refusal ≡ None → HasOrder (world_after w p act (Ok done))) → HasOrder (world_after w p act (unless_refused refusal done))
 unless_refused_keeps w p act None done h go = go refl

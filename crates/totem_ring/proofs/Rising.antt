@@ -1,4 +1,4 @@
--- Held messages whose numbers rise.
+-- Held messages with ascending numbers.
 use Rattle.std.proofs.Common.{◌≡◌, ℕ, ◌+◌, ◌^◌, ◌<◌, ◌≤◌, ◌==◌, ◌&&◌, ◌⊎◌, [], ◌∷◌, length, Option, Some, None, Bool, true, false, cond, refl, sym, ◌∙◌, ap, arith, inl, inr, eqb-true, le-leb}
 use Rattle.std.specs.Prelude.{is_some}
 use Rattle.std.proofs.lemmas.Bool.{lt-leb, ne_eqb, eqb-false, eq-eqb, cases_lt, cases_eq}
@@ -50,7 +50,7 @@ Rises-insert low (e ∷ es) k m h above fits = go (nat_cmp k e.0) (ranks k e.0) 
     go Equal eq rest = (h.0, h.1, h.2)
     go Greater gt rest = (h.0, h.1, rest gt)
 
--- taking a new message away again
+-- removing a new message again
 pub remove-insert : (low : ℕ) (es : Held) (k : ℕ) (m : Message) → message_at es k ≡ None → remove_entry (is_at (nat_cmp k)) (insert_entry nat_cmp es k m) ≡ es
 remove-insert low [] k m none = itself (nat_cmp k k) (ranks k k)
   where
@@ -140,11 +140,11 @@ up_gap handed safe_to e es gap =
     ap (λ (b : Bool). cond b (going_up handed safe_to es) (cond ((e.0 == handed + 1) && may_go_up safe_to e) (e.1 ∷ going_up (handed + 1) safe_to es) [])) (lt-leb e.0 handed (omega arith))
     ∙ ap (λ (b : Bool). cond (b && may_go_up safe_to e) (e.1 ∷ going_up (handed + 1) safe_to es) []) (ne_eqb e.0 (handed + 1) (λ same. omega arith))
 
--- where the number after handed lies
+-- how the number after handed compares with the others
 three_ways : (n handed : ℕ) → (n ≤ handed) ⊎ ((n ≡ handed + 1) ⊎ (handed + 1 < n))
 three_ways n handed = grind arith
 
--- what goes up, one after another
+-- the messages to deliver, one after another
 pub going_next : (low handed safe_to : ℕ) (es : Held) (m : Message) → RisesFrom low es → message_at es (handed + 1) ≡ Some m → may_go_up safe_to (handed + 1, m) ≡ true
     → going_up handed safe_to es ≡ m ∷ going_up (handed + 1) safe_to es
 going_next low handed safe_to [] m h at may = absurd cc
@@ -195,7 +195,7 @@ going_waits low handed safe_to (e ∷ es) m h at may = elim (three_ways e.0 hand
   ]
 ]
 
--- what goes up stays within the numbers
+-- the messages to deliver have numbers within the width
 pub going_fits : (low handed safe_to : ℕ) (es : Held) → RisesFrom low es → handed < 2 ^ 32 → handed + length (going_up handed safe_to es) < 2 ^ 32
 going_fits low handed safe_to [] h fits = omega arith
 going_fits low handed safe_to (e ∷ es) h fits = elim (three_ways e.0 handed) [

@@ -23,7 +23,7 @@ use Rattle.totem_ring.proofs.Fitting.{AllFit, AllFit-append, AllFit-broadcasts, 
 use Rattle.totem_ring.proofs.RingInvariant.{Keeps, Keeping, HasOrder, Keeps-longer, Keeps-hand_up, kept_longer}
 use Rattle.totem_ring.proofs.NotRefused.{IsTaken}
 
--- the token that is taken is the newest
+-- a token that is taken is the newest
 pub newest_is_taken : (w : World) (earlier : List Token) (newest : Token) (msgs : List Message) (p : ℕ) (t : Token)
     → Keeping w earlier newest msgs → Contains w.sent (AToken t) → IsTaken (w.state p) t → (t.token_seq ≡ length earlier + 1) × (newest ≡ t)
 newest_is_taken w earlier newest msgs p t h sent taken =
@@ -39,7 +39,7 @@ newest_is_taken w earlier newest msgs p t h sent taken =
         let at_p : k < (w.state p).last = rw by_me at below in
         omega (arith, taken.new)
 
--- a member that has numbered what waited
+-- a member that has numbered the waiting bodies
 abbrev numbered_ring : Ring → List Message → ℕ → ℕ → Ring
 numbered_ring s new safe_to sent_aru = record s { held = with_messages s.held new; safe_to = safe_to; sent_aru = sent_aru; waiting = [] }
 
@@ -121,7 +121,7 @@ module _ (w : World) (earlier : List Token) (t : Token) (msgs : List Message) (p
   each q true is = rw (eqb-true q p is) mine
   each q false is = other q is
 
-  -- the one who took it
+  -- the member that took it
   taker : (q k : ℕ) → k < length tokens → (k < length earlier → k < (w.state q).last) → (k ≡ length earlier → q ≡ p) → (b : Bool) → (q == p) ≡ b
       → k < (if b then (visit_done s t safe_to sent_aru asked to next).state else w.state q).last
   taker q k below earlier_taken last_taken true is = let len : length tokens ≡ length earlier + 1 = length-append earlier (t ∷ []) in omega (arith, place)

@@ -20,12 +20,12 @@ pub undoably : (refusal : Option RingFault) (done : Done) (out : RingOut) (undo 
 undoably None done out undo old new passed h back = record { is_done = h; undone = back }
 undoably (Some fault) done out undo old new passed h back = absurd cc
 
--- out of memory is an answer to a step that isn't refused
+-- out of memory is a possible result of a step that isn't refused
 pub undoable_memory : (refusal : Option RingFault) (done : Done) (old new : Ring) → refusal ≡ None → new ≡ old → AnswersUndoably (Err Memory) old new (unless_refused refusal done)
 undoable_memory None done old new passed same = record { unchanged = same; fault_is = refl }
 undoable_memory (Some fault) done old new passed same = absurd cc
 
--- who doesn't take it back needs no undo
+-- a call that is not taken back needs no undo
 pub without_undo : (out : RingOut) (undo : RingUndo) (old new : Ring) (r : Result Done RingFault) → AnswersUndoably (Ok (out, undo)) old new r → Answers (Ok out) old new r
 without_undo out undo old new (Ok done) h = h.is_done
 without_undo out undo old new (Err fault) h = h
@@ -34,7 +34,7 @@ pub refused_too : (fault : RingFault) (old new : Ring) (r : Result Done RingFaul
 refused_too fault old new (Ok done) h = h
 refused_too fault old new (Err written) h = h
 
--- the code of a message is its step, and it can be taken back
+-- the code of a message does its step, which can be taken back
 pub message_comes : (s : Ring) (m : Message) (held : Held) (n : ℕ) (kept forgotten : Option Token) (out : RingOut)
     → message_refusal s m ≡ None → held ≡ with_message s.held m → out.handed.items ≡ going_up s.handed s.safe_to held → out.packets.items ≡ [] → n ≡ length out.handed.items
     → kept ≡ kept_after s.kept m.number → kept_again forgotten kept ≡ s.kept

@@ -1,4 +1,4 @@
--- The steps of a walk over what goes up.
+-- The steps of a walk over the messages to deliver.
 use Rattle.std.proofs.Common.{◌≡◌, ℕ, ◌+◌, ◌^◌, ◌<◌, ◌≤◌, List, [], ◌∷◌, ◌++◌, Option, Some, None, true, false, ap, sym, ◌∙◌, arith, append-nil, append_assoc}
 use Rattle.std.specs.Prelude.{is_some}
 use Rattle.totem_packets.specs.declared.message.Message.{Message}
@@ -6,7 +6,7 @@ use Rattle.totem_ring.specs.Rings.{Held, message_at, holds, going_up, may_go_up}
 use Rattle.totem_ring.specs.Invariant.{RisesFrom, IsWholeTo}
 use Rattle.totem_ring.proofs.Rising.{none_past, going_none, going_next, going_waits}
 
--- the list so far, with what is still to come
+-- the list so far with what is still to be added
 pub record IsSoFar (up : List Message) (n handed safe_to : ℕ) (held : Held) : Type 0 where
   pub all : up ++ going_up n safe_to held ≡ going_up handed safe_to held
 

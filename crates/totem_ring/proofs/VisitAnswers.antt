@@ -1,4 +1,4 @@
--- That the code of a visit is the visit.
+-- The code of a visit does what the visit is defined to do.
 use Rattle.std.proofs.Common.{Vec, Global, ◌≡◌, ℕ, ◌+◌, ◌^◌, ◌<◌, List, [], ◌∷◌, ◌++◌, length, Option, Some, None, Ok, false, not, refl, sym, ◌∙◌, ap, arith}
 use Rattle.std.specs.Prelude.{All, filter, min, max}
 use Rattle.std.specs.List.{filter_map}
@@ -45,7 +45,7 @@ is_done s t held my_aru seq aru aru_id rtr safe_to n leaving out h =
     let e1 = h.held_is in let e2 = h.aru_of_is in let e3 = h.seq_is in let e4 = h.aru_is in let e5 = h.aru_id_is in let e6 = h.rtr_is in let e7 = h.safe_is in let e8 = h.up_is in let e9 = h.n_is in let e10 = h.leaving_is in let e11 = h.packets_is in
     record { state = cc; packets = cc; handed = cc }
 
--- the count of what waits
+-- the count of waiting bodies
 pub own_count : (s : Ring) (t : Token) (own : List Message) (n : ℕ) → own ≡ numbered s t.seq s.waiting → n ≡ length own → n ≡ length s.waiting
 own_count s t own n is len = len ∙ ap length is ∙ length-numbered s t.seq s.waiting
 
@@ -57,14 +57,14 @@ own_fits s t own passed is = rw (own_count s t own (length own) is refl) (has_pa
 pub own_above : (s : Ring) (t : Token) (own : List Message) → own ≡ numbered s t.seq s.waiting → All (λ (m : Message). t.seq < m.number) own
 own_above s t own is = rw is (numbered_above s t.seq t.seq s.waiting (omega arith))
 
--- forgetting own messages leaves what was there
+-- removing own messages leaves what was held before
 pub back_again : (s : Ring) (t : Token) (held new newer : Held) (own lent : List Message) → token_refusal s t ≡ None → own ≡ numbered s t.seq s.waiting → held ≡ s.held → lent ≡ own
     → new ≡ with_messages held lent → newer ≡ up_to t.seq new → newer ≡ held
 back_again s t held new newer own lent passed own_is same lent_is is back =
     let none : holds_above held t.seq ≡ false = rw same (has_passed s t passed).none_above in
     forgotten held new newer t.seq none (ap (up_to t.seq) (is ∙ ap (with_messages held) lent_is) ∙ up_to-messages t.seq held own (own_above s t own own_is)) back
 
--- the code of a visit is the visit, and it can be taken back
+-- the code of a visit does the visit, which can be taken back
 pub departs : (s : Ring) (t : Token) (held : Held) (answered : Answered) (own lent : List Message) (n last : ℕ) (waiting waited : Vec Body Global) (kept : Option Token) (d : Departure)
     → token_refusal s t ≡ None → own ≡ numbered s t.seq s.waiting → lent ≡ own → held ≡ with_messages s.held lent → IsAnswered s.held t.rtr answered
     → IsDeparture (record s { held = held }) t answered own d

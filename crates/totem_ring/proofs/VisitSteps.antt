@@ -1,4 +1,4 @@
--- What the code of a visit rests on.
+-- Facts that the code of a visit needs.
 use Rattle.std.proofs.Common.{◌≡◌, ℕ, suc, ◌+◌, ◌-◌, ◌^◌, ◌<◌, ◌≤◌, ◌==◌, nat_le, nat_lt, List, [], ◌∷◌, length, Some, None, Bool, true, false, not, if◌then◌else◌, ◌&&◌, refl, ◌∙◌, arith, ltb-true, ltb-false}
 use Rattle.std.specs.Prelude.{All}
 use Rattle.std.proofs.lemmas.Bool.{and_parts, not-true, or_parts}
@@ -39,13 +39,13 @@ has_passed s t h =
       none_above = not-true (holds_above s.held t.seq) last.1;
     }
 
--- the numbers that are given lie above seq
+-- the numbers given are above seq
 pub numbered_above : (s : Ring) (low seq : ℕ) (bodies : List Body) → low ≤ seq → All (λ (m : Message). low < m.number) (numbered s seq bodies)
 numbered_above s low seq [] le = All-nil (λ (m : Message). low < m.number)
 numbered_above s low seq (b ∷ bs) le =
     All-cons (λ (m : Message). low < m.number) (record { ring = s.ring; number = seq + 1; sender = s.me; body = b }) (numbered s (seq + 1) bs) (omega arith) (numbered_above s low (seq + 1) bs (omega arith))
 
--- holding them keeps the numbers rising
+-- holding them keeps the numbers ascending
 pub Rises-numbered : (s : Ring) (seq : ℕ) (bodies : List Body) (held : Held) → seq + length bodies < 2 ^ 32 → RisesFrom 0 held → RisesFrom 0 (with_messages held (numbered s seq bodies))
 Rises-numbered s seq [] held fits h = h
 Rises-numbered s seq (b ∷ bs) held fits h =
@@ -63,6 +63,6 @@ none_is_above seq (e ∷ es) h =
     let both = or_parts (nat_lt seq e.0) (holds_above es seq) h in
     All-cons (λ (e : ℕ × Message). e.0 ≤ seq) e es (ltb-false seq e.0 both.0) (none_is_above seq es both.1)
 
--- forgetting what came above seq leaves what was there
+-- removing what is above seq leaves what was held before
 pub forgotten : (held new newer : Held) (seq : ℕ) → holds_above held seq ≡ false → up_to seq new ≡ up_to seq held → newer ≡ up_to seq new → newer ≡ held
 forgotten held new newer seq none below is = is ∙ below ∙ up_to-all seq held (none_is_above seq held none)

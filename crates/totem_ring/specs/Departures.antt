@@ -1,4 +1,4 @@
--- How a visit ends, when its own messages are held (docs/PROTOCOL.md, "The ring").
+-- How a visit ends once its own messages are held (docs/PROTOCOL.md, "The ring").
 use Rattle.std.specs.Prelude.{◌≡◌, ℕ, ◌+◌, ◌^◌, ◌<◌, List, [], ◌∷◌, ◌++◌, length, filter, not, min, max}
 use Rattle.std.specs.List.{filter_map}
 use Rattle.totem_packets.specs.declared.message.Message.{Message}
@@ -12,13 +12,13 @@ use Rattle.totem_ring.specs.Requests.{with_requests}
 use Rattle.totem_ring.specs.Rings.{Ring, Held, message_at, holds, aru_of, going_up, next_of}
 use Rattle.totem_ring.specs.Visits.{broadcasts, aru_set, missing}
 
--- the messages that are asked for and held, and the numbers that are still asked for
+-- the requested messages that are held, and the requested numbers that are not
 pub record IsAnswered (held : Held) (numbers : List ℕ) (answered : Answered) : Type 0 where
   pub messages : answered.messages.items ≡ filter_map (message_at held) numbers
   pub rtr : answered.rtr.items ≡ filter (λ n. not (holds held n)) numbers
   pub rules : IsRequests answered.rtr.items
 
--- the token as it leaves, seq being the last number given
+-- the token as it leaves, if seq is the last number given
 abbrev pub token_left : Ring → Token → ℕ → List ℕ → Token
 token_left s t seq rtr = record {
   ring = s.ring;
@@ -29,7 +29,7 @@ token_left s t seq rtr = record {
   rtr = with_requests rtr (missing s.held seq);
 }
 
--- what leaves, and how far safe messages may be handed up
+-- the token that leaves, and up to which number safe messages may be delivered to the node
 pub record IsDeparture (s : Ring) (t : Token) (answered : Answered) (own : List Message) (d : Departure) : Type 0 where
   pub leaving : d.leaving ≡ token_left s t (t.seq + length own) answered.rtr.items
   pub safe_to : d.safe_to ≡ max s.safe_to (min s.sent_aru d.leaving.aru)

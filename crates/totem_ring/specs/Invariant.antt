@@ -1,8 +1,8 @@
--- What the messages that are held keep (docs/PROTOCOL.md, "The ring").
+-- What always holds of the held messages (docs/PROTOCOL.md, "The ring").
 use Rattle.std.specs.Prelude.{◌≡◌, ℕ, ◌+◌, ◌^◌, ◌<◌, ◌≤◌, [], ◌∷◌, true, false}
 use Rattle.totem_ring.specs.Rings.{Held, holds, aru_of}
 
--- the numbers rise, each above low and within 32 bits
+-- the numbers are ascending, above low and within 32 bits
 abbrev pub RisesFrom : ℕ → Held → Type 0
 RisesFrom low [] = Unit {0}
 RisesFrom low (e ∷ es) = (low < e.0) × (e.0 < 2 ^ 32) × RisesFrom e.0 es

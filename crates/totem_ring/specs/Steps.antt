@@ -12,18 +12,18 @@ use Rattle.totem_ring.specs.Rings.{Ring, with_message, next_of, handed_up, after
 use Rattle.totem_ring.specs.Refusals.{submit_refusal, message_refusal, token_refusal}
 use Rattle.totem_ring.specs.Visits.{Sending, visit}
 
--- what a step comes to: the state after it, what was sent and what was handed up
+-- the result of a step: the state after it, what was sent and what was delivered to the node
 pub record Done : Type 0 where
   pub state : Ring
   pub packets : List Sending
   pub handed : List Message
 
--- a step that isn't refused comes to this
+-- the result of a step that isn't refused
 abbrev pub unless_refused : Option RingFault → Done → Result Done RingFault
 unless_refused (Some fault) done = Err fault
 unless_refused None done = Ok done
 
--- with these bodies waiting for the next visit too
+-- these bodies wait for the next visit too
 abbrev pub given : Ring → List Body → Ring
 given s bodies = record s { waiting = s.waiting ++ bodies }
 
@@ -34,7 +34,7 @@ after_submit s body = record { state = record s { waiting = s.waiting ++ body �
 abbrev pub submit : Ring → Body → Result Done RingFault
 submit s body = unless_refused (submit_refusal s) (after_submit s body)
 
--- a message above the seq of the token passed on shows that this token has come
+-- a message above the seq of the token passed on shows that this token arrived
 abbrev pub kept_after : Option Token → ℕ → Option Token
 kept_after None n = None
 kept_after (Some t) n = if nat_lt t.seq n then None else Some t
@@ -42,7 +42,7 @@ kept_after (Some t) n = if nat_lt t.seq n then None else Some t
 abbrev pub holding : Ring → Message → Ring
 holding s m = record s { held = with_message s.held m }
 
--- The message is held, the token passed on may be forgotten, and messages are handed up.
+-- The message is held, the token passed on may be forgotten, and messages are delivered to the node.
 abbrev pub after_message : Ring → Message → Done
 after_message s m =
     let now = record (holding s m) { kept = kept_after s.kept m.number } in
@@ -65,7 +65,7 @@ resent s (Some t) = (ToOne (next_of s), AToken t) ∷ []
 abbrev pub on_resend : Ring → Done
 on_resend s = record { state = s; packets = resent s s.kept; handed = [] }
 
--- The message is held, and nothing is handed up.
+-- The message is held, and nothing is delivered to the node.
 abbrev pub adopt : Ring → Message → Result Done RingFault
 adopt s m = unless_refused (message_refusal s m) (record { state = holding s m; packets = []; handed = [] })
 

@@ -11,7 +11,7 @@ use Rattle.totem_ring.specs.Answers.{IsDone, IsRefused}
 use Rattle.totem_ring.specs.Rings.{Ring, up_to, without}
 use Rattle.totem_ring.specs.Steps.{Done}
 
--- a token that was forgotten is kept again
+-- a forgotten token is kept again
 abbrev pub kept_again : Option Token → Option Token → Option Token
 kept_again None kept = kept
 kept_again (Some t) kept = Some t
@@ -28,19 +28,19 @@ taken_back (OfVisit seq handed safe_to sent_aru last waiting kept) s =
 abbrev pub visit_taken_back : VisitUndo → Ring → Ring
 visit_taken_back visit s = taken_back (OfSubmit visit.waited) (taken_back visit.undo s)
 
--- the state after a step, what it sent and handed up, and that it can be taken back
+-- the state after a step, what it sent and delivered to the node, and that it can be taken back
 pub record IsDoneUndoably (out : RingOut) (undo : RingUndo) (old new : Ring) (done : Done) : Type 0 where
   pub is_done : IsDone out new done
   pub undone : taken_back undo new ≡ old
 
--- the answer of a call that says how it is taken back
+-- the result of a call that also returns how to take it back
 abbrev pub AnswersUndoably : Result (RingOut × RingUndo) RingFault → Ring → Ring → Result Done RingFault → Type 0
 AnswersUndoably (Ok x) old new (Ok done) = IsDoneUndoably x.0 x.1 old new done
 AnswersUndoably (Ok x) old new (Err refusal) = ⊥
 AnswersUndoably (Err fault) old new (Ok done) = IsRefused fault old new Memory
 AnswersUndoably (Err fault) old new (Err refusal) = IsRefused fault old new refusal
 
--- the same of a visit for which bodies were given to the ring
+-- the same for a visit for which bodies were given to the ring
 pub record IsVisitedUndoably (out : RingOut) (visit : VisitUndo) (old new : Ring) (done : Done) : Type 0 where
   pub is_done : IsDone out new done
   pub undone : visit_taken_back visit new ≡ old

@@ -1,4 +1,4 @@
--- What may happen on one ring, whatever the network does (docs/PROTOCOL.md, "One order").
+-- What can happen on one ring, whatever the network does (docs/PROTOCOL.md, "One order").
 use Rattle.std.specs.Prelude.{ℕ, ◌==◌, List, [], ◌∷◌, ◌++◌, map, Contains, if◌then◌else◌, Result, Ok, Err}
 use Rattle.totem_ids.specs.Names.{RingName}
 use Rattle.totem_packets.specs.declared.message.Body.{Body}
@@ -15,8 +15,8 @@ use Rattle.totem_ring.specs.Steps.{Done, act_on}
 pub record World : Type 0 where
   pub members : List ℕ
   pub state : ℕ → Ring  -- the ring state of each member
-  pub sent : List Packet  -- every packet that was ever sent
-  pub up : ℕ → List Message  -- all that each member's steps handed up, in order
+  pub sent : List Packet  -- every packet ever sent
+  pub up : ℕ → List Message  -- all that each member delivered to its node, in order
   pub accepted : ℕ → List Body  -- the bodies of each member's accepted submits, in order
 
 abbrev pub start : RingName → List ℕ → World
@@ -28,7 +28,7 @@ start ring members = record {
   accepted = λ p. [];
 }
 
--- f with another value at p
+-- the function with another value at p
 abbrev pub with_at : {X : Type 0} → (ℕ → X) → ℕ → X → ℕ → X
 with_at f p x q = if q == p then x else f q
 
@@ -38,7 +38,7 @@ submitted (GetsMessage m) = []
 submitted (GetsToken t) = []
 submitted DoesResend = []
 
--- a refused step changes nothing. The packets of another are added, and none is taken away
+-- a refused step changes nothing; any other adds its packets, and removes none
 abbrev pub world_after : World → ℕ → Act → Result Done RingFault → World
 world_after w p act (Err fault) = w
 world_after w p act (Ok done) = record {
@@ -52,7 +52,7 @@ world_after w p act (Ok done) = record {
 abbrev pub happens : World → RingMove → World
 happens w move = world_after w move.proc move.act (act_on (w.state move.proc) move.act)
 
--- only packets that were sent come: late, again, in any order, or never
+-- only sent packets arrive: late, repeated, in any order, or never
 abbrev pub MayCome : World → Act → Type 0
 MayCome w (GetsMessage m) = Contains w.sent (AMessage m)
 MayCome w (GetsToken t) = Contains w.sent (AToken t)

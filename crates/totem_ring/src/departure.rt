@@ -9,19 +9,19 @@ use std::alloc::{AllocError, Global};
 use totem_ids::ProcId;
 use totem_packets::{Message, Packet, Token};
 
-/// How a visit ends: the token that leaves, and what the member sends and hands up.
+/// How a visit ends: the token that leaves, what the member sends, and what it delivers to its node.
 #[derive(Drop)]
 pub struct Departure {
-    /// The token, as it leaves.
+    /// The token as it leaves.
     pub leaving: Token,
-    /// Safe messages may be handed up to this number.
+    /// Safe messages up to this number may be delivered to the node.
     pub safe_to: u32,
     pub packets: Vec<(To, Packet)>,
     pub handed: Vec<Message>,
 }
 
-/// Returns what a visit sends, in order: as broadcasts the messages that were asked for and then the new ones, and at
-/// last the token to the next member.
+/// Returns what a visit sends, in order: broadcasts of the messages that were asked for, broadcasts of the new ones, and
+/// the token for the next member.
 pub fn sendings(
     alloc: Global,
     asked: Vec<Message>,

@@ -6,7 +6,7 @@ ghost use Rattle.totem_ring.specs.RingFaults.{fault_number, fault_name};
 use std::alloc::{AllocError, AllocFailed};
 use thiserror::Error;
 
-/// Why a step of a ring was refused. If several reasons hold, it is the first of them in this order.
+/// Why a step of a ring was refused. If several reasons hold, the first of them in this order is given.
 #[derive(Clone, Copy, Debug, PartialEq, Eq, Error)]
 pub enum RingFault {
     #[error("it is of another ring")]

@@ -13,7 +13,7 @@ use std::collections::BTreeMap;
 use std::marker::Model;
 use totem_packets::{Message, Number};
 
-/// The messages of a ring that came or were sent here, by number.
+/// The messages of a ring that were received or sent here, by number.
 #[derive(Debug, Drop)]
 pub struct Held {
     messages: BTreeMap<u32, Message>,
@@ -84,7 +84,7 @@ impl Held {
         }
     }
 
-    /// Holds a copy of this message.
+    /// Adds a copy of this message.
     pub fn hold(&mut self, message: &Message) -> Result<(), AllocError>
         ensures ok { OnOk result (self.new ≡ with_message self.old message.now) }
         ensures err { OnErr result (self.new ≡ self.old) }
@@ -94,8 +94,8 @@ impl Held {
         Ok(())
     }
 
-    /// Holds copies of these messages, either all of them or none. Their numbers have to be above `seq`, and no held
-    /// number may be above it.
+    /// Adds copies of these messages, either all of them or none. Their numbers have to be above `seq`, and no held number
+    /// may be above it.
     pub fn hold_all(&mut self, seq: u32, messages: &[Message]) -> Result<(), AllocError>
         requires above { All (λ m. seq < m.number) messages.now }
         requires none_above { holds_above self.old seq ≡ false }
@@ -110,7 +110,7 @@ impl Held {
         Ok(())
     }
 
-    /// Forgets the message with this number.
+    /// Removes the message with this number.
     pub fn forget(&mut self, number: Number)
         ensures { self.new ≡ without self.old number }
     {
@@ -119,7 +119,7 @@ impl Held {
         self.aru = self.aru.min(number - 1);
     }
 
-    /// Forgets the messages with numbers above `seq`.
+    /// Removes the messages with numbers above `seq`.
     pub fn forget_above(&mut self, seq: u32)
         ensures { self.new ≡ up_to seq self.old }
     {
@@ -127,7 +127,7 @@ impl Held {
         self.aru = self.aru.min(seq);
     }
 
-    /// Returns copies of the messages that are handed up next, in order (docs/PROTOCOL.md, "The ring", "Hand up").
+    /// Returns copies of the messages to deliver to the node next, in order (docs/PROTOCOL.md, "The ring", "Hand up").
     pub fn going_up(
         &self,
         alloc: Global,
@@ -151,7 +151,7 @@ impl Held {
         Ok(up)
     }
 
-    /// Returns copies of those messages with these numbers that are held.
+    /// Returns copies of the held messages that have one of these numbers.
     pub fn asked(&self, alloc: Global, numbers: &[Number]) -> Result<Vec<Message>, AllocError>
         ensures { IfOk result (λ found. found.items ≡ filter_map (message_at self.now) numbers.now) }
     {

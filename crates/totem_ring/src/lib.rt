@@ -1,4 +1,4 @@
-//! One ring: each member's steps, and the order that every schedule of steps keeps.
+//! One ring: the steps of each member, and the order that every schedule of steps keeps.
 #![tactic(auto)]
 
 mod departure;

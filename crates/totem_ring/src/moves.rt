@@ -1,4 +1,4 @@
-//! What the members of a ring do.
+//! The acts of the members of a ring.
 ghost use Rattle.std.specs.Prelude.{◌≡◌, IfOk};
 
 use std::alloc::{AllocError, Global};
@@ -14,7 +14,7 @@ pub enum Act {
     Resend,
 }
 
-/// An act, and the member that does it.
+/// An act and the member that does it.
 #[derive(Debug, Drop)]
 pub struct RingMove {
     pub proc: ProcId,

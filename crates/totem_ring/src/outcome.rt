@@ -1,20 +1,20 @@
-//! What a step of a ring sends and hands up.
+//! What a step of a ring sends and delivers to the node.
 ghost use Rattle.std.specs.Prelude.{◌≡◌, IfOk};
 
 use std::alloc::{AllocError, Global};
 use totem_ids::ProcId;
 use totem_packets::{Message, Packet};
 
-/// Whom a packet is for.
+/// The receivers of a packet.
 #[derive(Clone, Copy, Debug, PartialEq, Eq)]
 pub enum To {
-    /// For every other member.
+    /// Every other member.
     All,
-    /// For this member, which may be the sender itself.
+    /// This member, which may be the sender itself.
     One(ProcId),
 }
 
-/// What a step sends and hands up, each in order.
+/// What a step sends and what it delivers to the node, each in order.
 #[derive(Debug, Drop)]
 pub struct RingOut {
     pub packets: Vec<(To, Packet)>,

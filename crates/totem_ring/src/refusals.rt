@@ -1,4 +1,4 @@
-//! Tests that decide whether a step is refused, or a message handed up.
+//! Tests that decide whether a step is refused, and whether a message is delivered to the node.
 ghost use Rattle.std.specs.Prelude.{◌≡◌, ◌==◌, ◌<◌, position, length, IfSome};
 ghost use Rattle.totem_ring.specs.Rings.{same_ring, is_agreed};
 ghost use Rattle.totem_ring.specs.Refusals.{is_none_or_member, is_above};
@@ -15,8 +15,8 @@ pub fn is_same_ring(a: RingId, b: RingId) -> bool
     a.seq == b.seq && a.rep.number() == b.rep.number()
 }
 
-/// Returns whether a message with this body is handed up as soon as its turn comes. Any other is safe, and waits until
-/// all members are known to hold it. `Old` counts as agreed, `Mark` as safe.
+/// Returns whether a message with this body is delivered to the node as soon as its turn has come. Any other is safe, and
+/// waits until all members are known to hold it. `Old` counts as agreed, `Mark` as safe.
 pub fn is_agreed(body: &Body) -> bool
     ensures { result ≡ is_agreed body.now }
 {
@@ -39,7 +39,7 @@ pub fn is_none_or_member(members: &[ProcId], proc: Option<ProcId>) -> bool
     }
 }
 
-/// Returns the index of this process among the members, or `None` if it is no member.
+/// Returns the index of this process among the members, or `None` if it is not a member.
 pub fn place_of(members: &[ProcId], proc: ProcId) -> Option<usize>
     ensures place { result ≡ position (λ p. p == proc) members.now }
     ensures within { IfSome result (λ place. place < length members.now) }

@@ -1,4 +1,4 @@
-//! What a token asks for, when it comes and when it leaves.
+//! What a token asks for on arrival and when it leaves.
 ghost use Rattle.std.specs.Prelude.{◌≡◌, ◌≤◌, ◌<◌, IfOk, OnOk, IfSome, IfNone, filter, insert, length, not};
 ghost use Rattle.totem_ring.specs.Departures.{IsAnswered};
 ghost use Rattle.totem_ring.specs.Requests.{with_number, with_requests};
@@ -12,16 +12,16 @@ use totem_packets::{Message, Number, Requests};
 /// How many numbers a token asks for at most.
 const MOST: usize = 64;
 
-/// What a token asked for, split into what is held and what is not.
+/// The requests of a token, split into what is held and what is not.
 #[derive(Drop)]
 pub struct Answered {
-    /// Copies of those messages asked for that are held.
+    /// Copies of the requested messages that are held.
     pub messages: Vec<Message>,
-    /// The numbers that are still asked for.
+    /// The requested numbers that are not held.
     pub rtr: Vec<Number>,
 }
 
-/// Returns the index at which this number has to be put among these rising ones, or `None` if it is there already.
+/// Returns the index at which to insert this number into the ascending list, or `None` if the list has it already.
 fn place_in(numbers: &[Number], number: u32) -> Option<usize>
     ensures within { IfSome result (λ place. place ≤ length numbers.now) }
     ensures place { IfSome result (λ place. with_number numbers.now number ≡ insert numbers.now place number) }
@@ -38,7 +38,7 @@ fn place_in(numbers: &[Number], number: u32) -> Option<usize>
     Some(numbers.len())
 }
 
-/// Returns those of the numbers that are not held.
+/// Returns the numbers in the list that are not held.
 fn still_asked(alloc: Global, held: &Held, numbers: &[Number]) -> Result<Vec<Number>, AllocError>
     ensures { IfOk result (λ rtr. rtr.items ≡ filter (λ n. not (holds held.now n)) numbers.now) }
 {
@@ -52,7 +52,7 @@ fn still_asked(alloc: Global, held: &Held, numbers: &[Number]) -> Result<Vec<Num
     Ok(rtr)
 }
 
-/// Splits what a token asks for into copies of the held messages and the numbers that are not held.
+/// Splits the requests of a token into copies of the held messages and the numbers that are not held.
 pub fn answer(alloc: Global, held: &Held, numbers: &Requests) -> Result<Answered, AllocError>
     ensures { IfOk result (IsAnswered held.now numbers.now) }
 {
@@ -63,7 +63,7 @@ pub fn answer(alloc: Global, held: &Held, numbers: &Requests) -> Result<Answered
     })
 }
 
-/// Asks also for the numbers up to `seq` that are not held, the least first, until `rtr` has 64 numbers.
+/// Adds requests for the numbers up to `seq` that are not held, the least first, until `rtr` has 64 numbers.
 pub fn ask_missing(rtr: &mut Vec<Number>, held: &Held, seq: u32) -> Result<(), AllocError>
     ensures { OnOk result (rtr.new.items ≡ with_requests rtr.old.items (missing held.now seq)) }
 {

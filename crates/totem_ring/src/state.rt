@@ -1,4 +1,4 @@
-//! A member's state on its ring, and all its steps but the visit of the token.
+//! A member's state on its ring, and all its steps except the visit of the token.
 ghost use Rattle.std.specs.Prelude.{◌≡◌, ◌+◌, ◌<◌, ◌++◌, length, take, IfOk, OnOk, MatchResult, Ok};
 ghost use Rattle.totem_ring.specs.Steps.{kept_after};
 ghost use Rattle.totem_ring.specs.Undoing.{kept_again};
@@ -25,14 +25,14 @@ pub struct RingState {
     members: Vec<ProcId>,
     held: Held,
     handed: u32,
-    /// Safe messages may be handed up to this number.
+    /// Safe messages up to this number may be delivered to the node.
     safe_to: u32,
-    /// The aru with which the token last left here.
+    /// The aru of the token when it last left here.
     sent_aru: u32,
-    /// The token_seq of the token that was taken last.
+    /// The token_seq of the token taken last.
     last: u64,
     waiting: Vec<Body>,
-    /// The token that was passed on last, while no sign of its arrival has come.
+    /// The token passed on last, as long as there is no sign that it arrived.
     kept: Option<Token>,
 }
 
@@ -58,7 +58,7 @@ impl Model for RingState {
     ghost invariant = { λ s. 0 < length s.members.items };
 }
 
-/// If this number is above the `seq` of the kept token, forgets that token and returns it.
+/// Forgets the kept token and returns it, if this number is above the token's `seq`.
 fn forget_below(kept: &mut Option<Token>, number: Number) -> Option<Token>
     ensures after { kept.new ≡ kept_after kept.old number }
     ensures again { kept_again result kept.new ≡ kept.old }
@@ -69,7 +69,7 @@ fn forget_below(kept: &mut Option<Token>, number: Number) -> Option<Token>
     None
 }
 
-/// Appends copies of these bodies. If memory is refused, those that were appended before it stay.
+/// Appends copies of these bodies. If memory is refused, those already appended stay.
 fn put_all(waiting: &mut Vec<Body>, bodies: &[Body]) -> Result<(), AllocError>
     ensures all { OnOk result (waiting.new.items ≡ waiting.old.items ++ bodies.now) }
     ensures before { take (length waiting.old.items) waiting.new.items ≡ waiting.old.items }
@@ -88,7 +88,7 @@ impl RingState {
     ghost use Rattle.totem_ring.specs.Undoing.{AnswersUndoably, taken_back, visit_taken_back};
     ghost use Rattle.totem_ring.specs.Invariant.{RisesFrom};
 
-    /// Makes the state of a member of a new ring. The members are expected to rise strictly, with `me` among them.
+    /// Makes the state of a member of a new ring. The members are expected to be strictly ascending, with `me` among them.
     pub fn new(
         alloc: Global,
         me: ProcId,
@@ -132,7 +132,7 @@ impl RingState {
         &self.members
     }
 
-    /// Returns the messages that came or were sent here, by number.
+    /// Returns the messages that were received or sent here, by number.
     pub fn held(&self) -> &BTreeMap<u32, Message>
         ensures value { result.now.entries ≡ self.now.held }
         ensures rises { RisesFrom 0 self.now.held }
@@ -147,7 +147,7 @@ impl RingState {
         self.held.aru()
     }
 
-    /// Returns the greatest number that was handed up.
+    /// Returns the greatest number delivered to the node.
     pub fn handed(&self) -> u32
         ensures { result ≡ self.now.handed }
     {
@@ -161,7 +161,7 @@ impl RingState {
         &self.waiting
     }
 
-    /// Lets a client's body, or one of a recovery, wait for the next visit. `Full` if 16 wait already.
+    /// Queues a client's body, or one of a recovery, for the next visit. `Full` if 16 are waiting already.
     pub fn submit(&mut self, body: Body) -> Result<(), RingFault>
         ensures { AnswersNothing result self.old self.new (submit self.old body) }
     {
@@ -172,7 +172,7 @@ impl RingState {
         Ok(())
     }
 
-    /// Lets these bodies wait for the visit that is about to come, either all of them or none. How many wait is not limited here.
+    /// Queues these bodies for the visit that is about to begin, either all of them or none. Their count is not limited here.
     fn give(&mut self, bodies: &[Body]) -> Result<(), AllocError>
         ensures { MatchResult result (λ u. self.new ≡ given self.old bodies.now) (λ e. self.new ≡ self.old) }
     {
@@ -184,7 +184,7 @@ impl RingState {
         put
     }
 
-    /// Returns why this message would be refused, whether it came or is to be adopted, or `None` if it would be taken.
+    /// Returns why this message would be refused on receipt or when adopted, or `None` if it would be taken.
     pub fn message_refusal(&self, message: &Message) -> Option<RingFault>
         ensures { result ≡ message_refusal self.now message.now }
     {
@@ -200,8 +200,8 @@ impl RingState {
         None
     }
 
-    /// Holds a message of this ring that did not come on the ring itself (docs/PROTOCOL.md, "The ring", "Adopt").
-    /// Nothing is handed up, and the kept token stays.
+    /// Holds a message of this ring that was not received on the ring itself (docs/PROTOCOL.md, "The ring", "Adopt").
+    /// Nothing is delivered to the node, and the kept token stays.
     pub fn adopt(&mut self, message: &Message) -> Result<(), RingFault>
         ensures { AnswersNothing result self.old self.new (adopt self.old message.now) }
     {
@@ -211,7 +211,7 @@ impl RingState {
         Ok(self.held.hold(message)?)
     }
 
-    /// Takes a message that has come, as `on_message` does. The undo that it gives can take the step back.
+    /// Takes a received message, as `on_message` does. The returned undo can take the step back.
     pub fn on_message_with_undo(
         &mut self,
         alloc: Global,
@@ -241,7 +241,7 @@ impl RingState {
         Ok((out, undo))
     }
 
-    /// Takes a message that has come: holds it, and hands up what may be handed up now.
+    /// Takes a received message: holds it, and delivers to the node what may be delivered now.
     pub fn on_message(&mut self, alloc: Global, message: &Message) -> Result<RingOut, RingFault>
         ensures { Answers result self.old self.new (on_message self.old message.now) }
     {
@@ -250,7 +250,7 @@ impl RingState {
     }
 
     /// Takes the last step back, for a caller that is refused memory of its own after the step. `on_message_with_undo` and
-    /// `on_token_with_undo` give the undo; for a submit or an adopt the caller writes it.
+    /// `on_token_with_undo` return the undo; for a submit or an adopt the caller makes it.
     pub fn undo(&mut self, undo: RingUndo)
         ensures { self.new ≡ taken_back undo self.old }
     {
@@ -287,7 +287,7 @@ impl RingState {
         }
     }
 
-    /// Takes the last visit back, with the bodies that were given for it. `on_token_with` gives the undo.
+    /// Takes the last visit back, with the bodies that were given for it. `on_token_with` returns the undo.
     pub fn undo_visit(&mut self, visit: VisitUndo)
         ensures { self.new ≡ visit_taken_back visit self.old }
     {
@@ -327,7 +327,7 @@ impl RingState {
         self.members[(place + 1) % self.members.len()]
     }
 
-    /// Sends the kept token to the next member again, because time has passed. Sends nothing if no token is kept.
+    /// Sends the kept token to the next member again after a timeout. Sends nothing if no token is kept.
     pub fn on_resend(&self, alloc: Global) -> Result<RingOut, RingFault>
         ensures { Answers result self.now self.now (Ok (on_resend self.now)) }
     {

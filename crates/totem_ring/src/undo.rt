@@ -1,26 +1,26 @@
-//! How a step is taken back.
+//! What is needed to take a step back.
 
 use totem_packets::{Body, Number, Token};
 
-/// What a step has changed. With it `RingState::undo` takes the step back, for a caller that is refused memory later.
+/// What a step changed. With it `RingState::undo` takes the step back, for a caller that is refused memory later.
 #[derive(Debug, Drop)]
 pub enum RingUndo {
     /// Bodies were submitted.
     Submit {
-        /// How many bodies waited before.
+        /// How many bodies were waiting before.
         waited: usize,
     },
-    /// A message came, or was adopted.
+    /// A message was received or adopted.
     Message {
-        /// The number under which it is held now.
+        /// The number under which it is now held.
         number: Number,
         handed: u32,
-        /// The token that was kept until the message came.
+        /// The token that was kept until the message was taken.
         forgotten: Option<Token>,
     },
-    /// A token came.
+    /// A token was taken.
     Visit {
-        /// The greatest number that was given before.
+        /// The greatest number given before.
         seq: u32,
         handed: u32,
         safe_to: u32,
@@ -31,11 +31,11 @@ pub enum RingUndo {
     },
 }
 
-/// What a visit has changed for which bodies were given to the ring. With it `RingState::undo_visit` takes the visit back, and
+/// What a visit changed for which bodies were given to the ring. With it `RingState::undo_visit` takes the visit back, and
 /// the bodies too.
 #[derive(Debug, Drop)]
 pub struct VisitUndo {
     pub(crate) undo: RingUndo,
-    /// How many bodies waited before others were given.
+    /// How many bodies were waiting before the others were given.
     pub(crate) waited: usize,
 }

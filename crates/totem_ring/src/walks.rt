@@ -9,7 +9,7 @@ use std::alloc::AllocError;
 use std::collections::BTreeMap;
 use totem_packets::Message;
 
-/// Returns the greatest n such that all messages above `low` and up to n are there.
+/// Returns the greatest n such that the map has all messages above `low` and up to n.
 pub fn whole_to(messages: &BTreeMap<u32, Message>, low: u32) -> u32
     requires { RisesFrom 0 messages.now.entries }
     ensures { IsWholeTo messages.now.entries low result }
@@ -22,7 +22,7 @@ pub fn whole_to(messages: &BTreeMap<u32, Message>, low: u32) -> u32
     u32::MAX
 }
 
-/// Puts a copy of this message under a number.
+/// Inserts a copy of this message under the given number.
 pub fn put(
     messages: &mut BTreeMap<u32, Message>,
     number: u32,

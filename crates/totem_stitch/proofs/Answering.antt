@@ -1,4 +1,4 @@
--- What the answers of the tables tell a caller.
+-- What the results of the tables say.
 use Rattle.std.proofs.Common.{ℕ, ◌≡◌, ◌≤◌, ◌⊎◌, inl, inr, List, Option, Some, None, ◌↔◌, refl, ap, subst, arith, Bool, false, IsTrue, ◌∙◌, sym}
 use Rattle.totem_ids.specs.declared.ring.RingId.{RingId}
 use Rattle.totem_ids.specs.declared.conf.ConfId.{ConfId}
@@ -10,17 +10,17 @@ use Rattle.totem_stitch.specs.Followers.{NothingFollows, IsFollower, FollowsFirs
 use Rattle.totem_stitch.proofs.NextChanges.{one_change}
 use Rattle.totem_stitch.proofs.Entering.{one_follower}
 
--- the answer is t exactly where t follows
+-- the result is t exactly if t follows
 pub follower_is : (log : List Entry) (c : RingId) (o : Option ConfId) → IsFollower log c o → (t : ConfId) → (o ≡ Some t) ↔ Follows log c t
 follower_is log c None h t = (λ e. absurd cc, λ f. absurd (h.never t f))
 follower_is log c (Some u) h t = (λ e. (let same : u ≡ t = cc in subst (λ (z : ConfId). Follows log c z) same h), λ f. ap (λ (z : ConfId). Some z) (one_follower log c u t h f))
 
--- there is none exactly where nothing follows
+-- it is none exactly if nothing follows
 pub no_follower_is : (log : List Entry) (c : RingId) (o : Option ConfId) → IsFollower log c o → (o ≡ None) ↔ NothingFollows log c
 no_follower_is log c None h = (λ e. h, λ n. refl)
 no_follower_is log c (Some u) h = (λ e. absurd cc, λ n. absurd (n.never u h))
 
--- d is the regular configuration of c or what follows it exactly where it is that one or the answer
+-- d is the regular configuration of c or what follows it exactly if it is that one or the result
 pub com_is : (log : List Entry) (c : RingId) (o : Option ConfId) → IsFollower log c o → (d : ConfId) → Com log c d ↔ ((d ≡ Regular c) ⊎ (o ≡ Some d))
 com_is log c o h d = (λ k. to k, λ k. from k)
   where
@@ -42,17 +42,17 @@ one_origin log c d t a b = go a.follows b.follows (a.earliest d b.follows) (b.ea
         let one = one_change log g.from (Regular c) (Regular d) change g.first.change in
         cc
 
--- the answer is c exactly where c is the first that t follows
+-- the result is c exactly if c is the first that t follows
 pub origin_is : (log : List Entry) (t : ConfId) (o : Option RingId) → IsOrigin log t o → (c : RingId) → (o ≡ Some c) ↔ FollowsFirst log c t
 origin_is log t None h c = (λ e. absurd cc, λ f. absurd (h.never c f.follows))
 origin_is log t (Some d) h c = (λ e. (let same : d ≡ c = cc in subst (λ (z : RingId). FollowsFirst log z t) same h), λ f. ap (λ (z : RingId). Some z) (one_origin log d c t h f))
 
--- there is none exactly where t follows nothing
+-- it is none exactly if t follows nothing
 pub no_origin_is : (log : List Entry) (t : ConfId) (o : Option RingId) → IsOrigin log t o → (o ≡ None) ↔ FollowsNothing log t
 no_origin_is log t None h = (λ e. h, λ n. refl)
 no_origin_is log t (Some c) h = (λ e. absurd cc, λ n. absurd (n.never c h.follows))
 
--- a transitional d belongs to c exactly where it is the answer
+-- a transitional d belongs to c exactly if it is the result
 pub some_answers : (log : List Entry) (c : RingId) (o : Option ConfId) (t d : ConfId) (next : RingId) (least : ℕ) (b : Bool) → IsFollower log c o → Some t ≡ o → d ≡ Transitional next least → IsTrue b ↔ (t ≡ d) → IsTrue b ↔ Com log c d
 some_answers log c o t d next least b h is moves same = (λ k. inr ((follower_is log c o h d).0 (sym is ∙ ap (λ (z : ConfId). Some z) (same.0 k))), λ k. from k)
   where

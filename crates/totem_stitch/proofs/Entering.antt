@@ -20,7 +20,7 @@ use Rattle.totem_stitch.proofs.Updating.{everywhere}
 use Rattle.totem_stitch.proofs.NextChanges.{one_change}
 use Rattle.totem_evs.proofs.NextChanges.{one_next, same_first}
 
--- one configuration follows
+-- at most one configuration follows
 pub one_follower : (log : List Entry) (c : RingId) (t u : ConfId) → Follows log c t → Follows log c u → t ≡ u
 one_follower log c t u a b =
     let starts = same_first log (Regular c) a.from b.from a.first b.first in
@@ -32,7 +32,7 @@ one_follower log c t u a b =
 same_ring_of : (log : List Entry) (i : ℕ) (c d : RingId) → ChangesTo log i (Regular c) → ChangesTo log i (Regular d) → c ≡ d
 same_ring_of log i c d a b = let e = one_change log i (Regular c) (Regular d) a b in cc
 
--- what has come
+-- the first n entries change to the configuration
 
 not_come_more : (log : List Entry) (n : ℕ) (c : RingId) → (ChangesTo log n (Regular c) → ⊥) → HasNotCome log n c → HasNotCome log (n + 1) c
 not_come_more log n c never before = record {
@@ -49,7 +49,7 @@ knows_more : (log : List Entry) (n : ℕ) (c : RingId) (o : Option (Option ConfI
 knows_more log n c None never h = not_come_more log n c (never refl) h
 knows_more log n c (Some f) never h = come_more log n c f h
 
--- what has an origin
+-- the first regular configuration that it follows
 
 no_origin_more : (log : List Entry) (n : ℕ) (t : ConfId) → ((c : RingId) (other : Follows log c t) → other.from ≡ n → ⊥) → HasNoOrigin log n t → HasNoOrigin log (n + 1) t
 no_origin_more log n t never before = record { later = λ c other. (let le = before.later c other in let apart = never c other in go other.from le apart) }
@@ -67,7 +67,7 @@ origin_more log n t (Some c) never h = h
 first_at : (log : List Entry) (c : RingId) (t : ConfId) (n : ℕ) (other : Follows log c t) → other.from ≡ n → IsFirstChange log (Regular c) n
 first_at log c t n other same = rw same at other.first
 
--- the first change to c, and what comes next
+-- the first change to c, and the next change
 
 first_now : (log : List Entry) (n : ℕ) (c : RingId) → ChangesTo log n (Regular c) → HasNotCome log n c → IsFirstChange log (Regular c) n
 first_now log n c change h = record { change = change; none_before = h.never }
@@ -86,7 +86,7 @@ nothing_now log n c first none = record {
 -- entering an entry
 
 module _ (log : List Entry) (n : ℕ) where
-  -- it is no change to a regular configuration
+  -- it does not change to a regular configuration
   pub enters_other : (table : Table) → IsNoRegular log n → KnowsLog table log n → KnowsLog table log (n + 1)
   enters_other table none before = record {
     followers = λ c. knows_more log n c _ (λ _ change. none.never c change) (before.followers c);
@@ -101,7 +101,7 @@ module _ (log : List Entry) (n : ℕ) where
       let first_c : IsFirstChange log (Regular c) n = rw (← rings) first in
       first_c.none_before h.index h.before h.first.change
 
-  -- it is a change to one that has come before
+  -- it changes to one to which the log changed before
   pub enters_again : (table : Table) (c : RingId) → ChangesTo log n (Regular c) → is_some (tree.get ring_order table.followers c) ≡ true → KnowsLog table log n → KnowsLog table log (n + 1)
   enters_again table c change some before = record {
     followers = λ d. knows_more log n d _ (λ none change'. (let rings : c ≡ d = same_ring_of log n c d change change' in absurd_none d rings none)) (before.followers d);
@@ -120,7 +120,7 @@ module _ (log : List Entry) (n : ℕ) where
   no_origin t None e h = h
   no_origin t (Some f) e h = absurd cc
 
-  -- the change is the first one to c
+  -- it is the first change to c
   pub is_first : (table : Table) (c : RingId) → ChangesTo log n (Regular c) → is_some (tree.get ring_order table.followers c) ≡ false → KnowsLog table log n → IsFirstChange log (Regular c) n
   is_first table c change new before = first_now log n c change (not_come c _ new (before.followers c))
 

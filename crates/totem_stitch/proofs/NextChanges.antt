@@ -1,4 +1,4 @@
--- What a log's changes are, found by going along it.
+-- The changes of a log, found by walking along it.
 use Rattle.std.proofs.Common.{◌≡◌, ℕ, ◌+◌, ◌<◌, ◌≤◌, List, length, slice_get, Some, sym, ◌∙◌, arith}
 use Rattle.std.proofs.lemmas.Option.{slice_get_within}
 use Rattle.totem_ids.specs.declared.ring.RingId.{RingId}

@@ -22,7 +22,7 @@ use Rattle.totem_stitch.proofs.Updating.{everywhere}
 pub record HasNoLog (run : List Log) (k p : ℕ) : Type 0 where
   pub never : (j : ℕ) (log : Log) → j < k → slice_get run j ≡ Some log → log.proc ≡ p → ⊥
 
--- it has one there, and this is its table
+-- p has one there, and this is its table
 pub record HasTable (run : List Log) (k p : ℕ) (table : Table) : Type 0 where
   pub index : ℕ
   pub log : Log

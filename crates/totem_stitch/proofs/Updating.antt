@@ -16,7 +16,7 @@ apart_or_at : (b : Bool) → (b ≡ true) ⊎ (b ≡ false)
 apart_or_at true = inl refl
 apart_or_at false = inr refl
 
--- what holds at the new entry, and at each other one as before, holds at each
+-- what holds at the new entry, and still holds at every other one, holds at every entry
 pub everywhere : {K X : Type 0} (cmp : K → K → Ordering) → CmpEqualImpliesEq cmp → (P : K → Option X → Type 0) (m n : BTreeMap K X) (k : K) (w : X) → tree.Updates cmp m n k (Some w) → P k (Some w)
     → ((q : K) → (q ≡ k → tree.get cmp m q ≡ Some w) → P q (tree.get cmp m q)) → (q : K) → P q (tree.get cmp n q)
 everywhere {K} {X} cmp exact P m n k w h here others q = elim (apart_or_at (is_at (cmp k) q)) [

@@ -1,4 +1,4 @@
--- How far the table of a log has come.
+-- The table of a log, entry by entry.
 use Rattle.std.specs.Prelude.{ℕ, ◌<◌, ◌≤◌, List, Option, Some, None}
 use Rattle.std.specs.BTreeMap as tree
 use Rattle.totem_ids.specs.declared.ring.RingId.{RingId}
@@ -11,7 +11,7 @@ use Rattle.totem_stitch.specs.declared.table.Table.{Table}
 use Rattle.totem_stitch.specs.Followers.{IsFollower, IsOrigin, FollowsFirst}
 use Rattle.totem_stitch.specs.Tables.{ring_order, conf_order, follower_in, origin_in}
 
--- the entry at i is no change to a regular configuration
+-- the entry at i does not change to a regular configuration
 pub record IsNoRegular (log : List Entry) (i : ℕ) : Type 0 where
   pub never : (c : RingId) → ChangesTo log i (Regular c) → ⊥
 
@@ -21,7 +21,7 @@ pub record ComesNext (log : List Entry) (i : ℕ) (x : ConfId) : Type 0 where
   pub next : IsNextChange log i to
   pub change : ChangesTo log to x
 
--- the next change after i, if there is one, is to no transitional configuration
+-- the next change after i, if there is one, is not to a transitional configuration
 pub record NoneComesNext (log : List Entry) (i : ℕ) : Type 0 where
   pub never : (x : ConfId) → ComesNext log i x → IsTransitional x → ⊥
 
@@ -30,11 +30,11 @@ pub record MovesNext (log : List Entry) (i : ℕ) (x : ConfId) : Type 0 where
   pub next : ComesNext log i x
   pub transitional : IsTransitional x
 
--- c has not come among the first n entries
+-- the first n entries do not change to c
 pub record HasNotCome (log : List Entry) (n : ℕ) (c : RingId) : Type 0 where
   pub never : (i : ℕ) → i < n → ChangesTo log i (Regular c) → ⊥
 
--- c has come there, and this is what follows it
+-- one of them does, and `follower` is what follows c
 pub record HasCome (log : List Entry) (n : ℕ) (c : RingId) (follower : Option ConfId) : Type 0 where
   pub index : ℕ
   pub before : index < n
@@ -45,7 +45,7 @@ abbrev pub KnowsFollower : List Entry → ℕ → RingId → Option (Option Conf
 KnowsFollower log n c None = HasNotCome log n c
 KnowsFollower log n c (Some follower) = HasCome log n c follower
 
--- no regular configuration that t follows has come among the first n entries
+-- no regular configuration that t follows is among the first n entries
 pub record HasNoOrigin (log : List Entry) (n : ℕ) (t : ConfId) : Type 0 where
   pub later : (c : RingId) (other : Follows log c t) → n ≤ other.from
 

@@ -10,7 +10,7 @@ use Rattle.totem_evs.specs.Following.{Follows}
 pub record NothingFollows (log : List Entry) (c : RingId) : Type 0 where
   pub never : (t : ConfId) → Follows log c t → ⊥
 
--- what follows c, if anything does
+-- the configuration that follows c, if any
 abbrev pub IsFollower : List Entry → RingId → Option ConfId → Type 0
 IsFollower log c None = NothingFollows log c
 IsFollower log c (Some t) = Follows log c t

@@ -10,7 +10,7 @@ use Rattle.totem_stitch.specs.declared.stitch.Stitch.{Stitch}
 use Rattle.totem_stitch.specs.Followers.{IsFollower, IsOrigin}
 use Rattle.totem_stitch.specs.Tables.{process_order, follower_in, origin_in}
 
--- what some table has as following c; a process without a table has nothing
+-- what follows c according to a table; nothing if there is no table
 abbrev pub follower_by : Option Table → RingId → Option ConfId
 follower_by None c = None
 follower_by (Some table) c = follower_in table c
@@ -19,15 +19,15 @@ abbrev pub origin_by : Option Table → ConfId → Option RingId
 origin_by None t = None
 origin_by (Some table) t = origin_in table t
 
--- what the tables have as following c at p
+-- what follows c at p according to the tables
 abbrev pub follower_of : Stitch → ℕ → RingId → Option ConfId
 follower_of stitch p c = follower_by (tree.get process_order stitch.tables p) c
 
--- what they have as the first that t follows at p
+-- the first regular configuration that t follows at p according to the tables
 abbrev pub origin_of : Stitch → ℕ → ConfId → Option RingId
 origin_of stitch p t = origin_by (tree.get process_order stitch.tables p) t
 
--- these are the tables of the run: at each process they have what follows each regular configuration in its log, and
+-- these are the tables of the run: for each process they have what follows each regular configuration in its log, and
 -- the first regular one that each configuration follows
 pub record IsStitch (stitch : Stitch) (run : List Log) : Type 0 where
   pub followers : (p : ℕ) (c : RingId) → IsFollower (log_of run p) c (follower_of stitch p c)

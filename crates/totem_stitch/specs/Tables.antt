@@ -18,10 +18,10 @@ ring_order = (Rattle.totem_ids.specs.contracts.ring.RingIdOrd.TheImpl.cmp-value)
 abbrev pub conf_order : ConfId → ConfId → Ordering
 conf_order = (Rattle.totem_ids.specs.contracts.conf.ConfIdOrd.TheImpl.cmp-value).it
 
--- what the table of a log has as following c
+-- what follows c according to the table of a log
 abbrev pub follower_in : Table → RingId → Option ConfId
 follower_in table c = unwrap_or (tree.get ring_order table.followers c) None
 
--- what it has as the first that t follows
+-- the first regular configuration that t follows according to the table
 abbrev pub origin_in : Table → ConfId → Option RingId
 origin_in table t = tree.get conf_order table.origins t

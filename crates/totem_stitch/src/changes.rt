@@ -6,7 +6,7 @@ ghost use Rattle.totem_stitch.specs.Building.{IsNoRegular, NoneComesNext, MovesN
 use totem_evs::Entry;
 use totem_ids::{ConfId, RingId};
 
-/// Returns the ring of the regular configuration to which the entry at this index changes, or `None` if it changes to none.
+/// Returns the ring of the regular configuration to which the entry at this index changes, or `None` if there is none.
 pub fn regular_at(log: &[Entry], at: usize) -> Option<RingId>
     requires { at < length log.now }
     ensures found { IfSome result (λ ring. ChangesTo log.now at (ConfId.Regular ring)) }

@@ -1,5 +1,5 @@
-//! The tables of following configurations: what follows a regular configuration in the log of a process, and what a
-//! transitional one follows (docs/SPECIFICATIONS.md, "Following").
+//! The tables of following configurations: what follows a regular configuration in the log of a process, and which regular
+//! configuration another one follows (docs/SPECIFICATIONS.md, "Following").
 #![tactic(auto)]
 
 mod changes;

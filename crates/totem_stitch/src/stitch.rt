@@ -28,7 +28,7 @@ impl Stitch {
     }
 
     /// Returns what follows the regular configuration of this ring in the log of this process: the configuration of the next change
-    /// after the first change to it, if that is transitional. It takes no memory and reads no log.
+    /// after the first change to it, if that is transitional. Takes no memory and reads no log.
     pub fn follow(&self, proc: Proc, ring: RingId) -> Option<ConfId>
         ensures { result ≡ follower_of self.now proc ring }
     {
@@ -36,7 +36,7 @@ impl Stitch {
     }
 
     /// Returns the ring of the first regular configuration in the log of this process that this configuration follows, or `None` if it
-    /// follows none. It takes no memory and reads no log.
+    /// follows none. Takes no memory and reads no log.
     pub fn before(&self, proc: Proc, conf: ConfId) -> Option<RingId>
         ensures { result ≡ origin_of self.now proc conf }
     {

@@ -9,8 +9,8 @@ use std::collections::BTreeMap;
 use totem_evs::Entry;
 use totem_ids::{ConfId, RingId};
 
-/// For each ring whose regular configuration came, what follows that, if anything does; and for each configuration that
-/// follows one, the ring of the first that it follows.
+/// For each ring to whose regular configuration the log changes, the configuration that follows it, if any; and for each
+/// configuration that follows a regular one, the ring of the first that it follows.
 #[derive(Drop)]
 pub struct Table {
     pub followers: BTreeMap<RingId, Option<ConfId>>,
@@ -32,7 +32,7 @@ impl Table {
         Ok(table)
     }
 
-    /// Enters the entry at this index. Those before it have been entered. If memory is refused, the table can't be used any more.
+    /// Enters the entry at this index, after all entries before it. If memory is refused, the table can't be used any more.
     fn enter(&mut self, log: &[Entry], at: usize) -> Result<(), AllocError>
         requires within { at < length log.now }
         requires before { KnowsLog self.old log.now at }

@@ -34,7 +34,7 @@ none_of run p k end before = go (log_of_cases run p)
     go (inl none) = sym none
     go (inr (j, log, at, same, is)) = absurd (before.never j log (let lt = slice_get_within run j log at in omega arith) at same)
 
--- what the comparison of two processes tells
+-- what the comparison of two processes says
 both_true : (s t : Bool) → true ≡ (s && t) → (s ≡ true) × (t ≡ true)
 both_true true t e = (refl, sym e)
 both_true false t e = absurd cc

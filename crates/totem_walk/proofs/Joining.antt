@@ -83,7 +83,7 @@ module _ (run : List Log) (c : RingId) (p q : ℕ) (deliveries : Deliveries) (me
       go m n e s (suc j) u v at_e at_f by (inl (same, lt)) k h = in_one_log e.proc e.at j k m n u v at_e (same ∙ by) lt (rw by at at_f) h
       go m n e s (suc j) u v at_e at_f by (inr (b, is, (i, lt, delivers))) k h = by_walk i j k m n v (omega arith) (inr (rw by at delivers)) (rw by at at_f) h
 
--- never both
+-- never both at once
 not_both : (run : List Log) (c : RingId) (p q : ℕ) → BreaksBetween run c p q → IsCausalBetween run c p q → ⊥
 not_both run c p q b causal = go b.uncaused
   where
@@ -95,7 +95,7 @@ pub decided : (run : List Log) (c : RingId) (p q : ℕ) (kept : Bool) → OnTrue
 decided run c p q true causal broken = (λ t. causal, λ h. refl)
 decided run c p q false causal broken = (λ t. absurd cc, λ h. absurd (not_both run c p q broken h))
 
--- what the walks tell of two logs holds of the run
+-- what the walks say about two logs holds of the run
 pub kept_so : (run : List Log) (c : RingId) (p q : ℕ) (deliveries : Deliveries) (sending delivering : List Entry) (kept : Bool) → MeetsPasses run → sending ≡ log_of run p → delivering ≡ log_of run q → AreDeliveries deliveries delivering c
     → OnTrue kept (KeepsOrder sending (Regular c) deliveries) → OnTrue kept (IsCausalBetween run c p q)
 kept_so run c p q deliveries sending delivering true meets from to are kept = causal_between run c p q deliveries meets (rw to at are) (rw from at kept)
@@ -112,6 +112,6 @@ of_pairs run c = (
   λ h. record { each = λ m n e f sends_e sends_f hop r j delivers. (h f.proc r).each m n e f sends_e sends_f refl hop j delivers },
 )
 
--- what the tables say follows
+-- the configuration that follows according to the tables
 pub followed_so : (stitch : Stitch) (run : List Log) (c : RingId) (q : ℕ) (follower : Option ConfId) → IsStitch stitch run → follower ≡ follower_of stitch q c → IsFollowedBy (log_of run q) c follower
 followed_so stitch run c q follower is same = record { exact = λ d. com_is (log_of run q) c follower (rw same (is.followers q c)) d }

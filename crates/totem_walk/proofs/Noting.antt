@@ -20,7 +20,7 @@ use Rattle.totem_walk.specs.declared.deliveries.Deliveries.{Deliveries}
 use Rattle.totem_walk.specs.Acts.{DeliversThere, DeliversNothing}
 use Rattle.totem_walk.specs.Deliveries.{message_order, IsFollowedBy, IsDeliveredBefore, AreDeliveriesBefore, IsDelivered, AreDeliveries}
 
--- messages that compare as equal are the same
+-- messages that compare as equal are equal
 both_equal : (a b : Ordering) → ordering_then a b ≡ Equal → (a ≡ Equal) × (b ≡ Equal)
 both_equal Less b e = absurd cc
 both_equal Equal b e = (refl, e)
@@ -49,7 +49,7 @@ apart_or_at : (b : Bool) → (b ≡ true) ⊎ (b ≡ false)
 apart_or_at true = inl refl
 apart_or_at false = inr refl
 
--- what holds at the new entry of a map, and at each other one as before, holds at each
+-- what holds at the new entry of a map, and still holds at every other one, holds at every entry
 everywhere : (P : MsgId → Option ℕ → Type 0) (old new : BTreeMap MsgId ℕ) (m : MsgId) (k : ℕ) → tree.Updates message_order old new m (Some k) → P m (Some k)
     → ((o : MsgId) → (o ≡ m → tree.get message_order old o ≡ Some k) → P o (tree.get message_order old o)) → (o : MsgId) → P o (tree.get message_order new o)
 everywhere P old new m k h here others o = elim (apart_or_at (is_at (message_order m) o)) [
@@ -58,7 +58,7 @@ everywhere P old new m k h here others o = elim (apart_or_at (is_at (message_ord
 ]
 
 module _ (log : List Entry) (c : RingId) (n : ℕ) where
-  -- what the entry at n delivers
+  -- the message that the entry at n delivers
   there : (e : Entry) (follower : Option ConfId) (m : MsgId) → IsFollowedBy log c follower → slice_get log n ≡ Some e → DeliversIn log c m n → DeliversThere e (Regular c) follower m
   there e follower m of at (d, delivers, belongs) =
       let one : e ≡ Deliver m d = (let both : Some e ≡ Some (Deliver m d) = sym at ∙ delivers in cc) in

@@ -15,7 +15,7 @@ use Rattle.totem_walk.specs.Deliveries.{index_in}
 use Rattle.totem_walk.specs.Pace.{IsEarly, IsInTime, pace_with, ComesEarly, ComesInTime, GoesOn, HandlesBefore, HandlesNothingBefore, IsReached, IsLacking, IsPace}
 use Rattle.totem_walk.specs.Order.{KeepsOrderBefore, KeepsOrder, BreaksOrder}
 
--- an entry and what stands in the log
+-- an entry that was read is the entry of the log
 there_handles : (log : List Entry) (i : ℕ) (e : Entry) (m : MsgId) (x : ConfId) → slice_get log i ≡ Some e → HandlesIn e x m → Handles log i m x
 there_handles log i (Conf y members) m x at h = absurd h
 there_handles log i (Send o y service) m x at (same, here) = inl (service, rw (same, here) at at)
@@ -48,7 +48,7 @@ max_cases : (a b : ℕ) → (max a b ≡ a) ⊎ (max a b ≡ b)
 max_cases a b = elim (less_or_not a b) [ inl lt ↦ inr (omega arith) | inr rest ↦ inl (elim rest [ inl gt ↦ omega arith | inr same ↦ omega arith ]) ]
 
 module _ (log : List Entry) (x : ConfId) (deliveries : Deliveries) (n : ℕ) (e : Entry) (at : slice_get log n ≡ Some e) where
-  -- what was handled before stays so, and what is handled among the first entries was, or is by the one at n
+  -- what was handled before is handled still, and what is handled among the first entries was handled before or is handled at n
   still : (m : MsgId) → HandlesBefore log x n m → HandlesBefore log x (n + 1) m
   still m h = record { index = h.index; before = (let lt = h.before in omega arith); handles = h.handles }
 
@@ -81,7 +81,7 @@ module _ (log : List Entry) (x : ConfId) (deliveries : Deliveries) (n : ℕ) (e 
   reached : (m o : MsgId) (k last : ℕ) → HandlesIn e x m → HandlesIn e x o → index_in deliveries m ≡ Some k → k ≤ last → IsReached deliveries o last
   reached m o k last handles also is le = record { index = k; delivered = rw (one_handled e x m o handles also) at is; before = le }
 
-  -- it handles m
+  -- the entry handles m
   pace_handled : (pace : Pace) (i : Option ℕ) (m : MsgId) → HandlesIn e x m → index_in deliveries m ≡ i → IsPace log x deliveries n pace → IsPace log x deliveries (n + 1) (pace_with pace i)
   pace_handled Anywhere None m handles is h = lacking m handles is
   pace_handled (Behind last) None m handles is h = lacking m handles is
@@ -134,7 +134,7 @@ module _ (log : List Entry) (x : ConfId) (deliveries : Deliveries) (n : ℕ) (e 
     ];
   }
 
-  -- it does
+  -- the entry at n sends something too early
   pub broken_here : (pace : Pace) → ComesEarly deliveries x pace e → IsPace log x deliveries n pace → BreaksOrder log x deliveries
   broken_here pace early h = go pace early.early h
     where

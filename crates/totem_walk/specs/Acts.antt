@@ -1,4 +1,4 @@
--- What an entry sends and delivers in some configuration.
+-- What an entry sends and delivers in a configuration.
 use Rattle.std.specs.Prelude.{◌≡◌, ◌⊎◌, ℕ, List, Option, Some}
 use Rattle.totem_ids.specs.declared.conf.ConfId.{ConfId}
 use Rattle.totem_ids.specs.declared.message.MsgId.{MsgId}
@@ -20,26 +20,26 @@ HandlesIn (Send n y service) x m = (n ≡ m) × (y ≡ x)
 HandlesIn (Deliver n y) x m = (n ≡ m) × (y ≡ x)
 HandlesIn (Fail y) x m = ⊥
 
--- y is x, or what follows that
+-- y is x, or the configuration that follows it
 abbrev pub IsThere : ConfId → Option ConfId → ConfId → Type 0
 IsThere x follower y = (y ≡ x) ⊎ (follower ≡ Some y)
 
--- the entry delivers m in x or in what follows that
+-- the entry delivers m in x or in the configuration that follows it
 abbrev pub DeliversThere : Entry → ConfId → Option ConfId → MsgId → Type 0
 DeliversThere (Conf y members) x follower m = ⊥
 DeliversThere (Send n y service) x follower m = ⊥
 DeliversThere (Deliver n y) x follower m = (n ≡ m) × IsThere x follower y
 DeliversThere (Fail y) x follower m = ⊥
 
--- it sends nothing in x
+-- the entry sends nothing in x
 pub record SendsNothing (entry : Entry) (x : ConfId) : Type 0 where
   pub never : (m : MsgId) → SendsIn entry x m → ⊥
 
--- it neither sends nor delivers anything there
+-- the entry neither sends nor delivers anything in x
 pub record HandlesNothing (entry : Entry) (x : ConfId) : Type 0 where
   pub never : (m : MsgId) → HandlesIn entry x m → ⊥
 
--- it delivers nothing there or in what follows
+-- the entry delivers nothing in x or in the configuration that follows it
 pub record DeliversNothing (entry : Entry) (x : ConfId) (follower : Option ConfId) : Type 0 where
   pub never : (m : MsgId) → DeliversThere entry x follower m → ⊥
 

@@ -1,4 +1,4 @@
--- Causal delivery between two processes: where the one delivers what the other sends, and what that sent or delivered before
+-- Causal delivery between two processes: where one delivers what the other sends, and what the sender sent or delivered before
 -- (docs/SPECIFICATIONS.md, "5 Causal delivery", "Passes").
 use Rattle.std.specs.Prelude.{◌≡◌, ◌↔◌, ℕ, ◌+◌, ◌<◌, List, length}
 use Rattle.totem_ids.specs.declared.ring.RingId.{RingId}
@@ -21,7 +21,7 @@ pub record IsCausalBetween (run : List Log) (c : RingId) (p q : ℕ) : Type 0 wh
   pub each : (m n : MsgId) (e f : Place) → SendsAt run e m (Regular c) → SendsAt run f n (Regular c) → f.proc ≡ p → IsHop run c m e f
       → (j : ℕ) → DeliversIn (log_of run q) c n j → (i : ℕ) × (i < j) × DeliversIn (log_of run q) c m i
 
--- two sends, the later one by p, and q's delivery of its message: they break 5 in c
+-- two sends, the later one by p, and q's delivery of the later one's message, which break 5 in c
 pub record BreaksBetween (run : List Log) (c : RingId) (p q : ℕ) : Type 0 where
   pub earlier : Place
   pub later : Place
@@ -29,6 +29,6 @@ pub record BreaksBetween (run : List Log) (c : RingId) (p q : ℕ) : Type 0 wher
   pub index : ℕ
   pub uncaused : IsUncausedIn run c earlier later q index
 
--- 5 holds in c exactly where it holds between each two processes
+-- 5 holds in c exactly if it holds between each two processes
 abbrev pub IsOfPairs : Type 0
 IsOfPairs = (run : List Log) (c : RingId) → CausalityIn run c ↔ ((p q : ℕ) → IsCausalBetween run c p q)

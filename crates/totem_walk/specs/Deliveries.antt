@@ -15,19 +15,19 @@ use Rattle.totem_walk.specs.Acts.{IsThere}
 abbrev pub message_order : MsgId → MsgId → Ordering
 message_order = (Rattle.totem_ids.specs.contracts.message.MsgIdOrd.TheImpl.cmp-value).it
 
--- where m is delivered, if it is
+-- where m is delivered, if at all
 abbrev pub index_in : Deliveries → MsgId → Option ℕ
 index_in deliveries m = tree.get message_order deliveries.indices m
 
--- what follows c in the log is this, if anything does
+-- `follower` is what follows c in the log, if anything does
 pub record IsFollowedBy (log : List Entry) (c : RingId) (follower : Option ConfId) : Type 0 where
   pub exact : (d : ConfId) → Com log c d ↔ IsThere (Regular c) follower d
 
--- m is delivered at none of the first n entries
+-- none of the first n entries delivers m
 pub record NotBefore (log : List Entry) (c : RingId) (m : MsgId) (n : ℕ) : Type 0 where
   pub never : (k : ℕ) → k < n → DeliversIn log c m k → ⊥
 
--- it is delivered at k, which is one of them
+-- the entry at k, one of the first n, delivers m
 pub record IsBefore (log : List Entry) (c : RingId) (m : MsgId) (n k : ℕ) : Type 0 where
   pub below : k < n
   pub delivers : DeliversIn log c m k

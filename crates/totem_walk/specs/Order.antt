@@ -14,7 +14,7 @@ pub record KeepsOrderBefore (log : List Entry) (x : ConfId) (deliveries : Delive
   pub each : (i j k : ℕ) (m o : MsgId) → i < j → j < n → Handles log i m x → Sends log j o x → index_in deliveries o ≡ Some k
       → (l : ℕ) × (l < k) × (index_in deliveries m ≡ Some l)
 
--- before any of them
+-- the same for all entries
 pub record KeepsOrder (log : List Entry) (x : ConfId) (deliveries : Deliveries) : Type 0 where
   pub each : (i j k : ℕ) (m o : MsgId) → i < j → Handles log i m x → Sends log j o x → index_in deliveries o ≡ Some k
       → (l : ℕ) × (l < k) × (index_in deliveries m ≡ Some l)

@@ -9,26 +9,26 @@ use Rattle.totem_walk.specs.declared.pace.Pace.TheVariants.{Anywhere, Behind, No
 use Rattle.totem_walk.specs.Acts.{SendsIn, HandlesIn, HandlesNothing, Handles}
 use Rattle.totem_walk.specs.Deliveries.{index_in}
 
--- a delivery at k does not come after all that was handled before
+-- a delivery at k is not after everything handled so far
 abbrev pub IsEarly : Pace → ℕ → Type 0
 IsEarly Anywhere k = ⊥
 IsEarly (Behind last) k = k ≤ last
 IsEarly Nowhere k = Unit {0}
 
--- it does
+-- a delivery at k is after everything handled so far
 abbrev pub IsInTime : Pace → ℕ → Type 0
 IsInTime Anywhere k = Unit {0}
 IsInTime (Behind last) k = last < k
 IsInTime Nowhere k = ⊥
 
--- the pace once one more message is handled, which is delivered there, if at all
+-- the pace after one more message is handled, which is delivered at the given index, if at all
 abbrev pub pace_with : Pace → Option ℕ → Pace
 pace_with pace None = Nowhere
 pace_with Anywhere (Some k) = Behind k
 pace_with (Behind last) (Some k) = Behind (max last k)
 pace_with Nowhere (Some k) = Nowhere
 
--- the entry sends in x what is delivered too early
+-- the entry sends a message in x that is delivered too early
 pub record ComesEarly (deliveries : Deliveries) (x : ConfId) (pace : Pace) (entry : Entry) : Type 0 where
   pub message : MsgId
   pub sends : SendsIn entry x message
@@ -36,11 +36,11 @@ pub record ComesEarly (deliveries : Deliveries) (x : ConfId) (pace : Pace) (entr
   pub delivered : index_in deliveries message ≡ Some index
   pub early : IsEarly pace index
 
--- what the entry sends in x, if it sends anything, is not delivered too early
+-- no message that the entry sends in x is delivered too early
 pub record ComesInTime (deliveries : Deliveries) (x : ConfId) (pace : Pace) (entry : Entry) : Type 0 where
   pub each : (n : MsgId) (k : ℕ) → SendsIn entry x n → index_in deliveries n ≡ Some k → IsInTime pace k
 
--- the new pace takes account of the entry
+-- the new pace takes the entry into account
 pub record GoesOn (deliveries : Deliveries) (x : ConfId) (entry : Entry) (old new : Pace) : Type 0 where
   pub way : (HandlesNothing entry x × (new ≡ old)) ⊎ ((m : MsgId) × HandlesIn entry x m × (new ≡ pace_with old (index_in deliveries m)))
 
@@ -50,24 +50,24 @@ pub record HandlesBefore (log : List Entry) (x : ConfId) (n : ℕ) (m : MsgId) :
   pub before : index < n
   pub handles : Handles log index m x
 
--- none of them handles anything in x
+-- none of the first n entries handles anything in x
 pub record HandlesNothingBefore (log : List Entry) (x : ConfId) (n : ℕ) : Type 0 where
   pub never : (m : MsgId) → HandlesBefore log x n m → ⊥
 
--- m is delivered at k or before
+-- m is delivered at or before k
 pub record IsReached (deliveries : Deliveries) (m : MsgId) (k : ℕ) : Type 0 where
   pub index : ℕ
   pub delivered : index_in deliveries m ≡ Some index
   pub before : index ≤ k
 
--- all that they handle in x is delivered, the last of it at `last`
+-- everything that the first n entries handle in x is delivered, the last of it at `last`
 pub record AreReached (log : List Entry) (x : ConfId) (deliveries : Deliveries) (n last : ℕ) : Type 0 where
   pub each : (m : MsgId) → HandlesBefore log x n m → IsReached deliveries m last
   pub message : MsgId
   pub handled : HandlesBefore log x n message
   pub delivered : index_in deliveries message ≡ Some last
 
--- something that they handle in x is not delivered
+-- something that the first n entries handle in x is not delivered
 pub record IsLacking (log : List Entry) (x : ConfId) (deliveries : Deliveries) (n : ℕ) : Type 0 where
   pub message : MsgId
   pub handled : HandlesBefore log x n message

@@ -1,4 +1,4 @@
-//! What an entry sends and delivers in some configuration.
+//! What an entry sends and delivers in a configuration.
 ghost use Rattle.std.specs.Prelude.{◌↔◌, IsTrue, IfSome, IfNone};
 ghost use Rattle.totem_walk.specs.Acts.{IsThere, SendsIn, SendsNothing, HandlesIn, HandlesNothing, DeliversThere, DeliversNothing};
 
@@ -37,7 +37,7 @@ pub fn handled_in(entry: &Entry, conf: &ConfId) -> Option<MsgId>
     }
 }
 
-/// Returns whether this configuration is the regular one, or the one that follows it, if one does.
+/// Returns whether this configuration is the regular one, or the one that follows it, if any.
 fn is_there(other: &ConfId, conf: &ConfId, follower: &Option<ConfId>) -> bool
     ensures { IsTrue result ↔ IsThere conf.now follower.now other.now }
 {
@@ -50,7 +50,7 @@ fn is_there(other: &ConfId, conf: &ConfId, follower: &Option<ConfId>) -> bool
     }
 }
 
-/// Returns the message that the entry delivers in this configuration, or in the one that follows it, if one does.
+/// Returns the message that the entry delivers in this configuration or in the one that follows it, if any.
 pub fn delivered_in(entry: &Entry, conf: &ConfId, follower: &Option<ConfId>) -> Option<MsgId>
     ensures found { IfSome result (DeliversThere entry.now conf.now follower.now) }
     ensures none { IfNone result (DeliversNothing entry.now conf.now follower.now) }

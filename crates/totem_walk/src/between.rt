@@ -15,12 +15,12 @@ use totem_evs::Run;
 use totem_ids::{ConfId, Proc, RingId};
 use totem_stitch::Stitch;
 
-/// A law: specification 5 in a regular configuration says just what is asked of each two of its processes.
+/// A law: specification 5 holds in a regular configuration exactly if it holds between each two processes.
 pub fn causality_is_of_pairs()
     ensures { IsOfPairs }
 {}
 
-/// Answers as `walk` does. `follower` is the configuration that follows the regular one in the receiver's log, if one does.
+/// Returns what `walk` does. `follower` is the configuration that follows the regular one in the receiver's log, if any.
 fn is_causal(
     alloc: Global,
     run: &Run,
@@ -45,9 +45,9 @@ fn is_causal(
 }
 
 /// Returns whether the receiver delivers what the sender sends in the regular configuration of this ring only after all that the
-/// sender sent or delivered there before (docs/SPECIFICATIONS.md, "5 Causal delivery"). What the receiver delivers in the
-/// configuration that follows counts too. `looks` grows by one for each entry that is read: the receiver's log is read whole, the
-/// sender's up to the first send that breaks 5. It takes n log n steps.
+/// sender sent or delivered there before (docs/SPECIFICATIONS.md, "5 Causal delivery"). Deliveries of the receiver in the
+/// configuration that follows count too. `looks` grows by one for each entry that is read: all of the receiver's log, and the
+/// sender's up to the first send that breaks 5. Takes n log n steps.
 pub fn walk(
     alloc: Global,
     run: &Run,

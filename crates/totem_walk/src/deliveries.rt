@@ -1,4 +1,4 @@
-//! Where a process delivers the messages of a regular configuration, in it or in what follows it.
+//! Where a process delivers the messages of a regular configuration: in it or in what follows it.
 ghost use Rattle.std.specs.Prelude.{◌≡◌, ◌+◌, ◌<◌, ◌^◌, IfOk, OnOk, length};
 ghost use Rattle.totem_walk.specs.Deliveries.{index_in, IsFollowedBy, AreDeliveriesBefore, AreDeliveries};
 
@@ -9,14 +9,14 @@ use std::collections::BTreeMap;
 use totem_evs::Entry;
 use totem_ids::{ConfId, MsgId, RingId};
 
-/// The index of each delivery, by its message.
+/// The index of the delivery of each message.
 #[derive(Drop)]
 pub struct Deliveries {
     pub indices: BTreeMap<MsgId, usize>,
 }
 
 impl Deliveries {
-    /// Notes the deliveries of a log in the regular configuration of this ring and in what follows it, if anything does. Each entry is
+    /// Finds the deliveries of a log in the regular configuration of this ring and in what follows it, if any. Each entry is
     /// read once.
     pub fn build(
         alloc: Global,
@@ -39,7 +39,7 @@ impl Deliveries {
         Ok(deliveries)
     }
 
-    /// Enters the entry at this index. Those before it have been entered. If memory is refused, the deliveries can't be used any more.
+    /// Enters the entry at this index, after all entries before it. If memory is refused, the deliveries can't be used any more.
     fn enter(
         &mut self,
         log: &[Entry],
@@ -64,7 +64,7 @@ impl Deliveries {
         Ok(())
     }
 
-    /// Returns the index at which the message is delivered, or `None` if it is not.
+    /// Returns the index at which the message is delivered, or `None` if it is not delivered.
     pub fn index_of(&self, message: &MsgId) -> Option<usize>
         ensures { result ≡ index_in self.now message.now }
     {

@@ -10,8 +10,8 @@ use totem_evs::Entry;
 use totem_ids::ConfId;
 
 /// Returns whether these deliveries of a receiver keep the order of a sender's log: whether the receiver delivers what the sender sends
-/// in this configuration after all that the sender sent and delivered there before. Each entry of the sender's log is read once,
-/// up to the first send at which it is not so.
+/// in this configuration after all that the sender sent and delivered there before. Reads each entry of the sender's log once,
+/// up to the first send that breaks the order.
 pub fn keeps_order(deliveries: &Deliveries, log: &[Entry], conf: &ConfId, looks: &mut u64) -> bool
     requires room { looks.old + length log.now < 2 ^ 64 }
     ensures kept { OnTrue result (KeepsOrder log.now conf.now deliveries.now) }

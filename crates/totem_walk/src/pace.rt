@@ -8,19 +8,19 @@ use crate::deliveries::Deliveries;
 use totem_evs::Entry;
 use totem_ids::ConfId;
 
-/// From where on the receiver may deliver what the sender sends next: after all that the sender sent and delivered so far.
+/// After which index the receiver may deliver what the sender sends next: it has to deliver all that the sender handled so far first.
 #[derive(Clone, Copy)]
 pub enum Pace {
-    /// Anywhere: there was nothing yet.
+    /// Any index: the sender has handled nothing yet.
     Anywhere,
-    /// Behind this index, at which the receiver delivers the last of it.
+    /// After this index, at which the receiver delivers the last of what the sender handled.
     Behind(usize),
-    /// Nowhere: the receiver does not deliver all of it.
+    /// No index: the receiver does not deliver all of it.
     Nowhere,
 }
 
 impl Pace {
-    /// Returns whether this index is too early for the receiver to deliver at.
+    /// Returns whether this index is too early for the delivery.
     fn is_early(&self, index: usize) -> bool
         ensures early { OnTrue result (IsEarly self.now index) }
         ensures in_time { OnFalse result (IsInTime self.now index) }
@@ -32,7 +32,7 @@ impl Pace {
         }
     }
 
-    /// Returns the pace once the sender has handled one more message. `delivered` is where the receiver delivers that, if at all.
+    /// Returns the pace after the sender has handled one more message. `delivered` is where the receiver delivers it, if at all.
     fn with(&self, delivered: Option<usize>) -> Pace
         ensures { result ≡ pace_with self.now delivered }
     {
@@ -46,7 +46,7 @@ impl Pace {
         }
     }
 
-    /// Returns whether the sender's next entry sends in this configuration what the receiver delivers too early.
+    /// Returns whether the sender's next entry sends a message in this configuration that the receiver delivers too early.
     pub fn is_broken_by(&self, deliveries: &Deliveries, conf: &ConfId, entry: &Entry) -> bool
         ensures early { OnTrue result (ComesEarly deliveries.now conf.now self.now entry.now) }
         ensures in_time { OnFalse result (ComesInTime deliveries.now conf.now self.now entry.now) }

@@ -1,11 +1,11 @@
-//! Reading the entries of a run, and counting how many were read.
+//! Reading the entries of a run, and counting the reads.
 ghost use Rattle.std.specs.Prelude.{◌≡◌, ◌+◌, ◌<◌, ◌≤◌, ◌^◌, Some, slice_get, length};
 ghost use Rattle.totem_evs.specs.Events.{log_of};
 
 use totem_evs::{Entry, Run};
 use totem_ids::Proc;
 
-/// Returns the entries of this process, from the first on. A process without a log has none.
+/// Returns all entries of this process. A process without a log has none.
 pub fn entries_of(run: &Run, proc: Proc) -> &[Entry]
     ensures entries { result.now ≡ log_of run.now.logs proc }
     ensures few { length result.now ≤ 1000000 }
@@ -18,7 +18,7 @@ pub fn entries_of(run: &Run, proc: Proc) -> &[Entry]
     &[]
 }
 
-/// Returns the entry at this index. Every entry is read by this function, so `looks` counts how many are.
+/// Returns the entry at this index. Every entry is read through this function, so that `looks` counts the reads.
 pub fn read<'l>(log: &'l [Entry], at: usize, looks: &mut u64) -> &'l Entry
     requires within { at < length log.now }
     requires room { looks.old + 1 < 2 ^ 64 }

@@ -1,4 +1,4 @@
-//! Any act of a member.
+//! A member's step for any act.
 ghost use Rattle.std.specs.Prelude.{◌≡◌};
 
 use crate::fault::RingFault;
@@ -13,7 +13,7 @@ impl RingState {
     ghost use Rattle.totem_ring.specs.Steps.{act_on, submit};
     ghost use Rattle.totem_ring.specs.Answers.{Answers, AnswersNothing};
 
-    /// Lets a copy of the body wait for the next visit, as `submit` does. It is copied only if it isn't refused.
+    /// Queues a copy of the body for the next visit, as `submit` does. The copy is made only if the body isn't refused.
     fn submit_copy(&mut self, body: &Body) -> Result<(), RingFault>
         ensures { AnswersNothing result self.old self.new (submit self.old body.now) }
     {
@@ -24,7 +24,7 @@ impl RingState {
         Ok(())
     }
 
-    /// Does what the act says: one step of the ring, which sends and hands up what it gives.
+    /// Does what the act says: one step of the ring. Returns what the step sends and delivers to the node.
     pub fn act(&mut self, alloc: Global, act: &Act) -> Result<RingOut, RingFault>
         ensures { Answers result self.old self.new (act_on self.old act.now) }
     {

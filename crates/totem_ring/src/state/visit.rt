@@ -23,7 +23,7 @@ impl RingState {
     ghost use Rattle.totem_ring.specs.Answers.{Answers};
     ghost use Rattle.totem_ring.specs.Undoing.{AnswersUndoably, AnswersGiven};
 
-    /// Returns why a token is refused whatever waits here: it is of another ring, or was taken before.
+    /// Returns why a token is refused whatever is waiting here: it is of another ring, or was taken before.
     pub fn token_refusal_at_once(&self, token: &Token) -> Option<RingFault>
         ensures { result ≡ refusal_at_once self.now token.now }
     {
@@ -88,7 +88,7 @@ impl RingState {
             && self.has_room_with(bodies, token)
     }
 
-    /// Makes messages of the waiting bodies, with the numbers after `seq`.
+    /// Makes messages of the waiting bodies, numbered from `seq` + 1.
     fn numbered(&self, alloc: Global, seq: u32) -> Result<Vec<Message>, AllocError>
         requires { seq + length self.now.waiting < 2 ^ 32 }
         ensures { IfOk result (λ own. own.items ≡ numbered self.now seq self.now.waiting) }
@@ -107,7 +107,7 @@ impl RingState {
         Ok(own)
     }
 
-    /// Returns the token as it leaves: `seq` is the last number given, and `rtr` has the numbers that are still asked for.
+    /// Returns the token as it leaves: `seq` is the last number given, and `rtr` has the numbers still asked for.
     fn token_left(&self, token: &Token, seq: u32, mut rtr: Vec<Number>) -> Result<Token, AllocError>
         requires room { token.now.token_seq + 1 < 2 ^ 64 }
         requires rules { IsRequests rtr.items }
@@ -125,7 +125,7 @@ impl RingState {
         })
     }
 
-    /// Returns how the visit ends, once the member's own new messages are held.
+    /// Returns how the visit ends once the member's own new messages are held.
     fn departure(
         &self,
         alloc: Global,
@@ -151,7 +151,7 @@ impl RingState {
         })
     }
 
-    /// Takes the token that has come, as `on_token` does. The undo that it gives can take the visit back.
+    /// Takes a received token, as `on_token` does. The returned undo can take the visit back.
     pub fn on_token_with_undo(
         &mut self,
         alloc: Global,
@@ -190,7 +190,7 @@ impl RingState {
         Ok((out, undo))
     }
 
-    /// Takes the token that has come as if these bodies waited too, after those that do. The undo that it gives can take the
+    /// Takes a received token as if these bodies were waiting too, after those that are. The returned undo can take the
     /// visit back, and the bodies with it.
     pub fn on_token_with(
         &mut self,
@@ -214,8 +214,8 @@ impl RingState {
         }
     }
 
-    /// Takes the token that has come: broadcasts the messages that it asks for and those that wait, hands messages up,
-    /// and passes the token on.
+    /// Takes a received token: broadcasts the messages that it asks for and those that are waiting, delivers messages to the
+    /// node, and passes the token on.
     pub fn on_token(&mut self, alloc: Global, token: &Token) -> Result<RingOut, RingFault>
         ensures { Answers result self.old self.new (on_token self.old token.now) }
     {
