@@ -1,4 +1,4 @@
-//! Makes a run of books.
+//! Makes a run from books.
 ghost use Rattle.std.specs.Prelude.{◌≡◌, ◌≢◌, ◌≤◌, IfOk, IfErr, map, All};
 ghost use Rattle.totem_evs.specs.Lives.{IsFirstVersion};
 ghost use Rattle.totem_threads.specs.Faults.{EndsRun};
@@ -38,7 +38,7 @@ fn logs_of(alloc: Global, books: &[ClosedBook]) -> Result<Vec<Log>, ThreadsFault
     Ok(logs)
 }
 
-/// Tells contracts that each book is the replay of its calls, which its type keeps.
+/// Does nothing. The contract says that each book is the replay of its calls, an invariant of its type.
 pub fn all_replayed(books: &[ClosedBook])
     ensures { All IsReplayed books.now }
 {
