@@ -96,7 +96,7 @@ const FIRST_LOGS: &str = "totem-run 1\n\
     log 25\nfail r4.1\nfailed\nlog 26\nfail r4.1\nfailed\nlog 27\nfail r4.1\nfailed\nlog 28\nfail r4.1\nfailed\n\
     log 29\nfail r4.1\nfailed\nlog 30\nfail r4.1\nfailed\nlog 31\nfail r4.1\nfailed\nlog 32\nfail r4.1\nfailed\n";
 
-/// 1 sends, 2 fails, and the last process moves on and fails.
+/// 1 sends, 2 fails, and the process with the greatest identifier sends, moves on and fails.
 const WHOLE_RUN: &str = "totem-run 1
 log 1
 conf r4.1 1 2
@@ -307,7 +307,7 @@ const MADE: [Made; 21] = [
     },
 ];
 
-/// Texts at the greatest sizes are read, and longer ones are refused; failing sinks get whole pieces.
+/// Long texts are read or refused, and written in full or as far as the sink takes them.
 #[test]
 fn made_texts_are_read_refused_or_written(rt: HostRuntime) -> Result<(), AllocError> {
     for row in &MADE {

@@ -126,7 +126,7 @@ fn are(rt: &impl Abort, told: Result<String, AllocError>, wanted: &str) {
     assert_eq!(rt; told.as_str(), wanted);
 }
 
-/// Each rule of a configuration refuses the traffic that breaks it, and no other.
+/// Good traffic breaks no rule of a configuration, and other traffic exactly the expected ones.
 #[test]
 fn rules_say_where_traffic_is_broken(rt: HostRuntime) {
     let alloc = rt.alloc();
@@ -140,7 +140,7 @@ fn rules_say_where_traffic_is_broken(rt: HostRuntime) {
     are(&rt, told(alloc, second(), second(), none, none), "3 7.1 ");
 }
 
-/// Safe delivery needs that all members have logs and install the configuration.
+/// Safe delivery requires that each member has a log and installs the configuration.
 #[test]
 fn members_have_to_come(rt: HostRuntime) {
     let alloc = rt.alloc();
