@@ -98,7 +98,8 @@ pub struct Unmade {
     pub script: Vec<u8>,
 }
 
-/// Reads a script, and writes the text of the run that it makes. A script that is too long is refused without being read to its end.
+/// Reads a script, and writes the text of the run that it makes. Reads at most one byte more than a script may have, so a script that
+/// never ends is refused.
 pub fn follow_io<R: Source, W: Sink>(
     alloc: Global,
     input: &mut R,

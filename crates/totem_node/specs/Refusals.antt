@@ -45,7 +45,7 @@ abbrev pub cause_refusal : Gather → Option Join → Option NodeFault
 cause_refusal g None = None
 cause_refusal g (Some j) = if is_stranger g j then Some Stranger else None
 
--- more processes than may gather, or a refusal of the Join that caused the gathering
+-- there are more processes than may gather, or the Join that caused the gathering is refused
 abbrev pub gather_refusal : Node → List ℕ → Option Join → Option NodeFault
 gather_refusal n extra cause =
     if nat_lt 32 (length (with_process (gather_base n extra) n.me)) then Some Stranger
@@ -96,7 +96,7 @@ join_refused_in n j (Gathering g) = cause_refusal g (Some j)
 join_refused_in n j (Committing g) = refused_as_known n g j
 join_refused_in n j (InRecovery x) = refused_as_known n x.gather j
 
--- the same, where a late Join is refused too
+-- the same for any state, and a late Join is Stale
 abbrev pub join_refused : Node → Join → Option NodeFault
 join_refused n j = if is_late n j then Some Stale else join_refused_in n j n.state
 

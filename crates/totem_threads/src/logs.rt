@@ -11,7 +11,7 @@ use totem_books::{BookFault, ClosedBook};
 use totem_evs::{Ending, Entries, Log, Run};
 use totem_ids::copied;
 
-/// Returns the log of a book. If it is longer than a log may be, it is refused as a call of the book is.
+/// Returns the log of a book. If it is longer than a log may be, the fault is that of a call to a full book.
 fn log_of(alloc: Global, book: &ClosedBook) -> Result<Log, ThreadsFault>
     ensures process { IfOk result (λ log. log.proc ≡ book.now.start.me) }
     ensures entries { IfOk result (λ log. log.entries ≡ book.now.log) }
