@@ -5,14 +5,18 @@ use Rattle.totem_evs.specs.declared.log.Log.{Log}
 use Rattle.totem_evs.specs.declared.fault.Fault.{Fault}
 use Rattle.totem_evs.specs.Answers.{No, IsAnswered, Lists, MeetsPasses, pass_a, pass_b}
 use Rattle.totem_evs.specs.RunRecord.{RunRecord}
-use Rattle.totem_certificate.specs.CertRecord.{CertRecord}
 use Rattle.totem_evs.specs.ClosedLists.{IsCycle}
 use Rattle.totem_evs.specs.Certificates.{Numbering}
 use Rattle.totem_evs.proofs.Synchronous.{meets_passes}
 use Rattle.totem_pass_ab.specs.Listed.{ListsFirst}
-use Rattle.totem_audit.specs.declared.first_passes.FirstPasses.{FirstPasses}
-use Rattle.totem_audit.specs.declared.first_passes.FirstPasses.TheVariants.{Ordered}
-use Rattle.totem_audit.specs.Early.{IsEarly, IsOrdered, BreaksEarly, ListsEarly}
+use Rattle.std.specs.Prelude.{IfSome}
+use Rattle.totem_evs.specs.declared.pending.Pending.{Pending}
+use Rattle.totem_evs.specs.Positions.{IsPositions}
+use Rattle.totem_evs.specs.Unsettled.{ArePending}
+use Rattle.totem_certificate.specs.Keeping.{certificate_version}
+use Rattle.totem_judge.specs.Judged.{IsView}
+use Rattle.totem_audit.specs.declared.first_passes.Passed.{Passed}
+use Rattle.totem_audit.specs.Early.{IsOrdered, HasPassed, BreaksEarly, ListsEarly}
 
 -- if passes A and B list faults, these are those of the first of the two that has one; if they list none, neither has one
 pub first_breaks : (run : List Log) (faults : List Fault) → ListsFirst run faults → faults ≢ [] → BreaksEarly run faults
@@ -42,11 +46,22 @@ broken_early run (fault ∷ faults) breaks = breaks
 pub ordered_early : (run : List Log) (lines : List Numbering) (faults : List Fault) → IsOrdered run lines → faults ≡ [] → ListsEarly run faults
 ordered_early run lines faults ordered none = rw none (record { meets = meets_passes run ordered.a ordered.b; ordered = (lines, ordered.c.certified) })
 
--- a run whose events they have ordered meets the specifications of the first two
-pub ordered_meets : (run : RunRecord) (passes : FirstPasses) (certificate : CertRecord) → passes ≡ Ordered certificate → IsEarly run passes → MeetsPasses run.logs
-ordered_meets run passes certificate is early =
-    let here : IsEarly run (Ordered certificate) = rw is at early in
-    meets_passes run.logs here.0.a here.0.b
+-- a run that they have passed meets the specifications of the first two
+pub passed_meets : (run : RunRecord) (passed : Passed) → HasPassed run passed → MeetsPasses run.logs
+passed_meets run passed h = meets_passes run.logs h.ordered.a h.ordered.b
+
+-- where the specifications of the first two are met, they list nothing
+pub met_ordered : (run : List Log) (lines : List Numbering) → MeetsPasses run → IsPositions run lines → IsOrdered run lines
+met_ordered run lines meets c = record {
+  a = inl (meets.once, inl (meets.together, inl (meets.placed, inl (meets.one, inl (meets.turns, refl)))));
+  b = inl (meets.sent, refl);
+  c = c;
+}
+
+-- a run that was observed has passed
+pub observed_passes : (run : RunRecord) (passed : Passed) (pending : List Pending) → IsPositions run.logs passed.certificate.lines → passed.certificate.version ≡ certificate_version run.version
+    → IsView run.logs passed.observed.items pending → IfSome passed.pending (λ list. ArePending run.logs list.items) → HasPassed run passed
+observed_passes run passed pending c version view known = record { ordered = met_ordered run.logs passed.certificate.lines view.meets c; version = version; traffic = view.traffic; known = known }
 
 -- and their order is the answer
 pub broken_answer : (run : List Log) (faults : List Fault) → BreaksEarly run faults → IsAnswered run (No faults)

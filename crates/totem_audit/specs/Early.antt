@@ -1,5 +1,5 @@
 -- The results of the first three passes (docs/SPECIFICATIONS.md, "Passes").
-use Rattle.std.specs.Prelude.{◌≡◌, ◌≢◌, ◌⊎◌, List, [], ◌∷◌}
+use Rattle.std.specs.Prelude.{◌≡◌, ◌≢◌, ◌⊎◌, List, [], ◌∷◌, IfSome}
 use Rattle.totem_evs.specs.declared.log.Log.{Log}
 use Rattle.totem_evs.specs.declared.fault.Fault.{Fault}
 use Rattle.totem_evs.specs.Answers.{Lists, ListsCycle, MeetsPasses, HasCertificate, pass_a, pass_b}
@@ -7,6 +7,9 @@ use Rattle.totem_evs.specs.RunRecord.{RunRecord}
 use Rattle.totem_evs.specs.Certificates.{Numbering}
 use Rattle.totem_evs.specs.Positions.{IsPositions}
 use Rattle.totem_certificate.specs.Keeping.{certificate_version}
+use Rattle.totem_evs.specs.Unsettled.{ArePending}
+use Rattle.totem_configuration_rules.specs.Traffics.{AreTraffic}
+use Rattle.totem_audit.specs.declared.first_passes.Passed.{Passed}
 use Rattle.totem_audit.specs.declared.first_passes.FirstPasses.{FirstPasses}
 use Rattle.totem_audit.specs.declared.first_passes.FirstPasses.TheVariants.{Broken, Ordered}
 
@@ -21,10 +24,18 @@ pub record BreaksEarly (run : List Log) (faults : List Fault) : Type 0 where
   pub some : faults ≢ []
   pub first : Lists run pass_a faults ⊎ (Lists run pass_a [] × Lists run pass_b faults) ⊎ (Lists run pass_a [] × Lists run pass_b [] × ListsCycle run faults)
 
--- their result: the faults of the first that has one, or the order of the events, in the certificate version that belongs to the run's
+-- the run has passed the first three passes: the order of its events, in the certificate version that belongs to the run's; of all
+-- configurations that are listed the traffic; and what is pending, if it is known
+pub record HasPassed (run : RunRecord) (passed : Passed) : Type 0 where
+  pub ordered : IsOrdered run.logs passed.certificate.lines
+  pub version : passed.certificate.version ≡ certificate_version run.version
+  pub traffic : AreTraffic run.logs passed.observed.items
+  pub known : IfSome passed.pending (λ list. ArePending run.logs list.items)
+
+-- their result: the faults of the first that has one, or what is known of a run that has passed them
 abbrev pub IsEarly : RunRecord → FirstPasses → Type 0
 IsEarly run (Broken faults) = BreaksEarly run.logs faults.items
-IsEarly run (Ordered certificate) = IsOrdered run.logs certificate.lines × (certificate.version ≡ certificate_version run.version)
+IsEarly run (Ordered passed) = HasPassed run passed
 
 -- none of the three has a fault: the run meets the specifications of the first two, and has a certificate
 pub record PassesEarly (run : List Log) : Type 0 where

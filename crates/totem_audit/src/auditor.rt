@@ -1,8 +1,8 @@
 //! The audit: pass after pass, up to the first with a fault.
-ghost use Rattle.std.specs.Prelude.{IfOk};
+ghost use Rattle.std.specs.Prelude.{IfOk, IfSome};
 ghost use Rattle.totem_evs.specs.Answers.{ListsConfigurations, IsAnswered};
 ghost use Rattle.totem_evs.specs.Meanings.{IsSound};
-ghost use Rattle.totem_pass_d.specs.Findings.{AreComplete};
+ghost use Rattle.totem_evs.specs.Unsettled.{ArePending};
 ghost use Rattle.totem_pass_d.specs.Jobs.{AreJobs};
 ghost use Rattle.totem_certificate.specs.Keeping.{certificate_version};
 ghost use Rattle.totem_audit.specs.Verdicts.{answer_of, HasVersion};
@@ -17,54 +17,70 @@ use std::alloc::{AllocError, Global};
 use std::sync::Wait;
 use std::thread::Threads;
 use totem_cert::Certificate;
-use totem_evs::Run;
-use totem_pass_d::{Jobs, Judged, pass_d_of, pending_of, waiting};
+use totem_evs::{Fault, Pending, Run};
+use totem_pass_d::{Jobs, pass_d_of, pending_of, waiting};
 use totem_table::Changes;
 
-/// Returns the verdict of a run that has passed the first three passes, from its jobs and the result of the last pass: a yes with
-/// what is left open, if that has no fault.
+/// Returns all that is pending in the run of these jobs, where it is not known yet.
+fn all_pending(
+    alloc: Global,
+    jobs: &Jobs<'_>,
+    known: Option<Vec<Pending>>,
+) -> Result<Vec<Pending>, AllocError>
+    requires jobs { AreJobs jobs.now.run.now.logs jobs.now }
+    requires known { IfSome known (λ list. ArePending jobs.now.run.now.logs list.items) }
+    ensures { IfOk result (λ list. ArePending jobs.now.run.now.logs list.items) }
+{
+    match known {
+        Some(list) => Ok(list),
+        None => pending_of(alloc, jobs),
+    }
+}
+
+/// Returns the verdict of a run that has passed the first three passes, given its jobs and the faults of the last one: where that has
+/// none, a yes with what is left open.
 fn settle(
     alloc: Global,
     jobs: &Jobs<'_>,
     certificate: Certificate,
-    judged: Judged,
+    pending: Option<Vec<Pending>>,
+    faults: Vec<Fault>,
 ) -> Result<Verdict, AllocError>
     requires jobs { AreJobs jobs.now.run.now.logs jobs.now }
     requires passed { IsOrdered jobs.now.run.now.logs certificate.lines }
-    requires faults { ListsConfigurations jobs.now.run.now.logs judged.faults.items }
-    requires complete { AreComplete jobs.now.run.now.logs jobs.now.rings.items judged.complete.items }
+    requires pending { IfSome pending (λ list. ArePending jobs.now.run.now.logs list.items) }
+    requires faults { ListsConfigurations jobs.now.run.now.logs faults.items }
     ensures answer { IfOk result (λ verdict. IsAnswered jobs.now.run.now.logs (answer_of verdict)) }
     ensures version { IfOk result (HasVersion certificate.version) }
 {
-    let Judged { faults, complete } = judged;
     if !faults.is_empty() {
         return Ok(Verdict::No { faults });
     }
     Ok(Verdict::Yes {
         certificate,
-        pending: pending_of(alloc, jobs, &complete)?,
+        pending: all_pending(alloc, jobs, pending)?,
         waiting: waiting(alloc, jobs.run)?,
     })
 }
 
-/// Runs the passes in order, on the calling thread.
+/// Does the passes in order, on the calling thread.
 #[tactic(auto, using(crate::proofs::Firsts::broken_answer))]
 fn pass_all(alloc: Global, run: &Run) -> Result<Verdict, AllocError>
     ensures answer { IfOk result (λ verdict. IsAnswered run.now.logs (answer_of verdict)) }
     ensures version { IfOk result (λ verdict. HasVersion (certificate_version run.now.version) verdict) }
 {
-    let changes = Changes::of(alloc, run)?;
-    match first_passes(alloc, run, &changes)? {
+    match first_passes(alloc, run)? {
         FirstPasses::Broken(faults) => Ok(Verdict::No { faults }),
-        FirstPasses::Ordered(certificate) => {
-            let jobs = Jobs::over(alloc, run, changes)?;
-            let judged = pass_d_of(alloc, &jobs)?;
-            settle(alloc, &jobs, certificate, judged)
+        FirstPasses::Ordered(passed) => {
+            let changes = Changes::of(alloc, run)?;
+            let jobs = Jobs::over(alloc, run, changes, passed.observed)?;
+            let faults = pass_d_of(alloc, &jobs)?;
+            settle(alloc, &jobs, passed.certificate, passed.pending, faults)
         }
     }
 }
 
-/// Runs the passes in order, the last one with these workers.
+/// Does the passes in order, the last one with these workers.
 #[tactic(auto, using(crate::proofs::Firsts::broken_answer))]
 fn pass_all_with<T: Threads + Wait + Sync, G: Gate>(
     rt: &T,
@@ -76,13 +92,13 @@ fn pass_all_with<T: Threads + Wait + Sync, G: Gate>(
     ensures answer { IfOk result (λ verdict. IsAnswered run.now.logs (answer_of verdict)) }
     ensures version { IfOk result (λ verdict. HasVersion (certificate_version run.now.version) verdict) }
 {
-    let changes = Changes::of(alloc, run)?;
-    match first_passes(alloc, run, &changes)? {
+    match first_passes(alloc, run)? {
         FirstPasses::Broken(faults) => Ok(Verdict::No { faults }),
-        FirstPasses::Ordered(certificate) => {
-            let jobs = Jobs::over(alloc, run, changes)?;
-            let judged = pass_d_with(rt, alloc, &jobs, workers, gate)?;
-            settle(alloc, &jobs, certificate, judged)
+        FirstPasses::Ordered(passed) => {
+            let changes = Changes::of(alloc, run)?;
+            let jobs = Jobs::over(alloc, run, changes, passed.observed)?;
+            let faults = pass_d_with(rt, alloc, &jobs, workers, gate)?;
+            settle(alloc, &jobs, passed.certificate, passed.pending, faults)
         }
     }
 }

@@ -1,7 +1,6 @@
 //! From the findings of jobs to the faults of pass D (docs/SPECIFICATIONS.md, "Passes").
 ghost use Rattle.std.specs.Prelude.{◌≡◌, ◌-◌, ◌<◌, IfOk, IfSome, IsSome, None, Some, replicate, slice_index_or, slice_set, vec_len};
 ghost use Rattle.totem_evs.specs.Answers.{MeetsPasses, ListsConfigurations};
-ghost use Rattle.totem_pass_d.specs.Findings.{AreComplete};
 ghost use Rattle.totem_pass_d.specs.Jobs.{AreJobs, AreFindingsAt};
 ghost use Rattle.totem_audit.specs.Jobs.{IsRight, AreKnown};
 
@@ -11,7 +10,7 @@ use crate::job_result::JobResult;
 use std::alloc::{AllocError, Global};
 use std::mem;
 use totem_evs::{Fault, Run};
-use totem_pass_d::{Findings, Found, Jobs, Judged};
+use totem_pass_d::{Findings, Found, Jobs};
 
 /// Returns a list in which nothing is known of any job.
 #[tactic(auto, using(crate::proofs::KnownJobs::nothing_more))]
@@ -67,18 +66,17 @@ pub fn complete<G: Gate>(
     jobs: &Jobs<'_>,
     mut known: Vec<Option<Findings>>,
     gate: &G,
-) -> Result<Judged, AllocError>
+) -> Result<Vec<Fault>, AllocError>
     requires jobs { AreJobs jobs.now.run.now.logs jobs.now }
     requires known { AreKnown jobs.now.run.now.logs jobs.now.rings.items known.items }
-    ensures faults { IfOk result (λ judged. ListsConfigurations jobs.now.run.now.logs judged.faults.items) }
-    ensures complete { IfOk result (λ judged. AreComplete jobs.now.run.now.logs jobs.now.rings.items judged.complete.items) }
+    ensures { IfOk result (λ faults. ListsConfigurations jobs.now.run.now.logs faults.items) }
 {
     let mut found = Found::new(alloc);
     for index in 0..jobs.rings.len() {
         let one = mem::replace(&mut known[index], None);
         found = found.with(known_or_done(alloc, jobs, index, one, gate)?)?;
     }
-    found.into_judged()
+    found.into_faults()
 }
 
 /// Notes a result, if it is from the run of these jobs. Otherwise it is ignored.
@@ -115,6 +113,5 @@ pub fn collect(
     for done in results {
         take_in(&jobs, &mut known, done);
     }
-    let judged = complete(alloc, &jobs, known, &OpenGate)?;
-    Ok(judged.faults)
+    complete(alloc, &jobs, known, &OpenGate)
 }

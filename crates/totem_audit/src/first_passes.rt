@@ -1,23 +1,38 @@
-//! The first three passes (docs/SPECIFICATIONS.md, "Passes").
-ghost use Rattle.std.specs.Prelude.{◌≡◌, [], ◌∷◌, IfOk, IfSome};
-ghost use Rattle.totem_evs.specs.Answers.{Lists, pass_a, pass_b};
-ghost use Rattle.totem_table.specs.Changes.{AreChanges};
-ghost use Rattle.totem_table.specs.Tables.{IsTable};
+//! The first three passes (docs/SPECIFICATIONS.md, "Passes"). The events are ordered first: where they have an order and all that is
+//! observed along it is as passes A and B require, these need not search.
+ghost use Rattle.std.specs.Prelude.{◌≡◌, [], ◌∷◌, IfOk};
+ghost use Rattle.totem_evs.specs.Positions.{IsPositions};
+ghost use Rattle.totem_evs.specs.ClosedLists.{IsCycle};
+ghost use Rattle.totem_certificate.specs.Keeping.{certificate_version};
+ghost use Rattle.totem_pass_ab.specs.Listed.{ListsFirst};
 ghost use Rattle.totem_audit.specs.Early.{IsEarly, ListsEarly};
 
 use std::alloc::{AllocError, Global};
-use totem_cert::{Certificate, Order, positions_over};
-use totem_evs::{Fault, Run};
+use totem_cert::{Certificate, Order, positions};
+use totem_configuration_rules::Observed;
+use totem_evs::{Fault, Pending, Run};
+use totem_judge::{View, observe};
 use totem_pass_ab::pass_a_and_b;
 use totem_table::{Changes, Table};
 
-/// The result of the first three passes.
+/// What is known of a run that has passed A, B and C.
+#[derive(Drop)]
+pub struct Passed {
+    /// The order of the events.
+    pub certificate: Certificate,
+    /// The traffic of all regular configurations, or nothing.
+    pub observed: Vec<Observed>,
+    /// What is pending, if the traffic was observed.
+    pub pending: Option<Vec<Pending>>,
+}
+
+/// How the first three passes end.
 #[derive(Drop)]
 pub enum FirstPasses {
-    /// At least one of them found faults. These are the faults of the first that did.
+    /// One of them found faults: those of the first that did.
     Broken(Vec<Fault>),
-    /// None of them found a fault, and the certificate gives the order of the events.
-    Ordered(Certificate),
+    /// None of them did.
+    Ordered(Passed),
 }
 
 fn one_fault(alloc: Global, fault: Fault) -> Result<Vec<Fault>, AllocError>
@@ -28,31 +43,65 @@ fn one_fault(alloc: Global, fault: Fault) -> Result<Vec<Fault>, AllocError>
     Ok(faults)
 }
 
-/// Does pass C, over a table of the run if there is one. The run has to have passed A and B.
-fn pass_c(alloc: Global, run: &Run, table: Option<Table>) -> Result<FirstPasses, AllocError>
-    requires a { Lists run.now.logs pass_a [] }
-    requires b { Lists run.now.logs pass_b [] }
-    requires table { IfSome table (IsTable run.now.logs) }
-    ensures { IfOk result (IsEarly run.now) }
-{
-    match positions_over(alloc, run, table)? {
-        Order::Positions(certificate) => Ok(FirstPasses::Ordered(certificate)),
-        Order::Cycle(fault) => Ok(FirstPasses::Broken(one_fault(alloc, fault)?)),
-    }
-}
-
-/// Does passes A, B and C, up to the first that finds a fault. `changes` has to be the changes of the run.
-#[tactic(auto, using(crate::proofs::Firsts::first_breaks, crate::proofs::Firsts::first_a, crate::proofs::Firsts::first_b))]
-pub fn first_passes(alloc: Global, run: &Run, changes: &Changes) -> Result<FirstPasses, AllocError>
-    requires { AreChanges run.now.logs changes.now.rows.items }
-    ensures { IfOk result (IsEarly run.now) }
+/// Searches for the faults of pass A, and if it has none for those of pass B.
+fn search(alloc: Global, run: &Run) -> Result<Vec<Fault>, AllocError>
+    ensures { IfOk result (λ faults. ListsFirst run.now.logs faults.items) }
 {
     let table = Table::build(alloc, run)?;
-    let faults = pass_a_and_b(alloc, run, table.as_ref(), changes)?;
+    let changes = Changes::of(alloc, run)?;
+    pass_a_and_b(alloc, run, table.as_ref(), &changes)
+}
+
+/// Does the passes for a run whose events have no order, because of this closed list.
+#[tactic(auto, using(crate::proofs::Firsts::first_breaks, crate::proofs::Firsts::first_a, crate::proofs::Firsts::first_b))]
+fn pass_unordered(alloc: Global, run: &Run, fault: Fault) -> Result<FirstPasses, AllocError>
+    requires { IsCycle run.now.logs fault }
+    ensures { IfOk result (IsEarly run.now) }
+{
+    let faults = search(alloc, run)?;
     if !faults.is_empty() {
         return Ok(FirstPasses::Broken(faults));
     }
-    pass_c(alloc, run, table)
+    Ok(FirstPasses::Broken(one_fault(alloc, fault)?))
+}
+
+/// Does the passes for a run with this order of its events. If nothing is observed along it, A and B search.
+#[tactic(auto, using(crate::proofs::Firsts::first_breaks, crate::proofs::Firsts::first_a, crate::proofs::Firsts::first_b))]
+fn pass_ordered(
+    alloc: Global,
+    run: &Run,
+    certificate: Certificate,
+) -> Result<FirstPasses, AllocError>
+    requires positions { IsPositions run.now.logs certificate.lines }
+    requires version { certificate.version ≡ certificate_version run.now.version }
+    ensures { IfOk result (IsEarly run.now) }
+{
+    if let Some(View { observed, pending }) = observe(alloc, run, &certificate)? {
+        return Ok(FirstPasses::Ordered(Passed {
+            certificate,
+            observed,
+            pending: Some(pending),
+        }));
+    }
+    let faults = search(alloc, run)?;
+    if !faults.is_empty() {
+        return Ok(FirstPasses::Broken(faults));
+    }
+    Ok(FirstPasses::Ordered(Passed {
+        certificate,
+        observed: Vec::new(alloc),
+        pending: None,
+    }))
+}
+
+/// Does passes A, B and C, up to the first that finds a fault.
+pub fn first_passes(alloc: Global, run: &Run) -> Result<FirstPasses, AllocError>
+    ensures { IfOk result (IsEarly run.now) }
+{
+    match positions(alloc, run)? {
+        Order::Positions(certificate) => pass_ordered(alloc, run, certificate),
+        Order::Cycle(fault) => pass_unordered(alloc, run, fault),
+    }
 }
 
 /// Returns the faults of the first of passes A, B and C that finds any. If the list is empty, the run can be judged job by
@@ -61,8 +110,7 @@ pub fn first_passes(alloc: Global, run: &Run, changes: &Changes) -> Result<First
 pub fn early(alloc: Global, run: &Run) -> Result<Vec<Fault>, AllocError>
     ensures { IfOk result (λ faults. ListsEarly run.now.logs faults.items) }
 {
-    let changes = Changes::of(alloc, run)?;
-    match first_passes(alloc, run, &changes)? {
+    match first_passes(alloc, run)? {
         FirstPasses::Broken(faults) => Ok(faults),
         FirstPasses::Ordered(_) => Ok(Vec::new(alloc)),
     }

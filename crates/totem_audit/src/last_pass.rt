@@ -1,7 +1,6 @@
 //! Pass D with many threads (docs/SPECIFICATIONS.md, "Passes").
 ghost use Rattle.std.specs.Prelude.{◌<◌, IfOk};
 ghost use Rattle.totem_evs.specs.Answers.{ListsConfigurations};
-ghost use Rattle.totem_pass_d.specs.Findings.{AreComplete};
 ghost use Rattle.totem_pass_d.specs.Jobs.{AreJobs};
 ghost use Rattle.totem_audit.specs.Jobs.{AreRight, AreNamed, AreKnown};
 
@@ -17,7 +16,8 @@ use std::alloc::{AllocError, Global};
 use std::marker::Brand;
 use std::sync::Wait;
 use std::thread::Threads;
-use totem_pass_d::{Findings, Jobs, Judged};
+use totem_evs::Fault;
+use totem_pass_d::{Findings, Jobs};
 
 /// Notes these results.
 #[tactic(auto, using(crate::proofs::KnownJobs::popped))]
@@ -84,10 +84,9 @@ pub fn pass_d_with<T: Threads + Wait + Sync, G: Gate>(
     jobs: &Jobs<'_>,
     workers: Workers,
     gate: &G,
-) -> Result<Judged, AllocError>
+) -> Result<Vec<Fault>, AllocError>
     requires { AreJobs jobs.now.run.now.logs jobs.now }
-    ensures faults { IfOk result (λ judged. ListsConfigurations jobs.now.run.now.logs judged.faults.items) }
-    ensures complete { IfOk result (λ judged. AreComplete jobs.now.run.now.logs jobs.now.rings.items judged.complete.items) }
+    ensures { IfOk result (λ faults. ListsConfigurations jobs.now.run.now.logs faults.items) }
 {
     let known = if workers.count() == 1 {
         nothing_known(alloc, jobs.rings.len())?

@@ -1,9 +1,8 @@
 -- All rules of one configuration.
 use Rattle.totem_evs.specs.declared.spec.SpecNo.TheVariants as spec
 use Rattle.totem_configuration_rules.specs.declared.traffic.Traffic.{Traffic}
-use Rattle.std.proofs.Common.{IsTrue}
 use Rattle.totem_configuration_rules.specs.declared.agreed.Shown.{Shown}
-use Rattle.totem_configuration_rules.specs.Clean.{Shows, ShowsAgreement, AreShown}
+use Rattle.totem_configuration_rules.specs.Clean.{Shows, ShowsAgreement, AreShown, IsAllShown}
 
 pub agreed : (traffic : Traffic) → Shows spec.OwnDelivery traffic → Shows spec.Atomicity traffic → Shows spec.Causality traffic → Shows spec.Gap traffic
     → Shows spec.Safety traffic → Shows spec.Installed traffic → ShowsAgreement traffic
@@ -19,7 +18,6 @@ agreed traffic own atomicity causality gap safety installed = record {
 }
 
 -- where all is shown, the run agrees
-pub shown_agreed : (traffic : Traffic) (shown : Shown) → AreShown traffic shown → IsTrue shown.own → IsTrue shown.atomicity → IsTrue shown.causality → IsTrue shown.gap
-    → IsTrue shown.safety → IsTrue shown.installed → ShowsAgreement traffic
-shown_agreed traffic shown are own atomicity causality gap safety installed =
-    agreed traffic (are.own own) (are.atomicity atomicity) (are.causality causality) (are.gap gap) (are.safety safety) (are.installed installed)
+pub shown_agreed : (traffic : Traffic) (shown : Shown) → AreShown traffic shown → IsAllShown shown → ShowsAgreement traffic
+shown_agreed traffic shown are all =
+    agreed traffic (are.own all.own) (are.atomicity all.atomicity) (are.causality all.causality) (are.gap all.gap) (are.safety all.safety) (are.installed all.installed)

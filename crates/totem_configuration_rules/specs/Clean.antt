@@ -44,6 +44,24 @@ pub record AreShown (traffic : Traffic) (shown : Shown) : Type 0 where
   pub safety : IsTrue shown.safety → Shows spec.Safety traffic
   pub installed : IsTrue shown.installed → Shows spec.Installed traffic
 
+-- all six are shown
+pub record IsAllShown (shown : Shown) : Type 0 where
+  pub own : IsTrue shown.own
+  pub atomicity : IsTrue shown.atomicity
+  pub causality : IsTrue shown.causality
+  pub gap : IsTrue shown.gap
+  pub safety : IsTrue shown.safety
+  pub installed : IsTrue shown.installed
+
+-- none of the six is shown
+pub record IsNoneShown (shown : Shown) : Type 0 where
+  pub own : IsTrue shown.own → ⊥
+  pub atomicity : IsTrue shown.atomicity → ⊥
+  pub causality : IsTrue shown.causality → ⊥
+  pub gap : IsTrue shown.gap → ⊥
+  pub safety : IsTrue shown.safety → ⊥
+  pub installed : IsTrue shown.installed → ⊥
+
 -- 3: the sender delivers the message, or has ended
 abbrev pub IsOwned : LogSet → Sent → Type 0
 IsOwned ended sent = Has sent.by sent.sender ⊎ Has ended sent.sender

@@ -1,6 +1,6 @@
 //! All rules of one regular configuration.
 ghost use Rattle.std.specs.Bool.{OnTrue};
-ghost use Rattle.totem_configuration_rules.specs.Clean.{AreShown, ShowsAgreement};
+ghost use Rattle.totem_configuration_rules.specs.Clean.{AreShown, IsAllShown, IsNoneShown, ShowsAgreement};
 
 use crate::atomicity::atomicity_is_met;
 use crate::causality::causality_is_met;
@@ -23,8 +23,6 @@ pub struct Shown {
 }
 
 impl Shown {
-    ghost use Rattle.totem_configuration_rules.specs.declared.traffic.Traffic.{Traffic};
-
     /// Applies the rules of the configuration.
     pub fn by(traffic: &Traffic) -> Shown
         ensures { AreShown traffic.now result }
@@ -41,7 +39,7 @@ impl Shown {
 
     /// Returns what is shown without any traffic.
     pub fn nothing() -> Shown
-        ensures { (traffic : Traffic) → AreShown traffic result }
+        ensures { IsNoneShown result }
     {
         Shown {
             own: false,
@@ -52,6 +50,17 @@ impl Shown {
             installed: false,
         }
     }
+
+    pub fn is_all(&self) -> bool
+        ensures { OnTrue result (IsAllShown self.now) }
+    {
+        self.own
+            && self.atomicity
+            && self.causality
+            && self.gap
+            && self.safety
+            && self.installed
+    }
 }
 
 /// Returns `true` only where the run meets specifications 3, 4, 5, 6.3, 7.1 and 7.2 in the configuration.
@@ -60,10 +69,5 @@ pub fn is_agreed(traffic: &Traffic) -> bool
     ensures { OnTrue result (ShowsAgreement traffic.now) }
 {
     let shown = Shown::by(traffic);
-    shown.own
-        && shown.atomicity
-        && shown.causality
-        && shown.gap
-        && shown.safety
-        && shown.installed
+    shown.is_all()
 }

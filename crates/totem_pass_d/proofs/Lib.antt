@@ -22,15 +22,4 @@ pub mod Adding
 pub mod WhatIsPending
 pub mod Suspecting
 pub mod LastCommonDeliveries
-pub mod Ranks
-pub mod Replaying
-pub mod TakingSends
-pub mod CompleteStays
-pub mod Placing
-pub mod UniformAtomicity
-pub mod AllDelivered
-pub mod Uniformity
-pub mod Owing
-pub mod GoingAlike
-pub mod SettledStays
-pub mod NoneOpen
+pub mod Known

@@ -14,10 +14,7 @@ use Rattle.totem_evs.specs.Answers.{FindsIn, ListsRings, ListsEach, ListsConfigu
 use Rattle.totem_table.specs.Search.{listed}
 use Rattle.totem_pass_d.specs.declared.findings.Findings.{Findings}
 use Rattle.totem_pass_d.specs.declared.pass.Found.{Found}
-use Rattle.totem_pass_d.specs.declared.pass.Judged.{Judged}
-use Rattle.totem_pass_d.specs.declared.complete.Complete.{Complete}
-use Rattle.totem_pass_d.specs.Completeness.{AreCompleteIn}
-use Rattle.totem_pass_d.specs.Findings.{AreFindings, IsNothing, GrowsBy, AreComplete, AreFound, all_found}
+use Rattle.totem_pass_d.specs.Findings.{AreFindings, IsNothing, GrowsBy, AreFound, all_found}
 use Rattle.totem_pass_d.specs.Jobs.{AreFindingsAt}
 
 one_more : (run : List Log) (k : SpecNo) (cs : List RingId) (c : RingId) (fs : List Fault) (found : Option (List Place)) → ListsRings run k cs fs → FindsIn run c k found → ListsRings run k (cs ++ c ∷ []) (fs ++ listed k found)
@@ -25,19 +22,6 @@ one_more run k [] c fs None is meets = rw is (inl (meets, refl))
 one_more run k [] c fs (Some places) is least = rw is (inr (places, [], refl, least, refl))
 one_more run k (b ∷ cs) c fs found (inl (meets, more)) h = inl (meets, one_more run k cs c fs found more h)
 one_more run k (b ∷ cs) c fs found (inr (places, rest, is, least, more)) h = inr (places, rest ++ listed k found, rw is refl, least, one_more run k cs c rest found more h)
-
--- the complete processes in one more configuration
-more_complete : (run : List Log) (cs : List RingId) (c : RingId) (those : List Complete) (of : Complete) → length those ≡ length cs → AreCompleteIn run c of → AreComplete run cs those
-    → (k : ℕ) (d : RingId) (here : Complete) → slice_get (cs ++ c ∷ []) k ≡ Some d → slice_get (those ++ of ∷ []) k ≡ Some here → AreCompleteIn run d here
-more_complete run [] c [] of long is h zero d here at told = (let same : c ≡ d = cc in let alike : of ≡ here = cc in rw (same, alike) at is)
-more_complete run [] c [] of long is h (suc k) d here at told = absurd cc
-more_complete run [] c (y ∷ those) of long is h k d here at told = absurd (omega (arith, long))
-more_complete run (x ∷ cs) c [] of long is h k d here at told = absurd (omega (arith, long))
-more_complete run (x ∷ cs) c (y ∷ those) of long is h zero d here at told = h.each zero d here at told
-more_complete run (x ∷ cs) c (y ∷ those) of long is h (suc k) d here at told = more_complete run cs c those of (omega (arith, long)) is (record { each = λ j e other at_e told_e. h.each (suc j) e other at_e told_e }) k d here at told
-
-one_longer : (cs : List RingId) (c : RingId) (those : List Complete) (of : Complete) → length those ≡ length cs → length (those ++ of ∷ []) ≡ length (cs ++ c ∷ [])
-one_longer cs c those of long = omega (arith, length-append those (of ∷ []), length-append cs (c ∷ []), long)
 
 pub nothing_found : (run : List Log) (found : Found) → IsNothing found → AreFound run [] found
 nothing_found run found h = record {
@@ -47,8 +31,6 @@ nothing_found run found h = record {
   gap = h.gap;
   safety = h.safety;
   installed = h.installed;
-  long = rw h.complete refl;
-  complete = record { each = λ k c those at told. absurd cc };
 }
 
 pub found_more : (run : List Log) (cs : List RingId) (c : RingId) (old new : Found) (findings : Findings) → AreFindings run c findings → GrowsBy old findings new → AreFound run cs old → AreFound run (cs ++ c ∷ []) new
@@ -59,8 +41,6 @@ found_more run cs c old new findings h grows before = record {
   gap = rw grows.gap (one_more run spec.Gap cs c old.gap.items findings.gap before.gap h.gap);
   safety = rw grows.safety (one_more run spec.Safety cs c old.safety.items findings.safety before.safety h.safety);
   installed = rw grows.installed (one_more run spec.Installed cs c old.installed.items findings.installed before.installed h.installed);
-  long = rw grows.complete (one_longer cs c old.complete.items findings.complete before.long);
-  complete = rw grows.complete (record { each = more_complete run cs c old.complete.items findings.complete before.long h.complete before.complete });
 }
 
 nil_behind : (fs : List Fault) → fs ≡ fs ++ []
@@ -105,12 +85,7 @@ found_next run rings i old new findings lt h grows before = elim (slice_get_case
   | inr (past, none) ↦ absurd (omega arith)
 ]
 
-pub all_found_of : (run : List Log) (rings : List RingId) (i : ℕ) (found : Found) {E : Type 0} → (r : Result Judged E) → AreRings run rings → length rings ≤ i → AreFound run (take i rings) found
-    → IfOk r (λ judged. judged.faults.items ≡ all_found found) → IfOk r (λ judged. ListsConfigurations run judged.faults.items)
-all_found_of run rings i found (Err e) are end h is = tt
-all_found_of run rings i found (Ok judged) are end h is = all_listed run rings found judged.faults.items are (rw (take_all i rings end) at h) is
-
-pub all_complete_of : (run : List Log) (rings : List RingId) (i : ℕ) (found : Found) {E : Type 0} → (r : Result Judged E) → length rings ≤ i → AreFound run (take i rings) found
-    → IfOk r (λ judged. judged.complete.items ≡ found.complete.items) → IfOk r (λ judged. AreComplete run rings judged.complete.items)
-all_complete_of run rings i found (Err e) end h is = tt
-all_complete_of run rings i found (Ok judged) end h is = (let all : AreFound run rings found = rw (take_all i rings end) at h in rw is all.complete)
+pub all_found_of : (run : List Log) (rings : List RingId) (i : ℕ) (found : Found) {E V : Type 0} → (items : V → List Fault) (r : Result V E) → AreRings run rings → length rings ≤ i → AreFound run (take i rings) found
+    → IfOk r (λ v. items v ≡ all_found found) → IfOk r (λ v. ListsConfigurations run (items v))
+all_found_of run rings i found items (Err e) are end h is = tt
+all_found_of run rings i found items (Ok faults) are end h is = all_listed run rings found (items faults) are (rw (take_all i rings end) at h) is

@@ -26,7 +26,6 @@ use Rattle.totem_pass_d.specs.Stays.{IsExcused, IsStayOf, HasStay, AreStays}
 use Rattle.totem_pass_d.specs.Acts.{IsAmong, DeliversHere, DeliversNot}
 use Rattle.totem_run_rules.specs.Ends.{GoesOn}
 use Rattle.totem_pass_d.specs.Pendings.{Adds, MissesAt, MissesNothingAt, MissesFrom, Misses, IsPendingIn, IsPendingFor}
-use Rattle.totem_pass_d.specs.Completeness.{HasNonePendingOf}
 use Rattle.totem_pass_d.proofs.Excusing.{excused, not_excused}
 use Rattle.totem_pass_d.proofs.Adding.{Between, adds_nothing, adds_alike}
 
@@ -186,10 +185,6 @@ of_open_if_ok run c stay b s t (Err e) of is decides h = tt
 
 pub not_open : (run : List Log) (c : RingId) (p : ℕ) (s : List Pending) → (OpenIn run p c → ⊥) → Adds (IsPendingFor run c p) s s
 not_open run c p s closed = adds_nothing (IsPendingFor run c p) s (λ x m. closed (rw m.proc at m.is.still_open))
-
--- nothing is pending for a complete process
-pub not_complete : (run : List Log) (c : RingId) (procs : List ℕ) (p : ℕ) (s : List Pending) → All (HasNonePendingOf run c) procs → Contains procs p → Adds (IsPendingFor run c p) s s
-not_complete run c procs p s none (k, lt, same) = (let here : HasNonePendingOf run c p = rw same at (none k p lt) in adds_nothing (IsPendingFor run c p) s (λ x m. here.none x m.is m.proc))
 
 -- ---- all open processes
 

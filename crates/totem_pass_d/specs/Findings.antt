@@ -1,16 +1,16 @@
 -- The findings of one job: for each specification of the last pass the least events that break it in one regular configuration,
 -- or none if the run meets it there (docs/SPECIFICATIONS.md, "Passes").
-use Rattle.std.specs.Prelude.{◌≡◌, ◌++◌, ℕ, List, [], ◌∷◌, length, slice_get, Some, None}
+use Rattle.std.specs.Prelude.{◌≡◌, ◌++◌, ℕ, List, [], ◌∷◌, length, slice_get, Some, None, IsTrue}
 use Rattle.totem_ids.specs.declared.ring.RingId.{RingId}
 use Rattle.totem_evs.specs.declared.log.Log.{Log}
 use Rattle.totem_evs.specs.declared.spec.SpecNo.TheVariants as spec
 use Rattle.totem_evs.specs.declared.fault.Fault.{Fault}
+use Rattle.totem_evs.specs.RingFaults.{MeetsIn}
 use Rattle.totem_evs.specs.Answers.{FindsIn, ListsRings}
+use Rattle.totem_configuration_rules.specs.declared.agreed.Shown.{Shown}
 use Rattle.totem_table.specs.Search.{listed}
 use Rattle.totem_pass_d.specs.declared.findings.Findings.{Findings}
-use Rattle.totem_pass_d.specs.declared.complete.Complete.{Complete}
 use Rattle.totem_pass_d.specs.declared.pass.Found.{Found}
-use Rattle.totem_pass_d.specs.Completeness.{AreCompleteIn}
 
 pub record AreFindings (run : List Log) (c : RingId) (findings : Findings) : Type 0 where
   pub own : FindsIn run c spec.OwnDelivery findings.own
@@ -19,7 +19,15 @@ pub record AreFindings (run : List Log) (c : RingId) (findings : Findings) : Typ
   pub gap : FindsIn run c spec.Gap findings.gap
   pub safety : FindsIn run c spec.Safety findings.safety
   pub installed : FindsIn run c spec.Installed findings.installed
-  pub complete : AreCompleteIn run c findings.complete
+
+-- the run meets in c what is shown
+pub record AreMet (run : List Log) (c : RingId) (shown : Shown) : Type 0 where
+  pub own : IsTrue shown.own → MeetsIn run c spec.OwnDelivery
+  pub atomicity : IsTrue shown.atomicity → MeetsIn run c spec.Atomicity
+  pub causality : IsTrue shown.causality → MeetsIn run c spec.Causality
+  pub gap : IsTrue shown.gap → MeetsIn run c spec.Gap
+  pub safety : IsTrue shown.safety → MeetsIn run c spec.Safety
+  pub installed : IsTrue shown.installed → MeetsIn run c spec.Installed
 
 -- nothing is broken
 pub record AreNone (findings : Findings) : Type 0 where
@@ -38,9 +46,8 @@ pub record IsNothing (found : Found) : Type 0 where
   pub gap : found.gap.items ≡ []
   pub safety : found.safety.items ≡ []
   pub installed : found.installed.items ≡ []
-  pub complete : found.complete.items ≡ []
 
--- the findings are appended to the list of each specification, and the complete processes to theirs
+-- the findings are appended to the list of each specification
 pub record GrowsBy (old : Found) (findings : Findings) (new : Found) : Type 0 where
   pub own : new.own.items ≡ old.own.items ++ listed spec.OwnDelivery findings.own
   pub atomicity : new.atomicity.items ≡ old.atomicity.items ++ listed spec.Atomicity findings.atomicity
@@ -48,17 +55,12 @@ pub record GrowsBy (old : Found) (findings : Findings) (new : Found) : Type 0 wh
   pub gap : new.gap.items ≡ old.gap.items ++ listed spec.Gap findings.gap
   pub safety : new.safety.items ≡ old.safety.items ++ listed spec.Safety findings.safety
   pub installed : new.installed.items ≡ old.installed.items ++ listed spec.Installed findings.installed
-  pub complete : new.complete.items ≡ old.complete.items ++ findings.complete ∷ []
 
 -- all lists, one after the other
 abbrev pub all_found : Found → List Fault
 all_found found = found.own.items ++ (found.atomicity.items ++ (found.causality.items ++ (found.gap.items ++ (found.safety.items ++ found.installed.items))))
 
--- nothing is pending in these configurations for the processes that are complete there
-pub record AreComplete (run : List Log) (cs : List RingId) (complete : List Complete) : Type 0 where
-  pub each : (k : ℕ) (c : RingId) (those : Complete) → slice_get cs k ≡ Some c → slice_get complete k ≡ Some those → AreCompleteIn run c those
-
--- the faults of each specification in these configurations, and the complete processes of each configuration
+-- the faults of each specification in these configurations
 pub record AreFound (run : List Log) (cs : List RingId) (found : Found) : Type 0 where
   pub own : ListsRings run spec.OwnDelivery cs found.own.items
   pub atomicity : ListsRings run spec.Atomicity cs found.atomicity.items
@@ -66,5 +68,3 @@ pub record AreFound (run : List Log) (cs : List RingId) (found : Found) : Type 0
   pub gap : ListsRings run spec.Gap cs found.gap.items
   pub safety : ListsRings run spec.Safety cs found.safety.items
   pub installed : ListsRings run spec.Installed cs found.installed.items
-  pub long : length found.complete.items ≡ length cs
-  pub complete : AreComplete run cs found.complete.items

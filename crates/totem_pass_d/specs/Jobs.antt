@@ -6,6 +6,7 @@ use Rattle.totem_table.specs.contracts.keys.ChangeOrd.TheImpl as change
 use Rattle.totem_evs.specs.declared.log.Log.{Log}
 use Rattle.totem_evs.specs.Answers.{MeetsPasses, AreRings}
 use Rattle.totem_table.specs.Changes.{AreChanges}
+use Rattle.totem_configuration_rules.specs.Traffics.{AreTraffic}
 use Rattle.totem_pass_d.specs.declared.findings.Findings.{Findings}
 use Rattle.totem_pass_d.specs.declared.jobs.Jobs.{Jobs}
 use Rattle.totem_pass_d.specs.Comings.{HoldsComings}
@@ -17,6 +18,7 @@ pub record AreJobs (run : List Log) (jobs : Jobs) : Type 0 where
   pub meets : MeetsPasses run
   pub rings : AreRings run jobs.rings.items
   pub changes : AreChanges run jobs.changes.rows.items
+  pub observed : AreTraffic run jobs.observed.items
   pub comings : HoldsComings ring.cmp-value.it change.cmp-value.it jobs.comings.rings jobs.comings.indices run
 
 -- what is found in the configuration at this index of the list, if any

@@ -12,6 +12,3 @@ pub mod Jobs
 pub mod Partings
 pub mod Suspects
 pub mod Findings
-pub mod Uniform
-pub mod Owed
-pub mod Completeness

@@ -59,15 +59,3 @@ pub record IsPendingIn (run : List Log) (c : RingId) (x : Pending) : Type 0 wher
 pub record IsPendingFor (run : List Log) (c : RingId) (p : ℕ) (x : Pending) : Type 0 where
   pub is : IsPendingIn run c x
   pub proc : x.proc ≡ p
-
--- nothing is pending in c
-pub record HasNonePending (run : List Log) (c : RingId) : Type 0 where
-  pub none : (x : Pending) → IsPendingIn run c x → ⊥
-
--- the log of a stay has its changes and failures in place
-abbrev pub IsPlacedStay : Stay → Type 0
-IsPlacedStay stay = StaysInPlace stay.log.now
-
--- if the end of a stay excuses its process, the process has failed
-abbrev pub EndsClosed : Stay → Type 0
-EndsClosed stay = IsExcused stay → HasFailed stay.log.now

@@ -3,7 +3,7 @@
 ghost use Rattle.std.specs.Prelude.{◌≡◌, ◌↔◌, ℕ, IsTrue, IfSome, IfNone, IfOk};
 ghost use Rattle.std.specs.Bool.{OnTrue, OnFalse};
 ghost use Rattle.totem_evs.specs.Events.{log_of, ChangesTo, Delivers};
-ghost use Rattle.totem_evs.specs.RingFaults.{BreaksAtomicityIn};
+ghost use Rattle.totem_evs.specs.RingFaults.{BreaksAtomicityIn, MeetsIn};
 ghost use Rattle.totem_evs.specs.Answers.{FindsIn};
 ghost use Rattle.totem_pass_d.specs.Acts.{IsAmong};
 ghost use Rattle.totem_pass_d.specs.Partings.{IsAnywhere, IsSpan, IsNoChange, NeverDelivers, IsOnePartner};
@@ -144,9 +144,17 @@ impl Relation for Deliveries<'_, '_> {
     }
 }
 
-/// Returns the least events that break 4 in this configuration.
-pub fn find(alloc: Global, stays: &Stays) -> Result<Option<Places>, AllocError>
+/// Returns the least events that break 4 in this configuration. None is searched for where it is known to be met.
+pub fn find(
+    alloc: Global,
+    stays: &Stays,
+    is_met: bool,
+) -> Result<Option<Places>, AllocError>
+    requires { OnTrue is_met (MeetsIn stays.now.run.now.logs stays.now.ring SpecNo.Atomicity) }
     ensures { IfOk result (FindsIn stays.now.run.now.logs stays.now.ring SpecNo.Atomicity) }
 {
+    if is_met {
+        return Ok(None);
+    }
     least(&Deliveries { stays }, alloc, stays)
 }

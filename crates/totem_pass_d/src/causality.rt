@@ -2,8 +2,9 @@
 //! (docs/SPECIFICATIONS.md, "5 Causal delivery", "Passes").
 ghost use Rattle.std.specs.Prelude.{◌≡◌, ◌↔◌, ◌<◌, IsTrue, IfOk, length};
 ghost use Rattle.totem_table.specs.Search.{place};
-ghost use Rattle.totem_evs.specs.RingFaults.{BreaksCausalityIn};
+ghost use Rattle.totem_evs.specs.RingFaults.{BreaksCausalityIn, MeetsIn};
 ghost use Rattle.totem_evs.specs.RingAgreement.{IsHop};
+ghost use Rattle.std.specs.Bool.{OnTrue};
 ghost use Rattle.totem_evs.specs.Answers.{FindsIn};
 ghost use Rattle.totem_pass_d.specs.Acts.{IsAmong};
 ghost use Rattle.totem_pass_d.specs.Search.{IsInside};
@@ -134,10 +135,18 @@ impl Relation for Causes<'_, '_> {
     }
 }
 
-/// Returns the least events that break 5 in this configuration.
-pub fn find(alloc: Global, stays: &Stays) -> Result<Option<Places>, AllocError>
+/// Returns the least events that break 5 in this configuration. None is searched for where it is known to be met.
+pub fn find(
+    alloc: Global,
+    stays: &Stays,
+    is_met: bool,
+) -> Result<Option<Places>, AllocError>
+    requires { OnTrue is_met (MeetsIn stays.now.run.now.logs stays.now.ring SpecNo.Causality) }
     ensures { IfOk result (FindsIn stays.now.run.now.logs stays.now.ring SpecNo.Causality) }
 {
+    if is_met {
+        return Ok(None);
+    }
     let suspects = suspects_of(alloc, stays)?;
     least(&Causes { stays, suspects }, alloc, stays)
 }

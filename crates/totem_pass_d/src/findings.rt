@@ -1,11 +1,10 @@
 ghost use Rattle.std.specs.Prelude.{IfOk};
-ghost use Rattle.totem_pass_d.specs.Completeness.{AreCompleteIn};
-ghost use Rattle.totem_pass_d.specs.Findings.{AreFindings};
+ghost use Rattle.totem_pass_d.specs.Findings.{AreFindings, AreMet};
 
-use crate::complete::Complete;
 use crate::stays::Stays;
 use crate::{atomicity, causality, gap, installed, own, safety};
 use std::alloc::{AllocError, Global};
+use totem_configuration_rules::Shown;
 use totem_evs::Places;
 
 /// The findings of one job: for each specification of the last pass the least events that break it in one regular
@@ -24,18 +23,14 @@ pub struct Findings {
     pub safety: Option<Places>,
     /// What breaks specification 7.2.
     pub installed: Option<Places>,
-    /// The processes known to have nothing pending in the configuration.
-    pub complete: Complete,
 }
 
 impl Findings {
-    ghost use Rattle.std.specs.Prelude.{◌≡◌};
     ghost use Rattle.totem_pass_d.specs.Findings.{AreNone};
 
-    /// Returns the findings of a configuration in which nothing is broken, and in which nothing is pending for the complete processes.
-    pub fn none(complete: Complete) -> Findings
-        ensures none { AreNone result }
-        ensures complete { result.complete ≡ complete }
+    /// Returns the findings of a configuration in which nothing is broken.
+    pub fn none() -> Findings
+        ensures { AreNone result }
     {
         Findings {
             own: None,
@@ -44,23 +39,21 @@ impl Findings {
             gap: None,
             safety: None,
             installed: None,
-            complete,
         }
     }
 }
 
-/// Does the job of one regular configuration, in which nothing is pending for the complete processes.
-pub fn findings_in(alloc: Global, stays: &Stays, complete: Complete) -> Result<Findings, AllocError>
-    requires { AreCompleteIn stays.now.run.now.logs stays.now.ring complete }
+/// Does the job of one regular configuration, which is known to meet what is shown.
+pub fn findings_in(alloc: Global, stays: &Stays, shown: &Shown) -> Result<Findings, AllocError>
+    requires { AreMet stays.now.run.now.logs stays.now.ring shown.now }
     ensures { IfOk result (AreFindings stays.now.run.now.logs stays.now.ring) }
 {
     Ok(Findings {
-        own: own::find(alloc, stays)?,
-        atomicity: atomicity::find(alloc, stays)?,
-        causality: causality::find(alloc, stays)?,
-        gap: gap::find(alloc, stays)?,
-        safety: safety::find(alloc, stays)?,
-        installed: installed::find(alloc, stays)?,
-        complete,
+        own: own::find(alloc, stays, shown.own)?,
+        atomicity: atomicity::find(alloc, stays, shown.atomicity)?,
+        causality: causality::find(alloc, stays, shown.causality)?,
+        gap: gap::find(alloc, stays, shown.gap)?,
+        safety: safety::find(alloc, stays, shown.safety)?,
+        installed: installed::find(alloc, stays, shown.installed)?,
     })
 }

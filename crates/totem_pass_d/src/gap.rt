@@ -5,7 +5,7 @@ ghost use Rattle.std.specs.Bool.{OnTrue, OnFalse};
 ghost use Rattle.totem_evs.specs.Events.{log_of};
 ghost use Rattle.totem_evs.specs.Following.{HasDelivered};
 ghost use Rattle.totem_table.specs.Search.{NoneFrom, IsLeastFrom};
-ghost use Rattle.totem_evs.specs.RingFaults.{BreaksGapIn};
+ghost use Rattle.totem_evs.specs.RingFaults.{BreaksGapIn, MeetsIn};
 ghost use Rattle.totem_evs.specs.Answers.{FindsIn};
 ghost use Rattle.totem_pass_d.specs.Acts.{IsAmong};
 ghost use Rattle.totem_pass_d.specs.Search.{IsInside};
@@ -274,10 +274,18 @@ impl Finder for EachLeader<'_, '_> {
     }
 }
 
-/// Returns the least events that break 6.3 in this configuration.
-pub fn find(alloc: Global, stays: &Stays) -> Result<Option<Places>, AllocError>
+/// Returns the least events that break 6.3 in this configuration. None is searched for where it is known to be met.
+pub fn find(
+    alloc: Global,
+    stays: &Stays,
+    is_met: bool,
+) -> Result<Option<Places>, AllocError>
+    requires { OnTrue is_met (MeetsIn stays.now.run.now.logs stays.now.ring SpecNo.Gap) }
     ensures { IfOk result (FindsIn stays.now.run.now.logs stays.now.ring SpecNo.Gap) }
 {
+    if is_met {
+        return Ok(None);
+    }
     let gaps = Gaps { stays };
     least_found(&EachLeader { gaps }, alloc, stays)
 }

@@ -2,6 +2,7 @@
 //! (docs/SPECIFICATIONS.md, "7 Safe delivery").
 ghost use Rattle.std.specs.Prelude.{◌↔◌, IsTrue, IfOk, All};
 ghost use Rattle.std.specs.Bool.{OnTrue, OnFalse};
+ghost use Rattle.totem_evs.specs.RingFaults.{MeetsIn};
 ghost use Rattle.totem_evs.specs.Answers.{FindsIn};
 ghost use Rattle.totem_evs.specs.AgreementFaults.{IsNotInstalled};
 ghost use Rattle.totem_pass_d.specs.Acts.{HasCome};
@@ -59,9 +60,17 @@ impl EventTest for Uninstalled<'_, '_> {
     }
 }
 
-/// Returns the least event that breaks 7.2 in this configuration.
-pub fn find(alloc: Global, stays: &Stays) -> Result<Option<Places>, AllocError>
+/// Returns the least event that breaks 7.2 in this configuration. None is searched for where it is known to be met.
+pub fn find(
+    alloc: Global,
+    stays: &Stays,
+    is_met: bool,
+) -> Result<Option<Places>, AllocError>
+    requires { OnTrue is_met (MeetsIn stays.now.run.now.logs stays.now.ring SpecNo.Installed) }
     ensures { IfOk result (FindsIn stays.now.run.now.logs stays.now.ring SpecNo.Installed) }
 {
+    if is_met {
+        return Ok(None);
+    }
     least_event(&Uninstalled { stays }, alloc, stays)
 }

@@ -1,21 +1,24 @@
 //! The jobs of the last pass: one for each regular configuration of a run (docs/SPECIFICATIONS.md, "Passes").
-ghost use Rattle.std.specs.Prelude.{◌<◌, IfOk, vec_len};
+ghost use Rattle.std.specs.Prelude.{◌≡◌, ◌<◌, IfOk, IfSome, vec_len};
+ghost use Rattle.std.specs.Bool.{OnTrue};
 ghost use Rattle.totem_evs.specs.Answers.{MeetsPasses};
 ghost use Rattle.totem_table.specs.Changes.{AreChanges};
+ghost use Rattle.totem_configuration_rules.specs.Traffics.{AreTraffic, IsTrafficOf};
+ghost use Rattle.totem_pass_d.specs.Findings.{AreMet};
 ghost use Rattle.totem_pass_d.specs.Jobs.{AreJobs, AreFindingsAt};
 
 use crate::comings::Comings;
-use crate::complete::complete_in;
 use crate::findings::{Findings, findings_in};
 use crate::stays::Stays;
-use crate::uniform::uniformity_of;
 use std::alloc::{AllocError, Global};
+use std::collections::BTreeMap;
+use totem_configuration_rules::{Observed, Shown, Traffic};
 use totem_evs::Run;
 use totem_ids::RingId;
 use totem_table::Changes;
 
-/// The jobs of a run that has passed the earlier passes, in the order of their configurations. Each job reads only its configuration
-/// and what follows it, so jobs can be done in any order and by any thread.
+/// The jobs of a run that has passed the passes before, in the order of their configurations. Each depends on no other part of the run
+/// than its configuration and what follows it, so they can be done in any order and by any thread.
 #[derive(Drop)]
 pub struct Jobs<'r> {
     pub run: &'r Run,
@@ -23,48 +26,113 @@ pub struct Jobs<'r> {
     pub rings: Vec<RingId>,
     pub comings: Comings,
     pub changes: Changes,
+    /// What was observed of configurations, in any order: of all of them, of some or of none.
+    pub observed: Vec<Observed>,
+    /// For each job the index of its configuration among those that were observed, as a guess.
+    pub slots: Vec<usize>,
+}
+
+/// Returns for each of these rings the index of its configuration among those that were observed, or an index beyond them.
+fn slots_of(
+    alloc: Global,
+    rings: &[RingId],
+    observed: &[Observed],
+) -> Result<Vec<usize>, AllocError> {
+    let mut indices = BTreeMap::new(alloc);
+    for (index, one) in observed.iter().enumerate() {
+        indices.insert(one.ring, index)?;
+    }
+    let mut slots = Vec::with_capacity(alloc, rings.len())?;
+    for ring in rings {
+        slots.push(indices.get(ring).copied().unwrap_or(usize::MAX))?;
+    }
+    Ok(slots)
+}
+
+fn is_of(one: &Observed, ring: &RingId) -> bool
+    ensures { OnTrue result (one.now.ring ≡ ring.now) }
+{
+    one.ring == *ring
 }
 
 impl<'r> Jobs<'r> {
-    /// Builds the list of a run's jobs. The run has to meet the specifications of passes A and B.
+    /// Lists the jobs of a run that meets the specifications of passes A and B, of which nothing was observed: each job searches.
     pub fn build(alloc: Global, run: &'r Run) -> Result<Jobs<'r>, AllocError>
         requires { MeetsPasses run.now.logs }
         ensures { IfOk result (AreJobs run.now.logs) }
     {
         let changes = Changes::of(alloc, run)?;
-        Jobs::over(alloc, run, changes)
+        Jobs::over(alloc, run, changes, Vec::new(alloc))
     }
 
-    /// Builds the list of a run's jobs like `build`, from the known changes of the run.
-    pub fn over(alloc: Global, run: &'r Run, changes: Changes) -> Result<Jobs<'r>, AllocError>
+    /// Lists the jobs of a run as `build` does, where the changes of the run and the traffic of configurations are known.
+    pub fn over(
+        alloc: Global,
+        run: &'r Run,
+        changes: Changes,
+        observed: Vec<Observed>,
+    ) -> Result<Jobs<'r>, AllocError>
         requires meets { MeetsPasses run.now.logs }
         requires changes { AreChanges run.now.logs changes.rows.items }
+        requires observed { AreTraffic run.now.logs observed.items }
         ensures { IfOk result (AreJobs run.now.logs) }
     {
         let comings = Comings::build(alloc, run, &changes)?;
         let rings = comings.rings(alloc)?;
+        let slots = slots_of(alloc, &rings, &observed)?;
         Ok(Jobs {
             run,
             rings,
             comings,
             changes,
+            observed,
+            slots,
         })
     }
 
-    /// Does the job at this index, counted from 0.
+    /// Returns the traffic that was observed of the configuration of this ring, for the job at this index.
+    fn traffic(&self, index: usize, ring: &RingId) -> Option<&Traffic>
+        requires { AreJobs self.now.run.now.logs self.now }
+        ensures { IfSome result (λ traffic. IsTrafficOf self.now.run.now.logs ring.now traffic.now) }
+    {
+        if index >= self.slots.len() {
+            return None;
+        }
+        let slot = self.slots[index];
+        if slot >= self.observed.len() {
+            return None;
+        }
+        let one = &self.observed[slot];
+        if !is_of(one, ring) {
+            return None;
+        }
+        Some(&one.traffic)
+    }
+
+    /// Applies the rules to what was observed of the configuration of this ring, for the job at this index.
+    fn shown(&self, index: usize, ring: &RingId) -> Shown
+        requires { AreJobs self.now.run.now.logs self.now }
+        ensures { AreMet self.now.run.now.logs ring.now result }
+    {
+        match self.traffic(index, ring) {
+            Some(traffic) => Shown::by(traffic),
+            None => Shown::nothing(),
+        }
+    }
+
+    /// Does the job at this index, counted from 0: what the traffic doesn't show to be met is searched for.
     pub fn findings(&self, alloc: Global, index: usize) -> Result<Findings, AllocError>
         requires jobs { AreJobs self.now.run.now.logs self.now }
         requires within { index < vec_len self.now.rings }
         ensures { IfOk result (AreFindingsAt self.now.run.now.logs self.now.rings.items index) }
     {
         let ring = self.rings[index];
-        let list = self.comings.stays(alloc, self.run, &self.changes, ring)?;
-        let seen = uniformity_of(alloc, &list)?;
-        let complete = complete_in(self.run, ring, &list, seen.complete);
-        if seen.uniform {
-            return Ok(Findings::none(complete));
+        let shown = self.shown(index, &ring);
+        if shown.is_all() {
+            return Ok(Findings::none());
         }
+        let list = self.comings.stays(alloc, self.run, &self.changes, ring)?;
         let stays = Stays::build(alloc, self.run, ring, list)?;
-        findings_in(alloc, &stays, complete)
+        findings_in(alloc, &stays, &shown)
     }
 }

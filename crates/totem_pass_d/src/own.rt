@@ -1,6 +1,8 @@
 //! 3: a process that sends a message in the regular configuration delivers it there or in what follows
 //! (docs/SPECIFICATIONS.md, "3 Self-delivery").
 ghost use Rattle.std.specs.Prelude.{IfOk};
+ghost use Rattle.std.specs.Bool.{OnTrue};
+ghost use Rattle.totem_evs.specs.RingFaults.{MeetsIn};
 ghost use Rattle.totem_evs.specs.Answers.{FindsIn};
 ghost use Rattle.totem_evs.specs.AgreementFaults.{IsNotOwned};
 
@@ -35,9 +37,17 @@ impl EventTest for Undelivered<'_, '_> {
     }
 }
 
-/// Returns the least event that breaks 3 in this configuration.
-pub fn find(alloc: Global, stays: &Stays) -> Result<Option<Places>, AllocError>
+/// Returns the least event that breaks 3 in this configuration. None is searched for where it is known to be met.
+pub fn find(
+    alloc: Global,
+    stays: &Stays,
+    is_met: bool,
+) -> Result<Option<Places>, AllocError>
+    requires { OnTrue is_met (MeetsIn stays.now.run.now.logs stays.now.ring SpecNo.OwnDelivery) }
     ensures { IfOk result (FindsIn stays.now.run.now.logs stays.now.ring SpecNo.OwnDelivery) }
 {
+    if is_met {
+        return Ok(None);
+    }
     least_event(&Undelivered { stays }, alloc, stays)
 }

@@ -1,23 +1,13 @@
 //! Pass D of the audit (docs/SPECIFICATIONS.md, "Passes").
 ghost use Rattle.std.specs.Prelude.{◌≡◌, ◌++◌, IfOk};
 ghost use Rattle.totem_evs.specs.Answers.{MeetsPasses, ListsConfigurations};
-ghost use Rattle.totem_pass_d.specs.Findings.{AreComplete};
 ghost use Rattle.totem_pass_d.specs.Jobs.{AreJobs};
 
-use crate::complete::Complete;
 use crate::findings::Findings;
 use crate::jobs::Jobs;
 use std::alloc::{AllocError, Global};
 use totem_evs::{Fault, Run, SpecNo};
 use totem_table::with_found;
-
-/// The result of all jobs of the pass.
-#[derive(Drop)]
-pub struct Judged {
-    pub faults: Vec<Fault>,
-    /// For each job in order, the processes known to have nothing pending in its configuration.
-    pub complete: Vec<Complete>,
-}
 
 /// The faults of each specification: one for each configuration in which it is broken, in the order of the configurations.
 #[derive(Drop)]
@@ -28,8 +18,6 @@ pub struct Found {
     pub gap: Vec<Fault>,
     pub safety: Vec<Fault>,
     pub installed: Vec<Fault>,
-    /// For each configuration, the processes known to have nothing pending in it.
-    pub complete: Vec<Complete>,
 }
 
 /// Returns the first list with the second appended.
@@ -57,7 +45,6 @@ impl Found {
             gap: Vec::new(alloc),
             safety: Vec::new(alloc),
             installed: Vec::new(alloc),
-            complete: Vec::new(alloc),
         }
     }
 
@@ -65,8 +52,6 @@ impl Found {
     pub fn with(self, findings: Findings) -> Result<Found, AllocError>
         ensures { IfOk result (GrowsBy self findings) }
     {
-        let mut complete = self.complete;
-        complete.push(findings.complete)?;
         Ok(Found {
             own: with_found(self.own, SpecNo::OwnDelivery, findings.own)?,
             atomicity: with_found(self.atomicity, SpecNo::Atomicity, findings.atomicity)?,
@@ -74,37 +59,32 @@ impl Found {
             gap: with_found(self.gap, SpecNo::Gap, findings.gap)?,
             safety: with_found(self.safety, SpecNo::Safety, findings.safety)?,
             installed: with_found(self.installed, SpecNo::Installed, findings.installed)?,
-            complete,
         })
     }
 
-    /// Returns all faults, specification by specification, and the processes known to have nothing pending.
-    pub fn into_judged(self) -> Result<Judged, AllocError>
-        ensures faults { IfOk result (λ judged. judged.faults.items ≡ all_found self) }
-        ensures complete { IfOk result (λ judged. judged.complete.items ≡ self.complete.items) }
+    /// Returns all faults, specification by specification.
+    pub fn into_faults(self) -> Result<Vec<Fault>, AllocError>
+        ensures { IfOk result (λ faults. faults.items ≡ all_found self) }
     {
-        let complete = self.complete;
         let gaps = joined(self.gap, joined(self.safety, self.installed)?)?;
-        let faults = joined(
+        joined(
             self.own,
             joined(self.atomicity, joined(self.causality, gaps)?)?,
-        )?;
-        Ok(Judged { faults, complete })
+        )
     }
 }
 
 /// Does these jobs in order, on the calling thread. Returns, for each of 3, 4, 5, 6.3, 7.1 and 7.2 and for each regular configuration in
-/// which the run breaks it, the least events that do, and the processes known to have nothing pending.
-pub fn pass_d_of(alloc: Global, jobs: &Jobs<'_>) -> Result<Judged, AllocError>
+/// which the run breaks it, the least events that break it there.
+pub fn pass_d_of(alloc: Global, jobs: &Jobs<'_>) -> Result<Vec<Fault>, AllocError>
     requires { AreJobs jobs.now.run.now.logs jobs.now }
-    ensures faults { IfOk result (λ judged. ListsConfigurations jobs.now.run.now.logs judged.faults.items) }
-    ensures complete { IfOk result (λ judged. AreComplete jobs.now.run.now.logs jobs.now.rings.items judged.complete.items) }
+    ensures { IfOk result (λ faults. ListsConfigurations jobs.now.run.now.logs faults.items) }
 {
     let mut found = Found::new(alloc);
     for index in 0..jobs.rings.len() {
         found = found.with(jobs.findings(alloc, index)?)?;
     }
-    found.into_judged()
+    found.into_faults()
 }
 
 /// Does pass D for a run that has passed the others.
@@ -113,6 +93,5 @@ pub fn pass_d(alloc: Global, run: &Run) -> Result<Vec<Fault>, AllocError>
     ensures { IfOk result (λ faults. ListsConfigurations run.now.logs faults.items) }
 {
     let jobs = Jobs::build(alloc, run)?;
-    let judged = pass_d_of(alloc, &jobs)?;
-    Ok(judged.faults)
+    pass_d_of(alloc, &jobs)
 }

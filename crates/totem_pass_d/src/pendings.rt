@@ -7,11 +7,8 @@ ghost use Rattle.totem_pass_d.specs.Acts.{IsAmong};
 ghost use Rattle.totem_pass_d.specs.Jobs.{AreJobs};
 ghost use Rattle.totem_pass_d.specs.Indexes.{index_told, Tells};
 ghost use Rattle.totem_pass_d.specs.Pendings.{Adds, MissesAt, MissesNothingAt, MissesFrom, Misses, IsPendingIn, IsPendingFor};
-ghost use Rattle.totem_pass_d.specs.Completeness.{AreCompleteIn, HasNonePendingOf};
-ghost use Rattle.totem_pass_d.specs.Findings.{AreComplete};
 
 use crate::act::Act;
-use crate::complete::Complete;
 use crate::indexes::Indexes;
 use crate::jobs::Jobs;
 use crate::ring_stays::RingStays;
@@ -110,96 +107,56 @@ fn add_open(
     alloc: Global,
     list: &mut Vec<Pending>,
     stays: &RingStays,
-    complete: &[Proc],
     stay: &Stay,
 ) -> Result<(), AllocError>
-    requires among { IsAmong stays.now.list.items stay.now }
-    requires complete { All (HasNonePendingOf stays.now.run.now.logs stays.now.ring) complete.now }
+    requires { IsAmong stays.now.list.items stay.now }
     ensures { OnOk result (Adds (IsPendingFor stays.now.run.now.logs stays.now.ring stay.now.proc) list.old.items list.new.items) }
 {
-    if complete.contains(&stay.proc) || !is_open(stays, stay) {
+    if !is_open(stays, stay) {
         return Ok(());
     }
     add_missing(alloc, list, stays, stay)
 }
 
-/// Adds what is pending in one configuration. For complete processes nothing is.
+/// Adds what is pending in one configuration.
 fn add_pending(
     alloc: Global,
     list: &mut Vec<Pending>,
     stays: &RingStays,
-    complete: &[Proc],
 ) -> Result<(), AllocError>
-    requires { All (HasNonePendingOf stays.now.run.now.logs stays.now.ring) complete.now }
     ensures { OnOk result (Adds (IsPendingIn stays.now.run.now.logs stays.now.ring) list.old.items list.new.items) }
 {
     for stay in &stays.list {
-        add_open(alloc, list, stays, complete, stay)?;
+        add_open(alloc, list, stays, stay)?;
     }
     Ok(())
 }
 
-/// Adds what is pending in the configuration of this ring. For complete processes nothing is.
+/// Adds what is pending in the configuration of this ring.
 fn add_ring(
     alloc: Global,
     list: &mut Vec<Pending>,
     jobs: &Jobs<'_>,
     ring: RingId,
-    complete: &[Proc],
 ) -> Result<(), AllocError>
-    requires jobs { AreJobs jobs.now.run.now.logs jobs.now }
-    requires complete { All (HasNonePendingOf jobs.now.run.now.logs ring) complete.now }
+    requires { AreJobs jobs.now.run.now.logs jobs.now }
     ensures { OnOk result (Adds (IsPendingIn jobs.now.run.now.logs ring) list.old.items list.new.items) }
 {
     let found = jobs.comings.stays(alloc, jobs.run, &jobs.changes, ring)?;
     let stays = RingStays::of(jobs.run, ring, found);
-    add_pending(alloc, list, &stays, complete)
+    add_pending(alloc, list, &stays)
 }
 
-/// Adds what is pending in the configuration of this ring, given what is known of it.
-fn add_known(
-    alloc: Global,
-    list: &mut Vec<Pending>,
-    jobs: &Jobs<'_>,
-    ring: RingId,
-    known: Option<&Complete>,
-) -> Result<(), AllocError>
-    requires jobs { AreJobs jobs.now.run.now.logs jobs.now }
-    requires known { IfSome known (λ complete. AreCompleteIn jobs.now.run.now.logs ring complete.now) }
-    ensures { OnOk result (Adds (IsPendingIn jobs.now.run.now.logs ring) list.old.items list.new.items) }
-{
-    match known {
-        Some(Complete::All) => Ok(()),
-        Some(Complete::Only(procs)) => add_ring(alloc, list, jobs, ring, procs),
-        None => add_ring(alloc, list, jobs, ring, &[]),
-    }
-}
-
-/// Returns all that is pending in the run of these jobs, by process and then by message. Skips the configurations in which all
-/// processes are known to have nothing pending, and in the others the processes for which that is known.
-pub fn pending_of(
-    alloc: Global,
-    jobs: &Jobs<'_>,
-    complete: &[Complete],
-) -> Result<Vec<Pending>, AllocError>
-    requires jobs { AreJobs jobs.now.run.now.logs jobs.now }
-    requires complete { AreComplete jobs.now.run.now.logs jobs.now.rings.items complete.now }
+/// Returns all that is pending in the run of these jobs, by process and then by message.
+pub fn pending_of(alloc: Global, jobs: &Jobs<'_>) -> Result<Vec<Pending>, AllocError>
+    requires { AreJobs jobs.now.run.now.logs jobs.now }
     ensures { IfOk result (λ list. ArePending jobs.now.run.now.logs list.items) }
 {
     let mut list = Vec::new(alloc);
-    for (k, ring) in jobs.rings.iter().enumerate() {
-        add_known(alloc, &mut list, jobs, *ring, complete.get(k))?;
+    for ring in &jobs.rings {
+        add_ring(alloc, &mut list, jobs, *ring)?;
     }
     in_order(list)
-}
-
-/// Returns all that is pending in a run that has passed the first two passes, by process and then by message.
-pub fn pending(alloc: Global, run: &Run) -> Result<Vec<Pending>, AllocError>
-    requires { MeetsPasses run.now.logs }
-    ensures { IfOk result (λ list. ArePending run.now.logs list.items) }
-{
-    let jobs = Jobs::build(alloc, run)?;
-    pending_of(alloc, &jobs, &[])
 }
 
 /// Returns the waiting processes of a run that has passed the first two passes, and whom they wait for: by process, then by the other.

@@ -2,6 +2,7 @@
 //! (docs/SPECIFICATIONS.md, "7 Safe delivery").
 ghost use Rattle.std.specs.Prelude.{◌↔◌, IsTrue, IfOk, All};
 ghost use Rattle.std.specs.Bool.{OnTrue, OnFalse};
+ghost use Rattle.totem_evs.specs.RingFaults.{MeetsIn};
 ghost use Rattle.totem_evs.specs.Answers.{FindsIn};
 ghost use Rattle.totem_evs.specs.AgreementFaults.{IsNotReached};
 ghost use Rattle.totem_evs.specs.Following.{DeliversOrEnds};
@@ -64,9 +65,17 @@ impl EventTest for Unreached<'_, '_> {
     }
 }
 
-/// Returns the least event that breaks 7.1 in this configuration.
-pub fn find(alloc: Global, stays: &Stays) -> Result<Option<Places>, AllocError>
+/// Returns the least event that breaks 7.1 in this configuration. None is searched for where it is known to be met.
+pub fn find(
+    alloc: Global,
+    stays: &Stays,
+    is_met: bool,
+) -> Result<Option<Places>, AllocError>
+    requires { OnTrue is_met (MeetsIn stays.now.run.now.logs stays.now.ring SpecNo.Safety) }
     ensures { IfOk result (FindsIn stays.now.run.now.logs stays.now.ring SpecNo.Safety) }
 {
+    if is_met {
+        return Ok(None);
+    }
     least_event(&Unreached { stays }, alloc, stays)
 }

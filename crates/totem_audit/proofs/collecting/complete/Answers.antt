@@ -1,5 +1,5 @@
 use Rattle.std.proofs.Common.{rules}
-use Rattle.totem_pass_d.proofs.Listing.{found_next, all_found_of, all_complete_of}
+use Rattle.totem_pass_d.proofs.Listing.{found_next, all_found_of}
 use Rattle.totem_audit.proofs.KnownJobs.{known_set}
 use Rattle.totem_audit.proofs.collecting.complete.Goals as goal
 
@@ -9,8 +9,5 @@ loop-index-preserved g c = (
   rw (c.replace-one.ensures.after) (known_set _ c.args.jobs.now.rings.items c.loop-index.known.items c.loop-index.index _ c.loop-index.invariant.1 (search rules) tt),
 )
 
-pub returns-clause-faults : goal.returns-clause-faults
-returns-clause-faults g c = all_found_of _ c.args.jobs.now.rings.items c.loop-index.index _ _ c.requires.jobs.rings (search rules) c.loop-index.invariant.0 c.into_judged.ensures.faults
-
-pub returns-clause-complete : goal.returns-clause-complete
-returns-clause-complete g c = all_complete_of _ c.args.jobs.now.rings.items c.loop-index.index _ _ (search rules) c.loop-index.invariant.0 c.into_judged.ensures.complete
+pub returns : goal.returns
+returns g c = all_found_of _ c.args.jobs.now.rings.items c.loop-index.index _ (λ v. v.items) _ c.requires.jobs.rings (search rules) c.loop-index.invariant.0 c.into_faults.ensures

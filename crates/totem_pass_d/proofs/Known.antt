@@ -1,0 +1,50 @@
+-- What the traffic of a configuration shows of it.
+use Rattle.std.proofs.Common.{◌≡◌, List, [], slice_get, Some, IsTrue, subst, sym}
+use Rattle.totem_ids.specs.declared.ring.RingId.{RingId}
+use Rattle.totem_evs.specs.declared.log.Log.{Log}
+use Rattle.totem_evs.specs.declared.spec.SpecNo.TheVariants as spec
+use Rattle.totem_evs.specs.Answers.{MeetsPasses, FindsIn}
+use Rattle.totem_configuration_rules.specs.declared.agreed.Shown.{Shown}
+use Rattle.totem_configuration_rules.specs.declared.observed.Observed.{Observed}
+use Rattle.totem_configuration_rules.specs.declared.traffic.Traffic.{Traffic}
+use Rattle.totem_configuration_rules.specs.Clean.{AreShown, IsAllShown, IsNoneShown}
+use Rattle.totem_configuration_rules.specs.Traffics.{IsTrafficOf, AreTraffic}
+use Rattle.totem_pass_d.specs.declared.findings.Findings.{Findings}
+use Rattle.totem_pass_d.specs.Findings.{AreMet, AreNone, AreFindings}
+
+-- nothing was observed
+pub no_traffic : (run : List Log) (list : List Observed) → list ≡ [] → AreTraffic run list
+no_traffic run list none = record { each = λ k one at. absurd (let h : slice_get {X = Observed} [] k ≡ Some one = rw none at at in cc) }
+
+-- what the traffic shows, the run meets
+pub shown_met : (run : List Log) (c : RingId) (traffic : Traffic) (shown : Shown) → MeetsPasses run → IsTrafficOf run c traffic → AreShown traffic shown → AreMet run c shown
+shown_met run c traffic shown meets is are = record {
+  own = λ t. (are.own t).met run c meets is;
+  atomicity = λ t. (are.atomicity t).met run c meets is;
+  causality = λ t. (are.causality t).met run c meets is;
+  gap = λ t. (are.gap t).met run c meets is;
+  safety = λ t. (are.safety t).met run c meets is;
+  installed = λ t. (are.installed t).met run c meets is;
+}
+
+-- where nothing is shown, nothing is claimed
+pub nothing_met : (run : List Log) (c : RingId) (shown : Shown) → IsNoneShown shown → AreMet run c shown
+nothing_met run c shown none = record {
+  own = λ t. absurd (none.own t);
+  atomicity = λ t. absurd (none.atomicity t);
+  causality = λ t. absurd (none.causality t);
+  gap = λ t. absurd (none.gap t);
+  safety = λ t. absurd (none.safety t);
+  installed = λ t. absurd (none.installed t);
+}
+
+-- where all is met, nothing is found
+pub none_found : (run : List Log) (c : RingId) (shown : Shown) (findings : Findings) → AreMet run c shown → IsAllShown shown → AreNone findings → AreFindings run c findings
+none_found run c shown findings met all none = record {
+  own = rw none.own (met.own all.own);
+  atomicity = rw none.atomicity (met.atomicity all.atomicity);
+  causality = rw none.causality (met.causality all.causality);
+  gap = rw none.gap (met.gap all.gap);
+  safety = rw none.safety (met.safety all.safety);
+  installed = rw none.installed (met.installed all.installed);
+}
