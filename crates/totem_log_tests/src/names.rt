@@ -200,8 +200,8 @@ const ROWS: [Row; 7] = [
     Row {
         about: "the texts of faults",
         topic: Topic::Texts,
-        told: "a line whose process is not above the one before; process 3 has no log; process 3:1 has no log; \
-            a byte that does not fit; the list is empty; more than 32 elements; the element at index 2 is not above the one before; \
+        told: "lines not in ascending order of their processes; process 3 has no log; process 3:1 has no log; \
+            unexpected byte; the list is empty; more than 32 elements; the element at index 2 is not above the one before; \
             the element at index 2 has or names a life other than 1; the element at index 2 is quiet",
     },
     Row {

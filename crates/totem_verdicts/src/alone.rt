@@ -15,7 +15,7 @@ use totem_ids::{Sink, Source};
 
 /// What is printed for a person who asks the auditor alone for a run.
 const LACKING: &str = "\
-totem: this is the auditor alone: sim, run and explain --script want the whole program
+totem: this is the auditor alone: sim, run and explain --script need the whole program
 ";
 
 /// The auditor over any three streams: what the whole program answers, where the words ask for a verdict, for help or for the version. The
