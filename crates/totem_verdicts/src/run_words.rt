@@ -40,7 +40,7 @@ const OPTIONS: [NumberOption; 6] = [
         least: 1,
         most: 1_000_000,
         default: "4000",
-        help: "Number of ticks, from 1 to 1000000; at every eighth a node's timer expires and its client sends; a run may need 4 KB of memory for each tick and node, and does not begin without it",
+        help: "Number of ticks, from 1 to 1000000; at every eighth a node's timer expires and its client sends; the run begins only if 4 KB of memory are available for each tick and node",
     },
     NumberOption {
         name: "seed",

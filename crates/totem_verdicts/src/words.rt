@@ -51,7 +51,9 @@ fn workers_option<'a>(alloc: Global) -> Arg<'a> {
         .value_name("W")
         .value_parser(ValueParser::Unsigned(1, 64))
         .default_value("1")
-        .help("Number of threads that judge the run, from 1 to 64; the output is the same for each")
+        .help(
+            "Number of threads that judge the run, from 1 to 64; the output does not depend on it",
+        )
 }
 
 fn audit_command<'a>(alloc: Global) -> Result<Command<'a>, AllocError> {
