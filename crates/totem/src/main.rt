@@ -1,4 +1,4 @@
-//! The command `totem`: hands its words and the standard streams to the program.
+//! The command `totem`: calls the program with its arguments and the standard streams.
 #![tactic(auto)]
 
 mod progress_line;

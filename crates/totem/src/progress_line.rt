@@ -1,23 +1,23 @@
-//! The line on a terminal that tells how far a run is.
+//! The progress line of a run on a terminal.
 use std::alloc::{AllocError, Global};
 use std::time::{Clock, Duration};
 use totem_cluster::{Logged, Progress};
 use totem_ids::Sink;
 
-/// For how many milliseconds a line stands at least.
+/// The least time in milliseconds for which a line is shown.
 const STANDS: u64 = 100;
 
-/// What a terminal does at these bytes: it goes to the beginning of the line and wipes it.
+/// Bytes at which a terminal goes to the beginning of the line and erases it.
 const WIPE: &str = "\r\x1b[K";
 
-/// Shows how far a run is, in one line that is written over at most ten times a second and wiped at the end. Where the
-/// memory for a line is refused, or the time is not to be had, there is none.
+/// Shows the progress of a run in one line, which is updated at most ten times a second and erased at the end. Without
+/// memory for the line, or without a clock, it shows none.
 #[derive(Drop)]
 pub struct ProgressLine<'a, C, S> {
     clock: &'a C,
     alloc: Global,
     terminal: Option<S>,
-    /// When the line was written, or the first tick came.
+    /// When the line was last written, or when the first tick was.
     since: Option<Duration>,
     is_shown: bool,
 }
@@ -33,7 +33,7 @@ fn line_of(alloc: Global, passed: u32, ticks: u32, logged: Logged) -> Result<Str
 }
 
 impl<'a, C: Clock, S: Sink> ProgressLine<'a, C, S> {
-    /// Makes one that writes to this terminal, if there is one.
+    /// Returns a progress line on this terminal, if there is one.
     pub fn new(clock: &'a C, alloc: Global, terminal: Option<S>) -> ProgressLine<'a, C, S> {
         ProgressLine {
             clock,
@@ -44,7 +44,7 @@ impl<'a, C: Clock, S: Sink> ProgressLine<'a, C, S> {
         }
     }
 
-    /// Returns whether the line has stood long enough, and notes the time if it has.
+    /// Returns whether the line was shown long enough, and records the time if it was.
     fn is_due(&mut self) -> bool {
         let Ok(now) = self.clock.monotonic() else {
             return false;

@@ -1,4 +1,4 @@
-//! The audit and the first passes of small runs, with the faults that docs/SPECIFICATIONS.md gives for them.
+//! The audit and the first passes over small runs, with the faults that docs/SPECIFICATIONS.md gives for them.
 use crate::values::{is_told, push_faults};
 use std::alloc::{AllocError, Global};
 use totem_audit::{Verdict, Workers, audit, early};
@@ -19,7 +19,7 @@ fn push_verdict(text: &mut String, verdict: &Verdict) -> Result<(), AllocError> 
     }
 }
 
-/// A copy of the run's verdict.
+/// Returns a copy of the run's verdict.
 fn copied_verdict(alloc: Global, run: &Run) -> Result<Verdict, AllocError> {
     audit(alloc, run)?.try_clone(alloc)
 }
@@ -28,7 +28,7 @@ fn push_audit(alloc: Global, text: &mut String, run: &Run) -> Result<(), AllocEr
     push_verdict(text, &copied_verdict(alloc, run)?)
 }
 
-/// The audit of the run's first log alone.
+/// Adds the audit of the run's first log alone.
 fn push_audit_of_first(alloc: Global, text: &mut String, run: Run) -> Result<(), AllocError> {
     let mut logs = run.into_logs();
     logs.truncate(1);
@@ -45,7 +45,7 @@ fn push_passes(alloc: Global, text: &mut String, run: &Run) -> Result<(), AllocE
     push_faults(text, &pass_b(alloc, run)?)
 }
 
-/// Returns whether each message is sent once and delivered once in each log, and the numbers of the entries, log by log.
+/// Adds whether each message is sent once and delivered once in each log, and the numbers of the entries, log by log.
 fn push_numbers(alloc: Global, text: &mut String, run: &Run) -> Result<(), AllocError> {
     let Some(table) = Table::build(alloc, run)? else {
         return text.push_str("no table");
@@ -67,7 +67,7 @@ fn push_rows(text: &mut String, rows: &[Numbers]) -> Result<(), AllocError> {
     Ok(())
 }
 
-/// Who judges a run: the audit, the audit of its first log alone, the first two passes, the first three as one call, the table of
+/// What judges a run: the audit, the audit of its first log alone, the first two passes, the first three as one call, the table of
 /// its numbers, or the list of its changes.
 enum Judge {
     Audit,
@@ -94,7 +94,7 @@ fn push_judged(
     }
 }
 
-/// What is said of the run of these logs in this version, or why there is no such run.
+/// Returns what is reported of the run of these logs in this version, or why there is no such run.
 fn told(alloc: Global, version: u8, logs: &str, judge: &Judge) -> Result<String, AllocError> {
     let bytes = format!(in alloc; "totem-run {version}\n{logs}end\n")?;
     let mut text = String::new(alloc);
@@ -105,7 +105,7 @@ fn told(alloc: Global, version: u8, logs: &str, judge: &Judge) -> Result<String,
     Ok(text)
 }
 
-/// What holds, the logs of a run, and what is said of it.
+/// The rule that a row shows, the logs of a run, and what is reported of it.
 struct Row {
     rule: &'static str,
     logs: &'static str,
@@ -277,6 +277,7 @@ const RUNS: [Row; 25] = [
     },
 ];
 
+/// Small runs get the verdicts, faults and tables that are worked out by hand.
 #[test]
 fn small_runs_are_judged(rt: HostRuntime) -> Result<(), AllocError> {
     for row in &RUNS {
@@ -351,6 +352,7 @@ const QUIET_RUNS: [Row; 9] = [
     },
 ];
 
+/// Runs of version 3 with quiet logs get the verdicts and faults that are worked out by hand.
 #[test]
 fn runs_with_quiet_logs_are_judged(rt: HostRuntime) -> Result<(), AllocError> {
     for row in &QUIET_RUNS {
@@ -364,6 +366,7 @@ fn counted(count: u32) -> Option<u32> {
     Some(Workers::new(count)?.count())
 }
 
+/// `Workers` takes 1 to 64 and nothing else.
 #[test]
 fn workers_are_1_to_64(rt: HostRuntime) {
     let counts = [counted(0), counted(1), counted(64), counted(65)];

@@ -1,4 +1,4 @@
-//! Runs and certificates from their texts, and what the checker says of them.
+//! Runs and certificates from their texts, and what the checker reports of them.
 use crate::values::{is_told, push_fault};
 use std::alloc::{AllocError, Global};
 use totem_cert::{Certificate, read_cert};
@@ -6,7 +6,7 @@ use totem_check::{Accepted, CertificateFault, CheckFault, certified, check};
 use totem_evs::{Run, read_run};
 use totem_ids::FromRead;
 
-/// What certification says, and the check's fault that stands for it.
+/// Adds what certification reports, and the check's fault for it.
 fn push_certified(
     text: &mut String,
     answer: Result<(), CertificateFault>,
@@ -25,7 +25,7 @@ fn push_certified(
     }
 }
 
-/// Who has something pending, and for whom others wait.
+/// Adds what is pending and who waits.
 fn push_accepted(text: &mut String, accepted: &Accepted) -> Result<(), AllocError> {
     text.push_str("yes")?;
     for pending in &accepted.pending {
@@ -37,7 +37,7 @@ fn push_accepted(text: &mut String, accepted: &Accepted) -> Result<(), AllocErro
     Ok(())
 }
 
-/// A fault's name and number, and of a broken run what it breaks.
+/// Adds a fault's name and number, and for a broken run the specification that it breaks.
 fn push_check_fault(text: &mut String, fault: &CheckFault) -> Result<(), AllocError> {
     write!(text, "{} {}", fault.name(), fault.number())?;
     match fault {
@@ -49,7 +49,7 @@ fn push_check_fault(text: &mut String, fault: &CheckFault) -> Result<(), AllocEr
     }
 }
 
-/// What a copy of the check's answer says.
+/// Adds what a copy of the check's answer says.
 fn push_checked(
     alloc: Global,
     text: &mut String,
@@ -71,7 +71,7 @@ fn push_both(
     push_checked(alloc, text, &check(alloc, run, certificate))
 }
 
-/// What is said of the run with a certificate of these lines.
+/// Adds what is reported of the run with a certificate of these lines.
 fn push_with_lines(
     alloc: Global,
     text: &mut String,
@@ -85,7 +85,7 @@ fn push_with_lines(
     }
 }
 
-/// What certification and the check say of the run of these logs with a certificate of these lines.
+/// Returns what certification and the check report of the run of these logs with a certificate of these lines.
 fn told(alloc: Global, logs: &str, lines: &str) -> Result<String, AllocError> {
     let bytes = format!(in alloc; "totem-run 1\n{logs}end\n")?;
     let mut text = String::new(alloc);
@@ -111,7 +111,7 @@ const NOT_SENT: &str = "log 1\nconf r4.1 1 2\nopen\n\
 const NO_TURNS: &str = "log 1\nconf r4.1 1 2\nconf r8.1 1 2\nopen\n\
     log 2\nconf r4.1 1 2\nopen\n";
 
-/// The logs of a run, the lines of a certificate, and what is said of them.
+/// The logs of a run, the lines of a certificate, and what is reported of them.
 struct Row {
     about: &'static str,
     logs: &'static str,
@@ -224,6 +224,7 @@ const ROWS: [Row; 17] = [
     },
 ];
 
+/// The checker accepts or refuses small runs with their certificates as worked out by hand.
 #[test]
 fn runs_are_checked_with_certificates(rt: HostRuntime) -> Result<(), AllocError> {
     for row in &ROWS {
@@ -233,7 +234,7 @@ fn runs_are_checked_with_certificates(rt: HostRuntime) -> Result<(), AllocError>
     Ok(())
 }
 
-/// The faults but that of a broken run.
+/// Returns all faults but that of a broken run.
 fn faults_told(alloc: Global) -> Result<String, AllocError> {
     let faults = [
         CheckFault::Count,
@@ -252,6 +253,7 @@ fn faults_told(alloc: Global) -> Result<String, AllocError> {
     Ok(text)
 }
 
+/// The faults of a check have their numbers, names and texts.
 #[test]
 fn faults_have_numbers_names_and_texts(rt: HostRuntime) -> Result<(), AllocError> {
     let wanted =

@@ -1,4 +1,4 @@
-//! The jobs of an audit as calls of their own, and what is collected of their results.
+//! The jobs of an audit as separate calls, and what is collected of their results.
 ghost use Rattle.totem_evs.specs.Answers.{MeetsPasses};
 
 use crate::values::{is_told, push_faults};
@@ -7,8 +7,8 @@ use totem_audit::{JobResult, collect, do_job, early};
 use totem_evs::{Fault, Run, read_run};
 use totem_ids::FromRead;
 
-/// 40 configurations of one process, in each of which it sends a message and delivers it: but not in the 2nd, the 20th and the
-/// 39th.
+/// Returns a run with 40 configurations of one process, in each of which it sends and delivers a message, but doesn't deliver in the
+/// 2nd, the 20th and the 39th.
 fn forty_configurations(alloc: Global) -> Result<String, AllocError> {
     let mut text = String::new(alloc);
     text.push_str("totem-run 1\nlog 1\nconf r4.1 1\n")?;
@@ -26,7 +26,7 @@ fn forty_configurations(alloc: Global) -> Result<String, AllocError> {
     Ok(text)
 }
 
-/// Process 1 goes on without delivering what it sent.
+/// Process 1 moves on without delivering what it sent.
 const SENT_AND_MOVED_ON: &str = "totem-run 1
 log 1
 conf r4.1 1 2
@@ -40,7 +40,7 @@ open
 end
 ";
 
-/// A job's number, of how many logs its run is, and whether 3 is broken in its configuration; or that there is no such job.
+/// Adds a job's number, the number of logs of its run, and whether 3 is broken in its configuration; or that there is no such job.
 fn push_job(alloc: Global, text: &mut String, run: &Run, number: u32) -> Result<(), AllocError>
     requires { MeetsPasses run.now.logs }
 {
@@ -52,7 +52,7 @@ fn push_job(alloc: Global, text: &mut String, run: &Run, number: u32) -> Result<
     write!(text, "job {job} of {logs} {broken}; ")
 }
 
-/// The faults of the run, from a result of the other run and those of its own jobs 1, 1 and 40.
+/// Returns the faults of the run, collected from a result of the other run and those of its own jobs 1, 1 and 40.
 fn collected<'r>(alloc: Global, run: &'r Run, other: &'r Run) -> Result<Vec<Fault>, AllocError>
     requires run { MeetsPasses run.now.logs }
     requires other { MeetsPasses other.now.logs }
@@ -69,7 +69,7 @@ fn collected<'r>(alloc: Global, run: &'r Run, other: &'r Run) -> Result<Vec<Faul
     collect(alloc, run, results)
 }
 
-/// Some jobs of the run and of the other one, and what is collected for the run from results of both.
+/// Adds some jobs of the run and of the other one, and what is collected for the run from results of both.
 fn push_jobs(alloc: Global, text: &mut String, run: &Run, other: &Run) -> Result<(), AllocError> {
     if !early(alloc, run)?.is_empty() || !early(alloc, other)?.is_empty() {
         return text.push_str("the first passes have faults");
@@ -95,6 +95,7 @@ fn told(alloc: Global) -> Result<String, AllocError> {
     Ok(text)
 }
 
+/// All faults of a run are collected, even if results are of another run, repeated or missing.
 #[test]
 fn whatever_results_are_collected(rt: HostRuntime) -> Result<(), AllocError> {
     is_told(

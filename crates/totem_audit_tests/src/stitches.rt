@@ -1,4 +1,4 @@
-//! The tables of small runs, their answers read off the text by docs/SPECIFICATIONS.md, "Following".
+//! The tables of small runs, with answers read off the text by docs/SPECIFICATIONS.md, "Following".
 use crate::values::is_told;
 use std::alloc::{AllocError, Global};
 use std::fmt::Display;
@@ -6,7 +6,7 @@ use totem_evs::read_run;
 use totem_ids::{ConfId, FromRead, Proc, ProcId, RingId};
 use totem_stitch::Stitch;
 
-/// The transitional configuration before the regular one of this ring, with 1 as its least member.
+/// Returns the transitional configuration before the regular one of this ring, with 1 as its least member.
 fn toward(next: RingId) -> ConfId {
     ConfId::Transitional {
         next,
@@ -21,7 +21,7 @@ fn push_name<T: Display>(text: &mut String, name: &Option<T>) -> Result<(), Allo
     }
 }
 
-/// A question to the tables: what follows a ring, what comes before the transitional configuration of a ring, or before the
+/// A question to the tables: what follows a ring, what precedes the transitional configuration of a ring, or what precedes its
 /// regular one.
 enum Question {
     Follow,
@@ -29,7 +29,7 @@ enum Question {
     BeforeRegular,
 }
 
-/// A question about the ring of this number at this process, and the answer.
+/// A question about the ring with this number at this process, and its answer.
 struct Row {
     about: &'static str,
     run: &'static str,
@@ -52,7 +52,7 @@ fn push_answer(text: &mut String, stitch: &Stitch, row: &Row) -> Result<(), Allo
     }
 }
 
-/// What the tables of a run answer, or why there is no such run.
+/// Returns what the tables of a run answer, or why there is no such run.
 fn told(alloc: Global, row: &Row) -> Result<String, AllocError> {
     let mut text = String::new(alloc);
     match read_run(alloc, &mut FromRead::new(row.run.as_bytes())) {
@@ -62,7 +62,7 @@ fn told(alloc: Global, row: &Row) -> Result<String, AllocError> {
     Ok(text)
 }
 
-/// Processes 1 and 2 leave 3 behind, and move on once more.
+/// Processes 1 and 2 move on without 3, and move on once more.
 const THREE_RINGS: &str = "totem-run 1
 log 1
 conf r4.1 1 2 3
@@ -250,6 +250,7 @@ const ROWS: [Row; 17] = [
     },
 ];
 
+/// The tables of small runs give what follows a configuration and what precedes it.
 #[test]
 fn tables_tell_what_follows_and_what_comes_before(rt: HostRuntime) -> Result<(), AllocError> {
     for row in &ROWS {

@@ -1,4 +1,4 @@
-//! Walks between two processes, with what docs/SPECIFICATIONS.md, "5 Causal delivery", says of them.
+//! Walks between two processes, with what docs/SPECIFICATIONS.md, "5 Causal delivery", says about them.
 ghost use Rattle.std.specs.Prelude.{IfOk};
 ghost use Rattle.std.specs.Bool.{OnTrue};
 ghost use Rattle.totem_evs.specs.Answers.{MeetsPasses};
@@ -10,13 +10,13 @@ use totem_evs::{Run, read_run};
 use totem_ids::{FromRead, Proc, ProcId, RingId};
 use totem_walk::{causality_is_of_pairs, entries_of};
 
-/// What the logs of a run are: these lines, or those of a run in which 1 sends this many messages and 1 and 2 deliver them.
+/// The logs of a run: these lines, or those of a run in which 1 sends this many messages and 1 and 2 deliver them.
 enum Logs {
     Lines(&'static str),
     Messages(u32),
 }
 
-/// A walk on ring 4.1 from a sender to a receiver, how many looks it may take, and whether it is true.
+/// A walk on ring 4.1 from a sender to a receiver, how many entries it may read, and its result.
 struct Row {
     about: &'static str,
     logs: Logs,
@@ -38,7 +38,7 @@ fn push_messages(text: &mut String, count: u32) -> Result<(), AllocError> {
     text.push_str("open\n")
 }
 
-/// The text of a run.
+/// Returns the text of a run.
 fn text_of(alloc: Global, logs: &Logs) -> Result<String, AllocError> {
     let mut text = String::new(alloc);
     text.push_str("totem-run 1\n")?;
@@ -50,14 +50,14 @@ fn text_of(alloc: Global, logs: &Logs) -> Result<String, AllocError> {
     Ok(text)
 }
 
-/// Returns whether the run has no fault of the first three passes.
+/// Returns whether the run has no fault in the first three passes.
 fn has_passed(alloc: Global, run: &Run) -> Result<bool, AllocError>
     ensures { IfOk result (λ passed. OnTrue passed (MeetsPasses run.now.logs)) }
 {
     Ok(early(alloc, run)?.is_empty())
 }
 
-/// Returns whether the walk is true, and if it took more looks than it may, how many.
+/// Adds the result of the walk, and if it read more entries than it may, their number.
 fn push_walk(alloc: Global, text: &mut String, run: &Run, row: &Row) -> Result<(), AllocError> {
     if !has_passed(alloc, run)? {
         return text.push_str("faults of the first passes");
@@ -80,7 +80,7 @@ fn push_walk(alloc: Global, text: &mut String, run: &Run, row: &Row) -> Result<(
     Ok(())
 }
 
-/// What the walk tells of the run, or why there is no such run.
+/// Returns what the walk reports of the run, or why there is no such run.
 fn told(alloc: Global, row: &Row) -> Result<String, AllocError> {
     let bytes = text_of(alloc, &row.logs)?;
     let mut text = String::new(alloc);
@@ -91,7 +91,7 @@ fn told(alloc: Global, row: &Row) -> Result<String, AllocError> {
     Ok(text)
 }
 
-/// 2 delivers a message and sends another, which 3 delivers alone.
+/// 2 delivers a message and sends another, and 3 delivers only the second.
 const CAUSE_NOT_DELIVERED: &str =
     "log 1\nconf r4.1 1 2 3\nsend r4.1 a 4.1#1\ndlv r4.1 4.1#1\nopen\n\
     log 2\nconf r4.1 1 2 3\ndlv r4.1 4.1#1\nsend r4.1 a 4.1#2\nopen\n\
@@ -101,7 +101,7 @@ const CAUSE_NOT_DELIVERED: &str =
 const OTHER_ORDER: &str = "log 1\nconf r4.1 1 2\nsend r4.1 a 4.1#1\nsend r4.1 a 4.1#2\nopen\n\
     log 2\nconf r4.1 1 2\ndlv r4.1 4.1#2\ndlv r4.1 4.1#1\nopen\n";
 
-/// 2 delivers the second message of 1 in the configuration that follows, and the first one never.
+/// 2 delivers the second message of 1 in the configuration that follows, and never the first one.
 const FIRST_NEVER_DELIVERED: &str =
     "log 1\nconf r4.1 1 2\nsend r4.1 a 4.1#1\nsend r4.1 a 4.1#2\nconf t8.1/1 1 2\nopen\n\
     log 2\nconf r4.1 1 2\nconf t8.1/1 1 2\ndlv t8.1/1 4.1#2\nopen\n";
@@ -186,6 +186,7 @@ const ROWS: [Row; 9] = [
     },
 ];
 
+/// A walk says whether causal delivery holds between two processes, and reads no more entries than it may.
 #[test]
 fn walks_tell_whether_order_is_kept(rt: HostRuntime) -> Result<(), AllocError> {
     causality_is_of_pairs();

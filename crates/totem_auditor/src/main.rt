@@ -1,4 +1,4 @@
-//! The command `totem` where only verdicts are asked for: hands its words and the standard streams to the auditor.
+//! The command `totem` for verdicts only: calls the auditor with its arguments and the standard streams.
 #![tactic(auto)]
 
 use std::process::ExitCode;

@@ -12,7 +12,7 @@ use Rattle.totem_books.specs.History.{called}
 use Rattle.totem_books.specs.Journals.{Entered, calls_in, IsEntered, AreEntered, BeginWith, IsMet}
 use Rattle.totem_books.specs.Receipts.{FitRising, count_at, count_in, ShareNoPlace, Agree}
 
--- what stands in a list stands there also where the list goes on
+-- an element of a list is at the same place in a longer list that begins with it
 stays : (xs ys : List Entered) (k : ℕ) (e : Entered) → slice_get xs k ≡ Some e → slice_get (xs ++ ys) k ≡ Some e
 stays [] ys k e h = absurd (omega (arith, slice_get_within [] k e h))
 stays (x ∷ xs) ys zero e h = h
@@ -24,7 +24,7 @@ behind [] e (suc k) h = absurd (omega (arith, h))
 behind (x ∷ xs) e zero h = absurd (omega (arith, h))
 behind (x ∷ xs) e (suc k) h = behind xs e k (omega (arith, h))
 
--- receipts that were entered are so also where the journal goes on
+-- receipts that are in the journal are also in the journal when it is longer
 pub still_entered : (mark : ℕ) (seen more : List Entered) (low : ℕ) (stubs : List Receipt) → AreEntered mark seen low stubs → AreEntered mark (seen ++ more) low stubs
 still_entered mark seen more low [] h = tt
 still_entered mark seen more low (s ∷ ss) h = (h.0, stays seen more (s.at - 1) (mark, s) h.1, still_entered mark seen more s.at ss h.2)
@@ -112,7 +112,7 @@ no_place_of_both entries m n these those h k other = record { none = λ place so
 
 -- ---- receipts of all seats
 
--- no receipt at or below the place after which they rise
+-- no receipt is at or below the place from which they ascend
 none_below : (calls : List Called) (low place : ℕ) (stubs : List Receipt) → FitRising calls low stubs → place ≤ low → count_at place stubs ≡ 0
 none_below calls low place [] h below = refl
 none_below calls low place (s ∷ ss) h below = at (s.at == place) refl (none_below calls s.at place ss h.2 (let above = h.0 in omega (arith, above, below)))

@@ -38,7 +38,7 @@ fit_in_reach calls low [] t k d h = absurd (omega (arith, h))
 fit_in_reach calls low (s ∷ ss) t zero d h = (t.1.0, omega (arith, t.1.0, slice_get_within calls (s.at - 1) _ t.1.1))
 fit_in_reach calls low (s ∷ ss) t (suc k) d h = fit_in_reach calls s.at ss t.2 k d (omega (arith, h))
 
--- as many marks as places: each has one
+-- if there are as many marks as places, each place has one
 pub all_marked : (marks : List Bool) (k : ℕ) → marked marks ≡ length marks → k < length marks → mark_at marks k ≡ 1
 all_marked [] k e h = absurd (omega (arith, h))
 all_marked (true ∷ bs) zero e h = refl
@@ -59,7 +59,7 @@ mark_at-none n k h = ap (λ b. cond b 1 0) (get_or-replicate n k false false h)
 pub marked-none : (n : ℕ) → marked (replicate n false) ≡ 0
 marked-none n = sum_by-replicate (λ (b : Bool). cond b 1 0) n false ∙ omega arith
 
--- what marking all places tells
+-- what marking all places says about them
 pub agrees : (seats : List SeatRecord) (calls : List Called) (blank marks : List Bool) (b : Bool) → blank ≡ replicate (length calls) false
     → All (λ s. FitRising calls 0 s.stubs) seats
     → MatchBool b (Marks blank marks (λ p. count_in p seats) (receipts_in seats)) (MarksTwice blank (λ p. count_in p seats))

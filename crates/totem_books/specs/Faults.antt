@@ -1,4 +1,4 @@
--- Why a book takes no call, and why it isn't closed, by number and name (docs/PROTOCOL.md, "Books").
+-- Why a book refuses a call, and why it isn't closed, by number and name (docs/PROTOCOL.md, "Books").
 use Rattle.std.specs.Prelude.{ℕ, List, codes}
 use Rattle.totem_books.specs.declared.book_fault.BookFault.{BookFault}
 use Rattle.totem_books.specs.declared.book_fault.BookFault.TheVariants as book

@@ -1,4 +1,4 @@
--- A book, as contracts see it (docs/PROTOCOL.md, "Books").
+-- A book in contracts (docs/PROTOCOL.md, "Books").
 use Rattle.std.specs.Prelude.{◌≤◌, ◌⊎◌, ℕ, List, [], ◌∷◌, ◌++◌, length}
 use Rattle.totem_ids.specs.Names.{RingName}
 use Rattle.totem_evs.specs.declared.entry.Entry.{Entry}
@@ -10,7 +10,7 @@ use Rattle.totem_node.specs.Replay.{Answer}
 use Rattle.totem_books.specs.Calls.{Called, Receipt}
 use Rattle.totem_books.specs.Replay.{Start, replay, answer_to}
 
--- with what the node begins, and its calls
+-- a node's start and its calls
 pub record History : Type 0 where
   pub start : Start
   pub calls : List Called
@@ -26,11 +26,11 @@ begun start = record { start = start; calls = [] }
 abbrev pub log_of : History → List Entry
 log_of h = (replay h.start h.calls).entries
 
--- the node that the calls leave
+-- the node after the calls
 abbrev pub node_of : History → Node
 node_of h = (replay h.start h.calls).node
 
--- what the node answers to one more input
+-- the node's answer to one more input
 abbrev pub answer : History → Input → Outcome Answer
 answer h i = answer_to (step (node_of h) i)
 

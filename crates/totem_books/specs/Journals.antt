@@ -13,39 +13,39 @@ use Rattle.totem_books.specs.History.{History, called, answer}
 abbrev pub Entered : Type 0
 Entered = ℕ × Receipt
 
--- the calls that the receipts are of
+-- the calls that these are the receipts of
 abbrev pub calls_in : List Entered → List Called
 calls_in entries = map (λ (e : Entered). called e.1.input e.1.reply) entries
 
--- a book with these calls
+-- the book with these calls
 abbrev pub book_of : Start → List Called → History
 book_of start calls = record { start = start; calls = calls }
 
--- these calls begin with those
+-- `calls` begin with `those`
 pub record BeginWith (calls those : List Called) : Type 0 where
   pub more : List Called
   pub is : calls ≡ those ++ more
 
--- the last of the calls seen now, which begin with all that were seen before, is of this input. It was answered as the node answers
--- after all the others
+-- the calls seen now begin with all that were seen before, and the last of them is of this input. Its answer is that of the node
+-- after all the other calls
 pub record IsAnswered (start : Start) (before after : List Called) (i : Input) (reply : Outcome Answer) : Type 0 where
   pub between : List Called
   pub is : after ≡ (before ++ between) ++ called i reply ∷ []
   pub answered : reply ≡ answer (book_of start (before ++ between)) i
 
--- the receipt of one call more stands after all that was seen, at its place
+-- the receipt of one more call follows all that was seen, at its place
 pub record IsEntered (mark : ℕ) (before after : List Entered) (stub : Receipt) : Type 0 where
   pub between : List Entered
   pub is : after ≡ (before ++ between) ++ (mark, stub) ∷ []
   pub place : stub.at ≡ length after
 
--- each of these receipts stands at its place, with this mark, and the places rise from this one
+-- each of these receipts is in the journal at its place, with this mark, and the places ascend from this one
 abbrev pub AreEntered : ℕ → List Entered → ℕ → List Receipt → Type 0
 AreEntered mark entries low [] = Unit {0}
 AreEntered mark entries low (stub ∷ stubs) = (low < stub.at) × (slice_get entries (stub.at - 1) ≡ Some (mark, stub)) × AreEntered mark entries stub.at stubs
 
--- the receipts of the seat at this index fit the calls, which begin with those that it saw, and no receipts of an earlier seat are of a
--- place of these
+-- the receipts of the seat at this index fit the calls, which begin with those that it saw, and no receipt of an earlier seat has
+-- the same place as one of them
 pub record IsMet (calls : List Called) (seats : List SeatRecord) (at : ℕ) : Type 0 where
   pub fit : (d : SeatRecord) → FitRising calls 0 (slice_index_or seats at d).stubs
   pub seen : (d : SeatRecord) → BeginWith calls (slice_index_or seats at d).seen

@@ -7,32 +7,32 @@ use Rattle.totem_books.specs.Seats.{SeatRecord}
 abbrev pub Fits : List Called → Receipt → Type 0
 Fits calls stub = (0 < stub.at) × (slice_get calls (stub.at - 1) ≡ Some (record { input = stub.input; reply = stub.reply }))
 
--- the receipts fit the calls, and their places rise from this one
+-- the receipts fit the calls, and their places ascend from this one
 abbrev pub FitRising : List Called → ℕ → List Receipt → Type 0
 FitRising calls low [] = Unit {0}
 FitRising calls low (stub ∷ stubs) = (low < stub.at) × Fits calls stub × FitRising calls stub.at stubs
 
--- how many of these receipts are of a place
+-- the number of these receipts that have this place
 abbrev pub count_at : ℕ → List Receipt → ℕ
 count_at place stubs = count_by (λ (stub : Receipt). stub.at == place) stubs
 
--- how many receipts of all seats are of it
+-- the number of receipts of all seats that have this place
 abbrev pub count_in : ℕ → List SeatRecord → ℕ
 count_in place seats = sum_by (λ (seat : SeatRecord). count_at place seat.stubs) seats
 
--- how many receipts all seats have
+-- the number of receipts of all seats
 abbrev pub receipts_in : List SeatRecord → ℕ
 receipts_in seats = sum_by (λ (seat : SeatRecord). length seat.stubs) seats
 
--- the shares of all seats together
+-- the sum of all seats' shares
 abbrev pub shares_in : List SeatRecord → ℕ
 shares_in seats = sum_by (λ (seat : SeatRecord). seat.share) seats
 
--- no place has receipts of both
+-- no place has receipts in both lists
 pub record ShareNoPlace (these those : List Receipt) : Type 0 where
   pub none : (place : ℕ) → 0 < count_at place these → count_at place those ≡ 0
 
--- each seat's receipts fit the calls at rising places, and no two receipts are of one place
+-- each seat's receipts fit the calls at ascending places, and no two receipts have the same place
 pub record Agree (calls : List Called) (seats : List SeatRecord) : Type 0 where
   pub each : All (λ seat. FitRising calls 0 seat.stubs) seats
   pub apart : (k : ℕ) → k < length calls → count_in (k + 1) seats ≤ 1
@@ -41,24 +41,24 @@ pub record Agree (calls : List Called) (seats : List SeatRecord) : Type 0 where
 pub record Covers (calls : List Called) (seats : List SeatRecord) : Type 0 where
   pub one : (k : ℕ) → k < length calls → count_in (k + 1) seats ≡ 1
 
--- marks of places: how many stand at one, and in all
+-- marks of places: how many are set at one place, and in all
 abbrev pub mark_at : List Bool → ℕ → ℕ
 mark_at marks k = cond (slice_index_or marks k false) 1 0
 
 abbrev pub marked : List Bool → ℕ
 marked marks = count_by (λ b. b) marks
 
--- the place is within reach of so many marks
+-- the place is among the first n marks
 abbrev pub IsInReach : ℕ → Receipt → Type 0
 IsInReach n stub = (0 < stub.at) × (stub.at ≤ n)
 
--- each place has one mark more for each receipt of it, and none has two
+-- each place has one mark more for each receipt with it, and none has two
 pub record Marks (before after : List Bool) (count : ℕ → ℕ) (stubs : ℕ) : Type 0 where
   pub same_length : length after ≡ length before
   pub at : (k : ℕ) → k < length before → mark_at after k ≡ mark_at before k + count (k + 1)
   pub all : marked after ≡ marked before + stubs
 
--- a place that has a mark, or a receipt, too many
+-- a place that has a mark or a receipt too many
 pub record MarksTwice (before : List Bool) (count : ℕ → ℕ) : Type 0 where
   pub place : ℕ
   pub within : place < length before

@@ -1,4 +1,4 @@
--- What its calls make of a node: one step of the node for each (docs/PROTOCOL.md, "Books").
+-- The effect of a book's calls on a node: one step for each call (docs/PROTOCOL.md, "Books").
 use Rattle.std.specs.Prelude.{◌≡◌, ℕ, List, [], ◌∷◌, map, reverse, Ok, Err}
 use Rattle.totem_ids.specs.Names.{RingName}
 use Rattle.totem_evs.specs.declared.entry.Entry.{Entry}
@@ -7,17 +7,17 @@ use Rattle.totem_node.specs.Outcomes.{Outcome}
 use Rattle.totem_node.specs.Replay.{Answer, Life, born, one_input}
 use Rattle.totem_books.specs.Calls.{Called}
 
--- with what a node begins: who it is, and its first ring with the members
+-- a node's start: its process, its first ring and the ring's members
 pub record Start : Type 0 where
   pub me : ℕ
   pub ring : RingName
   pub members : List ℕ
 
--- the life that has only begun
+-- a node's life before its first input
 abbrev pub beginning : Start → Life
 beginning s = born s.me s.ring s.members
 
--- the calls with the last one first: it adds one input to the life that those before it make
+-- the calls with the last one first: it adds one input to the life that the calls before it make
 abbrev pub lived_back : Start → List Called → Life
 lived_back start [] = beginning start
 lived_back start (call ∷ before) = one_input (lived_back start before) call.input
@@ -29,12 +29,12 @@ replay start calls = lived_back start (reverse calls)
 abbrev pub replies_of : List Called → List (Outcome Answer)
 replies_of calls = map (λ (call : Called). call.reply) calls
 
--- what a step answers
+-- the answer to a step
 abbrev pub answer_to : Outcome Stepped → Outcome Answer
 answer_to (Ok s) = Ok (record { packets = s.packets; entries = s.entries; ring_steps = s.ring_steps })
 answer_to (Err fault) = Err fault
 
--- the node after it: a refused step leaves it
+-- the node after a step; a refused step leaves it as it was
 abbrev pub node_behind : Node → Outcome Stepped → Node
 node_behind node (Ok s) = s.node
 node_behind node (Err fault) = node

@@ -1,4 +1,4 @@
--- An input that a node took, with what a book keeps of it (docs/PROTOCOL.md, "Books").
+-- An input that a node took, and what a book stores of it (docs/PROTOCOL.md, "Books").
 use Rattle.std.specs.Prelude.{◌≡◌, ℕ, List, [], ◌∷◌, ◌++◌}
 use Rattle.totem_evs.specs.declared.entry.Entry.{Entry}
 use Rattle.totem_node.specs.declared.input.Input.{Input}
@@ -11,7 +11,7 @@ use Rattle.totem_books.specs.Calls.{Called, Receipt}
 use Rattle.totem_books.specs.Replay.{answer_to, node_behind}
 use Rattle.totem_books.specs.History.{called, receipt}
 
--- the node took the input, as the call of this place
+-- the node took the input, as the call at this place
 pub record IsTaken (before : Node) (i : Input) (place : ℕ) (behind : Node) (stub : Receipt) (reply : Outcome Answer) : Type 0 where
   pub node : behind ≡ node_behind before (step before i)
   pub answer : reply ≡ answer_to (step before i)

@@ -1,4 +1,4 @@
-//! What a shared book begins with.
+//! The ledger and the journal of a shared book, before it is opened.
 ghost use Rattle.std.specs.Prelude.{◌≡◌};
 
 use crate::call::Stub;
@@ -6,7 +6,7 @@ use std::marker::Model;
 use std::sync::ledger;
 use totem_journal::Journal;
 
-/// A new ledger, cut into parts, and a new journal. No type stands for them yet.
+/// A new ledger, divided into parts, and a new journal. No type names them yet.
 #[derive(Drop)]
 pub struct Blank {
     pub(crate) ledger: ledger::Blank,
@@ -25,7 +25,7 @@ impl Model for Blank {
 }
 
 impl Blank {
-    /// Makes a blank of so many parts.
+    /// Returns a blank with this many parts.
     pub fn new(parts: u64) -> Blank
         ensures { result.parts ≡ parts }
     {

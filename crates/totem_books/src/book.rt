@@ -16,10 +16,10 @@ use totem_evs::{Entry, Members};
 use totem_ids::{Proc, RingId};
 use totem_node::{Input, NodeCore};
 
-/// How many calls, and how many entries, make a book full.
+/// The number of calls, or of entries, at which a book is full.
 const MOST: usize = 1_000_000;
 
-/// A node with its calls and its log. Contracts see the calls, and what the node began with.
+/// A node with its calls and its log. Contracts see the calls and the node's start.
 #[derive(Debug, Drop)]
 pub struct Book {
     me: Proc,
@@ -42,8 +42,8 @@ impl Model for Book {
 }
 
 impl Book {
-    /// Makes the book of a node that starts on this ring, without calls. The members are 1 to 32 processes, strictly
-    /// rising by identifier, and are expected to have `me` among them.
+    /// Returns the book of a node that starts on this ring, without calls. The members are 1 to 32 processes, strictly
+    /// ascending by identifier, and are expected to have `me` among them.
     pub fn new(alloc: Global, me: Proc, ring: RingId, members: &[Proc]) -> Result<Book, AllocError>
         requires { IsMembers members.now }
         ensures { IfOk result (λ b. b ≡ begun (start_with me ring members.now)) }
@@ -67,7 +67,7 @@ impl Book {
         &self.calls
     }
 
-    /// Returns the entries: the first change, and then what the calls wrote.
+    /// Returns the entries of the log: the first change, and then those that the calls wrote.
     pub fn log(&self) -> &[Entry]
         ensures { result.now ≡ log_of self.now }
     {

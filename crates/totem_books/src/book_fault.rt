@@ -1,4 +1,4 @@
-//! Why a book takes no call.
+//! Why a book refuses a call.
 ghost use Rattle.std.specs.Prelude.{◌≡◌};
 ghost use Rattle.totem_books.specs.declared.book_fault.BookFault.TheVariants.{Memory};
 ghost use Rattle.totem_books.specs.Faults.{book_number, book_name};
@@ -6,7 +6,7 @@ ghost use Rattle.totem_books.specs.Faults.{book_number, book_name};
 use std::alloc::{AllocError, AllocFailed};
 use thiserror::Error;
 
-/// Why a book takes no call (docs/PROTOCOL.md, "Books").
+/// Why a book refuses a call (docs/PROTOCOL.md, "Books").
 #[derive(Clone, Copy, Debug, PartialEq, Eq, Error)]
 pub enum BookFault {
     #[error("1,000,000 calls or entries are stored")]

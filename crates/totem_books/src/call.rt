@@ -7,7 +7,7 @@ use std::alloc::{AllocError, Global};
 use std::marker::Model;
 use totem_node::Input;
 
-/// An input, and what the node answered to it.
+/// An input and the node's answer to it.
 #[derive(Debug, Drop)]
 pub struct Call {
     pub input: Input,

@@ -1,4 +1,4 @@
-//! The end of a shared book, once its seats have come back.
+//! Closes a shared book when its seats are back.
 ghost use Rattle.std.specs.Prelude.{◌≡◌, ◌<◌, All, IfOk, IfErr, vec_len, length};
 ghost use Rattle.totem_books.specs.Replay.{IsRecorded};
 ghost use Rattle.totem_books.specs.History.{start_with};
@@ -14,7 +14,7 @@ use crate::shared::SharedBook;
 use std::alloc::Global;
 use std::sync::Mutex;
 
-/// Why a book was not closed. The book and the seats are given back, so that closing may be tried again.
+/// Why a book was not closed. The book and the seats are given back, so that closing can be tried again.
 #[derive(Drop)]
 pub struct CloseRefused<L: BookName> {
     pub fault: CloseFault,
@@ -23,7 +23,7 @@ pub struct CloseRefused<L: BookName> {
 }
 
 impl<L: BookName> SharedBook<L> {
-    /// Closes the book if all its seats have come back and each has the receipts of its calls. Waits for nobody.
+    /// Closes the book if all its seats are back and each has the receipts of its calls. Doesn't block.
     pub fn close(self, alloc: Global, seats: Vec<Seat<L>>) -> Result<ClosedBook, CloseRefused<L>>
         ensures shares { IfOk result (λ b. length b.calls ≡ shares_in seats.items) }
         ensures receipts { IfOk result (λ b. length b.calls ≡ receipts_in seats.items) }
@@ -34,7 +34,7 @@ impl<L: BookName> SharedBook<L> {
         ensures log { IfOk result (λ b. IsRecorded (start_with L.me L.ring L.members) b.calls b.log) }
         ensures back { IfErr result (λ e. e.seats.items ≡ seats.items) }
         ensures missing { IfErr result (λ e. e.fault ≡ CloseFault.SeatMissing → vec_len seats < L.parts) }
-        // The seats' receipts are those of the book's calls: their types keep it, with the journal.
+        // The seats' receipts are those of the book's calls: this is an invariant of their types, together with the journal.
         ensures mismatch { IfErr result (λ e. e.fault ≡ CloseFault.ReceiptMismatch → ⊥) }
     {
         if (seats.len() as u64) < self.count.seats {

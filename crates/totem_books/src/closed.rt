@@ -59,7 +59,7 @@ impl ClosedBook {
         self.calls.as_slice()
     }
 
-    /// Returns the entries: the first change, and then what the calls wrote.
+    /// Returns the entries of the log: the first change, and then those that the calls wrote.
     pub fn log(&self) -> &[Entry]
         ensures value { result.now ≡ self.now.log }
         ensures replay { IsRecorded self.now.start self.now.calls self.now.log }

@@ -11,7 +11,7 @@ use std::alloc::{AllocError, Global};
 use totem_evs::Entry;
 use totem_node::{Input, NodeCore};
 
-/// Makes the receipt of the call at this place.
+/// Returns the receipt of the call at this place.
 fn receipt_of(alloc: Global, place: u64, input: &Input, reply: &Reply) -> Result<Stub, AllocError>
     ensures { IfOk result (λ stub. stub ≡ receipt place input.now (answer_of reply.now)) }
 {

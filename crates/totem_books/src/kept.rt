@@ -1,4 +1,4 @@
-//! What lies under the lock of a shared book.
+//! The contents of a shared book's lock.
 ghost use Rattle.std.specs.Prelude.{◌≡◌, ◌<◌, ◌+◌, Err, IfOk, IfErr, OnOk, OnErr, length};
 ghost use Rattle.totem_books.specs.Replies.{answer_of};
 ghost use Rattle.totem_books.specs.History.{start_with, answer, called, receipt, followed_by, IsFull};
@@ -16,8 +16,8 @@ use std::sync::ledger::Share;
 use totem_journal::{Journal, Pen};
 use totem_node::Input;
 
-/// A book that begins as its name says, with the total of the ledger, which is the number of its calls, and with the journal, which
-/// has the receipt of each of them.
+/// The book of this name, the total of the ledger, which is the number of the book's calls, and the journal, which
+/// has the receipt of each call.
 #[derive(Drop)]
 pub struct Kept<L: BookName> {
     pub book: Book,
@@ -30,8 +30,8 @@ pub struct Kept<L: BookName> {
 }
 
 impl<L: BookName> Kept<L> {
-    /// Makes one call more, counts it in the share, and enters its receipt in the journal. At a fault nothing
-    /// changes. In any case the pen has seen the receipts of all calls then.
+    /// Makes one more call, counts it in the share, and notes its receipt in the journal. At a fault nothing
+    /// changes. In both cases the pen has then seen the receipts of all calls.
     pub fn apply(
         &mut self,
         alloc: Global,

@@ -10,8 +10,8 @@ use std::mem;
 use totem_node::{Input, NodeCore};
 
 /// A node with a copy that takes each input first. The copy then takes the node's place, and the node catches up by
-/// taking the same input. So an input costs two steps, and the node is copied only the first time, and again where
-/// memory was refused as it caught up. Contracts see the node.
+/// taking the same input. So an input takes two steps, and the node is copied only the first time, and again after
+/// memory was refused while it caught up. Contracts see the node.
 #[derive(Debug, Drop)]
 pub struct Level {
     node: NodeCore,
@@ -36,7 +36,7 @@ impl Level {
         Level { node, copy: None }
     }
 
-    /// Hands out the copy, and makes a new one if there is none.
+    /// Takes the copy out, and makes a new one if there is none.
     pub fn copy(&mut self, alloc: Global) -> Result<NodeCore, AllocError>
         ensures copy { IfOk result (λ copy. copy ≡ self.old) }
         ensures kept { self.new ≡ self.old }
@@ -47,7 +47,7 @@ impl Level {
         }
     }
 
-    /// Puts the copy, which has taken the input, in the node's place. The node catches up with it if it finds the memory.
+    /// Puts the copy, which has taken the input, in the node's place. The node then catches up, unless it runs out of memory.
     #[tactic(auto, using(crate::proofs::Steps::comes_level))]
     pub fn follow(&mut self, alloc: Global, copy: NodeCore, input: Input)
         requires { copy ≡ node_behind self.old (step self.old input) }

@@ -1,4 +1,4 @@
-//! Books: what a node was given and what it answered, call by call, and the receipts that the callers keep.
+//! Books: a node's inputs and its answers, call by call, and the receipts that the callers keep.
 #![tactic(auto)]
 
 mod blank;

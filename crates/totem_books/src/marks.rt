@@ -1,4 +1,4 @@
-//! Marks of the places that receipts have.
+//! Marks of the places of receipts.
 ghost use Rattle.std.specs.Prelude.{◌≡◌, MatchBool, IfOk, All, length, replicate, false};
 ghost use Rattle.totem_books.specs.Receipts.{count_at, count_in, receipts_in, IsInReach, Marks, MarksTwice};
 
@@ -7,7 +7,7 @@ use crate::name::BookName;
 use crate::seat::Seat;
 use std::alloc::{AllocError, Global};
 
-/// Returns marks for so many places, none of them set.
+/// Returns this many marks, none of them set.
 pub fn no_marks(alloc: Global, places: usize) -> Result<Vec<bool>, AllocError>
     ensures { IfOk result (λ marks. marks.items ≡ replicate places false) }
 {
@@ -31,7 +31,7 @@ pub fn mark(marks: &mut [bool], stubs: &[Stub]) -> bool
     true
 }
 
-/// Does the same for the receipts of all seats.
+/// Marks the places of all seats' receipts, and returns whether none of these was marked before.
 pub fn mark_seats<L: BookName>(marks: &mut [bool], seats: &[Seat<L>]) -> bool
     requires { All (λ seat. All (IsInReach (length marks.old)) seat.stubs) seats.now }
     ensures { MatchBool result (Marks marks.old marks.new (λ place. count_in place seats.now) (receipts_in seats.now))

@@ -1,4 +1,4 @@
-//! The seats meet the journal again: what it shows of their receipts. Nothing here does anything when it runs.
+//! What the journal says about the seats' receipts when the seats are back. Nothing here does anything when it runs.
 ghost use Rattle.std.specs.Prelude.{◌≡◌, ◌<◌, All, length};
 ghost use Rattle.totem_books.specs.Journals.{BeginWith, IsMet};
 ghost use Rattle.totem_books.specs.Receipts.{FitRising, ShareNoPlace, Agree};
@@ -7,7 +7,7 @@ use crate::kept::Kept;
 use crate::name::BookName;
 use crate::seat::Seat;
 
-/// Tells that a seat's receipts are those of calls of the book, and that the book's calls begin with those that it saw.
+/// Does nothing. The contract says that a seat's receipts are of the book's calls, which begin with those that the seat saw.
 fn meet<L: BookName>(kept: &mut Kept<L>, seat: &mut Seat<L>)
     ensures book { kept.new.book ≡ kept.old.book }
     ensures seat { seat.new ≡ seat.old }
@@ -17,7 +17,7 @@ fn meet<L: BookName>(kept: &mut Kept<L>, seat: &mut Seat<L>)
     kept.journal.look(&mut seat.pen);
 }
 
-/// Tells that no receipts of two seats are of one place.
+/// Does nothing. The contract says that no receipts of two seats have the same place.
 fn tell_apart<L: BookName>(kept: &mut Kept<L>, one: &mut Seat<L>, other: &mut Seat<L>)
     ensures book { kept.new.book ≡ kept.old.book }
     ensures one { one.new ≡ one.old }
@@ -29,7 +29,7 @@ fn tell_apart<L: BookName>(kept: &mut Kept<L>, one: &mut Seat<L>, other: &mut Se
     one.pen.apart(&mut other.pen);
 }
 
-/// Tells the same of a seat and each of these others.
+/// Does nothing. The contract says the same of a seat and each of these others.
 fn tell_apart_from<L: BookName>(kept: &mut Kept<L>, one: &mut Seat<L>, others: &mut [Seat<L>])
     ensures book { kept.new.book ≡ kept.old.book }
     ensures one { one.new ≡ one.old }
@@ -41,7 +41,7 @@ fn tell_apart_from<L: BookName>(kept: &mut Kept<L>, one: &mut Seat<L>, others: &
     }
 }
 
-/// Tells of one of the seats that its receipts are those of calls, and that none of them has the place of one of an earlier seat.
+/// Does nothing. The contract says that the receipts of one seat are of calls, at other places than those of earlier seats.
 fn meet_at<L: BookName>(kept: &mut Kept<L>, seats: &mut [Seat<L>], at: usize)
     requires { at < length seats.old }
     ensures book { kept.new.book ≡ kept.old.book }
@@ -54,7 +54,7 @@ fn meet_at<L: BookName>(kept: &mut Kept<L>, seats: &mut [Seat<L>], at: usize)
     tell_apart_from(kept, seat, earlier);
 }
 
-/// Tells that all seats' receipts agree with the calls of the book, and that these begin with what each seat saw.
+/// Does nothing. The contract says that all seats' receipts agree with the book's calls, which begin with what each seat saw.
 pub fn meet_all<L: BookName>(kept: &mut Kept<L>, seats: &mut [Seat<L>])
     ensures book { kept.new.book ≡ kept.old.book }
     ensures seats { seats.new ≡ seats.old }

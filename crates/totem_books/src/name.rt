@@ -1,8 +1,8 @@
-//! How a shared book is named.
+//! The names of shared books.
 use std::marker::Brand;
 use std::sync::ledger::Ledger;
 
-/// The name of a shared book: a ledger, a journal, and what the book's node begins with. It is a type of which no value is made; a
+/// The name of a shared book: a ledger, a journal, and the start of the book's node. It is a type without values; a
 /// function that is generic over it is called at `Brand`.
 pub trait BookName: Ledger {
     ghost use Rattle.std.specs.Prelude.{ℕ, List};

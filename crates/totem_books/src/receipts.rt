@@ -21,7 +21,7 @@ pub fn fits(calls: &[Call], stub: &Stub) -> bool
     }
 }
 
-/// Returns whether one seat's receipts stand at rising places and have the inputs and replies of the calls there.
+/// Returns whether one seat's receipts are at ascending places and have the inputs and replies of the calls there.
 pub fn fit_rising(calls: &[Call], stubs: &[Stub]) -> bool
     ensures { IsTrue result ↔ FitRising calls.now 0 stubs.now }
 {
@@ -35,7 +35,7 @@ pub fn fit_rising(calls: &[Call], stubs: &[Stub]) -> bool
     true
 }
 
-/// Returns whether this holds of each seat's receipts.
+/// Returns whether this holds for each seat's receipts.
 fn each_fits<L: BookName>(calls: &[Call], seats: &[Seat<L>]) -> bool
     ensures { IsTrue result ↔ All (λ seat. FitRising calls.now 0 seat.stubs) seats.now }
 {

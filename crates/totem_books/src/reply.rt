@@ -7,7 +7,7 @@ use totem_evs::Entry;
 use totem_ids::{are_same, copied};
 use totem_node::{NodeFault, StepOut};
 
-/// A node's answer to an input: what its step gave, or why the step was refused.
+/// A node's answer to an input: the result of its step, or why the step was refused.
 #[derive(Debug, Drop)]
 pub enum Reply {
     Done(StepOut),
@@ -26,7 +26,7 @@ impl Reply {
         })
     }
 
-    /// Returns whether the two replies say the same.
+    /// Returns whether the two replies are equal.
     pub fn is(&self, other: &Reply) -> bool
         ensures { IsTrue result ↔ (answer_of self.now ≡ answer_of other.now) }
     {

@@ -1,4 +1,4 @@
-//! What a thread needs to make calls.
+//! A thread's access to a shared book.
 ghost use Rattle.std.specs.Prelude.{◌≡◌, [], length};
 
 use crate::call::Stub;
@@ -8,8 +8,8 @@ use std::marker::Model;
 use std::sync::ledger::Share;
 use totem_journal::Pen;
 
-/// What a thread needs to make calls of a shared book, with the receipts of the calls that it made. A seat has one part
-/// of the book's ledger, and a share of the calls that is as large as the number of its receipts. All its receipts stand in the
+/// A thread's access to a shared book, with the receipts of the calls that the thread made. A seat has one part
+/// of the book's ledger, and a share of the calls that is as large as the number of its receipts. All its receipts are in the
 /// book's journal, at their places and with the seat's own mark.
 #[derive(Drop)]
 pub struct Seat<L: BookName> {
@@ -32,7 +32,7 @@ impl<L: BookName> Model for Seat<L> {
 }
 
 impl<L: BookName> Seat<L> {
-    /// Makes a seat that has made no call.
+    /// Returns a seat that has made no call.
     pub(crate) fn new(alloc: Global, share: Share<L>, pen: Pen<Stub>) -> Seat<L>
         requires share { (share.parts ≡ 1) × (share.amount ≡ 0) }
         requires pen { pen.journal ≡ L.journal }

@@ -1,4 +1,4 @@
-//! Compares the seats' receipts with what lay under the lock.
+//! Compares the seats' receipts with the contents of the lock.
 ghost use Rattle.std.specs.Prelude.{◌≡◌, ◌<◌, ◌≤◌, All, IfOk, IfErr, vec_len, length};
 ghost use Rattle.totem_books.specs.History.{start_with};
 ghost use Rattle.totem_books.specs.Journals.{BeginWith};
@@ -14,7 +14,7 @@ use crate::seat::Seat;
 use std::alloc::Global;
 use std::sync::ledger::Share;
 
-/// What lay under the lock and the seats, given back because memory was refused.
+/// The contents of the lock and the seats, given back because memory was refused.
 #[derive(Drop)]
 pub struct Unsettled<L: BookName> {
     pub fault: CloseFault,
@@ -22,7 +22,7 @@ pub struct Unsettled<L: BookName> {
     pub seats: Vec<Seat<L>>,
 }
 
-/// Merges the shares of all seats. They add up to the receipts, and there are no more parts than the ledger has.
+/// Merges the shares of all seats. They add up to the number of receipts, and there are at most as many as the ledger has parts.
 pub fn merged<L: BookName>(seats: Vec<Seat<L>>) -> Share<L>
     requires some { 0 < vec_len seats }
     requires whole { 0 < L.parts }
@@ -52,8 +52,8 @@ pub fn merged<L: BookName>(seats: Vec<Seat<L>>) -> Share<L>
     all
 }
 
-/// Compares the seats' receipts with what lay under the lock, and closes the book. That they agree is known before they are compared:
-/// the journal shows it.
+/// Compares the seats' receipts with the contents of the lock, and closes the book. The journal proves already that they
+/// agree.
 pub fn settle<L: BookName>(
     alloc: Global,
     kept: Kept<L>,

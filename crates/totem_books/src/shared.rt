@@ -19,7 +19,7 @@ use std::sync::{Mutex, Wait};
 use totem_ids::{Proc, RingId};
 use totem_node::Input;
 
-/// How many seats a book has: one for each part of its ledger.
+/// The number of a book's seats: one for each part of its ledger.
 #[derive(Drop)]
 pub(crate) struct Count<L: Ledger> {
     pub seats: u64,
@@ -28,7 +28,7 @@ pub(crate) struct Count<L: Ledger> {
     pub ghost some: { 0 < seats },
 }
 
-/// A book that threads share, each by a seat of its own. While nobody has the lock, the log and the stored replies are
+/// A book that threads share, each with a seat of its own. While no thread has the lock, the log and the stored replies are
 /// the replay of the stored inputs, the ledger counts the calls, and the journal has their receipts.
 #[derive(Drop)]
 pub struct SharedBook<L: BookName> {
@@ -37,8 +37,8 @@ pub struct SharedBook<L: BookName> {
 }
 
 impl<L: BookName> SharedBook<L> {
-    /// Makes a book without calls, of a node that starts on this ring, and its seats: 1 to 64, one for each part of the
-    /// blank. If memory is refused the ledger and the journal end.
+    /// Returns a book without calls, of a node that starts on this ring, and its seats: 1 to 64, one for each part of the
+    /// blank. If memory is refused, the ledger and the journal are lost.
     pub fn new(
         alloc: Global,
         blank: Blank,
@@ -77,9 +77,9 @@ impl<L: BookName> SharedBook<L> {
         Ok((SharedBook { lock, count }, empty))
     }
 
-    /// Waits for the lock, gives the node one input, and puts the receipt into the seat. At a fault the seat's receipts are unchanged.
-    /// The calls that the seat has seen begin with those that it saw before. The reply is the node's after all the others, and
-    /// `Long` comes where those calls fill the book.
+    /// Waits for the lock, gives the node one input, and adds the receipt to the seat. At a fault the seat's receipts are unchanged.
+    /// The calls that the seat has seen begin with those that it saw before. The reply is the node's after all the other calls;
+    /// `Long` is returned if those calls fill the book.
     pub fn call(
         &self,
         rt: &impl Wait,

@@ -16,7 +16,7 @@ use Rattle.totem_cluster.specs.declared.io_fault.IoFault.TheVariants as faults
 
 -- ---- no further than is looked at
 
--- a byte more than there is room for decides
+-- one byte more than is allowed decides
 pub front_lines : (room : ℕ) (bytes : List ℕ) → lines_of room (take (suc room) bytes) ≡ lines_of room bytes
 unfolding lines_of
 front_lines room [] = refl
@@ -68,7 +68,7 @@ read_to_end a b c read count far few at keeps failures = record {
   failures = failures ∙ far.failures;
 }
 
--- it is longer than is looked at
+-- it is longer than what is read
 pub read_far : (a b : Seen) (read : List ℕ) (count : ℕ) → SoFar a b read count → count ≡ most_read → IsRead a b read
 read_far a b read count far many = record {
   taken = far.taken;
@@ -78,7 +78,7 @@ read_far a b read count far many = record {
 
 -- ---- the run
 
--- the input ended, or was read as far as it is looked at
+-- the input ended, or was read up to the limit
 pub read_whole : (a b : Seen) (read : List ℕ) (failed : Bool) → IsReading failed a b read → failed ≡ false → IsRead a b read
 read_whole a b read false is unfailed = is
 read_whole a b read true is unfailed = absurd cc

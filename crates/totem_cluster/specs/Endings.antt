@@ -1,4 +1,4 @@
--- How the program ends: its status, and what it tells (docs/SPECIFICATIONS.md, "The program").
+-- How the program ends: its status, and what it prints (docs/SPECIFICATIONS.md, "The program").
 use Rattle.std.specs.Prelude.{◌≡◌, ℕ, List, ◌++◌, codes, Ok, Err}
 use Rattle.clap.specs.declared.error.kind.ErrorKind.{ErrorKind}
 use Rattle.totem_ids.specs.Sources.{Seen}
@@ -27,7 +27,7 @@ script_line_of kind = line (refusal_text (codes "totem: script refused: ") (scri
 abbrev pub script_line : ScriptFault → List ℕ
 script_line fault = script_line_of fault.kind
 
--- the line that tells a fault
+-- the line that reports a fault
 abbrev pub fault_line : IoFault → List ℕ
 fault_line (faults.Run fault) = run_line fault
 fault_line (faults.Cert fault) = cert_line fault
@@ -53,35 +53,35 @@ fault_status faults.Write = 4
 
 -- ---- the program
 
--- what comes of nodes that are to run in threads, and the status
+-- the result of a run of nodes in threads, and the status
 pub data Plays (was is quiet said : Held) : ℕ → Type 0 where
   -- they ran, and their run was written
   recorded : (nodes : ℕ) (outcome : Outcome) → Records nodes was is (Ok outcome) → said ≡ quiet → Plays was is quiet said (outcome_status outcome)
-  -- it was not, and the fault is told
+  -- it was not, and the fault is reported
   unrecorded : (nodes : ℕ) (fault : IoFault) → Records nodes was is (Err fault) → Tells quiet said (fault_line fault) → Plays was is quiet said (fault_status fault)
   -- they ran, and their ring was woven
   woven : (nodes : ℕ) (weave : Weave) → WeavesRun nodes was is (Ok weave) → said ≡ quiet → Plays was is quiet said (weave_status weave)
-  -- it was not, and the fault is told
+  -- it was not, and the fault is reported
   unwoven : (nodes : ℕ) (fault : IoFault) → WeavesRun nodes was is (Err fault) → Tells quiet said (fault_line fault) → Plays was is quiet said (fault_status fault)
-  -- the numbers don't fit together, which is told
+  -- the numbers don't fit together, which is reported
   unfit : (text : List ℕ) → is ≡ was → Tells quiet said text → Plays was is quiet said 64
 
--- what is told of a fault: its line with words after it, or that memory was refused for these; and the status
+-- what is printed for a fault: its line and an explanation, or that memory for the explanation was refused; and the status
 pub data Points (fault : IoFault) (quiet said : Held) : ℕ → Type 0 where
   pointed : (words : List ℕ) → Tells quiet said (fault_line fault ++ words) → Points fault quiet said (fault_status fault)
   wordless : Tells quiet said memory_line → Points fault quiet said 3
 
--- what was read, what the output and the errors got, and the status
+-- what was read, what was written to the output and the errors, and the status
 pub data Ends (old new : Seen) (was is quiet said : Held) : ℕ → Type 0 where
-  -- the words ask for a verdict
+  -- the arguments ask for a verdict
   asked : (status : ℕ) → Judges old new was is quiet said status → Ends old new was is quiet said status
   -- a script was read, and its run written
   simulated : (outcome : Outcome) → Simulates old new was is (Ok outcome) → said ≡ quiet → Ends old new was is quiet said (outcome_status outcome)
-  -- it was not, and the fault is told
+  -- it was not, and the fault is reported
   unsimulated : (fault : IoFault) → Simulates old new was is (Err fault) → Tells quiet said (fault_line fault) → Ends old new was is quiet said (fault_status fault)
-  -- it makes no run, and the fault is told with words after it
+  -- it makes no run, and the fault is reported with an explanation
   unfollowed : (fault : IoFault) (status : ℕ) → Simulates old new was is (Err fault) → Points fault quiet said status → Ends old new was is quiet said status
-  -- nothing was read, and nodes were to run in threads
+  -- nothing was read, and a run of nodes in threads was asked for
   played : (status : ℕ) → new ≡ old → Plays was is quiet said status → Ends old new was is quiet said status
-  -- nothing was read, and the words are answered; what the text is, and for which words, is not said here
+  -- nothing was read, and the arguments are answered; the contract says neither with which text nor for which arguments
   answered : (kind : ErrorKind) (status : ℕ) → new ≡ old → Answers kind was is quiet said status → Ends old new was is quiet said status

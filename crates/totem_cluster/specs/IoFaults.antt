@@ -1,4 +1,4 @@
--- The faults of calls from stream to stream, and what the calls of totem_verdicts answer in their words.
+-- The faults of calls from stream to stream, and the results of totem_verdicts with these faults.
 use Rattle.std.specs.Prelude.{◌≡◌, ℕ, List, Result, Ok, Err, codes}
 use Rattle.totem_evs.specs.declared.writing.WriteFault.{WriteFault}
 use Rattle.totem_evs.specs.declared.writing.WriteFault.TheVariants as write_faults
@@ -10,7 +10,7 @@ use Rattle.totem_verdicts.specs.declared.verdict_fault.VerdictFault.TheVariants 
 use Rattle.totem_cluster.specs.declared.io_fault.IoFault.{IoFault}
 use Rattle.totem_cluster.specs.declared.io_fault.IoFault.TheVariants as faults
 
--- the number of a fault, and its name
+-- the number and the name of a fault
 abbrev pub io_number : IoFault → ℕ
 io_number (faults.Run fault) = 1
 io_number (faults.Cert fault) = 2
@@ -29,7 +29,7 @@ io_name (faults.Book trouble) = codes "Book"
 io_name faults.Memory = codes "Memory"
 io_name faults.Write = codes "Write"
 
--- what a fault of a verdict is
+-- a fault of a verdict among all faults
 abbrev pub verdict_io_fault : VerdictFault → IoFault
 verdict_io_fault (verdict_faults.Run fault) = faults.Run fault
 verdict_io_fault (verdict_faults.Cert fault) = faults.Cert fault
@@ -37,21 +37,21 @@ verdict_io_fault (verdict_faults.Refused fault) = faults.Refused fault
 verdict_io_fault verdict_faults.Memory = faults.Memory
 verdict_io_fault verdict_faults.Write = faults.Write
 
--- what a fault of a text that is written is
+-- a fault of writing a text among all faults
 abbrev pub write_io_fault : WriteFault → IoFault
 write_io_fault write_faults.Memory = faults.Memory
 write_io_fault write_faults.Write = faults.Write
 
--- what a fault of a run in threads is
+-- a fault of a run in threads among all faults
 abbrev pub threads_io_fault : ThreadsFault → IoFault
 threads_io_fault threads_faults.Memory = faults.Memory
 threads_io_fault (threads_faults.Book trouble) = faults.Book trouble
 
--- an answer with its fault as one of all faults
+-- the same result, with its fault among all faults
 abbrev pub among_all : Result Outcome VerdictFault → Result Outcome IoFault
 among_all (Ok outcome) = Ok outcome
 among_all (Err fault) = Err (verdict_io_fault fault)
 
--- the answer is one that holds, with its fault as one of all
+-- the result is one for which the property holds, with its fault among all faults
 abbrev pub Gives : (Result Outcome VerdictFault → Type 0) → Result Outcome IoFault → Type 0
 Gives holds answer = (verdict : Result Outcome VerdictFault) × holds verdict × (answer ≡ among_all verdict)

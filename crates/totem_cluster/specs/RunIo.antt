@@ -13,7 +13,7 @@ use Rattle.totem_verdicts.specs.declared.outcome.Outcome.TheVariants as outcomes
 use Rattle.totem_cluster.specs.declared.io_fault.IoFault.{IoFault}
 use Rattle.totem_cluster.specs.declared.io_fault.IoFault.TheVariants as faults
 
--- a book was full, or its log too long for a run, and nothing else of a book; or memory or a thread was refused
+-- a book was full or its log too long for a run, which are the only faults of a book; or memory or a thread was refused
 abbrev pub IsOfThreads : IoFault → Type 0
 IsOfThreads (faults.Book trouble) = IsFullBook trouble
 IsOfThreads faults.Memory = Unit {0}
@@ -23,8 +23,8 @@ IsOfThreads (faults.Cert fault) = ⊥
 IsOfThreads (faults.Refused fault) = ⊥
 IsOfThreads (faults.Script fault) = ⊥
 
--- a book was closed for each of so many nodes, and the text of their logs was written, in the first version whose texts
--- can write them, and nothing else
+-- a book was closed for each of this many nodes, and the text of their logs and nothing else was written, in the first version whose
+-- texts can write them
 pub record IsRecorded (nodes : ℕ) (was is : Held) : Type 0 where
   pub books : List Closed
   pub run : RunRecord
@@ -33,7 +33,7 @@ pub record IsRecorded (nodes : ℕ) (was is : Held) : Type 0 where
   pub run_of : IsRunOf nodes books run.logs
   pub written : Wrote was is (run_text run)
 
--- a book was full, or its log too long, and nothing else of a book; or memory or a thread was refused: nothing was written; or the
+-- the run was written; or nothing was, because a book was full, its log was too long, or memory or a thread was refused; or the
 -- sink failed in this call
 abbrev pub Records : ℕ → Held → Held → Result Outcome IoFault → Type 0
 Records nodes was is (Ok outcomes.Made) = IsRecorded nodes was is

@@ -1,4 +1,4 @@
--- The plan that the words of a run ask for (docs/PROTOCOL.md, "A run in threads").
+-- The plan that the arguments of a run ask for (docs/PROTOCOL.md, "A run in threads").
 use Rattle.totem_threads.specs.Starts.{run_plan}
 use Rattle.totem_threads.specs.declared.plan.RunPlan.{RunPlan}
 use Rattle.totem_verdicts.specs.declared.run_words.RunWords.{RunWords}

@@ -1,4 +1,4 @@
--- What simulating a script from a stream answers, and what it leaves (docs/PROTOCOL.md, "Scripts").
+-- What simulating a script from a stream returns, reads and writes (docs/PROTOCOL.md, "Scripts").
 use Rattle.std.specs.Prelude.{◌≡◌, ◌⊎◌, ℕ, ◌+◌, ◌%◌, ◌^◌, ◌==◌, ◌≤◌, List, length, take, count_by, Bool, true, false, IfSome, Result, Ok, Err}
 use Rattle.std.specs.declared.alloc.AllocError.{AllocError}
 use Rattle.std.specs.Io.KnownBytes.{Consumes}
@@ -19,11 +19,11 @@ use Rattle.totem_cluster.specs.declared.io_fault.IoFault.TheVariants as faults
 
 -- ---- reading
 
--- as many bytes as are looked at: one more than a script may have
+-- the number of bytes that are read at most: one more than a script may have
 abbrev pub most_read : ℕ
 most_read = 65537
 
--- the script was read: to the end of the input, or as far as it is looked at
+-- the script was read, to the end of the input or up to that number of bytes
 pub record IsRead (old new : Seen) (read : List ℕ) : Type 0 where
   pub taken : Consumes old.remaining new.remaining read
   pub whole : IfSome old.remaining (λ bytes. read ≡ take most_read bytes)
@@ -38,18 +38,18 @@ abbrev pub IsReading : Bool → Seen → Seen → List ℕ → Type 0
 IsReading false old new read = IsRead old new read
 IsReading true old new read = BreaksOff old new read
 
--- what reading a script answers
+-- the result of reading a script
 abbrev pub ReadsScript : Seen → Seen → Result Reading AllocError → Type 0
 ReadsScript old new (Ok reading) = IsReading reading.failed old new reading.bytes.items × (length reading.bytes.items ≤ most_read)
 ReadsScript old new (Err e) = new.failures ≡ old.failures
 
 -- ---- faults
 
--- the script can't be read on: the line that is under way is told
+-- the script can't be read further: the fault names the line that is under way
 abbrev pub unread : List ℕ → ScriptFault
 unread read = record { kind = Read; line = count_by (λ b. b == 10) read + 1 }
 
--- what is wrong with an earlier line comes first
+-- a fault in an earlier line takes precedence
 abbrev pub unless_earlier : ScriptFault → ScriptFault → ScriptFaultKind → ScriptFault
 unless_earlier now earlier Truncated = now
 unless_earlier now earlier Memory = now
@@ -63,13 +63,13 @@ fault_of_rest now (Err earlier) = unless_earlier now earlier earlier.kind
 abbrev pub fault_behind : List ℕ → ScriptFault
 fault_behind read = fault_of_rest (unread read) (simulate read)
 
--- a call that tells this fault, unless memory was refused
+-- a call that reports this fault, unless memory was refused
 abbrev pub TellsBehind : IoFault → List ℕ → Type 0
 TellsBehind (faults.Script fault) read = fault ≡ fault_behind read
 TellsBehind faults.Memory read = Unit {0}
 TellsBehind fault read = ⊥
 
--- the run that is made of a script, or what is wrong with it, unless memory was refused
+-- the script's run or its fault, unless memory was refused
 abbrev pub MakesRun : Result Run IoFault → List ℕ → Type 0
 MakesRun (Ok run) script = simulate script ≡ Ok run
 MakesRun (Err (faults.Script fault)) script = simulate script ≡ Err fault
@@ -78,18 +78,18 @@ MakesRun (Err fault) script = ⊥
 
 -- ---- the call
 
--- without the bytes of the script
+-- the result without the bytes of the script
 abbrev pub fault_alone : Result Outcome Unmade → Result Outcome IoFault
 fault_alone (Ok outcome) = Ok outcome
 fault_alone (Err unmade) = Err unmade.fault
 
--- the script was read, this is its run, and the run's text was written and nothing else
+-- the script was read, this is its run, and the run's text and nothing else was written
 pub record IsSimulated (old new : Seen) (was is : Held) : Type 0 where
   pub read : List ℕ
   pub run : Run
   pub is_read : IsRead old new read
   pub made : simulate read ≡ Ok run
-  -- where the bytes are known, the run is that of all of them
+  -- if the bytes are known, the run is that of all of them
   pub of_all : IfSome old.remaining (λ bytes. simulate bytes ≡ Ok run)
   pub written : Wrote was is (run_text run)
 
@@ -113,7 +113,7 @@ pub record IsUnwritten (old new : Seen) : Type 0 where
   pub is_read : IsRead old new read
   pub made : simulate read ≡ Ok run
 
--- the run was written; or nothing was: the script was refused or its source failed, or memory was refused; or the sink
+-- the run was written; or nothing was, because the script was refused or its source failed, or memory was refused; or the sink
 -- failed in this call, after a whole script
 abbrev pub Simulates : Seen → Seen → Held → Held → Result Outcome IoFault → Type 0
 Simulates old new was is (Ok outcomes.Made) = IsSimulated old new was is

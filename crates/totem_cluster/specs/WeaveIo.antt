@@ -29,7 +29,7 @@ weave_status weaves.Orphan = 1
 abbrev pub names_text : List Message → List ℕ
 names_text messages = flat_map (λ m. codes " " ++ message_text (record { ring = m.ring; number = m.number })) messages
 
--- a member's identifier, and what it handed up
+-- a member's identifier, and the messages delivered to its node
 abbrev pub handed_text : ℕ → List Message → List ℕ
 handed_text p messages = codes "handed " ++ decimal (id_of p) ++ names_text messages
 
@@ -60,7 +60,7 @@ pub record WritesOrphan (books : List Closed) (was is : Held) : Type 0 where
   pub is_orphan : IsOrphan first.start.ring first.start.members books place
   pub written : Wrote was is (orphan_text place)
 
--- what is written of a refusal: an orphan, if it is one; or nothing, at out of memory; or the sink failed in this call
+-- what is written for a refusal: an orphan if it is one; or nothing if memory was refused; or the sink failed in this call
 abbrev pub TellsRefusal : WeaveFault → Held → Held → Result Weave IoFault → Type 0
 TellsRefusal (refusals.Orphan place) was is (Ok weaves.Orphan) = Wrote was is (orphan_text place)
 TellsRefusal fault was is (Ok woven) = ⊥
@@ -68,7 +68,7 @@ TellsRefusal fault was is (Err faults.Memory) = is ≡ was
 TellsRefusal fault was is (Err faults.Write) = is.failures ≡ (was.failures + 1) % 2 ^ 64
 TellsRefusal fault was is (Err other) = ⊥
 
--- what is written of these books; or nothing, at out of memory; or the sink failed in this call
+-- what is written for these books; or nothing if memory was refused; or the sink failed in this call
 abbrev pub WeavesBooks : List Closed → Held → Held → Result Weave IoFault → Type 0
 WeavesBooks books was is (Ok weaves.Whole) = WritesWoven books was is
 WeavesBooks books was is (Ok weaves.Orphan) = WritesOrphan books was is
@@ -80,14 +80,14 @@ WeavesBooks books was is (Err (faults.Cert fault)) = ⊥
 WeavesBooks books was is (Err (faults.Refused fault)) = ⊥
 WeavesBooks books was is (Err (faults.Script fault)) = ⊥
 
--- so many nodes ran, each from ring 4.1 on, and what is written is of their books
+-- this many nodes ran, each from ring 4.1 on, and what is written is that of their books
 pub record WeavesBooksOf (nodes : ℕ) (was is : Held) (result : Result Weave IoFault) : Type 0 where
   pub books : List Closed
   pub logs : List LogRecord
   pub run_of : IsRunOf nodes books logs
   pub weaves : WeavesBooks books was is result
 
--- the same; or a book was full, or its log too long, and nothing else of a book; or memory or a thread was refused: nothing was written
+-- the same; or a book was full, its log was too long, or memory or a thread was refused, and nothing was written
 abbrev pub WeavesRun : ℕ → Held → Held → Result Weave IoFault → Type 0
 WeavesRun nodes was is (Ok woven) = WeavesBooksOf nodes was is (Ok woven)
 WeavesRun nodes was is (Err (faults.Book trouble)) = IsFullBook trouble × (is ≡ was)

@@ -12,25 +12,25 @@ use totem_verdicts::VerdictFault;
 /// Why a call from stream to stream gave no outcome. At every fault but `Write` nothing was written.
 #[derive(Debug, Drop, Error)]
 pub enum IoFault {
-    /// The run was refused, or its source failed. Never with `RunFault::Memory`.
+    /// The run was refused, or its source failed. Never `RunFault::Memory`.
     #[error("the run was refused: {0}")]
     Run(RunFault),
-    /// The certificate could not be read, or its source failed. Never with `CertFault::Memory`.
+    /// The certificate could not be read, or its source failed. Never `CertFault::Memory`.
     #[error("the certificate could not be read: {0}")]
     Cert(CertFault),
-    /// The certificate does not certify the run. Never with `CheckFault::Broken` or `CheckFault::Memory`.
+    /// The certificate does not certify the run. Never `CheckFault::Broken` or `CheckFault::Memory`.
     #[error("the certificate was refused: {0}")]
     Refused(CheckFault),
-    /// The script makes no run, or its source failed. Never with `ScriptFaultKind::Memory`.
+    /// The script makes no run, or its source failed. Never `ScriptFaultKind::Memory`.
     #[error("the script was refused: {0}")]
     Script(ScriptFault),
-    /// A book of a run in threads was full, or its log too long: `BookTrouble::Call(BookFault::Long)`, and no other.
+    /// A book of a run in threads was full, or its log too long. Always `BookTrouble::Call(BookFault::Long)`.
     #[error("a book was refused: {0}")]
     Book(BookTrouble),
     /// Memory was refused or, in a run in threads, a thread could not be made.
     #[error("out of memory")]
     Memory,
-    /// The output failed. How much went out is not known.
+    /// The output failed. It is not known how much was written.
     #[error("write failed")]
     Write,
 }

@@ -16,7 +16,7 @@ use totem_audit::Workers;
 use totem_ids::{Sink, Source};
 use totem_verdicts::Outcome;
 
-/// Does as `totem_verdicts::audit_io` does, with its fault as one of all.
+/// Does the same as `totem_verdicts::audit_io`, with its fault among all faults.
 pub fn audit_io<T: Threads + Wait + Sync, R: Source, W: Sink>(
     rt: &T,
     alloc: Global,
@@ -33,7 +33,7 @@ pub fn audit_io<T: Threads + Wait + Sync, R: Source, W: Sink>(
     }
 }
 
-/// Does as `totem_verdicts::explain_io` does, with its fault as one of all.
+/// Does the same as `totem_verdicts::explain_io`, with its fault among all faults.
 pub fn explain_io<T: Threads + Wait + Sync, R: Source, W: Sink>(
     rt: &T,
     alloc: Global,
@@ -50,7 +50,7 @@ pub fn explain_io<T: Threads + Wait + Sync, R: Source, W: Sink>(
     }
 }
 
-/// Does as `totem_verdicts::draw_io` does, with its fault as one of all.
+/// Does the same as `totem_verdicts::draw_io`, with its fault among all faults.
 pub fn draw_io<T: Threads + Wait + Sync, R: Source, W: Sink>(
     rt: &T,
     alloc: Global,
@@ -67,7 +67,7 @@ pub fn draw_io<T: Threads + Wait + Sync, R: Source, W: Sink>(
     }
 }
 
-/// Does as `totem_verdicts::check_io` does, with its fault as one of all.
+/// Does the same as `totem_verdicts::check_io`, with its fault among all faults.
 pub fn check_io<R: Source, W: Sink>(
     alloc: Global,
     input: &mut R,

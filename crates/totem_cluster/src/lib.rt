@@ -1,4 +1,4 @@
-//! The program over any three streams: it gives the verdicts of totem_verdicts, and makes runs from scripts or with nodes in threads.
+//! The program over any three streams: gives the verdicts of totem_verdicts, and makes runs from scripts or with nodes in threads.
 #![tactic(auto)]
 
 mod io_fault;

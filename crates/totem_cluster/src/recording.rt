@@ -17,9 +17,9 @@ use totem_net::{Progress, Quiet, Start, Unwatched};
 use totem_threads::{RunPlan, run_nodes};
 use totem_verdicts::Outcome;
 
-/// Runs so many nodes in threads, on ring 4.1, over a network that does what the plan says, until the ticks are used up
+/// Runs this many nodes in threads, on ring 4.1, over a network that follows the plan, until the ticks are used up
 /// (docs/PROTOCOL.md, "A run in threads"). The receiving thread of each node calls `start.begun` before it receives. Waits for
-/// all threads, and returns the run that the nodes recorded with their books in ascending order. Which run comes out is open.
+/// all threads, and returns the run that the nodes recorded with their books in ascending order. The contract leaves open which run it is.
 pub fn run_threads<S: Start, R: Threads + Wait + Sync>(
     rt: &R,
     alloc: Global,
@@ -34,7 +34,7 @@ pub fn run_threads<S: Start, R: Threads + Wait + Sync>(
     run_watched(rt, alloc, plan, start, &mut Unwatched)
 }
 
-/// Does as `run_threads` does, and tells at each tick how far the run is.
+/// Does the same as `run_threads`, and reports the progress at each tick.
 pub(crate) fn run_watched<S: Start, R: Threads + Wait + Sync, P: Progress>(
     rt: &R,
     alloc: Global,
@@ -63,7 +63,7 @@ pub fn run_io<R: Threads + Wait + Sync, W: Sink>(
     run_io_with_progress(rt, alloc, plan, output, &mut Unwatched)
 }
 
-/// Does as `run_io` does, and tells how far the run is, and when it has ended, before it is written.
+/// Does the same as `run_io`, and reports the progress, and the end of the run before the run is written.
 pub fn run_io_with_progress<R: Threads + Wait + Sync, W: Sink, P: Progress>(
     rt: &R,
     alloc: Global,

@@ -1,11 +1,11 @@
-//! The line for which a script is refused, and what may stand there (docs/PROTOCOL.md, "Scripts").
+//! The line at which a script is refused, and what is expected there (docs/PROTOCOL.md, "Scripts").
 use std::alloc::{AllocError, Global};
 use totem_script::{ScriptFault, ScriptFaultKind};
 
-/// How many bytes of a line are shown.
+/// The greatest number of bytes of a line that are shown.
 const SHOWN: usize = 72;
 
-/// Returns what is wanted where a script has such a fault.
+/// Returns what is expected where a script has this fault.
 fn wanted(kind: ScriptFaultKind) -> &'static str {
     match kind {
         ScriptFaultKind::Header => {
@@ -36,7 +36,7 @@ fn wanted(kind: ScriptFaultKind) -> &'static str {
     }
 }
 
-/// Adds the bytes of the line with this number, counted from 1, as a person can read them; of a long one the first.
+/// Adds the line with this number, counted from 1, in printable form; of a long line only the first bytes.
 fn push_line(text: &mut String, script: &[u8], line: u32) -> Result<(), AllocError> {
     let mut current = 1u32;
     let mut shown = 0usize;
@@ -52,7 +52,7 @@ fn push_line(text: &mut String, script: &[u8], line: u32) -> Result<(), AllocErr
     Ok(())
 }
 
-/// Returns what a person is told of a script that is refused: the line, and what may stand there. Nothing is told where the script could
+/// Returns the explanation of a script's refusal: the line, and what is expected there. It is empty if the script could
 /// not be read or memory was refused.
 pub fn explain_line(
     alloc: Global,

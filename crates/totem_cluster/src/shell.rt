@@ -21,7 +21,7 @@ use totem_net::{Progress, Unwatched};
 use totem_threads::RunPlan;
 use totem_verdicts::{RunWords, Words, answer, judge_io, read_words, tell};
 
-/// What the person is told whose numbers for a run don't fit together.
+/// What is printed if the numbers for a run don't fit together.
 const UNFIT: &str = "\
 error: '--lose' and '--repeat' add up to more than 100
 
@@ -72,7 +72,7 @@ fn play<T: Threads + Wait + Sync, W: Sink, E: Sink, P: Progress>(
     }
 }
 
-/// Returns what a person is told of a script that makes no run, after the fault's line.
+/// Returns the explanation that is printed after the line of a script's fault.
 fn line_words(alloc: Global, unmade: &Unmade) -> Result<String, AllocError> {
     match &unmade.fault {
         IoFault::Script(fault) => explain_line(alloc, fault, &unmade.script),
@@ -80,7 +80,7 @@ fn line_words(alloc: Global, unmade: &Unmade) -> Result<String, AllocError> {
     }
 }
 
-/// Tells why a script makes no run, and which line of it. Returns the status.
+/// Reports why a script makes no run, and at which line. Returns the status.
 fn point_line<E: Sink>(alloc: Global, unmade: &Unmade, errors: &mut E) -> u8
     ensures { Points unmade.now.fault (bare E.contents E.failures errors.old) (bare E.contents E.failures errors.new) result }
 {
@@ -90,7 +90,7 @@ fn point_line<E: Sink>(alloc: Global, unmade: &Unmade, errors: &mut E) -> u8
     }
 }
 
-/// The program over any three streams. The first of `words` is the program's name. Returns the status with which to exit.
+/// The program over any three streams. The first of `words` is the program's name. Returns the exit status.
 pub fn program<T: Threads + Wait + Sync, R: Source, W: Sink, E: Sink>(
     rt: &T,
     alloc: Global,
@@ -106,7 +106,7 @@ pub fn program<T: Threads + Wait + Sync, R: Source, W: Sink, E: Sink>(
     program_with_progress(rt, alloc, words, input, output, errors, &mut Unwatched)
 }
 
-/// Does as `program` does, and tells how far a run in threads is, unless the words ask for quiet.
+/// Does the same as `program`, and reports the progress of a run in threads unless the arguments ask for quiet.
 pub fn program_with_progress<T: Threads + Wait + Sync, R: Source, W: Sink, E: Sink, P: Progress>(
     rt: &T,
     alloc: Global,

@@ -11,7 +11,7 @@ use totem_ids::{Sink, Source};
 use totem_script::{ScriptFault, ScriptFaultKind, simulate};
 use totem_verdicts::Outcome;
 
-/// How many bytes are read: one more than a script may have.
+/// The number of bytes that are read at most: one more than a script may have.
 const MOST: usize = 65_537;
 
 /// The bytes that were read of a script.
@@ -50,7 +50,7 @@ fn read_script<R: Source>(alloc: Global, input: &mut R) -> Result<Reading, Alloc
     })
 }
 
-/// Returns the fault of a script that can't be read on after these bytes.
+/// Returns the fault of a script that can't be read further than these bytes.
 fn unread(bytes: &[u8]) -> ScriptFault
     requires { length bytes.now ≤ 65537 }
     ensures { result ≡ unread bytes.now }
@@ -94,11 +94,12 @@ fn run_of(alloc: Global, script: &[u8]) -> Result<Run, IoFault>
 #[derive(Debug, Drop)]
 pub struct Unmade {
     pub fault: IoFault,
-    /// Empty where memory was refused while they were read.
+    /// Empty if memory was refused while they were read.
     pub script: Vec<u8>,
 }
 
-/// Reads a script, and writes the text of the run that it makes. A script that never ends is refused.
+/// Reads a script, and writes the text of the run that it makes. Reads at most one byte more than a script may have, so a script that
+/// never ends is refused.
 pub fn follow_io<R: Source, W: Sink>(
     alloc: Global,
     input: &mut R,
@@ -137,7 +138,7 @@ pub fn follow_io<R: Source, W: Sink>(
     }
 }
 
-/// Does as `follow_io` does, and keeps nothing of a script that makes no run.
+/// Does the same as `follow_io`, and drops the bytes of a script that makes no run.
 pub fn sim_io<R: Source, W: Sink>(
     alloc: Global,
     input: &mut R,

@@ -1,5 +1,5 @@
-//! What the program tells of scripts and of runs in threads, and of each fault. Telling takes no memory, and passes over a failure of the
-//! stream of errors.
+//! What the program prints on standard error about scripts, runs in threads and all faults. Printing doesn't allocate, and ignores a
+//! failure of that stream.
 ghost use Rattle.std.specs.Prelude.{◌≡◌, ◌++◌};
 ghost use Rattle.totem_ids.specs.Writing.{Writes};
 ghost use Rattle.totem_verdicts.specs.Endings.{Tells, bare};
@@ -55,7 +55,7 @@ fn put_fault<E: Sink>(errors: &mut E, fault: &IoFault) -> Result<(), Failed>
     }
 }
 
-/// Writes the line of a fault, and words after it.
+/// Writes the line of a fault and an explanation after it.
 #[tactic(auto, using(totem_ids::proofs::Writers::wrote_then, totem_ids::proofs::Writers::wrote_failed))]
 fn put_with_words<E: Sink>(errors: &mut E, fault: &IoFault, words: &str) -> Result<(), Failed>
     ensures { Writes (bare E.contents E.failures errors.old) (bare E.contents E.failures errors.new) result
@@ -75,7 +75,7 @@ fn script_status(kind: ScriptFaultKind) -> u8
     }
 }
 
-/// Tells a fault, and returns its status.
+/// Prints the line of a fault, and returns the fault's status.
 pub fn tell_fault<E: Sink>(errors: &mut E, fault: &IoFault) -> u8
     ensures line { Tells (bare E.contents E.failures errors.old) (bare E.contents E.failures errors.new) (fault_line fault.now) }
     ensures status { result ≡ fault_status fault.now }
@@ -84,7 +84,7 @@ pub fn tell_fault<E: Sink>(errors: &mut E, fault: &IoFault) -> u8
     status_of(fault)
 }
 
-/// Prints a fault with words after its line, and returns its status.
+/// Prints the line of a fault and an explanation after it, and returns the fault's status.
 pub fn tell_with_words<E: Sink>(errors: &mut E, fault: &IoFault, words: &str) -> u8
     ensures line { Tells (bare E.contents E.failures errors.old) (bare E.contents E.failures errors.new) (fault_line fault.now ++ words.now) }
     ensures status { result ≡ fault_status fault.now }

@@ -1,4 +1,4 @@
-//! Runs of nodes in threads, woven.
+//! Runs of nodes in threads whose ring is woven.
 ghost use Rattle.std.specs.Prelude.{◌≡◌, [], ◌++◌, decimal};
 ghost use Rattle.std.specs.List.{flat_map};
 ghost use Rattle.totem_ids.specs.Writing.{Writes, held};
@@ -20,7 +20,7 @@ use totem_packets::Message;
 use totem_threads::RunPlan;
 use totem_weave::{WeaveFault, Woven, weave};
 
-/// What comes of weaving the ring of a run.
+/// The outcome of weaving the ring of a run.
 #[derive(Clone, Copy, Debug, PartialEq, Eq)]
 pub enum Weave {
     /// One schedule takes all steps of the ring.
@@ -30,7 +30,7 @@ pub enum Weave {
 }
 
 impl Weave {
-    /// Returns the status with which the program ends after it.
+    /// Returns the exit status.
     pub fn status(self) -> u8
         ensures { result ≡ weave_status self }
     {
@@ -101,7 +101,7 @@ fn put_each_handed<S: Sink>(
     Ok(())
 }
 
-/// Puts how many steps were woven.
+/// Puts the number of steps that were woven.
 #[tactic(auto, using(totem_ids::proofs::Writers::wrote_then, totem_ids::proofs::Writers::wrote_failed))]
 fn put_steps<S: Sink>(pieces: &mut Pieces, sink: &mut S, count: usize) -> Result<(), Failed>
     ensures { Writes (held S.contents S.failures pieces.old sink.old)
@@ -159,7 +159,7 @@ fn write_orphan<S: Sink>(alloc: Global, place: Place, sink: &mut S) -> Result<()
     Ok(())
 }
 
-/// Writes what a refusal to weave these books names: the call that fits no schedule.
+/// Writes the text of a refusal to weave these books: the call that fits no schedule.
 fn write_refusal<S: Sink>(alloc: Global, fault: &WeaveFault, sink: &mut S) -> Result<Weave, IoFault>
     ensures { TellsRefusal fault.now (held S.contents S.failures [] sink.old) (held S.contents S.failures [] sink.new) result }
 {
@@ -172,7 +172,7 @@ fn write_refusal<S: Sink>(alloc: Global, fault: &WeaveFault, sink: &mut S) -> Re
     }
 }
 
-/// Weaves the ring on which these books began, and writes what is woven, or the call that fits no schedule. The books are
+/// Weaves the ring on which these books began, and writes the woven ring or the call that fits no schedule. The books are
 /// expected to be those of the members of that ring.
 fn write_weave<S: Sink>(alloc: Global, books: &[ClosedBook], sink: &mut S) -> Result<Weave, IoFault>
     ensures { WeavesBooks books.now (held S.contents S.failures [] sink.old) (held S.contents S.failures [] sink.new) result }
@@ -189,8 +189,8 @@ fn write_weave<S: Sink>(alloc: Global, books: &[ClosedBook], sink: &mut S) -> Re
     }
 }
 
-/// Runs nodes in threads, weaves ring 4.1 of their books, and writes what is woven or the call that fits no schedule
-/// (docs/PROTOCOL.md, "The woven ring"). Tells how far the run is, and when it has ended.
+/// Runs nodes in threads, weaves ring 4.1 of their books, and writes the woven ring or the call that fits no schedule
+/// (docs/PROTOCOL.md, "The woven ring"). Reports the progress, and when the run has ended.
 pub fn weave_io_with_progress<R: Threads + Wait + Sync, W: Sink, P: Progress>(
     rt: &R,
     alloc: Global,

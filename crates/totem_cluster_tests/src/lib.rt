@@ -1,5 +1,5 @@
 //! The calls of totem_cluster and totem_audit that a program makes: from stream to stream, in threads, with workers and
-//! gates. What the program answers is tried on the built one, by `tests/program` and `tests/hostile`.
+//! gates. What the program prints is tested with the built one, by `tests/program` and `tests/hostile`.
 #![tactic(auto)]
 
 #[cfg(test)]

@@ -1,4 +1,4 @@
-//! What a run in threads tells of how far it is.
+//! The progress reports of a run in threads.
 use crate::texts::words;
 use std::alloc::Global;
 use std::sync::Wait;
@@ -7,7 +7,7 @@ use std::thread::Threads;
 use totem_cluster::{Logged, Progress, program_with_progress};
 use totem_ids::{Buffered, ToWrite};
 
-/// Counts what it is told, and keeps the last of it.
+/// Counts the reports, and keeps the last one.
 #[derive(Clone, Copy)]
 struct Told {
     calls: u32,
@@ -32,7 +32,7 @@ impl Progress for Told {
     }
 }
 
-/// Returns what a run was told, and its text.
+/// Returns what a run reported, and its text.
 fn run_told<T: Threads + Wait + Sync>(
     rt: &T,
     alloc: Global,
@@ -62,6 +62,7 @@ fn run_told<T: Threads + Wait + Sync>(
     Ok((told, String::from_utf8(output.into_inner())?))
 }
 
+/// A run reports at each tick the messages and configurations that were logged.
 #[test]
 fn each_tick_tells_what_was_logged(rt: HostRuntime) -> Result<(), Fail> {
     let (told, text) = run_told(&rt, rt.alloc(), "run --nodes 2 --ticks 800")?;
@@ -75,6 +76,7 @@ fn each_tick_tells_what_was_logged(rt: HostRuntime) -> Result<(), Fail> {
     Ok(())
 }
 
+/// With `--quiet` a run reports no progress.
 #[test]
 fn a_quiet_run_tells_nothing(rt: HostRuntime) -> Result<(), Fail> {
     let (told, text) = run_told(&rt, rt.alloc(), "run --nodes 2 --ticks 80 --quiet")?;

@@ -1,4 +1,4 @@
-//! What the threads of a run do, by the public call: what the books of every run have to show, whichever run comes out.
+//! What the threads of a run do, by the public call: what the books of every run have to show.
 use std::alloc::{AllocError, Global};
 use std::collections::BTreeMap;
 use std::sync::{Mutex, Wait};
@@ -14,7 +14,7 @@ use totem_node::Input;
 use totem_packets::Packet;
 use totem_ring::To;
 
-/// Returns how many calls of these books a timer made, and how many a client.
+/// Returns how many calls of these books were made by a timer, and how many by a client.
 fn turns(books: &[ClosedBook]) -> (usize, usize) {
     let mut timers = 0usize;
     let mut submits = 0usize;
@@ -30,17 +30,17 @@ fn turns(books: &[ClosedBook]) -> (usize, usize) {
     (timers, submits)
 }
 
-/// A packet on its way to a node.
+/// Returns the bytes of a packet, followed by the number of the node that receives it.
 fn passage(alloc: Global, to: ProcId, packet: &Packet) -> Result<Vec<u8>, AllocError> {
     let mut bytes = packet.encode(alloc)?;
     bytes.extend_from_slice(&to.number().to_be_bytes())?;
     Ok(bytes)
 }
 
-/// What was sent to which node, and whether a node other than the receiver sent it.
+/// The packets that were sent, with their receivers, and whether a node other than the receiver sent each.
 type Sent = BTreeMap<Vec<u8>, bool>;
 
-/// Whether a packet of a node goes to this one.
+/// Returns whether a packet that `from` sends goes to this node.
 fn goes(to: &To, from: ProcId, node: ProcId) -> bool {
     match to {
         To::All => node != from,
@@ -60,7 +60,7 @@ fn note_passage(
     Ok(())
 }
 
-/// Notes a packet of a node for each of three to which it goes.
+/// Records a packet of a node for each of the three nodes to which it goes.
 fn note_packet(
     alloc: Global,
     sent: &mut Sent,
@@ -89,7 +89,7 @@ fn note_packets(
     Ok(())
 }
 
-/// Notes what a node of three sent in these calls.
+/// Records the packets that one of three nodes sent in these calls.
 fn note_calls(
     alloc: Global,
     sent: &mut Sent,
@@ -117,7 +117,7 @@ fn all_sent(alloc: Global, books: &[ClosedBook]) -> Result<Sent, AllocError> {
     Ok(sent)
 }
 
-/// Whether what a node was given was sent, and if so whether another node sent it.
+/// Returns whether another node sent the packet that a node received, or `None` if no node sent it.
 fn by_another(
     alloc: Global,
     sent: &Sent,
@@ -128,7 +128,7 @@ fn by_another(
     Ok(sent.get(&passage).copied())
 }
 
-/// Counts of what a node was given in a call how much nobody sent, and how much another node sent and this one took.
+/// Counts for one call the packets received that no node sent, and those that another node sent and this one took.
 fn given_in(
     alloc: Global,
     sent: &Sent,
@@ -147,7 +147,7 @@ fn given_in(
     }
 }
 
-/// Counts the same of what a book was given over the network.
+/// Counts the same for all calls of a book.
 fn given(alloc: Global, sent: &Sent, book: &ClosedBook) -> Result<(usize, usize), AllocError> {
     let mut unsent = 0usize;
     let mut taken = 0usize;
@@ -174,7 +174,7 @@ fn given_to_all(
     Ok((unsent, each))
 }
 
-/// Returns how much of what was given nobody sent, and whether each node took something that another sent.
+/// Returns how many of the packets received no node sent, and whether each node took a packet that another sent.
 fn all_given(alloc: Global, books: &[ClosedBook]) -> Result<(usize, bool), AllocError> {
     let sent = all_sent(alloc, books)?;
     given_to_all(alloc, &sent, books)
@@ -184,11 +184,11 @@ fn all_given(alloc: Global, books: &[ClosedBook]) -> Result<(usize, bool), Alloc
 #[derive(Clone, Copy)]
 struct Findings {
     books: usize,
-    /// How many calls timers made, and clients.
+    /// How many calls were made by timers, and how many by clients.
     turns: (usize, usize),
-    /// How much of what was given nobody sent.
+    /// How many of the packets received no node sent.
     unsent: usize,
-    /// Whether each node took something of another.
+    /// Whether each node took a packet of another.
     each: bool,
 }
 
@@ -202,7 +202,7 @@ fn found_in(alloc: Global, books: &[ClosedBook]) -> Result<Findings, AllocError>
     })
 }
 
-/// Runs three nodes for so many ticks, over a network that does what the plan says.
+/// Runs three nodes for this many ticks, over a network that follows the plan.
 fn found_in_run<S: Start, R: Threads + Wait + Sync>(
     rt: &R,
     alloc: Global,
@@ -219,6 +219,7 @@ fn found_in_run<S: Start, R: Threads + Wait + Sync>(
     }
 }
 
+/// Timers and clients get all their turns, and each packet but the first token was sent by a node.
 #[test]
 fn words_and_packets_are_those_of_a_network(rt: HostRuntime) -> Result<(), Fail> {
     for _ in 0..10 {
@@ -232,6 +233,7 @@ fn words_and_packets_are_those_of_a_network(rt: HostRuntime) -> Result<(), Fail>
     panic!(rt; "in ten runs, a node took no packet of another");
 }
 
+/// Timers and clients get all their turns in a network that loses packets, too.
 #[test]
 fn a_network_that_loses_has_each_word_too(rt: HostRuntime) -> Result<(), Fail> {
     let found = found_in_run(&rt, rt.alloc(), 800, Plan::new(10, 20, 3), &Quiet)?;
@@ -239,7 +241,7 @@ fn a_network_that_loses_has_each_word_too(rt: HostRuntime) -> Result<(), Fail> {
     Ok(())
 }
 
-/// Holds each node until three have begun, and counts how many were let go before that.
+/// Holds each node until three have begun, and counts how many continued before that.
 #[derive(Drop)]
 struct Together<'a, R> {
     rt: &'a R,
@@ -265,6 +267,7 @@ impl<R: Wait + Clock + Sync> Start for Together<'_, R> {
     }
 }
 
+/// All three nodes of a run begin before one of them receives a packet.
 #[test]
 fn nodes_run_side_by_side(rt: HostRuntime) -> Result<(), Fail> {
     let together = Together {

@@ -16,7 +16,7 @@ const GOOD: &str =
 
 const SCRIPT: &str = "totem-script 1;ring 4.1 1;end;";
 
-// The program fails to read, wherever the source fails, and writes nothing.
+// The program reports that reading failed, and writes nothing, wherever the source fails.
 fn fails_to_read<T: Threads + Wait + Abort + Sync>(
     rt: &T,
     alloc: Global,
@@ -48,17 +48,19 @@ fn fails_to_read<T: Threads + Wait + Abort + Sync>(
     Ok(())
 }
 
+/// An audit whose input fails at any byte ends with status 4 and writes no report.
 #[test]
 fn a_read_that_fails_leaves_no_report(rt: HostRuntime) -> Result<(), Fail> {
     fails_to_read(&rt, rt.alloc(), "audit", GOOD)
 }
 
+/// A simulation whose input fails at any byte ends with status 4 and writes no run.
 #[test]
 fn a_read_that_fails_leaves_no_run(rt: HostRuntime) -> Result<(), Fail> {
     fails_to_read(&rt, rt.alloc(), "sim", SCRIPT)
 }
 
-// What is wrong with an earlier line comes before a failure of the source.
+/// A fault in an earlier line takes precedence over a failure of the source.
 #[test]
 fn an_earlier_line_comes_before_a_failed_read(rt: HostRuntime) -> Result<(), Fail> {
     let alloc = rt.alloc();
@@ -88,6 +90,7 @@ fn an_earlier_line_comes_before_a_failed_read(rt: HostRuntime) -> Result<(), Fai
     Ok(())
 }
 
+/// A script that never ends is refused as too long.
 #[test]
 fn a_script_without_an_end_is_refused(rt: HostRuntime) -> Result<(), Fail> {
     let alloc = rt.alloc();
@@ -107,6 +110,7 @@ fn a_script_without_an_end_is_refused(rt: HostRuntime) -> Result<(), Fail> {
     Ok(())
 }
 
+/// The program reports a failure of its output with status 4.
 #[test]
 fn a_write_that_fails_is_told(rt: HostRuntime) -> Result<(), Fail> {
     let alloc = rt.alloc();
@@ -139,6 +143,7 @@ fn a_write_that_fails_is_told(rt: HostRuntime) -> Result<(), Fail> {
     Ok(())
 }
 
+/// The program ignores a failure of standard error.
 #[test]
 fn a_failure_of_the_errors_is_passed_over(rt: HostRuntime) -> Result<(), Fail> {
     let alloc = rt.alloc();
@@ -161,6 +166,7 @@ fn a_failure_of_the_errors_is_passed_over(rt: HostRuntime) -> Result<(), Fail> {
     Ok(())
 }
 
+/// An audit and a check read from a stream and write to a stream.
 #[test]
 fn an_audit_and_a_check_from_stream_to_stream(rt: HostRuntime) -> Result<(), Fail> {
     let alloc = rt.alloc();
@@ -178,7 +184,7 @@ fn an_audit_and_a_check_from_stream_to_stream(rt: HostRuntime) -> Result<(), Fai
     Ok(())
 }
 
-// The number and the name of the fault of this script.
+// Adds the number and the name of the fault of this script.
 fn push_script_fault(alloc: Global, text: &mut String, script: &[u8]) -> Result<(), Fail> {
     let mut output = ToWrite::new(Vec::new(alloc));
     if let Err(fault) = sim_io(alloc, &mut FromRead::new(script), &mut output) {
@@ -187,6 +193,7 @@ fn push_script_fault(alloc: Global, text: &mut String, script: &[u8]) -> Result<
     Ok(())
 }
 
+/// The faults of calls from stream to stream have their numbers and names.
 #[test]
 fn faults_have_numbers_and_names(rt: HostRuntime) -> Result<(), Fail> {
     let alloc = rt.alloc();

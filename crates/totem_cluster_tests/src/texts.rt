@@ -1,4 +1,4 @@
-//! Texts and words of tests.
+//! Texts and arguments of the tests.
 use std::alloc::{AllocError, Global};
 
 /// Returns the text with its line ends.
@@ -6,7 +6,7 @@ pub fn lines(alloc: Global, text: &str) -> Result<String, AllocError> {
     text.replace(alloc, ";", "\n")
 }
 
-/// Returns the words, with the program's name in front.
+/// Returns the arguments, with the program's name in front.
 pub fn words(alloc: Global, text: &str) -> Result<Vec<String>, AllocError> {
     let mut list = Vec::new(alloc);
     list.push(String::from_str(alloc, "totem")?)?;

@@ -9,6 +9,7 @@ use totem_ids::ToWrite;
 use totem_net::{Plan, Quiet};
 use totem_node::Input;
 
+/// The refusal of a book is printed with its number and name, and has status 2.
 #[test]
 fn a_book_that_was_refused_is_told(rt: HostRuntime) -> Result<(), Fail> {
     for (trouble, line) in [
@@ -32,6 +33,7 @@ fn a_book_that_was_refused_is_told(rt: HostRuntime) -> Result<(), Fail> {
     Ok(())
 }
 
+/// A run returns the book of each node, begun on ring 4.1.
 #[test]
 fn books_come_with_the_run(rt: HostRuntime) -> Result<(), Fail> {
     let Some(plan) = Plan::new(0, 0, 0).and_then(|plan| RunPlan::new(2, 16, 7, plan)) else {
@@ -49,7 +51,7 @@ fn books_come_with_the_run(rt: HostRuntime) -> Result<(), Fail> {
     Ok(())
 }
 
-/// How many calls of two nodes' books a packet made, and how many packets the nodes sent.
+/// How many calls of two nodes' books were packets received, and how many packets the nodes sent.
 #[derive(Clone, Copy)]
 struct Counts {
     packets: usize,
@@ -80,7 +82,7 @@ fn counted(books: &[ClosedBook]) -> Counts {
     counts
 }
 
-/// Runs two nodes for 160 ticks over a network that loses and repeats so many packets of a hundred.
+/// Runs two nodes for 160 ticks over a network that loses and duplicates these percentages of packets.
 fn counts_of<R: Threads + Wait + Sync>(
     rt: &R,
     alloc: Global,
@@ -97,7 +99,7 @@ fn counts_of<R: Threads + Wait + Sync>(
     }
 }
 
-/// The first token comes from no node, and is not lost.
+/// If all packets are lost, the books have only the first token, which no node sends and which is never lost.
 #[test]
 fn a_packet_that_is_lost_comes_to_no_book(rt: HostRuntime) -> Result<(), Fail> {
     let counts = counts_of(&rt, rt.alloc(), 100, 0)?;
@@ -105,6 +107,7 @@ fn a_packet_that_is_lost_comes_to_no_book(rt: HostRuntime) -> Result<(), Fail> {
     Ok(())
 }
 
+/// If all packets are duplicated, the books have more packets than the nodes sent.
 #[test]
 fn a_packet_that_is_repeated_comes_twice(rt: HostRuntime) -> Result<(), Fail> {
     let counts = counts_of(&rt, rt.alloc(), 0, 100)?;

@@ -11,7 +11,7 @@ use totem_audit::{Gate, OpenGate, Verdict, Workers, audit, audit_with};
 use totem_evs::{Run, read_run};
 use totem_ids::FromRead;
 
-/// How often a gate looks, a millisecond apart, before it gives up.
+/// The number of times that a gate checks, one millisecond apart, before it gives up.
 const LOOKS: u32 = 10_000;
 
 /// Two processes that are each alone on a ring: two configurations, and so two jobs.
@@ -25,7 +25,7 @@ const FOUR_JOBS: &str = "totem-run 1;log 1;conf r4.1 1;open;log 2;conf r4.2 2;op
 const FIVE_JOBS: &str = "totem-run 1;log 1;conf r4.1 1;open;log 2;conf r4.2 2;open;\
     log 3;conf r4.3 3;open;log 4;conf r4.4 4;open;log 5;conf r4.5 5;open;end;";
 
-/// Counts for each of five jobs how often it is told of, before and after; other jobs count for 0.
+/// Counts how often a gate is called before and after each of five jobs; other jobs count for 0.
 #[derive(Drop)]
 struct CountsJobs<'g, R> {
     rt: &'g R,
@@ -49,7 +49,7 @@ impl<R: Wait + Sync> Gate for CountsJobs<'_, R> {
     }
 }
 
-/// Holds each job until `wanted` jobs have begun, and counts how many came, went, and were let go before that.
+/// Holds each job until `wanted` jobs have begun, and counts how many began, ended, and were let go before that.
 #[derive(Drop)]
 struct HoldsUntil<'g, R> {
     rt: &'g R,
@@ -65,7 +65,7 @@ fn add_one<R: Wait>(rt: &R, count: &Mutex<u32>) {
     *count = count.saturating_add(1);
 }
 
-/// Looks so often, a millisecond apart, until the count comes to what is wanted. Returns whether it came.
+/// Checks this many times, one millisecond apart, whether the count has reached `wanted`. Returns whether it has.
 fn comes_to<R: Wait + Clock>(rt: &R, count: &Mutex<u32>, wanted: u32, looks: u32) -> bool {
     for _ in 0..looks {
         if *count.lock(rt) >= wanted {
@@ -128,7 +128,7 @@ fn run_of(alloc: Global, text: &str) -> Result<Run, Fail> {
     Ok(read_run(alloc, &mut FromRead::new(text.as_bytes()))?)
 }
 
-/// Returns how many jobs came, went, and were let go before both had begun.
+/// Returns how many jobs began, ended, and were let go before both had begun.
 fn counts<T: Threads + Wait + Clock + Abort + Sync>(
     rt: &T,
     alloc: Global,
@@ -146,6 +146,7 @@ fn counts<T: Threads + Wait + Clock + Abort + Sync>(
     ))
 }
 
+/// Two workers run two jobs at the same time.
 #[test]
 fn two_jobs_run_side_by_side(rt: HostRuntime) -> Result<(), Fail> {
     let Some(two) = Workers::new(2) else {
@@ -155,12 +156,14 @@ fn two_jobs_run_side_by_side(rt: HostRuntime) -> Result<(), Fail> {
     Ok(())
 }
 
+/// One worker runs two jobs one after the other.
 #[test]
 fn one_worker_does_one_job_after_the_other(rt: HostRuntime) -> Result<(), Fail> {
     assert_eq!(rt; counts(&rt, rt.alloc(), Workers::one(), 20)?, (2, 2, 1));
     Ok(())
 }
 
+/// While one worker is held at the first job, the other one does all other jobs.
 #[test]
 fn an_idle_worker_takes_what_is_left(rt: HostRuntime) -> Result<(), Fail> {
     let Some(two) = Workers::new(2) else {
@@ -179,6 +182,7 @@ fn an_idle_worker_takes_what_is_left(rt: HostRuntime) -> Result<(), Fail> {
     Ok(())
 }
 
+/// A gate is called once before and once after each job, whatever the number of workers.
 #[test]
 fn a_gate_is_told_of_each_job_once(rt: HostRuntime) -> Result<(), Fail> {
     let run = run_of(rt.alloc(), FIVE_JOBS)?;
@@ -198,6 +202,7 @@ fn a_gate_is_told_of_each_job_once(rt: HostRuntime) -> Result<(), Fail> {
     Ok(())
 }
 
+/// An audit with an open gate has the same verdict as one without a gate.
 #[test]
 fn an_open_gate_changes_nothing(rt: HostRuntime) -> Result<(), Fail> {
     let alloc = rt.alloc();

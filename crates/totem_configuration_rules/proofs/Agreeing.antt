@@ -1,7 +1,9 @@
 -- All rules of one configuration.
 use Rattle.totem_evs.specs.declared.spec.SpecNo.TheVariants as spec
 use Rattle.totem_configuration_rules.specs.declared.traffic.Traffic.{Traffic}
-use Rattle.totem_configuration_rules.specs.Clean.{Shows, ShowsAgreement}
+use Rattle.std.proofs.Common.{IsTrue}
+use Rattle.totem_configuration_rules.specs.declared.agreed.Shown.{Shown}
+use Rattle.totem_configuration_rules.specs.Clean.{Shows, ShowsAgreement, AreShown}
 
 pub agreed : (traffic : Traffic) → Shows spec.OwnDelivery traffic → Shows spec.Atomicity traffic → Shows spec.Causality traffic → Shows spec.Gap traffic
     → Shows spec.Safety traffic → Shows spec.Installed traffic → ShowsAgreement traffic
@@ -15,3 +17,9 @@ agreed traffic own atomicity causality gap safety installed = record {
     installed = installed.met run c meets is;
   };
 }
+
+-- where all is shown, the run agrees
+pub shown_agreed : (traffic : Traffic) (shown : Shown) → AreShown traffic shown → IsTrue shown.own → IsTrue shown.atomicity → IsTrue shown.causality → IsTrue shown.gap
+    → IsTrue shown.safety → IsTrue shown.installed → ShowsAgreement traffic
+shown_agreed traffic shown are own atomicity causality gap safety installed =
+    agreed traffic (are.own own) (are.atomicity atomicity) (are.causality causality) (are.gap gap) (are.safety safety) (are.installed installed)

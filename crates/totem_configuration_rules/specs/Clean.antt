@@ -6,6 +6,7 @@ use Rattle.totem_evs.specs.declared.spec.SpecNo.{SpecNo}
 use Rattle.totem_evs.specs.declared.spec.SpecNo.TheVariants as spec
 use Rattle.totem_evs.specs.RingFaults.{MeetsIn}
 use Rattle.totem_evs.specs.Answers.{MeetsPasses}
+use Rattle.totem_configuration_rules.specs.declared.agreed.Shown.{Shown}
 use Rattle.totem_configuration_rules.specs.declared.log_set.LogSet.{LogSet}
 use Rattle.totem_configuration_rules.specs.declared.rows.Rows.{Rows}
 use Rattle.totem_configuration_rules.specs.declared.traffic.Sent.{Sent}
@@ -33,6 +34,15 @@ pub record AgreesIn (run : List Log) (c : RingId) : Type 0 where
 -- each run that has passed A and B, and has this traffic in c, meets them all in c
 pub record ShowsAgreement (traffic : Traffic) : Type 0 where
   pub met : (run : List Log) (c : RingId) → MeetsPasses run → IsTrafficOf run c traffic → AgreesIn run c
+
+-- what the traffic is said to show, it shows
+pub record AreShown (traffic : Traffic) (shown : Shown) : Type 0 where
+  pub own : IsTrue shown.own → Shows spec.OwnDelivery traffic
+  pub atomicity : IsTrue shown.atomicity → Shows spec.Atomicity traffic
+  pub causality : IsTrue shown.causality → Shows spec.Causality traffic
+  pub gap : IsTrue shown.gap → Shows spec.Gap traffic
+  pub safety : IsTrue shown.safety → Shows spec.Safety traffic
+  pub installed : IsTrue shown.installed → Shows spec.Installed traffic
 
 -- 3: the sender delivers the message, or has ended
 abbrev pub IsOwned : LogSet → Sent → Type 0

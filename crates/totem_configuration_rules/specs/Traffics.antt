@@ -10,6 +10,7 @@ use Rattle.totem_evs.specs.Runs.{IsRun}
 use Rattle.totem_evs.specs.Following.{Follows, DeliversIn, HasDelivered, FailedIn, OpenIn}
 use Rattle.totem_evs.specs.Agreement.{Goes}
 use Rattle.totem_configuration_rules.specs.declared.log_set.LogSet.{LogSet}
+use Rattle.totem_configuration_rules.specs.declared.observed.Observed.{Observed}
 use Rattle.totem_configuration_rules.specs.declared.traffic.Sent.{Sent}
 use Rattle.totem_configuration_rules.specs.declared.traffic.Got.{Got}
 use Rattle.totem_configuration_rules.specs.declared.traffic.MemberLogs.{MemberLogs}
@@ -127,3 +128,7 @@ pub record IsTrafficOf (run : List Log) (c : RingId) (traffic : Traffic) : Type 
   pub ended : AreLogsOf run traffic.ended (λ p. FailedIn (log_of run p) c ⊎ OpenIn run p c)
   pub still_open : AreLogsOf run traffic.open (λ p. OpenIn run p c)
   pub following : (p : ℕ) (x : ConfId) → Follows (log_of run p) c x → HasFollowing run c traffic.following.items x
+
+-- each of them is the traffic of the configuration of its ring
+pub record AreTraffic (run : List Log) (list : List Observed) : Type 0 where
+  pub each : (k : ℕ) (one : Observed) → slice_get list k ≡ Some one → IsTrafficOf run one.ring one.traffic

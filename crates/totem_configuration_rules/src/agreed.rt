@@ -1,6 +1,6 @@
 //! All rules of one regular configuration.
 ghost use Rattle.std.specs.Bool.{OnTrue};
-ghost use Rattle.totem_configuration_rules.specs.Clean.{ShowsAgreement};
+ghost use Rattle.totem_configuration_rules.specs.Clean.{AreShown, ShowsAgreement};
 
 use crate::atomicity::atomicity_is_met;
 use crate::causality::causality_is_met;
@@ -10,15 +10,60 @@ use crate::own::own_delivery_is_met;
 use crate::safety::safety_is_met;
 use crate::traffic::Traffic;
 
-/// Returns `true` only if the run meets specifications 3, 4, 5, 6.3, 7.1 and 7.2 in the configuration.
-#[tactic(auto, using(crate::proofs::Agreeing::agreed))]
+/// For each specification of the last pass, whether the traffic of a configuration shows that the run meets it there. Nothing
+/// follows from `false`.
+#[derive(Clone, Copy, Debug)]
+pub struct Shown {
+    pub own: bool,
+    pub atomicity: bool,
+    pub causality: bool,
+    pub gap: bool,
+    pub safety: bool,
+    pub installed: bool,
+}
+
+impl Shown {
+    ghost use Rattle.totem_configuration_rules.specs.declared.traffic.Traffic.{Traffic};
+
+    /// Applies the rules of the configuration.
+    pub fn by(traffic: &Traffic) -> Shown
+        ensures { AreShown traffic.now result }
+    {
+        Shown {
+            own: own_delivery_is_met(traffic),
+            atomicity: atomicity_is_met(traffic),
+            causality: causality_is_met(traffic),
+            gap: no_gap_is_left(traffic),
+            safety: safety_is_met(traffic),
+            installed: installed_is_met(traffic),
+        }
+    }
+
+    /// Returns what is shown without any traffic.
+    pub fn nothing() -> Shown
+        ensures { (traffic : Traffic) → AreShown traffic result }
+    {
+        Shown {
+            own: false,
+            atomicity: false,
+            causality: false,
+            gap: false,
+            safety: false,
+            installed: false,
+        }
+    }
+}
+
+/// Returns `true` only where the run meets specifications 3, 4, 5, 6.3, 7.1 and 7.2 in the configuration.
+#[tactic(auto, using(crate::proofs::Agreeing::shown_agreed))]
 pub fn is_agreed(traffic: &Traffic) -> bool
     ensures { OnTrue result (ShowsAgreement traffic.now) }
 {
-    own_delivery_is_met(traffic)
-        && atomicity_is_met(traffic)
-        && causality_is_met(traffic)
-        && no_gap_is_left(traffic)
-        && safety_is_met(traffic)
-        && installed_is_met(traffic)
+    let shown = Shown::by(traffic);
+    shown.own
+        && shown.atomicity
+        && shown.causality
+        && shown.gap
+        && shown.safety
+        && shown.installed
 }

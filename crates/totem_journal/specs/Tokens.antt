@@ -16,10 +16,10 @@ logs = prefixes itself
 abbrev pub noted : {E : Type 0} → (E → Gv) → ℕ × E → Gv
 noted c e = gcons (gnum e.0) (c e.1)
 
--- the right to add entries to the journal of this name, which has these
+-- the right to add entries to the journal with this name, whose entries are these
 unfoldable pub journal_owns : {E : Type 0} → (E → Gv) → ℕ → List (ℕ × E) → Fml
 journal_owns c name entries = latest logs full_share name (map (noted c) entries)
 
--- the journal of this name has come as far as these entries; and the mark, which nobody else owns
+-- the journal with this name has at least these entries, in this order first; and the mark, which is owned only here
 unfoldable pub pen_owns : {E : Type 0} → (E → Gv) → ℕ → ℕ → List (ℕ × E) → Fml
 pen_owns c name mark seen = fsep (at_least logs name (map (noted c) seen)) (latest logs full_share mark [])

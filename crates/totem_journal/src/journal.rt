@@ -6,7 +6,7 @@ ghost use Rattle.totem_journal.specs.Tokens.{journal_owns, pen_owns};
 
 use std::marker::{Model, PhantomData};
 
-/// A list of entries that only grows. Each entry has the mark of the pen that noted it, and what was noted.
+/// A list of entries that only grows. Each entry has the mark of the pen that wrote it, and what was noted.
 pub struct Journal<E> {
     marker: PhantomData<E>,
     pub ghost name: { ℕ },
@@ -17,7 +17,7 @@ impl<E> Model for Journal<E> {
     ghost also_owns = { λ j. journal_owns E.row.coded.code j.name j.entries };
 }
 
-/// What notes entries in a journal, with a mark that no other pen has. It knows how far the journal had come when the two last met.
+/// Notes entries in a journal, with a mark that no other pen has. It knows the journal's entries as of its last call.
 pub struct Pen<E> {
     marker: PhantomData<E>,
     pub ghost journal: { ℕ },
@@ -48,7 +48,7 @@ impl<E> Journal<E> {
         }
     }
 
-    /// Notes this with the pen, after all entries. What the pen had seen is how the entries began.
+    /// Appends this value with the pen's mark. The contract says that the entries began with what the pen had seen.
     pub fn note(&mut self, pen: &mut Pen<E>, what: &E)
         requires { pen.old.journal ≡ self.old.name }
         ensures { (self.new.name ≡ self.old.name) × (self.new.entries ≡ self.old.entries ++ (pen.old.mark, what.now) ∷ [])
@@ -56,14 +56,14 @@ impl<E> Journal<E> {
             × IsPrefix pen.old.seen self.old.entries }
     {}
 
-    /// Shows the pen all entries. What it had seen is how they begin.
+    /// Shows the pen all entries. The contract says that they begin with what the pen had seen.
     pub fn learn(&mut self, pen: &mut Pen<E>)
         requires { pen.old.journal ≡ self.old.name }
         ensures { (self.new ≡ self.old) × (pen.new.journal ≡ pen.old.journal) × (pen.new.mark ≡ pen.old.mark)
             × (pen.new.seen ≡ self.old.entries) × IsPrefix pen.old.seen self.old.entries }
     {}
 
-    /// Tells that what the pen has seen is how the entries begin.
+    /// Does nothing. The contract says that the entries begin with what the pen has seen.
     pub fn look(&mut self, pen: &mut Pen<E>)
         requires { pen.old.journal ≡ self.old.name }
         ensures { (self.new ≡ self.old) × (pen.new ≡ pen.old) × IsPrefix pen.old.seen self.old.entries }
@@ -71,7 +71,7 @@ impl<E> Journal<E> {
 }
 
 impl<E> Pen<E> {
-    /// Tells that another pen has another mark.
+    /// Does nothing. The contract says that the two pens have different marks.
     pub fn apart(&mut self, other: &mut Pen<E>)
         ensures { (self.new ≡ self.old) × (other.new ≡ other.old) × (self.old.mark ≡ other.old.mark → ⊥) }
     {}

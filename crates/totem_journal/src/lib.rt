@@ -1,5 +1,5 @@
-//! Journals: histories that only grow, as contracts see them. What stands here takes no bytes, and its functions do nothing when they
-//! run: a journal and its pens are there so that contracts know of one what was noted by the other.
+//! Journals: histories that only grow, for contracts only. A journal and its pens take no bytes, and their functions do nothing
+//! when they run: they let contracts of one thread know what another thread has noted.
 #![tactic(auto)]
 
 mod journal;

@@ -1,5 +1,5 @@
 -- Results that are passed on, and loops that test one element after the other.
-use Rattle.std.proofs.Common.{◌≡◌, ◌⊎◌, inl, inr, ℕ, ◌+◌, ◌<◌, ◌≤◌, Bool, true, false, arith}
+use Rattle.std.proofs.Common.{inl, inr, ℕ, ◌+◌, Bool, true, false, arith}
 use Rattle.std.specs.Bool.{OnTrue}
 use Rattle.totem_configuration_rules.proofs.Rowing.{before_or_at}
 use Rattle.totem_judge.specs.Lists.{EachBelow}

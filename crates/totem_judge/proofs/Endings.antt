@@ -1,5 +1,5 @@
 -- How the logs of a run end.
-use Rattle.std.proofs.Common.{◌≡◌, ℕ, ◌+◌, List, subst}
+use Rattle.std.proofs.Common.{◌≡◌, ℕ, List, subst}
 use Rattle.totem_evs.specs.declared.log.Log.{Log}
 use Rattle.totem_evs.specs.Events.{ending_of}
 use Rattle.totem_evs.proofs.LogOf.{Rising}

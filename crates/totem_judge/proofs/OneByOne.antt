@@ -1,6 +1,7 @@
 -- Judging one configuration after the other.
-use Rattle.std.proofs.Common.{◌≡◌, ◌⊎◌, inl, inr, ℕ, ◌+◌, ◌<◌, ◌≤◌, List, [], ◌∷◌, ◌++◌, length, slice_get, Some, refl, sym, ◌∙◌, subst, arith}
-use Rattle.std.specs.Prelude.{◌↔◌, Contains}
+use Rattle.std.proofs.Common.{◌≡◌, inl, inr, ℕ, List, [], ◌∷◌, ◌++◌, length, slice_get, Some, refl, sym, subst, arith}
+use Rattle.std.specs.Prelude.{Contains}
+use Rattle.std.proofs.lemmas.List.{length-append}
 use Rattle.std.proofs.lemmas.Option.{slice_get_within}
 use Rattle.totem_ids.specs.declared.ring.RingId.{RingId}
 use Rattle.totem_evs.specs.declared.entry.Entry.TheVariants.{Conf}
@@ -9,10 +10,11 @@ use Rattle.totem_evs.specs.Events.{log_of}
 use Rattle.totem_evs.specs.Following.{StaysIn}
 use Rattle.totem_evs.specs.declared.pending.Pending.{Pending}
 use Rattle.totem_evs.specs.Certificates.{Numbering}
+use Rattle.totem_configuration_rules.specs.declared.observed.Observed.{Observed}
 use Rattle.totem_configuration_rules.proofs.Facts.{has_log}
 use Rattle.totem_judge.specs.declared.gathered.Gathered.{Gathered}
 use Rattle.totem_judge.specs.Pending.{IsPendingFrom, IsPendingTo}
-use Rattle.totem_judge.specs.Judged.{IsJudged, IsSettled, AllAreTraffic, AreJudged}
+use Rattle.totem_judge.specs.Judged.{IsObserved, IsVerified, AllAreTraffic, AreObserved}
 use Rattle.totem_configuration_rules.specs.Pending.{IsPendingIn}
 use Rattle.totem_judge.proofs.Steps.{append_get, push_cases, at_end}
 
@@ -20,9 +22,10 @@ pub nothing_left : {X : Type 0} (l : List X) → length l ≡ 0 → l ≡ []
 nothing_left [] h = refl
 nothing_left (x ∷ xs) h = absurd (omega arith)
 
-pub judged_none : (run : List Log) (lines : List Numbering) (pending : List Pending) → pending ≡ [] → AreJudged run lines [] 0 pending
-judged_none run lines pending none = record {
-  each = λ k g lt at. absurd (omega arith);
+pub observed_none : (run : List Log) (lines : List Numbering) (observed : List Observed) (pending : List Pending) → observed ≡ [] → pending ≡ [] → AreObserved run lines [] observed pending
+observed_none run lines observed pending nothing none = record {
+  long = rw nothing refl;
+  each = λ k g one at here. absurd (let lt = slice_get_within {A = Gathered} [] k g at in omega (arith, lt));
   exact = λ are x. (λ has. absurd (let h : Contains {X = Pending} [] x = rw none at has in let lt = h.1 in omega arith), λ h. absurd (let lt = h.before in omega arith));
 }
 
@@ -35,18 +38,29 @@ pending_to run c x pending = of pending.still_open.1
         let log = has_log run x.proc last.index (Conf d last.change.0) last.change.1 in
         record { index = log.0; before = slice_get_within run log.0 log.1.log log.1.stands; log = log.1; is = pending }
 
-module _ (run : List Log) (lines : List Numbering) (list : List Gathered) (g : Gathered) (old new : List Pending) (judged : IsJudged run lines g old new) (so_far : AreJudged run lines list (length list) old) where
-  settled : (k : ℕ) (h : Gathered) → slice_get (list ++ g ∷ []) k ≡ Some h → IsSettled run lines h
-  settled k h at = elim (push_cases list g k h at) [
-    | inl before ↦ so_far.each k h (slice_get_within list k h before) before
-    | inr (last, same) ↦ subst (λ (x : Gathered). IsSettled run lines x) same (record { traffic = judged.traffic; seen = judged.seen; agrees = judged.agrees })
+module _ (run : List Log) (lines : List Numbering) (list : List Gathered) (g : Gathered) (observed : List Observed) (one : Observed) (old new : List Pending) (added : IsObserved run lines g one old new)
+    (so_far : AreObserved run lines list observed old) where
+  long : length (observed ++ one ∷ []) ≡ length (list ++ g ∷ [])
+  long = let is = so_far.long in let a = length-append observed (one ∷ []) in let b = length-append list (g ∷ []) in omega arith
+
+  -- where the one is last, so is the other
+  verified : (k : ℕ) (h : Gathered) (other : Observed) → slice_get (list ++ g ∷ []) k ≡ Some h → slice_get (observed ++ one ∷ []) k ≡ Some other → IsVerified run lines h other
+  verified k h other at here = elim (push_cases list g k h at) [
+    | inl before ↦ elim (push_cases observed one k other here) [
+      | inl earlier ↦ so_far.each k h other before earlier
+      | inr (last, same) ↦ absurd (let lt = slice_get_within list k h before in let is = so_far.long in omega (arith, lt, is, last))
+    ]
+    | inr (last, same) ↦ elim (push_cases observed one k other here) [
+      | inl earlier ↦ absurd (let lt = slice_get_within observed k other earlier in let is = so_far.long in omega (arith, lt, is, last))
+      | inr (end, equal) ↦ subst (λ (x : Gathered). IsVerified run lines x other) same (subst (λ (x : Observed). IsVerified run lines g x) equal added.verified)
+    ]
   ]
 
   fewer : AllAreTraffic run lines (list ++ g ∷ []) → AllAreTraffic run lines list
   fewer are = record { each = λ k h traffic at seen. are.each k h traffic (append_get list (g ∷ []) k h at) seen }
 
   from : AllAreTraffic run lines (list ++ g ∷ []) → (x : Pending) → Contains new x → IsPendingFrom run (list ++ g ∷ []) (length (list ++ g ∷ [])) x
-  from are x has = elim ((judged.adds.exact g.ring (are.each (length list) g judged.traffic (at_end list g) judged.seen) x).0 has) [
+  from are x has = elim ((added.adds.exact g.ring (are.each (length list) g one.traffic (at_end list g) added.verified.seen) x).0 has) [
     | inl before ↦ (
         let h = (so_far.exact (fewer are) x).0 before in
         let stands = append_get list (g ∷ []) h.at h.gathered h.stands in
@@ -57,11 +71,11 @@ module _ (run : List Log) (lines : List Numbering) (list : List Gathered) (g : G
 
   to : AllAreTraffic run lines (list ++ g ∷ []) → (x : Pending) → IsPendingFrom run (list ++ g ∷ []) (length (list ++ g ∷ [])) x → Contains new x
   to are x h =
-      let added = judged.adds.exact g.ring (are.each (length list) g judged.traffic (at_end list g) judged.seen) x in
+      let gained = added.adds.exact g.ring (are.each (length list) g one.traffic (at_end list g) added.verified.seen) x in
       elim (push_cases list g h.at h.gathered h.stands) [
-        | inl before ↦ added.1 (inl ((so_far.exact (fewer are) x).1 (record { at = h.at; gathered = h.gathered; before = slice_get_within list h.at h.gathered before; stands = before; is = h.is })))
-        | inr (last, same) ↦ added.1 (inr (pending_to run g.ring x (subst (λ (y : Gathered). IsPendingIn run y.ring x.proc x.msg) (sym same) h.is)))
+        | inl before ↦ gained.1 (inl ((so_far.exact (fewer are) x).1 (record { at = h.at; gathered = h.gathered; before = slice_get_within list h.at h.gathered before; stands = before; is = h.is })))
+        | inr (last, same) ↦ gained.1 (inr (pending_to run g.ring x (subst (λ (y : Gathered). IsPendingIn run y.ring x.proc x.msg) (sym same) h.is)))
       ]
 
-  pub judged_more : AreJudged run lines (list ++ g ∷ []) (length (list ++ g ∷ [])) new
-  judged_more = record { each = λ k h lt at. settled k h at; exact = λ are x. (from are x, to are x) }
+  pub observed_more : AreObserved run lines (list ++ g ∷ []) (observed ++ one ∷ []) new
+  observed_more = record { long = long; each = λ k h other at here. verified k h other at here; exact = λ are x. (from are x, to are x) }

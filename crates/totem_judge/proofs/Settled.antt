@@ -1,5 +1,6 @@
--- From settled configurations to the run: it meets the specifications in each, and what is pending is known.
-use Rattle.std.proofs.Common.{◌≡◌, ℕ, ◌<◌, List, length, slice_get, Some, sym, subst}
+-- From verified configurations to the run: it meets the specifications of passes A and B, and what is pending is known; and where all
+-- configurations agree, it meets all specifications.
+use Rattle.std.proofs.Common.{◌≡◌, ℕ, List, length, slice_get, Some, sym, subst, ◌∙◌, arith}
 use Rattle.std.proofs.lemmas.Option.{slice_get_within}
 use Rattle.totem_ids.specs.declared.ring.RingId.{RingId}
 use Rattle.totem_ids.specs.declared.conf.ConfId.TheVariants.{Regular}
@@ -11,11 +12,15 @@ use Rattle.totem_evs.specs.Changes.{EndsTogether}
 use Rattle.totem_evs.specs.Answers.{IsRing, MeetsPasses}
 use Rattle.totem_evs.specs.Unsettled.{IsPending}
 use Rattle.totem_evs.specs.Certificates.{Numbering, Certified}
+use Rattle.totem_evs.specs.Synchrony.{IsVirtuallySynchronous}
 use Rattle.totem_evs.proofs.Synchronous.{MeetsConfigurations, synchronous}
 use Rattle.totem_evs.proofs.Originating.{ring_of_send}
+use Rattle.totem_certificate_check.proofs.Walking.{at_index}
+use Rattle.totem_configuration_rules.specs.declared.observed.Observed.{Observed}
 use Rattle.totem_configuration_rules.specs.declared.traffic.Traffic.{Traffic}
 use Rattle.totem_configuration_rules.specs.Clean.{AgreesIn}
 use Rattle.totem_configuration_rules.specs.Pending.{IsPendingIn}
+use Rattle.totem_configuration_rules.specs.Traffics.{IsTrafficOf, AreTraffic}
 use Rattle.totem_configuration_rules.proofs.Facts.{has_log}
 use Rattle.totem_judge.specs.declared.gathered.Gathered.{Gathered}
 use Rattle.totem_judge.specs.Arrivals.{AllHaveCome, AreRisingTo}
@@ -23,16 +28,23 @@ use Rattle.totem_judge.specs.Seen.{IsSeen}
 use Rattle.totem_judge.specs.Pending.{IsPendingFrom}
 use Rattle.totem_run_rules.specs.Endings.{IsInOrder, HoldsPending}
 use Rattle.totem_run_rules.specs.Orderly.{IsOrderly}
-use Rattle.totem_judge.specs.Judged.{AllAreTraffic, AreJudged, Settles}
+use Rattle.totem_judge.specs.Judged.{IsVerified, AllAreTraffic, AreObserved, Covers, IsView, AgreesAt}
+use Rattle.totem_judge.specs.Lists.{EachBelow}
 use Rattle.totem_judge.proofs.Whole as place
 use Rattle.totem_judge.proofs.Viewed.{traffic_is}
 use Rattle.totem_judge.proofs.Unsent.{unsent_met}
 use Rattle.totem_run_rules.proofs.PendingOrder.{are_pending}
 
-module _ (run : List Log) (lines : List Numbering) (list : List Gathered) (pending : List Pending) (is_run : IsRun run) (orderly : IsOrderly run) (together : EndsTogether run) (certified : Certified run lines)
-    (come : AllHaveCome run lines list (length run)) (rise : AreRisingTo list (length list)) (judged : AreJudged run lines list (length list) pending) where
+module _ (run : List Log) (lines : List Numbering) (list : List Gathered) (observed : List Observed) (pending : List Pending) (is_run : IsRun run) (orderly : IsOrderly run) (together : EndsTogether run) (certified : Certified run lines)
+    (come : AllHaveCome run lines list (length run)) (rise : AreRisingTo list (length list)) (are : AreObserved run lines list observed pending) where
+  -- what was observed of a configuration that was gathered
+  one_at : (k : ℕ) (g : Gathered) → slice_get list k ≡ Some g → (one : Observed) × (slice_get observed k ≡ Some one) × IsVerified run lines g one
+  one_at k g at =
+      let found = at_index observed k (let lt = slice_get_within list k g at in let long = are.long in omega (arith, lt, long)) in
+      (found.0, found.1, are.each k g found.0 at found.1)
+
   all_seen : (k : ℕ) (g : Gathered) → slice_get list k ≡ Some g → (traffic : Traffic) × IsSeen run lines g traffic
-  all_seen k g at = let settled = judged.each k g (slice_get_within list k g at) at in (settled.traffic, settled.seen)
+  all_seen k g at = let here = one_at k g at in (here.0.traffic, here.2.seen)
 
   -- with 1.3 the run has passed A and B
   pub meets : MeetsPasses run
@@ -50,18 +62,56 @@ module _ (run : List Log) (lines : List Numbering) (list : List Gathered) (pendi
     each = λ k g traffic at seen. traffic_is run lines g traffic is_run meets certified seen (place.whole run lines list is_run certified come rise k g traffic at seen);
   }
 
-  covers : (c : RingId) → IsRing run c → place.Covers run lines list is_run certified come rise c
-  covers c ring =
+  traffic : AreTraffic run observed
+  traffic = record { each = λ k one here. of k one here }
+    where
+      of : (k : ℕ) (one : Observed) → slice_get observed k ≡ Some one → IsTrafficOf run one.ring one.traffic
+      of k one here =
+          let g = at_index list k (let lt = slice_get_within observed k one here in let long = are.long in omega (arith, lt, long)) in
+          let is = are.each k g.0 one g.1 here in
+          subst (λ (d : RingId). IsTrafficOf run d one.traffic) (sym is.ring) (all_traffic.each k g.0 one.traffic g.1 is.seen)
+
+  gathered : (c : RingId) → IsRing run c → place.Covers run lines list is_run certified come rise c
+  gathered c ring =
       let log = has_log run ring.proc ring.index (Conf (Regular c) ring.change.0) ring.change.1 in
       place.covers run lines list is_run certified come rise log.0 ring.proc ring.index c all_seen log.1 ring.change
 
+  covers : (c : RingId) → IsRing run c → Covers observed c
+  covers c ring =
+      let here = gathered c ring in
+      let one = one_at here.at here.gathered here.stands in
+      record { at = here.at; one = one.0; stands = one.1; ring = one.2.ring ∙ here.ring }
+
+  holds_pending : HoldsPending run pending
+  holds_pending = record { each = λ x. (λ has. from x ((are.exact all_traffic x).0 has), λ h. (are.exact all_traffic x).1 (to x h)) }
+    where
+      from : (x : Pending) → IsPendingFrom run list (length list) x → IsPending run x.proc x.msg
+      from x h = record { ring = h.gathered.ring; sent = h.is.sent; still_open = h.is.still_open; missing = h.is.missing }
+
+      to : (x : Pending) → IsPending run x.proc x.msg → IsPendingFrom run list (length list) x
+      to x h =
+          let here = gathered h.ring (ring_of_send run h.sent.0 h.sent.1 h.ring x.msg meets h.sent.2) in
+          record {
+            at = here.at;
+            gathered = here.gathered;
+            before = slice_get_within list here.at here.gathered here.stands;
+            stands = here.stands;
+            is = subst (λ (d : RingId). IsPendingIn run d x.proc x.msg) (sym here.ring) (record { sent = h.sent; still_open = h.still_open; missing = h.missing });
+          }
+
+  pub view : (ordered : List Pending) → IsInOrder pending ordered → IsView run observed ordered
+  view ordered sorted = record { meets = meets; traffic = traffic; covers = covers; are = are_pending run pending ordered holds_pending sorted }
+
+-- where the rules of each configuration are met, the run meets all specifications
+module _ (run : List Log) (lines : List Numbering) (observed : List Observed) (pending : List Pending) (certified : Certified run lines) (is : IsView run observed pending) (agree : EachBelow (AgreesAt observed) (length observed)) where
   agrees : (c : RingId) → IsRing run c → AgreesIn run c
   agrees c ring =
-      let here = covers c ring in
-      let settled = judged.each here.at here.gathered (slice_get_within list here.at here.gathered here.stands) here.stands in
-      subst (λ (d : RingId). AgreesIn run d) here.ring (settled.agrees.met run here.gathered.ring meets (all_traffic.each here.at here.gathered settled.traffic here.stands settled.seen))
+      let here = is.covers c ring in
+      let one = here.one in
+      let shows = agree.each here.at (slice_get_within observed here.at one here.stands) one here.stands in
+      subst (λ (d : RingId). AgreesIn run d) here.ring (shows.met run one.ring is.meets (is.traffic.each here.at one here.stands))
 
-  pub configurations : MeetsConfigurations run
+  configurations : MeetsConfigurations run
   configurations = record {
     own = record { each = λ c ring. (agrees c ring).own };
     atomicity = record { each = λ c ring. (agrees c ring).atomicity };
@@ -71,22 +121,5 @@ module _ (run : List Log) (lines : List Numbering) (list : List Gathered) (pendi
     installed = record { each = λ c ring. (agrees c ring).installed };
   }
 
-  pub holds_pending : HoldsPending run pending
-  holds_pending = record { each = λ x. (λ has. from x ((judged.exact all_traffic x).0 has), λ h. (judged.exact all_traffic x).1 (to x h)) }
-    where
-      from : (x : Pending) → IsPendingFrom run list (length list) x → IsPending run x.proc x.msg
-      from x h = record { ring = h.gathered.ring; sent = h.is.sent; still_open = h.is.still_open; missing = h.is.missing }
-
-      to : (x : Pending) → IsPending run x.proc x.msg → IsPendingFrom run list (length list) x
-      to x h =
-          let here = covers h.ring (ring_of_send run h.sent.0 h.sent.1 h.ring x.msg meets h.sent.2) in
-          record {
-            at = here.at;
-            gathered = here.gathered;
-            before = slice_get_within list here.at here.gathered here.stands;
-            stands = here.stands;
-            is = subst (λ (d : RingId). IsPendingIn run d x.proc x.msg) (sym here.ring) (record { sent = h.sent; still_open = h.still_open; missing = h.missing });
-          }
-
-  pub settles : (ordered : List Pending) → IsInOrder pending ordered → Settles run ordered
-  settles ordered sorted = (synchronous run lines meets certified configurations, are_pending run pending ordered holds_pending sorted)
+  pub settled : IsVirtuallySynchronous run
+  settled = synchronous run lines is.meets certified configurations

@@ -4,7 +4,8 @@ ghost use Rattle.std.specs.Bool.{OnTrue};
 ghost use Rattle.totem_evs.specs.Changes.{EndsTogether};
 ghost use Rattle.totem_evs.specs.Certificates.{Certified};
 ghost use Rattle.totem_run_rules.specs.Orderly.{IsOrderly};
-ghost use Rattle.totem_judge.specs.Judged.{IsJudged, AreJudged, Settles, LeavesOpen};
+ghost use Rattle.totem_judge.specs.Judged.{IsObserved, AreObserved, IsView, AgreesAt, LeavesOpen};
+ghost use Rattle.totem_judge.specs.Lists.{EachBelow};
 
 use crate::arrivals::{all_have_come, rise};
 use crate::gather::gather;
@@ -13,61 +14,70 @@ use crate::pending::add_pending;
 use crate::traffic::traffic_of;
 use std::alloc::{AllocError, Global};
 use totem_certificate::{Certificate, Line};
-use totem_configuration_rules::is_agreed;
+use totem_configuration_rules::{Observed, is_agreed};
 use totem_evs::{Log, Pending, Run, Waiting};
 use totem_run_rules::{end_together, in_order, is_orderly, waiting};
 
-/// Judges one configuration, and appends what is pending there. Returns `true` only if all its rules are met.
-fn judge_one(
+/// What is seen of a run that meets the specifications of the first two passes, along its certificate.
+#[derive(Drop)]
+pub struct View {
+    /// The traffic of each regular configuration.
+    pub observed: Vec<Observed>,
+    /// By process and then by message.
+    pub pending: Vec<Pending>,
+}
+
+/// Compares one configuration with the logs, and appends what is pending there. Returns `None` unless the logs agree with what was
+/// gathered.
+fn observe_one(
     alloc: Global,
     logs: &[Log],
     lines: &[Line],
     gathered: Gathered,
     pending: &mut Vec<Pending>,
-) -> Result<bool, AllocError>
+) -> Result<Option<Observed>, AllocError>
     requires { length logs.now ≤ 32 }
-    ensures { IfOk result (λ agreed. OnTrue agreed (IsJudged logs.now lines.now gathered pending.old.items pending.new.items)) }
+    ensures { IfOk result (λ found. IfSome found (λ one. IsObserved logs.now lines.now gathered one pending.old.items pending.new.items)) }
 {
+    let ring = gathered.ring;
     let Some(traffic) = traffic_of(alloc, logs, lines, gathered)? else {
-        return Ok(false);
+        return Ok(None);
     };
-    if !is_agreed(&traffic) {
-        return Ok(false);
-    }
     add_pending(&traffic, logs, pending)?;
-    Ok(true)
+    Ok(Some(Observed { ring, traffic }))
 }
 
-/// Judges these configurations. Returns what is pending in them, or `None` unless all their rules are met.
-fn judge_all(
+/// Compares these configurations with the logs, one after the other. What is pending in them is in no order yet.
+fn observe_all(
     alloc: Global,
     logs: &[Log],
     lines: &[Line],
     list: Vec<Gathered>,
-) -> Result<Option<Vec<Pending>>, AllocError>
+) -> Result<Option<View>, AllocError>
     requires { length logs.now ≤ 32 }
-    ensures { IfOk result (λ judged. IfSome judged (λ pending. AreJudged logs.now lines.now list.items (length list.items) pending.items)) }
+    ensures { IfOk result (λ found. IfSome found (λ view. AreObserved logs.now lines.now list.items view.observed.items view.pending.items)) }
 {
     let mut pending = Vec::new(alloc);
+    let mut observed = Vec::new(alloc);
     for gathered in list {
-        if !judge_one(alloc, logs, lines, gathered, &mut pending)? {
+        let Some(one) = observe_one(alloc, logs, lines, gathered, &mut pending)? else {
             return Ok(None);
-        }
+        };
+        observed.push(one)?;
     }
-    Ok(Some(pending))
+    Ok(Some(View { observed, pending }))
 }
 
-/// Judges the configurations of a run that its certificate orders. Returns what is pending, by process and then by message, or `None`
-/// unless the run meets all specifications.
-fn settle(
+/// Observes the configurations of a run that its certificate orders.
+fn observe_configurations(
     alloc: Global,
     run: &Run,
     certificate: &Certificate,
-) -> Result<Option<Vec<Pending>>, AllocError>
+) -> Result<Option<View>, AllocError>
     requires orderly { IsOrderly run.now.logs }
     requires together { EndsTogether run.now.logs }
     requires certified { Certified run.now.logs certificate.now.lines }
-    ensures { IfOk result (λ judged. IfSome judged (λ pending. Settles run.now.logs pending.items)) }
+    ensures { IfOk result (λ found. IfSome found (λ view. IsView run.now.logs view.observed.items view.pending.items)) }
 {
     let logs = run.logs.as_slice();
     let lines = certificate.as_slice();
@@ -75,10 +85,43 @@ fn settle(
     if !rise(&list) || !all_have_come(logs, lines, &list) {
         return Ok(None);
     }
-    let Some(pending) = judge_all(alloc, logs, lines, list)? else {
+    let Some(View { observed, pending }) = observe_all(alloc, logs, lines, list)? else {
         return Ok(None);
     };
-    Ok(Some(in_order(pending)?))
+    Ok(Some(View {
+        observed,
+        pending: in_order(pending)?,
+    }))
+}
+
+/// Observes a run that its certificate orders. Returns `None` unless it sees that the run meets the specifications of passes A and B.
+pub fn observe(
+    alloc: Global,
+    run: &Run,
+    certificate: &Certificate,
+) -> Result<Option<View>, AllocError>
+    requires { Certified run.now.logs certificate.now.lines }
+    ensures { IfOk result (λ found. IfSome found (λ view. IsView run.now.logs view.observed.items view.pending.items)) }
+{
+    if !is_orderly(alloc, run)? {
+        return Ok(None);
+    }
+    if !end_together(alloc, run)? {
+        return Ok(None);
+    }
+    observe_configurations(alloc, run, certificate)
+}
+
+/// Returns `true` only where the rules of all these configurations are met.
+fn all_agree(list: &[Observed]) -> bool
+    ensures { OnTrue result (EachBelow (AgreesAt list.now) (length list.now)) }
+{
+    for one in list {
+        if !is_agreed(&one.traffic) {
+            return false;
+        }
+    }
+    true
 }
 
 /// What is left open of a run that meets the specifications.
@@ -100,15 +143,12 @@ pub fn judge(
     requires { Certified run.now.logs certificate.now.lines }
     ensures { IfOk result (λ judged. IfSome judged (λ left. LeavesOpen run.now.logs left.pending.items left.waiting.items)) }
 {
-    if !is_orderly(alloc, run)? {
-        return Ok(None);
-    }
-    if !end_together(alloc, run)? {
-        return Ok(None);
-    }
-    let Some(pending) = settle(alloc, run, certificate)? else {
+    let Some(View { observed, pending }) = observe(alloc, run, certificate)? else {
         return Ok(None);
     };
+    if !all_agree(&observed) {
+        return Ok(None);
+    }
     let waiting = waiting(alloc, run)?;
     Ok(Some(Unsettled { pending, waiting }))
 }

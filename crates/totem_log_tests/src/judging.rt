@@ -1,4 +1,4 @@
-//! The judge: it tells what a good run leaves open, and says yes to no run that breaks a specification.
+//! The judge: it reports what a good run leaves open, and refuses each run that breaks a specification.
 use crate::values::is_told;
 use std::alloc::{AllocError, Global};
 use std::process::Abort;
@@ -8,7 +8,7 @@ use totem_ids::{FromRead, MsgId, Proc, ProcId, RingId};
 use totem_judge::judge;
 use totem_run_rules::{in_order, walk_to_change};
 
-/// Adds what the judge says of a run, along the certificate that the auditor makes of it.
+/// Adds the judge's answer on a run, with the certificate that the auditor makes of it.
 fn push_judged(alloc: Global, text: &mut String, run: &Run) -> Result<(), AllocError> {
     let Order::Positions(certificate) = positions(alloc, run)? else {
         return text.push_str("no certificate");
@@ -24,7 +24,7 @@ fn push_judged(alloc: Global, text: &mut String, run: &Run) -> Result<(), AllocE
     }
 }
 
-/// What the judge says of a run of these logs, or why there is no such run.
+/// Returns the judge's answer on a run of these logs, or why there is no such run.
 fn told(alloc: Global, logs: &str) -> Result<String, AllocError> {
     let bytes = format!(in alloc; "totem-run 1\n{logs}end\n")?;
     let mut text = String::new(alloc);
@@ -35,7 +35,7 @@ fn told(alloc: Global, logs: &str) -> Result<String, AllocError> {
     Ok(text)
 }
 
-/// What a run shows, its logs, and what the judge says of it.
+/// What a run shows, its logs, and the judge's answer.
 struct Row {
     shows: &'static str,
     logs: &'static str,
@@ -104,6 +104,7 @@ const RUNS: [Row; 10] = [
     },
 ];
 
+/// The judge says yes to good runs, with what they leave open, and no to the others.
 #[test]
 fn the_judge_says_yes_to_good_runs_alone(rt: HostRuntime) -> Result<(), AllocError> {
     for row in &RUNS {
@@ -124,6 +125,7 @@ fn pending(proc: Proc, seq: u32) -> Pending {
     }
 }
 
+/// `in_order` sorts a list and drops duplicates.
 #[test]
 fn a_list_is_put_in_order(rt: HostRuntime) -> Result<(), AllocError> {
     let first = Proc::first(ProcId::of(1));
@@ -140,7 +142,7 @@ fn a_list_is_put_in_order(rt: HostRuntime) -> Result<(), AllocError> {
     Ok(())
 }
 
-/// Where the next change is found from each entry of these logs.
+/// Returns the index at which the next change is found from each entry of these logs.
 fn next_changes(alloc: Global, logs: &str) -> Result<String, AllocError> {
     let bytes = format!(in alloc; "totem-run 1\n{logs}end\n")?;
     let mut text = String::new(alloc);
@@ -155,6 +157,7 @@ fn next_changes(alloc: Global, logs: &str) -> Result<String, AllocError> {
     Ok(text)
 }
 
+/// The next change of configuration is found from each entry of a log.
 #[test]
 fn the_next_change_is_found(rt: HostRuntime) -> Result<(), AllocError> {
     let logs = "log 1\nconf r4.1 1\nsend r4.1 a 4.1#1\nconf t8.1/1 1\nopen\n";

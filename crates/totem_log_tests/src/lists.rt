@@ -10,19 +10,19 @@ pub fn proc(number: u16) -> Proc {
     Proc::first(ProcId::of(number.max(1)))
 }
 
-/// Tells the rule that a list breaks, and how many elements come back.
+/// Returns the rule that a list breaks, and the number of elements that are returned.
 pub fn refusal<V: Drop>(alloc: Global, refused: &Refused<Vec<V>>) -> Result<String, AllocError> {
     format!(in alloc; "{:?} of {}", refused.fault, refused.value.len())
 }
 
-/// Numbers that are taken, and their copy.
+/// Returns numbers that are accepted, and their copy.
 fn taken_numbers(alloc: Global, numbers: Numbers) -> Result<String, AllocError> {
     let copy = numbers.try_clone(alloc)?;
     let list = numbers.into_vec();
     format!(in alloc; "{list:?} {:?}", copy.as_slice())
 }
 
-/// Returns these numbers, so many times over.
+/// Returns these numbers, repeated this many times.
 pub fn numbers(alloc: Global, list: &[u16], times: usize) -> Result<Vec<u32>, AllocError> {
     let mut numbers = Vec::new(alloc);
     for _ in 0..times {
@@ -40,7 +40,7 @@ pub fn numbers_told(alloc: Global, list: Vec<u32>) -> Result<String, AllocError>
     }
 }
 
-/// Tells what the refusal of these numbers says.
+/// Returns the text of the refusal of these numbers.
 pub fn numbers_refusal(alloc: Global, list: Vec<u32>) -> Result<String, AllocError> {
     match Numbers::new(list) {
         Ok(_) => String::from_str(alloc, "taken"),
@@ -57,7 +57,7 @@ pub fn push_line(alloc: Global, list: &mut Vec<Line>, proc: Proc) -> Result<(), 
     Ok(())
 }
 
-/// A line for each of these processes, with its number and the greatest number.
+/// Returns a line for each of these processes, with its number and the greatest number.
 fn lines(alloc: Global, procs: &[u16]) -> Result<Vec<Line>, AllocError> {
     let mut list = Vec::new(alloc);
     for number in procs {
@@ -66,7 +66,7 @@ fn lines(alloc: Global, procs: &[u16]) -> Result<Vec<Line>, AllocError> {
     Ok(list)
 }
 
-/// The copy of lines that are taken, and the lines.
+/// Returns the copy of lines that are accepted, and the lines.
 fn taken_lines(alloc: Global, lines: Lines) -> Result<String, AllocError> {
     let copy = lines.try_clone(alloc)?;
     let mut text = String::new(alloc);
@@ -82,7 +82,7 @@ pub fn lines_told(alloc: Global, procs: &[u16]) -> Result<String, AllocError> {
     }
 }
 
-/// How many lines a certificate's copy has, in two ways, whether it is the certificate, and how many that gives back.
+/// Returns the number of lines of a certificate's copy, in two ways, whether it is equal, and how many lines it gives back.
 fn taken_certificate(alloc: Global, certificate: Certificate) -> Result<String, AllocError> {
     let copy = certificate.try_clone(alloc)?;
     let counts = (copy.lines.as_slice().len(), copy.as_slice().len());
@@ -105,7 +105,7 @@ pub fn procs(alloc: Global, numbers: &[u16]) -> Result<Vec<Proc>, AllocError> {
     Ok(list)
 }
 
-/// The copy of members that are taken, whether 3 and 2 are among them, and how many there are.
+/// Returns the copy of members that are accepted, whether 3 and 2 are among them, and their number.
 fn taken_members(alloc: Global, members: Members) -> Result<String, AllocError> {
     let copy = members.try_clone(alloc)?;
     let mut text = String::new(alloc);

@@ -1,4 +1,4 @@
-//! Which version writes a process that came back, and which a quiet log; texts of versions 2 and 3 that are written as they were
+//! Which version writes a process that returned, and which a quiet log; and texts of versions 2 and 3 that are written as they were
 //! read.
 use crate::lists::{push_line, refusal};
 use crate::logs::push_log_of;
@@ -18,11 +18,11 @@ enum Asked {
     One,
     Two,
     Three,
-    /// The first that can write it.
+    /// The first version that can write it.
     First,
 }
 
-/// Tells the version of a run of one log, of this life of process 1, with these entries, or why there is none.
+/// Returns the version of a run of one log, of this life of process 1, with these entries, or why there is none.
 fn run_told(alloc: Global, asked: &Asked, number: u16, words: &str) -> Result<String, AllocError> {
     let mut logs = Vec::new(alloc);
     push_log_of(alloc, &mut logs, life(number), words)?;
@@ -38,7 +38,7 @@ fn run_told(alloc: Global, asked: &Asked, number: u16, words: &str) -> Result<St
     }
 }
 
-/// Tells the version of a certificate of one line in the same way.
+/// Returns the version of a certificate of one line in the same way.
 fn certificate_told(alloc: Global, asked: &Asked, number: u16) -> Result<String, AllocError> {
     let mut lines = Vec::new(alloc);
     push_line(alloc, &mut lines, life(number))?;
@@ -53,7 +53,7 @@ fn certificate_told(alloc: Global, asked: &Asked, number: u16) -> Result<String,
     }
 }
 
-/// A life, and what is told of a run and of a certificate that has it.
+/// A life, and what is reported of a run and of a certificate that has it.
 struct Row {
     asked: Asked,
     life: u16,
@@ -93,6 +93,7 @@ const ROWS: [Row; 6] = [
     },
 ];
 
+/// Version 1 writes first lives only, and version 2 writes all lives, in runs and certificates.
 #[test]
 fn version_one_writes_first_lives_alone(rt: HostRuntime) -> Result<(), AllocError> {
     for row in &ROWS {
@@ -104,7 +105,7 @@ fn version_one_writes_first_lives_alone(rt: HostRuntime) -> Result<(), AllocErro
     Ok(())
 }
 
-/// A life, the entries of its log, and what is told of a run that has it.
+/// A life, the entries of its log, and what is reported of a run that has it.
 struct QuietRow {
     asked: Asked,
     life: u16,
@@ -149,7 +150,7 @@ const QUIET_ROWS: [QuietRow; 7] = [
         words: "change send quiet",
         told: "Three",
     },
-    // A log that ends in a failure can't be quiet: there is none, and the run has no log.
+    // A log that ends in a failure can't be quiet, so it is not made, and the run has no log.
     QuietRow {
         asked: Asked::First,
         life: 2,
@@ -158,6 +159,7 @@ const QUIET_ROWS: [QuietRow; 7] = [
     },
 ];
 
+/// Only version 3 writes quiet logs.
 #[test]
 fn version_three_writes_quiet_logs(rt: HostRuntime) -> Result<(), AllocError> {
     for row in &QUIET_ROWS {
@@ -180,7 +182,7 @@ const RUN: &str = "totem-run 2\n\
 
 const CERTIFICATE: &str = "totem-cert 2\npos 1:1 1 2\npos 1:2 3 4 5\nend\n";
 
-/// Returns what is written of the run that is read from a text, or why there is none.
+/// Reads a run from a text, and returns what is written of it, or why there is no run.
 fn run_again(alloc: Global, text: &str) -> Result<Vec<u8>, AllocError> {
     let mut sink = ToWrite::new(Vec::new(alloc));
     match read_run(alloc, &mut FromRead::new(text.as_bytes())) {
@@ -192,7 +194,7 @@ fn run_again(alloc: Global, text: &str) -> Result<Vec<u8>, AllocError> {
     }
 }
 
-/// Returns what is written of the certificate that is read from a text, or why there is none.
+/// Reads a certificate from a text, and returns what is written of it, or why there is no certificate.
 fn certificate_again(alloc: Global, text: &str) -> Result<Vec<u8>, AllocError> {
     let mut sink = ToWrite::new(Vec::new(alloc));
     match read_cert(alloc, &mut FromRead::new(text.as_bytes())) {
@@ -204,6 +206,7 @@ fn certificate_again(alloc: Global, text: &str) -> Result<Vec<u8>, AllocError> {
     }
 }
 
+/// Texts of versions 2 and 3 are written as they were read.
 #[test]
 fn lives_are_written_as_they_were_read(rt: HostRuntime) -> Result<(), AllocError> {
     let run = run_again(rt.alloc(), RUN)?;

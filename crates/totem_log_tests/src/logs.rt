@@ -49,7 +49,7 @@ fn entries(alloc: Global, words: &str) -> Result<Vec<Entry>, AllocError> {
     Ok(list)
 }
 
-/// Returns how a log of these words ends: as quiet if they say so, and else as its entries have it.
+/// Returns the ending of a log of these words: quiet if they say so, and otherwise that of its entries.
 fn ending_of(entries: &Entries, words: &str) -> Ending {
     if words.contains("quiet") {
         Ending::Quiet
@@ -58,7 +58,7 @@ fn ending_of(entries: &Entries, words: &str) -> Ending {
     }
 }
 
-/// Adds a log of these entries, if there are any and they may end so.
+/// Adds a log of these entries, if there are any and they allow its ending.
 pub fn push_log_of(
     alloc: Global,
     logs: &mut Vec<Log>,
@@ -83,7 +83,7 @@ pub fn logs(alloc: Global, numbers: &[u16], words: &str) -> Result<Vec<Log>, All
     Ok(logs)
 }
 
-/// How many logs are copied, and the logs.
+/// Returns the number of logs in a copy, and the logs.
 fn taken_logs(alloc: Global, logs: Logs) -> Result<String, AllocError> {
     let copy = logs.try_clone(alloc)?;
     let mut text = format!(in alloc; "{}: ", copy.into_vec().len())?;
@@ -100,7 +100,7 @@ pub fn logs_told(alloc: Global, list: Vec<Log>) -> Result<String, AllocError> {
     }
 }
 
-/// How many logs a run has, whether it is its copy, and how many it gives back.
+/// Returns the number of logs of a run, whether it is equal to its copy, and how many logs it gives back.
 fn taken_run(alloc: Global, run: Run) -> Result<String, AllocError> {
     let copy = run.try_clone(alloc)?;
     let is_copy = run.is(&copy);
@@ -115,7 +115,7 @@ pub fn run_told(alloc: Global, list: Vec<Log>) -> Result<String, AllocError> {
     }
 }
 
-/// Tells what becomes of so many failures as the entries of a log.
+/// Returns the result of making this many failures the entries of a log.
 pub fn entries_told(alloc: Global, count: usize) -> Result<String, AllocError> {
     let mut list = Vec::new(alloc);
     for _ in 0..count {
@@ -127,7 +127,7 @@ pub fn entries_told(alloc: Global, count: usize) -> Result<String, AllocError> {
     }
 }
 
-/// Tells of a change and of a failure whether each is its copy, whether it is a failure, and whether it is of the class of itself.
+/// Returns, for a change and a failure, whether it is equal to its copy, whether it is a failure, and whether it is of its own class.
 pub fn copied_entries_told(alloc: Global) -> Result<String, AllocError> {
     let mut text = String::new(alloc);
     for entry in &entries(alloc, "change fail")? {
@@ -138,13 +138,13 @@ pub fn copied_entries_told(alloc: Global) -> Result<String, AllocError> {
     Ok(text)
 }
 
-/// Adds whether a part is its copy.
+/// Adds whether a part is equal to its copy.
 fn push_copied_part(alloc: Global, text: &mut String, part: &Part) -> Result<(), AllocError> {
     let is_copy = part.is(&part.try_clone(alloc)?);
     write!(text, "{is_copy}; ")
 }
 
-/// Tells of each kind of part whether it is its copy.
+/// Returns whether a part of each kind is equal to its copy.
 pub fn copied_parts_told(alloc: Global) -> Result<String, AllocError> {
     let mut text = String::new(alloc);
     push_copied_part(alloc, &mut text, &Part::Log(proc(2)))?;
@@ -154,7 +154,7 @@ pub fn copied_parts_told(alloc: Global) -> Result<String, AllocError> {
     Ok(text)
 }
 
-/// The copy of a fault, whether it is the fault, and how many places the copy of its places has.
+/// Adds the copy of a fault, whether it is equal to the fault, and the number of places in the copy of its places.
 fn push_copied_fault(alloc: Global, text: &mut String, fault: &Fault) -> Result<(), AllocError> {
     let copy = fault.try_clone(alloc)?;
     let places = copy.places.try_clone(alloc)?;

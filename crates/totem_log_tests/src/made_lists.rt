@@ -1,4 +1,4 @@
-//! What is made of lists, as a table.
+//! Values that are made of lists, as a table.
 use crate::lists::{
     certificate_told, lines_told, members_told, numbers, numbers_refusal, numbers_told,
 };
@@ -9,8 +9,8 @@ use crate::logs::{
 use crate::values::is_told;
 use std::alloc::{AllocError, Global};
 
-/// What is made of a list. Of numbers: the numbers of a line, so many times over, or what their refusal says. Of processes: lines,
-/// a certificate, members, logs, logs that fail, or a run. Without a list: so many entries, or copies of entries, of parts and of a fault.
+/// What is made of a list. Of numbers: the numbers of a line, repeated this often, or the text of their refusal. Of processes: lines,
+/// a certificate, members, logs, logs that fail, or a run. Without a list: this many entries, or copies of entries, parts and a fault.
 enum What {
     Numbers,
     NumbersRefusal,
@@ -53,7 +53,7 @@ const FIRST_33: [u16; 33] = [
     27, 28, 29, 30, 31, 32, 33,
 ];
 
-/// What is made of a list, and what has to be told of it.
+/// What is made of a list, and what is to be reported of it.
 struct Row {
     about: &'static str,
     what: What,
@@ -261,6 +261,7 @@ const ROWS: [Row; 28] = [
     },
 ];
 
+/// Each kind of list is accepted and copied, or refused, as its rules say.
 #[test]
 fn lists_are_taken_copied_or_refused(rt: HostRuntime) -> Result<(), AllocError> {
     for row in &ROWS {

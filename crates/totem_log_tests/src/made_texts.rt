@@ -1,4 +1,4 @@
-//! Longer texts: what is read of them, and what is written out again.
+//! Longer texts: what is read of them, and what is written.
 use crate::texts::{CERTIFICATE, RUN, read};
 use crate::values::is_told;
 use std::alloc::{AllocError, Global};
@@ -6,7 +6,7 @@ use totem_cert::{Certificate, read_cert, write_cert};
 use totem_evs::{Run, WriteFault, read_run, write_run};
 use totem_ids::{FromRead, Fused, ToWrite};
 
-/// What went out of a text.
+/// Returns how much of a text was written.
 fn gone_out(answer: Result<(), WriteFault>, bytes: &[u8], text: &str) -> &'static str {
     match answer {
         Ok(()) if bytes == text.as_bytes() => "all",
@@ -18,14 +18,14 @@ fn gone_out(answer: Result<(), WriteFault>, bytes: &[u8], text: &str) -> &'stati
     }
 }
 
-/// What goes out of this run to a sink that fails after so many calls.
+/// Returns how much of this run is written to a sink that fails after this many calls.
 fn run_gone_out(alloc: Global, run: &Run, calls: u64, text: &str) -> &'static str {
     let mut sink = Fused::new(ToWrite::new(Vec::new(alloc)), calls);
     let answer = write_run(alloc, run, &mut sink);
     gone_out(answer, &sink.into_inner().into_inner(), text)
 }
 
-/// What goes out of this certificate to a sink that fails after so many calls.
+/// Returns how much of this certificate is written to a sink that fails after this many calls.
 fn certificate_gone_out(
     alloc: Global,
     certificate: &Certificate,
@@ -37,7 +37,7 @@ fn certificate_gone_out(
     gone_out(answer, &sink.into_inner().into_inner(), text)
 }
 
-/// What goes out of the run or the certificate of this text.
+/// Returns how much of the run or the certificate in this text is written.
 fn written(alloc: Global, text: &str, calls: u64) -> &'static str {
     let mut source = FromRead::new(text.as_bytes());
     if text.starts_with("totem-cert") {
@@ -53,8 +53,8 @@ fn written(alloc: Global, text: &str, calls: u64) -> &'static str {
     }
 }
 
-/// A text that begins with `begin`, has `piece` so many times and ends with `rest`, and what is read of it. With a
-/// number of calls: what of it goes out to a sink that fails after so many.
+/// A text that begins with `begin`, repeats `piece` and ends with `rest`, and what is read of it. With a
+/// number of calls: how much of it is written to a sink that fails after this many.
 struct Made {
     about: &'static str,
     begin: &'static str,
@@ -65,7 +65,7 @@ struct Made {
     told: &'static str,
 }
 
-/// What is read of the text, or what goes out of it.
+/// Returns what is read of the text, or how much of it is written.
 fn made_told(alloc: Global, row: &Made) -> Result<String, AllocError> {
     let piece = row.piece.repeat(alloc, row.times)?;
     let text = format!(in alloc; "{}{piece}{}", row.begin, row.rest)?;
@@ -96,7 +96,7 @@ const FIRST_LOGS: &str = "totem-run 1\n\
     log 25\nfail r4.1\nfailed\nlog 26\nfail r4.1\nfailed\nlog 27\nfail r4.1\nfailed\nlog 28\nfail r4.1\nfailed\n\
     log 29\nfail r4.1\nfailed\nlog 30\nfail r4.1\nfailed\nlog 31\nfail r4.1\nfailed\nlog 32\nfail r4.1\nfailed\n";
 
-/// 1 sends, 2 fails, and the last process there is moves on and fails.
+/// 1 sends, 2 fails, and the process with the greatest identifier sends, moves on and fails.
 const WHOLE_RUN: &str = "totem-run 1
 log 1
 conf r4.1 1 2
@@ -307,6 +307,7 @@ const MADE: [Made; 21] = [
     },
 ];
 
+/// Long texts are read or refused, and written in full or as far as the sink takes them.
 #[test]
 fn made_texts_are_read_refused_or_written(rt: HostRuntime) -> Result<(), AllocError> {
     for row in &MADE {

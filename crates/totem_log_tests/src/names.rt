@@ -1,4 +1,4 @@
-//! The numbers, names and texts of faults and specifications, and what comes before what.
+//! The numbers, names and texts of faults and specifications, and their order.
 use crate::values::is_told;
 use std::alloc::{AllocError, Global};
 use totem_cert::CertFault;
@@ -97,7 +97,7 @@ const SPECIFICATIONS: [SpecNo; 14] = [
     SpecNo::Installed,
 ];
 
-/// Tells each specification's number, with `<` in front of one that comes after the one before.
+/// Returns each specification's number, with `<` in front of one that is greater than the one before.
 fn specifications_told(alloc: Global) -> Result<String, AllocError> {
     let mut text = String::new(alloc);
     let mut before = None;
@@ -136,7 +136,7 @@ fn waiting(other: u16) -> Waiting {
     }
 }
 
-/// Tells the lines of a report for what is pending and for who waits.
+/// Returns the lines of a report for what is pending and who waits.
 fn unsettled_told(alloc: Global) -> Result<String, AllocError> {
     let later = Pending {
         proc: life(3, 2),
@@ -145,7 +145,7 @@ fn unsettled_told(alloc: Global) -> Result<String, AllocError> {
     format!(in alloc; "{}; {}; {later}", pending(3, 1), waiting(2))
 }
 
-/// Tells whether what is pending and who waits is ordered first by the process, and then by what stands after it.
+/// Returns whether pending messages and waiting processes are ordered by the process, and then by the rest.
 fn order_told(alloc: Global) -> Result<String, AllocError> {
     let pending = pending(1, 9) < pending(2, 1);
     let waiting = waiting(2) < waiting(3);
@@ -174,7 +174,7 @@ fn told(alloc: Global, topic: &Topic) -> Result<String, AllocError> {
     }
 }
 
-/// What is told of a topic.
+/// A topic, and what is reported of it.
 struct Row {
     about: &'static str,
     topic: Topic,
@@ -221,6 +221,7 @@ const ROWS: [Row; 7] = [
     },
 ];
 
+/// Faults, specifications and report lines have their numbers, names and texts, and are ordered.
 #[test]
 fn names_and_texts_are_as_written(rt: HostRuntime) -> Result<(), AllocError> {
     for row in &ROWS {

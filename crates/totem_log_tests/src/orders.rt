@@ -1,4 +1,4 @@
-//! The rules of a whole run: each says yes to a good run, and no to one that breaks it.
+//! The rules of a whole run: each says yes to a good run and no to one that breaks it.
 use crate::values::is_told;
 use std::alloc::{AllocError, Global};
 use totem_cert::{Order, positions};
@@ -8,7 +8,7 @@ use totem_run_rules::{
     all_stay_in_place, changes_agree, end_together, is_orderly, sends_are_once, waiting,
 };
 
-/// Adds how many wait in a run that has a certificate and is orderly.
+/// Adds the number of waiting processes in a run that has a certificate and is orderly.
 fn push_waiting(alloc: Global, text: &mut String, run: &Run) -> Result<(), AllocError> {
     let Order::Positions(_) = positions(alloc, run)? else {
         return text.push_str("no certificate");
@@ -20,7 +20,7 @@ fn push_waiting(alloc: Global, text: &mut String, run: &Run) -> Result<(), Alloc
     Ok(())
 }
 
-/// Adds which rules say no.
+/// Adds the rules that say no.
 fn push_broken(alloc: Global, text: &mut String, run: &Run) -> Result<(), AllocError> {
     let logs = run.logs.as_slice();
     if !sends_are_once(alloc, logs)? {
@@ -38,7 +38,7 @@ fn push_broken(alloc: Global, text: &mut String, run: &Run) -> Result<(), AllocE
     push_waiting(alloc, text, run)
 }
 
-/// What the rules say of a run of these logs, or why there is no such run.
+/// Returns what the rules say about a run of these logs, or why there is no such run.
 fn told(alloc: Global, logs: &str) -> Result<String, AllocError> {
     let bytes = format!(in alloc; "totem-run 3\n{logs}end\n")?;
     let mut text = String::new(alloc);
@@ -49,7 +49,7 @@ fn told(alloc: Global, logs: &str) -> Result<String, AllocError> {
     Ok(text)
 }
 
-/// The rule that a row shows, the logs of a run, and what is told of it.
+/// The rule that a row shows, the logs of a run, and what the rules say.
 struct Row {
     rule: &'static str,
     logs: &'static str,
@@ -112,6 +112,7 @@ const RUNS: [Row; 10] = [
     },
 ];
 
+/// The rules of a whole run accept orderly runs, and the broken rule refuses each other run.
 #[test]
 fn rules_say_which_runs_are_orderly(rt: HostRuntime) -> Result<(), AllocError> {
     for row in &RUNS {

@@ -12,14 +12,14 @@ fn push_order(text: &mut String, order: &Order) -> Result<(), AllocError> {
     }
 }
 
-/// How the entries with a key are put in order: by counting over a table, or by sorting without one.
+/// How the entries with a key are ordered: by counting over a table, or by sorting without one.
 #[derive(Clone, Copy)]
 enum Way {
     Counting,
     Sorting,
 }
 
-/// A copy of the run's order.
+/// Returns a copy of the run's order.
 fn copied_order(alloc: Global, run: &Run, way: Way) -> Result<Order, AllocError> {
     match way {
         Way::Counting => positions(alloc, run)?.try_clone(alloc),
@@ -31,7 +31,7 @@ fn push_order_of(alloc: Global, text: &mut String, run: &Run, way: Way) -> Resul
     push_order(text, &copied_order(alloc, run, way)?)
 }
 
-/// The order of a run of these logs, or why there is no such run.
+/// Returns the order of a run of these logs, or why there is no such run.
 fn told(alloc: Global, logs: &str, way: Way) -> Result<String, AllocError> {
     let bytes = format!(in alloc; "totem-run 1\n{logs}end\n")?;
     let mut text = String::new(alloc);
@@ -102,6 +102,7 @@ const RUNS: [Row; 8] = [
     },
 ];
 
+/// Small runs have the positions or closed lists that are worked out by hand, by counting and by sorting.
 #[test]
 fn small_runs_have_their_positions_or_closed_lists(rt: HostRuntime) -> Result<(), AllocError> {
     for row in &RUNS {

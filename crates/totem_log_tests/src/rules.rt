@@ -1,4 +1,4 @@
-//! The rules of one regular configuration: each says yes to good traffic, and no where it is broken.
+//! The rules of one regular configuration: each says yes to good traffic and no to traffic that breaks it.
 use std::alloc::{AllocError, Global};
 use std::process::Abort;
 use totem_configuration_rules::{
@@ -34,8 +34,8 @@ fn members(logs: LogSet) -> MemberLogs {
     MemberLogs { logs, all: true }
 }
 
-/// Two logs change to a configuration. The first one sends a safe message 1, which these deliver; the second one delivers that and
-/// sends message 2, which these others deliver. Neither has ended.
+/// Two logs change to a configuration. The first sends a safe message 1, which the logs `one` deliver; the second delivers it and
+/// sends message 2, which the logs `two` deliver. Neither log has ended.
 fn traffic(alloc: Global, one: LogSet, two: LogSet) -> Result<Traffic, AllocError> {
     let mut sent = Vec::new(alloc);
     sent.push(Sent {
@@ -76,7 +76,7 @@ fn traffic(alloc: Global, one: LogSet, two: LogSet) -> Result<Traffic, AllocErro
     })
 }
 
-/// Tells which rules say no.
+/// Returns the rules that say no.
 fn broken(alloc: Global, traffic: &Traffic) -> Result<String, AllocError> {
     let mut text = String::new(alloc);
     if !own_delivery_is_met(traffic) {
@@ -103,7 +103,7 @@ fn broken(alloc: Global, traffic: &Traffic) -> Result<String, AllocError> {
     Ok(text)
 }
 
-/// What the rules say where these deliver the messages, and the logs that have ended are these.
+/// Returns what the rules say if the logs `one` and `two` deliver the messages, and `ended` are the logs that have ended.
 fn told(
     alloc: Global,
     one: LogSet,
@@ -126,6 +126,7 @@ fn are(rt: &impl Abort, told: Result<String, AllocError>, wanted: &str) {
     assert_eq!(rt; told.as_str(), wanted);
 }
 
+/// Good traffic breaks no rule of a configuration, and other traffic exactly the expected ones.
 #[test]
 fn rules_say_where_traffic_is_broken(rt: HostRuntime) {
     let alloc = rt.alloc();
@@ -139,6 +140,7 @@ fn rules_say_where_traffic_is_broken(rt: HostRuntime) {
     are(&rt, told(alloc, second(), second(), none, none), "3 7.1 ");
 }
 
+/// Safe delivery requires that each member has a log and installs the configuration.
 #[test]
 fn members_have_to_come(rt: HostRuntime) {
     let alloc = rt.alloc();
@@ -152,6 +154,7 @@ fn members_have_to_come(rt: HostRuntime) {
     are(&rt, broken(alloc, &one), "7.1 7.2 ");
 }
 
+/// A message that a log has not delivered is pending only if the log is open.
 #[test]
 fn what_an_open_log_lacks_is_pending(rt: HostRuntime) {
     let alloc = rt.alloc();

@@ -1,4 +1,4 @@
-//! Sources of each kind, sources that fail, texts that are spoilt or cut, and runs that are read part by part.
+//! Sources of each kind, sources that fail, texts that are changed or cut, and runs that are read part by part.
 use crate::texts::{CERTIFICATE, RUN, certificate_told, push_end, run_told};
 use crate::values::is_told;
 use std::alloc::{AllocError, Global};
@@ -6,13 +6,13 @@ use totem_cert::{CertFault, read_cert};
 use totem_evs::{Next, Part, RunFault, RunReader, read_run};
 use totem_ids::{Buffered, FromRead, Fused, Source};
 
-/// The run of a source that fails after so many calls.
+/// Reads a run from a source that fails after this many calls.
 fn fused_told(alloc: Global, calls: usize) -> Result<String, AllocError> {
     let mut source = Fused::new(FromRead::new(RUN.as_bytes()), calls as u64);
     run_told(alloc, &mut source)
 }
 
-/// The run of a source with a buffer.
+/// Reads a run from a source with a buffer.
 fn buffered_told(alloc: Global) -> Result<String, AllocError> {
     let mut source = Buffered::new(alloc, RUN.as_bytes())?;
     run_told(alloc, &mut source)
@@ -45,7 +45,7 @@ fn certificate_fault_name(alloc: Global, bytes: &[u8], calls: u64) -> &'static s
     }
 }
 
-/// Returns the name of the fault of these bytes, read from a source that fails after so many calls.
+/// Returns the name of the fault of these bytes, read from a source that fails after this many calls.
 fn fault_of(alloc: Global, bytes: &[u8], is_run: bool, calls: usize) -> &'static str {
     if is_run {
         run_fault_name(alloc, bytes, calls as u64)
@@ -54,7 +54,7 @@ fn fault_of(alloc: Global, bytes: &[u8], is_run: bool, calls: usize) -> &'static
     }
 }
 
-/// Adds three faults of the text: where the source fails at byte `at`, where this byte is 0, and where the text is cut
+/// Adds three faults of the text: if the source fails at byte `at`, if this byte is 0, and if the text is cut
 /// there. Adds nothing if they are Read, one of `forms`, and Truncated.
 fn push_others(
     alloc: Global,
@@ -78,7 +78,7 @@ fn push_others(
     Ok(())
 }
 
-/// Tells these faults of the text at each of its bytes.
+/// Returns these faults of the text at each of its bytes.
 fn others_told(alloc: Global, given: &str, forms: &str) -> Result<String, AllocError> {
     let mut text = String::new(alloc);
     for at in 0..given.len() {
@@ -95,7 +95,7 @@ fn push_part(text: &mut String, part: &Part) -> Result<(), AllocError> {
     })
 }
 
-/// Adds at most twenty parts, and what comes then.
+/// Adds at most twenty parts, and what follows them.
 fn push_parts<S: Source>(
     text: &mut String,
     source: &mut S,
@@ -115,7 +115,7 @@ fn push_parts<S: Source>(
     text.push_str("more")
 }
 
-/// The parts of a text, and what stands after them.
+/// Returns the parts of a text, and what follows them.
 fn parts_told(alloc: Global, given: &str) -> Result<String, AllocError> {
     let mut source = FromRead::new(given.as_bytes());
     let mut text = String::new(alloc);
@@ -131,8 +131,8 @@ fn read_as_certificate(alloc: Global, given: &str) -> Result<String, AllocError>
     certificate_told(alloc, &mut FromRead::new(given.as_bytes()))
 }
 
-/// How a text is read: from a source that fails after so many calls or that has a buffer; a run or a certificate
-/// spoilt, cut or not given to the end at each byte; a run part by part; or a run as if it were a certificate.
+/// How a text is read: from a source that fails after some calls or that has a buffer; a run or a certificate
+/// changed, cut or not fully given at each byte; a run part by part; or a run as if it were a certificate.
 enum Way {
     Fused(usize),
     Buffered,
@@ -197,6 +197,7 @@ const ROWS: [Row; 7] = [
     },
 ];
 
+/// Sources of each kind give the run or its parts, or the fault of the text or of the source.
 #[test]
 fn sources_give_runs_parts_or_faults(rt: HostRuntime) -> Result<(), AllocError> {
     for row in &ROWS {

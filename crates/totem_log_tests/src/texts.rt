@@ -19,7 +19,7 @@ fn push_run_fault(text: &mut String, fault: &RunFault) -> Result<(), AllocError>
     }
 }
 
-/// Adds what stands after a run.
+/// Adds what follows a run.
 pub fn push_end<S: Source>(text: &mut String, source: &mut S) -> Result<(), AllocError> {
     match read_end(source) {
         Ok(()) => text.push_str("end "),
@@ -27,7 +27,7 @@ pub fn push_end<S: Source>(text: &mut String, source: &mut S) -> Result<(), Allo
     }
 }
 
-/// Adds a run's logs, or only how many there are if they are more than eight, and twice what stands after them.
+/// Adds a run's logs, or only their number if they are more than eight, and twice what follows them.
 fn push_run<S: Source>(text: &mut String, run: &Run, source: &mut S) -> Result<(), AllocError> {
     let logs = run.logs.as_slice();
     if logs.len() > 8 {
@@ -40,7 +40,7 @@ fn push_run<S: Source>(text: &mut String, run: &Run, source: &mut S) -> Result<(
     push_end(text, source)
 }
 
-/// Tells the run that a source gives, or why it gives none.
+/// Returns the run that a source gives, or why it gives none.
 pub fn run_told<S: Source>(alloc: Global, source: &mut S) -> Result<String, AllocError> {
     let mut text = String::new(alloc);
     match read_run(alloc, source) {
@@ -50,7 +50,7 @@ pub fn run_told<S: Source>(alloc: Global, source: &mut S) -> Result<String, Allo
     Ok(text)
 }
 
-/// Adds a certificate's lines, or only how many there are if they are more than eight, and the byte after them.
+/// Adds a certificate's lines, or only their number if they are more than eight, and the byte after them.
 fn push_certificate<S: Source>(
     text: &mut String,
     certificate: &Certificate,
@@ -68,7 +68,7 @@ fn push_certificate<S: Source>(
     }
 }
 
-/// Tells the certificate that a source gives, or why it gives none.
+/// Returns the certificate that a source gives, or why it gives none.
 pub fn certificate_told<S: Source>(alloc: Global, source: &mut S) -> Result<String, AllocError> {
     let mut text = String::new(alloc);
     match read_cert(alloc, source) {
@@ -78,7 +78,7 @@ pub fn certificate_told<S: Source>(alloc: Global, source: &mut S) -> Result<Stri
     Ok(text)
 }
 
-/// Tells what is read of a text.
+/// Returns what is read of a text.
 pub fn read(alloc: Global, text: &str) -> Result<String, AllocError> {
     let mut source = FromRead::new(text.as_bytes());
     if text.starts_with("totem-cert") {
@@ -88,7 +88,7 @@ pub fn read(alloc: Global, text: &str) -> Result<String, AllocError> {
     }
 }
 
-/// A text, and what has to be read of it: values and what stands after them, or a fault.
+/// A text, and what is to be read of it: values and what follows them, or a fault.
 struct Example {
     text: &'static str,
     told: &'static str,
@@ -99,7 +99,7 @@ const TEXTS: [Example; 56] = [
         text: "totem-run 1\nend\n",
         told: "end end ",
     },
-    // After a failure more is read.
+    // Reading continues after a failure.
     Example {
         text: "totem-run 1\nlog 1\nfail r4.1\nconf t8.1/1 1\nfail t8.1/1\nfailed\nend\n",
         told: "log 1: fail r4.1; conf t8.1/1 1; fail t8.1/1; failed. end end ",
@@ -322,6 +322,7 @@ const TEXTS: [Example; 56] = [
     },
 ];
 
+/// Texts of runs and certificates are read, or refused with the fault of their first wrong byte.
 #[test]
 fn texts_are_read_or_refused(rt: HostRuntime) -> Result<(), AllocError> {
     for row in &TEXTS {

@@ -1,16 +1,16 @@
-//! Tells values as text, and compares what was told with what was wanted.
+//! Values as text, and the comparison of a text with the expected one.
 use std::alloc::AllocError;
 use std::process::Abort;
 use totem_cert::Line;
 use totem_evs::{Ending, Log};
 use totem_ids::{Proc, WrittenProc};
 
-/// Stops the test if something else was told than was wanted.
+/// Stops the test if the text is not the expected one.
 pub fn is_told(rt: &impl Abort, told: &str, wanted: &str, about: &str) {
     assert_eq!(rt; told, wanted, "{about}");
 }
 
-/// A process as the first version writes it that can.
+/// Returns a process as the first version that can write it does.
 fn named(proc: Proc) -> WrittenProc {
     proc.written(proc.first_version())
 }
@@ -22,7 +22,7 @@ fn push_numbers(text: &mut String, numbers: &[u32]) -> Result<(), AllocError> {
     text.push_str(";")
 }
 
-/// Adds each line of a certificate with `;` after it, or only how many numbers it has if they are more than twenty.
+/// Adds each line of a certificate with `;` after it, or only the count of its numbers if they are more than twenty.
 pub fn push_lines(text: &mut String, lines: &[Line]) -> Result<(), AllocError> {
     for line in lines {
         write!(text, "pos {}", named(line.proc))?;
@@ -43,7 +43,7 @@ pub fn push_processes(text: &mut String, procs: &[Proc]) -> Result<(), AllocErro
     Ok(())
 }
 
-/// Adds a log's process, its entries and how it ends.
+/// Adds a log's process, its entries and its ending.
 pub fn push_log(text: &mut String, log: &Log) -> Result<(), AllocError> {
     write!(text, "log {}: ", named(log.proc))?;
     for entry in log.entries.as_slice() {

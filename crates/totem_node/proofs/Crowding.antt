@@ -176,7 +176,7 @@ has_parts all (part ∷ parts) x up =
     ∙ ap (λ b. b || is_in_one parts x) (has_all all (procs_of part) x up)
     ∙ sym (or_grouped (has all x) (has (procs_of part) x) (is_in_one parts x))
 
--- who is in a part is in the crowd, and nobody else
+-- a process is in the crowd exactly if it is in one of the parts
 pub has_crowd : (parts : List Part) (x : ℕ) → has (crowd_of parts) x ≡ is_in_one parts x
 has_crowd parts x = has_parts [] parts x tt
 

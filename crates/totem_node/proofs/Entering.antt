@@ -30,7 +30,7 @@ or_true : (a : Bool) → (a || true) ≡ true
 or_true true = refl
 or_true false = refl
 
--- of one member more: whether it is this process, and whether it comes from this ring
+-- with one more member: whether it is this process, and whether it comes from this ring
 one_member : (m : CommitMember) (ms : List CommitMember) (p : ℕ) (r : Report) (same from : Bool) → (m.proc == p) ≡ same → reports_ring r.ring m.report ≡ from
     → (is_report (report_of ms p) r ≡ true → has (transitional_set r.ring ms) p ≡ true)
     → is_report (cond same m.report (report_of ms p)) r ≡ true
@@ -40,7 +40,7 @@ one_member m ms p r true false is reports others e = absurd (true≢false (sym (
 one_member m ms p r false true is reports others e = ap (λ b. (m.proc == p) || b) (others e) ∙ or_true (m.proc == p)
 one_member m ms p r false false is reports others e = others e
 
--- who reported this comes from its ring
+-- a member that reported this comes from its ring
 pub comes_from : (ms : List CommitMember) (p : ℕ) (r : Report) → is_report (report_of ms p) r ≡ true → has (transitional_set r.ring ms) p ≡ true
 comes_from [] p r e = absurd (true≢false (sym e))
 comes_from (m ∷ ms) p r e = one_member m ms p r (m.proc == p) (reports_ring r.ring m.report) refl refl (comes_from ms p r) e

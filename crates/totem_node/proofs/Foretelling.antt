@@ -1,4 +1,4 @@
--- What refuses a step before it is taken is what the step comes to.
+-- The refusal that is known before a step is taken is the result of the step.
 use Rattle.std.proofs.Common.{◌≡◌, ℕ, ◌+◌, ◌^◌, ◌&&◌, not, Bool, true, false, List, [], ◌∷◌, length, Option, None, Some, Result, Ok, Err, refl, sym, ap, subst, ⊎_elim, nat_le, nat_lt, max}
 use Rattle.std.specs.Prelude.{if◌then◌else◌, is_some}
 use Rattle.std.specs.Result.{is_ok}
@@ -52,7 +52,7 @@ if_tells : {A : Type 0} (b : Bool) (o p : Option NodeFault) (v w : Outcome A) �
 if_tells true o p v w then_so else_so = then_so refl
 if_tells false o p v w then_so else_so = else_so refl
 
--- and what the step comes to at the end, where only the second of the two may
+-- and also the result at the end of the ring numbers, which only the second of the two may reach
 other_tells : {A : Type 0} (b : Bool) (o p : Option NodeFault) (at_the_end : Bool) (v w : Outcome A) → (b ≡ true → Tells o false v) → (b ≡ false → Tells p at_the_end w)
     → Tells (if b then o else p) (not b && at_the_end) (if b then v else w)
 other_tells true o p at_the_end v w then_so else_so = then_so refl

@@ -17,7 +17,7 @@ one_more x p rest true false had false is agree others = ap (λ b. b || has rest
 one_more x p rest false true had out_of is agree others = others
 one_more x p rest false false had out_of is agree others = ap (λ b. b || has rest p) is ∙ others
 
--- who is there and not left out
+-- the processes that are in the set and not left out
 pub has_without : (ps qs : List ℕ) (p : ℕ) → has (without ps qs) p ≡ (has ps p && not (has qs p))
 has_without [] qs p = refl
 has_without (x ∷ xs) qs p =

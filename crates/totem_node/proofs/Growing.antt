@@ -14,7 +14,7 @@ use Rattle.totem_node.specs.Outcomes.{Fails}
 use Rattle.totem_node.specs.Gathering.{set_of, gather_base, gather_begun}
 use Rattle.totem_node.specs.Sizes.{MakesBase}
 
--- the list rises
+-- the list is ascending
 abbrev pub Rises : List ℕ → Type 0
 Rises [] = Unit {0}
 Rises (p ∷ ps) = Up p ps
@@ -57,7 +57,7 @@ many_with p ps up many = omega (arith, many, longer_with p ps up)
 pub many_union : (ps qs : List ℕ) → Rises ps → 32 < length ps → 32 < length (union ps qs)
 many_union ps qs up many = omega (arith, many, longer_union ps qs up)
 
--- one process of a list more: the others are still to come
+-- one more process of a list, with the others still to be added
 pub one_added : (procs set : List ℕ) (i p d : ℕ) → union set (drop i procs) ≡ set_of procs → i < length procs → p ≡ get_or procs i d
     → union (with_process set p) (drop (i + 1) procs) ≡ set_of procs
 one_added procs set i p d far lt at = ap (λ q. union (with_process set q) (drop (i + 1) procs)) at ∙ sym (ap (union set) (drop_more procs i d lt)) ∙ far

@@ -20,7 +20,7 @@ use Rattle.totem_recover.specs.Exchange.{Leaving, last_mark}
 use Rattle.totem_recover.specs.Finish.{delivery, deliveries, finish}
 use Rattle.totem_node.specs.Visiting.{send_of, send, sends, finishing_entries}
 
--- one delivery more
+-- one more delivery
 pub one_delivered : (x : ConfId) (before now items : List Entry) (ms : List Message) (i : ℕ) (m : Message)
     → now ≡ before ++ deliveries x (take i ms) → i < length ms → m ≡ get_or ms i m → items ≡ now ++ deliveries x (m ∷ [])
     → items ≡ before ++ deliveries x (take (i + 1) ms)
@@ -39,7 +39,7 @@ numbered_more s seq i bodies body lt at =
     ∙ numbered_push s seq (take i bodies) body
     ∙ ap (λ n. numbered s seq (take i bodies) ++ record { ring = s.ring; number = (seq + n) + 1; sender = s.me; body = body } ∷ []) count
 
--- one sending more, if the body has one
+-- one more send, if the body has one
 one_sent : (s : Ring) (seq i number : ℕ) (bodies : List Body) (body : Body) (before entries : List Entry)
     → entries ≡ before ++ sends (Regular s.ring) (numbered s seq (take i bodies)) → number ≡ seq + i → i < length bodies → body ≡ get_or bodies i body
     → entries ++ cons_option (send_of (Regular s.ring) s.ring (number + 1) body) [] ≡ before ++ sends (Regular s.ring) (numbered s seq (take (i + 1) bodies))

@@ -1,4 +1,4 @@
--- What a call that takes a step of a node answers for (docs/PROTOCOL.md, "The node").
+-- Contracts of the calls that take a step of a node (docs/PROTOCOL.md, "The node").
 use Rattle.std.specs.Prelude.{◌≡◌, [], Result, Ok, Err}
 use Rattle.std.specs.declared.alloc.AllocError.{AllocError}
 use Rattle.totem_ids.specs.declared.conf.ConfId.TheVariants.{Regular}
@@ -13,24 +13,24 @@ use Rattle.totem_node.specs.declared.outcome.StepOut.{StepOut}
 use Rattle.totem_node.specs.Outcomes.{Outcome, IsRefused}
 use Rattle.totem_node.specs.Nodes.{Node, Stepped, Told}
 
--- The answer of a call to the written step: this step, or its refusal. A refused step changes nothing.
+-- The result of a call to the written step: this step, or its refusal. A refused step changes nothing.
 abbrev pub IsStep : Node → Node → Outcome StepOut → Outcome Stepped → Type 0
 IsStep old new (Ok out) written =
     written ≡ Ok (record { node = new; packets = out.packets.items; entries = out.entries.items; ring_steps = out.ring_steps.items })
 IsStep old new (Err fault) written = IsRefused fault old new written
 
--- the same of a step on one ring
+-- the same for a step on one ring
 abbrev pub IsTold : Ring → Ring → Outcome StepOut → Outcome Told → Type 0
 IsTold old new (Ok out) written =
     written ≡ Ok (record { ring = new; packets = out.packets.items; entries = out.entries.items; ring_steps = out.ring_steps.items })
 IsTold old new (Err fault) written = IsRefused fault old new written
 
--- the token that the ring passed on is sent again: the ring stays, and a refusal is out of memory
+-- the token that the ring passed on is sent again: the ring doesn't change, and the only refusal is out of memory
 abbrev pub IsResent : Outcome StepOut → Ring → Type 0
 IsResent (Ok out) ring = (out.packets.items ≡ (on_resend ring).packets) × (out.entries.items ≡ []) × (out.ring_steps.items ≡ resend_steps ring.ring)
 IsResent (Err fault) ring = fault ≡ Memory
 
--- what is told of a message that the new ring took, and that the installed ring has adopted what it carries
+-- what is reported of a message that the new ring took; the installed ring has adopted the message that it carries
 abbrev pub TellsAdopting : Result StepOut AllocError → Ring → Ring → Ring → Message → RingOut → Type 0
 TellsAdopting (Ok told) installed now ring m out =
     (told.packets.items ≡ out.packets.items)
@@ -39,7 +39,7 @@ TellsAdopting (Ok told) installed now ring m out =
     × (now ≡ adopting installed (carried m.body))
 TellsAdopting (Err e) installed now ring m out = now ≡ installed
 
--- a message in Recovery, of which the installed ring may adopt what it carries; a refusal changes neither
+-- a message in Recovery, whose carried message the installed ring may adopt; a refusal changes neither ring
 abbrev pub IsToldAdopting : Outcome StepOut → Ring → Ring → Ring → Ring → Message → Outcome Told → Type 0
 IsToldAdopting (Ok out) installed now old new m written = IsTold old new (Ok out) written × (now ≡ adopting installed (carried m.body))
 IsToldAdopting (Err fault) installed now old new m written = IsTold old new (Err fault) written × (now ≡ installed)

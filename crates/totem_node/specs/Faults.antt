@@ -42,7 +42,7 @@ of_member member_fault.Stale = Stale
 of_member member_fault.Range = Range
 of_member member_fault.Memory = Memory
 
--- more processes than a ring can have are met as strangers
+-- a set of more processes than a ring can have is refused as Stranger
 abbrev pub of_set : SetFault → NodeFault
 of_set set_fault.TooMany = Stranger
 of_set set_fault.Memory = Memory

@@ -1,4 +1,4 @@
--- How a node goes to gather, and what comes at consensus (docs/PROTOCOL.md, "The node").
+-- How a node begins to gather, and what it does at consensus (docs/PROTOCOL.md, "The node").
 use Rattle.std.specs.Prelude.{ℕ, List, [], ◌∷◌, ◌++◌, length, if◌then◌else◌, nat_lt, false, Option, None, Some, Ok, Err}
 use Rattle.totem_packets.specs.declared.join.Join.{Join}
 use Rattle.totem_packets.specs.declared.commit.CommitToken.{CommitToken}
@@ -22,7 +22,7 @@ join_broadcast g = (ToAll, AJoin (join g))
 abbrev pub commit_passed_on : ℕ → CommitToken → Sending
 commit_passed_on me token = (ToOne (next_after (processes_of token.members) me), ACommit token)
 
--- the least of M makes the commit token, sends it and is sealed
+-- the least of M makes the commit token, sends it and records its ring as filled
 abbrev pub makes_commit : Node → List Sending → CommitToken → Stepped
 makes_commit n packets token =
     sending (record n { filled = Some token.ring; seq = token.ring.seq }) (packets ++ commit_passed_on n.me token ∷ [])
@@ -40,12 +40,12 @@ commit_begun n g packets = do
 abbrev pub at_consensus : Node → Gather → List Sending → Outcome Stepped
 at_consensus n g packets = if is_least (gathered g) n.me then commit_begun n g packets else Ok (sending (committing n g) packets)
 
--- the node gathers on, unless there is consensus
+-- the node stays in Gather unless there is consensus
 abbrev pub look_at_consensus : Node → Gather → Option (List ℕ) → List Sending → Outcome Stepped
 look_at_consensus n g None packets = Ok (sending (record n { state = Gathering g }) packets)
 look_at_consensus n g (Some members) packets = at_consensus n g packets
 
--- the Join that caused it, if any, is taken
+-- the Gather after the Join that caused it, if there is one
 abbrev pub taking : Gather → Option Join → Outcome Gather
 taking g None = Ok g
 taking g (Some j) = do
@@ -60,7 +60,7 @@ set_of procs = union [] procs
 abbrev pub gather_base : Node → List ℕ → List ℕ
 gather_base n extra = union (union (set_of n.installed.members) extra) (committed_to n.state)
 
--- the new Gather takes the Join, the Join is broadcast once, consensus is looked at
+-- the new Gather takes the Join, the Gather's own Join is broadcast once, and consensus is checked
 abbrev pub gathering_anew : Node → Gather → Option Join → Outcome Stepped
 gathering_anew n new cause = do
   g ← taking new cause
@@ -78,7 +78,7 @@ to_gather n extra cause = do
   new ← gather_begun n extra
   gathering_anew n new cause
 
--- The causes: a message of a stranger, a Join, three timers without a token or the commit token.
+-- The causes: a message of a stranger, a Join, and three timers without a token or the commit token.
 abbrev pub for_a_foreign_message : Node → Message → Outcome Stepped
 for_a_foreign_message n m = to_gather n (m.sender ∷ []) None
 

@@ -1,4 +1,4 @@
--- What the calls that take a visit of a new ring answer for (docs/PROTOCOL.md, "The node").
+-- Contracts of the calls that take a visit of a new ring (docs/PROTOCOL.md, "The node").
 use Rattle.std.specs.Prelude.{◌≡◌, ⊤, true, Ok, Err}
 use Rattle.totem_packets.specs.declared.token.Token.{Token}
 use Rattle.totem_ring.specs.Rings.{Ring, first_token}
@@ -10,7 +10,7 @@ use Rattle.totem_node.specs.Outcomes.{Outcome, by_ring, IsRefused}
 use Rattle.totem_node.specs.Visiting.{visit_entries, visit_steps, after_visit}
 use Rattle.totem_node.specs.Nodes.{Node, State, Recovering, Operational, Gathering, Committing, InRecovery}
 
--- a visit of the new ring: what it gave, what is written of it, and the obligation set after it
+-- a visit of the new ring: its result, the entries and ring steps written of it, and the obligation set after it
 pub record IsNewlyVisited (v : NewVisit) (r : Leaving) (installed old new : Ring) (t : Token) : Type 0 where
   pub taken : on_token (given old (next_bodies r)) t ≡ Ok (record { state = new; packets = v.out.packets.items; handed = v.out.handed.items })
   pub entries : v.entries.items ≡ visit_entries r installed new v.out.handed.items
@@ -21,7 +21,7 @@ abbrev pub IsNewVisit : Outcome NewVisit → Leaving → Ring → Ring → Ring 
 IsNewVisit (Ok v) r installed old new t = IsNewlyVisited v r installed old new t
 IsNewVisit (Err fault) r installed old new t = IsRefused fault old new (by_ring (on_token (given old (next_bodies r)) t))
 
--- the same of the new ring's first token, which the recovery notes as taken here
+-- the same for the new ring's first token; the recovery notes that it was taken here
 abbrev pub IsFirstVisit : Outcome NewVisit → Ring → Recovering → Recovering → Type 0
 IsFirstVisit (Ok v) installed old new =
     (new ≡ record old { ring = new.ring; started = true })
@@ -29,7 +29,7 @@ IsFirstVisit (Ok v) installed old new =
 IsFirstVisit (Err fault) installed old new =
     IsRefused fault old new (by_ring (on_token (given old.ring (next_bodies old.recovery)) (first_token old.ring.ring)))
 
--- what is told of a visit that left the new ring so
+-- what is reported of a visit after which the new ring is `ring`
 pub record TellsNewVisit (r : Leaving) (installed ring : Ring) (visited : Visited) (v : NewVisit) : Type 0 where
   pub packets : v.out.packets.items ≡ visited.out.packets.items
   pub handed : v.out.handed.items ≡ visited.out.handed.items
@@ -37,14 +37,14 @@ pub record TellsNewVisit (r : Leaving) (installed ring : Ring) (visited : Visite
   pub steps : v.ring_steps.items ≡ visited.ring_steps.items
   pub obligation : v.obligation ≡ obligation_after r ring
 
--- the visit found to whom the node owes messages after it, where the node is in this state
+-- the visit's obligation set is the one after the visit, if the node is in this state
 abbrev pub OwesAfter : NewVisit → State → Type 0
 OwesAfter v Operational = ⊤
 OwesAfter v (Gathering g) = ⊤
 OwesAfter v (Committing g) = ⊤
 OwesAfter v (InRecovery x) = v.obligation ≡ obligation_after x.recovery x.ring
 
--- the node in this state after the visit is noted
+-- the node, which was in this state, after the visit is noted
 abbrev pub visit_noted : Node → NewVisit → State → Node
 visit_noted n v Operational = n
 visit_noted n v (Gathering g) = n

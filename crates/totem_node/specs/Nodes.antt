@@ -1,4 +1,4 @@
--- A node: which state it is in, and what it keeps through all of them (docs/PROTOCOL.md, "The node").
+-- A node: its state, and what it keeps in all states (docs/PROTOCOL.md, "The node").
 use Rattle.std.specs.Prelude.{ℕ, List, [], Bool, false, is_some, max, Option, None, Ok, Err}
 use Rattle.totem_ids.specs.Names.{RingName}
 use Rattle.totem_ids.specs.Ranks.{id_of, life_of}
@@ -46,11 +46,11 @@ new_node me ring members = record {
   crashed = false;
 }
 
--- a commit token was made or filled since the last installing
+-- the node made or filled a commit token since it last installed a ring
 abbrev pub is_sealed : Node → Bool
 is_sealed n = is_some n.filled
 
--- the configuration of the last change: each change of a node ends in a regular one
+-- the configuration of the last change: every step that changes configurations ends in a regular one
 abbrev pub last_change : Node → ConfId
 last_change n = Regular n.installed.ring
 
@@ -61,7 +61,7 @@ committed_to (Gathering g) = []
 committed_to (Committing g) = gathered g
 committed_to (InRecovery x) = gathered x.gather
 
--- the report of this node's life, and of what it has of the installed ring
+-- the report of this node's life and of what it has of the installed ring
 abbrev pub report : Node → Report
 report n = record {
   life = n.life;
@@ -71,30 +71,30 @@ report n = record {
   obligation = n.obligation;
 }
 
--- what the node shows to a commit token
+-- what the node shows when it takes a commit token
 abbrev pub commit_view : Node → Phase → Gather → Bool → CommitView
 commit_view n phase g started =
     record { me = n.me; members = gathered g; seq = max n.seq g.seq; filled = n.filled; phase = phase; started = started }
 
--- what a step comes to
+-- the result of a step
 pub record Stepped : Type 0 where
   pub node : Node
   pub packets : List Sending
   pub entries : List Entry
   pub ring_steps : List RingStep
 
--- a step that sends this, and does no more to rings or the log
+-- a step that sends these packets, takes no step on a ring and writes no entry
 abbrev pub sending : Node → List Sending → Stepped
 sending n packets = record { node = n; packets = packets; entries = []; ring_steps = [] }
 
--- what a step on one of its rings comes to: the ring after it, what was sent, what is written, and the ring's own steps
+-- the result of a step on one of the node's rings: the ring after it, packets sent, entries written, and the ring's own steps
 pub record Told : Type 0 where
   pub ring : Ring
   pub packets : List Sending
   pub entries : List Entry
   pub ring_steps : List RingStep
 
--- the node is this one, when its ring's step is told so
+-- the step of a node, from the step of its ring and the node that belongs to the new ring
 abbrev pub on_its_ring : Outcome Told → (Ring → Node) → Outcome Stepped
 on_its_ring (Ok told) node =
     Ok (record { node = node told.ring; packets = told.packets; entries = told.entries; ring_steps = told.ring_steps })

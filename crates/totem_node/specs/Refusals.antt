@@ -1,4 +1,4 @@
--- Which steps of a node are refused, and as what (docs/PROTOCOL.md, "The node").
+-- Which steps of a node are refused, and with which fault (docs/PROTOCOL.md, "The node").
 use Rattle.std.specs.Prelude.{◌≡◌, ◌≢◌, ℕ, ◌+◌, ◌^◌, List, [], ◌∷◌, length, ◌&&◌, not, Bool, true, false, is_some, Option, None, Some, Result, Ok, Err, if◌then◌else◌, nat_le, nat_lt, max}
 use Rattle.totem_packets.specs.declared.message.Message.{Message}
 use Rattle.totem_packets.specs.declared.token.Token.{Token}
@@ -45,7 +45,7 @@ abbrev pub cause_refusal : Gather → Option Join → Option NodeFault
 cause_refusal g None = None
 cause_refusal g (Some j) = if is_stranger g j then Some Stranger else None
 
--- more processes than may gather, or the Join that caused it
+-- there are more processes than may gather, or the Join that caused the gathering is refused
 abbrev pub gather_refusal : Node → List ℕ → Option Join → Option NodeFault
 gather_refusal n extra cause =
     if nat_lt 32 (length (with_process (gather_base n extra) n.me)) then Some Stranger
@@ -86,7 +86,7 @@ token_refused n t (Gathering g) = Some Stale
 token_refused n t (Committing g) = Some Stale
 token_refused n t (InRecovery x) = refused_by_new x t
 
--- a Join that says nothing new, or with whose sender none can gather
+-- a Join that says nothing new, or whose sender would be refused in a new gathering
 abbrev pub refused_as_known : Node → Gather → Join → Option NodeFault
 refused_as_known n g j = if says_nothing_new g j then Some Stale else gather_refusal n [] (Some j)
 
@@ -96,7 +96,7 @@ join_refused_in n j (Gathering g) = cause_refusal g (Some j)
 join_refused_in n j (Committing g) = refused_as_known n g j
 join_refused_in n j (InRecovery x) = refused_as_known n x.gather j
 
--- and a late one
+-- the same for any state, and a late Join is Stale
 abbrev pub join_refused : Node → Join → Option NodeFault
 join_refused n j = if is_late n j then Some Stale else join_refused_in n j n.state
 
@@ -128,7 +128,7 @@ packet_refused n (packet.Token t) = token_refused n t n.state
 packet_refused n (packet.Join j) = join_refused n j
 packet_refused n (packet.Commit token) = commit_refused n token n.state
 
--- a payload that is too long, or one more than may wait
+-- a payload that is too long, or 16 messages that wait already
 abbrev pub submit_refused : Node → List ℕ → Option NodeFault
 submit_refused n payload =
     if nat_lt 1024 (length payload) then Some Range
@@ -153,14 +153,14 @@ refused_by_input n input.Crash = None
 abbrev pub refusal : Node → Input → Option NodeFault
 refusal n i = if n.crashed then Some Stopped else refused_by_input n i
 
--- ---- What that says of the step
+-- ---- What a refusal says about the step
 
--- The gathering comes to consensus, its least is this node, and no ring number is left for its ring: those that are known come
--- within 4 of the greatest.
+-- The gathering reaches consensus, this node is its least process, and no ring number is left for its ring: the greatest known
+-- one is within 4 of the limit.
 abbrev pub has_no_number : Node → Gather → Bool
 has_no_number n g = is_some (consensus g) && (is_least (gathered g) n.me && nat_le (2 ^ 32) (max n.seq g.seq + 4))
 
--- the gathering that begins, once it has heard the Join that caused it, if any
+-- the gathering that begins, after it has taken the Join that caused it, if there is one
 abbrev pub having_heard : Gather → Option Join → Gather
 having_heard g None = g
 having_heard g (Some j) = after_join g j
@@ -168,7 +168,7 @@ having_heard g (Some j) = after_join g j
 abbrev pub begins_at_the_end : Node → List ℕ → Option Join → Bool
 begins_at_the_end n extra cause = has_no_number n (having_heard (new_gather n.me (gather_base n extra) n.seq) cause)
 
--- only a message of another ring is a cause to gather
+-- only a message of another ring can begin a gathering
 abbrev pub message_at_the_end : Node → Message → State → Bool
 message_at_the_end n m Operational = not (same_ring m.ring n.installed.ring) && begins_at_the_end n (m.sender ∷ []) None
 message_at_the_end n m (Gathering g) = false
@@ -187,26 +187,26 @@ packet_at_the_end n (packet.Token t) = false
 packet_at_the_end n (packet.Join j) = join_at_the_end n j n.state
 packet_at_the_end n (packet.Commit token) = false
 
--- only a timer that isn't counted alone
+-- only a timer that is more than counted
 abbrev pub timer_at_the_end : Node → State → Bool
 timer_at_the_end n Operational = is_quiet n && begins_at_the_end n [] None
 timer_at_the_end n (Gathering g) = nat_le 2 (n.quiet + 1) && has_no_number n (after_timeout g)
 timer_at_the_end n (Committing g) = is_quiet n && begins_at_the_end n [] None
 timer_at_the_end n (InRecovery x) = is_quiet n && begins_at_the_end n [] None
 
--- what `refusal` leaves open: the gathering that this input begins, or goes on with, has no number for its ring
+-- what `refusal` leaves open: the gathering that this input begins or continues has no number for its ring
 abbrev pub is_at_the_end : Node → Input → Bool
 is_at_the_end n (input.Submit service payload) = false
 is_at_the_end n (input.Packet p) = packet_at_the_end n p
 is_at_the_end n input.Timer = timer_at_the_end n n.state
 is_at_the_end n input.Crash = false
 
--- The step is taken; but where its gathering has no number for its ring it is refused as Range, and nowhere else.
+-- The step is taken, or refused as Range exactly if its gathering has no number for its ring.
 abbrev pub IsTaken : {A : Type 0} → Bool → Outcome A → Type 0
 IsTaken at_the_end (Ok x) = at_the_end ≡ false
 IsTaken at_the_end (Err fault) = (fault ≡ Range) × (at_the_end ≡ true)
 
--- A refusal is that of the step, and never out of memory; where there is none, the step is taken.
+-- The step is refused with this fault, which isn't out of memory; with no fault, the step is taken.
 abbrev pub Tells : {A : Type 0} → Option NodeFault → Bool → Outcome A → Type 0
 Tells (Some fault) at_the_end written = (fault ≢ Memory) × (written ≡ Err fault)
 Tells None at_the_end written = IsTaken at_the_end written

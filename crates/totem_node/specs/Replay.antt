@@ -1,4 +1,4 @@
--- A node over a whole list of inputs (docs/PROTOCOL.md, "The node").
+-- A node over a list of inputs (docs/PROTOCOL.md, "The node").
 use Rattle.std.specs.Prelude.{ℕ, List, [], ◌∷◌, ◌++◌, fold, Ok, Err}
 use Rattle.totem_ids.specs.Names.{RingName}
 use Rattle.totem_ids.specs.declared.conf.ConfId.TheVariants.{Regular}
@@ -11,7 +11,7 @@ use Rattle.totem_node.specs.Nodes.{Node, Stepped, new_node}
 use Rattle.totem_node.specs.Outcomes.{Outcome}
 use Rattle.totem_node.specs.Table.{step}
 
--- what a step answers
+-- the reply to an input
 pub record Answer : Type 0 where
   pub packets : List Sending
   pub entries : List Entry
@@ -23,7 +23,7 @@ pub record Life : Type 0 where
   pub entries : List Entry
   pub replies : List (Outcome Answer)
 
--- the change to a first ring
+-- the change to the first ring
 abbrev pub first_change : RingName → List ℕ → Entry
 first_change ring members = Conf (Regular ring) members
 
@@ -31,7 +31,7 @@ first_change ring members = Conf (Regular ring) members
 abbrev pub born : ℕ → RingName → List ℕ → Life
 born me ring members = record { node = new_node me ring members; entries = first_change ring members ∷ []; replies = [] }
 
--- a refused input leaves the state; it is answered all the same
+-- a refused input leaves the state as it was, and is answered too
 abbrev pub lived : Life → Outcome Stepped → Life
 lived life (Ok s) = record {
   node = s.node;

@@ -87,7 +87,7 @@ on_join_in n j (InRecovery x) = join_in_commit n x.gather j
 
 -- ---- Commit
 
--- Filled: the state is then Commit, from Recovery too, and that recovery breaks.
+-- Filled: the state is then Commit, also after Recovery, which is abandoned.
 abbrev pub filling : Node → Gather → CommitToken → Stepped
 filling n g token =
     sending (record n { state = Committing g; filled = Some token.ring; seq = token.ring.seq }) (commit_passed_on n.me token ∷ [])
@@ -130,7 +130,7 @@ on_commit_in n token (InRecovery x) = commit_taken n x.gather phase.Recovery x.s
 
 -- ---- Timer
 
--- the third timer without a token, or a commit token, is a cause to gather
+-- the third timer in a row without a token or a commit token is a cause to gather
 abbrev pub is_quiet : Node → Bool
 is_quiet n = nat_le 3 (n.quiet + 1)
 
@@ -144,7 +144,7 @@ counting n (Gathering g) = sending (counted n) (join_broadcast g ∷ [])
 counting n (Committing g) = sending (counted n) []
 counting n (InRecovery x) = resend n x.ring
 
--- who doesn't agree in time is given up
+-- the gathering gives up those that didn't agree in time
 abbrev pub late : Node → Gather → Outcome Stepped
 late n g =
     let done = on_timeout g in
@@ -165,7 +165,7 @@ on_submit n service payload =
     else if nat_le 16 (length n.waiting) then Err Full
     else Ok (sending (record n { waiting = n.waiting ++ App service payload ∷ [] }) [])
 
--- It fails in the configuration of the last change.
+-- The node fails in the configuration of the last change.
 abbrev pub on_crash : Node → Stepped
 on_crash n = record { node = record n { crashed = true }; packets = []; entries = Fail (last_change n) ∷ []; ring_steps = [] }
 

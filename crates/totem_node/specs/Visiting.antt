@@ -22,7 +22,7 @@ use Rattle.totem_node.specs.declared.ring_step.RingStep.{RingStep}
 use Rattle.totem_node.specs.Nodes.{Node, Operational, InRecovery, Recovering, Stepped, Told, on_its_ring}
 use Rattle.totem_node.specs.Outcomes.{Outcome, ◌>>=◌, by_ring}
 
--- a client's message is sent in the configuration; those that carry old ones, and marks, write no entries
+-- the send of a client's message in the configuration; carried old messages and marks write no entries
 abbrev pub send_of : ConfId → RingName → ℕ → Body → Option Entry
 send_of x ring number (App service payload) = Some (Send (record { ring = ring; number = number }) x service)
 send_of x ring number (Old old n sender service payload) = None
@@ -44,7 +44,7 @@ visit_steps ring bodies t = submits ring bodies ++ record { ring = ring; act = G
 abbrev pub message_steps : RingName → Message → List RingStep
 message_steps ring m = record { ring = ring; act = GetsMessage m } ∷ []
 
--- A message on its ring: what is handed up is delivered.
+-- A message on its ring: what the ring delivers to the node is written as delivered.
 abbrev pub message_told : Ring → Message → Outcome Told
 message_told ring m = do
   done ← by_ring (on_message ring m)
@@ -59,11 +59,11 @@ message_told ring m = do
 abbrev pub message_on_installed : Node → Message → Outcome Stepped
 message_on_installed n m = on_its_ring (message_told n.installed m) (λ ring. record n { installed = ring })
 
--- what a visit numbers of the bodies that wait is sent
+-- the sends of the waiting bodies that a visit numbers
 abbrev pub visit_sends : Ring → Token → List Entry
 visit_sends ring t = sends (Regular ring.ring) (numbered ring t.seq ring.waiting)
 
--- what is told of a visit for which bodies were given to the ring: sends, then deliveries
+-- what is reported of a visit for which bodies were given to the ring: sends, then deliveries
 abbrev pub telling_visit : Ring → List Body → Token → Done → Told
 telling_visit ring bodies t done = record {
   ring = done.state;
@@ -72,7 +72,7 @@ telling_visit ring bodies t done = record {
   ring_steps = visit_steps ring.ring bodies t;
 }
 
--- A visit for which bodies are given to the ring.
+-- A visit for which these bodies are given to the ring.
 abbrev pub visit_told : Ring → List Body → Token → Outcome Told
 visit_told ring bodies t = do
   done ← by_ring (on_token (given ring bodies) t)
@@ -93,20 +93,20 @@ abbrev pub adopted_or_same : Ring → Result Done RingFault → Ring
 adopted_or_same old (Ok done) = done.state
 adopted_or_same old (Err fault) = old
 
--- the installed ring adopts it, or passes it over
+-- the installed ring adopts the message, or ignores it
 abbrev pub adopting : Ring → Option Message → Ring
 adopting old None = old
 adopting old (Some m) = adopted_or_same old (adopt old m)
 
--- the new ring is in this state, and the installed one may have adopted what the message carries
+-- the new ring is in this state, and the installed one may have adopted the message that this one carries
 abbrev pub having_adopted : Node → Recovering → Message → Ring → Node
 having_adopted n x m ring = record n { state = InRecovery (record x { ring = ring }); installed = adopting n.installed (carried m.body) }
 
--- A message of the new ring: an accepted Old of my installed ring is adopted there.
+-- A message of the new ring: if it carries an Old of the node's installed ring, that ring may adopt it.
 abbrev pub message_on_new : Node → Recovering → Message → Outcome Stepped
 message_on_new n x m = on_its_ring (message_told x.ring m) (having_adopted n x m)
 
--- A message in Recovery, where this ring is installed and this one new: one of the new ring.
+-- A message in Recovery, where the first ring is installed and the second is new: it has to be the new ring's.
 abbrev pub told_in_recovery : Ring → Ring → Message → Outcome Told
 told_in_recovery installed ring m =
     if same_ring m.ring installed.ring then Err OtherRing
@@ -117,7 +117,7 @@ told_in_recovery installed ring m =
 abbrev pub installing : Node → Ring → Node
 installing n ring = record n { state = Operational; installed = ring; obligation = []; filled = None }
 
--- what stands before the last mark, the finish, and what stands after it
+-- the deliveries up to the last mark, the finish, and the deliveries after the mark
 abbrev pub finishing_entries : Leaving → Ring → Ring → List Message → List Entry
 finishing_entries r old ring handed =
     let last = unwrap_or (last_mark r ring) 0 in
@@ -125,7 +125,7 @@ finishing_entries r old ring handed =
     ++ finish r old
     ++ deliveries (Regular ring.ring) (filter (λ m. nat_lt last m.number) handed)
 
--- after a visit in Recovery: it goes on, or every member's mark is handed up and the new ring is installed
+-- after a visit in Recovery: it continues, or every member's mark is delivered to the node and the new ring is installed
 abbrev pub after_visit : Node → Recovering → Done → Leaving → Node
 after_visit n x done r =
     if is_done r done.state then installing n done.state
@@ -135,7 +135,7 @@ abbrev pub visit_entries : Leaving → Ring → Ring → List Message → List E
 visit_entries r old ring handed =
     if is_done r ring then finishing_entries r old ring handed else deliveries (Regular ring.ring) handed
 
--- A visit in Recovery: the new ring's waiting bodies are filled from the list before it.
+-- A visit in Recovery: before it, the new ring's waiting bodies are filled from the recovery's list.
 abbrev pub visit_new : Node → Recovering → Token → Outcome Stepped
 visit_new n x t = do
   done ← by_ring (on_token (given x.ring (next_bodies x.recovery)) t)
@@ -149,7 +149,7 @@ visit_new n x t = do
 abbrev pub resend_steps : RingName → List RingStep
 resend_steps ring = record { ring = ring; act = DoesResend } ∷ []
 
--- The token passed on is sent again, if it was kept.
+-- The token that the ring passed on is sent again if it is kept.
 abbrev pub resend : Node → Ring → Stepped
 resend n ring = record {
   node = record n { quiet = n.quiet + 1 };

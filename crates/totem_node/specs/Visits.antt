@@ -1,4 +1,4 @@
--- What the call that takes a visit answers for (docs/PROTOCOL.md, "The node").
+-- The contract of the call that takes a visit (docs/PROTOCOL.md, "The node").
 use Rattle.std.specs.Prelude.{◌≡◌, List, Ok, Err}
 use Rattle.totem_packets.specs.declared.message.Body.{Body}
 use Rattle.totem_packets.specs.declared.token.Token.{Token}
@@ -10,7 +10,7 @@ use Rattle.totem_node.specs.declared.visiting.Visited.{Visited}
 use Rattle.totem_node.specs.Outcomes.{Outcome, by_ring, IsRefused}
 use Rattle.totem_node.specs.Visiting.{visit_sends, visit_steps}
 
--- a visit for which the bodies are given to the ring: what it gave, what is written of it, and that it can be taken back
+-- a visit for which the bodies are given to the ring: its result, what is written of it, and that it can be taken back
 pub record IsVisited (v : Visited × VisitUndo) (old new : Ring) (bodies : List Body) (t : Token) : Type 0 where
   pub taken : on_token (given old bodies) t ≡ Ok (record { state = new; packets = v.0.out.packets.items; handed = v.0.out.handed.items })
   pub sends : v.0.sends.items ≡ visit_sends (given old bodies) t

@@ -14,7 +14,7 @@ use totem_ids::{ConfId, Service};
 use totem_packets::{Body, Payload};
 use totem_ring::MOST_WAITING;
 
-/// How many bytes a payload may have at most.
+/// The greatest length of a payload in bytes.
 const LONGEST: usize = 1024;
 
 impl NodeCore {
@@ -31,7 +31,7 @@ impl NodeCore {
         None
     }
 
-    /// Lets a client's message wait for the next visit. `Range` if its payload is too long, `Full` if 16 messages wait.
+    /// Queues a client's message for the next visit. `Range` if its payload is too long, `Full` if 16 messages wait.
     pub(crate) fn on_submit(
         &mut self,
         alloc: Global,

@@ -39,7 +39,7 @@ impl NodeCore {
         })
     }
 
-    /// Returns the recovery that begins with this token, on the new ring as it has just begun.
+    /// Returns the recovery that begins with this token, on the new ring in its first state.
     fn recovering(
         &self,
         alloc: Global,
@@ -81,8 +81,8 @@ impl NodeCore {
         })
     }
 
-    /// Lets a node that gathers, commits or recovers take a commit token. Returns `None` where the first token of the new
-    /// ring is to be taken.
+    /// Takes a commit token in Gather, Commit or Recovery. Returns `None` if the first token of the new ring is to be
+    /// taken.
     fn commit_taken(
         &self,
         alloc: Global,
@@ -103,7 +103,7 @@ impl NodeCore {
         }
     }
 
-    /// Returns the transition that this commit token causes, or `None` where the first token of the new ring is to be
+    /// Returns the transition that this commit token causes, or `None` if the first token of the new ring is to be
     /// taken.
     pub(crate) fn commit_transition(
         &self,

@@ -1,4 +1,4 @@
-//! Processes that are counted as one set, without taking memory.
+//! Several lists of processes counted as one set, without allocating.
 ghost use Rattle.std.specs.Prelude.{◌≡◌, ◌≤◌, ◌||◌, length, take, nat_lt};
 ghost use Rattle.totem_packets.specs.Sets.{has, union};
 ghost use Rattle.totem_node.specs.Crowds.{procs_of, crowd_of, Counts};
@@ -6,10 +6,10 @@ ghost use Rattle.totem_node.specs.Crowds.{procs_of, crowd_of, Counts};
 use totem_ids::ProcId;
 use totem_packets::is_among;
 
-/// How many processes may gather at most.
+/// The greatest number of processes that may gather.
 const MOST: usize = 32;
 
-/// Processes of a crowd: these, but none of those.
+/// Processes of a crowd: `procs` without `but`.
 #[derive(Clone, Copy)]
 pub struct Part<'a> {
     pub procs: &'a [ProcId],
@@ -17,7 +17,7 @@ pub struct Part<'a> {
 }
 
 impl<'a> Part<'a> {
-    /// Returns all of these.
+    /// Returns the part with all of these processes.
     #[tactic(auto, using(totem_member::proofs::Ways::without_nobody))]
     pub fn all(procs: &'a [ProcId]) -> Part<'a>
         ensures { procs_of result ≡ procs.now }
@@ -48,7 +48,7 @@ fn has(parts: &[Part<'_>], proc: ProcId) -> bool
     false
 }
 
-/// Returns whether the process is left out of the part, or was counted: in the crowd before it, or among its first `at`.
+/// Returns whether the process is left out of the part or was counted before, in the crowd or among the part's first `at`.
 fn is_known(before: &[Part<'_>], part: &Part<'_>, at: usize, proc: ProcId) -> bool
     requires { at ≤ length part.now.procs.now }
     ensures { result ≡ (has part.now.but.now proc || has (crowd_of before.now) proc || has (take at part.now.procs.now) proc) }
@@ -56,7 +56,7 @@ fn is_known(before: &[Part<'_>], part: &Part<'_>, at: usize, proc: ProcId) -> bo
     is_among(part.but, proc) || has(before, proc) || is_among(&part.procs[..at], proc)
 }
 
-/// Counts on with a part, from the count of the crowd before it. Returns `None` if there are more than 32.
+/// Continues the count of a crowd with a part. Returns `None` if there are more than 32.
 fn count_on(before: &[Part<'_>], part: &Part<'_>, count: usize) -> Option<usize>
     requires count { count ≡ length (crowd_of before.now) }
     requires few { count ≤ 32 }
@@ -101,7 +101,7 @@ pub fn is_crowded(parts: &[Part<'_>]) -> bool
     }
 }
 
-/// Returns whether the crowd has more than 32 processes with this part too.
+/// Returns whether the crowd together with this part has more than 32 processes.
 #[tactic(auto, using(crate::proofs::Crowding::many_with_more, crate::proofs::Crowding::more_than_most))]
 pub fn is_crowded_with(parts: &[Part<'_>], more: &Part<'_>) -> bool
     ensures { result ≡ nat_lt 32 (length (union (crowd_of parts.now) (procs_of more.now))) }

@@ -1,4 +1,4 @@
-//! How a node comes to gather, and what it does at consensus (docs/PROTOCOL.md, "The node").
+//! How a node begins to gather, and what it does at consensus (docs/PROTOCOL.md, "The node").
 ghost use Rattle.std.specs.Prelude.{◌≡◌, ◌∷◌, [], IfOk, IsTrue};
 ghost use Rattle.std.specs.Option.{option_copied, option_to_list};
 ghost use Rattle.totem_packets.specs.Sets.{is_least, union};
@@ -25,7 +25,7 @@ pub fn join_broadcast(alloc: Global, gather: &Gather) -> Result<(To, Packet), Al
     Ok((To::All, Packet::Join(gather.join(alloc)?)))
 }
 
-/// Returns the commit token on its way to the next of its members.
+/// Returns the commit token, addressed to the next of its members.
 pub fn commit_passed_on(
     alloc: Global,
     me: ProcId,
@@ -37,7 +37,7 @@ pub fn commit_passed_on(
     Ok((To::One(next), Packet::Commit(token)))
 }
 
-/// Lets the gathering take the Join that caused it, if one did.
+/// Returns the gathering after the Join that caused it, if there is one.
 fn taking(alloc: Global, mut gather: Gather, cause: Option<&Join>) -> Result<Gather, NodeFault>
     ensures { Gives result (taking gather (option_copied cause.entry)) }
 {
@@ -61,7 +61,7 @@ fn set_of(alloc: Global, procs: &[ProcId]) -> Result<Processes, SetFault>
     Ok(set)
 }
 
-/// Returns the set with one process more.
+/// Returns the set with this process added.
 fn with_one(alloc: Global, set: Processes, proc: ProcId) -> Result<Processes, SetFault>
     ensures { MakesBase result (union set (proc ∷ [])) }
 {
@@ -71,7 +71,7 @@ fn with_one(alloc: Global, set: Processes, proc: ProcId) -> Result<Processes, Se
     }
 }
 
-/// Returns the set with the processes that the gathering would form a ring of.
+/// Returns the set together with the processes of which the gathering would form a ring.
 fn union(alloc: Global, set: Processes, gather: &Gather) -> Result<Processes, SetFault>
     ensures { MakesBase result (union set (gathered gather.now)) }
 {
@@ -128,7 +128,7 @@ impl NodeCore {
         })
     }
 
-    /// Returns the transition to Commit if there is consensus, and otherwise one that goes on in Gather with this count of
+    /// Returns the transition to Commit if there is consensus, and otherwise one that stays in Gather with this count of
     /// timers.
     pub(crate) fn look_at_consensus(
         &self,
@@ -152,7 +152,7 @@ impl NodeCore {
         })
     }
 
-    /// Returns the members of the installed ring, and `extra` with them.
+    /// Returns the members of the installed ring, together with `extra`.
     fn known_with(&self, alloc: Global, extra: Option<ProcId>) -> Result<Processes, SetFault>
         ensures { MakesBase result (union (set_of self.now.installed.members) (option_to_list extra)) }
     {
@@ -184,7 +184,7 @@ impl NodeCore {
     }
 
     /// Returns the transition with a new gathering: it takes the Join that caused it, its own Join is broadcast once,
-    /// and consensus is looked at.
+    /// and consensus is checked.
     fn gathering_anew(
         &self,
         alloc: Global,
@@ -200,7 +200,7 @@ impl NodeCore {
         self.look_at_consensus(alloc, 0, gather, members, packets)
     }
 
-    /// Begins a new gathering, with `extra` if that is given.
+    /// Returns a new gathering, with `extra` if it is given.
     fn new_gather(&self, alloc: Global, extra: Option<ProcId>) -> Result<Gather, NodeFault>
         ensures { Gives result (gather_begun self.now (option_to_list extra)) }
     {

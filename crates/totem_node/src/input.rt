@@ -11,7 +11,7 @@ use totem_packets::Packet;
 pub enum Input {
     /// A client asks the node to send this payload of at most 1,024 bytes.
     Submit { service: Service, payload: Bytes },
-    /// A packet has come.
+    /// A packet has arrived.
     Packet(Packet),
     /// The node's timer has run out.
     Timer,

@@ -1,4 +1,4 @@
-//! Visits of a new ring, and the finish, with which the old ring is left and the new one installed.
+//! Visits of a new ring, and the finish, which leaves the old ring and installs the new one.
 ghost use Rattle.std.specs.Prelude.{◌≡◌, ◌++◌, Err, IfOk, IfSome, OnOk, filter, nat_le, nat_lt};
 ghost use Rattle.totem_recover.specs.Finish.{deliveries};
 ghost use Rattle.totem_ring.specs.Refusals.{refusal_at_once};
@@ -65,7 +65,7 @@ fn append(entries: &mut Vec<Entry>, more: Vec<Entry>) -> Result<(), AllocError>
     Ok(())
 }
 
-/// Returns what is handed up before the last mark as deliveries, then the finish, then what is handed up after the mark.
+/// Returns the deliveries up to the last mark, then the finish, then the deliveries after the mark.
 fn finishing_entries(
     alloc: Global,
     recovery: &Recovery,
@@ -84,7 +84,7 @@ fn finishing_entries(
     Ok(entries)
 }
 
-/// Returns the entries of a visit that left the new ring in this state and handed these messages up.
+/// Returns the entries of a visit that left the new ring in this state and delivered these messages to the node.
 fn visit_entries(
     alloc: Global,
     recovery: &Recovery,
@@ -102,7 +102,7 @@ fn visit_entries(
     Ok(entries)
 }
 
-/// A visit of the new ring: what it gave, which entries are written of it, and to whom the node owes messages after it.
+/// A visit of the new ring: its result, which entries are written of it, and to whom the node owes messages after it.
 #[derive(Drop)]
 pub struct NewVisit {
     out: RingOut,
@@ -112,7 +112,7 @@ pub struct NewVisit {
 }
 
 impl NewVisit {
-    /// Makes this value of what the ring gave, with what is written of it.
+    /// Makes the value from the ring's result, with what is written of it.
     fn of(
         alloc: Global,
         recovery: &Recovery,
@@ -157,7 +157,7 @@ pub(crate) fn visit_with_next(
     }
 }
 
-/// Lets the new ring take its first token, and notes in the recovery that it was taken here.
+/// Lets the new ring take its first token, and records in the recovery that it was taken here.
 pub(crate) fn visit_first(
     alloc: Global,
     installed: &RingState,
@@ -172,8 +172,8 @@ pub(crate) fn visit_first(
 }
 
 impl NodeCore {
-    /// Notes a visit of the new ring. Once every member's mark is handed up, installs that ring, and the old one goes with
-    /// the recovery; otherwise the recovery goes on. Does nothing in any other state.
+    /// Records a visit of the new ring. If every member's mark is delivered to the node, installs that ring and drops the
+    /// old one and the recovery; otherwise the recovery continues. Does nothing in any other state.
     pub(crate) fn note_visit(&mut self, alloc: Global, visit: NewVisit) -> StepOut
         requires { OwesAfter visit self.old.state }
         ensures node { self.new ≡ visit_noted self.old visit self.old.state }

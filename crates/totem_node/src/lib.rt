@@ -1,4 +1,4 @@
-//! A node of the protocol: ring, membership and recovery, put together as one machine over inputs.
+//! A node of the protocol: ring, membership and recovery, put together as one state machine over inputs.
 #![tactic(auto)]
 
 mod clients;

@@ -16,7 +16,7 @@ use std::alloc::{AllocError, Global};
 use totem_packets::{Message, is_among};
 use totem_ring::{RingOut, RingState, is_same_ring};
 
-/// Returns what a node tells of a message that a ring took.
+/// Returns what a node reports of a message that a ring took.
 pub fn tell(
     alloc: Global,
     ring: &RingState,
@@ -34,7 +34,7 @@ pub fn tell(
     })
 }
 
-/// Lets a ring take a message that has come, and returns what a node tells of it.
+/// Lets a ring take a message, and returns what a node reports of it.
 fn message_told(alloc: Global, ring: &mut RingState, message: Message) -> Result<StepOut, NodeFault>
     ensures { IsTold ring.old ring.new result (message_told ring.old message) }
 {
@@ -48,7 +48,7 @@ fn message_told(alloc: Global, ring: &mut RingState, message: Message) -> Result
     }
 }
 
-/// Takes a message in Recovery: one of the new ring.
+/// Takes a message in Recovery, which has to be one of the new ring.
 fn message_in_recovery(
     alloc: Global,
     installed: &mut RingState,
@@ -75,7 +75,7 @@ impl NodeCore {
         message_told(alloc, &mut self.installed, message)
     }
 
-    /// Takes a message in Operational. One of a foreign ring makes the node gather, with the message's sender.
+    /// Takes a message in Operational. One of a foreign ring makes the node gather, together with the message's sender.
     fn message_in_operational(
         &mut self,
         alloc: Global,
@@ -93,7 +93,7 @@ impl NodeCore {
         Ok(self.apply(alloc, transition))
     }
 
-    /// Takes a message in Gather: one of the installed ring, as long as the node has not made or filled a commit token.
+    /// Takes a message in Gather: one of the installed ring, if the node has not made or filled a commit token.
     fn message_in_gather(&mut self, alloc: Global, message: Message) -> Result<StepOut, NodeFault>
         ensures { IsStep self.old self.new result (message_in_gather self.old message) }
     {
@@ -104,7 +104,7 @@ impl NodeCore {
         self.message_on_installed(alloc, message)
     }
 
-    /// Takes a message that has come.
+    /// Takes a message.
     pub(crate) fn on_message(
         &mut self,
         alloc: Global,

@@ -1,4 +1,4 @@
-//! A node, as a value.
+//! The state of a node.
 ghost use Rattle.std.specs.Prelude.{◌≡◌, IfOk};
 
 use crate::state::State;
@@ -10,8 +10,8 @@ use totem_packets::{Body, Life, Number, Processes};
 use totem_recover::{copies_of, ids_of};
 use totem_ring::RingState;
 
-/// A node: a machine over inputs, without clock, network or threads (docs/PROTOCOL.md, "The node"). A step that is
-/// refused leaves it as it was.
+/// A node: a state machine over inputs, without clock, network or threads (docs/PROTOCOL.md, "The node"). A step that is
+/// refused leaves it unchanged.
 #[derive(Debug, Drop)]
 pub struct NodeCore {
     pub(crate) me: ProcId,
@@ -20,8 +20,8 @@ pub struct NodeCore {
     pub(crate) installed: RingState,
     /// The messages of clients that wait for the next visit in Operational.
     pub(crate) waiting: Vec<Body>,
-    /// How many timers were counted since the last visit, or since the node last began to gather, gave up those that
-    /// don't agree, or came to consensus.
+    /// The number of timers that were counted since the last visit, or since the node last began to gather, gave up
+    /// those that don't agree, or reached consensus.
     pub(crate) quiet: u8,
     /// The greatest ring number that the node made, filled or installed.
     pub(crate) seq: Number,
@@ -56,7 +56,7 @@ impl NodeCore {
     ghost use Rattle.totem_node.specs.Replay.{first_change};
     ghost use Rattle.totem_evs.specs.Members.{IsMembers};
 
-    /// Makes a node that starts on this ring, and returns with it the change with which its log begins. The members are
+    /// Returns a node that starts on this ring, and the change with which its log begins. The members are
     /// 1 to 32 processes, strictly ascending by identifier, and are expected to have `me` among them.
     pub fn new(
         alloc: Global,

@@ -1,4 +1,4 @@
-//! What a step of a node gives.
+//! The outcome of a node's step.
 ghost use Rattle.std.specs.Prelude.{◌≡◌, [], IfOk};
 
 use crate::ring_step::RingStep;
@@ -8,7 +8,7 @@ use totem_ids::copied;
 use totem_packets::Packet;
 use totem_ring::To;
 
-/// What a step has sent, written in the log and done on rings, each in order.
+/// The packets that a step sent, the entries that it wrote and its steps on rings, each in order.
 #[derive(Debug, Drop)]
 pub struct StepOut {
     pub packets: Vec<(To, Packet)>,
@@ -17,7 +17,7 @@ pub struct StepOut {
 }
 
 impl StepOut {
-    /// Returns the outcome of a step that sends these packets, and neither writes an entry nor steps on a ring.
+    /// Returns the outcome of a step that sends these packets, writes no entry and takes no step on a ring.
     pub(crate) fn sending(alloc: Global, packets: Vec<(To, Packet)>) -> StepOut
         ensures packets { result.packets.items ≡ packets.items }
         ensures entries { result.entries.items ≡ [] }

@@ -1,4 +1,4 @@
-//! Messages of a new ring that come before it is installed.
+//! Messages of a new ring that arrive before it is installed.
 ghost use Rattle.std.specs.Prelude.{◌≡◌, Err, IfOk, IfSome, MatchResult};
 ghost use Rattle.totem_ids.specs.declared.conf.ConfId.TheVariants.{Regular};
 ghost use Rattle.totem_recover.specs.Finish.{deliveries};
@@ -37,7 +37,7 @@ fn carried(body: &Body) -> Result<Option<Message>, AllocError>
     })
 }
 
-/// Lets the installed ring adopt the message, or pass it over.
+/// Lets the installed ring adopt the message or ignore it.
 fn adopt(installed: &mut RingState, message: Option<Message>) -> Result<(), AllocError>
     ensures { MatchResult result (λ u. installed.new ≡ adopting installed.old message) (λ e. installed.new ≡ installed.old) }
 {
@@ -51,7 +51,7 @@ fn adopt(installed: &mut RingState, message: Option<Message>) -> Result<(), Allo
     }
 }
 
-/// Returns what a node tells of a message that the new ring took. The installed ring may adopt the message that it carries.
+/// Returns what a node reports of a message that the new ring took. The installed ring may adopt the message that it carries.
 fn tell_adopting(
     alloc: Global,
     installed: &mut RingState,
@@ -67,7 +67,7 @@ fn tell_adopting(
     Ok(told)
 }
 
-/// Takes a message of the new ring, of which the installed ring may adopt what it carries.
+/// Takes a message of the new ring. The installed ring may adopt the message that it carries.
 pub fn message_on_new(
     alloc: Global,
     installed: &mut RingState,

@@ -1,4 +1,4 @@
-//! Why a node would refuse a step (docs/PROTOCOL.md, "The node"). Nothing here takes memory.
+//! Why a node would refuse a step (docs/PROTOCOL.md, "The node"). Nothing here allocates.
 ghost use Rattle.std.specs.Prelude.{◌≡◌, Some};
 ghost use Rattle.std.specs.Option.{option_copied};
 ghost use Rattle.totem_member.specs.Gathers.{is_stranger};
@@ -32,7 +32,7 @@ fn of_its_ring(refusal: Option<RingFault>) -> Option<NodeFault>
     }
 }
 
-/// Returns whether a gathering of `me` and this crowd, `me` among them, that has just begun would refuse this Join.
+/// Returns whether a new gathering of `me` and this crowd, which includes `me`, would refuse this Join.
 fn is_stranger(crowd: &[Part<'_>], me: ProcId, join: &Join) -> bool
     ensures { result ≡ is_stranger (begun_by me (crowd_of crowd.now)) join.now }
 {
@@ -180,7 +180,7 @@ impl NodeCore {
         }
     }
 
-    /// Returns what the node shows to a commit token, lent.
+    /// Returns a borrowed view of what the node shows when it takes a commit token.
     fn shown<'a>(&'a self, phase: Phase, gather: &'a Gather, started: bool) -> Shown<'a>
         ensures view { view_of result ≡ commit_view self.now phase gather.now started }
         ensures report { own_report result ≡ report self.now }
@@ -212,7 +212,7 @@ impl NodeCore {
         }
     }
 
-    /// Returns why the token would be refused that the member would take in this way.
+    /// Returns why the node would refuse a token whose act or refusal by the member is this.
     fn act_refused(&self, alloc: Global, act: Result<Act, MemberFault>) -> Option<NodeFault>
         ensures { result ≡ act_refused self.now act }
     {
@@ -311,8 +311,8 @@ impl NodeCore {
         }
     }
 
-    /// Returns why `step` would refuse this input, or `None` if it would take it. Takes no memory. Whether a gathering
-    /// comes to consensus is not known before its sets are made. So where one does, and is refused as `Range` because no
+    /// Returns why `step` would refuse this input, or `None` if it would take it. Doesn't allocate. Whether a gathering
+    /// reaches consensus is not known before its sets are made. So if one does, and is refused as `Range` because no
     /// number is left for its ring, the answer is `None` too. Only a foreign message, a Join or a timer can lead there.
     #[tactic(auto, using(crate::proofs::Foretelling::told))]
     pub fn refusal(&self, alloc: Global, input: &Input) -> Option<NodeFault>

@@ -1,4 +1,4 @@
-//! What a node shows of itself to a commit token.
+//! What a node shows when it takes a commit token.
 ghost use Rattle.std.specs.Prelude.{◌≡◌, IfOk, max};
 ghost use Rattle.totem_node.specs.Nodes.{report, commit_view};
 
@@ -15,7 +15,7 @@ pub(crate) fn greater(a: Number, b: Number) -> Number
 }
 
 impl NodeCore {
-    /// Returns what the node reports of its life and of its installed ring.
+    /// Returns the node's report of its life and of its installed ring.
     pub(crate) fn report(&self, alloc: Global) -> Result<Report, AllocError>
         ensures { IfOk result (λ r. r ≡ report self.now) }
     {
@@ -28,7 +28,7 @@ impl NodeCore {
         })
     }
 
-    /// Returns what the node shows to a commit token.
+    /// Returns what the node shows when it takes a commit token.
     pub(crate) fn commit_view(
         &self,
         alloc: Global,

@@ -1,4 +1,4 @@
-//! What a node does on a ring.
+//! The steps that a node takes on its rings.
 ghost use Rattle.std.specs.Prelude.{◌≡◌, IfOk};
 
 use std::alloc::{AllocError, Global};

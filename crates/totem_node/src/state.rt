@@ -22,11 +22,11 @@ pub struct Recovering {
 pub enum State {
     /// The node sends and delivers on its installed ring.
     Operational,
-    /// The node looks for others with which to form a ring.
+    /// The node looks for other processes to form a ring with.
     Gathering(Gather),
     /// There is consensus, and a commit token forms the ring.
     Committing(Gather),
-    /// On the new ring the members settle what the old rings still owe.
+    /// On the new ring the members exchange what the old rings still owe.
     InRecovery(Recovering),
 }
 

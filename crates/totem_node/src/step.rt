@@ -1,4 +1,4 @@
-//! The step of a node, which hands each input to its room.
+//! The step of a node, which forwards each input to its module.
 ghost use Rattle.std.specs.Prelude.{◌≡◌, Err, IfSome};
 ghost use Rattle.totem_packets.specs.declared.packet.Packet.TheVariants as packet;
 ghost use Rattle.totem_node.specs.Table.{starting, on_token, on_packet, step};
@@ -16,7 +16,7 @@ use std::alloc::Global;
 use totem_packets::{CommitToken, Join, Packet, Token};
 
 impl NodeCore {
-    /// Takes a token that has come.
+    /// Takes a token.
     fn on_token(&mut self, alloc: Global, token: &Token) -> Result<StepOut, NodeFault>
         ensures { IsStep self.old self.new result (on_token self.old token.now self.old.state) }
     {
@@ -52,7 +52,7 @@ impl NodeCore {
         }
     }
 
-    /// Takes a Join that has come.
+    /// Takes a Join.
     fn on_join(&mut self, alloc: Global, join: &Join) -> Result<StepOut, NodeFault>
         ensures { IsStep self.old self.new result (on_packet self.old (packet.Join join.now)) }
     {
@@ -62,7 +62,7 @@ impl NodeCore {
         }
     }
 
-    /// Takes a commit token that has come.
+    /// Takes a commit token.
     fn on_commit(&mut self, alloc: Global, token: &CommitToken) -> Result<StepOut, NodeFault>
         ensures { IsStep self.old self.new result (on_packet self.old (packet.Commit token.now)) }
     {
@@ -72,7 +72,7 @@ impl NodeCore {
         self.start_ring(alloc)
     }
 
-    /// Takes a packet that has come.
+    /// Takes a packet.
     fn on_packet(&mut self, alloc: Global, packet: Packet) -> Result<StepOut, NodeFault>
         ensures { IsStep self.old self.new result (on_packet self.old packet) }
     {
@@ -85,7 +85,7 @@ impl NodeCore {
     }
 
     /// Takes an input (docs/PROTOCOL.md, "The node"). A step that is refused changes nothing, and is refused before any
-    /// memory is taken (`refusal`). So `Memory` comes only where the step would be taken, or would be refused as `Range` because no
+    /// memory is taken (`refusal`). So `Memory` is returned only where the step would be taken, or would be refused as `Range` because no
     /// number is left for the ring of a gathering.
     pub fn step(&mut self, alloc: Global, input: Input) -> Result<StepOut, NodeFault>
         ensures step { IsStep self.old self.new result (step self.old input) }

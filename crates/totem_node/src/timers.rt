@@ -1,4 +1,4 @@
-//! How a node takes timers that run out.
+//! How a node takes timers.
 ghost use Rattle.std.specs.Prelude.{◌≡◌, IfOk};
 ghost use Rattle.totem_node.specs.Table.{late, on_timer};
 ghost use Rattle.totem_node.specs.Transitions.{IsTransition, IsTimerTransition, IsCounting};
@@ -14,10 +14,10 @@ use crate::transition::Transition;
 use std::alloc::Global;
 use totem_member::Gather;
 
-/// How many timers are only counted before the next one makes the node gather.
+/// The number of timers that are only counted before the next one makes the node gather.
 pub(crate) const QUIET: u8 = 2;
 
-/// How many timers are only counted before a gathering gives up those that don't agree.
+/// The number of timers that are only counted before a gathering gives up those that don't agree.
 const PATIENCE: u8 = 1;
 
 impl NodeCore {

@@ -15,7 +15,7 @@ use totem_ids::ConfId;
 use totem_packets::{Body, Token};
 use totem_ring::{Act, RingState};
 
-/// Returns what a node tells of a visit: the sends are written first, then the deliveries.
+/// Returns what a node reports of a visit: the sends are written first, then the deliveries.
 fn tell_visit(conf: &ConfId, visited: Visited) -> Result<StepOut, AllocError>
     ensures { IfOk result (λ told. (told.packets.items ≡ visited.out.packets.items)
         × (told.entries.items ≡ visited.sends.items ++ deliveries conf.now visited.out.handed.items)
@@ -34,7 +34,7 @@ fn tell_visit(conf: &ConfId, visited: Visited) -> Result<StepOut, AllocError>
     })
 }
 
-/// Gives these bodies to a ring, lets it take a token that has come, and returns what a node tells of it.
+/// Gives these bodies to a ring, lets it take a token, and returns what a node reports of it.
 fn visit_told(
     alloc: Global,
     ring: &mut RingState,
@@ -54,7 +54,7 @@ fn visit_told(
     }
 }
 
-/// Sends the token that the ring passed on again, if it is still kept.
+/// Returns a step that sends the token that the ring passed on again, if it is still kept.
 pub fn resend(alloc: Global, ring: &RingState) -> Result<StepOut, NodeFault>
     ensures { IsResent result ring.now }
 {

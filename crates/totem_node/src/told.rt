@@ -1,4 +1,4 @@
-//! The entries and the steps that a node tells of a ring's step.
+//! The entries and the ring steps that a node reports of a ring's step.
 ghost use Rattle.std.specs.Prelude.{◌≡◌, ◌+◌, ◌++◌, ◌<◌, ◌^◌, length, IfOk, OnOk};
 ghost use Rattle.totem_ids.specs.declared.conf.ConfId.TheVariants.{Regular};
 ghost use Rattle.totem_ring.specs.Visits.{numbered};
@@ -77,7 +77,7 @@ fn write_sends(
     Ok(())
 }
 
-/// Returns the sends of the bodies that wait on the ring, and of these, which get the numbers after the token's `seq`.
+/// Returns the sends of the bodies that wait on the ring and of the given bodies, which get the numbers after the token's `seq`.
 #[tactic(auto, using(crate::proofs::Telling::all_sent))]
 pub fn visit_sends(
     alloc: Global,
@@ -95,7 +95,7 @@ pub fn visit_sends(
     Ok(entries)
 }
 
-/// Returns the step of a ring that takes this message.
+/// Returns the ring's steps for taking this message.
 pub fn message_steps(
     alloc: Global,
     ring: RingId,
@@ -111,7 +111,7 @@ pub fn message_steps(
     Ok(steps)
 }
 
-/// Returns the steps of a ring to which these bodies are submitted and which then takes this token.
+/// Returns the ring's steps for a visit: these bodies are submitted, then this token is taken.
 pub fn visit_steps(
     alloc: Global,
     ring: RingId,

@@ -1,4 +1,4 @@
-//! A transition of membership: what it makes of a node's state, and what it sends.
+//! A transition of membership: how it changes a node's state, and what it sends.
 ghost use Rattle.std.specs.Prelude.{◌≡◌, []};
 ghost use Rattle.totem_node.specs.Transitions.{applied};
 
@@ -10,7 +10,7 @@ use totem_ids::RingId;
 use totem_packets::{Number, Packet};
 use totem_ring::To;
 
-/// A transition of membership: what it makes of a node's state, and what it sends. It is made as a whole before the node
+/// A transition of membership: how it changes a node's state, and what it sends. It is made as a whole before the node
 /// changes.
 #[derive(Drop)]
 pub struct Transition {

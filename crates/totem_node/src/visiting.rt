@@ -1,4 +1,4 @@
-//! The visit of a token, with what is written of it.
+//! The visit of a token, together with what is written of it.
 ghost use Rattle.totem_node.specs.Visits.{IsVisit};
 
 use crate::fault::NodeFault;
@@ -9,16 +9,16 @@ use totem_evs::Entry;
 use totem_packets::{Body, Token};
 use totem_ring::{RingOut, RingState, VisitUndo};
 
-/// A visit that a ring took: what it gave, and what is written of it.
+/// A visit that a ring took: its result, and what is written of it.
 #[derive(Drop)]
 pub struct Visited {
     pub out: RingOut,
-    /// The sends of what the visit numbered.
+    /// The sends of the bodies that the visit numbered.
     pub sends: Vec<Entry>,
     pub ring_steps: Vec<RingStep>,
 }
 
-/// Lets the ring take the token as if these bodies waited on it too. What is returned can take the visit back.
+/// Lets the ring take the token as if these bodies waited on it too. The returned undo can take the visit back.
 #[tactic(auto, using(crate::proofs::Visits::visit_refused_with, crate::proofs::Visits::room_with))]
 pub fn visit_with(
     alloc: Global,

@@ -1,4 +1,4 @@
-//! Nodes, tested by direct calls: inputs are given as words, and each step is told as a line of text.
+//! Nodes, tested by direct calls: inputs are given as words, and each step is reported as text.
 use bytes::Bytes;
 use std::alloc::{AllocError, Global};
 use std::fmt;
@@ -17,7 +17,7 @@ fn proc(number: u16) -> ProcId {
     ProcId::of(number.max(1))
 }
 
-/// A ring with the representative 1.
+/// Returns a ring with the representative 1.
 fn ring(seq: u32) -> RingId {
     RingId {
         seq: seq.max(1),
@@ -25,7 +25,7 @@ fn ring(seq: u32) -> RingId {
     }
 }
 
-/// A client's message of so many bytes.
+/// Returns a client's message of this many bytes.
 fn submit(alloc: Global, bytes: usize) -> Result<Input, AllocError> {
     let payload = Bytes::from_vec(vec![in alloc; 9; bytes]?)?;
     Ok(Input::Submit {
@@ -63,7 +63,7 @@ fn commit(alloc: Global) -> Result<Input, Fail> {
     })))
 }
 
-/// Returns a Join of process 2 with this number, which thinks of the processes 1 to `last`.
+/// Returns a Join of process 2 with this number, which knows the processes 1 to `last`.
 fn join(alloc: Global, seq: u32, last: u16) -> Result<Input, Fail> {
     Ok(Input::Packet(Packet::Join(Join {
         sender: proc(2),
@@ -73,7 +73,7 @@ fn join(alloc: Global, seq: u32, last: u16) -> Result<Input, Fail> {
     })))
 }
 
-/// Returns a token of ring 4.1 that is the second member's to take.
+/// Returns a token of ring 4.1 that the second member has to take.
 fn second_token(alloc: Global) -> Input {
     let mut token = first_token(alloc, ring(4));
     token.token_seq = TokenSeq::of(2);
@@ -81,7 +81,7 @@ fn second_token(alloc: Global) -> Input {
 }
 
 /// Returns the input of a word that has a number: `submit` with a number of bytes, `from` with the sender of a message of
-/// ring 8.1, `join` with the number of a Join of process 2, `alien` with that of one which does not think of its sender.
+/// ring 8.1, `join` with the number of a Join of process 2, `alien` with that of a Join that doesn't know its own sender.
 fn numbered_input(alloc: Global, word: &str) -> Result<Option<Input>, Fail> {
     if let Some(bytes) = word.strip_prefix("submit") {
         return Ok(Some(submit(alloc, bytes.parse::<usize>().unwrap_or(0))?));
@@ -98,8 +98,8 @@ fn numbered_input(alloc: Global, word: &str) -> Result<Option<Input>, Fail> {
     Ok(None)
 }
 
-/// Returns the input that a word stands for: one with a number, `token` for the first token of ring 4.1, `second` for one that is the
-/// second member's, `commit`, `crash`, and any other word for a timer.
+/// Returns the input that a word stands for: one with a number, `token` for the first token of ring 4.1, `second` for one that the
+/// second member has to take, `commit`, `crash`, and any other word for a timer.
 fn input(alloc: Global, word: &str) -> Result<Input, Fail> {
     if let Some(input) = numbered_input(alloc, word)? {
         return Ok(input);
@@ -113,7 +113,7 @@ fn input(alloc: Global, word: &str) -> Result<Input, Fail> {
     }
 }
 
-/// The processes from 1 to this one.
+/// Returns the processes from 1 to this one.
 fn up_to(alloc: Global, last: u16) -> Result<Vec<ProcId>, AllocError> {
     let mut list = Vec::new(alloc);
     for value in 0..last {
@@ -122,7 +122,7 @@ fn up_to(alloc: Global, last: u16) -> Result<Vec<ProcId>, AllocError> {
     Ok(list)
 }
 
-/// Their first lives, as members.
+/// Returns their first lives, as members.
 fn first(alloc: Global, last: u16) -> Result<Members, Fail> {
     let mut list = Vec::new(alloc);
     for value in 0..last {
@@ -144,7 +144,7 @@ impl fmt::Display for Spaced<'_> {
     }
 }
 
-/// To whom a packet is sent.
+/// The receiver of a packet.
 #[derive(Drop)]
 struct Receiver<'a>(&'a To);
 
@@ -157,7 +157,7 @@ impl fmt::Display for Receiver<'_> {
     }
 }
 
-/// What a packet is, with the number and the sets of a Join.
+/// The kind of a packet, with the number and the sets of a Join.
 #[derive(Drop)]
 struct Kind<'a>(&'a Packet);
 
@@ -245,7 +245,7 @@ fn push_refusal(alloc: Global, text: &mut String, node: &NodeCore, word: &str) -
     })
 }
 
-/// One step.
+/// Takes one step, and reports its outcome.
 fn push_step(
     alloc: Global,
     text: &mut String,
@@ -256,7 +256,7 @@ fn push_step(
     Ok(push_answer(text, node.step(alloc, given))?)
 }
 
-/// Takes one step with a copy of its input, and tells it by a copy of its outcome.
+/// Takes one step with a copy of its input, and reports a copy of its outcome.
 fn push_copied_step(
     alloc: Global,
     text: &mut String,
@@ -267,7 +267,7 @@ fn push_copied_step(
     Ok(push_copied_answer(alloc, text, node.step(alloc, given))?)
 }
 
-/// Takes the step of a word. One after `copied-` goes by copies; of one after `would-` only the refusal is told.
+/// Takes the step of a word: after `copied-` by copies, and after `would-` only its refusal is reported.
 fn push_word(
     alloc: Global,
     text: &mut String,
@@ -308,7 +308,7 @@ fn push_steps_of_a_copy(
     push_steps(alloc, text, &mut copy, words)
 }
 
-/// Gives the node these inputs, or after the word `copy` gives them to its copy.
+/// Gives these inputs to the node, or after the word `copy` to its copy.
 fn push_life(
     alloc: Global,
     text: &mut String,
@@ -321,14 +321,14 @@ fn push_life(
     }
 }
 
-/// Tells a node's first entry and its steps.
+/// Returns a node's first entry and its steps.
 fn told(alloc: Global, node: &mut NodeCore, change: &Entry, words: &str) -> Result<String, Fail> {
     let mut text = format!(in alloc; "{change}; ")?;
     push_life(alloc, &mut text, node, words)?;
     Ok(text)
 }
 
-/// Tells the life of process 1 on ring 4.1, which has these processes.
+/// Returns the life of process 1 on ring 4.1, which has these processes.
 fn life_among(alloc: Global, members: &Members, words: &str) -> Result<String, Fail> {
     let (mut node, change) = NodeCore::new(
         alloc,
@@ -339,13 +339,13 @@ fn life_among(alloc: Global, members: &Members, words: &str) -> Result<String, F
     told(alloc, &mut node, &change, words)
 }
 
-/// Tells the life of process 1 on ring 4.1, which has the processes 1 to `count`.
+/// Returns the life of process 1 on ring 4.1, which has the processes 1 to `count`.
 fn life(alloc: Global, count: u16, words: &str) -> Result<String, Fail> {
     let members = first(alloc, count)?;
     life_among(alloc, &members, words)
 }
 
-/// How many members the ring has, the inputs that a node is given, and what it has to tell of them.
+/// The number of the ring's members, the inputs that a node is given, and what it is to report of them.
 struct Row {
     members: u16,
     inputs: &'static str,
@@ -394,31 +394,31 @@ const LIVES: [Row; 17] = [
         inputs: "timer timer timer timer timer commit timer timer timer",
         told: "conf r4.1 1 2 3; / resend 4.1; / resend 4.1; / all join 4: 1 2 3 but; / all join 4: 1 2 3 but; / all join 4: 1 2 3 but 2 3; 1 commit; / Stale/ / / all join 8: 1 2 3 but; ",
     },
-    // and so does a Join of one that was thought to have failed.
+    // and so does a Join of a process that was thought to have failed.
     Row {
         members: 3,
         inputs: "timer timer timer timer timer join4",
         told: "conf r4.1 1 2 3; / resend 4.1; / resend 4.1; / all join 4: 1 2 3 but; / all join 4: 1 2 3 but; / all join 4: 1 2 3 but 2 3; 1 commit; / all join 8: 1 2 3 but; ",
     },
-    // A Join is late, one does not think of its own sender, a token is another member's: nothing changes.
+    // A late Join, one that doesn't know its own sender, and a token for another member change nothing.
     Row {
         members: 2,
         inputs: "join3 alien4 second timer",
         told: "conf r4.1 1 2; / Stale/ Stranger/ Range/ resend 4.1; ",
     },
-    // Who gathers fills no commit token that names other members.
+    // A node that gathers fills no commit token with other members.
     Row {
         members: 2,
         inputs: "from7 commit",
         told: "conf r4.1 1 2; / all join 4: 1 2 7 but; / Stale",
     },
-    // A 17th message does not wait.
+    // A 17th message is refused.
     Row {
         members: 2,
         inputs: "submit1 submit1 submit1 submit1 submit1 submit1 submit1 submit1 submit1 submit1 submit1 submit1 submit1 submit1 submit1 submit1 submit1",
         told: "conf r4.1 1 2; / / / / / / / / / / / / / / / / / Full",
     },
-    // What would be refused is told without a step.
+    // What would be refused is reported without a step.
     Row {
         members: 2,
         inputs: "would-token would-from2 would-from7 would-commit would-join3 would-alien4 would-second would-submit1024 would-submit1025 would-timer would-crash token would-token",
@@ -434,7 +434,7 @@ const LIVES: [Row; 17] = [
         inputs: "timer timer timer would-token would-alien4 timer timer would-commit would-join4 would-token would-timer",
         told: "conf r4.1 1 2 3; / resend 4.1; / resend 4.1; / all join 4: 1 2 3 but; / Stale/ Stranger/ all join 4: 1 2 3 but; / all join 4: 1 2 3 but 2 3; 1 commit; / Stale/ taken/ Stale/ taken",
     },
-    // A copy answers alike.
+    // A copy answers in the same way.
     Row {
         members: 2,
         inputs: "copy token",
@@ -448,6 +448,7 @@ const LIVES: [Row; 17] = [
     },
 ];
 
+/// Lives of a node have the entries, ring steps, packets and refusals that are worked out by hand.
 #[test]
 fn a_node_tells_its_first_entry_and_its_steps(rt: HostRuntime) -> Result<(), Fail> {
     for row in &LIVES {
@@ -457,6 +458,7 @@ fn a_node_tells_its_first_entry_and_its_steps(rt: HostRuntime) -> Result<(), Fai
     Ok(())
 }
 
+/// The faults of a node have their numbers, names and texts.
 #[test]
 fn faults_have_numbers_and_names(rt: HostRuntime) -> Result<(), Fail> {
     let faults = [

@@ -1,4 +1,4 @@
-//! What lines of a script say, and the fault of each line that is no command.
+//! The commands of a script's lines, and the fault of each line that is not a command.
 use std::alloc::Global;
 use totem_ids::{ProcId, RingId, Service};
 use totem_script::{Command, Keyword, LineFault, Parts, ScriptVersion, read_command};
@@ -7,7 +7,7 @@ fn read(alloc: Global, line: &str) -> Result<Command, LineFault> {
     read_command(alloc, ScriptVersion::Two, line.as_bytes())
 }
 
-// The first line of these that has another fault.
+// Returns the first of these lines that has another fault or none.
 fn other_fault(
     alloc: Global,
     lines: &'static [&'static str],
@@ -21,7 +21,7 @@ fn other_fault(
     None
 }
 
-// The one number of a command that has no lists and no text, after its word; 0 where it has none.
+// Returns the one number of a command without lists and texts, with the command's word; 0 if it has none.
 fn number_in(command: &Command) -> Option<(&'static str, u32)> {
     match command {
         Command::Run { times } => Some(("run", *times)),
@@ -43,7 +43,7 @@ fn number_of(alloc: Global, line: &str) -> Option<(&'static str, u32)> {
     }
 }
 
-// The first line of these that has another word or number.
+// Returns the first of these lines that has another word or number.
 fn other_number(
     alloc: Global,
     lines: &[(&'static str, (&'static str, u32))],
@@ -56,7 +56,7 @@ fn other_number(
     None
 }
 
-// Whether the line says that a ring has these members, at least one.
+// Returns whether the line makes a ring of these members, at least one.
 fn makes_ring(alloc: Global, line: &str, wanted: RingId, procs: &[ProcId]) -> bool {
     let command = read(alloc, line);
     match &command {
@@ -67,7 +67,7 @@ fn makes_ring(alloc: Global, line: &str, wanted: RingId, procs: &[ProcId]) -> bo
     }
 }
 
-// Whether the line says that a client asks this process to send these bytes.
+// Returns whether with the line a client asks this process to send these bytes.
 fn submits(alloc: Global, line: &str, to: ProcId, wanted: Service, bytes: &[u8]) -> bool {
     let command = read(alloc, line);
     match &command {
@@ -82,7 +82,7 @@ fn submits(alloc: Global, line: &str, to: ProcId, wanted: Service, bytes: &[u8])
     }
 }
 
-// Whether the line cuts the ring into these two groups.
+// Returns whether the line cuts the processes into these two groups.
 fn cuts_in_two(alloc: Global, line: &str, left: &[ProcId], right: &[ProcId]) -> bool {
     let command = read(alloc, line);
     match &command {
@@ -94,7 +94,7 @@ fn cuts_in_two(alloc: Global, line: &str, left: &[ProcId], right: &[ProcId]) -> 
     }
 }
 
-// How many groups the line makes, if it is a cut.
+// Returns the number of groups of the line, if it is a cut.
 fn groups_of(alloc: Global, line: &str) -> Option<usize> {
     let command = read(alloc, line);
     match &command {
@@ -103,6 +103,7 @@ fn groups_of(alloc: Global, line: &str) -> Option<usize> {
     }
 }
 
+/// A text is split at each place of a byte.
 #[test]
 fn a_text_is_cut_at_a_byte(rt: HostRuntime) {
     let mut parts = Parts::new(b"ab c", b' ');
@@ -115,6 +116,7 @@ fn a_text_is_cut_at_a_byte(rt: HostRuntime) {
     assert_eq!(rt; (parts.is_empty(), parts.next()), (true, None));
 }
 
+/// A keyword is a whole word.
 #[test]
 fn a_keyword_is_a_whole_word(rt: HostRuntime) {
     let read = [
@@ -125,6 +127,7 @@ fn a_keyword_is_a_whole_word(rt: HostRuntime) {
     assert_eq!(rt; read, [Some(Keyword::Repeat), None, None]);
 }
 
+/// `return` is a keyword in version 2 only.
 #[test]
 fn a_process_returns_in_version_2_alone(rt: HostRuntime) {
     let read = [
@@ -134,6 +137,7 @@ fn a_process_returns_in_version_2_alone(rt: HostRuntime) {
     assert_eq!(rt; read, [None, Some(Keyword::Return)]);
 }
 
+/// A `ring` line has a ring and its members.
 #[test]
 fn a_ring_has_members(rt: HostRuntime) {
     let ring = RingId {
@@ -144,6 +148,7 @@ fn a_ring_has_members(rt: HostRuntime) {
     assert!(rt; makes_ring(rt.alloc(), "ring 4.1 1 2 3", ring, &members));
 }
 
+/// A `submit` line has a process, a service and a payload.
 #[test]
 fn a_client_asks_for_a_word(rt: HostRuntime) {
     let last = ProcId::of(65_535);
@@ -158,7 +163,7 @@ fn a_client_asks_for_a_word(rt: HostRuntime) {
     );
 }
 
-// Numbers of times and of places go to 100000.
+// The numbers of times and of places go up to 100000.
 const NUMBERS: [(&str, (&str, u32)); 8] = [
     ("run 100000", ("run", 100_000)),
     ("drop 2", ("drop", 2)),
@@ -170,11 +175,13 @@ const NUMBERS: [(&str, (&str, u32)); 8] = [
     ("end", ("end", 0)),
 ];
 
+/// A command has its one number, or none.
 #[test]
 fn a_command_has_a_number_or_stands_alone(rt: HostRuntime) {
     assert_eq!(rt; other_number(rt.alloc(), &NUMBERS), None);
 }
 
+/// A `cut` line has one or more groups.
 #[test]
 fn a_cut_has_groups(rt: HostRuntime) {
     let left = [ProcId::of(3), ProcId::of(1)];
@@ -182,7 +189,7 @@ fn a_cut_has_groups(rt: HostRuntime) {
     assert_eq!(rt; groups_of(rt.alloc(), "cut 1"), Some(1));
 }
 
-// The first unfit byte is where a number is wanted, or takes one out of its range.
+// The first unexpected byte is where a number is expected, or takes one out of its range.
 const NUMBER: [&str; 15] = [
     "run 0",
     "run 01",
@@ -201,7 +208,7 @@ const NUMBER: [&str; 15] = [
     "submit x a y",
 ];
 
-// It is any other; the end of the line is such a byte too.
+// It is any other byte; the end of the line is such a byte too.
 const WORD: [&str; 23] = [
     "",
     "rings 4.1 1",
@@ -228,12 +235,14 @@ const WORD: [&str; 23] = [
     "submit 1 a 0123456789abcdef0123456789abcdef0123456789abcdef0123456789abcdefg",
 ];
 
+/// The first unexpected byte of a line determines its fault.
 #[test]
 fn the_first_unfit_byte_tells_the_fault(rt: HostRuntime) {
     assert_eq!(rt; other_fault(rt.alloc(), &NUMBER, LineFault::Number), None);
     assert_eq!(rt; other_fault(rt.alloc(), &WORD, LineFault::Word), None);
 }
 
+/// A payload of 64 letters is accepted.
 #[test]
 fn a_payload_may_have_64_letters(rt: HostRuntime) {
     let line = "submit 1 a 0123456789abcdef0123456789abcdef0123456789abcdef0123456789abcdef";

@@ -1,4 +1,4 @@
-//! A script's run, and how the fault of one is told. What else scripts make and which are refused is asked of the built program, by
+//! A script's run, and how its fault is reported. What else scripts make and which are refused is tested with the built program, by
 //! `tests/program`. Lines end at `;` here.
 use std::alloc::Global;
 use std::test::Fail;
@@ -9,14 +9,14 @@ use totem_script::{
     only_the_crashed_return, simulate,
 };
 
-// A message is lost, asked for and sent again.
+// A message is lost, requested and sent again.
 const SCRIPT: &str =
     "totem-script 1;ring 4.1 1 2 3;submit 1 a x;submit 2 a y;run 1;drop 2;run 8;end;";
 
 const RUN: &str =
     "totem-run 1;log 1;conf r4.1 1 2 3;send r4.1 a 4.1#1;dlv r4.1 4.1#1;dlv r4.1 4.1#2;open;log 2;conf r4.1 1 2 3;dlv r4.1 4.1#1;send r4.1 a 4.1#2;dlv r4.1 4.1#2;open;log 3;conf r4.1 1 2 3;dlv r4.1 4.1#1;dlv r4.1 4.1#2;open;end;";
 
-// A process comes back; the token of its old ring comes before that of its new one.
+// A process returns; the token of its old ring arrives before that of its new one.
 const RETURN: &str = "totem-script 2;ring 4.1 1;crash 1;return 1;submit 1 a x;run 2;end;";
 
 const RETURNED: &str =
@@ -37,7 +37,7 @@ fn text_of(alloc: Global, script: &str) -> Result<Vec<u8>, Fail> {
     Ok(sink.into_inner())
 }
 
-/// What is wrong with a script, and in which line.
+/// Returns what is wrong with a script, and in which line.
 fn fault_of(alloc: Global, script: &str) -> Result<Option<(ScriptFaultKind, u32)>, Fail> {
     match simulate(alloc, &bytes_of(alloc, script)?) {
         Ok(_) => Ok(None),
@@ -45,7 +45,7 @@ fn fault_of(alloc: Global, script: &str) -> Result<Option<(ScriptFaultKind, u32)
     }
 }
 
-/// What is wrong with a script in which the one process crashes and comes back this often.
+/// Returns what is wrong with a script in which its one process crashes and returns this often.
 fn fault_of_returns(alloc: Global, times: u32) -> Result<Option<(ScriptFaultKind, u32)>, Fail> {
     let mut script = String::new(alloc);
     script.push_str("totem-script 2;ring 4.1 1;")?;
@@ -56,6 +56,7 @@ fn fault_of_returns(alloc: Global, times: u32) -> Result<Option<(ScriptFaultKind
     fault_of(alloc, script.as_str())
 }
 
+/// A script in which a message is lost and sent again gives its run.
 #[test]
 fn a_script_makes_a_run(rt: HostRuntime) -> Result<(), Fail> {
     let text = text_of(rt.alloc(), SCRIPT)?;
@@ -63,6 +64,7 @@ fn a_script_makes_a_run(rt: HostRuntime) -> Result<(), Fail> {
     Ok(())
 }
 
+/// A process that returns has a log of its next life, and ignores the token of its old ring.
 #[test]
 fn a_process_comes_back_in_its_next_life(rt: HostRuntime) -> Result<(), Fail> {
     let text = text_of(rt.alloc(), RETURN)?;
@@ -70,6 +72,7 @@ fn a_process_comes_back_in_its_next_life(rt: HostRuntime) -> Result<(), Fail> {
     Ok(())
 }
 
+/// A script of version 2 gives a run of version 2, also without returns.
 #[test]
 fn a_script_of_version_2_gives_a_run_of_version_2(rt: HostRuntime) -> Result<(), Fail> {
     let text = text_of(rt.alloc(), "totem-script 2;ring 4.1 1;end;")?;
@@ -78,6 +81,7 @@ fn a_script_of_version_2_gives_a_run_of_version_2(rt: HostRuntime) -> Result<(),
     Ok(())
 }
 
+/// Only a process that has crashed can return, and only in version 2.
 #[test]
 fn who_comes_back_has_crashed(rt: HostRuntime) -> Result<(), Fail> {
     let old = fault_of(
@@ -92,6 +96,7 @@ fn who_comes_back_has_crashed(rt: HostRuntime) -> Result<(), Fail> {
     Ok(())
 }
 
+/// A process returns only if a number is left for its ring.
 #[test]
 fn a_return_has_a_ring_number(rt: HostRuntime) -> Result<(), Fail> {
     let last = fault_of(
@@ -106,6 +111,7 @@ fn a_return_has_a_ring_number(rt: HostRuntime) -> Result<(), Fail> {
     Ok(())
 }
 
+/// A process may have 32 lives, and no more.
 #[test]
 fn each_life_counts(rt: HostRuntime) -> Result<(), Fail> {
     assert_eq!(rt; fault_of_returns(rt.alloc(), 31)?, None);
@@ -116,6 +122,7 @@ fn each_life_counts(rt: HostRuntime) -> Result<(), Fail> {
     Ok(())
 }
 
+/// The first line of a script names version 1 or 2.
 #[test]
 fn a_first_line_names_a_version(rt: HostRuntime) {
     let read = [
@@ -129,6 +136,7 @@ fn a_first_line_names_a_version(rt: HostRuntime) {
     );
 }
 
+/// The text of a script's fault says what is wrong, and in which line.
 #[test]
 fn a_fault_says_what_and_where(rt: HostRuntime) -> Result<(), Fail> {
     let fault = ScriptFault {
@@ -147,6 +155,7 @@ fn a_fault_says_what_and_where(rt: HostRuntime) -> Result<(), Fail> {
     Ok(())
 }
 
+/// The laws of returns can be called, and do nothing.
 #[test]
 fn laws_do_nothing() {
     only_the_crashed_return();

@@ -1,4 +1,4 @@
-//! Processes of a run and services: how they are made, read, written and ordered, and what laws say of them.
+//! Processes of a run and services: how they are made, read, written and ordered, and their laws.
 use crate::names::{Text, memory, told};
 use crate::packet_values::{Case, proc};
 use crate::streams::push_bytes;
@@ -20,7 +20,7 @@ fn small(digits: &str) -> u16 {
     digits.parse::<u16>().unwrap_or(0)
 }
 
-/// Tells a process, its parts, its rank and its next life.
+/// Returns a process, its parts, its rank and its next life, as text.
 fn parts(alloc: Global, process: Proc) -> Result<String, AllocError> {
     let (id, life, rank) = (process.id(), process.life(), process.rank());
     match process.next_life() {
@@ -38,7 +38,7 @@ fn made(alloc: Global, text: &str) -> Result<String, AllocError> {
     }
 }
 
-/// The first life of an identifier, and its third.
+/// Returns the first life of an identifier, and its third.
 fn first_and_third(alloc: Global, id: u16) -> Result<String, AllocError> {
     let (first, third) = (Proc::first(proc(id)), Proc::of(proc(id), 3));
     format!(in alloc; "{first} {third}")
@@ -95,13 +95,13 @@ fn written(alloc: Global, version: Version, process: Proc) -> Result<String, All
     Ok(text)
 }
 
-/// Reads a process of version 2, and tells what is written of it in a text of this version.
+/// Reads a process of version 2, and returns how a text of this version writes it.
 fn rewritten(alloc: Global, version: Version, text: &mut Text) -> Result<String, ReadError> {
     let process = read_process_to(text, Version::Two, b' ')?;
     Ok(written(alloc, version, process)?)
 }
 
-/// Tells what a text of this version has.
+/// Returns what is read, written or related in a text of this version.
 fn versioned(alloc: Global, kind: &str, words: &str) -> Result<String, AllocError> {
     let (number, text) = words.split_once(' ').unwrap_or((words, ""));
     let version = version(number);
@@ -113,7 +113,7 @@ fn versioned(alloc: Global, kind: &str, words: &str) -> Result<String, AllocErro
     }
 }
 
-/// Answers in text what is made, written or read.
+/// Returns what is made, written or read, as text.
 pub(crate) fn answer(alloc: Global, words: &str) -> Result<String, AllocError> {
     let (kind, text) = words.split_once(' ').unwrap_or((words, ""));
     match kind {
@@ -145,13 +145,13 @@ pub(crate) const LIVES: [Case; 35] = [
     ("then 2 2:2;", "2:2 59"),
     ("put 2 1:1 ", "true log 1:1 as 1:1@5"),
     ("put 3 2:2 ", "true log 2:2 as 2:2@5"),
-    // where no version is known, a place is written as in the first version that can write it
+    // without a known version, a place is written as in the first version that can write it
     ("place 2 2:3@5 ", "2:3@5"),
     ("place 3 2:1@5 ", "2@5"),
     ("place 1 2@5 ", "2@5"),
     ("place 1 2:1@5 ", "Text(Word)"),
     ("place 2 2@5 ", "Text(Word)"),
-    // processes that are spelled otherwise
+    // processes with another spelling
     ("to 2 1 ", "Text(Word)"),
     ("to 2 65536:1 ", "Text(Number)"),
     ("to 2 1:0 ", "Text(Number)"),
@@ -169,6 +169,7 @@ pub(crate) const LIVES: [Case; 35] = [
     ("service ", "Text(Truncated)"),
 ];
 
+/// The laws of lives and services can be called.
 #[test]
 fn laws_of_lives_are_called() {
     service_spelling();

@@ -1,4 +1,4 @@
-//! Names: how they are made, written, read and ordered, and what laws say of them.
+//! Names: how they are made, written, read and ordered, and their laws.
 use crate::packet_values::{Case, proc};
 use std::alloc::{AllocError, Global};
 use std::fmt::Display;
@@ -69,7 +69,7 @@ fn written_names(alloc: Global) -> Result<String, AllocError> {
     format!(in alloc; "{} {regular} {last} {sent} {entry}", ring(4, 1))
 }
 
-/// Services, and why reading fails.
+/// Returns the texts of services and of the reasons why reading fails.
 fn written_words(alloc: Global) -> Result<String, AllocError> {
     let end = ReadError::Text(TextFault::Truncated);
     let memory = ReadError::from(AllocError);
@@ -86,7 +86,7 @@ pub(crate) fn memory(text: &str) -> FromRead<&[u8]> {
 
 pub(crate) type Text<'a> = FromRead<&'a [u8]>;
 
-/// What was read as it is written, or why it was not.
+/// Returns what was read as it is written, or why it was not read.
 pub(crate) fn told<T: Display + Drop>(
     alloc: Global,
     answer: Result<T, ReadError>,
@@ -97,7 +97,7 @@ pub(crate) fn told<T: Display + Drop>(
     }
 }
 
-/// Reads the word `entry`, a byte, a number with the byte that ends it, and what comes then.
+/// Reads the word `entry`, a byte, a number with the byte that ends it, and what follows.
 fn read_words(alloc: Global, text: &mut Text) -> Result<String, ReadError> {
     word(text, b"entry", TextFault::Header)?;
     let behind = next(text)?;
@@ -105,7 +105,7 @@ fn read_words(alloc: Global, text: &mut Text) -> Result<String, ReadError> {
     Ok(format!(in alloc; "{behind} {number} {end} {:?}", next(text))?)
 }
 
-/// Returns whether the first configuration is the second, and whether it is below.
+/// Returns whether the first configuration is equal to the second, and whether it is below.
 fn conf_relation(alloc: Global, text: &mut Text) -> Result<String, ReadError> {
     let left = read_conf(text, b' ')?;
     let right = read_conf(text, b' ')?;
@@ -131,7 +131,7 @@ fn place_relation(text: &mut Text) -> Result<bool, ReadError> {
     Ok(left.is_below(&read_place(text, Version::Two, b' ')?))
 }
 
-/// Tells how two names of this kind are related.
+/// Returns how two names of this kind are related.
 fn related(alloc: Global, kind: &str, text: &mut Text) -> Result<String, AllocError> {
     match kind {
         "rings" => told(alloc, ring_relation(alloc, text)),
@@ -141,7 +141,7 @@ fn related(alloc: Global, kind: &str, text: &mut Text) -> Result<String, AllocEr
     }
 }
 
-/// Tells what is read of this kind.
+/// Returns what is read of this kind.
 fn read(alloc: Global, kind: &str, text: &mut Text) -> Result<String, AllocError> {
     match kind {
         "process" => told(alloc, read_proc(text, b' ')),
@@ -155,7 +155,7 @@ fn read(alloc: Global, kind: &str, text: &mut Text) -> Result<String, AllocError
     }
 }
 
-/// Answers in text what is made, written or read.
+/// Returns what is made, written or read, as text.
 pub(crate) fn answer(alloc: Global, words: &str) -> Result<String, AllocError> {
     let (kind, text) = words.split_once(' ').unwrap_or((words, ""));
     match kind {
@@ -199,7 +199,7 @@ pub(crate) const NAMES: [Case; 62] = [
     ),
     ("words exit", "Text(Header)"),
     ("to_nine 10,", "Text(Number)"),
-    // rings that are spelled otherwise
+    // rings with another spelling
     ("ring 0.1 ", "Text(Number)"),
     ("ring 04.1 ", "Text(Number)"),
     ("ring 4294967296.1 ", "Text(Number)"),
@@ -211,7 +211,7 @@ pub(crate) const NAMES: [Case; 62] = [
     ("ring 4.1", "Text(Truncated)"),
     ("ring 4.", "Text(Truncated)"),
     ("ring ", "Text(Truncated)"),
-    // other names that are spelled otherwise
+    // other names with another spelling
     ("conf 4.1 ", "Text(Word)"),
     ("conf R4.1 ", "Text(Word)"),
     ("conf t8.1 ", "Text(Word)"),
@@ -227,14 +227,14 @@ pub(crate) const NAMES: [Case; 62] = [
     ("place 1@4294967296 ", "Text(Number)"),
     ("place 1@01 ", "Text(Number)"),
     ("place 1@", "Text(Truncated)"),
-    // whether the first configuration is the second, and whether it is below
+    // whether the first configuration is equal to the second, and whether it is below
     ("confs t4.1/1 t4.1/1 ", "true false"),
     ("confs r4.1 r4.1 ", "true false"),
     ("confs t4.1/1 t4.1/2 ", "false true"),
     ("confs t4.1/1 r4.1 ", "false false"),
     ("confs r4.1 t4.1/1 ", "false true"),
     ("confs t4.1/2 t4.1/1 ", "false false"),
-    // whether the first is below the second; of rings also whether the second is below the first
+    // whether the first is below the second; for rings also whether the second is below the first
     ("rings 4.9 5.1 ", "true false"),
     ("messages 4.9#3 4.9#4 ", "true"),
     ("messages 4.9#3 5.1#1 ", "true"),
@@ -243,6 +243,7 @@ pub(crate) const NAMES: [Case; 62] = [
     ("places 1:2@9 1:2@9 ", "false"),
 ];
 
+/// The laws of names can be called.
 #[test]
 fn laws_are_called() {
     number_spelling();

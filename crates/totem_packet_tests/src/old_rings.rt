@@ -1,11 +1,11 @@
-//! What the reports of a commit token say of an old ring. Members are given in words, and answers as text.
+//! What the reports of a commit token say about an old ring. Members are given in words, and answers as text.
 use crate::packet_values::{Case, numbers, proc, push, push_made, push_procs, ring, set};
 use std::alloc::{AllocError, Global};
 use totem_ids::Proc;
 use totem_packets::{CommitMember, CommitMembers, Life, Processes, Report};
 
-/// Returns the report with the old ring's number, up to where messages are held, up to where they were handed up, and
-/// the life of who reports. Without these four numbers there is no report.
+/// Returns the report with the old ring's number, up to where messages are held, up to where they were delivered to the node,
+/// and the life of the reporting process. Without these four numbers there is no report.
 fn report(numbers: &[u32], obligation: Processes) -> Option<Report> {
     let [seq, aru, delivered, life] = numbers else {
         return None;
@@ -19,8 +19,8 @@ fn report(numbers: &[u32], obligation: Processes) -> Option<Report> {
     })
 }
 
-/// Returns the member of a word such as `2:4,7,5,1:1,3`: 2 comes from ring 4.1, holds all messages up to 7, has handed
-/// up all up to 5, is in its first life, and owes messages to 1 and 3. The word `2` gives a member without a report.
+/// Returns the member of a word such as `2:4,7,5,1:1,3`: 2 comes from ring 4.1, holds all messages up to 7, has delivered
+/// those up to 5 to its node, is in its first life, and owes messages to 1 and 3. The word `2` gives a member without a report.
 fn member(alloc: Global, word: &str) -> Result<CommitMember, AllocError> {
     let (number, rest) = word.split_once(':').unwrap_or((word, ""));
     let (reported, obligation) = rest.split_once(':').unwrap_or(("", ""));
@@ -39,7 +39,7 @@ fn member_list(alloc: Global, words: &str) -> Result<Vec<CommitMember>, AllocErr
     Ok(list)
 }
 
-/// Adds how far the members from the old ring of this number have come, and to how many processes they owe messages.
+/// Adds how far the members from the old ring with this number have come, and to how many processes they owe messages.
 fn push_counts(
     alloc: Global,
     text: &mut String,
@@ -65,7 +65,7 @@ fn push_lives(alloc: Global, text: &mut String, lives: &[Proc]) -> Result<(), Al
     Ok(())
 }
 
-/// The members in the lives that they report from.
+/// Adds the members in the lives that they report from.
 fn push_all_lives(
     alloc: Global,
     text: &mut String,
@@ -76,7 +76,7 @@ fn push_all_lives(
     push_lives(alloc, text, &lives)
 }
 
-/// Who comes from the old ring of this number, each in the life that it reports from.
+/// Adds the members from the old ring with this number, each in the life that it reports from.
 fn push_lives_from(
     alloc: Global,
     text: &mut String,
@@ -92,7 +92,7 @@ fn push_all(alloc: Global, text: &mut String, members: &CommitMembers) -> Result
     push_procs(alloc, text, all.as_slice())
 }
 
-/// Who comes from the old ring of this number.
+/// Adds the members from the old ring with this number.
 fn push_from(
     alloc: Global,
     text: &mut String,
@@ -103,7 +103,7 @@ fn push_from(
     push_procs(alloc, text, from.as_slice())
 }
 
-/// Returns whether these are the members.
+/// Adds whether these are the members.
 fn push_are(
     alloc: Global,
     text: &mut String,
@@ -114,7 +114,7 @@ fn push_are(
     push_truth(text, members.are(&set))
 }
 
-/// Adds the answer to a word, of these processes, of this one or of the old ring of this number.
+/// Adds the answer to a word, about these processes, this one or the old ring with this number.
 fn push_answer(
     alloc: Global,
     text: &mut String,
@@ -137,7 +137,7 @@ fn push_answer(
     }
 }
 
-/// What the members tell: each word, and its answer.
+/// Returns each word with the members' answer to it.
 fn answers(alloc: Global, members: &CommitMembers, words: &str) -> Result<String, AllocError> {
     let mut text = String::new(alloc);
     for word in words.split_whitespace() {
@@ -164,13 +164,13 @@ pub(crate) const OLD_RINGS: [Case; 6] = [
         "1:4,7,5,1:1,3,6 2:8,1,9,1:2,8 3:4,4,6,1:3,4 ? all from:4 obliged:4 are:1,2,3 are:1,2 are:1,2,4 filled",
         "all 1 2 3; from:4 1 3; obliged:4 1 3 4 6; are:1,2,3 yes; are:1,2 no; are:1,2,4 no; filled yes; ",
     ),
-    // the least that is held, the most that was handed up, and how many are obliged for
+    // the least number that is held up to, the greatest delivered one, and the number of processes in the obligation set
     (
         "1:4,7,5,1:1,3,6 2:8,1,9,1:2,8 3:4,4,6,1:3,4 ? from_four:3 from_four:2 counts:4 counts:12",
         "from_four:3 yes; from_four:2 no; counts:4 4 6 4; counts:12 0 0 0; ",
     ),
     ("1 ? filled from:4", "filled no; from:4; "),
-    // 2 has come back a second time, and 4 has not reported
+    // 2 has returned twice, and 4 has not reported
     (
         "1:4,7,5,1: 2:4,1,9,3: 3:8,4,6,2: 4 ? lives lives_from:4 lives_from:8 lives_from:12",
         "lives yes 1:1 2:3 3:2 4:1; lives_from:4 1:1 2:3; lives_from:8 3:2; lives_from:12; ",

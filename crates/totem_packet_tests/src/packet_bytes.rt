@@ -10,7 +10,7 @@ use totem_packets::{
     PacketFault, Payload, Report, Requests, Round, Token, TokenSeq,
 };
 
-/// The token that the third process of ring 4.1 passes on when nobody holds message 1 yet.
+/// The token that the third process of ring 4.1 passes on if no process holds message 1 yet.
 const TOKEN: [u8; 30] = [
     2, 0, 0, 0, 4, 0, 1, 0, 0, 0, 0, 0, 0, 0, 4, 0, 0, 0, 2, 0, 0, 0, 0, 0, 3, 1, 0, 0, 0, 1,
 ];
@@ -53,7 +53,7 @@ const COMMIT_OF_LIVES: [u8; 29] = [
     5, 0, 0, 0, 8, 0, 1, 1, 1, 0, 1, 1, 0, 2, 0, 0, 0, 4, 0, 1, 0, 0, 0, 0, 0, 0, 0, 0, 0,
 ];
 
-/// The name of a packet, which `packet` makes, and its bytes. A packet with another name is read from its bytes.
+/// The names of packets, which `packet` makes, with their bytes. A packet with another name is read from its bytes.
 const PACKETS: [(&str, &[u8]); 19] = [
     ("token", &TOKEN),
     ("agreed message", &MESSAGE),
@@ -70,7 +70,7 @@ const PACKETS: [(&str, &[u8]); 19] = [
         "message that was read",
         &[1, 0, 0, 0, 4, 0, 1, 0, 0, 0, 1, 0, 2, 1, 0, 1, 120],
     ),
-    // all hold what is told up to 2, and 3 is asked for
+    // all members hold the messages up to 2, and 3 is requested
     (
         "token that was read",
         &[
@@ -78,12 +78,12 @@ const PACKETS: [(&str, &[u8]); 19] = [
             3,
         ],
     ),
-    // 1 would be with 2, which failed; it knows ring number 4
+    // 1 would form a ring with 2, which failed; it knows ring number 4
     (
         "join that was read",
         &[3, 0, 1, 0, 0, 0, 4, 2, 0, 1, 0, 2, 1, 0, 2],
     ),
-    // ring 4.1 of 2, in the second round; it reports ring 4.1, holds up to 3, handed up 2, and is obliged for 1 and 2
+    // ring 4.1 of 2, in the second round; it reports ring 4.1, holds up to 3, delivered up to 2, and owes messages to 1 and 2
     (
         "commit token that was read",
         &[
@@ -99,7 +99,7 @@ const PACKETS: [(&str, &[u8]); 19] = [
             0, 2, 0, 0, 3, 1, 255, 255, 0, 0, 0, 4, 0, 3, 0, 0, 0, 3, 0, 0, 0, 2, 1, 0, 1,
         ],
     ),
-    // the largest packets have their bytes with them
+    // the largest packets have their bytes in `packet_sizes`
     ("largest token", &[]),
     ("largest message", &[]),
     ("largest commit token", &[]),
@@ -169,7 +169,7 @@ fn join(alloc: Global) -> Result<Packet, Fail> {
     }))
 }
 
-/// Process 1, which reports ring 4.1.
+/// Returns process 1 as a member that reports ring 4.1.
 fn reporting(alloc: Global) -> Result<CommitMember, Fail> {
     Ok(CommitMember {
         proc: ProcId::of(1),
@@ -197,7 +197,7 @@ fn commit(alloc: Global) -> Result<Packet, Fail> {
     }))
 }
 
-/// Returns a commit token whose one member reports, in this life, that it came from ring 4.1 with nothing.
+/// Returns a commit token whose one member reports, in this life, that it comes from ring 4.1 with no message.
 fn commit_of_life(alloc: Global, life: u16) -> Result<Packet, Fail> {
     let mut list = Vec::new(alloc);
     list.push(CommitMember {
@@ -217,7 +217,7 @@ fn commit_of_life(alloc: Global, life: u16) -> Result<Packet, Fail> {
     }))
 }
 
-/// Returns the packet of this name, or the one that is read from the bytes if there is no such name.
+/// Returns the packet with this name, or the one that is read from the bytes if there is no such name.
 fn packet(alloc: Global, name: &str, bytes: &[u8]) -> Result<Packet, Fail> {
     match name {
         "token" => token(alloc),
@@ -234,12 +234,12 @@ fn packet(alloc: Global, name: &str, bytes: &[u8]) -> Result<Packet, Fail> {
     }
 }
 
-/// Why these bytes are no packet.
+/// Returns why these bytes are not a packet.
 fn fault_of(alloc: Global, bytes: &[u8]) -> Option<PacketFault> {
     Packet::decode(alloc, bytes).err()
 }
 
-/// Returns whether each proper beginning of the bytes is Short.
+/// Returns whether each proper prefix of the bytes is Short.
 fn is_short_before(alloc: Global, bytes: &[u8]) -> bool {
     for end in 0..bytes.len() {
         if fault_of(alloc, &bytes[..end]) != Some(PacketFault::Short) {
@@ -249,7 +249,7 @@ fn is_short_before(alloc: Global, bytes: &[u8]) -> bool {
     true
 }
 
-/// Returns whether the bytes with one byte more are Trailing.
+/// Returns whether the bytes with one more byte are Trailing.
 fn is_trailing_behind(alloc: Global, bytes: &[u8]) -> Result<bool, AllocError> {
     let mut more = bytes.to_vec(alloc)?;
     more.push(0)?;
@@ -300,12 +300,12 @@ fn is_part_copied(alloc: Global, packet: &Packet) -> Result<bool, AllocError> {
     }
 }
 
-/// What is told of a packet and its bytes.
+/// What is reported of a packet and its bytes if everything holds.
 const ALL_HOLDS: &str =
     "encoded true, decoded true, copied true, in parts true, short true, trailing true";
 
-/// Tells whether the packet has these bytes, is read from them, and is equal to its copy, as are its parts; whether
-/// each proper beginning of the bytes is Short, and whether the bytes with one more are Trailing.
+/// Returns whether the packet has these bytes, is read from them, and is equal to its copy, as are its parts; whether
+/// each proper prefix of the bytes is Short, and whether the bytes with one more byte are Trailing.
 pub(crate) fn told_of_bytes(alloc: Global, packet: &Packet, bytes: &[u8]) -> Result<String, Fail> {
     let is_encoded = is_encoded(alloc, packet, bytes)?;
     let is_decoded = is_decoded(alloc, packet, bytes);
@@ -319,7 +319,7 @@ pub(crate) fn told_of_bytes(alloc: Global, packet: &Packet, bytes: &[u8]) -> Res
     Ok(told)
 }
 
-/// The same, of the packet of this name.
+/// Returns the same for the packet with this name.
 fn told(alloc: Global, name: &str, bytes: &[u8]) -> Result<String, Fail> {
     if bytes.is_empty() {
         return packet_sizes::told(alloc, name);
@@ -328,6 +328,7 @@ fn told(alloc: Global, name: &str, bytes: &[u8]) -> Result<String, Fail> {
     told_of_bytes(alloc, &packet, bytes)
 }
 
+/// Packets are encoded to the bytes that are written out here, and decoded from them.
 #[test]
 fn packets_have_their_bytes(rt: HostRuntime) -> Result<(), Fail> {
     for (name, bytes) in &PACKETS {
@@ -337,7 +338,7 @@ fn packets_have_their_bytes(rt: HostRuntime) -> Result<(), Fail> {
     Ok(())
 }
 
-/// Bytes that are no packet, why they are none, and why they are none without their last byte.
+/// Bytes that are not a packet, the fault, and the fault without the last byte.
 const NO_PACKETS: [(&[u8], &str); 33] = [
     // first bytes of no kind
     (&[0], "Kind Short"),
@@ -346,7 +347,7 @@ const NO_PACKETS: [(&[u8], &str); 33] = [
     (&[6, 0, 0], "Kind Kind"),
     (&[255], "Kind Short"),
     (&[255, 0, 0], "Kind Kind"),
-    // a token that asks for 65 numbers and has one
+    // a token that requests 65 numbers and has one of them
     (
         &[
             2, 0, 0, 0, 4, 0, 1, 0, 0, 0, 0, 0, 0, 0, 4, 0, 0, 0, 2, 0, 0, 0, 0, 0, 3, 65, 0, 0, 0,
@@ -364,7 +365,7 @@ const NO_PACKETS: [(&[u8], &str); 33] = [
         &[1, 0, 0, 0, 4, 0, 1, 0, 0, 0, 1, 0, 1, 0, 4, 1],
         "Range Short",
     ),
-    // a token: its count of passes, 65 numbers, a number 0, a number that does not rise
+    // a token: its count of passes, 65 numbers, a number 0, a number that does not ascend
     (
         &[2, 0, 0, 0, 4, 0, 1, 0, 0, 0, 0, 0, 0, 0, 0],
         "Range Short",
@@ -389,7 +390,7 @@ const NO_PACKETS: [(&[u8], &str); 33] = [
         ],
         "Range Short",
     ),
-    // a join: its number, 33 processes, processes that do not rise
+    // a join: its number, 33 processes, processes that do not ascend
     (&[3, 0, 1, 0, 0, 0, 0], "Range Short"),
     (&[3, 0, 1, 0, 0, 0, 8, 33], "Range Short"),
     (&[3, 0, 1, 0, 0, 0, 8, 2, 0, 2, 0, 1], "Range Short"),
@@ -401,11 +402,11 @@ const NO_PACKETS: [(&[u8], &str); 33] = [
     (&[4, 0, 0, 0, 8, 0, 1, 2, 2, 0, 1, 2], "Range Short"),
     // its second member is not above the first
     (&[4, 0, 0, 0, 8, 0, 1, 2, 2, 0, 1, 0, 0, 1], "Range Short"),
-    // the first byte of a commit token that tells lives, alone
+    // the first byte of a commit token with lives, alone
     (&[5], "Short Short"),
     // a life of 0
     (&[5, 0, 0, 0, 8, 0, 1, 1, 1, 0, 1, 1, 0, 0], "Range Short"),
-    // no life is above the first: it is known at the last byte of the last field, whatever follows
+    // no life is above the first: this is known at the last byte of the last field, whatever follows
     (
         &[
             5, 0, 0, 0, 8, 0, 1, 1, 1, 0, 1, 1, 0, 1, 0, 0, 0, 4, 0, 1, 0, 0, 0, 0, 0, 0, 0, 0, 0,
@@ -419,7 +420,7 @@ const NO_PACKETS: [(&[u8], &str); 33] = [
         ],
         "Range Range",
     ),
-    // the last field is the last process that is owed to, and where nothing is reported the byte that says so
+    // the last field is the last process of the obligation set, and without a report the byte that says so
     (
         &[
             5, 0, 0, 0, 8, 0, 1, 1, 1, 0, 1, 1, 0, 1, 0, 0, 0, 4, 0, 1, 0, 0, 0, 0, 0, 0, 0, 0, 1,
@@ -449,6 +450,7 @@ fn fault_names(alloc: Global, bytes: &[u8]) -> Result<String, AllocError> {
     format!(in alloc; "{} {}", fault_name(alloc, bytes), fault_name(alloc, front))
 }
 
+/// A wrong value is refused as Range at the byte at which it is known, and the bytes before it are Short.
 #[test]
 fn wrong_values_are_known_at_once(rt: HostRuntime) -> Result<(), Fail> {
     for (bytes, wanted) in &NO_PACKETS {

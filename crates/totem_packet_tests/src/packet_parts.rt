@@ -1,4 +1,4 @@
-//! Each constructor of a part of a packet, what it gives back, and what refusals say. Parts are given in words, and
+//! Each constructor of a part of a packet, what it gives back, and the texts of refusals. Parts are given in words, and
 //! answers as text.
 use crate::packet_values::{Case, numbers, proc, procs, push, push_procs};
 use bytes::Bytes;
@@ -12,7 +12,7 @@ use totem_packets::{
     trailing_is_behind_a_packet,
 };
 
-/// Tells how many elements come back, and why they were refused.
+/// Returns the number of elements that are given back, and why they were refused.
 fn refusal(alloc: Global, fault: &ListFault, count: usize) -> Result<String, AllocError> {
     match fault {
         ListFault::Empty => format!(in alloc; "{count} back, none"),
@@ -44,13 +44,13 @@ fn token_seq(alloc: Global, value: u64) -> Result<String, AllocError> {
     }
 }
 
-/// Returns whether the copy of a payload has its bytes.
+/// Returns whether the copy of a payload has the same bytes.
 fn is_payload_copied(payload: &Payload) -> Result<bool, AllocError> {
     let copy = payload.try_clone()?;
     Ok(copy.as_slice() == payload.as_slice())
 }
 
-/// How many bytes a payload has, whether its copy has these bytes, and how many it gives back.
+/// Returns the number of bytes of a payload, whether its copy has the same bytes, and how many it gives back.
 fn kept_payload(alloc: Global, payload: Payload) -> Result<String, AllocError> {
     let is_copied = is_payload_copied(&payload)?;
     let len = payload.as_slice().len();
@@ -58,7 +58,7 @@ fn kept_payload(alloc: Global, payload: Payload) -> Result<String, AllocError> {
     format!(in alloc; "{len} {is_copied} {given_back}")
 }
 
-/// A payload of so many bytes.
+/// Returns the same for a payload of this many bytes, or its refusal.
 fn payload(alloc: Global, count: usize) -> Result<String, AllocError> {
     let bytes = Bytes::from_vec(vec![in alloc; 9; count]?)?;
     match Payload::new(bytes) {
@@ -82,7 +82,7 @@ fn push_requests(alloc: Global, text: &mut String, list: &[Number]) -> Result<()
     Ok(())
 }
 
-/// The numbers of requests, and those of their copy.
+/// Returns the numbers of requests, and those of their copy.
 fn kept_requests(alloc: Global, requests: &Requests) -> Result<String, AllocError> {
     let mut text = String::new(alloc);
     push_requests(alloc, &mut text, requests.as_slice())?;
@@ -98,7 +98,7 @@ fn requests(alloc: Global, list: Vec<Number>) -> Result<String, AllocError> {
     }
 }
 
-/// What the refusal of these numbers says.
+/// Returns the text of the refusal of these numbers.
 fn refused_in_words(alloc: Global, list: Vec<Number>) -> Result<String, AllocError> {
     match Requests::new(list) {
         Ok(_) => String::from_str(alloc, "the numbers were taken"),
@@ -106,7 +106,7 @@ fn refused_in_words(alloc: Global, list: Vec<Number>) -> Result<String, AllocErr
     }
 }
 
-/// The processes of a set, and those of its copy.
+/// Returns the processes of a set, and those of its copy.
 fn kept_processes(alloc: Global, processes: &Processes) -> Result<String, AllocError> {
     let mut text = String::new(alloc);
     push_procs(alloc, &mut text, processes.as_slice())?;
@@ -122,7 +122,7 @@ fn processes(alloc: Global, list: Vec<ProcId>) -> Result<String, AllocError> {
     }
 }
 
-/// Members without report.
+/// Returns members without reports.
 fn member_list(alloc: Global, values: &[u32]) -> Result<Vec<CommitMember>, AllocError> {
     let mut list = Vec::new(alloc);
     for value in values {
@@ -134,7 +134,7 @@ fn member_list(alloc: Global, values: &[u32]) -> Result<Vec<CommitMember>, Alloc
     Ok(list)
 }
 
-/// How many members a copy has, and how many are given back.
+/// Returns the number of members in a copy, and of those given back.
 fn kept_members(alloc: Global, members: CommitMembers) -> Result<String, AllocError> {
     let copied = members.try_clone(alloc)?.as_slice().len();
     format!(in alloc; "{copied} {}", members.into_vec().len())
@@ -147,7 +147,7 @@ fn members(alloc: Global, list: Vec<CommitMember>) -> Result<String, AllocError>
     }
 }
 
-/// What is told of the list of these numbers.
+/// Returns what is made of the list of these numbers.
 fn told_of_list(alloc: Global, kind: &str, values: &[u32]) -> Result<String, AllocError> {
     match kind {
         "requests" => requests(alloc, request_list(alloc, values)?),
@@ -156,7 +156,7 @@ fn told_of_list(alloc: Global, kind: &str, values: &[u32]) -> Result<String, All
     }
 }
 
-/// What is told of a list.
+/// Returns what is made of a list.
 fn listed(alloc: Global, kind: &str, given: &str) -> Result<String, AllocError> {
     if kind == "processes" {
         return processes(alloc, procs(alloc, given)?);
@@ -165,7 +165,7 @@ fn listed(alloc: Global, kind: &str, given: &str) -> Result<String, AllocError> 
     told_of_list(alloc, kind, &numbers)
 }
 
-/// Tells of parts that are known to keep the rules.
+/// Returns parts that are made without a check, because they are known to keep the rules.
 fn known(alloc: Global) -> Result<String, AllocError> {
     let number = Number::of(7).get();
     let (first, ninth) = (Life::first().get(), Life::of(9).get());
@@ -184,7 +184,7 @@ const FAULTS: [PacketFault; 5] = [
     PacketFault::Memory,
 ];
 
-/// The numbers and the names of all faults.
+/// Returns the numbers and the names of all faults.
 fn faults(alloc: Global) -> Result<String, AllocError> {
     let mut text = String::new(alloc);
     for fault in &FAULTS {
@@ -196,7 +196,7 @@ fn faults(alloc: Global) -> Result<String, AllocError> {
     Ok(text)
 }
 
-/// Makes a part of this kind of what follows, and tells of it.
+/// Makes a part of this kind from the words after the kind, and returns what is to be seen of it.
 pub(crate) fn told(alloc: Global, words: &str) -> Result<String, AllocError> {
     let (kind, given) = words.split_once(' ').unwrap_or((words, ""));
     match kind {
@@ -234,6 +234,7 @@ pub(crate) const PARTS: [Case; 21] = [
     ("members 1-33", "33 back, more than 32"),
 ];
 
+/// The laws of packets can be called.
 #[test]
 fn laws_cost_nothing() {
     read_is_spelled();
@@ -248,6 +249,7 @@ fn laws_cost_nothing() {
     memory_is_no_fault_of_bytes();
 }
 
+/// `is_among` says whether a process is in a list.
 #[test]
 fn a_process_is_among_others_or_not(rt: HostRuntime) {
     let procs = [ProcId::of(2), ProcId::of(5)];

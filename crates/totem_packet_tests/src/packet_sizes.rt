@@ -1,4 +1,4 @@
-//! The largest packets, compared with their bytes.
+//! The largest packets, and their bytes.
 use crate::packet_bytes::{OLD, old, told_of_bytes};
 use crate::packet_values::{proc, ring, set};
 use bytes::Bytes;
@@ -10,7 +10,7 @@ use totem_packets::{
     Requests, Round, Token, TokenSeq,
 };
 
-/// A token that asks for the last 64 numbers.
+/// Returns a token that requests the last 64 numbers.
 fn largest_token(alloc: Global) -> Result<Packet, Fail> {
     let mut numbers = Vec::new(alloc);
     for low in 192..256u32 {
@@ -41,7 +41,7 @@ fn largest_token_bytes(alloc: Global) -> Result<Vec<u8>, AllocError> {
     Ok(bytes)
 }
 
-/// An old message of 1,024 bytes.
+/// Returns a carried message of 1,024 bytes.
 fn largest_message(alloc: Global) -> Result<Packet, Fail> {
     let text = vec![in alloc; 7; 1_024]?;
     let payload = Payload::new(Bytes::copy_from_slice(alloc, &text)?)?;
@@ -64,7 +64,7 @@ fn push_all_processes(bytes: &mut Vec<u8>) -> Result<(), AllocError> {
     Ok(())
 }
 
-/// Returns a member that reports ring 4.1 in its last life, where it handed up all that can be.
+/// Returns a member that reports ring 4.1 in its last life, where it delivered the greatest number.
 fn largest_member(alloc: Global, number: u16) -> Result<CommitMember, Fail> {
     Ok(CommitMember {
         proc: proc(number),
@@ -117,7 +117,7 @@ fn largest_join_bytes(alloc: Global) -> Result<Vec<u8>, AllocError> {
     Ok(bytes)
 }
 
-/// The packet of this name.
+/// Returns the packet with this name.
 fn largest(alloc: Global, name: &str) -> Result<Packet, Fail> {
     match name {
         "largest token" => largest_token(alloc),
@@ -127,7 +127,7 @@ fn largest(alloc: Global, name: &str) -> Result<Packet, Fail> {
     }
 }
 
-/// The bytes of the packet of this name.
+/// Returns the bytes of the packet with this name.
 fn largest_bytes(alloc: Global, name: &str) -> Result<Vec<u8>, AllocError> {
     match name {
         "largest token" => largest_token_bytes(alloc),
@@ -137,7 +137,7 @@ fn largest_bytes(alloc: Global, name: &str) -> Result<Vec<u8>, AllocError> {
     }
 }
 
-/// Tells of the packet of this name and its bytes.
+/// Returns what is reported of the packet with this name and its bytes.
 pub(crate) fn told(alloc: Global, name: &str) -> Result<String, Fail> {
     let bytes = largest_bytes(alloc, name)?;
     let packet = largest(alloc, name)?;

@@ -1,9 +1,9 @@
-//! What several modules of tests need.
+//! Values that several modules of tests need.
 use std::alloc::{AllocError, Global};
 use totem_ids::{ProcId, RingId};
 use totem_packets::{Processes, SetFault};
 
-/// What is asked, in words, and what has to be told.
+/// A question in words, and the expected answer.
 pub type Case = (&'static str, &'static str);
 
 pub fn proc(number: u16) -> ProcId {
@@ -47,7 +47,7 @@ pub fn procs(alloc: Global, text: &str) -> Result<Vec<ProcId>, AllocError> {
     Ok(list)
 }
 
-/// Returns the set of these processes, or the empty one if they do not rise.
+/// Returns the set of these processes, or the empty set if they do not ascend.
 pub fn set(alloc: Global, text: &str) -> Result<Processes, AllocError> {
     match Processes::new(procs(alloc, text)?) {
         Ok(set) => Ok(set),

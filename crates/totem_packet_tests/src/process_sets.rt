@@ -10,7 +10,7 @@ fn told_made(alloc: Global, made: Result<Processes, SetFault>) -> Result<String,
     Ok(text)
 }
 
-/// How many processes a set has, and the least.
+/// Returns the number of processes in a set, and the least.
 fn size(alloc: Global, processes: &Processes) -> Result<String, AllocError> {
     match processes.first() {
         None => format!(in alloc; "{} none", processes.len()),
@@ -18,26 +18,26 @@ fn size(alloc: Global, processes: &Processes) -> Result<String, AllocError> {
     }
 }
 
-/// Tells of a process whether it is in the set, whether it is the least, and who follows it.
+/// Returns whether a process is in the set, whether it is the least, and which one follows it.
 fn place(alloc: Global, processes: &Processes, proc: ProcId) -> Result<String, AllocError> {
     let is_there = processes.contains(proc);
     let is_least = processes.is_least(proc);
     format!(in alloc; "{is_there} {is_least} {}", processes.next_after(proc))
 }
 
-/// Returns whether the left set is within the right one, and whether it is the right one.
+/// Returns whether the left set is within the right one, and whether they are equal.
 fn relation(alloc: Global, left: &Processes, right: &Processes) -> Result<String, AllocError> {
     format!(in alloc; "{} {}", left.is_within(right), left.is(right))
 }
 
-/// How many processes are in one of the sets, and who.
+/// Returns the number of processes in the union, and its processes.
 fn union(alloc: Global, left: &Processes, right: &Processes) -> Result<String, AllocError> {
     let mut text = format!(in alloc; "{}:", left.union_len(right))?;
     push_made(alloc, &mut text, left.union(alloc, right))?;
     Ok(text)
 }
 
-/// The left set without the right one.
+/// Returns the left set without the right one.
 fn difference(alloc: Global, left: &Processes, right: &Processes) -> Result<String, AllocError> {
     let mut text = String::new(alloc);
     push_procs(alloc, &mut text, left.without(alloc, right)?.as_slice())?;
@@ -57,7 +57,7 @@ fn told_of_two(
     }
 }
 
-/// What is told of a set and of a process or another set.
+/// Returns the answer about a set and a process or another set.
 fn told_of_one(
     alloc: Global,
     asked: &str,
@@ -84,7 +84,7 @@ fn named(alloc: Global, text: &str) -> Result<Processes, AllocError> {
     }
 }
 
-/// Answers a word, after which stand a set and then a process or another set.
+/// Answers a question, whose first word is followed by a set and then a process or another set.
 pub(crate) fn told(alloc: Global, words: &str) -> Result<String, AllocError> {
     let (asked, rest) = words.split_once(' ').unwrap_or((words, ""));
     let (left, right) = rest.split_once(' ').unwrap_or((rest, ""));
@@ -95,7 +95,7 @@ pub(crate) fn told(alloc: Global, words: &str) -> Result<String, AllocError> {
 pub(crate) const SETS: [Case; 22] = [
     ("size 2,3,5,9", "4 2"),
     ("size none", "0 none"),
-    // whether it is there, whether it is the least, and who follows
+    // whether it is in the set, whether it is the least, and which one follows
     ("place 2,3,5,9 5", "true false 9"),
     ("place 2,3,5,9 4", "false false 2"),
     ("place 2,3,5,9 2", "true true 3"),
@@ -104,7 +104,7 @@ pub(crate) const SETS: [Case; 22] = [
     ("place 2,5,9 5", "true false 9"),
     ("place 2,5,9 9", "true false 2"),
     ("place 7 7", "true true 7"),
-    // whether the first is within the second, and whether it is the second
+    // whether the first is within the second, and whether they are equal
     ("relation 3,9 2,3,5,9", "true false"),
     ("relation 3,4 2,3,5,9", "false false"),
     ("relation 2,3,5,9 2,3,5,9", "true true"),

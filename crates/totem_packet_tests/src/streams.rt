@@ -1,5 +1,5 @@
-//! Sources and sinks that fail on time, that fail as their readers and writers do, and that get pieces: what each call
-//! gives, as text.
+//! Sources and sinks that fail at a given call or as their readers and writers do, and sinks that get pieces. The result of each
+//! call is text.
 use crate::names::{memory, message, place, ring, transitional};
 use crate::packet_values::{Case, push};
 use std::alloc::{AllocError, Global};
@@ -9,7 +9,7 @@ use totem_ids::{
     Buffered, ConfId, Failed, FromRead, Fused, Pieces, Sink, Source, ToWrite, Version, read_ring,
 };
 
-/// Calls a source so many times, and tells each byte, `.` at the end, and `!` where it fails.
+/// Calls a source this many times, and returns each byte, `.` at the end, and `!` where it fails.
 fn given<S: Source>(alloc: Global, source: &mut S, calls: u8) -> Result<String, AllocError> {
     let mut text = String::new(alloc);
     for _ in 0..calls {
@@ -22,7 +22,7 @@ fn given<S: Source>(alloc: Global, source: &mut S, calls: u8) -> Result<String, 
     Ok(text)
 }
 
-/// The bytes that a fused source gives, and those that are left.
+/// Returns the bytes that a fused source gives, and those that are left.
 fn fused_bytes(alloc: Global) -> Result<String, AllocError> {
     let mut source = Fused::new(memory("ab"), 1);
     let mut text = given(alloc, &mut source, 3)?;
@@ -30,7 +30,7 @@ fn fused_bytes(alloc: Global) -> Result<String, AllocError> {
     Ok(text)
 }
 
-/// Tells what is read of a ring from a source that fails after so many calls.
+/// Returns what is read of a ring from a source that fails after this many calls.
 fn fused_ring(alloc: Global, calls: u64) -> Result<String, AllocError> {
     match read_ring(&mut Fused::new(memory("4.10 "), calls), b' ') {
         Ok(ring) => format!(in alloc; "{ring}"),
@@ -38,7 +38,7 @@ fn fused_ring(alloc: Global, calls: u64) -> Result<String, AllocError> {
     }
 }
 
-/// Tells what a sink answers to these pieces: `+` where it takes one, and `!` where it fails.
+/// Returns a sink's answers to these pieces: `+` if it takes one, and `!` if it fails.
 fn answers<S: Sink>(alloc: Global, sink: &mut S, pieces: &[&str]) -> Result<String, AllocError> {
     let mut text = String::new(alloc);
     for piece in pieces {
@@ -55,7 +55,7 @@ pub(crate) fn push_bytes(text: &mut String, bytes: &[u8]) -> Result<(), AllocErr
     Ok(())
 }
 
-/// Tells what a sink that fails after two calls answers to four, and what it holds then.
+/// Returns the answers of a sink that fails after two calls to four pieces, and what it holds then.
 fn fused_sink(alloc: Global) -> Result<String, AllocError> {
     let mut sink = Fused::new(ToWrite::new(Vec::new(alloc)), 2);
     let mut text = answers(alloc, &mut sink, &["4.", "1", "#7", "#7"])?;
@@ -63,7 +63,7 @@ fn fused_sink(alloc: Global) -> Result<String, AllocError> {
     Ok(text)
 }
 
-/// A reader of three bytes that a signal interrupts before each one, and that then fails once.
+/// A reader of three bytes that is interrupted by a signal before each one, and fails once.
 #[derive(Drop)]
 struct Faulty {
     calls: u8,
@@ -97,7 +97,7 @@ fn faulty_buffered_bytes(alloc: Global) -> Result<String, AllocError> {
     given(alloc, &mut Buffered::new(alloc, Faulty { calls: 0 })?, 5)
 }
 
-/// A writer that takes a byte at a time, and fails once it has taken two.
+/// A writer that takes one byte at a time, and fails once after two.
 #[derive(Drop)]
 struct Narrow {
     taken: u8,
@@ -125,7 +125,7 @@ fn narrow_sink(alloc: Global) -> Result<String, AllocError> {
     answers(alloc, &mut sink, &["ab", "", "c"])
 }
 
-/// 70,000 bytes, which are more than a buffer has.
+/// Returns 70,000 bytes, more than a buffer holds.
 fn many_bytes(alloc: Global) -> Result<Vec<u8>, AllocError> {
     let mut bytes = Vec::new(alloc);
     for i in 0..70000u32 {
@@ -144,7 +144,7 @@ fn gives<S: Source>(source: &mut S, bytes: &[u8]) -> bool {
     true
 }
 
-/// Returns whether a buffered source gives all of many bytes, and then twice the end.
+/// Returns whether a buffered source gives all of these many bytes, and then the end twice.
 fn filled_again(alloc: Global) -> Result<String, AllocError> {
     let bytes = many_bytes(alloc)?;
     let mut source = Buffered::new(alloc, bytes.as_slice())?;
@@ -164,7 +164,7 @@ fn put_name<S: Sink>(sink: &mut S, pieces: &mut Pieces, at: u8) -> Result<(), Fa
     }
 }
 
-/// Puts them all, each with a space after it.
+/// Puts all six names, each with a space after it.
 fn put_names<S: Sink>(sink: &mut S, pieces: &mut Pieces) -> Result<(), Failed> {
     for at in 0..6u8 {
         put_name(sink, pieces, at)?;
@@ -174,7 +174,7 @@ fn put_names<S: Sink>(sink: &mut S, pieces: &mut Pieces) -> Result<(), Failed> {
     pieces.flush(sink)
 }
 
-/// What a sink has once names of all kinds were gathered in pieces.
+/// Returns what a sink has after names of all kinds were put in pieces.
 fn gathered(alloc: Global) -> Result<String, AllocError> {
     let mut pieces = Pieces::new(alloc)?;
     let mut sink = ToWrite::new(Vec::new(alloc));
@@ -184,7 +184,7 @@ fn gathered(alloc: Global) -> Result<String, AllocError> {
     Ok(text)
 }
 
-/// 65 lines of 1,024 bytes.
+/// Puts 65 lines of 1,024 bytes.
 fn put_lines<S: Sink>(sink: &mut S, pieces: &mut Pieces) -> Result<(), Failed> {
     let line = [b'x'; 1024];
     for _ in 0..65u32 {
@@ -193,7 +193,7 @@ fn put_lines<S: Sink>(sink: &mut S, pieces: &mut Pieces) -> Result<(), Failed> {
     Ok(())
 }
 
-/// Tells that a sink which fails at its second call holds one piece once 65 lines were put, and the last one can't go out.
+/// Returns whether 65 lines are put and then flushed to a sink that fails at its second call, and how many bytes it holds.
 fn large_piece(alloc: Global) -> Result<String, AllocError> {
     let mut sink = Fused::new(ToWrite::new(Vec::new(alloc)), 1);
     let mut pieces = Pieces::new(alloc)?;
@@ -220,7 +220,7 @@ pub(crate) fn told(alloc: Global, name: &str) -> Result<String, AllocError> {
 }
 
 pub(crate) const STREAMS: [Case; 14] = [
-    // a ring that is read from a source that fails after so many calls
+    // a ring that is read from a source that fails after this many calls
     ("0", "Read"),
     ("1", "Read"),
     ("2", "Read"),

@@ -1,4 +1,4 @@
-//! The tables of questions and answers, and the one test that goes through them.
+//! The tables of questions and answers, and the test that checks all of them.
 use crate::lives::LIVES;
 use crate::names::NAMES;
 use crate::old_rings::OLD_RINGS;
@@ -31,6 +31,7 @@ const TABLES: [(&str, &[Case]); 6] = [
     ("old rings", &OLD_RINGS),
 ];
 
+/// Each question in the tables has its expected answer.
 #[test]
 fn questions_have_their_answers(rt: HostRuntime) -> Result<(), Fail> {
     for (topic, cases) in &TABLES {

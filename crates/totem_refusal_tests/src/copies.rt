@@ -1,4 +1,4 @@
-//! Runs, certificates and what is answered of them are copied, and each copy is made again where it was refused.
+//! Copies of runs, certificates and answers. Each copy that is refused is made again.
 use std::alloc::{AllocError, Global};
 use std::test::Fail;
 use totem_audit::{Verdict, audit};
@@ -7,7 +7,7 @@ use totem_check::{Accepted, CheckFault, check};
 use totem_evs::{Entry, Fault, Log, Run, RunFault, read_run};
 use totem_ids::FromRead;
 
-/// 1 and 2 go on to a ring of their own. 3 stays, has a message pending, and waits for both.
+/// 1 and 2 move on to a ring of their own. 3 stays, has a message pending, and waits for both.
 const PARTED: &str = "totem-run 1
 log 1
 conf r4.1 1 2 3
@@ -37,7 +37,7 @@ pos 3 1 6 7
 end
 ";
 
-/// 1 goes on without the message that it sent.
+/// 1 moves on without the message that it sent.
 const BROKEN: &str = "totem-run 1
 log 1
 conf r4.1 1 2
@@ -104,7 +104,7 @@ fn copied_fault(alloc: Global, fault: &CheckFault) -> Result<CheckFault, AllocEr
     again!(fault.try_clone(alloc))
 }
 
-/// Whether the log and each of its entries is its copy.
+/// Returns whether the log and each of its entries is equal to its copy.
 fn is_copied_log(alloc: Global, log: &Log) -> Result<bool, AllocError> {
     let mut is_copied = log.is(&copied_log(alloc, log)?);
     for entry in log.entries.as_slice() {
@@ -113,7 +113,7 @@ fn is_copied_log(alloc: Global, log: &Log) -> Result<bool, AllocError> {
     Ok(is_copied)
 }
 
-/// Whether the run and each of its logs is its copy.
+/// Returns whether the run and each of its logs is equal to its copy.
 fn is_copied_run(alloc: Global, run: &Run) -> Result<bool, AllocError> {
     let mut is_copied = run.is(&copied_run(alloc, run)?);
     for log in run.logs.as_slice() {
@@ -177,13 +177,14 @@ fn is_copied_answer(
     }
 }
 
-/// Whether the checker's answer is its copy, and whether the run was accepted.
+/// Returns whether the checker's answer is equal to its copy, and whether the run was accepted.
 fn check_copied(alloc: Global, run: &str, certificate: &str) -> Result<(bool, bool), Fail> {
     let run = run_of(alloc, run)?;
     let answer = checked(alloc, &run, &certificate_of(alloc, certificate)?);
     Ok((is_copied_answer(alloc, &answer)?, answer.is_ok()))
 }
 
+/// A run, its logs and their entries are equal to their copies.
 #[test]
 fn runs_logs_and_entries_are_copied(rt: HostRuntime) -> Result<(), Fail> {
     let is_copied = is_copied_run(rt.alloc(), &run_of(rt.alloc(), PARTED)?)?;
@@ -191,6 +192,7 @@ fn runs_logs_and_entries_are_copied(rt: HostRuntime) -> Result<(), Fail> {
     Ok(())
 }
 
+/// A certificate is equal to its copy.
 #[test]
 fn a_certificate_is_copied(rt: HostRuntime) -> Result<(), Fail> {
     let certificate = certificate_of(rt.alloc(), ITS_CERTIFICATE)?;
@@ -199,6 +201,7 @@ fn a_certificate_is_copied(rt: HostRuntime) -> Result<(), Fail> {
     Ok(())
 }
 
+/// Verdicts, a yes and a no, are equal to their copies.
 #[test]
 fn verdicts_are_copied(rt: HostRuntime) -> Result<(), Fail> {
     for text in [PARTED, BROKEN] {
@@ -208,6 +211,7 @@ fn verdicts_are_copied(rt: HostRuntime) -> Result<(), Fail> {
     Ok(())
 }
 
+/// The checker's answers are equal to their copies.
 #[test]
 fn the_checkers_answers_are_copied(rt: HostRuntime) -> Result<(), Fail> {
     let accepted = check_copied(rt.alloc(), PARTED, ITS_CERTIFICATE)?;

@@ -1,5 +1,5 @@
-//! Seeded changes of packets and of a run's text: what is no packet is refused by name, and what is one has these very bytes; a text is
-//! refused part by part as it is as a whole.
+//! Seeded changes of packets and of a run's text. Bytes that are not a packet are refused by name, and a packet has exactly the
+//! bytes from which it was read; a text is refused part by part in the same way as it is as a whole.
 use rand_core::SeedableRng;
 use rand_core::utils::NextWord;
 use rand_pcg::Pcg32;
@@ -9,10 +9,10 @@ use totem_evs::{Next, RunFault, RunReader, read_run};
 use totem_ids::FromRead;
 use totem_packets::{Packet, PacketFault};
 
-/// How often each packet and the text are changed.
+/// The number of times that each packet and the text are changed.
 const TIMES: u32 = 10_000;
 
-/// A token, a message of a client, one that carries an older one, a mark, a Join, and a commit token.
+/// A token, a client's message, one that carries an older message, a mark, a Join, and a commit token.
 const PACKETS: [&[u8]; 6] = [
     &[
         2, 0, 0, 0, 4, 0, 1, 0, 0, 0, 0, 0, 0, 0, 4, 0, 0, 0, 2, 0, 0, 0, 0, 0, 3, 1, 0, 0, 0, 1,
@@ -34,7 +34,7 @@ const PACKETS: [&[u8]; 6] = [
 const RUN: &[u8] =
     b"totem-run 1\nlog 1\nconf r4.1 1 2 3\nsend r4.1 s 4.1#1\ndlv r4.1 4.1#1\nconf t8.1/1 1 2\nconf r8.1 1 2\nopen\nlog 2\nconf r4.1 1 2 3\nconf t8.1/1 1 2\nconf r8.1 1 2\nfail r8.1\nfailed\nlog 3\nconf r4.1 1 2 3\nopen\nend\n";
 
-/// Changes the bytes as a word says, at a place that it says: a byte is another one, is left out or comes twice, or all after it is cut.
+/// Changes the bytes as a random word says, at a place that it gives: replaces, removes or repeats a byte, or cuts the bytes there.
 fn change(bytes: &mut Vec<u8>, word: u32) -> Result<(), AllocError> {
     let at = (word / 1024) as usize % bytes.len().max(1);
     let Some(byte) = bytes.get(at).copied() else {
@@ -60,7 +60,7 @@ fn changed(alloc: Global, words: &mut Pcg32, bytes: &[u8]) -> Result<Vec<u8>, Al
     Ok(changed)
 }
 
-/// What became of changed bytes.
+/// The results for changed bytes.
 #[derive(Clone, Copy)]
 struct Counts {
     taken: u32,
@@ -92,7 +92,7 @@ impl Counts {
         *count = count.saturating_add(1);
     }
 
-    /// Returns whether some were taken, some refused, and all rightly.
+    /// Returns whether some were taken, some were refused, and all as they should be.
     fn are_right(&self) -> bool {
         self.taken > 0 && self.refused > 0 && self.wrong == 0
     }
@@ -110,7 +110,7 @@ fn judge_read(alloc: Global, packet: &Packet, bytes: &[u8]) -> Answer {
     }
 }
 
-/// Decodes the bytes. What they are read as has to have these very bytes.
+/// Decodes the bytes. A packet that is read has to have these very bytes.
 fn judge_packet(alloc: Global, bytes: &[u8]) -> Answer {
     match Packet::decode(alloc, bytes) {
         Ok(packet) => judge_read(alloc, &packet, bytes),
@@ -129,13 +129,13 @@ fn packet_counts(alloc: Global, packet: &[u8]) -> Result<Counts, AllocError> {
     Ok(counts)
 }
 
-/// Returns why the bytes are no run's text, or `None` if they are one.
+/// Returns why the bytes are not a run's text, or `None` if they are one.
 fn fault_of(alloc: Global, bytes: &[u8]) -> Option<RunFault> {
     let mut source = FromRead::new(bytes);
     read_run(alloc, &mut source).err()
 }
 
-/// Returns the same of the bytes read part by part. Each part has one byte at least.
+/// Returns the same for the bytes read part by part. Each part has at least one byte.
 fn fault_of_parts(alloc: Global, bytes: &[u8]) -> Option<RunFault> {
     let mut source = FromRead::new(bytes);
     let mut reader = match RunReader::begin(alloc, &mut source) {
@@ -152,7 +152,7 @@ fn fault_of_parts(alloc: Global, bytes: &[u8]) -> Option<RunFault> {
     Some(RunFault::Memory)
 }
 
-/// Reads the bytes as a whole and part by part. Both have to come to the same.
+/// Reads the bytes as a whole and part by part. Both have to give the same result.
 fn judge_text(alloc: Global, bytes: &[u8]) -> Answer {
     let whole = fault_of(alloc, bytes);
     if whole != fault_of_parts(alloc, bytes) || whole == Some(RunFault::Memory) {
@@ -174,6 +174,7 @@ fn text_counts(alloc: Global) -> Result<Counts, AllocError> {
     Ok(counts)
 }
 
+/// Changed packets are refused, or read as packets with exactly these bytes.
 #[test]
 fn changed_packets_are_refused_or_have_their_bytes(rt: HostRuntime) -> Result<(), Fail> {
     for packet in &PACKETS {
@@ -183,6 +184,7 @@ fn changed_packets_are_refused_or_have_their_bytes(rt: HostRuntime) -> Result<()
     Ok(())
 }
 
+/// Changed texts of a run are refused part by part with the same fault as they are as a whole.
 #[test]
 fn changed_texts_are_refused_by_parts_as_they_are_whole(rt: HostRuntime) -> Result<(), Fail> {
     let counts = text_counts(rt.alloc())?;

@@ -1,4 +1,4 @@
-//! A gathering and a commit token's way round a ring of two, each call made again where it was refused.
+//! A gathering, and a commit token that circulates on a ring of two. Each call that is refused is made again.
 use crate::samples::{four, proc, procs, ring};
 use std::alloc::{AllocError, Global};
 use std::test::Fail;
@@ -23,7 +23,7 @@ fn third(alloc: Global) -> Result<Processes, Fail> {
     Ok(without(alloc, &three, &two)?)
 }
 
-/// Returns a Join of process 2, which knows these processes, and of which these failed.
+/// Returns a Join of process 2, which knows `processes` and gave up `failed`.
 fn join(processes: Processes, failed: Processes) -> Join {
     Join {
         sender: proc(2),
@@ -33,7 +33,7 @@ fn join(processes: Processes, failed: Processes) -> Join {
     }
 }
 
-/// Returns how many members there is consensus on.
+/// Returns the number of members on which there is consensus.
 fn agreed(out: &GatherOut) -> usize {
     match &out.members {
         None => 0,
@@ -45,7 +45,7 @@ fn copied_out(alloc: Global, out: &GatherOut) -> Result<GatherOut, AllocError> {
     again!(out.try_clone(alloc))
 }
 
-/// Returns how many members there is consensus on by a copy.
+/// Returns the same number from a copy.
 fn agreed_by_copy(alloc: Global, out: &GatherOut) -> Result<usize, AllocError> {
     let copy = copied_out(alloc, out)?;
     Ok(agreed(&copy))
@@ -55,19 +55,19 @@ fn on_join(alloc: Global, gathering: &mut Gather, join: &Join) -> Result<GatherO
     again!(gathering.on_join(alloc, join))
 }
 
-/// A Join comes. Returns on how many members there is consensus then.
+/// Takes a Join. Returns the number of members on which there is consensus then.
 fn hear(alloc: Global, gathering: &mut Gather, join: &Join) -> Result<usize, MemberFault> {
     let out = on_join(alloc, gathering, join)?;
     Ok(agreed_by_copy(alloc, &out)?)
 }
 
-/// 2 is heard, which knows 1, 2 and 3.
+/// Takes a Join of 2, which knows 1, 2 and 3.
 fn hear_all(alloc: Global, gathering: &mut Gather) -> Result<usize, Fail> {
     let join = join(set(alloc, 3)?, Processes::none(alloc));
     Ok(hear(alloc, gathering, &join)?)
 }
 
-/// 2 is heard, which has given up 3.
+/// Takes a Join of 2, which has given up 3.
 fn hear_two(alloc: Global, gathering: &mut Gather) -> Result<usize, Fail> {
     let failed = third(alloc)?;
     let join = join(set(alloc, 3)?, failed);
@@ -83,8 +83,8 @@ fn time_out(alloc: Global, gathering: &mut Gather) -> Result<usize, MemberFault>
     Ok(agreed(&out))
 }
 
-/// Process 1 gathers with 2 and 3. 2 is heard, 3 is silent and given up, 2 gives it up too. Returns on how many there is consensus each
-/// time.
+/// Process 1 gathers with 2 and 3: it gets a Join of 2, gives up 3, which is silent, and gets a Join of 2, which gave up 3 too. Returns
+/// the number on which there is consensus each time.
 fn agreements(alloc: Global, gathering: &mut Gather) -> Result<[usize; 3], Fail> {
     let heard = hear_all(alloc, gathering)?;
     let silent = time_out(alloc, gathering)?;
@@ -96,7 +96,7 @@ fn own_join(alloc: Global, gathering: &Gather) -> Result<Join, AllocError> {
     again!(gathering.join(alloc))
 }
 
-/// Returns how many processes the gathering knows.
+/// Returns the number of processes that the gathering knows.
 fn known(alloc: Global, gathering: &Gather) -> Result<usize, AllocError> {
     let join = own_join(alloc, gathering)?;
     Ok(join.processes.as_slice().len())
@@ -106,7 +106,7 @@ fn gathered_set(alloc: Global, gathering: &Gather) -> Result<Processes, AllocErr
     again!(gathering.gathered(alloc))
 }
 
-/// Returns with how many it would form a ring.
+/// Returns the number of processes with which it would form a ring.
 fn gathered(alloc: Global, gathering: &Gather) -> Result<usize, AllocError> {
     let set = gathered_set(alloc, gathering)?;
     Ok(set.as_slice().len())
@@ -116,7 +116,7 @@ fn consensus_set(alloc: Global, gathering: &Gather) -> Result<Option<Processes>,
     again!(gathering.consensus(alloc))
 }
 
-/// Returns with how many it agrees.
+/// Returns the number of processes with which it has consensus.
 fn consensus(alloc: Global, gathering: &Gather) -> Result<usize, AllocError> {
     let set = consensus_set(alloc, gathering)?;
     Ok(match &set {
@@ -125,7 +125,7 @@ fn consensus(alloc: Global, gathering: &Gather) -> Result<usize, AllocError> {
     })
 }
 
-/// Returns how many the gathering knows, would form a ring with, and agrees with.
+/// Returns how many processes the gathering knows, would form a ring with, and has consensus with.
 fn sizes(alloc: Global, gathering: &Gather) -> Result<[usize; 3], AllocError> {
     let known = known(alloc, gathering)?;
     let gathered = gathered(alloc, gathering)?;
@@ -155,12 +155,13 @@ fn gather(alloc: Global) -> Result<Gather, Fail> {
     Ok(begun(alloc, &base)?)
 }
 
-/// Returns on how many a gathering agrees each time, and at last how many a copy of it knows, would form a ring with, and agrees with.
+/// Returns the number of processes with consensus each time, and at last the sizes of a copy: known, gathered, with consensus.
 fn life(alloc: Global) -> Result<([usize; 3], [usize; 3]), Fail> {
     let mut gathering = gather(alloc)?;
     found(alloc, &mut gathering)
 }
 
+/// A gathering reaches consensus on two processes after the third one is given up.
 #[test]
 fn a_gathering_agrees(rt: HostRuntime) -> Result<(), Fail> {
     let found = life(rt.alloc())?;
@@ -172,7 +173,7 @@ fn copied_view(alloc: Global, view: &CommitView) -> Result<CommitView, AllocErro
     again!(view.try_clone(alloc))
 }
 
-/// Returns the view of a member of the ring of 1 and 2, which has filled the token of ring 8.1 if it is in a phase.
+/// Returns the view of a member of the ring of 1 and 2, which has filled the token of ring 8.1 if a phase is given.
 fn view(alloc: Global, me: u16, phase: Option<Phase>) -> Result<CommitView, Fail> {
     let members = set(alloc, 2)?;
     let view = CommitView {
@@ -235,7 +236,7 @@ fn copied_commit(alloc: Global, out: &CommitOut) -> Result<CommitOut, AllocError
     again!(out.try_clone(alloc))
 }
 
-/// Takes the token, and goes on with a copy of what that gives.
+/// Takes the token, and returns a copy of the result.
 fn take(alloc: Global, token: &CommitToken, view: &CommitView) -> Result<CommitOut, MemberFault> {
     let out = taken(alloc, token, view)?;
     Ok(copied_commit(alloc, &out)?)
@@ -253,13 +254,13 @@ fn push(text: &mut String, word: &str) -> Result<(), AllocError> {
     again!(text.push_str(word))
 }
 
-/// Notes what a member did, and lets the token go on.
+/// Notes what a member did, and replaces the token by the one that it sends.
 fn note(text: &mut String, token: &mut CommitToken, out: CommitOut) -> Result<(), AllocError> {
     *token = out.token;
     push(text, name(out.act))
 }
 
-/// Who takes the token in turn, and how far it is by then.
+/// The members that take the token in turn, and their phases then.
 const TURNS: [(u16, Option<Phase>); 4] = [
     (2, None),
     (1, Some(Phase::Commit)),
@@ -285,7 +286,7 @@ fn turns(alloc: Global, text: &mut String, token: &mut CommitToken) -> Result<()
     Ok(())
 }
 
-/// Tells how the members take the token.
+/// Returns how the members take the token.
 fn acts(alloc: Global) -> Result<String, Fail> {
     let mut token = made(alloc)?;
     let mut text = String::new(alloc);
@@ -293,6 +294,7 @@ fn acts(alloc: Global) -> Result<String, Fail> {
     Ok(text)
 }
 
+/// A commit token is filled, entered twice, and started.
 #[test]
 fn a_commit_token_goes_round(rt: HostRuntime) -> Result<(), Fail> {
     assert_eq!(rt;

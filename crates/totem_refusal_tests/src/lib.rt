@@ -1,12 +1,12 @@
-//! Calls that are refused memory and made again, calls that take none, and forged bytes.
+//! Calls that are refused memory and made again, calls that don't allocate, and forged bytes.
 //!
-//! Nothing is refused where these tests run alone. But for those of `forged`, they are made to be run while the k-th request for memory is
-//! refused, for each k (`tests/hostile/run calls`): each passes whichever it is. Those of `starved` pass where all later requests are
-//! refused too.
+//! If these tests run alone, nothing is refused. All but those of `forged` are made to be run while the k-th request for memory is
+//! refused, for each k (`tests/hostile/run calls`), and pass for each k. Those of `starved` also pass if all later requests are
+//! refused.
 #![tactic(auto)]
 
-/// What a call gives that is made again where it was refused. What it is made of is borrowed, or made anew. It stands alone in a function:
-/// a step of it is two of that function's.
+/// Evaluates a call, and evaluates it once more if it was refused. Its arguments are borrowed, or made anew. A function has no other
+/// code around it, because the call stands in it twice and costs twice as much to prove.
 #[cfg(test)]
 macro_rules! again {
     ($call:expr) => {

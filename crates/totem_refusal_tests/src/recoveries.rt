@@ -1,4 +1,4 @@
-//! A ring's messages, a recovery and the finish that is worked out by hand, each call made again where it was refused.
+//! A ring's messages, a recovery, and the finish that is worked out by hand. Each call that is refused is made again.
 use crate::samples::{four, proc, ring, told};
 use bytes::Bytes;
 use std::alloc::{AllocError, Global};
@@ -12,7 +12,7 @@ use totem_packets::{
 use totem_recover::{Recovery, is_ready};
 use totem_ring::{RingFault, RingOut, RingState, first_token};
 
-/// 3 is safe by 3 and 5 safe by 2, the others are agreed; there is a gap at 7.
+/// Messages of which 3 is safe and sent by 3, 5 is safe and sent by 2, and the others are agreed; 7 is missing.
 const OLD_MESSAGES: [(u32, u16, Service); 8] = [
     (1, 1, Service::Agreed),
     (2, 2, Service::Agreed),
@@ -44,7 +44,7 @@ fn once_member(alloc: Global, me: u16) -> Result<RingState, AllocError> {
     RingState::new(alloc, proc(me), four(), &[proc(1), proc(2), proc(3)])
 }
 
-/// Member `me` of ring 4.1 of 1, 2 and 3.
+/// Returns member `me` of ring 4.1 of 1, 2 and 3.
 fn member(alloc: Global, me: u16) -> Result<RingState, AllocError> {
     again!(once_member(alloc, me))
 }
@@ -60,7 +60,7 @@ fn heard_out(
     }
 }
 
-/// A message comes.
+/// Takes a message.
 fn hear(alloc: Global, state: &mut RingState, message: &Message) -> Result<(), RingFault> {
     let _ = heard_out(alloc, state, message)?;
     Ok(())
@@ -70,7 +70,7 @@ fn copied_ring(alloc: Global, state: &RingState) -> Result<RingState, AllocError
     again!(state.try_clone(alloc))
 }
 
-/// Goes on with a copy of the member.
+/// Replaces the member by a copy.
 fn go_on(alloc: Global, state: &mut RingState) -> Result<(), AllocError> {
     let copy = copied_ring(alloc, state)?;
     *state = copy;
@@ -123,7 +123,7 @@ fn token(alloc: Global) -> Result<CommitToken, Fail> {
     })
 }
 
-/// Begins the recovery of 1, or gives nothing if it may not begin.
+/// Begins the recovery of 1, or returns `None` if it may not begin.
 fn once_begun(
     alloc: Global,
     prev: &RingState,
@@ -151,7 +151,7 @@ fn begun_with(alloc: Global, prev: &RingState, token: &CommitToken) -> Result<Re
     }
 }
 
-/// The recovery of 1 as it begins.
+/// Returns the recovery of 1 as it begins.
 pub fn begun_by_1(alloc: Global) -> Result<Recovery, Fail> {
     let prev = heard(alloc, 1)?;
     let token = token(alloc)?;
@@ -162,7 +162,7 @@ fn bodies(alloc: Global, recovery: &Recovery) -> Result<Vec<Body>, AllocError> {
     again!(recovery.next_bodies(alloc))
 }
 
-/// How many bodies a first visit sends.
+/// Returns the number of bodies that a first visit sends.
 fn count(alloc: Global, recovery: &Recovery) -> Result<usize, AllocError> {
     let bodies = bodies(alloc, recovery)?;
     Ok(bodies.len())
@@ -172,7 +172,7 @@ fn entries(alloc: Global, recovery: &Recovery, prev: &RingState) -> Result<Vec<E
     again!(recovery.finish(alloc, prev))
 }
 
-/// What is written as the ring is left.
+/// Returns what is written when the ring is left.
 fn finished(alloc: Global, recovery: &Recovery, prev: &RingState) -> Result<String, AllocError> {
     let entries = entries(alloc, recovery, prev)?;
     told(alloc, &entries)
@@ -214,12 +214,13 @@ fn left(alloc: Global, prev: &RingState) -> Result<(String, usize), Fail> {
     left_with(alloc, prev, &token)
 }
 
-/// What 1 writes as it leaves its old ring, and how many bodies its first visit sends.
+/// Returns what 1 writes when it leaves its old ring, and the number of bodies that its first visit sends.
 fn old_ring_left(alloc: Global) -> Result<(String, usize), Fail> {
     let prev = heard(alloc, 1)?;
     left(alloc, &prev)
 }
 
+/// A member that leaves its old ring writes the finish that is worked out by hand.
 #[test]
 fn the_old_ring_is_left(rt: HostRuntime) -> Result<(), Fail> {
     let (text, bodies) = old_ring_left(rt.alloc())?;
@@ -233,7 +234,7 @@ fn the_old_ring_is_left(rt: HostRuntime) -> Result<(), Fail> {
     Ok(())
 }
 
-/// A body is submitted.
+/// Submits a body.
 fn submit(state: &mut RingState, service: Service) -> Result<(), RingFault> {
     match state.submit(app(service)) {
         Err(RingFault::Memory) => state.submit(app(service)),
@@ -249,7 +250,7 @@ fn visit(alloc: Global, state: &mut RingState) -> Result<RingOut, RingFault> {
     }
 }
 
-/// What a visit sends and hands up.
+/// Returns how many packets a visit sends, and how many messages it delivers to the node.
 fn visited(alloc: Global, state: &mut RingState) -> Result<[usize; 2], RingFault> {
     let out = visit(alloc, state)?;
     Ok([out.packets.len(), out.handed.len()])
@@ -280,14 +281,14 @@ fn submit_two(state: &mut RingState) -> Result<(), RingFault> {
     submit(state, Service::Agreed)
 }
 
-/// What a member sends, hands up and sends again that has two bodies.
+/// Returns how many packets a member with two bodies sends, delivers to the node and sends again.
 fn first_visit(alloc: Global, state: &mut RingState) -> Result<[usize; 3], RingFault> {
     submit_two(state)?;
     let [sent, handed] = visited(alloc, state)?;
     Ok([sent, handed, resent(alloc, state)?])
 }
 
-/// What a member holds once it has adopted a message, and how many bodies wait.
+/// Returns how many messages a member holds after it has adopted one, and how many bodies wait.
 fn adopts(state: &mut RingState) -> Result<[usize; 2], RingFault> {
     adopt(state, &message(4, 2, Service::Agreed))?;
     Ok([state.held().len(), state.waiting().len()])
@@ -302,13 +303,14 @@ fn lived(alloc: Global, state: &mut RingState) -> Result<[usize; 5], Fail> {
     Ok([sent, handed, again, held, waiting])
 }
 
-/// A member submits two bodies and gets the first token: what it sends and hands up, and sends again; and what it holds once it has
-/// adopted a message. The second time the token is a repeat.
+/// Returns the numbers for a member that submits two bodies, takes the first token, and adopts a message. The first token is a repeat
+/// when it arrives again.
 fn ring_life(alloc: Global) -> Result<[usize; 5], Fail> {
     let mut state = member(alloc, 1)?;
     lived(alloc, &mut state)
 }
 
+/// A member of a ring submits, takes a token, sends again and adopts, although calls are refused.
 #[test]
 fn a_member_of_a_ring_goes_on(rt: HostRuntime) -> Result<(), Fail> {
     assert_eq!(rt; ring_life(rt.alloc())?, [3, 2, 1, 3, 0]);

@@ -14,7 +14,7 @@ use totem_packets::Packet;
 /// Packets on their way, each with its receiver.
 pub type Queue = VecDeque<(ProcId, Packet)>;
 
-/// One more packet, after the others.
+/// Appends a packet.
 pub fn put(queue: &mut Queue, item: (ProcId, Packet)) -> Result<(), AllocError> {
     match queue.push_back(item) {
         Ok(()) => Ok(()),
@@ -38,7 +38,7 @@ fn once_told(alloc: Global, entries: &[Entry]) -> Result<String, AllocError> {
     format!(in alloc; "{}", Lines(entries))
 }
 
-/// The entries as lines of a run's text, with `;` for a line's end.
+/// Returns the entries as lines of a run's text, with `;` for a line's end.
 pub fn told(alloc: Global, entries: &[Entry]) -> Result<String, AllocError> {
     again!(once_told(alloc, entries))
 }
@@ -78,7 +78,7 @@ pub fn first(alloc: Global, last: u16) -> Result<Members, Fail> {
     first_lives(alloc, &procs(alloc, last)?)
 }
 
-/// A client's message `x`.
+/// Returns a client's message `x`.
 pub fn submit() -> Input {
     Input::Submit {
         service: Service::Agreed,
@@ -86,7 +86,7 @@ pub fn submit() -> Input {
     }
 }
 
-/// A ring with the representative 1.
+/// Returns a ring with the representative 1.
 pub fn ring(seq: u32) -> RingId {
     RingId {
         seq: seq.max(1),
@@ -94,7 +94,7 @@ pub fn ring(seq: u32) -> RingId {
     }
 }
 
-/// Ring 4.1.
+/// Returns ring 4.1.
 pub fn four() -> RingId
     ensures { result ≡ record { seq = 4; rep = 1 } }
 {

@@ -1,11 +1,11 @@
-//! Commit tokens by direct calls: the members' views as words, and what they do as text.
+//! Commit tokens by direct calls: the members' views are given in words, and what the members do is text.
 use crate::values::{Case, part, proc, push, push_procs, push_truth, ring, set};
 use std::alloc::{AllocError, Global};
 use totem_ids::RingId;
 use totem_member::{CommitOut, CommitView, MemberFault, Phase, first_commit, on_commit};
 use totem_packets::{CommitToken, Life, Number, Report, Round};
 
-/// Returns how far a member is: the ring whose token it has filled, its phase, and whether it has started that ring.
+/// Returns the state of a member: the ring whose token it has filled, its phase, and whether it has started that ring.
 fn stage(name: &str) -> (Option<RingId>, Phase, bool) {
     match name {
         "filled" => (Some(ring(8)), Phase::Commit, false),
@@ -29,8 +29,8 @@ fn view(alloc: Global, word: &str) -> Result<CommitView, AllocError> {
     })
 }
 
-/// Returns the report of a member that comes from ring 4.1. Behind its view a word may give the aru, which is 3
-/// otherwise, the obligation set, and the life, which is the first otherwise.
+/// Returns the report of a member that comes from ring 4.1. After its view a word may give the aru (3 by
+/// default), the obligation set, and the life (the first by default).
 fn report(alloc: Global, word: &str) -> Result<Report, AllocError> {
     Ok(Report {
         life: Life::of(part(word, 6).parse::<u16>().unwrap_or(1).max(1)),
@@ -87,7 +87,7 @@ fn taken_by_copy(alloc: Global, token: &CommitToken, word: &str) -> Result<Commi
     take_by_copy(alloc, token, &view, word)
 }
 
-/// Adds the token's ring, its round, whether all have reported, and who has.
+/// Adds the token's ring, its round, whether all members have reported, and which ones have.
 fn push_token(alloc: Global, text: &mut String, token: &CommitToken) -> Result<(), AllocError> {
     push(text, format!(in alloc; "{} {:?}", token.ring, token.round))?;
     push_truth(text, token.members.is_filled())?;
@@ -99,7 +99,7 @@ fn push_token(alloc: Global, text: &mut String, token: &CommitToken) -> Result<(
     Ok(())
 }
 
-/// Adds what a member did, and in which round the token goes on.
+/// Adds what a member did, and the round of the token that it sends.
 fn push_out(alloc: Global, text: &mut String, out: &CommitOut) -> Result<(), AllocError> {
     push(
         text,
@@ -107,13 +107,13 @@ fn push_out(alloc: Global, text: &mut String, out: &CommitOut) -> Result<(), All
     )
 }
 
-/// Adds the same of a copy.
+/// Adds the same for a copy.
 fn push_copy(alloc: Global, text: &mut String, out: &CommitOut) -> Result<(), AllocError> {
     let copy = out.try_clone(alloc)?;
     push_out(alloc, text, &copy)
 }
 
-/// Lets the token that was taken go on, and adds what the member did, with what a copy of its answer says.
+/// Replaces the token by the one that was sent, and adds what the member did and what a copy of its answer says.
 fn push_answer(
     alloc: Global,
     text: &mut String,
@@ -130,8 +130,8 @@ fn push_answer(
     }
 }
 
-/// Does what one word says: `token` tells of the token, `second` sets its second round, and any other word lets a
-/// member take it, after `copied-` by a copy.
+/// Does what one word says: `token` shows the token, `second` sets its second round, and any other word lets a
+/// member take it; after `copied-` a copy takes it.
 fn push_step(
     alloc: Global,
     text: &mut String,
@@ -150,7 +150,7 @@ fn push_step(
     }
 }
 
-/// What the words tell of a token, each with `; ` after it.
+/// Returns what the words show of a token, each with `; ` after it.
 fn steps(alloc: Global, token: &mut CommitToken, words: &str) -> Result<String, AllocError> {
     let mut text = String::new(alloc);
     for word in words.split_whitespace() {
@@ -175,7 +175,7 @@ pub(crate) fn told(alloc: Global, words: &str) -> Result<String, AllocError> {
 
 /// 1, 2 and 3 know ring number 4, so ring 8.1 is formed.
 pub(crate) const COMMITS: [Case; 17] = [
-    // the least makes the token and reports, each other one fills it, and all have reported in the first round
+    // the least makes the token and reports, each other member fills it, and all have reported in the first round
     (
         "1:1-3:4 token 2:1-3:4 token 3:1-3:4 token",
         "8.1 First no 1; Filled First; 8.1 First no 1 2; Filled First; 8.1 First yes 1 2 3; ",
@@ -185,7 +185,7 @@ pub(crate) const COMMITS: [Case; 17] = [
         "1:1-3:4 2:1-3:4 3:1-3:4 1:1-3:8:filled",
         "Filled First; Filled First; Entered Second; ",
     ),
-    // the others enter it in the second, and the least starts it
+    // the others enter it in the second round, and the least starts it
     (
         "1:1-3:4 2:1-3:4 3:1-3:4 second 2:1-3:8:filled",
         "Filled First; Filled First; ; Entered Second; ",
@@ -198,7 +198,7 @@ pub(crate) const COMMITS: [Case; 17] = [
         "1:1-3:4 2:1-3:4 3:1-3:4 second 1:1-3:8:recovers",
         "Filled First; Filled First; ; Started Second; ",
     ),
-    // another one waits for the second round
+    // another member waits for the second round
     (
         "1:1-3:4 2:1-3:4 3:1-3:4 2:1-3:8:filled",
         "Filled First; Filled First; Stale; ",
@@ -212,23 +212,23 @@ pub(crate) const COMMITS: [Case; 17] = [
         "1:1-3:4 2:1-3:4 3:1-3:4 second 1:1-3:8:started",
         "Filled First; Filled First; ; Stale; ",
     ),
-    // a token of other members, and one of a ring that is not newer
+    // a token of other members, and a token of a ring that is not newer
     ("1:1-3:4 2:1-2:4", "Stale; "),
     ("1:1-3:4 2:1-3:8", "Stale; "),
-    // 1 would report the aru 4 and not 3
+    // 1 would report the aru 4, but has reported 3
     (
         "1:1-3:4 2:1-3:4 3:1-3:4 1:1-3:8:filled:4",
         "Filled First; Filled First; Stale; ",
     ),
-    // 1 would report its second life, and has reported the first
+    // 1 would report its second life, but has reported the first
     (
         "1:1-3:4 2:1-3:4 3:1-3:4 1:1-3:8:filled:::2",
         "Filled First; Filled First; Stale; ",
     ),
-    // ring numbers end
+    // no ring number is left
     ("1:1-3:4294967291 token", "4294967295.1 First no 1; "),
     ("1:1-3:4294967292 token", "Range"),
-    // 1 is obliged for 3 to 19, 2 for the rest: with themselves 32 and 33
+    // 1 owes messages to 3 to 19, 2 to the rest: with themselves 32 and 33
     (
         "1:1-2:4:::3-19 2:1-2:4:::18-32 1:1-2:8:filled::3-19",
         "Filled First; Entered Second; ",

@@ -1,7 +1,7 @@
 //! Two old rings become one: members 1 and 2 come from ring 4.1 and member 3 from 8.3, and all three form ring 12.1.
 //!
 //! Ring 4.1 had the members 1, 2 and 4. Message 1 is agreed, of 1, and both hold it; 2 is agreed, of 4, and only 1
-//! holds it; 3 is safe, of 2, and both hold it; nobody holds 4; 5 is agreed, of 4, and only 1 holds it; 6 is agreed, of
+//! holds it; 3 is safe, of 2, and both hold it; neither holds 4; 5 is agreed, of 4, and only 1 holds it; 6 is agreed, of
 //! 2, and only 2 holds it. So the least aru is 1, the greatest delivered number 2, and O has 1 and 2.
 use crate::recovery_samples::{begun_with, heard_ring, push_left, ring_of, ring_with};
 use crate::values::{Case, proc, push, ring};
@@ -19,7 +19,7 @@ struct Node {
     recovery: Recovery,
 }
 
-/// Makes a member that comes from an old ring of these processes, with these messages of it.
+/// Returns a member that comes from an old ring of these processes, with these messages of it.
 fn make_node(
     alloc: Global,
     me: u16,
@@ -96,7 +96,7 @@ impl Node {
         Ok(())
     }
 
-    /// Takes what another member's visit broadcast. What this member sent itself is a repeat to it.
+    /// Takes what a member's visit broadcast. To the member that sent it, it is a repeat.
     fn hear_all(&mut self, alloc: Global, out: &RingOut) -> Result<(), Fail> {
         for (to, packet) in &out.packets {
             if let (To::All, Packet::Message(message)) = (to, packet) {
@@ -117,7 +117,7 @@ fn passed_on(alloc: Global, out: &RingOut) -> Result<Token, Fail> {
     Ok(token.try_clone(alloc)?)
 }
 
-/// The three members, the token that was passed on last, and at which turns, counted from 0, a member was done.
+/// The three members, the token that was passed on last, and the turns, counted from 0, at which a member was done.
 #[derive(Drop)]
 struct World {
     nodes: Vec<Node>,
@@ -126,7 +126,7 @@ struct World {
 }
 
 impl World {
-    /// Lets the member whose turn it is take the token.
+    /// Lets the member take the token whose turn it is.
     fn visit(&mut self, alloc: Global, turn: usize) -> Result<RingOut, Fail> {
         let Some(node) = self.nodes.get_mut(turn % 3) else {
             return Err("no such member".into());
@@ -138,7 +138,7 @@ impl World {
         Ok(out)
     }
 
-    /// Lets the other members hear what a visit sent.
+    /// Gives the other members what a visit sent.
     fn hear(&mut self, alloc: Global, out: &RingOut) -> Result<(), Fail> {
         for node in self.nodes.iter_mut() {
             node.hear_all(alloc, out)?;
@@ -154,7 +154,7 @@ impl World {
     }
 }
 
-/// Adds of each member its number, the last mark, and to how many processes it owes messages.
+/// Adds for each member its number, the last mark, and to how many processes it owes messages.
 fn push_marks(alloc: Global, text: &mut String, nodes: &[Node]) -> Result<(), AllocError> {
     for node in nodes {
         let last = node.recovery.last_mark(&node.ring).unwrap_or(0);
@@ -167,7 +167,7 @@ fn push_marks(alloc: Global, text: &mut String, nodes: &[Node]) -> Result<(), Al
     Ok(())
 }
 
-/// Adds what each member writes as it leaves its old ring.
+/// Adds what each member writes when it leaves its old ring.
 fn push_all_left(alloc: Global, text: &mut String, nodes: &[Node]) -> Result<(), AllocError> {
     for node in nodes {
         push_left(alloc, text, &node.recovery, &node.prev)?;
@@ -176,7 +176,7 @@ fn push_all_left(alloc: Global, text: &mut String, nodes: &[Node]) -> Result<(),
     Ok(())
 }
 
-/// Adds at which turns a member was done, and how many members are.
+/// Adds the turns at which a member was done, and how many members are done.
 fn push_done(alloc: Global, text: &mut String, world: &World) -> Result<(), AllocError> {
     for turn in &world.done_at {
         push(text, format!(in alloc; "{turn} "))?;
@@ -204,7 +204,7 @@ fn push_asked(
     }
 }
 
-/// Passes the token for so many turns, and then answers what is asked.
+/// Passes the token this many times, and then answers what is asked.
 fn turns(alloc: Global, world: &mut World, turns: usize, asked: &str) -> Result<String, Fail> {
     for turn in 0..turns {
         world.turn(alloc, turn)?;
@@ -229,13 +229,13 @@ pub(crate) fn told(alloc: Global, words: &str) -> Result<String, Fail> {
     )
 }
 
-/// How many turns the token is passed and what is asked then, and the answer.
+/// The number of turns of the token, what is asked after them, and the answer.
 pub(crate) const EXCHANGES: [Case; 4] = [
-    // each sends its list: 1 to 4 are of 1, 5 to 7 of 2, 8 of 3; whoever comes last holds all marks, and owes messages to itself
+    // each sends its list: 1 to 4 are of 1, 5 to 7 of 2, 8 of 3; the last member holds all marks, and owes messages to itself
     ("3 marks", "1: 8 0; 2: 8 0; 3: 8 1; "),
-    // nobody is done in the first round
+    // no member is done in the first round
     ("3 done", "by 0"),
-    // who has seen the token leave twice with the last number is done: first the third, then the others
+    // a member is done when it has passed the token on twice with the last number: first the third, then the others
     ("9 done", "5 6 7 8 by 3"),
     (
         "9 left",

@@ -1,17 +1,17 @@
-//! Gatherings by direct calls: Joins as words, and what is asked of a gathering as text.
+//! Gatherings by direct calls: Joins are given in words, and what a gathering answers is text.
 use crate::values::{Case, part, proc, push, push_procs, set};
 use std::alloc::{AllocError, Global};
 use totem_member::{Gather, GatherOut, MemberFault};
 use totem_packets::{Join, Number, Processes, SetFault};
 
-/// Lets process `me` gather with these processes.
+/// Returns the gathering of process `me` with these processes.
 fn gather(alloc: Global, me: u16, base: &str) -> Result<Gather, SetFault> {
     let base = set(alloc, base)?;
     Gather::new(alloc, proc(me), &base, Number::of(4))
 }
 
-/// Returns the Join of a word such as `4:2:1,2:3`: process 2 has heard of ring number 4, and tells that it knows 1 and
-/// 2, and that 3 failed.
+/// Returns the Join of a word such as `4:2:1,2:3`: process 2 has heard of ring number 4, knows 1 and
+/// 2, and gave up 3.
 fn join_of(alloc: Global, word: &str) -> Result<Join, AllocError> {
     let processes = set(alloc, part(word, 2))?;
     Ok(Join {
@@ -22,7 +22,7 @@ fn join_of(alloc: Global, word: &str) -> Result<Join, AllocError> {
     })
 }
 
-/// A gathering, and what its last step gave.
+/// A gathering, and the result of its last step.
 #[derive(Drop)]
 struct Step {
     gathering: Gather,
@@ -51,14 +51,14 @@ fn copied_join(alloc: Global, gathering: &Gather) -> Result<Join, AllocError> {
     copy.join(alloc)
 }
 
-/// Adds the Join of a copy of the gathering: its sender, and who is known.
+/// Adds the Join of a copy of the gathering: its sender, and the processes it knows.
 fn push_join(alloc: Global, text: &mut String, gathering: &Gather) -> Result<(), AllocError> {
     let join = copied_join(alloc, gathering)?;
     push(text, format!(in alloc; " {}:", join.sender))?;
     push_procs(alloc, text, join.processes.as_slice())
 }
 
-/// Adds the members in a copy of what a step gave.
+/// Adds the members in a copy of a step's result.
 fn push_copy(alloc: Global, text: &mut String, out: &GatherOut) -> Result<(), AllocError> {
     let copy = out.try_clone(alloc)?;
     push_maybe(alloc, text, &copy.members)
@@ -109,7 +109,7 @@ impl Step {
         self.takes(text, answer)
     }
 
-    /// Adds what this word asks: of the last step whether its Join is to be broadcast anew and on whom there is
+    /// Adds what this word asks: of the last step whether its Join is to be broadcast again and on which members there is
     /// consensus, and otherwise of the gathering.
     fn asked(&self, alloc: Global, text: &mut String, word: &str) -> Result<(), AllocError> {
         match word {
@@ -126,7 +126,7 @@ impl Step {
         text.push_str("; ")
     }
 
-    /// Does what one word says: `timeout`, a Join that comes, or a question.
+    /// Does what one word says: `timeout`, a Join that is taken, or a question.
     fn does(&mut self, alloc: Global, text: &mut String, word: &str) -> Result<(), AllocError> {
         if word == "timeout" {
             return self.ends(alloc, text);
@@ -146,7 +146,7 @@ impl Step {
     }
 }
 
-/// Lets process 1 gather with these processes, does what the words say, and tells what they ask.
+/// Lets process 1 gather with these processes, does what the words say, and returns what they ask.
 fn life(alloc: Global, base: &str, words: &str) -> Result<String, AllocError> {
     match gather(alloc, 1, base) {
         Ok(gathering) => begun(alloc, gathering, words),
@@ -162,7 +162,7 @@ fn begun(alloc: Global, gathering: Gather, words: &str) -> Result<String, AllocE
     Step { gathering, out }.lives(alloc, words)
 }
 
-/// Tells how process `me` gathers with 1 to 32.
+/// Returns how process `me` gathers with 1 to 32.
 fn gathers_with_32(alloc: Global, me: u16) -> Result<String, AllocError> {
     match gather(alloc, me, "1-32") {
         Ok(gathering) => format!(in alloc; "{} gathers", gathering.me()),
@@ -170,7 +170,7 @@ fn gathers_with_32(alloc: Global, me: u16) -> Result<String, AllocError> {
     }
 }
 
-/// Returns the Join of a process that knows of itself alone.
+/// Returns the Join of a process that knows only itself.
 fn join_of_one(alloc: Global, me: u16) -> Result<Join, SetFault> {
     let gathering = gather(alloc, me, "")?;
     Ok(gathering.join(alloc)?)
@@ -185,7 +185,7 @@ fn hear_one(alloc: Global, gathering: &mut Gather, me: u16) -> Result<String, Se
     Ok(String::from_str(alloc, answer)?)
 }
 
-/// Tells how process 32, which gathers with 1 to 32, hears of this one.
+/// Returns what process 32, which gathers with 1 to 32, does with a Join of this process.
 fn heard_by_32(alloc: Global, me: u16) -> Result<String, SetFault> {
     let mut gathering = gather(alloc, 32, "1-32")?;
     hear_one(alloc, &mut gathering, me)
@@ -208,7 +208,7 @@ fn agrees_after(alloc: Global, gathering: &mut Gather, join: &Join, all: &Proces
     }
 }
 
-/// Lets the gathering take the Joins of all others. Returns whether it has consensus on this set at last.
+/// Lets the gathering take the Joins of all others. Returns whether it has consensus on this set in the end.
 fn agrees_on(alloc: Global, gathering: &mut Gather, joins: &[Join], all: &Processes) -> bool {
     let mut agrees = false;
     for join in joins {
@@ -219,7 +219,7 @@ fn agrees_on(alloc: Global, gathering: &mut Gather, joins: &[Join], all: &Proces
     agrees
 }
 
-/// Lets each gathering take the Joins of all others. Returns how many have consensus on this set at last.
+/// Lets each gathering take the Joins of all others. Returns how many have consensus on this set in the end.
 fn agreed(alloc: Global, gathers: &mut [Gather], all: &Processes) -> Result<u32, AllocError> {
     let joins = joins(alloc, gathers)?;
     let mut count = 0u32;
@@ -231,7 +231,7 @@ fn agreed(alloc: Global, gathers: &mut [Gather], all: &Processes) -> Result<u32,
     Ok(count)
 }
 
-/// Tells how many have consensus on this set after three rounds of Joins.
+/// Returns how many have consensus on this set after three rounds of Joins.
 fn agreed_at_last(
     alloc: Global,
     gathers: &mut [Gather],
@@ -242,7 +242,7 @@ fn agreed_at_last(
     format!(in alloc; "{} agree", agreed(alloc, gathers, all)?)
 }
 
-/// Lets each process begin alone.
+/// Returns a gathering of each process alone.
 fn alone(alloc: Global, all: &Processes) -> Result<Vec<Gather>, SetFault> {
     let none = Processes::none(alloc);
     let mut gathers = Vec::new(alloc);
@@ -252,7 +252,7 @@ fn alone(alloc: Global, all: &Processes) -> Result<Vec<Gather>, SetFault> {
     Ok(gathers)
 }
 
-/// Tells how many of these processes, which begin alone, have consensus on all of them at last.
+/// Returns how many of these processes, which begin alone, have consensus on all of them in the end.
 fn agree_at_last(alloc: Global, all: &Processes) -> Result<String, SetFault> {
     let mut gathers = alone(alloc, all)?;
     Ok(agreed_at_last(alloc, &mut gathers, all)?)
@@ -265,7 +265,7 @@ const FAULTS: [MemberFault; 4] = [
     MemberFault::Memory,
 ];
 
-/// The numbers and the names of all faults.
+/// Returns the numbers and the names of all faults.
 fn faults(alloc: Global) -> Result<String, AllocError> {
     let mut text = String::new(alloc);
     for fault in &FAULTS {
@@ -284,8 +284,8 @@ fn or_fault(alloc: Global, answer: Result<String, SetFault>) -> Result<String, A
     }
 }
 
-/// Tells what the words ask. The first word says which: a process gathers with 1 to 32, process 32 hears of another,
-/// some processes agree on one set, or 1 gathers with the processes that it names and does what the others say.
+/// Returns what the words ask. The first word says what is done: a process gathers with 1 to 32, process 32 gets another's Join,
+/// some processes agree on one set, or 1 gathers with the processes that the word lists and does what the other words say.
 pub(crate) fn told(alloc: Global, words: &str) -> Result<String, AllocError> {
     let (first, rest) = words.split_once(' ').unwrap_or((words, ""));
     let number = rest.parse::<u16>().unwrap_or(0);
@@ -303,7 +303,7 @@ pub(crate) fn told(alloc: Global, words: &str) -> Result<String, AllocError> {
 
 pub(crate) const GATHERINGS: [Case; 11] = [
     ("faults", "1 Stranger 2 Stale 3 Range 4 Memory "),
-    // a gathering begins with me
+    // a gathering begins with the process itself
     (
         "2 me seq known failed gathered consensus join",
         "me 1; seq 4; known 1 2; failed; gathered 1 2; consensus none; join 1: 1 2; ",
@@ -313,7 +313,7 @@ pub(crate) const GATHERINGS: [Case; 11] = [
         "2 4:2:1,2: again copied members",
         "again no; copied 1 2; members 1 2; ",
     ),
-    // news are told anew
+    // new processes are broadcast again
     (
         "2 8:3:3,4:4 again members known failed seq",
         "again yes; members none; known 1 2 3 4; failed 4; seq 8; ",
@@ -323,7 +323,7 @@ pub(crate) const GATHERINGS: [Case; 11] = [
         "2,3 4:2:1-3: members timeout again failed members 4:2:1-3:3 members",
         "members none; again yes; failed 3; members none; members 1 2; ",
     ),
-    // who fails me has failed
+    // a process that gives me up has failed
     (
         "2 4:2:1,2,7:1 again known failed members 4:2:1,2:",
         "again yes; known 1 2; failed 2; members 1; Stranger",

@@ -13,7 +13,7 @@ use totem_recover::{
 };
 use totem_ring::{RingOut, RingState, To};
 
-/// Returns ring 4.1 of 1, 2 and 3 as 1 sees it once these messages have come.
+/// Returns ring 4.1 of 1, 2 and 3 as 1 sees it after it has taken these messages.
 fn old_ring(alloc: Global, messages: &str) -> Result<RingState, Fail> {
     heard_ring(alloc, proc(1), ring(4), "1-3", messages)
 }
@@ -23,20 +23,20 @@ fn begun(alloc: Global, prev: &RingState, members: &str) -> Result<Recovery, Fai
     begun_with(alloc, proc(1), prev, ring(8), members)
 }
 
-/// Returns up to which number messages are handed up once these have come.
+/// Returns up to which number messages are delivered to the node after it has taken these.
 fn handed(alloc: Global, messages: &str) -> Result<u32, Fail> {
     let prev = old_ring(alloc, messages)?;
     Ok(prev.handed())
 }
 
-/// Tells what is written as the ring is left once these messages have come, if these are the new ring's members.
+/// Returns what is written when the ring is left after these messages, if these are the new ring's members.
 fn left_with(alloc: Global, messages: &str, members: &str) -> Result<String, Fail> {
     let prev = old_ring(alloc, messages)?;
     let recovery = begun(alloc, &prev, members)?;
     told_left(alloc, &recovery, &prev)
 }
 
-/// Tells what is written as the ring is left once these messages have come. 1 and 2 come from 4.1, and 2 has handed up to 3.
+/// Returns what is written when the ring is left after these messages. 1 and 2 come from 4.1, and 2 has delivered up to 3.
 fn left(alloc: Global, messages: &str) -> Result<String, Fail> {
     left_with(alloc, messages, "1:4.1:6:2 2:4.1:6:3")
 }
@@ -84,7 +84,7 @@ fn to_all(number: u32, sender: u16, body: Body) -> (To, Packet) {
     )
 }
 
-/// Returns what a visit of 1 sends: message 1 of 2, which was asked for, and messages of its own from `first` on and below `end`.
+/// Returns what a visit of 1 sends: message 1 of 2, which was requested, and messages of its own from `first` on, below `end`.
 fn sent(alloc: Global, first: u32, end: u32) -> Result<RingOut, AllocError> {
     let mut packets = Vec::new(alloc);
     packets.push(to_all(1, 2, Body::Mark))?;
@@ -105,7 +105,7 @@ struct Life {
 }
 
 impl Life {
-    /// Goes on with a copy of the recovery.
+    /// Replaces the recovery by a copy.
     fn copies(&mut self, alloc: Global) -> Result<(), AllocError> {
         let copy = self.recovery.try_clone(alloc)?;
         self.recovery = copy;
@@ -124,7 +124,7 @@ impl Life {
         }
     }
 
-    /// Adds what this word asks: the numbers that come next, the last mark, whether the recovery is done, and to whom
+    /// Adds what this word asks: the next numbers, the last mark, whether the recovery is done, and to whom
     /// messages are owed.
     fn asked(&self, alloc: Global, text: &mut String, word: &str) -> Result<(), AllocError> {
         match word {
@@ -136,14 +136,14 @@ impl Life {
         }
     }
 
-    /// Notes a visit that sends the numbers of a word such as `2:18`, from 2 on and below 18. Tells whether the recovery is done.
+    /// Notes a visit that sends the numbers of a word such as `2:18`, from 2 on, below 18. Adds whether the recovery is done.
     fn visits(&mut self, alloc: Global, text: &mut String, word: &str) -> Result<(), AllocError> {
         let first = part(word, 0).parse::<u32>().unwrap_or(0);
         let out = sent(alloc, first, part(word, 1).parse::<u32>().unwrap_or(0))?;
         push_truth(text, self.recovery.on_ring(&self.ring, &out))
     }
 
-    /// Does what a word says: a visit, a message that comes, going on with a copy, or a question.
+    /// Does what a word says: a visit, a message that is taken, replacing the recovery by a copy, or a question.
     fn does(&mut self, alloc: Global, text: &mut String, word: &str) -> Result<(), Fail> {
         match word.split_once(':') {
             Some(("visit", numbers)) => Ok(self.visits(alloc, text, numbers)?),
@@ -153,7 +153,7 @@ impl Life {
         }
     }
 
-    /// Each word, and what it tells.
+    /// Returns each word, and its answer.
     fn tells(&mut self, alloc: Global, words: &str) -> Result<String, Fail> {
         let mut text = String::new(alloc);
         for word in words.split_whitespace() {
@@ -169,13 +169,13 @@ impl Life {
 const LONG: &str =
     "1:2 2:2 3:2 4:2 5:2 6:2 7:2 8:2 9:2 10:2 11:2 12:2 13:2 14:2 15:2 16:2 17:2 18:2 19:2 20:2 21:2 22:2";
 
-/// Begins the recovery of 1, which holds messages 1 to 22 of ring 4.1. 2 has the aru 2, and before 1 owed messages to 3.
+/// Begins the recovery of 1, which holds messages 1 to 22 of ring 4.1. 2 has the aru 2, and 1 owed messages to 3 before.
 fn long_recovery(alloc: Global) -> Result<Recovery, Fail> {
     let prev = old_ring(alloc, LONG)?;
     begun(alloc, &prev, "1:4.1:22:22:3 2:4.1:2:2")
 }
 
-/// Tells what these words do and ask of that recovery, with ring 8.1 of 1 and 2, which holds nothing yet.
+/// Returns what these words do and ask of that recovery, with ring 8.1 of 1 and 2, which holds nothing yet.
 fn long(alloc: Global, words: &str) -> Result<String, Fail> {
     let recovery = long_recovery(alloc)?;
     let ring = ring_with(alloc, proc(1), ring(8), "1,2")?;
@@ -201,9 +201,9 @@ pub(crate) fn told(alloc: Global, words: &str) -> Result<String, Fail> {
 }
 
 pub(crate) const RECOVERIES: [Case; 14] = [
-    // a safe message is not handed up at once
+    // a safe message is not delivered to the node at once
     ("handed 1:1 2:2 3:3:safe 4:1 5:2:safe 6:1 8:1 9:3", "2"),
-    // 3 is safe by 3 and 5 safe by 2, the others are agreed; there is a gap at 7
+    // 3 is safe and sent by 3, 5 is safe and sent by 2, the others are agreed; 7 is missing
     (
         "left 1:1 2:2 3:3:safe 4:1 5:2:safe 6:1 8:1 9:3",
         "dlv r4.1 4.1#3; dlv r4.1 4.1#4; conf t8.1/1 1 2; dlv t8.1/1 4.1#5; dlv t8.1/1 4.1#6; dlv t8.1/1 4.1#8; conf r8.1 1 2; ",
@@ -223,35 +223,36 @@ pub(crate) const RECOVERIES: [Case; 14] = [
         "long next visit:2:18 next",
         "next 3 4 5 6 7 8 9 10 11 12 13 14 15 16 17 18; visit:2:18 no; next 19 20 21 22 0; ",
     ),
-    // a copy goes on alike
+    // a copy continues in the same way
     (
         "long visit:2:18 copy next",
         "visit:2:18 no; copy; next 19 20 21 22 0; ",
     ),
-    // what is asked for again is not one more
+    // a message that is requested again does not count once more
     (
         "long visit:2:18 visit:15:20 next visit:20:23 next",
         "visit:2:18 no; visit:15:20 no; next 21 22 0; visit:20:23 no; next; ",
     ),
-    // the least mark counts: there are two marks of 1, one of 2, and message 2 is not there
+    // the least mark counts: there are two marks of 1, one of 2, and message 2 is missing
     (
         "long hear:1:1:mark hear:3:2:mark hear:4:1:mark last done",
         "hear:1:1:mark; hear:3:2:mark; hear:4:1:mark; last 3; done no; ",
     ),
-    // messages are owed once the aru is at the marks
+    // messages are owed once the aru has reached the marks
     (
         "long hear:1:1:mark hear:3:2:mark hear:4:1:mark visit:2:2 owed hear:2:2 visit:2:2 owed",
         "hear:1:1:mark; hear:3:2:mark; hear:4:1:mark; visit:2:2 no; owed 3; hear:2:2; visit:2:2 no; owed 1 2 3; ",
     ),
-    // a recovery begins for a member, and from its ring
+    // a recovery begins for a member that comes from its ring
     ("may_begin 1:4.1 1:4.1:6:2 2:4.1:6:3", "true"),
     ("may_begin 3:4.1 1:4.1:6:2 2:4.1:6:3", "false"),
     ("may_begin 1:8.1 1:4.1:6:2 2:4.1:6:3", "false"),
-    // an obligation has at most 32 processes, 1 among them
+    // an obligation set has at most 32 processes, 1 among them
     ("may_begin 1:4.1 1:4.1:0:0:2-32", "true"),
     ("may_begin 1:4.1 1:4.1:0:0:2-33", "false"),
 ];
 
+/// The laws of recoveries can be called, and do nothing.
 #[test]
 fn laws_do_nothing() {
     members_leave_alike();

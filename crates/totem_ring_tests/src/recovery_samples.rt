@@ -36,7 +36,7 @@ fn body(name: &str) -> Body {
     }
 }
 
-/// Lets the message of a word such as `3:2:safe` come: number 3, of process 2, safe.
+/// Takes the message of a word such as `3:2:safe`: number 3, of process 2, safe.
 pub fn hear(alloc: Global, state: &mut RingState, word: &str) -> Result<(), Fail> {
     let number = part(word, 0).parse::<u32>().unwrap_or(0);
     let sender = part(word, 1).parse::<u16>().unwrap_or(0);
@@ -45,7 +45,7 @@ pub fn hear(alloc: Global, state: &mut RingState, word: &str) -> Result<(), Fail
     Ok(())
 }
 
-/// Lets clients' messages come, one for each word.
+/// Takes clients' messages, one for each word.
 fn hear_all(alloc: Global, state: &mut RingState, words: &str) -> Result<(), Fail> {
     for word in words.split_whitespace() {
         hear(alloc, state, word)?;
@@ -54,7 +54,7 @@ fn hear_all(alloc: Global, state: &mut RingState, words: &str) -> Result<(), Fai
 }
 
 /// Returns the member of a word such as `1:4.1:6:2:3` with its report: it comes from ring 4.1, has the aru 6, has
-/// handed up to 2 and owes messages to 3. Behind that a word may give the life, which is the first otherwise.
+/// delivered up to 2 and owes messages to 3. After that a word may give the life (the first by default).
 fn member(alloc: Global, word: &str) -> Result<CommitMember, AllocError> {
     Ok(CommitMember {
         proc: proc(part(word, 0).parse::<u16>().unwrap_or(0)),
@@ -96,7 +96,7 @@ pub fn ring_with(
     state(alloc, me, ring, &procs)
 }
 
-/// Returns such a ring once these messages have come.
+/// Returns such a ring after these messages were taken.
 pub fn heard_ring(
     alloc: Global,
     me: ProcId,
@@ -156,7 +156,7 @@ fn push_lines(alloc: Global, text: &mut String, entries: &[Entry]) -> Result<(),
     Ok(())
 }
 
-/// Adds what is written as a ring is left.
+/// Adds what is written when a ring is left.
 pub fn push_left(
     alloc: Global,
     text: &mut String,

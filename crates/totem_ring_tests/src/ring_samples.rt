@@ -1,4 +1,4 @@
-//! Members of a ring for the tests: what they do is given in words, and what they are asked is told as text.
+//! Members of a ring for the tests: what they do is given in words, and what they answer is text.
 use crate::values::{is_shown_alike, proc, procs, push, push_number, ring, say, state};
 use std::alloc::{AllocError, Global};
 use totem_ids::{ProcId, RingId, Service};
@@ -14,7 +14,7 @@ fn members(alloc: Global, procs: &[ProcId]) -> Result<Vec<RingState>, AllocError
     Ok(members)
 }
 
-/// A token's token_seq, seq, aru and aru_id, and the least number that it asks for; 0 is none.
+/// Returns a token's token_seq, seq, aru and aru_id, and the least number that it requests; 0 if there is none.
 fn numbers_of(token: &Token) -> [u64; 5] {
     let aru_id = match token.aru_id {
         None => 0,
@@ -33,7 +33,7 @@ fn numbers_of(token: &Token) -> [u64; 5] {
     ]
 }
 
-/// How many messages a member holds, its my_aru, up to where it handed up, and how many bodies wait.
+/// Returns how many messages a member holds, its my_aru, up to where it delivered to the node, and how many bodies wait.
 fn counts_of(state: &RingState) -> [u64; 4] {
     [
         state.held().len() as u64,
@@ -43,7 +43,7 @@ fn counts_of(state: &RingState) -> [u64; 4] {
     ]
 }
 
-/// Who a member is, its ring's number and representative, and how many members the ring has.
+/// Returns a member's number, its ring's number and representative, and how many members the ring has.
 fn who(state: &RingState) -> [u64; 4] {
     let ring = state.ring();
     [
@@ -54,7 +54,7 @@ fn who(state: &RingState) -> [u64; 4] {
     ]
 }
 
-/// What a step tells: why it was refused, or numbers.
+/// The result of a step: why it was refused, or numbers.
 #[derive(Clone, Copy)]
 enum Told {
     Nothing,
@@ -71,7 +71,7 @@ fn refusal(answer: Result<(), RingFault>) -> Told {
     }
 }
 
-/// Takes a step back. Tells the counts that are left.
+/// Takes a step back. Returns the counts after it.
 fn taken_back(state: &mut RingState, undo: RingUndo) -> Told {
     let counts = counts_of(state);
     state.undo(undo);
@@ -112,7 +112,7 @@ fn message_back(alloc: Global, state: &mut RingState, message: &Message) -> Told
     }
 }
 
-/// Takes a message. Tells how many messages that hands up.
+/// Takes a message. Returns how many messages are delivered to the node by it.
 fn handed(alloc: Global, state: &mut RingState, message: &Message) -> Told {
     match state.on_message(alloc, message) {
         Ok(out) => Told::Count(out.handed.len() as u64),
@@ -120,7 +120,7 @@ fn handed(alloc: Global, state: &mut RingState, message: &Message) -> Told {
     }
 }
 
-/// Lets a message come to a member in the way that this word says.
+/// Gives a message to a member in the way that this word says.
 fn hear(alloc: Global, state: &mut RingState, message: &Message, word: &str) -> Told {
     match word {
         "handed" => handed(alloc, state, message),
@@ -133,7 +133,7 @@ fn hear(alloc: Global, state: &mut RingState, message: &Message, word: &str) -> 
     }
 }
 
-/// How many packets a member would send again.
+/// Returns how many packets a member would send again.
 fn resends(alloc: Global, state: &RingState) -> Told {
     match state.on_resend(alloc) {
         Ok(out) => Told::Count(out.packets.len() as u64),
@@ -141,7 +141,7 @@ fn resends(alloc: Global, state: &RingState) -> Told {
     }
 }
 
-/// The counts of a copy.
+/// Returns the counts of a copy.
 fn copied(alloc: Global, state: &RingState) -> Told {
     match state.try_clone(alloc) {
         Ok(copy) => Told::Counts(counts_of(&copy)),
@@ -149,7 +149,7 @@ fn copied(alloc: Global, state: &RingState) -> Told {
     }
 }
 
-/// Does what this word says where no packet comes, or tells what it asks.
+/// Does what this word says if it needs no packet, or answers what it asks.
 fn alone(alloc: Global, state: &mut RingState, word: &str) -> Told {
     match word {
         "agreed" => refusal(state.submit(say(Service::Agreed))),
@@ -168,7 +168,7 @@ fn alone(alloc: Global, state: &mut RingState, word: &str) -> Told {
     }
 }
 
-/// The token that was passed on.
+/// Returns the token that was passed on.
 fn token_of(out: &RingOut) -> Option<&Token> {
     match out.packets.last() {
         Some((To::One(_), Packet::Token(token))) => Some(token),
@@ -176,7 +176,7 @@ fn token_of(out: &RingOut) -> Option<&Token> {
     }
 }
 
-/// The message that was broadcast first.
+/// Returns the message that was broadcast first.
 fn message_of(out: &RingOut) -> Option<&Message> {
     match out.packets.first() {
         Some((To::All, Packet::Message(message))) => Some(message),
@@ -184,7 +184,7 @@ fn message_of(out: &RingOut) -> Option<&Message> {
     }
 }
 
-/// The same, to be altered.
+/// Returns the same message, to be altered.
 fn message_in(out: &mut RingOut) -> Option<&mut Message> {
     match out.packets.first_mut() {
         Some((To::All, Packet::Message(message))) => Some(message),
@@ -192,7 +192,7 @@ fn message_in(out: &mut RingOut) -> Option<&mut Message> {
     }
 }
 
-/// Who has the token next.
+/// Returns the member that gets the token next.
 fn next(out: &RingOut) -> Told {
     match out.packets.last() {
         Some((To::One(next), Packet::Token(_))) => Told::Count(u64::from(next.number())),
@@ -207,7 +207,7 @@ fn numbers(out: &RingOut) -> Told {
     }
 }
 
-/// The number of the message that was broadcast first.
+/// Returns the number of the message that was broadcast first.
 fn number(out: &RingOut) -> Told {
     match message_of(out) {
         Some(message) => Told::Count(u64::from(message.number.get())),
@@ -215,7 +215,7 @@ fn number(out: &RingOut) -> Told {
     }
 }
 
-/// 1, if what was sent and handed up and its copy show the same.
+/// Returns 1 if the outcome of a step and its copy show the same.
 fn shown(alloc: Global, out: &RingOut) -> Told {
     let Ok(copy) = out.try_clone(alloc) else {
         return Told::Refusal("no memory");
@@ -239,7 +239,7 @@ fn alter(out: &mut RingOut, word: &str, value: u16) -> Told {
     Told::Nothing
 }
 
-/// The members of ring 4.1, and what the last visit or resending sent and handed up.
+/// The members of ring 4.1, and the outcome of the last visit or resend.
 #[derive(Drop)]
 struct World {
     members: Vec<RingState>,
@@ -266,7 +266,7 @@ impl World {
         }
     }
 
-    /// Lets a member take the first token of this ring.
+    /// Gives a member the first token of this ring.
     fn first(&mut self, alloc: Global, at: usize, ring: RingId) -> Told {
         let Some(member) = self.members.get_mut(at) else {
             return Told::Refusal("no member");
@@ -275,7 +275,7 @@ impl World {
         self.takes(answer)
     }
 
-    /// Lets a member take the token that was passed on.
+    /// Gives a member the token that was passed on.
     fn token(&mut self, alloc: Global, at: usize) -> Told {
         let Some(token) = token_of(&self.out) else {
             return Told::Refusal("no token");
@@ -296,7 +296,7 @@ impl World {
         self.takes(answer)
     }
 
-    /// Lets the message that was broadcast first come to a member.
+    /// Gives a member the message that was broadcast first.
     fn message(&mut self, alloc: Global, word: &str, at: usize) -> Told {
         let Some(message) = message_of(&self.out) else {
             return Told::Refusal("no message");
@@ -314,7 +314,7 @@ impl World {
         alone(alloc, member, word)
     }
 
-    /// Does one step: what this word stands for, at the member of this number or with this value.
+    /// Does one step: what this word stands for, at the member with this number or with this value.
     fn step(&mut self, alloc: Global, word: &str, value: u16) -> Told {
         let at = usize::from(value).saturating_sub(1);
         match word {
@@ -341,7 +341,7 @@ fn push_numbers(alloc: Global, text: &mut String, numbers: &[u64]) -> Result<(),
     text.push_str("; ")
 }
 
-/// Adds what a step tells after its word, or nothing if it tells nothing.
+/// Adds the result of a step after its word, or nothing if it has none.
 fn push_told(alloc: Global, text: &mut String, word: &str, told: Told) -> Result<(), AllocError> {
     match told {
         Told::Nothing => return Ok(()),
@@ -356,7 +356,7 @@ fn push_told(alloc: Global, text: &mut String, word: &str, told: Told) -> Result
     }
 }
 
-/// Does and tells what each word says. A word is what is done, `:`, and the member's number.
+/// Does what each word says, and returns the results. A word is what is done, `:`, and the member's number.
 fn steps(alloc: Global, world: &mut World, words: &str) -> Result<String, AllocError> {
     let mut text = String::new(alloc);
     for word in words.split_whitespace() {
@@ -367,7 +367,7 @@ fn steps(alloc: Global, world: &mut World, words: &str) -> Result<String, AllocE
     Ok(text)
 }
 
-/// Tells the steps of the members of ring 4.1, which has these processes.
+/// Returns the steps of the members of ring 4.1, which has these processes.
 pub fn life(alloc: Global, members: &str, words: &str) -> Result<String, AllocError> {
     let procs = procs(alloc, members)?;
     let mut world = World::new(alloc, &procs)?;

@@ -35,7 +35,7 @@ const FAULTS: [RingFault; 5] = [
     RingFault::Memory,
 ];
 
-/// Tells the meaning of one fault, the name of out of memory, and the numbers and names of all faults.
+/// Returns the text of one fault, the name of out of memory, and the numbers and names of all faults.
 fn faults(alloc: Global) -> Result<String, AllocError> {
     let memory = RingFault::from(AllocError).name();
     let mut text = format!(in alloc; "{}; {memory}; ", RingFault::Full)?;
@@ -48,7 +48,7 @@ fn faults(alloc: Global) -> Result<String, AllocError> {
     Ok(text)
 }
 
-/// Tells what the members of ring 4.1 do.
+/// Returns what the members of ring 4.1 do.
 pub(crate) fn told(alloc: Global, words: &str) -> Result<String, AllocError> {
     let (members, steps) = words.split_once(' ').unwrap_or((words, ""));
     match members {
@@ -66,11 +66,11 @@ pub(crate) const RINGS: [Case; 16] = [
     ("move", "true"),
     // a new member knows its ring, and the first token has no numbers
     ("1-3 who:2 fresh", "who:2 2 4 1 3; fresh 1 0 0 0 0; "),
-    // what was sent and its copy show the same
+    // an outcome and its copy show the same
     ("1-2 agreed:1 first:1 shown", "shown 1; "),
     // a new ring holds nothing
     ("1-3 counts:2 resends:2", "counts:2 0 0 0 0; resends:2 0; "),
-    // the third member asks for what was lost: in the first turn member 3 misses message 1.
+    // the third member requests what was lost: in the first turn member 3 misses message 1.
     (
         "1-3 agreed:1 agreed:2 first:1 message:2 token:2 message:1 message:3 token:3 next numbers counts:1 counts:2 counts:3",
         "next 1; numbers 4 2 0 3 1; counts:1 2 2 2 0; counts:2 2 2 2 0; counts:3 1 0 0 0; ",
@@ -80,7 +80,7 @@ pub(crate) const RINGS: [Case; 16] = [
         "1-3 agreed:1 agreed:2 first:1 message:2 token:2 message:1 message:3 token:3 token:1 number handed:3 counts:3",
         "number 1; handed:3 2; counts:3 2 2 2 0; ",
     ),
-    // a repeated token gives no number
+    // a repeated token gives no numbers
     (
         "1-2 agreed:1 first:1 agreed:1 first:1 counts:1 resend:1 next numbers",
         "first:1 Repeat; counts:1 1 1 1 1; next 2; numbers 2 1 1 0 0; ",
@@ -90,12 +90,12 @@ pub(crate) const RINGS: [Case; 16] = [
         "1-2 safe:1 first:1 message:2 token:2 up:1 up:2 token:1 up:1 up:2 token:2 up:1 up:2",
         "up:1 0; up:2 0; up:1 1; up:2 0; up:1 1; up:2 1; ",
     ),
-    // a sign of arrival ends the resending
+    // a sign that the token has arrived ends the resending
     (
         "1-2 agreed:2 first:1 resends:1 token:2 message:1 resends:1",
         "resends:1 1; resends:1 0; ",
     ),
-    // what is adopted is held and not handed up
+    // an adopted message is held and not delivered to the node
     (
         "1-2 agreed:1 first:1 adopt:2 adopt:2 counts:2 copied:2",
         "adopt:2 Repeat; counts:2 1 1 0 0; copied:2 1 1 0 0; ",
@@ -110,17 +110,18 @@ pub(crate) const RINGS: [Case; 16] = [
         "1-2 agreed:1 first:1 message_back:2 counts:2 mark_back:2 counts:2",
         "message_back:2 1 1 1 0; counts:2 0 0 0 0; mark_back:2 0 0 0 1; counts:2 0 0 0 0; ",
     ),
-    // messages are refused by name
+    // messages are refused with their faults
     (
         "1-2 agreed:1 first:1 message:1 sender:3 message:2 ring:8 message:2 adopt:2 counts:2",
         "message:1 Repeat; message:2 Range; message:2 OtherRing; adopt:2 OtherRing; counts:2 0 0 0 0; ",
     ),
-    // tokens are refused by name
+    // tokens are refused with their faults
     ("1-2 other:2 first:2", "other:2 OtherRing; first:2 Range; "),
-    // the seventeenth body finds no room
+    // the seventeenth body is refused
     ("1-2 fill:1 mark:1 waiting:1", "mark:1 Full; waiting:1 16; "),
 ];
 
+/// The law of rings can be called, and does nothing.
 #[test]
 fn laws_do_nothing() {
     one_order();

@@ -13,7 +13,7 @@ const MEMBERS: u16 = 32;
 
 const STEPS: u32 = 1_000;
 
-/// A linear congruential generator, which gives the same rolls each time.
+/// A linear congruential generator, which always gives the same rolls.
 #[derive(Clone, Copy)]
 struct Dice {
     state: u64,
@@ -40,13 +40,13 @@ impl Dice {
     }
 }
 
-/// A client's body of one byte.
+/// Returns a client's body of one byte.
 fn letter(alloc: Global, byte: u8, service: Service) -> Result<Body, Fail> {
     let payload = Payload::new(Bytes::copy_from_slice(alloc, &[byte])?)?;
     Ok(Body::App { service, payload })
 }
 
-/// A member with all that it handed up.
+/// A member with all messages that it delivered to its node.
 #[derive(Drop)]
 struct Member {
     state: RingState,
@@ -54,7 +54,7 @@ struct Member {
 }
 
 impl Member {
-    /// Notes what a step handed up, and adds what it sent.
+    /// Notes what a step delivered to the node, and adds what it sent.
     fn note(&mut self, out: RingOut, sent: &mut Vec<Packet>) -> Result<(), AllocError> {
         for message in out.handed {
             self.up.push(message)?;
@@ -65,7 +65,7 @@ impl Member {
         Ok(())
     }
 
-    /// Takes a packet. Returns whether it was not refused.
+    /// Takes a packet. Returns whether it was accepted.
     fn hear(
         &mut self,
         alloc: Global,
@@ -90,12 +90,12 @@ impl Member {
 struct World {
     members: Vec<Member>,
     sent: Vec<Packet>,
-    /// Where the newest token stands among the packets. `visits` counts the visits that it had.
+    /// The index of the newest token among the packets. `visits` counts the visits so far.
     newest: usize,
     visits: u64,
 }
 
-/// All members, who hold nothing yet.
+/// Returns all members, which hold nothing yet.
 fn members(alloc: Global) -> Result<Vec<Member>, AllocError> {
     let procs = procs(alloc, "1-32")?;
     let mut members = Vec::new(alloc);
@@ -120,7 +120,7 @@ impl World {
         })
     }
 
-    /// Lets a packet come to a member, which may be missing. Returns whether it was taken.
+    /// Gives a packet to a member, which may not exist. Returns whether it was accepted.
     fn hears(&mut self, alloc: Global, packet: &Packet, to: usize) -> Result<bool, AllocError> {
         match self.members.get_mut(to) {
             Some(member) => member.hear(alloc, packet, &mut self.sent),
@@ -128,7 +128,7 @@ impl World {
         }
     }
 
-    /// Lets a packet that was sent come to a member; both may be missing. Returns whether it was taken.
+    /// Gives a packet that was sent to a member; both may not exist. Returns whether it was accepted.
     fn comes(&mut self, alloc: Global, at: usize, to: usize) -> Result<bool, AllocError> {
         let packet = match self.sent.get(at) {
             Some(packet) => packet.try_clone(alloc)?,
@@ -152,7 +152,7 @@ impl World {
         Ok(())
     }
 
-    /// Lets the newest token come to the member whose turn it is, and what that member sends to most of the others.
+    /// Gives the newest token to the member whose turn it is, and what that member sends to most of the others.
     fn turns(&mut self, alloc: Global, dice: &mut Dice) -> Result<(), AllocError> {
         let before = self.sent.len();
         let taker = (self.visits % u64::from(MEMBERS)) as usize;
@@ -192,7 +192,7 @@ fn word(message: &Message) -> &[u8] {
     }
 }
 
-/// Returns whether each message has its number, and is the one of the other list as far as that goes.
+/// Returns whether each message has its number, and equals the one at its place in the other list if there is one.
 fn goes_along(up: &[Message], other: &[Message]) -> bool {
     for (at, message) in up.iter().enumerate() {
         if message.number.get() as usize != at + 1 {
@@ -207,7 +207,7 @@ fn goes_along(up: &[Message], other: &[Message]) -> bool {
     true
 }
 
-/// Returns whether what this member handed up goes along with what each other member did.
+/// Returns whether this member's deliveries agree with those of each other member in this way.
 fn goes_along_with_all(up: &[Message], members: &[Member]) -> bool {
     for other in members {
         if !goes_along(up, &other.up) {
@@ -217,7 +217,7 @@ fn goes_along_with_all(up: &[Message], members: &[Member]) -> bool {
     true
 }
 
-/// Returns the most that a member handed up, if all members keep one order.
+/// Returns the greatest number of deliveries of a member, if all members keep one order.
 fn most_in_one_order(members: &[Member]) -> Option<usize> {
     let mut most = 0;
     for one in members {
@@ -238,6 +238,7 @@ fn run(alloc: Global, world: &mut World) -> Result<(), Fail> {
     Ok(())
 }
 
+/// Members deliver in one order, whatever packets are lost, repeated and reordered.
 #[test]
 fn any_schedule_keeps_one_order(rt: HostRuntime) -> Result<(), Fail> {
     let mut world = World::new(rt.alloc())?;

@@ -1,4 +1,4 @@
-//! The tables of what is done and what is told of it, and the one test that goes through them.
+//! The tables of steps and their results, and the test that checks all of them.
 use crate::commits::COMMITS;
 use crate::exchanges::EXCHANGES;
 use crate::gatherings::GATHERINGS;
@@ -9,7 +9,7 @@ use crate::{commits, exchanges, gatherings, recoveries, rings};
 use std::alloc::Global;
 use std::test::Fail;
 
-/// Tells what the words ask on this topic.
+/// Returns the results of these words on this topic.
 fn told(alloc: Global, topic: &str, words: &str) -> Result<String, Fail> {
     match topic {
         "rings" => Ok(rings::told(alloc, words)?),
@@ -28,6 +28,7 @@ const TABLES: [(&str, &[Case]); 5] = [
     ("exchanges", &EXCHANGES),
 ];
 
+/// Each row about rings, gatherings, commit tokens and recoveries has its expected result.
 #[test]
 fn what_is_done_is_told(rt: HostRuntime) -> Result<(), Fail> {
     for (topic, cases) in &TABLES {

@@ -1,4 +1,4 @@
-//! What several modules of tests need.
+//! Values that several modules of tests need.
 use bytes::Bytes;
 use std::alloc::{AllocError, Global};
 use std::fmt::Debug;
@@ -6,7 +6,7 @@ use totem_ids::{Proc, ProcId, RingId, Service};
 use totem_packets::{Body, Payload, Processes};
 use totem_ring::RingState;
 
-/// What is done and asked, in words, and what has to be told of it.
+/// Steps and questions in words, and their expected results.
 pub type Case = (&'static str, &'static str);
 
 pub fn proc(number: u16) -> ProcId {
@@ -42,7 +42,7 @@ pub fn procs(alloc: Global, text: &str) -> Result<Vec<ProcId>, AllocError> {
     Ok(list)
 }
 
-/// Returns the set of these processes, or the empty one if they do not rise.
+/// Returns the set of these processes, or the empty set if they do not ascend.
 pub fn set(alloc: Global, text: &str) -> Result<Processes, AllocError> {
     match Processes::new(procs(alloc, text)?) {
         Ok(set) => Ok(set),
@@ -50,7 +50,7 @@ pub fn set(alloc: Global, text: &str) -> Result<Processes, AllocError> {
     }
 }
 
-/// Returns the part of a word after so many `:`.
+/// Returns the part of a word after this many `:`.
 pub fn part(word: &str, at: usize) -> &str {
     word.split(':').nth(at).unwrap_or("")
 }
@@ -87,7 +87,7 @@ pub fn push_procs(alloc: Global, text: &mut String, procs: &[ProcId]) -> Result<
     Ok(())
 }
 
-/// Adds these processes, each with its life unless that is the first.
+/// Adds these processes, each with its life if it is not the first.
 pub fn push_lives(alloc: Global, text: &mut String, procs: &[Proc]) -> Result<(), AllocError> {
     for proc in procs {
         let written = proc.written(proc.first_version());

@@ -1,4 +1,4 @@
--- What a process of a script comes to.
+-- The steps of a process of a script.
 use Rattle.std.proofs.Common.{◌≡◌, ◌≢◌, ℕ, zero, suc, ◌<◌, ◌≤◌, ◌+◌, List, [], ◌∷◌, ◌++◌, length, Bool, true, false, cond, Some, Ok, Err, nat_lt, refl, ap, ◌∙◌, arith}
 use Rattle.std.specs.Prelude.{slice_get}
 use Rattle.std.proofs.lemmas.Bool.Decides.{nat_tests}
@@ -98,13 +98,13 @@ told : (p q : ℕ) (before after : List Entry) (ending : Ending) → q ≡ p →
     → (let log : LogRecord = record { proc = q; entries = after; ending = ending } in log) ≡ (let whole : LogRecord = record { proc = p; entries = before; ending = cond (ends_in_failure before) Failed Standing } in whole)
 told p q before after ending proc is ends = rw (ends, is, proc)
 
--- the log of a process's entries, which ends as they may, and not as quiet
+-- the log of a process's entries, which ends as its entries say and is not quiet
 pub recorded : (log : LogRecord) (p : ℕ) (given entries : List Entry) (ending : Ending) → log.proc ≡ p → log.entries ≡ given → given ≡ entries → log.ending ≡ ending
     → IsClosedBy given ending → ending ≢ Quiet → log ≡ (let whole : LogRecord = record { proc = p; entries = entries; ending = cond (ends_in_failure entries) Failed Standing } in whole)
 recorded log p given entries ending proc is same ends closed loud =
     told p log.proc entries log.entries log.ending proc (is ∙ same) (ends ∙ rw is (closes given ending closed loud))
 
--- it is not quiet
+-- the log is not quiet
 pub recorded_loud : (log : LogRecord) (p : ℕ) (entries : List Entry) → log ≡ log_with p entries → log.ending ≢ Quiet
 recorded_loud log p entries is = rw is (by_end (ends_in_failure entries))
   where

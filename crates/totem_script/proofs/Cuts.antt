@@ -16,14 +16,14 @@ split_around xs i s inside here = sym (take-append-drop i xs) ∙ ap (λ l. take
 lacking : (at : ℕ) (xs : List ℕ) (d : ℕ) → ((k : ℕ) → k < length xs → get_or xs k d ≢ at) → All (λ b. (b == at) ≡ false) xs
 lacking at xs d lacks = All-from_get_or (λ b. (b == at) ≡ false) xs d (λ k below. ne_eqb (get_or xs k d) at (lacks k below))
 
--- the first part ends where the byte stands first
+-- the first part ends at the first such byte
 pub cut_found : (at : ℕ) (xs : List ℕ) (i : ℕ) → i < length xs → get_or xs i 0 ≡ at → ((k : ℕ) → k < i → get_or xs k 0 ≢ at)
     → parts at xs ≡ take i xs ∷ parts at (drop (i + 1) xs)
 cut_found at xs i inside here before =
     let none : All (λ b. (b == at) ≡ false) (take i xs) = lacking at (take i xs) 0 (λ k below. let less : k < i = omega (arith, length-take-le i xs) in rw (get_or-take i xs k 0 less) (before k less)) in
     ap (parts at) (split_around xs i at inside here) ∙ slice_split_at (λ b. b == at) (take i xs) at (drop (i + 1) xs) none (eq-eqb at at refl)
 
--- where the byte doesn't stand, the text is one part
+-- without such a byte the text is one part
 pub cut_nowhere : (at : ℕ) (xs : List ℕ) → ((k : ℕ) → k < length xs → get_or xs k 0 ≢ at) → parts at xs ≡ xs ∷ []
 cut_nowhere at xs lacks = slice_split_none (λ b. b == at) xs (lacking at xs 0 lacks)
 
@@ -40,7 +40,7 @@ some_part at (x ∷ xs) is = by_byte (x == at) is
     by_byte true e = cc
     by_byte false e = onto_some x (parts at xs) e
 
--- what stands before a cut and what stands after it are the parts that were left
+-- the text before a cut and the text after it are the parts that were left
 pub goes_on : (at : ℕ) (rest : Option (Bor (List ℕ))) (text : Bor (List ℕ)) (whole : List (List ℕ)) (p : List ℕ) (ps : List (List ℕ))
     → parts_left at rest ≡ whole → rest ≡ Some text → parts at text.now ≡ p ∷ ps → whole ≡ p ∷ ps
 goes_on at rest text whole p ps view is split = sym view ∙ ap (parts_left at) is ∙ split

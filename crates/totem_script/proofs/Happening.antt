@@ -63,7 +63,7 @@ module _ (s : Scene) (p : ℕ) (packet : Packet) (queue : Queue) (is : s.queue �
 pub fails_too : {A : Type 0} (fault : ScriptFaultKind) (whole rest : Judged A) → whole ≡ rest → Fails fault rest → Fails fault whole
 fails_too fault whole rest same fails = record { is = λ other. same ∙ fails.is other }
 
--- ---- All that stand in groups
+-- ---- All processes of groups
 
 pub group_more : (groups : List (List ℕ)) (i : ℕ) (g procs next : List ℕ) → i < length groups → g ≡ get_or groups i g → procs ≡ concat (take i groups)
     → next ≡ procs ++ g → next ≡ concat (take (i + 1) groups)

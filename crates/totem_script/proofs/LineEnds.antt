@@ -37,7 +37,7 @@ ends_at (suc room) (b ∷ xs) (suc i) inside fits here none =
     let other : b ≢ 10 = none 0 (omega arith) in
     rw (one_less room (suc i)) (no_end room b xs other ∙ ap (longer_line b) rest)
 
--- no line ends within the room
+-- no line ends within the bytes that are allowed
 no_room : (room : ℕ) (xs : List ℕ) → room < length xs → NoneBefore xs room → lines_of room xs ≡ Err TooMany ∷ []
 unfolding lines_of
 no_room room [] more none = absurd (omega arith)

@@ -56,7 +56,7 @@ last_above : (r p : ℕ) (ps : List ℕ) → IsBelowAll r (ps ++ p ∷ []) → r
 last_above r p [] all = all.0
 last_above r p (s ∷ ps) all = last_above r p ps all.1
 
--- what rises up to p rises on to what is above p
+-- a list that ascends to p, with a process above p after it, is ascending
 rises_more : (p q : ℕ) (ps : List ℕ) → Rises (ps ++ p ∷ []) → p < q → Rises ((ps ++ p ∷ []) ++ q ∷ [])
 rises_more p q [] rises less = ((less, tt), (tt, tt))
 rises_more p q (r ∷ ps) rises less =

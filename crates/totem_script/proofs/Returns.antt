@@ -1,4 +1,4 @@
--- What a return comes to.
+-- The result of a return.
 use Rattle.std.proofs.Common.{◌≡◌, ◌⊎◌, ◌↔◌, ℕ, zero, suc, ◌<◌, ◌+◌, ◌==◌, List, [], ◌∷◌, ◌++◌, length, Bool, true, false, cond, Ok, Err, nat_lt, refl, ap, subst, ◌∙◌, inl, inr, eq-eqb, arith}
 use Rattle.std.specs.Prelude.{Contains, slice_index_or}
 use Rattle.std.specs.Result.{IsOk}
@@ -12,7 +12,7 @@ use Rattle.totem_script.specs.Casts.{Returned, IsCast, ids_in, is_known, lives_o
 use Rattle.totem_script.specs.Laws.{CanReturn, ReturnsIfCrashed, IsNextLife}
 use Rattle.totem_script.proofs.NextLife.{can_return, may_if_can, same_id}
 
--- ---- A process that is there
+-- ---- A process that the script has
 
 -- r is the answer by the test alone
 abbrev IsTested : Bool → Judged Returned → Type 0
@@ -48,7 +48,7 @@ tested (b ∷ xs) (suc k) a rising inside is =
     let other : (id_of b.proc == id_of a.proc) ≡ false = grind (arith, nat_tests) in
     rw other (behind (may_return a) b (return_of xs (id_of a.proc)) (tested xs k a rising.1 (omega arith) is))
 
--- the same where there is room for a life more, or none
+-- the same where one more life is allowed, and where it isn't
 record Limited (may room : Bool) (whole : Judged Returned) : Type 0 where
   comes : IsOk whole ↔ ((may ≡ true) × (room ≡ true))
   place : (whole ≡ Err Place) ↔ (may ≡ false)
@@ -99,13 +99,13 @@ if_crashed actors a cast has =
     no_way true is never = absurd (never (can_return a is))
     no_way false is never = is
 
--- ---- Who is there
+-- ---- The processes of the script
 
 -- all of them once this one is back
 abbrev back_among : List Actor → Actor → List Actor → Returned
 back_among front a back = record { actors = front ++ returned a ∷ back; ring = ring_of_return a }
 
--- where the process of this identifier stands, and what its return comes to
+-- the index of the process with this identifier, and the result of its return
 record Found (xs : List Actor) (p : ℕ) : Type 0 where
   front : List Actor
   old : Actor

@@ -1,4 +1,4 @@
--- Lists of processes and groups, a word at a time.
+-- Lists of processes and groups, word by word.
 use Rattle.std.proofs.Common.{◌≡◌, ◌≢◌, ℕ, ◌++◌, List, [], ◌∷◌, Ok, Err, None, Some, refl, ap, ◌∙◌}
 use Rattle.totem_script.specs.declared.fault.LineFault.{LineFault}
 use Rattle.totem_script.specs.declared.fault.LineFault.TheVariants.{Word}

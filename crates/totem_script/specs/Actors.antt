@@ -1,4 +1,4 @@
--- A process of a script: its lives, its node, and what the node has written (docs/PROTOCOL.md, "Scripts").
+-- A process of a script: its lives, its node, and the entries that the node has written (docs/PROTOCOL.md, "Scripts").
 use Rattle.std.specs.Prelude.{◌≡◌, ℕ, ◌+◌, ◌<◌, ◌&&◌, List, [], ◌∷◌, ◌++◌, length, map, Bool, true, false, if◌then◌else◌, nat_lt, nat_le, Vec, Ok, Err}
 use Rattle.totem_ids.specs.Names.{RingName}
 use Rattle.totem_ids.specs.Ranks.{rank_of, id_of, life_of}
@@ -22,17 +22,17 @@ pub record Actor : Type 0 where
   pub node : Node
   pub entries : List Entry  -- what the node has written
 
--- a node that starts on this ring; its log begins with the change to it
+-- a node that starts on this ring; its log begins with the change to the ring
 unfoldable pub new_actor : ℕ → RingName → List ℕ → Actor
 new_actor p ring members =
     record { proc = p; earlier = []; node = new_node p ring members; entries = first_change ring members ∷ [] }
 
--- what an input comes to: the process after it, and what its node sent
+-- the result of an input: the process after it, and what its node sent
 pub record ActorStepped : Type 0 where
   pub actor : Actor
   pub packets : List Sending
 
--- a refused step is passed over; a log has 1,000,000 entries at most
+-- a refused step changes nothing; a log has at most 1,000,000 entries
 abbrev pub after_step : Actor → Outcome Stepped → Judged ActorStepped
 after_step a (Err fault) = Ok (record { actor = a; packets = [] })
 after_step a (Ok done) =
@@ -55,7 +55,7 @@ ends_in_failure [] = false
 ends_in_failure (e ∷ []) = is_failure e
 ends_in_failure (e ∷ f ∷ entries) = ends_in_failure (f ∷ entries)
 
--- the log of these entries: of a process that failed it ends as failed, any other is open
+-- the log with these entries: failed if the process failed, otherwise open
 abbrev pub log_with : ℕ → List Entry → LogRecord
 log_with p entries = record { proc = p; entries = entries; ending = if ends_in_failure entries then Failed else Standing }
 
@@ -63,20 +63,20 @@ log_with p entries = record { proc = p; entries = entries; ending = if ends_in_f
 abbrev pub log_of : Actor → LogRecord
 log_of a = log_with a.proc a.entries
 
--- a log of each life
+-- one log for each life
 abbrev pub logs_of : Actor → List LogRecord
 logs_of a = a.earlier ++ log_of a ∷ []
 
--- ---- Coming back
+-- ---- Returning
 
--- it has crashed, and there are numbers for its next life and for the ring of that
+-- it has crashed, and numbers are left for its next life and for that life's ring
 abbrev pub may_return : Actor → Bool
 may_return a = a.node.crashed && (nat_lt (life_of a.proc) 65535 && nat_le (a.node.seq + 4) 4294967295)
 
 abbrev pub next_life : ℕ → ℕ
 next_life p = rank_of (id_of p) (life_of p + 1)
 
--- its next ring: above each ring that the node made, filled or installed
+-- its next ring, whose number is above that of each ring that the node made, filled or installed
 abbrev pub ring_of_return : Actor → RingName
 ring_of_return a = record { seq = a.node.seq + 4; rep = id_of a.proc }
 
@@ -90,7 +90,7 @@ returned a = record (new_actor (next_life a.proc) (ring_of_return a) (next_life 
 abbrev pub procs_in : List LogRecord → List ℕ
 procs_in logs = map (λ log. log.proc) logs
 
--- p is below all of these
+-- p is below each of these
 abbrev pub IsBelowAll : ℕ → List ℕ → Type 0
 IsBelowAll p [] = Unit {0}
 IsBelowAll p (q ∷ qs) = (p < q) × IsBelowAll p qs
@@ -105,15 +105,15 @@ abbrev pub AreLives : ℕ → List ℕ → Type 0
 AreLives id [] = Unit {0}
 AreLives id (p ∷ ps) = (id_of p ≡ id) × AreLives id ps
 
--- these are lives of one identifier, strictly ascending, and p is the last of them; no log that has ended is quiet
+-- these are lives of one identifier in strictly ascending order, p is the last of them, and no log that has ended is quiet
 pub record IsHistory (p : ℕ) (earlier : List LogRecord) : Type 0 where
   pub lives : AreLives (id_of p) (procs_in earlier ++ p ∷ [])
   pub rising : Rises (procs_in earlier ++ p ∷ [])
   pub loud : AreLoud earlier
 
--- ---- Answers
+-- ---- Results
 
--- the answer of a call in which a process takes an input
+-- the result of a call in which a process takes an input
 abbrev pub IsActorStep : {Z : Type 0} → Judged (Vec Sending Z) → Actor → Judged ActorStepped → Type 0
 IsActorStep (Ok packets) new written = written ≡ Ok (record { actor = new; packets = packets.items })
 IsActorStep (Err fault) new written = Fails fault written

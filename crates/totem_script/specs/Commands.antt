@@ -1,5 +1,5 @@
--- What the words of a line say (docs/PROTOCOL.md, "Scripts"). A fault is that of the line's first unfit byte: Number where a
--- number is wanted and none stands, or one out of range; Word at any other.
+-- What the words of a line say (docs/PROTOCOL.md, "Scripts"). A fault is that of the line's first unexpected byte: Number if a
+-- number is expected there and is missing or out of range, and Word otherwise.
 use Rattle.std.specs.Prelude.{ℕ, ◌&&◌, ◌||◌, List, [], ◌∷◌, ◌++◌, length, Bool, if◌then◌else◌, nat_lt, nat_le, nat_eq, Option, None, Some, Ok, Err, codes}
 use Rattle.std.specs.List.{list_all, starts_with}
 use Rattle.std.specs.Str.{bytes_eq}
@@ -17,7 +17,7 @@ use Rattle.totem_script.specs.Numbers.{number_in, process_in, ring_in, only}
 use Rattle.totem_script.specs.Parsed.{Parsed, ◌>>=◌}
 use Rattle.totem_script.specs.Parts.{parts}
 
--- the words of a line: one space stands between two of them
+-- the words of a line, which single spaces separate
 abbrev pub words_of : List ℕ → List (List ℕ)
 words_of line = parts 32 line
 
@@ -35,14 +35,14 @@ process_words (w ∷ ws) = do
   p ← process_in w
   only p ws
 
--- each word is a process more, after these
+-- each word is one more process, after these
 unfoldable pub processes_from : List ℕ → List (List ℕ) → Parsed (List ℕ)
 processes_from procs [] = Ok procs
 processes_from procs (w ∷ ws) = do
   p ← process_in w
   processes_from (procs ++ p ∷ []) ws
 
--- one process or more
+-- at least one process
 abbrev pub some_processes : List (List ℕ) → Parsed (List ℕ)
 some_processes [] = Err Word
 some_processes (w ∷ ws) = processes_from [] (w ∷ ws)
@@ -63,7 +63,7 @@ service_in word = if bytes_eq word (codes "a") then Ok Agreed else if bytes_eq w
 abbrev pub may_stand : ℕ → Bool
 may_stand b = is_digit b || (nat_le 97 b && nat_le b 122)
 
--- 1 to 64 of these
+-- 1 to 64 of these bytes
 abbrev pub is_payload : List ℕ → Bool
 is_payload word = nat_lt 0 (length word) && (nat_le (length word) 64 && list_all may_stand word)
 
@@ -96,15 +96,15 @@ process_some word = do
   p ← process_in word
   Ok (Some p)
 
--- a process, or none where the word is a stroke
+-- a process, or None if the word is a stroke
 abbrev pub group_word : List ℕ → Parsed (Option ℕ)
 group_word word =
     if bytes_eq word (codes "/") then Ok None
     else if starts_with nat_eq word (codes "/") then Err Word
     else process_some word
 
--- the groups so far, the group so far, and the words to come: a group begins with a process, and after that comes a
--- process more or a stroke, with which the next group begins
+-- the groups so far, the group so far, and the words left: a group begins with a process, and then follows another process,
+-- or a stroke, after which the next group begins
 unfoldable pub groups_from : List (List ℕ) → List ℕ → List (List ℕ) → Parsed (List (List ℕ))
 groups_from groups [] [] = Err Word
 groups_from groups [] (w ∷ ws) = do
@@ -153,6 +153,6 @@ abbrev pub command_in : ScriptVersion → List (List ℕ) → Parsed Command
 command_in version [] = Err Word
 command_in version (w ∷ ws) = command_named (keyword_of version w) ws
 
--- the command of a line in a script of this version, or the fault of its first unfit byte
+-- the command of a line in a script of this version, or the fault of its first unexpected byte
 abbrev pub command_of : ScriptVersion → List ℕ → Parsed Command
 command_of version line = command_in version (words_of line)

@@ -1,4 +1,4 @@
--- What a part of a script comes to, or what is wrong with it (docs/PROTOCOL.md, "Scripts").
+-- The result of a part of a script, or what is wrong with it (docs/PROTOCOL.md, "Scripts").
 use Rattle.std.specs.Prelude.{◌≡◌, ◌≢◌, Result, Ok, Err}
 use Rattle.totem_script.specs.declared.script_fault.ScriptFaultKind.{ScriptFaultKind}
 use Rattle.totem_script.specs.declared.script_fault.ScriptFaultKind.TheVariants.{Memory}
@@ -8,27 +8,27 @@ use Rattle.totem_script.specs.Parsed.{Parsed}
 abbrev pub Judged : Type 0 → Type 0
 Judged A = Result A ScriptFaultKind
 
--- one thing after the other, up to the first fault
+-- one part after the other, up to the first fault
 infixl 10 ◌>>=◌
 abbrev pub ◌>>=◌ : {A B : Type 0} → Judged A → (A → Judged B) → Judged B
 (Ok x) >>= f = f x
 (Err fault) >>= f = Err fault
 
--- what a line's command is
+-- a line's command, or the line's fault as the script's
 abbrev pub by_line : {A : Type 0} → Parsed A → Judged A
 by_line (Ok x) = Ok x
 by_line (Err fault) = Err (of_line fault)
 
--- this fault is the written one, unless memory was refused
+-- this fault is the written one, unless it is out of memory
 pub record Fails {A : Type 0} (fault : ScriptFaultKind) (written : Judged A) : Type 0 where
   pub is : fault ≢ Memory → written ≡ Err fault
 
--- what was answered is what is written, but for out of memory
+-- the answer is the written one, unless it is out of memory
 abbrev pub Gives : {A : Type 0} → Judged A → Judged A → Type 0
 Gives (Ok x) written = written ≡ Ok x
 Gives (Err fault) written = Fails fault written
 
--- the same of a call that changes a value: it is what is written then
+-- the same for a call that changes a value to the written one
 abbrev pub Becomes : {A B : Type 0} → Judged B → A → Judged A → Type 0
 Becomes (Ok done) new written = written ≡ Ok new
 Becomes (Err fault) new written = Fails fault written

@@ -6,7 +6,7 @@ use Rattle.totem_script.specs.declared.keyword.Keyword.TheVariants as keyword
 use Rattle.totem_script.specs.declared.script_version.ScriptVersion.{ScriptVersion}
 use Rattle.totem_script.specs.declared.script_version.ScriptVersion.TheVariants.{One, Two}
 
--- `return` is a keyword in version 2 alone
+-- `return` is a keyword in version 2 only
 abbrev pub return_in : ScriptVersion → Option Keyword
 return_in One = None
 return_in Two = Some keyword.Return

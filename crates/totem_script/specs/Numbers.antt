@@ -18,7 +18,7 @@ digits_in max n (b ∷ bytes) =
     then (if nat_le (10 * n + (b - 48)) max then digits_in max (10 * n + (b - 48)) bytes else Err Number)
     else Err Word
 
--- the word is a number from 1 to max, with no zero in front
+-- the word is a number from 1 to max, without leading zeros
 unfoldable pub number_in : ℕ → List ℕ → Parsed ℕ
 number_in max [] = Err Number
 number_in max (b ∷ bytes) = if begins_number b then digits_in max (b - 48) bytes else Err Number
@@ -27,7 +27,7 @@ number_in max (b ∷ bytes) = if begins_number b then digits_in max (b - 48) byt
 abbrev pub process_in : List ℕ → Parsed ℕ
 process_in word = number_in 65535 word
 
--- nothing is left
+-- no word is left
 abbrev pub only : {A : Type 0} → A → List (List ℕ) → Parsed A
 only x [] = Ok x
 only x (p ∷ ps) = Err Word

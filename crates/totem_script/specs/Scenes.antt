@@ -1,4 +1,4 @@
--- What there is while a script goes on, and what becomes of it (docs/PROTOCOL.md, "Scripts").
+-- The scene of a script under way, and what commands do to it (docs/PROTOCOL.md, "Scripts").
 use Rattle.std.specs.Prelude.{ℕ, zero, suc, ◌-◌, ◌==◌, ◌&&◌, not, List, [], ◌∷◌, ◌++◌, length, map, filter, remove, Bool, true, false, if◌then◌else◌, nat_lt, slice_get, count_by, Option, None, Some, Ok, Err}
 use Rattle.std.specs.List.{list_any, list_all, flat_map, concat}
 use Rattle.totem_ids.specs.Names.{RingName}
@@ -34,12 +34,12 @@ pub record Scene : Type 0 where
 abbrev pub empty_scene : ScriptVersion → Scene
 empty_scene version = record { version = version; actors = []; queue = []; cut = None; under_way = false }
 
--- packets pass within a group, and without a cut between any two
+-- packets pass within a group, and between any two processes if there is no cut
 abbrev pub may_pass : Option (List (List ℕ)) → ℕ → ℕ → Bool
 may_pass None from to = true
 may_pass (Some groups) from to = list_any (λ group. has group from && has group to) groups
 
--- a broadcast is for all other processes of the script, in ascending order
+-- a broadcast goes to all other processes of the script, in ascending order
 unfoldable pub to_others : Option (List (List ℕ)) → ℕ → Packet → List Actor → Queue
 to_others cut from packet actors =
     map (λ a. (id_of a.proc, packet)) (filter (λ a. not (id_of a.proc == from) && may_pass cut from (id_of a.proc)) actors)
@@ -55,13 +55,13 @@ posted cut actors from sending = posted_to cut actors from sending.1 sending.0
 unfoldable pub posted_all : Option (List (List ℕ)) → List Actor → ℕ → List Sending → Queue
 posted_all cut actors from sendings = flat_map (posted cut actors from) sendings
 
--- the process takes this input, if it is one of these, and what its node sends is on its way
+-- the process takes this input, if the script has it, and what its node sends is on its way
 unfoldable pub scene_step : Scene → ℕ → Input → Judged Scene
 scene_step s p i = do
   stepped ← cast_step s.actors p i
   Ok (record s { actors = stepped.actors; queue = s.queue ++ posted_all s.cut stepped.actors p stepped.packets })
 
--- the same of a process that a line names
+-- the same for a process that a line names
 abbrev pub named_step : Scene → ℕ → Input → Judged Scene
 named_step s p i = if is_known s.actors p then scene_step s p i else Err Members
 
@@ -70,39 +70,39 @@ abbrev pub run_one : Scene → Queue → Judged Scene
 run_one s [] = Ok s
 run_one s (e ∷ queue) = scene_step (record s { queue = queue }) e.0 (input.Packet e.1)
 
--- so many times, while there is one
+-- this many times, while there is a packet
 unfoldable pub run_times : ℕ → Scene → Judged Scene
 run_times zero s = Ok s
 run_times (suc times) s = do
   next ← run_one s s.queue
   run_times times next
 
--- a ring's first token comes after the others, for its representative
+-- a ring's first token goes after the other packets, to its representative
 abbrev pub with_first_token : Queue → RingName → Queue
 with_first_token queue ring = queue ++ (ring.rep, Token (first_token ring)) ∷ []
 
--- the nodes are there, and the first token is on its way to the least
+-- the nodes are made, and the first token is on its way to the least of them
 abbrev pub ring_made : Scene → RingName → List ℕ → Judged Scene
 ring_made s ring members = do
   actors ← with_ring s.actors ring members
   Ok (record s { actors = actors; queue = with_first_token s.queue ring })
 
--- the process is back in its next life, and the first token of its ring is on its way to it, whatever the cut
+-- the process returns in its next life, and the first token of its ring is on its way to it, whatever the cut
 abbrev pub brought_back : Scene → ℕ → Judged Scene
 brought_back s p = do
   done ← with_return s.actors p
   Ok (record s { actors = done.actors; queue = with_first_token s.queue done.ring })
 
--- the packet at this place, from 1, is lost
+-- the packet at this place, counted from 1, is lost
 abbrev pub dropped : Scene → ℕ → Judged Scene
 dropped s place = if nat_lt (place - 1) (length s.queue) then Ok (record s { queue = remove s.queue (place - 1) }) else Err Place
 
--- a copy of this packet comes after the others
+-- a copy of this packet goes after the others
 abbrev pub once_more : Scene → Option (ℕ × Packet) → Judged Scene
 once_more s None = Err Place
 once_more s (Some e) = Ok (record s { queue = s.queue ++ e ∷ [] })
 
--- each process of the script stands in the groups once, and nobody else
+-- each process of the script is in the groups once, and no other process is
 abbrev pub is_partition : List Actor → List (List ℕ) → Bool
 is_partition actors groups =
     (length (concat groups) == length actors) && list_all (λ a. count_by (λ q. q == id_of a.proc) (concat groups) == 1) actors
@@ -137,10 +137,10 @@ makes_ring (command.Crash p) = false
 makes_ring (command.Return p) = false
 makes_ring command.End = false
 
--- a ring comes before all other commands, and these after a ring
+-- a `ring` is before all other commands, and another command is after a `ring`
 abbrev pub is_in_order : Scene → Command → Bool
 is_in_order s c = if makes_ring c then not s.under_way else nat_lt 0 (length s.actors)
 
--- the command is carried out, if it may come now
+-- the command is carried out, if it is allowed here
 abbrev pub carried_out : Scene → Command → Judged Scene
 carried_out s c = if is_in_order s c then effect (record s { under_way = not (makes_ring c) }) c else Err Order

@@ -31,7 +31,7 @@ fault_name TooMany = codes "TooMany"
 fault_name Read = codes "Read"
 fault_name Memory = codes "Memory"
 
--- the fault of a line that is no command
+-- the fault of a line that is not a command
 abbrev pub of_line : LineFault → ScriptFaultKind
 of_line line.Word = Word
 of_line line.Number = Number

@@ -13,19 +13,19 @@ use Rattle.totem_script.specs.Casts.{logs_in}
 use Rattle.totem_script.specs.Scenes.{Scene, empty_scene, carried_out}
 use Rattle.totem_script.specs.Versions.{version_in, run_of}
 
--- a script's lines: of each its text, or what is wrong with that
+-- a script's lines: the text of each, or what is wrong with it
 abbrev pub Texts : Type 0
 Texts = List (Judged (List ℕ))
 
 abbrev pub Told : Type 0 → Type 0
 Told A = Result A ScriptFault
 
--- the line of this number is judged
+-- a fault of the line with this number
 abbrev pub at_line : {A : Type 0} → ℕ → Judged A → Told A
 at_line n (Ok x) = Ok x
 at_line n (Err kind) = Err (record { kind = kind; line = n })
 
--- and then the following ones
+-- and then the following lines
 abbrev pub and_then : {A B : Type 0} → Told A → (A → Told B) → Told B
 and_then (Ok x) f = f x
 and_then (Err fault) f = Err fault
@@ -43,12 +43,12 @@ is_end (command.Crash p) = false
 is_end (command.Return p) = false
 is_end command.End = true
 
--- what a line leaves, and whether it is the last
+-- the scene after a line, and whether it is the last line
 pub record LinePlayed : Type 0 where
   pub scene : Scene
   pub ended : Bool
 
--- what the line says is read, and then carried out
+-- the line is read, and then carried out
 unfoldable pub line_played : Scene → Judged (List ℕ) → Judged LinePlayed
 line_played s line = do
   text ← line
@@ -56,12 +56,12 @@ line_played s line = do
   next ← carried_out s c
   Ok (record { scene = next; ended = is_end c })
 
--- nothing stands after the last line
+-- no line follows the last one
 unfoldable pub closing : ℕ → Scene → Texts → Told Scene
 closing n s [] = Ok s
 closing n s (line ∷ lines) = Err (record { kind = End; line = n })
 
--- the lines from the one of number n on, one after the other up to `end`; without one, that line is missing
+-- the lines from number n on, one after the other up to `end`; if there is no `end`, that line is missing
 unfoldable pub play : ℕ → Scene → Texts → Told Scene
 play n s [] = Err (record { kind = Truncated; line = n })
 play n s (line ∷ lines) =
@@ -81,37 +81,37 @@ unfoldable pub all_played : Texts → Told Scene
 all_played [] = Err (record { kind = Truncated; line = 1 })
 all_played (line ∷ lines) = and_then (at_line 1 (headed line)) (λ version. play 2 (empty_scene version) lines)
 
--- the run that a script makes: a log of each life of each of its processes; or the fault of the first line that has one
+-- the run that a script makes, with a log for each life of each of its processes; or the fault of the first line that has one
 unfoldable pub simulate : List ℕ → Told RunRecord
 simulate script = and_then (all_played (lines_of 65536 script)) (λ scene. Ok (run_of scene.version (logs_in scene.actors)))
 
--- ---- Answers
+-- ---- Results
 
--- this fault is the written one, unless memory was refused
+-- this fault is the written one, unless it is out of memory
 pub record FailsAt {A : Type 0} (fault : ScriptFault) (written : Told A) : Type 0 where
   pub is : fault.kind ≢ Memory → written ≡ Err fault
 
--- what was answered is what is written, but for out of memory
+-- the answer is the written one, unless it is out of memory
 abbrev pub Gives : {A : Type 0} → Told A → Told A → Type 0
 Gives (Ok x) written = written ≡ Ok x
 Gives (Err fault) written = FailsAt fault written
 
--- the same of a call that changes a scene
+-- the same for a call that changes a scene
 abbrev pub Leads : {B : Type 0} → Told B → Scene → Told Scene → Type 0
 Leads (Ok done) new written = written ≡ Ok new
 Leads (Err fault) new written = FailsAt fault written
 
--- the answer of a call that plays a line: whether it is the last
+-- the result of a call that plays a line: whether it is the last
 abbrev pub IsLinePlayed : Judged Bool → Scene → Judged LinePlayed → Type 0
 IsLinePlayed (Ok ended) new written = written ≡ Ok (record { scene = new; ended = ended })
 IsLinePlayed (Err fault) new written = Fails fault written
 
--- what the first of these lines leaves
+-- the scene after the first of these lines
 abbrev pub first_line_played : Scene → Texts → Judged LinePlayed
 first_line_played s [] = Err Truncated
 first_line_played s (line ∷ lines) = line_played s line
 
--- what the first of these lines is as a head
+-- the first of these lines as the script's first
 abbrev pub first_headed : Texts → Judged ScriptVersion
 first_headed [] = Err Truncated
 first_headed (line ∷ lines) = headed line

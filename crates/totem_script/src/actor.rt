@@ -16,10 +16,10 @@ use totem_node::{Input, NodeCore, NodeFault};
 use totem_packets::Packet;
 use totem_ring::To;
 
-/// How many entries a log may have at most.
+/// The greatest number of entries of a log.
 const MOST: usize = 1_000_000;
 
-/// How far the ring of a return is above the greatest ring number of the node that crashed.
+/// How far the number of a return's ring is above the greatest ring number of the node that crashed.
 const STEP: u32 = 4;
 
 /// A process of a script: its present life, the logs of its earlier lives, its node, and the entries that the node has written.
@@ -42,7 +42,7 @@ impl Model for ActorState {
     ghost invariant = { λ a. (0 < length a.entries.items) × (length a.entries.items ≤ 1000000) × IsHistory a.proc a.earlier.items };
 }
 
-/// Makes a node that starts on this ring, and the list of its entries, which begins with the change to the ring.
+/// Returns a node that starts on this ring, and the list of its entries, which begins with the change to the ring.
 fn started(
     alloc: Global,
     proc: Proc,
@@ -59,7 +59,7 @@ fn started(
     Ok((node, entries))
 }
 
-/// Returns the log of what a process has written.
+/// Returns the log of a process, from the entries that it has written.
 fn log_with(proc: Proc, entries: Vec<Entry>) -> Log
     requires some { 0 < length entries.items }
     requires few { length entries.items ≤ 1000000 }
@@ -75,7 +75,7 @@ fn log_with(proc: Proc, entries: Vec<Entry>) -> Log
 }
 
 impl ActorState {
-    /// Makes a process whose node starts on this ring, with no lives before.
+    /// Returns a process whose node starts on this ring, with no earlier lives.
     pub fn new(
         alloc: Global,
         proc: Proc,
@@ -101,21 +101,21 @@ impl ActorState {
         self.proc.id()
     }
 
-    /// Returns how many lives the process has had.
+    /// Returns the number of lives that the process has had.
     pub fn lives(&self) -> usize
         ensures { result ≡ length self.now.earlier + 1 }
     {
         self.earlier.len() + 1
     }
 
-    /// Tells contracts that the lives of the process rise.
+    /// Does nothing. The contract says that the lives of the process are ascending.
     pub fn keeps_its_rules(&self)
         ensures { IsHistory self.now.proc self.now.earlier }
     {
         let _ = &self.proc;
     }
 
-    /// Gives the node this input, and returns what the node sends. A step that the node refuses is passed over.
+    /// Gives the node this input, and returns what the node sends. A step that the node refuses changes nothing.
     /// `TooMany` if the log would have more than 1,000,000 entries.
     pub fn step(
         &mut self,
@@ -149,15 +149,15 @@ impl ActorState {
         self.node.refusal(alloc, &Input::Crash).is_some()
     }
 
-    /// Returns whether the process may come back: it has crashed, and neither its next life nor the ring of that would pass
-    /// its greatest number.
+    /// Returns whether the process may return: it has crashed, and numbers are left for its next life and for that life's
+    /// ring.
     pub fn may_return(&self, alloc: Global) -> bool
         ensures { result ≡ may_return self.now }
     {
         self.has_crashed(alloc) && self.proc.life() < u16::MAX && self.node.seq() <= u32::MAX - STEP
     }
 
-    /// Begins the next life of the process, and returns the ring on which it is alone. What was written in the life before is
+    /// Begins the next life of the process, and returns the ring on which it is alone. The entries of the life before are
     /// kept as a log.
     pub fn bring_back(&mut self, alloc: Global) -> Result<RingId, AllocError>
         requires { may_return self.old ≡ true }
@@ -195,7 +195,7 @@ impl ActorState {
         (earlier, log_with(proc, entries))
     }
 
-    /// Puts a log of each life after these logs.
+    /// Appends a log for each life to these logs.
     pub fn put_logs(self, logs: &mut Vec<Log>) -> Result<(), AllocError>
         ensures { OnOk result (logs.new.items ≡ logs.old.items ++ logs_of self) }
     {

@@ -47,7 +47,7 @@ pub enum Command {
     Crash {
         proc: ProcId,
     },
-    /// This process, which has crashed, comes back in its next life, alone on a ring.
+    /// This process, which has crashed, returns in its next life, alone on a ring.
     Return {
         proc: ProcId,
     },

@@ -12,7 +12,7 @@ use crate::process_list::ProcessList;
 use std::alloc::Global;
 use totem_ids::ProcId;
 
-/// Reads one process or more.
+/// Reads at least one process.
 fn processes(alloc: Global, words: &mut Parts<'_>) -> Result<ProcessList, LineFault>
     ensures { Gives result (some_processes words.old) }
 {
@@ -26,7 +26,7 @@ fn processes(alloc: Global, words: &mut Parts<'_>) -> Result<ProcessList, LineFa
     Ok(list)
 }
 
-/// Reads the name of a `ring` line and its members.
+/// Reads the ring and the members of a `ring` line.
 pub fn ring(alloc: Global, words: &mut Parts<'_>) -> Result<Command, LineFault>
     ensures { Gives result (ring_words words.old) }
 {
@@ -51,7 +51,7 @@ fn process_or_stroke(word: &[u8]) -> Result<Option<ProcId>, LineFault>
     Ok(Some(process(word)?))
 }
 
-/// Reads the groups of a cut: one process or more in each, and a stroke between two groups.
+/// Reads the groups of a cut: at least one process in each, and a stroke between two groups.
 pub fn groups(alloc: Global, words: &mut Parts<'_>) -> Result<Groups, LineFault>
     ensures { Gives result (groups_from [] [] words.old) }
 {

@@ -1,11 +1,11 @@
-//! Why a line is no command.
+//! Why a line is not a command.
 ghost use Rattle.std.specs.Prelude.{◌≡◌};
 ghost use Rattle.totem_script.specs.declared.fault.LineFault.TheVariants.{Memory};
 
 use std::alloc::{AllocError, AllocFailed};
 use thiserror::Error;
 
-/// Why a line is no command: what is wrong with its first unfit byte.
+/// Why a line is not a command: what is wrong with its first unexpected byte.
 #[derive(Clone, Copy, Debug, PartialEq, Eq, Error)]
 pub enum LineFault {
     #[error("unexpected or missing word")]

@@ -19,7 +19,7 @@ impl Model for Groups {
 }
 
 impl Groups {
-    /// Returns the list without groups.
+    /// Returns a list without groups.
     pub fn new(alloc: Global) -> Groups
         ensures { result ≡ [] }
     {
@@ -28,7 +28,7 @@ impl Groups {
         }
     }
 
-    /// Adds a group after the others.
+    /// Appends a group.
     pub fn push(&mut self, group: ProcessList) -> Result<(), AllocError>
         ensures { MatchResult result (λ u. self.new ≡ self.old ++ group ∷ []) (λ e. self.new ≡ self.old) }
     {

@@ -5,9 +5,9 @@ ghost use Rattle.totem_script.specs.Casts.{Returned, IsCast, is_known, with_retu
 ghost use Rattle.totem_script.specs.Laws.{IsNextLife, ReturnsIfCrashed};
 ghost use Rattle.totem_script.specs.declared.script_fault.ScriptFaultKind.TheVariants.{Members};
 
-/// A process of a script returns exactly if it has crashed, numbers are left for its next life and for the ring of that,
-/// and there have been fewer than 32 lives. The fault is `Place` exactly if it has not crashed or a number is wanting, and
-/// `TooMany` exactly if only the lives forbid it. A process that the script does not have, and no other, is `Members`.
+/// A process of a script returns exactly if it has crashed, numbers are left for its next life and for that life's ring,
+/// and there have been fewer than 32 lives. The fault is `Place` exactly if it has not crashed or no number is left, and
+/// `TooMany` exactly if only the lives forbid it. It is `Members` exactly if the script does not have the process.
 pub fn only_the_crashed_return()
     ensures known { (actors : List Actor) (a : Actor) → IsCast actors → Contains actors a → ReturnsIfCrashed actors a }
     ensures others { (actors : List Actor) (p : ℕ) → (with_return actors p ≡ Err Members) ↔ (is_known actors p ≡ false) }
@@ -15,7 +15,7 @@ pub fn only_the_crashed_return()
 
 /// With a return a process that had crashed begins the life after its last one, as a new node alone on a ring. The process
 /// is the representative of that ring, whose number is 4 above the greatest that the old node made, filled or installed.
-/// The logs of the lives before are kept, and nothing changes for other processes.
+/// The logs of its earlier lives are kept, and nothing changes for other processes.
 pub fn a_return_begins_the_next_life()
     ensures { (actors : List Actor) (p : ℕ) (done : Returned) → with_return actors p ≡ Ok done → IsNextLife actors p done }
 {}

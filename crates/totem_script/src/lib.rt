@@ -1,4 +1,4 @@
-//! Scripts: texts that say what happens to some nodes, line by line.
+//! Scripts: texts that say line by line what happens to some nodes.
 #![tactic(auto)]
 
 mod actor;

@@ -6,15 +6,15 @@ ghost use Rattle.totem_script.specs.Judged.{Judged};
 use crate::script_fault::ScriptFaultKind;
 use std::marker::Model;
 
-/// How many bytes a script may have at most.
+/// The greatest size of a script in bytes.
 const MOST: usize = 65_536;
 
-/// Gives the lines of a script one after the other.
+/// An iterator over the lines of a script.
 #[derive(Drop)]
 pub struct Lines<'a> {
     /// What is left of the script.
     rest: &'a [u8],
-    /// How many bytes this rest may have.
+    /// How many more bytes the script may have.
     room: usize,
 }
 

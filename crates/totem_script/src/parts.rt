@@ -1,13 +1,13 @@
-//! A text cut at a byte: lines at line ends, words at spaces.
+//! A text split at a byte: lines at line ends, words at spaces.
 ghost use Rattle.std.specs.Prelude.{◌≡◌, [], ◌∷◌, MatchOption, IsTrue, ◌↔◌};
 ghost use Rattle.totem_script.specs.Parts.{parts};
 
 use std::marker::Model;
 
-/// Gives the parts of a text between the places at which one byte stands. There is one more part than such places.
+/// An iterator over the parts of a text that one byte separates. There is one part more than separators.
 #[derive(Debug, Drop)]
 pub struct Parts<'a> {
-    /// What stands after the last place that was met, or `None` after the last part.
+    /// What follows the last separator that was found, or `None` after the last part.
     rest: Option<&'a [u8]>,
     at: u8,
 }
@@ -22,7 +22,7 @@ impl<'a> Model for Parts<'a> {
 }
 
 impl<'a> Parts<'a> {
-    /// Cuts this text at each place where the byte `at` stands.
+    /// Splits this text at each byte `at`.
     pub fn new(text: &'a [u8], at: u8) -> Parts<'a>
         ensures { result ≡ parts at text.now }
     {

@@ -11,7 +11,7 @@ use crate::script_version::ScriptVersion;
 use std::alloc::Global;
 use totem_evs::Run;
 
-/// Reads the next line and carries out its command. Returns whether that was `end`.
+/// Reads the next line and carries out its command. Returns whether the command was `end`.
 fn play_line(
     alloc: Global,
     lines: &mut Lines<'_>,
@@ -69,7 +69,7 @@ fn begin(lines: &mut Lines<'_>) -> Result<ScriptVersion, ScriptFaultKind>
 }
 
 /// Returns the run that a script makes (docs/PROTOCOL.md, "Scripts"), with a log for each life of each of its processes. A
-/// fault is that of the first line that has one, and tells which line that is.
+/// fault is that of the first line that has one, and says which line that is.
 ///
 /// A script of version 2 gives a run of version 2, one of version 1 the run in the first version whose texts can write it.
 /// That this is version 1, since each process is in its first life, is tested and not proved.

@@ -1,4 +1,4 @@
-//! The packets on their way, and how packets are put there.
+//! The packets on their way, and how they are sent.
 ghost use Rattle.std.specs.Prelude.{◌≡◌, ◌++◌, ◌==◌, ◌&&◌, not, OnOk};
 ghost use Rattle.std.specs.List.{list_any};
 ghost use Rattle.totem_packets.specs.Sets.{has};
@@ -16,7 +16,7 @@ use totem_ring::To;
 /// Packets on their way, each with its receiver.
 pub type Queue = VecDeque<(ProcId, Packet)>;
 
-/// Returns whether both processes stand in this group.
+/// Returns whether both processes are in this group.
 fn are_together(group: &ProcessList, from: ProcId, to: ProcId) -> bool
     ensures { result ≡ (has group.now from && has group.now to) }
 {
@@ -29,7 +29,7 @@ fn is_group_of(groups: &[ProcessList], from: ProcId, to: ProcId) -> bool
     groups.iter().any(|group| are_together(group, from, to))
 }
 
-/// Returns whether packets pass between these processes: always without a cut, and during a cut within one group.
+/// Returns whether packets pass between these processes: within one group, and between any two if there is no cut.
 pub fn may_pass(cut: &Option<Groups>, from: ProcId, to: ProcId) -> bool
     ensures { result ≡ may_pass cut.now from to }
 {
@@ -39,7 +39,7 @@ pub fn may_pass(cut: &Option<Groups>, from: ProcId, to: ProcId) -> bool
     }
 }
 
-/// Returns whether a broadcast gets to the process `to`.
+/// Returns whether a broadcast reaches the process `to`.
 fn is_reached(cut: &Option<Groups>, from: ProcId, to: ProcId) -> bool
     ensures { result ≡ (not (to == from) && may_pass cut.now from to) }
 {

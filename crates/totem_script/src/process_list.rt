@@ -6,7 +6,7 @@ use std::marker::Model;
 use totem_ids::ProcId;
 use totem_packets::is_among;
 
-/// Processes as a line lists them: in any order, and each as often as it stands there.
+/// Processes as a line lists them: in any order, and perhaps more than once.
 #[derive(Debug, Drop)]
 pub struct ProcessList {
     procs: Vec<ProcId>,
@@ -21,7 +21,7 @@ impl Model for ProcessList {
 }
 
 impl ProcessList {
-    /// Returns the list without processes.
+    /// Returns a list without processes.
     pub fn new(alloc: Global) -> ProcessList
         ensures { result ≡ [] }
     {
@@ -30,7 +30,7 @@ impl ProcessList {
         }
     }
 
-    /// Adds a process after the others.
+    /// Appends a process.
     pub fn push(&mut self, proc: ProcId) -> Result<(), AllocError>
         ensures { MatchResult result (λ u. self.new ≡ self.old ++ proc ∷ []) (λ e. self.new ≡ self.old) }
     {

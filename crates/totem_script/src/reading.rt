@@ -16,7 +16,7 @@ use crate::submitting::submit;
 use std::alloc::Global;
 use totem_ids::ProcId;
 
-/// The greatest number that `run`, `drop` and `repeat` may have.
+/// The greatest number in `run`, `drop` and `repeat`.
 const MOST: u32 = 100_000;
 
 /// Reads a number with nothing after it.
@@ -58,8 +58,8 @@ fn alone(command: Command, words: &Parts<'_>) -> Result<Command, LineFault>
     }
 }
 
-/// Returns what a line of a script of this version, given without its end, says as a command. A fault is that of its first
-/// unfit byte.
+/// Returns the command of a line, given without its end, in a script of this version. A fault is that of its first
+/// unexpected byte.
 pub fn read_command(
     alloc: Global,
     version: ScriptVersion,

@@ -1,4 +1,4 @@
-//! The scene of a script: what there is while the script goes on.
+//! The scene of a script: its processes, packets and cut while the script is played.
 ghost use Rattle.std.specs.Prelude.{◌≡◌, length, nat_lt, slice_get};
 ghost use Rattle.totem_script.specs.Casts.{is_known};
 ghost use Rattle.totem_script.specs.Judged.{Becomes};
@@ -23,7 +23,7 @@ mod queueing;
 mod returning;
 mod running;
 
-/// What there is while a script goes on.
+/// The processes, packets and cut while a script is played.
 #[derive(Drop)]
 pub struct SceneState {
     /// The version of the script.
@@ -33,7 +33,7 @@ pub struct SceneState {
     queue: Queue,
     /// The groups of the cut, while there is one.
     cut: Option<Groups>,
-    /// Whether a command other than `ring` has come.
+    /// Whether a command other than `ring` was carried out.
     under_way: bool,
 }
 
@@ -50,7 +50,7 @@ impl SceneState {
     ghost use Rattle.totem_script.specs.Casts.{logs_in};
     ghost use Rattle.totem_script.specs.Versions.{run_of};
 
-    /// Returns the scene of a script of this version that has not begun.
+    /// Returns the scene at the beginning of a script of this version.
     pub fn new(alloc: Global, version: ScriptVersion) -> SceneState
         ensures { result ≡ empty_scene version }
     {
@@ -69,7 +69,7 @@ impl SceneState {
         self.version
     }
 
-    /// Gives a process this input, and puts what its node sends on its way. A process that the script does not have is passed over.
+    /// Gives a process this input, and puts what its node sends on its way. Does nothing if the script does not have the process.
     fn step(&mut self, alloc: Global, proc: ProcId, input: Input) -> Result<(), ScriptFaultKind>
         ensures { Becomes result self.new (scene_step self.old proc input) }
     {
@@ -103,7 +103,7 @@ impl SceneState {
         !self.actors.as_slice().is_empty()
     }
 
-    /// Does what a command says.
+    /// Carries out a command.
     fn effect(&mut self, alloc: Global, command: Command) -> Result<(), ScriptFaultKind>
         ensures { Becomes result self.new (effect self.old command) }
     {
@@ -132,7 +132,7 @@ impl SceneState {
         }
     }
 
-    /// Carries out a command, if it may come now. `Order` if it may not.
+    /// Carries out a command if it is allowed here. `Order` if it is not.
     pub fn carry_out(&mut self, alloc: Global, command: Command) -> Result<(), ScriptFaultKind>
         ensures { Becomes result self.new (carried_out self.old command) }
     {

@@ -7,7 +7,7 @@ use crate::fault::LineFault;
 use std::alloc::{AllocError, AllocFailed};
 use thiserror::Error;
 
-/// What is wrong with a line of a script. If several things are, it is the first of them in this order
+/// What is wrong with a line of a script. If there are several faults, it is the first of them in this order
 /// (docs/PROTOCOL.md, "Scripts").
 #[derive(Clone, Copy, Debug, PartialEq, Eq, Error)]
 pub enum ScriptFaultKind {
@@ -35,8 +35,8 @@ pub enum ScriptFaultKind {
     Memory,
 }
 
-/// Why a script makes no run, and which of its lines, counted from 1, was judged when that came out. If the script ends
-/// too early, that is the line which is missing. `Read` and `Memory` name the line that was under way.
+/// Why a script makes no run, and the number of the line, counted from 1, at which it was found. If the script ends
+/// too early, that is the missing line. With `Read` and `Memory` it is the line that was under way.
 #[derive(Clone, Copy, Debug, PartialEq, Eq, Error)]
 #[error("line {line}: {kind}")]
 pub struct ScriptFault {

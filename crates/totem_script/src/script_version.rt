@@ -7,7 +7,7 @@ ghost use Rattle.totem_script.specs.Versions.{version_in};
 pub enum ScriptVersion {
     /// A process has one life.
     One,
-    /// A process that has crashed may come back: there is the command `return`.
+    /// A process that has crashed may return: there is the command `return`.
     Two,
 }
 

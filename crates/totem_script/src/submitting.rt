@@ -13,7 +13,7 @@ use std::alloc::Global;
 use totem_ids::Service;
 use totem_packets::Payload;
 
-/// How many bytes a payload may have at most.
+/// The greatest length of a payload in bytes.
 const LONGEST: usize = 64;
 
 /// Returns the service that the word `a` or `s` names.

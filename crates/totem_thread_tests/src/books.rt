@@ -51,7 +51,7 @@ pub(crate) fn start(alloc: Global) -> Input {
     Input::Packet(Packet::Token(first_token(alloc, ring())))
 }
 
-/// The entries as a line of text.
+/// Shows the entries as a line of text.
 #[derive(Drop)]
 pub(crate) struct Lines<'a>(pub &'a [Entry]);
 
@@ -64,7 +64,7 @@ impl fmt::Display for Lines<'_> {
     }
 }
 
-/// What a reply adds to the log, or its refusal.
+/// Shows what a reply adds to the log, or its refusal.
 #[derive(Drop)]
 pub(crate) struct Answer<'a>(pub &'a Reply);
 
@@ -77,7 +77,7 @@ impl fmt::Display for Answer<'_> {
     }
 }
 
-/// What was told in the life of a book, with `| ` after each answer, and the replies of its calls.
+/// What was reported in the life of a book, with `| ` after each answer, and the replies of its calls.
 #[derive(Drop)]
 pub(crate) struct Life {
     pub text: String,
@@ -97,7 +97,7 @@ impl Life {
     }
 }
 
-/// Where the receipt stands, whether it says what the reply says, and what that is.
+/// Shows the place of a receipt, whether it has the reply, and the reply.
 #[derive(Drop)]
 struct Receipt<'a>(&'a Stub, &'a Reply);
 
@@ -122,13 +122,13 @@ fn apply(alloc: Global, life: &mut Life, book: &mut Book, input: Input) -> Resul
     }
 }
 
-/// Returns whether the copy of a call is of this receipt.
+/// Returns whether the copy of a call is that of this receipt.
 fn is_copied(alloc: Global, call: &Call, stub: &Stub) -> Result<bool, AllocError> {
     let copy = call.try_clone(alloc)?;
     Ok(copy.is_of(stub))
 }
 
-/// Adds of each call whether its copy is of the receipt.
+/// Adds for each call whether its copy is that of the receipt.
 fn push_calls(
     alloc: Global,
     text: &mut String,
@@ -142,7 +142,7 @@ fn push_calls(
     Ok(())
 }
 
-/// Tells the line of a receipt and a reply, and of each call whether its copy is of the receipt.
+/// Adds the line of a receipt and a reply, and for each call whether its copy is that of the receipt.
 fn tell_of_calls(
     alloc: Global,
     life: &mut Life,
@@ -155,7 +155,7 @@ fn tell_of_calls(
     life.tell("")
 }
 
-/// Tells the same of a receipt and a copy of the reply.
+/// Adds the same for a receipt and a copy of the reply.
 fn tell_of_reply(
     alloc: Global,
     life: &mut Life,
@@ -167,7 +167,7 @@ fn tell_of_reply(
     tell_of_calls(alloc, life, calls, stub, &reply)
 }
 
-/// Tells what the copies of a receipt, of a reply and of the calls tell.
+/// Adds the same for copies of a receipt, a reply and the calls.
 fn tell_of_copies(
     alloc: Global,
     life: &mut Life,
@@ -179,7 +179,7 @@ fn tell_of_copies(
     tell_of_reply(alloc, life, calls, &stub, reply)
 }
 
-/// Lets the first token come, and tells what copies that are made then tell.
+/// Gives the node the first token, and adds what copies of its receipt, reply and call show.
 fn copy(alloc: Global, life: &mut Life, book: &mut Book) -> Result<(), AllocError> {
     match book.apply(alloc, start(alloc)) {
         Ok((stub, reply)) => tell_of_copies(alloc, life, book.calls(), &stub, &reply),
@@ -192,7 +192,7 @@ fn crash(alloc: Global, book: &mut Book) -> Result<(), BookFault> {
     Ok(())
 }
 
-/// Makes so many calls of a node that has crashed. The fault is that of the first call that is not taken.
+/// Makes this many calls of a node that has crashed. The fault is that of the first call that is refused.
 fn fill(alloc: Global, book: &mut Book, calls: u32) -> Result<(), BookFault> {
     for _ in 0..calls {
         crash(alloc, book)?;
@@ -200,7 +200,7 @@ fn fill(alloc: Global, book: &mut Book, calls: u32) -> Result<(), BookFault> {
     Ok(())
 }
 
-/// Makes so many calls of a node that has crashed, and tells why the first is not taken that is not.
+/// Makes this many calls of a node that has crashed, and adds why the first one is refused that is.
 fn tell_fill(
     alloc: Global,
     life: &mut Life,
@@ -256,7 +256,7 @@ fn life_of(alloc: Global, words: &str) -> Result<Life, Fail> {
     Ok(life_among(alloc, &members, words)?)
 }
 
-/// Tells, step by step, of a book of process 1.
+/// Returns the results, step by step, of a book of process 1.
 fn text(alloc: Global, words: &str) -> Result<String, Fail> {
     Ok(life_of(alloc, words)?.text)
 }
@@ -266,6 +266,7 @@ pub(crate) fn replies(alloc: Global, words: &str) -> Result<Vec<Reply>, Fail> {
     Ok(life_of(alloc, words)?.replies)
 }
 
+/// A book keeps its calls and its log, and gives receipts at their places.
 #[test]
 fn a_book_keeps_calls_and_log(rt: HostRuntime) -> Result<(), Fail> {
     let text = text(rt.alloc(), "log calls submit first first crash calls log")?;
@@ -276,6 +277,7 @@ fn a_book_keeps_calls_and_log(rt: HostRuntime) -> Result<(), Fail> {
     Ok(())
 }
 
+/// Copies of calls, receipts and replies are equal to them.
 #[test]
 fn calls_and_receipts_are_copied(rt: HostRuntime) -> Result<(), Fail> {
     let text = text(rt.alloc(), "copy")?;
@@ -283,6 +285,7 @@ fn calls_and_receipts_are_copied(rt: HostRuntime) -> Result<(), Fail> {
     Ok(())
 }
 
+/// A book with 1,000,000 calls refuses the next one as Long and doesn't change.
 #[test]
 fn a_full_book_takes_no_call(rt: HostRuntime) -> Result<(), Fail> {
     let text = text(rt.alloc(), "million calls once calls")?;
@@ -308,7 +311,7 @@ fn push_close_faults(text: &mut String) -> Result<(), AllocError> {
     write!(text, "{}", CloseFault::SeatMissing)
 }
 
-/// The numbers and the names of all faults, and what two of them say.
+/// Returns the numbers and the names of all faults, and the texts of two of them.
 fn faults(alloc: Global) -> Result<String, AllocError> {
     let mut text = String::new(alloc);
     push_book_faults(&mut text)?;
@@ -316,6 +319,7 @@ fn faults(alloc: Global) -> Result<String, AllocError> {
     Ok(text)
 }
 
+/// The faults of calls and of closing have their numbers, names and texts.
 #[test]
 fn faults_have_numbers_and_names(rt: HostRuntime) -> Result<(), Fail> {
     let faults = faults(rt.alloc())?;

@@ -11,7 +11,7 @@ use totem_net::{
     ThreadEnd, TimerWord, Unwatched,
 };
 
-/// Tells the switch, if it is still there to be told, that a word has been dealt with.
+/// Reports to the switch, if the outlet is still there, that a channel message is done.
 fn tell<R: Wait>(rt: &R, outlet: Option<&Outlet>) -> Result<(), AllocError> {
     match outlet {
         Some(outlet) => outlet.tell_done(rt, Logged::nothing()),
@@ -19,7 +19,7 @@ fn tell<R: Wait>(rt: &R, outlet: Option<&Outlet>) -> Result<(), AllocError> {
     }
 }
 
-/// Adds the packets that a receiving thread is given, and a full stop at its stop word.
+/// Adds the packets that a receiving thread gets, and a full stop at its stop message.
 fn received<R: Wait>(
     rt: &R,
     words: &Receiver<PacketWord>,
@@ -42,7 +42,7 @@ fn received<R: Wait>(
     Ok(())
 }
 
-/// Adds as many letters `t` as a timer thread is given timers, and a full stop at its stop word.
+/// Adds a letter `t` for each timer that a timer thread gets, and a full stop at its stop message.
 fn timed<R: Wait>(rt: &R, end: &ThreadEnd<TimerWord>, all: &mut Vec<u8>) -> Result<(), AllocError> {
     for _ in rt.forever() {
         match end.words.recv(rt) {
@@ -67,7 +67,7 @@ fn letter(service: Service) -> u8 {
     }
 }
 
-/// Adds the services for which a client thread is asked, and a full stop at its stop word. Broadcasts a packet each time.
+/// Adds the services that a client thread is asked for, and a full stop at its stop message. Broadcasts a packet each time.
 fn asked<R: Wait>(
     rt: &R,
     end: &ThreadEnd<ClientWord>,
@@ -107,7 +107,7 @@ fn send_some<R: Wait>(rt: &R, alloc: Global, ends: &NodeEnds) -> Result<(), Allo
     Ok(())
 }
 
-/// Lets each node send. Keeps the ends by which they get packets, and drops those by which they could send more.
+/// Lets each node send. Keeps the ends by which nodes receive packets, and drops those by which they could send more.
 fn all_send<R: Wait>(
     rt: &R,
     alloc: Global,
@@ -134,7 +134,7 @@ fn all_received<R: Wait>(
     Ok(all)
 }
 
-/// Returns what the nodes are given of each other's packets by a switch that runs once all packets are sent.
+/// Returns the packets that the nodes receive from each other, from a switch that runs after all packets are sent.
 fn all_switched<R: Wait>(rt: &R, alloc: Global) -> Result<Vec<u8>, Fail> {
     let Network {
         switch,
@@ -147,6 +147,7 @@ fn all_switched<R: Wait>(rt: &R, alloc: Global) -> Result<Vec<u8>, Fail> {
     Ok(all_received(rt, alloc, &words?)?)
 }
 
+/// The switch forwards each packet to its receivers, and then stops the receiving threads.
 #[test]
 fn packets_go_through_the_switch(rt: HostRuntime) -> Result<(), Fail> {
     let all = all_switched(&rt, rt.alloc())?;
@@ -162,7 +163,7 @@ enum Part {
     Receiving,
 }
 
-/// What a thread of the node at this place is given.
+/// What a thread of the node at this place gets.
 #[derive(Drop)]
 struct Given {
     part: Part,
@@ -171,7 +172,7 @@ struct Given {
 }
 
 impl Given {
-    /// Takes its words until the stop word. At out of memory it ends at once, without a full stop.
+    /// Takes channel messages until the stop message. If memory is refused it ends at once, without a full stop.
     fn take<R: Wait>(&mut self, rt: &R, nodes: &[NodeEnds]) -> Result<(), AllocError> {
         let Some(ends) = nodes.get(self.place) else {
             return Ok(());
@@ -186,7 +187,7 @@ impl Given {
         }
     }
 
-    /// Returns all that a client or a timer thread was given, or the end of what a receiving thread was.
+    /// Returns all that a client or a timer thread got, or the last byte that a receiving thread got.
     fn told(&self) -> &[u8] {
         match self.part {
             Part::Receiving => &self.all[self.all.len().saturating_sub(1)..],
@@ -195,7 +196,7 @@ impl Given {
     }
 }
 
-/// Returns the threads of three nodes before they are given anything.
+/// Returns the threads of three nodes before they get anything.
 fn nothing_given(alloc: Global) -> Result<Vec<Given>, AllocError> {
     let mut given = Vec::new(alloc);
     for part in [Part::Client, Part::Timer, Part::Receiving] {
@@ -247,7 +248,7 @@ fn give_all<R: Threads + Wait + Sync>(
     Ok(run_all(rt, alloc, switch, pacer, &nodes, given)?)
 }
 
-/// Returns what the client and timer threads of a network are given, and the ends of what its receiving threads are.
+/// Returns what the client and timer threads of a network get, and the last bytes of what its receiving threads get.
 fn all_given<R: Threads + Wait + Sync>(rt: &R, alloc: Global) -> Result<Vec<u8>, Fail> {
     let mut given = nothing_given(alloc)?;
     give_all(rt, alloc, &mut given)?;
@@ -258,6 +259,7 @@ fn all_given<R: Threads + Wait + Sync>(rt: &R, alloc: Global) -> Result<Vec<u8>,
     Ok(all)
 }
 
+/// Each thread of a node gets its own channel messages and a stop message.
 #[test]
 fn each_thread_has_its_words(rt: HostRuntime) -> Result<(), Fail> {
     let all = all_given(&rt, rt.alloc())?;
@@ -265,7 +267,7 @@ fn each_thread_has_its_words(rt: HostRuntime) -> Result<(), Fail> {
     Ok(())
 }
 
-/// Counts the nodes that begin.
+/// Adds up the numbers of the nodes that begin.
 #[derive(Drop)]
 struct Begun<'a, R: Wait + Sync> {
     rt: &'a R,
@@ -279,6 +281,7 @@ impl<R: Wait + Sync> Start for Begun<'_, R> {
     }
 }
 
+/// A `Start` is called with each node that begins.
 #[test]
 fn a_start_is_told_of_each_node(rt: HostRuntime) {
     let start = Begun {

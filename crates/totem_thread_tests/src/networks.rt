@@ -16,7 +16,7 @@ fn node(number: u16) -> Result<ProcId, Fail> {
     Ok(ProcId::new(number).ok_or("no process has the number 0")?)
 }
 
-/// Adds what is handed on: the number of each receiver and the packet, one after another.
+/// Adds the packets that are forwarded: the number of each receiver and the packet, one after the other.
 fn push_handed(text: &mut String, deliveries: &[Delivery]) -> Result<(), AllocError> {
     for delivery in deliveries {
         let packet = std::str::from_utf8(delivery.packet.as_slice()).unwrap_or("?");
@@ -25,7 +25,7 @@ fn push_handed(text: &mut String, deliveries: &[Delivery]) -> Result<(), AllocEr
     Ok(())
 }
 
-/// Returns for whom a packet is: a node, or after `-` every node but one.
+/// Returns the address of a packet: a node, or after `-` every node but one.
 fn address(to: &str) -> Option<Address> {
     match to.strip_prefix('-') {
         Some(sender) => Some(Address::AllBut(ProcId::new(sender.parse().ok()?)?)),
@@ -33,7 +33,7 @@ fn address(to: &str) -> Option<Address> {
     }
 }
 
-/// Adds what is handed on because of a packet.
+/// Adds the packets that are forwarded after a packet.
 fn push_carried(
     alloc: Global,
     ways: &mut Ways,
@@ -56,7 +56,7 @@ fn carry(
     push_carried(alloc, ways, text, address, &packet)
 }
 
-/// Sends one packet, given as the packet, `>` and for whom it is, and adds what is handed on.
+/// Sends one packet, given as the packet, `>` and its address, and adds the packets that are forwarded.
 fn pass(alloc: Global, ways: &mut Ways, text: &mut String, word: &str) -> Result<(), AllocError> {
     let (packet, to) = word.split_once('>').unwrap_or((word, ""));
     match address(to) {
@@ -74,7 +74,7 @@ fn all_passed(alloc: Global, ways: &mut Ways, words: &str) -> Result<String, All
     Ok(text)
 }
 
-/// Tells what is handed on because of each packet, on the ways to so many nodes.
+/// Returns the packets that are forwarded after each packet, on the ways to this many nodes.
 fn carried(alloc: Global, nodes: u16, fates: Fates, words: &str) -> Result<String, AllocError> {
     let mut ways = Ways::new(alloc, nodes, fates)?;
     all_passed(alloc, &mut ways, words)
@@ -85,6 +85,7 @@ fn parts_of(plan: Option<Plan>) -> Option<(u8, u8, u8)> {
     Some((plan.lose, plan.repeat, plan.hold))
 }
 
+/// The percentages of a plan are at most 100 together.
 #[test]
 fn a_plan_loses_and_repeats_a_hundred_at_most(rt: HostRuntime) {
     let parts = [
@@ -94,6 +95,7 @@ fn a_plan_loses_and_repeats_a_hundred_at_most(rt: HostRuntime) {
     assert_eq!(rt; parts, [None, Some((60, 40, 255))]);
 }
 
+/// A random word gives a packet's fate under a plan.
 #[test]
 fn words_give_fates(rt: HostRuntime) -> Result<(), Fail> {
     let plan = Plan::new(10, 20, 3).ok_or("a plan")?;
@@ -106,6 +108,7 @@ fn words_give_fates(rt: HostRuntime) -> Result<(), Fail> {
 }
 
 // The words of PCG32 from the seed 1 are 866585574, 2109535214, 3403630417, 296513984, ..
+/// Fates are those of the generator's words, also in a copy and for the n-th fate.
 #[test]
 fn fates_are_those_of_the_generators_words(rt: HostRuntime) -> Result<(), Fail> {
     let plan = Plan::new(10, 20, 3).ok_or("a plan")?;
@@ -121,6 +124,7 @@ fn fates_are_those_of_the_generators_words(rt: HostRuntime) -> Result<(), Fail> 
 
 // From the seed 1 these packets have, in order, one copy held for 3; two for 0 and 1; two for 0 and 3; one for 3; one
 // for 2; one for 2; one for 1; two for 1 and 2.
+/// A copy that is held is forwarded after as many later packets as its fate says.
 #[test]
 fn copies_let_further_packets_by(rt: HostRuntime) -> Result<(), Fail> {
     let plan = Plan::new(10, 20, 3).ok_or("a plan")?;
@@ -133,6 +137,7 @@ fn copies_let_further_packets_by(rt: HostRuntime) -> Result<(), Fail> {
     Ok(())
 }
 
+/// A broadcast goes to all nodes but its sender, and another packet to its one receiver.
 #[test]
 fn broadcasts_go_to_all_others(rt: HostRuntime) -> Result<(), Fail> {
     let two = node(2)?;
@@ -144,7 +149,7 @@ fn broadcasts_go_to_all_others(rt: HostRuntime) -> Result<(), Fail> {
     Ok(())
 }
 
-/// Lets seven ticks pass, which bring no turn, and then an eighth.
+/// Lets seven ticks pass, which give no turn, and then an eighth.
 fn eighth(turns: &mut Turns) -> Option<(u16, Service)> {
     for _ in 0..7 {
         if turns.tick().is_some() {
@@ -155,6 +160,7 @@ fn eighth(turns: &mut Turns) -> Option<(u16, Service)> {
     Some((turn.node.number(), turn.service))
 }
 
+/// Every eighth tick gives a client its turn, until the ticks are used up.
 #[test]
 fn every_eighth_tick_brings_a_turn(rt: HostRuntime) {
     let mut turns = Turns::new(3, 32);
@@ -167,12 +173,14 @@ fn every_eighth_tick_brings_a_turn(rt: HostRuntime) {
     assert_eq!(rt; eighth(&mut turns), None);
 }
 
+/// `Quiet` does nothing when a node begins.
 #[test]
 fn quiet_does_nothing() -> Result<(), Fail> {
     Quiet.begun(node(1)?);
     Ok(())
 }
 
+/// The laws of networks can be called, and take no arguments.
 #[test]
 fn laws_take_nothing() {
     copies_wait_their_time();

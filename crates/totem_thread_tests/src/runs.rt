@@ -1,11 +1,11 @@
-//! The numbers of a run in threads, and what is told of its faults. What the threads do is asked of the public call `run_threads`
+//! The numbers of a run in threads, and its faults. What the threads do is tested with the public call `run_threads`
 //! (totem_cluster_tests).
 use std::test::Fail;
 use totem_books::{BookFault, CloseFault};
 use totem_net::Plan;
 use totem_threads::{BookTrouble, RunPlan, ThreadsFault};
 
-/// How many nodes a plan has, how many ticks, and whether there is such a plan.
+/// The number of nodes and of ticks of a plan, and whether there is such a plan.
 const PLANS: [(u16, u32, bool); 6] = [
     (0, 1, false),
     (1, 1, true),
@@ -15,6 +15,7 @@ const PLANS: [(u16, u32, bool); 6] = [
     (1, 1_000_001, false),
 ];
 
+/// A plan has 1 to 32 nodes and 1 to 1,000,000 ticks.
 #[test]
 fn a_plan_is_of_1_to_32_nodes_and_a_million_ticks(rt: HostRuntime) -> Result<(), Fail> {
     let Some(plan) = Plan::new(0, 0, 0) else {
@@ -30,6 +31,7 @@ fn a_plan_is_of_1_to_32_nodes_and_a_million_ticks(rt: HostRuntime) -> Result<(),
     Ok(())
 }
 
+/// The faults of a run have the numbers and names of the books' faults, and out of memory is its own fault.
 #[test]
 fn faults_tell_what_was_refused(rt: HostRuntime) -> Result<(), Fail> {
     for (trouble, number, name) in &[

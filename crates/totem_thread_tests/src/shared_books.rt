@@ -16,7 +16,7 @@ use totem_books::{
 use totem_evs::Members;
 use totem_node::Input;
 
-/// Returns what the thread of this number gives its node: the first two threads are clients, the third receives, the
+/// Returns the input that the thread of this number gives its node: the first two threads are clients, the third receives, the
 /// fourth is a timer.
 fn input_of(alloc: Global, thread: usize) -> Input {
     match thread {
@@ -40,7 +40,7 @@ fn make_calls<L: BookName, R: Wait>(
     }
 }
 
-/// Makes 250 calls by each seat, in a thread of its own.
+/// Makes 250 calls with each seat, in a thread of its own.
 fn all_calls<L: BookName + Send + Sync, R: Threads + Wait + Sync>(
     rt: &R,
     alloc: Global,
@@ -71,13 +71,13 @@ fn is_rising(stubs: &[Stub]) -> bool {
     true
 }
 
-/// Tells how many receipts there are, and whether they stand in their order.
+/// Adds the number of receipts, and whether their places ascend.
 fn tell_stubs(life: &mut Life, stubs: &[Stub]) -> Result<(), AllocError> {
     let rising = is_rising(stubs);
     write!(life.text, "{} {rising}| ", stubs.len())
 }
 
-/// Tells the same of each seat.
+/// Adds the same for each seat.
 fn tell_seats<L: BookName>(life: &mut Life, seats: &[Seat<L>]) -> Result<(), AllocError> {
     for seat in seats {
         tell_stubs(life, seat.stubs())?;
@@ -90,7 +90,7 @@ fn note(life: &mut Life, reply: Reply) -> Result<(), AllocError> {
     Ok(life.replies.push(reply)?)
 }
 
-/// Makes a call by the first seat.
+/// Makes a call with the first seat.
 fn call<L: BookName, R: Wait>(
     rt: &R,
     alloc: Global,
@@ -140,7 +140,7 @@ fn all_steps<L: BookName + Send + Sync, R: Threads + Wait + Sync>(
     Ok(())
 }
 
-/// Tells how many calls a closed book has, and its log too if one seat made them: several threads have no set order.
+/// Adds the number of calls of a closed book, and also its log if one seat made the calls: several threads have no set order.
 fn tell_closed(life: &mut Life, closed: &ClosedBook, seats: usize) -> Result<(), AllocError> {
     life.tell(closed.calls().len())?;
     if seats != 1 {
@@ -172,7 +172,7 @@ fn put_back<L: BookName>(
     }
 }
 
-/// Tells why a book was not closed and how many seats came back.
+/// Adds why a book was not closed, and how many seats were given back.
 fn tell_refusal(life: &mut Life, fault: CloseFault, count: usize) -> Result<(), AllocError> {
     write!(life.text, "{} {count}| ", fault.name())
 }
@@ -205,8 +205,8 @@ fn close_twice<L: BookName>(
     }
 }
 
-/// Tells of a shared book of process 1 with so many seats, step by step and when it is closed. The words are a
-/// `String`, since a call can pick no ghost members where the signature has a `&str`.
+/// Returns the results of a shared book of process 1 with this many seats, step by step and at its close. The words are a
+/// `String`, since a call can't infer ghost members if the signature has a `&str`.
 fn live<L: BookName + Send + Sync, R: Threads + Wait + Sync>(
     rt: &R,
     alloc: Global,
@@ -257,7 +257,7 @@ fn life_of<R: Threads + Wait + Sync>(
     Ok(life)
 }
 
-/// Returns how many replies these are, how many those are, and how many are the same.
+/// Returns the number of `these` replies, of `those` replies, and of equal pairs.
 fn compared(these: &[Reply], those: &[Reply]) -> (usize, usize, usize) {
     let mut same = 0usize;
     for (this, that) in these.iter().zip(those) {
@@ -268,7 +268,7 @@ fn compared(these: &[Reply], those: &[Reply]) -> (usize, usize, usize) {
     (these.len(), those.len(), same)
 }
 
-/// What a shared book with so many seats tells.
+/// Returns the results of a shared book with this many seats.
 fn text<R: Threads + Wait + Sync>(
     rt: &R,
     alloc: Global,
@@ -280,6 +280,7 @@ fn text<R: Threads + Wait + Sync>(
     Ok(life_of(rt, alloc, count, words)?.text)
 }
 
+/// Four threads make 250 calls each of one book, which is closed only with all seats.
 #[test]
 fn four_threads_share_a_book(rt: HostRuntime) -> Result<(), Fail> {
     let text = text(&rt, rt.alloc(), 4, "threads seats")?;
@@ -290,7 +291,7 @@ fn four_threads_share_a_book(rt: HostRuntime) -> Result<(), Fail> {
     Ok(())
 }
 
-/// Runs a shared book with one seat. Tells what it tells, and its replies beside those of a book that nobody shares.
+/// Runs a shared book with one seat. Returns its results, and compares its replies with those of a book that is not shared.
 fn beside_a_book<R: Threads + Wait + Sync>(
     rt: &R,
     alloc: Global,
@@ -302,6 +303,7 @@ fn beside_a_book<R: Threads + Wait + Sync>(
     Ok((life.text, compared))
 }
 
+/// A shared book with one seat replies as a book that is not shared.
 #[test]
 fn a_call_answers_as_a_book_does(rt: HostRuntime) -> Result<(), Fail> {
     let (text, compared) = beside_a_book(&rt, rt.alloc(), "submit first")?;

@@ -81,7 +81,7 @@ module _ (nodes : ℕ) (logs : List LogRecord) (procs : map (λ (l : LogRecord).
   rise : AllPairs IsBelowLog logs
   rise i j d less inside = rw (process_at i d (omega arith), process_at j d inside) (omega arith)
 
--- they are refused by none of the rules
+-- they break none of the rules
 pub logs_taken : (nodes : ℕ) (books : List Closed) (logs : List LogRecord) (fault : ListFault) → nodes ≤ 32
     → map (λ (b : Closed). b.start) books ≡ starts nodes → AreLogsOf books logs → Refuses 0 32 IsBelowLog logs fault → ⊥
 logs_taken nodes books logs fault few begun are refused =

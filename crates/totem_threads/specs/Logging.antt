@@ -23,6 +23,6 @@ is_installation (Send m x service) = false
 is_installation (Deliver m x) = false
 is_installation (Fail x) = false
 
--- how many messages and regular configurations stand in these entries
+-- the number of messages and of regular configurations in these entries
 abbrev pub logged_of : List Entry → Logged
 logged_of entries = record { deliveries = count_by is_delivery entries; configurations = count_by is_installation entries }

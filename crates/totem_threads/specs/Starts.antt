@@ -1,4 +1,4 @@
--- With what the nodes of a run in threads begin (docs/PROTOCOL.md, "A run in threads").
+-- The starts of the nodes of a run in threads (docs/PROTOCOL.md, "A run in threads").
 use Rattle.std.specs.Prelude.{◌≤◌, ℕ, List, map}
 use Rattle.totem_ids.specs.Names.{RingName}
 use Rattle.totem_net.specs.Nodes.{node_numbers}
@@ -15,15 +15,15 @@ use Rattle.totem_threads.specs.declared.plan.RunPlan.{RunPlan}
 abbrev pub first_ring : RingName
 first_ring = record { seq = 4; rep = 1 }
 
--- what the network hands on first: the first token of that ring
+-- the first packet that the network forwards: the first token of that ring
 abbrev pub first_packet : List ℕ
 first_packet = packet_bytes (Token (first_token first_ring))
 
--- one of so many nodes, all of which are members of that ring in their first lives
+-- the start of one of this many nodes, all of which are members of that ring in their first lives
 abbrev pub start_of : ℕ → ℕ → Start
 start_of nodes node = start_with (first_rank node) first_ring (first_ranks (node_numbers nodes))
 
--- all of them, in ascending order
+-- the starts of all nodes, in ascending order
 abbrev pub starts : ℕ → List Start
 starts nodes = map (start_of nodes) (node_numbers nodes)
 

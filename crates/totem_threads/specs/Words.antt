@@ -1,4 +1,4 @@
--- What the words of a node's threads ask (docs/PROTOCOL.md, "A run in threads").
+-- The tasks of the channel messages to a node's threads (docs/PROTOCOL.md, "A run in threads").
 use Rattle.std.specs.Prelude.{codes, Result, Ok, Err}
 use Rattle.totem_net.specs.declared.words.PacketWord.{PacketWord}
 use Rattle.totem_net.specs.declared.words.PacketWord.TheVariants as packet_words
@@ -13,7 +13,7 @@ use Rattle.totem_packets.specs.Grammar.{decode_packet}
 use Rattle.totem_threads.specs.declared.task.Task.{Task}
 use Rattle.totem_threads.specs.declared.task.Task.TheVariants as tasks
 
--- a packet is given to the node; bytes that are none ask nothing
+-- a packet is given to the node; bytes that are not a packet give no task
 abbrev pub decoded_task : Result Packet PacketFault → Task
 decoded_task (Ok packet) = tasks.Input (inputs.Packet packet)
 decoded_task (Err fault) = tasks.Nothing

@@ -10,16 +10,16 @@ use totem_books::{BookFault, CloseFault};
 /// What a book refused, and why.
 #[derive(Clone, Copy, Debug, PartialEq, Eq, Error)]
 pub enum BookTrouble {
-    /// A call, or its log because that is too long for a run. From a run always with `BookFault::Long`.
+    /// A call, or its log because that is too long for a run. In a run this is always `BookFault::Long`.
     #[error("the book takes no more calls: {0}")]
     Call(BookFault),
-    /// To be closed. No run ends so.
+    /// To be closed. This never ends a run.
     #[error("the book can't be closed: {0}")]
     Close(CloseFault),
 }
 
 impl BookTrouble {
-    /// Returns the number of the fault, among those of calls or those of closing.
+    /// Returns the number of the fault, in the numbering of faults of calls or of closing.
     pub fn number(&self) -> u8
         ensures { result ≡ trouble_number self.now }
     {

@@ -21,7 +21,7 @@ pub fn first_ring() -> RingId
     }
 }
 
-/// Returns the members of its configuration: the first lives of 1 to `nodes`.
+/// Returns the members of that ring's configuration: the first lives of 1 to `nodes`.
 #[tactic(auto, using(crate::proofs::Starting::numbers_more))]
 pub fn first_members(alloc: Global, nodes: u16) -> Result<Members, AllocError>
     requires { (0 < nodes) × (nodes ≤ 32) }

@@ -1,4 +1,4 @@
-//! Runs in threads: nodes whose threads share a book each, over a network of channels.
+//! Runs in threads: a network of channels, and nodes each of which has threads that share its book.
 #![tactic(auto)]
 
 mod fault;

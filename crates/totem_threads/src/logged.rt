@@ -1,4 +1,4 @@
-//! What is counted of a node's log, for those who watch a run.
+//! What is counted of a node's log, for progress reports.
 ghost use Rattle.std.specs.Prelude.{◌≡◌};
 ghost use Rattle.totem_books.specs.Replies.{answer_of, entries_of};
 ghost use Rattle.totem_threads.specs.Logging.{is_delivery, is_installation, logged_of};
@@ -20,7 +20,7 @@ fn is_installation(entry: &Entry) -> bool
     matches!(entry, Entry::Conf(ConfId::Regular(_), _))
 }
 
-/// Returns how many messages and regular configurations stand in the entries that a node has logged at a call.
+/// Returns the number of messages and of regular configurations in the entries that a node has logged at a call.
 pub fn logged_at(reply: &Reply) -> Logged
     ensures { result ≡ logged_of (entries_of (answer_of reply.now)) }
 {

@@ -1,4 +1,4 @@
-//! Makes a run of books.
+//! Makes a run from books.
 ghost use Rattle.std.specs.Prelude.{◌≡◌, ◌≢◌, ◌≤◌, IfOk, IfErr, map, All};
 ghost use Rattle.totem_evs.specs.Lives.{IsFirstVersion};
 ghost use Rattle.totem_threads.specs.Faults.{EndsRun};
@@ -11,7 +11,7 @@ use totem_books::{BookFault, ClosedBook};
 use totem_evs::{Ending, Entries, Log, Run};
 use totem_ids::copied;
 
-/// Returns the log of a book. If it is longer than a log may be, it is refused as a call of the book is.
+/// Returns the log of a book. If it is longer than a log may be, the fault is that of a call to a full book.
 fn log_of(alloc: Global, book: &ClosedBook) -> Result<Log, ThreadsFault>
     ensures process { IfOk result (λ log. log.proc ≡ book.now.start.me) }
     ensures entries { IfOk result (λ log. log.entries ≡ book.now.log) }
@@ -38,7 +38,7 @@ fn logs_of(alloc: Global, books: &[ClosedBook]) -> Result<Vec<Log>, ThreadsFault
     Ok(logs)
 }
 
-/// Tells contracts that each book is the replay of its calls, which its type keeps.
+/// Does nothing. The contract says that each book is the replay of its calls, an invariant of its type.
 pub fn all_replayed(books: &[ClosedBook])
     ensures { All IsReplayed books.now }
 {

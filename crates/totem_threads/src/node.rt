@@ -1,4 +1,4 @@
-//! A node's thread, which opens the node's book, runs three threads over it, and closes it.
+//! A node's main thread, which opens the node's book, runs three threads on it, and closes it.
 ghost use Rattle.std.specs.Prelude.{◌≡◌, ◌<◌, ◌≤◌, IfOk, IfErr, vec_len};
 ghost use Rattle.totem_recover.specs.Lives.{first_rank};
 ghost use Rattle.totem_threads.specs.Faults.{EndsRun};
@@ -28,13 +28,13 @@ fn three<L: BookName>(seats: Vec<Seat<L>>) -> (Seat<L>, Seat<L>, Seat<L>)
     (first, second, third)
 }
 
-/// Returns the fault of a node of which a thread can't be made, and tells that the node is gone.
+/// Reports that the node is gone, and returns the fault of a node for which a thread can't be made.
 fn unmade<R: Wait>(rt: &R, outlet: &Outlet) -> BookFault {
     outlet.tell_gone(rt);
     BookFault::Memory
 }
 
-/// Runs the node's threads to their ends, and returns their seats.
+/// Runs the node's threads until they end, and returns their seats.
 fn serve_all<L: BookName + Send + Sync, S: Start, R: Threads + Wait + Sync>(
     rt: &R,
     alloc: Global,
@@ -80,7 +80,7 @@ fn serve_all<L: BookName + Send + Sync, S: Start, R: Threads + Wait + Sync>(
     )
 }
 
-/// Keeps the book of this name from its first call to its last.
+/// Opens the book of this name, runs the node's threads on it, and closes it.
 fn keep_book<L: BookName + Send + Sync, S: Start, R: Threads + Wait + Sync>(
     rt: &R,
     alloc: Global,
@@ -114,7 +114,7 @@ fn keep_book<L: BookName + Send + Sync, S: Start, R: Threads + Wait + Sync>(
     }
 }
 
-/// Runs one of so many nodes from its first word to its last.
+/// Runs one of this many nodes from its first channel message to its last.
 fn run_to_end<S: Start, R: Threads + Wait + Sync>(
     rt: &R,
     alloc: Global,
@@ -131,7 +131,7 @@ fn run_to_end<S: Start, R: Threads + Wait + Sync>(
     keep_book::<Brand, S, R>(rt, alloc, Blank::new(3), &members, ends, outlet, start)
 }
 
-/// Runs one of so many nodes, and tells at a fault that the node is gone, which ends the run.
+/// Runs one of this many nodes. At a fault it reports that the node is gone, which ends the run.
 pub fn run_node<S: Start, R: Threads + Wait + Sync>(
     rt: &R,
     alloc: Global,

@@ -1,16 +1,16 @@
-//! What a run in threads is made of.
+//! The plan of a run in threads.
 ghost use Rattle.std.specs.Prelude.{◌≡◌, MatchOption};
 ghost use Rattle.totem_threads.specs.Starts.{IsInRange, run_plan};
 
 use totem_net::Plan;
 
-/// A run in threads: how many nodes and ticks it has, and what the network does to packets, by the random words that
-/// the seed begins (docs/PROTOCOL.md, "A run in threads").
+/// The plan of a run in threads: how many nodes and ticks it has, and what the network does to packets, determined by the
+/// random words from this seed (docs/PROTOCOL.md, "A run in threads").
 #[derive(Clone, Copy, Debug, PartialEq, Eq)]
 pub struct RunPlan {
-    /// How many nodes there are, 1 to 32. They are the processes from 1 on.
+    /// The number of nodes, 1 to 32. They are the processes from 1 on.
     pub nodes: u16,
-    /// How many ticks there are, 1 to 1,000,000.
+    /// The number of ticks, 1 to 1,000,000.
     pub ticks: u32,
     pub seed: u64,
     pub plan: Plan,

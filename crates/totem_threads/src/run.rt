@@ -21,7 +21,7 @@ use totem_evs::Run;
 use totem_ids::ProcId;
 use totem_net::{Fates, Network, Progress, Start};
 
-/// A promise of a thread: if it gives a book, that is the book of this node in a run of so many, and else it says why there is no run.
+/// What a thread promises: either the book of this node in a run of this many, or why there is no run.
 #[derive(Clone, Copy)]
 struct BookOf {
     node: ProcId,
@@ -38,7 +38,7 @@ impl Promise<Result<ClosedBook, ThreadsFault>> for BookOf {
 
 type NodeHandle = PromisedHandle<Result<ClosedBook, ThreadsFault>, BookOf>;
 
-/// Waits for each of the threads to end, and returns their books.
+/// Waits until each of the threads has ended, and returns their books.
 fn joined<R: Threads>(
     rt: &R,
     alloc: Global,
@@ -55,7 +55,7 @@ fn joined<R: Threads>(
     Ok(books)
 }
 
-/// Runs the nodes in threads of their own and the switch in this one, and returns the nodes' books.
+/// Runs each node in a thread of its own and the switch in this one, and returns the nodes' books.
 fn run_network<S: Start, R: Threads + Wait + Sync, P: Progress>(
     rt: &R,
     alloc: Global,
@@ -109,9 +109,9 @@ fn run_network<S: Start, R: Threads + Wait + Sync, P: Progress>(
     )
 }
 
-/// Runs so many nodes in threads, on ring 4.1, over a network that does what the plan says, until the ticks are used up
+/// Runs this many nodes in threads, on ring 4.1, over a network that follows the plan, until the ticks are used up
 /// (docs/PROTOCOL.md, "A run in threads"). Waits for all threads, and returns the run that the nodes recorded with
-/// their books in ascending order. Which run comes out is open. The switch tells at each tick how far the run is.
+/// their books in ascending order. The contract leaves open which run it is. The switch reports the progress at each tick.
 pub fn run_nodes<S: Start, R: Threads + Wait + Sync, P: Progress>(
     rt: &R,
     alloc: Global,

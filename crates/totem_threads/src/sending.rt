@@ -1,4 +1,4 @@
-//! Sends what a node answers to the network.
+//! Sends the packets of a node's answer to the network.
 use bytes::Bytes;
 use std::alloc::{AllocError, Global};
 use std::sync::Wait;

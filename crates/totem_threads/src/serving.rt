@@ -9,8 +9,8 @@ use totem_books::{BookFault, BookName, Seat, SharedBook};
 use totem_ids::ProcId;
 use totem_net::{Logged, PacketWord, Start, ThreadEnd};
 
-/// Gives the node what each word asks, sends what it answers, and tells that the word has been dealt with and what was logged,
-/// until a stop word comes or the switch is gone.
+/// Gives the node the task of each channel message, sends what it answers, and reports that the message is done and what was
+/// logged, until a stop message arrives or the switch is gone.
 fn deal<L: BookName, W: Word, R: Wait>(
     rt: &R,
     alloc: Global,
@@ -36,8 +36,8 @@ fn deal<L: BookName, W: Word, R: Wait>(
     Ok(())
 }
 
-/// Deals with a thread's words to their end, and returns the seat with the receipts of its calls. At a fault it tells
-/// that the node is gone, which ends the run.
+/// Handles a thread's channel messages until they end, and returns the seat with the receipts of its calls. At a fault it
+/// reports that the node is gone, which ends the run.
 pub fn serve<L: BookName, W: Word, R: Wait>(
     rt: &R,
     alloc: Global,
@@ -55,7 +55,7 @@ pub fn serve<L: BookName, W: Word, R: Wait>(
     }
 }
 
-/// Tells, in the receiving thread, that its node has begun, and then does as `serve` does.
+/// Reports, in the receiving thread, that its node has begun, and then does the same as `serve`.
 pub fn receive<L: BookName, S: Start, R: Wait>(
     rt: &R,
     alloc: Global,

@@ -1,7 +1,7 @@
-//! What a thread of a node has to do.
+//! The tasks of a node's threads.
 use totem_node::Input;
 
-/// What a word asks of the thread that is given it.
+/// What a channel message asks of its thread.
 #[derive(Drop)]
 pub enum Task {
     /// To give its node this input.

@@ -1,4 +1,4 @@
-//! What the words of a node's three threads ask.
+//! The tasks of the channel messages to a node's three threads.
 ghost use Rattle.std.specs.Prelude.{◌≡◌, IfOk};
 ghost use Rattle.totem_threads.specs.Words.{packet_task, timer_task, client_task};
 
@@ -12,13 +12,13 @@ use totem_packets::{Packet, PacketFault};
 /// The payload that a client submits.
 const PAYLOAD: &[u8] = b"x";
 
-/// A word that a thread of a node is given.
+/// A channel message to a thread of a node.
 pub trait Word: Drop + Send {
     ghost use Rattle.totem_threads.specs.declared.task.Task.{Task};
 
     ghost task_of: { Self → Task };
 
-    /// Returns what the word asks. The only fault is out of memory.
+    /// Returns what the channel message asks. The only fault is out of memory.
     fn task(self, alloc: Global) -> Result<Task, AllocError>
         ensures { IfOk result (λ task. task ≡ task_of self) };
 }
@@ -26,7 +26,7 @@ pub trait Word: Drop + Send {
 impl Word for PacketWord {
     ghost task_of = { packet_task };
 
-    /// Decodes the packet. Bytes that are no packet ask for nothing.
+    /// Decodes the packet. Bytes that are not a packet give no task.
     fn task(self, alloc: Global) -> Result<Task, AllocError> {
         let PacketWord::Packet(bytes) = self else {
             return Ok(Task::Stop);

@@ -1,4 +1,4 @@
--- A run and a certificate after it, reports that were not written, and a no in words.
+-- A run and a certificate after it, reports that were not written, and explanations of a no.
 use Rattle.std.proofs.Common.{◌≡◌, inl, inr, ℕ, List, ◌++◌, Option, Some, None, Result, Ok, Err, map, refl, sym, ap, ◌∙◌, IfSome, append_assoc}
 use Rattle.std.specs.Io.KnownBytes.{Consumes}
 use Rattle.totem_ids.specs.Sources.{Seen}
@@ -69,7 +69,7 @@ pub audit_failed : (a c : Seen) (was is : Held) (run : RunRecord) (text : List �
 audit_failed a c was is run text write_faults.Memory whole h = (h, whole.failures)
 audit_failed a c was is run text write_faults.Write whole h = (h, (run, whole))
 
--- a no in words was written, or was not
+-- the explanation of a no was written, or was not
 pub no_told : {A : Type 0} (version : Version) (was is : Held) (r : Result A WriteFault) (words : ExplainedNo) (faults : List Fault)
     → map (λ one. one.fault) words.faults.items ≡ faults → WritesText was is r (explained_no_text version words) → WritesTold version was is r (No faults)
 no_told version was is (Ok a) words faults same wrote = (explained_no_text version words, (words, same, refl), wrote)

@@ -1,4 +1,4 @@
--- What auditing a stream answers, and what it leaves (docs/SPECIFICATIONS.md, "Report text").
+-- What auditing a stream returns, reads and writes (docs/SPECIFICATIONS.md, "Report text").
 use Rattle.std.specs.Prelude.{◌≡◌, ◌≢◌, ◌⊎◌, ◌+◌, ◌%◌, ◌^◌, List, IfSome, Result, Ok, Err}
 use Rattle.std.specs.Io.KnownBytes.{Consumes}
 use Rattle.totem_ids.specs.Sources.{Seen}
@@ -19,7 +19,7 @@ use Rattle.totem_verdicts.specs.declared.outcome.Outcome.TheVariants as outcomes
 use Rattle.totem_verdicts.specs.declared.verdict_fault.VerdictFault.{VerdictFault}
 use Rattle.totem_verdicts.specs.declared.verdict_fault.VerdictFault.TheVariants as faults
 
--- the outcome says what the answer says
+-- the outcome of the answer
 abbrev pub Says : Answer → Outcome → Type 0
 Says (Yes lines pending waiting) outcomes.Yes = Unit {0}
 Says (Yes lines pending waiting) outcomes.No = ⊥
@@ -28,7 +28,7 @@ Says (No faults) outcomes.Yes = ⊥
 Says (No faults) outcomes.No = Unit {0}
 Says (No faults) outcomes.Made = ⊥
 
--- all that was left is the text of a run in which each member has a log, and nothing is left now
+-- the rest of the input was the text of a run in which each member has a log, and all of it was read
 pub record IsWhole (old new : Seen) (run : RunRecord) : Type 0 where
   pub is : IsRunOf run
   pub logged : EachHasLog run.logs (all_members run.logs)
@@ -36,7 +36,7 @@ pub record IsWhole (old new : Seen) (run : RunRecord) : Type 0 where
   pub taken : Consumes old.remaining new.remaining (run_text run)
   pub failures : new.failures ≡ old.failures
 
--- a whole run was read, and the report of its answer was written and nothing else; the outcome is the answer's
+-- a whole run was read, and the report of its answer and nothing else was written; the outcome is the answer's
 pub record IsAudited (old new : Seen) (was is : Held) (outcome : Outcome) : Type 0 where
   pub run : RunRecord
   pub whole : IsWhole old new run
@@ -46,16 +46,16 @@ pub record IsAudited (old new : Seen) (was is : Held) (outcome : Outcome) : Type
   pub report : Wrote was is (report_text run.version answer)
   pub says : Says answer outcome
 
--- reading the run answers this fault, or the run was read and this is what comes in place of the end
+-- reading the run gives this fault, or the run was read and the input doesn't end after it
 abbrev pub IsRefused : Seen → Seen → RunFault → Type 0
 IsRefused old new fault = ReadsRun old new (Err fault) ⊎ ((between : Seen) × (run : Run) × FitsRun old between run × ReadsEnd between new (Err fault))
 
--- what reading a whole run answers
+-- the result of reading a whole run
 abbrev pub ReadsWhole : Seen → Seen → Result Run RunFault → Type 0
 ReadsWhole old new (Ok run) = IsWhole old new run
 ReadsWhole old new (Err fault) = IsRefused old new fault
 
--- the report was written; or nothing was: the input was refused or failed, or memory was refused; or the sink failed
+-- the report was written; or nothing was, because the input was refused or failed, or memory was refused; or the sink failed
 -- in this call, after a whole run
 abbrev pub Audits : Seen → Seen → Held → Held → Result Outcome VerdictFault → Type 0
 Audits old new was is (Ok outcome) = IsAudited old new was is outcome

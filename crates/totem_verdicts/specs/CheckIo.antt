@@ -1,4 +1,4 @@
--- What checking a stream answers, and what it leaves (docs/SPECIFICATIONS.md, "The checker").
+-- What checking a stream returns, reads and writes (docs/SPECIFICATIONS.md, "The checker").
 use Rattle.std.specs.Prelude.{◌≡◌, ◌≢◌, ◌⊎◌, ℕ, ◌+◌, ◌%◌, ◌^◌, List, [], ◌∷◌, ◌++◌, IfSome, Result, Ok, Err}
 use Rattle.std.specs.Io.KnownBytes.{Consumes, Keeps}
 use Rattle.totem_ids.specs.Sources.{Seen}
@@ -31,32 +31,32 @@ use Rattle.totem_verdicts.specs.declared.verdict_fault.VerdictFault.TheVariants 
 
 -- ---- the certificate, to the end of the input
 
--- all that was left is the text of a certificate, and nothing is left now
+-- the rest of the input was the text of a certificate, and all of it was read
 pub record IsLast (old new : Seen) (cert : CertRecord) : Type 0 where
   pub is : IsCertificateOf cert
   pub text : IfSome old.remaining (λ bytes. bytes ≡ cert_text cert)
   pub taken : Consumes old.remaining new.remaining (cert_text cert)
   pub failures : new.failures ≡ old.failures
 
--- what comes in place of the end: a byte, which was taken, or a failure of the source
+-- the input doesn't end: it gives a byte, which was taken, or the source fails
 abbrev pub EndsNot : Seen → Seen → CertFault → Type 0
 EndsNot old new cert_faults.End = (b : ℕ) × Consumes old.remaining new.remaining (b ∷ []) × (new.failures ≡ old.failures)
 EndsNot old new cert_faults.Read = Keeps old.remaining new.remaining × (new.failures ≡ (old.failures + 1) % 2 ^ 64)
 EndsNot old new fault = ⊥
 
--- reading the certificate answers this fault, or it was read and this is what comes in place of the end
+-- reading the certificate gives this fault, or it was read and the input doesn't end after it
 abbrev pub IsUnreadable : Seen → Seen → CertFault → Type 0
 IsUnreadable old new fault = ReadsCert old new (Err fault) ⊎ ((between : Seen) × (cert : CertRecord) × IsRead old between cert × EndsNot between new fault)
 
--- what reading the last certificate answers
+-- the result of reading the last certificate
 abbrev pub ReadsLast : Seen → Seen → Result Certificate CertFault → Type 0
 ReadsLast old new (Ok certificate) = IsLast old new certificate
 ReadsLast old new (Err fault) = IsUnreadable old new fault
 
 -- ---- the run and the certificate
 
--- all that was left is the text of a run in which each member has a log and then that of a certificate, and nothing is
--- left now
+-- the rest of the input was the text of a run in which each member has a log, and then that of a certificate, and all of it
+-- was read
 pub record IsWholePair (old new : Seen) (run : RunRecord) (cert : CertRecord) : Type 0 where
   pub is : IsRunOf run
   pub logged : EachHasLog run.logs (all_members run.logs)
@@ -65,18 +65,18 @@ pub record IsWholePair (old new : Seen) (run : RunRecord) (cert : CertRecord) : 
   pub taken : Consumes old.remaining new.remaining (run_text run ++ cert_text cert)
   pub failures : new.failures ≡ old.failures
 
--- a run was read, and after it no certificate
+-- a run was read, but no certificate after it
 abbrev pub LacksCertificate : Seen → Seen → CertFault → Type 0
 LacksCertificate old new fault = (between : Seen) × (run : Run) × FitsRun old between run × IsUnreadable between new fault
 
--- the outcome, with its report: accepted, with what is pending and who waits, or the first fault that the audit of the
+-- the outcome, with its report: accepted, with what is pending and waiting, or the first fault that the audit of the
 -- run lists
 abbrev pub IsReported : RunRecord → CertRecord → Held → Held → Outcome → Type 0
 IsReported run cert was is outcomes.Yes = IsAcceptable run.logs cert.lines × ((accepted : Accepted) × ListsOpen run.logs accepted × Wrote was is (accepted_text run.version accepted.pending.items accepted.waiting.items))
 IsReported run cert was is outcomes.No = Certified run.logs cert.lines × ((fault : Fault) × IsFirstFault run.logs fault × Wrote was is (no_text run.version (fault ∷ [])))
 IsReported run cert was is outcomes.Made = ⊥
 
--- a run and a certificate were read, and the checker's report of them was written and nothing else
+-- a run and a certificate were read, and the checker's report of them and nothing else was written
 pub record IsChecked (old new : Seen) (was is : Held) (outcome : Outcome) : Type 0 where
   pub run : RunRecord
   pub cert : CertRecord
@@ -97,7 +97,7 @@ pub record IsRefusedFor (old new : Seen) (fault : CheckFault) : Type 0 where
   pub reason : Checks run.logs cert.lines (Err fault)
   pub of_certificate : IsOfCertificate fault
 
--- the report was written; or nothing was: the input was refused or failed, or memory was refused; or the sink failed
+-- the report was written; or nothing was, because the input was refused or failed, or memory was refused; or the sink failed
 -- in this call, after a whole run and its certificate
 abbrev pub ChecksText : Seen → Seen → Held → Held → Result Outcome VerdictFault → Type 0
 ChecksText old new was is (Ok outcome) = IsChecked old new was is outcome

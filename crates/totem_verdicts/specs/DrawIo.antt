@@ -1,4 +1,4 @@
--- What drawing the run of a stream answers, and what it leaves (docs/SPECIFICATIONS.md, "Pictures").
+-- What drawing the run of a stream returns, reads and writes (docs/SPECIFICATIONS.md, "Pictures").
 use Rattle.std.specs.Prelude.{List, [], ℕ, Result, Ok, Err}
 use Rattle.totem_ids.specs.Sources.{Seen}
 use Rattle.totem_ids.specs.Writing.{Held, Wrote}
@@ -11,12 +11,12 @@ use Rattle.totem_verdicts.specs.AuditIo.{IsWhole, Says, Audits}
 use Rattle.totem_verdicts.specs.declared.outcome.Outcome.{Outcome}
 use Rattle.totem_verdicts.specs.declared.verdict_fault.VerdictFault.{VerdictFault}
 
--- a text was written, and nothing is said of it here; or nothing was; or the sink failed in this call
+-- a text was written, and the contract does not say which; or nothing was; or the sink failed in this call
 abbrev pub WritesDrawn : {A : Type 0} → Held → Held → Result A WriteFault → Type 0
 WritesDrawn was is (Ok a) = (text : List ℕ) × Wrote was is text
 WritesDrawn was is (Err e) = WritesText {A = Unit {0}} was is (Err e) []
 
--- a whole run was read, and a text was written and nothing else; the outcome is that of the run's answer
+-- a whole run was read, and some text and nothing else was written; the outcome is that of the run's answer
 pub record IsDrawn (old new : Seen) (was is : Held) (outcome : Outcome) : Type 0 where
   pub run : RunRecord
   pub whole : IsWhole old new run
@@ -26,7 +26,7 @@ pub record IsDrawn (old new : Seen) (was is : Held) (outcome : Outcome) : Type 0
   pub drawn : WritesDrawn {A = Unit {0}} was is (Ok tt)
   pub says : Says answer outcome
 
--- a picture of the run was written; where that failed, the same holds as of an audit
+-- a picture of the run was written; on failure the same holds as for an audit
 abbrev pub DrawsRun : Seen → Seen → Held → Held → Result Outcome VerdictFault → Type 0
 DrawsRun old new was is (Ok outcome) = IsDrawn old new was is outcome
 DrawsRun old new was is (Err fault) = Audits old new was is (Err fault)

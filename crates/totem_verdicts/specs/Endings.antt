@@ -1,4 +1,4 @@
--- How the calls end that answer the words of a command line: the status, and what is told (docs/SPECIFICATIONS.md, "The program").
+-- The endings of the calls that answer a command line: the status, and what is printed (docs/SPECIFICATIONS.md, "The program").
 use Rattle.std.specs.Prelude.{◌≡◌, ◌⊎◌, ℕ, ◌+◌, ◌%◌, ◌^◌, List, [], ◌++◌, codes, decimal, Ok, Err}
 use Rattle.std.specs.declared.option.Option.{Option}
 use Rattle.clap.specs.declared.error.kind.ErrorKind.{ErrorKind}
@@ -24,11 +24,11 @@ use Rattle.totem_verdicts.specs.CheckIo.{ChecksText}
 use Rattle.totem_verdicts.specs.ExplainIo.{ExplainsRun}
 use Rattle.totem_verdicts.specs.DrawIo.{DrawsRun}
 
--- what a sink's members say of it, with nothing gathered for it
+-- a sink's contents and failures, with no pieces gathered for it
 abbrev pub bare : {S : Type 0} → (S → Option (List ℕ)) → (S → ℕ) → S → Held
 bare contents failures s = record { contents = contents s; failures = failures s }
 
--- the text went to the stream, or it failed in this call
+-- the text was written to the stream, or the stream failed in this call
 abbrev pub Tells : Held → Held → List ℕ → Type 0
 Tells old new text = Wrote old new text ⊎ (new.failures ≡ (old.failures + 1) % 2 ^ 64)
 
@@ -40,11 +40,11 @@ outcome_status outcomes.Yes = 0
 outcome_status outcomes.No = 1
 outcome_status outcomes.Made = 0
 
--- what tells a refusal: what was refused, the number and the name of the fault
+-- the text of a refusal: what was refused, the number and the name of the fault
 abbrev pub refusal_text : List ℕ → ℕ → List ℕ → List ℕ
 refusal_text front number name = front ++ decimal number ++ codes " " ++ name
 
--- the process of a run's fault, where it has one
+-- the process that a run's fault names, if it names one
 abbrev pub missing_text : RunFault → List ℕ
 missing_text (run_faults.MissingLog p) = codes " " ++ process_text p.version p.process
 missing_text fault = []
@@ -66,7 +66,7 @@ memory_line = line (codes "totem: out of memory")
 abbrev pub write_line : List ℕ
 write_line = line (codes "totem: write failed")
 
--- the line that tells a fault
+-- the line that reports a fault
 abbrev pub fault_line : VerdictFault → List ℕ
 fault_line (faults.Run fault) = run_line fault
 fault_line (faults.Cert fault) = cert_line fault
@@ -90,13 +90,13 @@ fault_status (faults.Refused fault) = 2
 fault_status faults.Memory = 3
 fault_status faults.Write = 4
 
--- ---- help, the version, and words that ask for nothing
+-- ---- help, the version, and usage errors
 
 -- help or the version is asked for
 abbrev pub IsAsked : ErrorKind → Type 0
 IsAsked kind = (kind ≡ kinds.DisplayHelp) ⊎ (kind ≡ kinds.DisplayVersion)
 
--- what the output and the errors got of a text that was asked for, and the status
+-- what was written to the output and the errors for a text that was asked for, and the status
 pub data Shows (was is quiet said : Held) (text : List ℕ) : ℕ → Type 0 where
   -- it is written
   shown : Wrote was is text → said ≡ quiet → Shows was is quiet said text 0
@@ -105,48 +105,48 @@ pub data Shows (was is quiet said : Held) (text : List ℕ) : ℕ → Type 0 whe
   -- the output failed
   unshown : is.failures ≡ (was.failures + 1) % 2 ^ 64 → Tells quiet said write_line → Shows was is quiet said text 4
 
--- what is told of words that ask for no audit, check, simulation or run, and the status
+-- what is printed for arguments that ask for no audit, check, simulation or run, and the status
 pub data Answers (kind : ErrorKind) (was is quiet said : Held) : ℕ → Type 0 where
   -- help or the version was asked for
   helped : (text : List ℕ) (status : ℕ) → IsAsked kind → Shows was is quiet said text status → Answers kind was is quiet said status
-  -- the words ask for nothing that there is, and are told
+  -- the arguments are a usage error, which is reported
   misused : (text : List ℕ) → (IsAsked kind → ⊥) → is ≡ was → Tells quiet said text → Answers kind was is quiet said 64
   -- memory was refused
   starved : is ≡ was → Tells quiet said memory_line → Answers kind was is quiet said 3
 
 -- ---- verdicts
 
--- what is told of a fault: its line with words after it, or that memory was refused for these; and the status
+-- what is printed for a fault: its line and an explanation, or that memory for the explanation was refused; and the status
 pub data Points (fault : VerdictFault) (quiet said : Held) : ℕ → Type 0 where
   pointed : (words : List ℕ) → Tells quiet said (fault_line fault ++ words) → Points fault quiet said (fault_status fault)
   wordless : Tells quiet said memory_line → Points fault quiet said 3
 
--- words ask for a verdict: what was read, what the output and the errors got, and the status
+-- the arguments ask for a verdict: what was read, what was written to the output and the errors, and the status
 pub data Judges (old new : Seen) (was is quiet said : Held) : ℕ → Type 0 where
   -- a run was judged
   judged : (outcome : Outcome) → Audits old new was is (Ok outcome) → said ≡ quiet → Judges old new was is quiet said (outcome_status outcome)
-  -- it was not, and the fault is told
+  -- it was not, and the fault is reported
   failed : (fault : VerdictFault) → Audits old new was is (Err fault) → Tells quiet said (fault_line fault) → Judges old new was is quiet said (fault_status fault)
-  -- a run was judged, and told of in words
+  -- a run was judged and explained
   told : (outcome : Outcome) → ExplainsRun old new was is (Ok outcome) → said ≡ quiet → Judges old new was is quiet said (outcome_status outcome)
-  -- it was not, and the fault is told with words after it
+  -- it was not, and the fault is reported with an explanation
   untold : (fault : VerdictFault) (status : ℕ) → ExplainsRun old new was is (Err fault) → Points fault quiet said status → Judges old new was is quiet said status
-  -- a run was judged, and drawn
+  -- a run was judged and drawn
   drawn : (outcome : Outcome) → DrawsRun old new was is (Ok outcome) → said ≡ quiet → Judges old new was is quiet said (outcome_status outcome)
-  -- it was not, and the fault is told with words after it
+  -- it was not, and the fault is reported with an explanation
   undrawn : (fault : VerdictFault) (status : ℕ) → DrawsRun old new was is (Err fault) → Points fault quiet said status → Judges old new was is quiet said status
   -- a run was checked with its certificate
   checked : (outcome : Outcome) → ChecksText old new was is (Ok outcome) → said ≡ quiet → Judges old new was is quiet said (outcome_status outcome)
-  -- it was not, and the fault is told
+  -- it was not, and the fault is reported
   unchecked : (fault : VerdictFault) → ChecksText old new was is (Err fault) → Tells quiet said (fault_line fault) → Judges old new was is quiet said (fault_status fault)
 
 -- ---- the auditor
 
--- what was read, what the output and the errors got, and the status
+-- what was read, what was written to the output and the errors, and the status
 pub data Ends (old new : Seen) (was is quiet said : Held) : ℕ → Type 0 where
-  -- the words ask for a verdict
+  -- the arguments ask for a verdict
   asked : (status : ℕ) → Judges old new was is quiet said status → Ends old new was is quiet said status
-  -- nothing was read, and the words are answered; what the text is, and for which words, is not said here
+  -- nothing was read, and the arguments are answered; the contract says neither with which text nor for which arguments
   answered : (kind : ErrorKind) (status : ℕ) → new ≡ old → Answers kind was is quiet said status → Ends old new was is quiet said status
-  -- nothing was read, and it is told that the auditor makes no runs
+  -- nothing was read, and the auditor reports that it makes no runs
   lacking : (text : List ℕ) → new ≡ old → is ≡ was → Tells quiet said text → Ends old new was is quiet said 64

@@ -1,4 +1,4 @@
--- What explaining the run of a stream answers, and what it leaves (docs/SPECIFICATIONS.md, "Explanations").
+-- What explaining the run of a stream returns, reads and writes (docs/SPECIFICATIONS.md, "Explanations").
 use Rattle.std.specs.Prelude.{◌≡◌, List, [], ℕ, ◌++◌, Result, Ok, Err, map}
 use Rattle.std.specs.List.{flat_map}
 use Rattle.std.specs.String.{string_bytes}
@@ -19,25 +19,25 @@ use Rattle.totem_verdicts.specs.AuditIo.{IsWhole, Says, Audits}
 use Rattle.totem_verdicts.specs.declared.outcome.Outcome.{Outcome}
 use Rattle.totem_verdicts.specs.declared.verdict_fault.VerdictFault.{VerdictFault}
 
--- a fault after an empty line: its line as the report has it, and what is told of it
+-- a fault after an empty line: its line as in the report, and its explanation
 abbrev pub explained_text : Version → Explained → List ℕ
 explained_text version one = line [] ++ line (fault_text (process_text version) one.fault) ++ string_bytes one.text
 
--- a no in words: the heading, and then fault by fault
+-- the explanation of a no: the heading, and then fault by fault
 abbrev pub explained_no_text : Version → ExplainedNo → List ℕ
 explained_no_text version words = string_bytes words.heading ++ flat_map (explained_text version) words.faults.items
 
--- the text tells of this answer: of a no each fault, once and in order
+-- the text explains this answer: for a no, each fault once and in order
 abbrev pub TellsOf : Version → Answer → List ℕ → Type 0
 TellsOf version (Yes lines pending waiting) text = Unit {0}
 TellsOf version (No faults) text = (words : ExplainedNo) × (map (λ one. one.fault) words.faults.items ≡ faults) × (text ≡ explained_no_text version words)
 
--- a text that tells of this answer was written; or nothing was; or the sink failed in this call
+-- a text that explains this answer was written; or nothing was; or the sink failed in this call
 abbrev pub WritesTold : {A : Type 0} → Version → Held → Held → Result A WriteFault → Answer → Type 0
 WritesTold version was is (Ok a) answer = (text : List ℕ) × TellsOf version answer text × Wrote was is text
 WritesTold version was is (Err e) answer = WritesText {A = Unit {0}} was is (Err e) []
 
--- a whole run was read, and what tells of its answer was written and nothing else; the outcome is the answer's
+-- a whole run was read, and the explanation of its answer and nothing else was written; the outcome is the answer's
 pub record IsExplained (old new : Seen) (was is : Held) (outcome : Outcome) : Type 0 where
   pub run : RunRecord
   pub whole : IsWhole old new run
@@ -47,7 +47,7 @@ pub record IsExplained (old new : Seen) (was is : Held) (outcome : Outcome) : Ty
   pub told : WritesTold {A = Unit {0}} run.version was is (Ok tt) answer
   pub says : Says answer outcome
 
--- what tells of the run's answer was written; where that failed, the same holds as of an audit
+-- the explanation of the run's answer was written; on failure the same holds as for an audit
 abbrev pub ExplainsRun : Seen → Seen → Held → Held → Result Outcome VerdictFault → Type 0
 ExplainsRun old new was is (Ok outcome) = IsExplained old new was is outcome
 ExplainsRun old new was is (Err fault) = Audits old new was is (Err fault)

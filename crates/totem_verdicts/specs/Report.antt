@@ -1,4 +1,4 @@
--- The text of a report on a run of some version (docs/SPECIFICATIONS.md, "Report text").
+-- The text of a report on a run of a version (docs/SPECIFICATIONS.md, "Report text").
 use Rattle.std.specs.Prelude.{ℕ, List, ◌++◌, codes}
 use Rattle.std.specs.List.{flat_map}
 use Rattle.totem_ids.specs.declared.version.Version.{Version}
@@ -24,7 +24,7 @@ pending_line version p = line (pending_text (process_text version) p)
 unfoldable pub waiting_line : Version → Waiting → List ℕ
 waiting_line version w = line (waiting_text (process_text version) w)
 
--- a yes: a line for all that is pending, and for each who waits
+-- a yes: a line for each pending message, and for each process that waits for another
 abbrev pub yes_text : Version → List Pending → List Waiting → List ℕ
 yes_text version pending waiting = line (codes "verdict yes") ++ flat_map (pending_line version) pending ++ flat_map (waiting_line version) waiting
 

@@ -8,17 +8,17 @@ use Rattle.totem_evs.specs.declared.writing.WriteFault.TheVariants as write_faul
 use Rattle.totem_verdicts.specs.declared.verdict_fault.VerdictFault.{VerdictFault}
 use Rattle.totem_verdicts.specs.declared.verdict_fault.VerdictFault.TheVariants as faults
 
--- what a fault of the run is for the whole call: out of memory is told as such
+-- a fault of the run as one of the whole call: out of memory is reported as such
 abbrev pub run_verdict_fault : RunFault → VerdictFault
 run_verdict_fault run_faults.Memory = faults.Memory
 run_verdict_fault fault = faults.Run fault
 
--- what a fault of the certificate's text is
+-- a fault of the certificate's text as one of the whole call
 abbrev pub cert_verdict_fault : CertFault → VerdictFault
 cert_verdict_fault cert_faults.Memory = faults.Memory
 cert_verdict_fault fault = faults.Cert fault
 
--- what a fault of a report is
+-- a fault of writing a report as one of the whole call
 abbrev pub write_verdict_fault : WriteFault → VerdictFault
 write_verdict_fault write_faults.Memory = faults.Memory
 write_verdict_fault write_faults.Write = faults.Write

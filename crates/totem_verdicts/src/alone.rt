@@ -1,4 +1,4 @@
-//! The auditor: the program without what makes runs.
+//! The auditor: the program without the commands that make runs.
 ghost use Rattle.std.specs.Prelude.{◌≡◌, []};
 ghost use Rattle.totem_ids.specs.Sources.{seen};
 ghost use Rattle.totem_ids.specs.Writing.{held};
@@ -13,13 +13,13 @@ use std::sync::Wait;
 use std::thread::Threads;
 use totem_ids::{Sink, Source};
 
-/// What is printed for a person who asks the auditor alone for a run.
+/// What is printed if the auditor is asked for a run.
 const LACKING: &str = "\
 totem: this is the auditor alone: sim, run and explain --script need the whole program
 ";
 
-/// The auditor over any three streams: what the whole program answers, where the words ask for a verdict, for help or for the version. The
-/// first of `words` is the program's name. Returns the status with which to exit.
+/// The auditor over any three streams. It answers as the whole program does if the arguments ask for a verdict, help or the version. The
+/// first of `words` is the program's name. Returns the exit status.
 pub fn auditor<T: Threads + Wait + Sync, R: Source, W: Sink, E: Sink>(
     rt: &T,
     alloc: Global,

@@ -1,4 +1,4 @@
-//! The answer to words that ask for help, for the version, or for nothing that there is (docs/SPECIFICATIONS.md, "The program").
+//! The answer to a request for help or the version, and to usage errors (docs/SPECIFICATIONS.md, "The program").
 ghost use Rattle.std.specs.Prelude.{◌≡◌, []};
 ghost use Rattle.clap.specs.Values.{kind_of};
 ghost use Rattle.totem_ids.specs.Writing.{held};
@@ -13,7 +13,7 @@ use std::alloc::{AllocError, Global};
 use totem_evs::WriteFault;
 use totem_ids::Sink;
 
-/// Returns the text for the person who typed the words.
+/// Returns the text that is printed.
 fn text_of(alloc: Global, error: &Error) -> Result<String, AllocError> {
     if error.kind() == ErrorKind::OutOfMemory {
         return Err(AllocError);
@@ -33,7 +33,7 @@ fn show<W: Sink, E: Sink>(alloc: Global, text: &[u8], output: &mut W, errors: &m
     }
 }
 
-/// Answers words that ask for help or the version, or for nothing that there is, and returns the status.
+/// Prints help, the version or a usage error, and returns the status.
 pub fn answer<W: Sink, E: Sink>(alloc: Global, error: &Error, output: &mut W, errors: &mut E) -> u8
     ensures { Answers (kind_of error.now)
         (held W.contents W.failures [] output.old) (held W.contents W.failures [] output.new)

@@ -18,7 +18,7 @@ use totem_audit::{OpenGate, Verdict, Workers, audit, audit_with};
 use totem_evs::{Run, RunFault, read_end, read_run};
 use totem_ids::{Sink, Source};
 
-/// Reads a run that has nothing after it.
+/// Reads a run and the end of the input after it.
 pub(crate) fn read_whole<R: Source>(alloc: Global, input: &mut R) -> Result<Run, RunFault>
     ensures { ReadsWhole (seen R.remaining R.failures input.old) (seen R.remaining R.failures input.new) result }
 {
@@ -27,7 +27,7 @@ pub(crate) fn read_whole<R: Source>(alloc: Global, input: &mut R) -> Result<Run,
     Ok(run)
 }
 
-/// Returns the outcome that a verdict has.
+/// Returns the outcome of a verdict.
 pub(crate) fn outcome(verdict: &Verdict) -> Outcome
     ensures { Says (answer_of verdict.now) result }
 {
@@ -37,7 +37,7 @@ pub(crate) fn outcome(verdict: &Verdict) -> Outcome
     }
 }
 
-/// Judges the run. With one worker the calling thread does all the work and starts no other.
+/// Judges the run. With one worker the calling thread does all the work and starts no other thread.
 pub(crate) fn judge<T: Threads + Wait + Sync>(
     rt: &T,
     alloc: Global,

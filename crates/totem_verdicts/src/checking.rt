@@ -1,4 +1,4 @@
-//! From the text of a run and of its certificate to the checker's report.
+//! From the text of a run and its certificate to the checker's report.
 ghost use Rattle.std.specs.Prelude.{◌≡◌, []};
 ghost use Rattle.totem_ids.specs.Sources.{seen};
 ghost use Rattle.totem_ids.specs.Writing.{held};
@@ -13,7 +13,7 @@ use totem_check::{CheckFault, check};
 use totem_evs::read_run;
 use totem_ids::{Sink, Source};
 
-/// Reads a certificate that has nothing after it.
+/// Reads a certificate and the end of the input after it.
 fn read_last<R: Source>(alloc: Global, input: &mut R) -> Result<Certificate, CertFault>
     ensures { ReadsLast (seen R.remaining R.failures input.old) (seen R.remaining R.failures input.new) result }
 {

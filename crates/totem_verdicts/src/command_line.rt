@@ -1,4 +1,4 @@
-//! The words of a command line, as a program gets them.
+//! The arguments of a program, as it gets them.
 use crate::telling::{tell, tell_fault};
 use crate::verdict_fault::VerdictFault;
 use std::alloc::{AllocError, Global};
@@ -6,7 +6,7 @@ use std::env::Args;
 use std::io;
 use totem_ids::Sink;
 
-/// Returns the words in a list. (`collect` would ask again for less where it is refused its first growth.)
+/// Returns the arguments as a list. (`collect` would try again with less memory if its first growth is refused.)
 pub fn listed(alloc: Global, words: Args) -> Result<Vec<String>, AllocError> {
     let mut list = Vec::new(alloc);
     for word in words {
@@ -15,7 +15,7 @@ pub fn listed(alloc: Global, words: Args) -> Result<Vec<String>, AllocError> {
     Ok(list)
 }
 
-/// Answers words that are no text, or for which there was no memory. Returns the status.
+/// Reports arguments that are not UTF-8, or for which there was no memory. Returns the status.
 pub fn no_words<E: Sink>(error: &io::Error, errors: &mut E) -> u8 {
     if error.kind() == io::ErrorKind::OutOfMemory {
         return tell_fault(errors, &VerdictFault::Memory);

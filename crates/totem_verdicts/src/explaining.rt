@@ -64,7 +64,7 @@ fn put_no<S: Sink>(
     put_each_explained(pieces, sink, version, &words.faults)
 }
 
-/// Writes a no in words.
+/// Writes the explanation of a no.
 fn write_no<S: Sink>(
     alloc: Global,
     version: Version,

@@ -1,4 +1,4 @@
-//! The answer to words that ask for a verdict (docs/SPECIFICATIONS.md, "The program").
+//! The answer to arguments that ask for a verdict (docs/SPECIFICATIONS.md, "The program").
 ghost use Rattle.std.specs.Prelude.{◌≡◌, []};
 ghost use Rattle.totem_ids.specs.Sources.{seen};
 ghost use Rattle.totem_ids.specs.Writing.{held};
@@ -18,12 +18,12 @@ use totem_audit::Workers;
 use totem_explain::explain_refusal;
 use totem_ids::{Sink, Source};
 
-/// Returns so many workers, or one if there can't be so many.
+/// Returns this number of workers, or one worker if the number is out of range.
 fn as_many(workers: u32) -> Workers {
     Workers::new(workers).unwrap_or(Workers::one())
 }
 
-/// Returns what is printed about a fault after its line.
+/// Returns the explanation that is printed after a fault's line.
 fn words_of<R: Source>(
     alloc: Global,
     fault: &VerdictFault,
@@ -35,7 +35,7 @@ fn words_of<R: Source>(
     }
 }
 
-/// Tells why a run can't be explained, and where in its text the fault is. Returns the status.
+/// Reports why a run can't be explained, and where in its text the fault is. Returns the status.
 fn point<R: Source, E: Sink>(alloc: Global, fault: &VerdictFault, input: &R, errors: &mut E) -> u8
     ensures { Points fault.now (bare E.contents E.failures errors.old) (bare E.contents E.failures errors.new) result }
 {
@@ -45,7 +45,7 @@ fn point<R: Source, E: Sink>(alloc: Global, fault: &VerdictFault, input: &R, err
     }
 }
 
-/// Gives the verdict that is asked for, and returns the status.
+/// Gives the verdict that the arguments ask for, and returns the status.
 pub fn judge_io<T: Threads + Wait + Sync, R: Source, W: Sink, E: Sink>(
     rt: &T,
     alloc: Global,

@@ -72,7 +72,7 @@ fn put_each_waiting<S: Sink>(
     Ok(())
 }
 
-/// Puts the first line of a yes, and then the lines of what is pending and who waits.
+/// Puts the first line of a yes, and then the lines of what is pending and waiting.
 #[tactic(auto, using(totem_ids::proofs::Writers::wrote_then, totem_ids::proofs::Writers::wrote_failed))]
 pub fn put_yes<S: Sink>(
     pieces: &mut Pieces,

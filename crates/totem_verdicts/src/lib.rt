@@ -1,5 +1,5 @@
 //! Verdicts over any three streams: reads runs and certificates, judges them, and writes reports, explanations and pictures; and the
-//! auditor, which answers the words of a command line.
+//! auditor, which answers a command line.
 #![tactic(auto)]
 
 mod alone;

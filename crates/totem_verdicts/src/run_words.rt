@@ -1,9 +1,9 @@
-//! The words of the command line that ask for a run in threads.
+//! The arguments of `run`.
 use clap::builder::ValueParser;
 use clap::{Arg, ArgAction, ArgMatches, Command};
 use std::alloc::{AllocError, Global};
 
-/// What is asked of a run in threads: its numbers (docs/PROTOCOL.md, "A run in threads"), and whether its ring is woven.
+/// The arguments of a run in threads: its numbers (docs/PROTOCOL.md, "A run in threads"), and whether its ring is woven.
 #[derive(Clone, Copy)]
 pub struct RunWords {
     pub nodes: u16,
@@ -114,7 +114,7 @@ pub fn run_command<'a>(alloc: Global) -> Result<Command<'a>, AllocError> {
     command.arg(weave_option(alloc))?.arg(quiet_option(alloc))
 }
 
-/// Returns what the words of a run ask for.
+/// Returns what the arguments of `run` ask for.
 pub fn run_words(matches: &ArgMatches<'_>) -> RunWords {
     RunWords {
         nodes: matches.get_one::<u16>("nodes").unwrap_or(3),

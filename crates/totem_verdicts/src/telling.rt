@@ -1,4 +1,4 @@
-//! What the program prints on standard error. Printing takes no memory, and ignores a failure of that stream.
+//! What the program prints on standard error. Printing doesn't allocate, and ignores a failure of that stream.
 ghost use Rattle.std.specs.Prelude.{◌≡◌, ◌++◌, decimal};
 ghost use Rattle.totem_ids.specs.Processes.{process_text};
 ghost use Rattle.totem_ids.specs.Writing.{Writes};
@@ -47,7 +47,7 @@ pub fn put_refusal<E: Sink>(
     put_text(errors, name)
 }
 
-/// Writes a process as the texts do in which it is named.
+/// Writes a process as the text that names it does.
 #[tactic(auto, using(totem_ids::proofs::Writers::wrote_then, totem_ids::proofs::Writers::wrote_failed))]
 fn put_process<E: Sink>(errors: &mut E, proc: WrittenProc) -> Result<(), Failed>
     ensures { Writes (bare E.contents E.failures errors.old) (bare E.contents E.failures errors.new)
@@ -62,7 +62,7 @@ fn put_process<E: Sink>(errors: &mut E, proc: WrittenProc) -> Result<(), Failed>
     put_number(errors, process.life())
 }
 
-/// Writes the end of the line of a run's fault: the process that has no log, if it is that.
+/// Writes the end of the line of a run's fault: for a missing log, the process without it.
 #[tactic(auto, using(totem_ids::proofs::Writers::wrote_then, totem_ids::proofs::Writers::wrote_failed))]
 fn put_missing<E: Sink>(errors: &mut E, fault: &RunFault) -> Result<(), Failed>
     ensures { Writes (bare E.contents E.failures errors.old) (bare E.contents E.failures errors.new) result (missing_text fault.now) }
@@ -127,7 +127,7 @@ fn put_fault<E: Sink>(errors: &mut E, fault: &VerdictFault) -> Result<(), Failed
     }
 }
 
-/// Writes the line of a fault, and words after it.
+/// Writes the line of a fault and an explanation after it.
 #[tactic(auto, using(totem_ids::proofs::Writers::wrote_then, totem_ids::proofs::Writers::wrote_failed))]
 fn put_with_words<E: Sink>(errors: &mut E, fault: &VerdictFault, words: &str) -> Result<(), Failed>
     ensures { Writes (bare E.contents E.failures errors.old) (bare E.contents E.failures errors.new) result
@@ -137,14 +137,14 @@ fn put_with_words<E: Sink>(errors: &mut E, fault: &VerdictFault, words: &str) ->
     put_text(errors, words)
 }
 
-/// Writes these bytes to the stream of errors.
+/// Writes these bytes to standard error.
 pub fn tell<E: Sink>(errors: &mut E, bytes: &[u8])
     ensures { Tells (bare E.contents E.failures errors.old) (bare E.contents E.failures errors.new) bytes.now }
 {
     let _ = put_bytes(errors, bytes);
 }
 
-/// Tells a fault, and returns its status.
+/// Prints the line of a fault, and returns the fault's status.
 pub fn tell_fault<E: Sink>(errors: &mut E, fault: &VerdictFault) -> u8
     ensures line { Tells (bare E.contents E.failures errors.old) (bare E.contents E.failures errors.new) (fault_line fault.now) }
     ensures status { result ≡ fault_status fault.now }
@@ -153,7 +153,7 @@ pub fn tell_fault<E: Sink>(errors: &mut E, fault: &VerdictFault) -> u8
     status_of(fault)
 }
 
-/// Prints a fault with words after its line, and returns its status.
+/// Prints the line of a fault and an explanation after it, and returns the fault's status.
 pub fn tell_with_words<E: Sink>(errors: &mut E, fault: &VerdictFault, words: &str) -> u8
     ensures line { Tells (bare E.contents E.failures errors.old) (bare E.contents E.failures errors.new) (fault_line fault.now ++ words.now) }
     ensures status { result ≡ fault_status fault.now }

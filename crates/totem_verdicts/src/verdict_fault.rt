@@ -9,19 +9,19 @@ use totem_evs::{RunFault, WriteFault};
 /// Why a call from stream to stream gave no verdict. At every fault but `Write` nothing was written.
 #[derive(Debug, Drop, Error)]
 pub enum VerdictFault {
-    /// The run was refused, or its source failed. Never with `RunFault::Memory`.
+    /// The run was refused, or its source failed. Never `RunFault::Memory`.
     #[error("the run was refused: {0}")]
     Run(RunFault),
-    /// The certificate could not be read, or its source failed. Never with `CertFault::Memory`.
+    /// The certificate could not be read, or its source failed. Never `CertFault::Memory`.
     #[error("the certificate could not be read: {0}")]
     Cert(CertFault),
-    /// The certificate does not certify the run. Never with `CheckFault::Broken` or `CheckFault::Memory`.
+    /// The certificate does not certify the run. Never `CheckFault::Broken` or `CheckFault::Memory`.
     #[error("the certificate was refused: {0}")]
     Refused(CheckFault),
     /// Memory was refused.
     #[error("out of memory")]
     Memory,
-    /// The output failed. How much went out is not known.
+    /// The output failed. It is not known how much was written.
     #[error("write failed")]
     Write,
 }

@@ -1,15 +1,15 @@
-//! The words of a command line.
+//! The arguments of a command line.
 use crate::run_words::{RunWords, run_command, run_words};
 use clap::builder::ValueParser;
 use clap::{Arg, ArgAction, ArgMatches, Command, Error};
 use std::alloc::{AllocError, Global};
 
-/// What is asked of the run on the standard input.
+/// What the arguments ask of the run on standard input.
 #[derive(Clone, Copy)]
 pub enum Asked {
     /// Its audit, by 1 to 64 workers.
     Audit { workers: u32 },
-    /// The same audit, explained in words, by 1 to 64 workers.
+    /// The same audit with an explanation, by 1 to 64 workers.
     Explain { workers: u32 },
     /// The same audit, drawn as a picture, by 1 to 64 workers.
     Draw { workers: u32 },
@@ -17,14 +17,14 @@ pub enum Asked {
     Check,
 }
 
-/// What the words of a command line ask for.
+/// What the arguments of a command line ask for.
 #[derive(Clone, Copy)]
 pub enum Words {
-    /// A verdict on the run on the standard input.
+    /// A verdict on the run on standard input.
     Verdict(Asked),
-    /// The run that the script on the standard input makes, or the line for which it makes none.
+    /// The run that the script on standard input makes, or an explanation of the line at which it is refused.
     ExplainScript,
-    /// The run that the script on the standard input makes.
+    /// The run that the script on standard input makes.
     Sim,
     /// The run that nodes in threads record.
     Run(RunWords),
@@ -90,7 +90,7 @@ fn explain_command<'a>(alloc: Global) -> Result<Command<'a>, AllocError> {
         .arg(script_option(alloc).conflicts_with("svg")?)
 }
 
-/// Returns what the words after `explain` ask for.
+/// Returns what the arguments of `explain` ask for.
 fn explain_words(matches: &ArgMatches<'_>) -> Words {
     let workers = workers_of(matches);
     if matches.get_flag("script") {
@@ -102,7 +102,7 @@ fn explain_words(matches: &ArgMatches<'_>) -> Words {
     Words::Verdict(Asked::Explain { workers })
 }
 
-/// Returns how many workers the words of an audit or an explanation ask for.
+/// Returns the number of workers that the arguments of a verdict ask for.
 fn workers_of(matches: &ArgMatches<'_>) -> u32 {
     matches.get_one::<u32>("workers").unwrap_or(1)
 }
@@ -132,7 +132,7 @@ fn command<'a>(alloc: Global) -> Result<Command<'a>, AllocError> {
         .subcommand(run_command(alloc)?)
 }
 
-/// Reads the words, of which the first is the program's name. An error has the text for the person who typed them.
+/// Parses the arguments, of which the first is the program's name. An error has the text to print.
 pub fn read_words(alloc: Global, words: &[String]) -> Result<Words, Error> {
     let matches = command(alloc)?.try_get_matches_from(words)?;
     Ok(match matches.subcommand() {

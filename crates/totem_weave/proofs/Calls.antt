@@ -1,4 +1,4 @@
--- What calls told of a ring, one after another.
+-- What calls report of a ring, one after the other.
 use Rattle.std.proofs.Common.{◌≡◌, ℕ, ◌+◌, ◌<◌, List, [], ◌∷◌, ◌++◌, length, drop, get_or, Bool, if◌then◌else◌, sym, ◌∙◌, ap, length-append, arith}
 use Rattle.std.proofs.lemmas.Bool.{eq-eqb}
 use Rattle.std.proofs.lemmas.List.{drop_more}
@@ -7,7 +7,7 @@ use Rattle.totem_books.specs.Calls.{Called}
 use Rattle.totem_books.specs.Seats.{Closed}
 use Rattle.totem_weave.specs.Recorded.{call_acts, calls_acts, recorded, IsBookOf}
 
--- a call that told a step is one of calls that told some
+-- if a call reports a step, the calls with it report one
 pub told_some : (ring : RingName) (calls : List Called) (i : ℕ) (call : Called) → i < length calls → call ≡ get_or calls i call
     → calls_acts ring (drop i calls) ≡ calls_acts ring calls → 0 < length (call_acts ring call) → ¬ (calls_acts ring calls ≡ [])
 told_some ring calls i call lt is so_far some none =

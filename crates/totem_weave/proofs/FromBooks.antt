@@ -69,7 +69,7 @@ id_among members p (k, within, is) = (
   get_or-map id_of members k p (id_of p) within ∙ ap id_of is,
 )
 
--- the lists that the members handed up are one order
+-- the lists of messages that the members delivered are in one order
 pub one_order_is : (ring : RingName) (members : List ℕ) (books : List Closed) (woven : Woven) → IsWoven ring members books woven → AreOneOrder (map (λ h. (h.0, h.1.items)) woven.handed.items)
 one_order_is ring members books woven h a b a_in b_in =
     of_members (rw (← h.handed) a_in) (rw (← h.handed) b_in)

@@ -1,4 +1,4 @@
--- Where no step may come on a ring below a number, none does, and none may after it: cell by cell of the node step.
+-- If no step can follow on a ring below a number, none does, and none can after it: cell by cell of the node step.
 use Rattle.std.proofs.Common.{◌≡◌, ℕ, ◌+◌, ◌&&◌, ◌^◌, ◌<◌, ◌≤◌, max, not, List, [], ◌∷◌, length, Bool, true, false, cond, Option, None, Some, IfOk, Ok, Err, is_some, nat_lt, nat_le, refl, sym, ap, ◌∙◌, arith}
 use Rattle.std.specs.Prelude.{All}
 use Rattle.std.proofs.lemmas.Bool.{and_parts, not-true, cond_both}
@@ -62,7 +62,7 @@ module _ (least : ℕ) where
   visit_on : (ring : RingName) (bodies : List Body) (t : Token) → least ≤ ring.seq → All NotBelow (visit_steps ring bodies t)
   visit_on ring bodies t low = All-append NotBelow _ _ (All-map NotBelow _ bodies (λ k d h. low)) (one_on _ low)
 
-  -- what is told of a step on this ring
+  -- what is reported of a step on this ring
   record IsTold (ring : RingName) (told : Told) : Type 0 where
     same : told.ring.ring ≡ ring
     steps : All NotBelow told.ring_steps

@@ -1,4 +1,4 @@
--- Where no member can go on, none has got further in any other weave.
+-- If no member can continue, no member has got further in any other weave.
 use Rattle.std.proofs.Common.{◌≡◌, ℕ, ◌+◌, ◌==◌, ◌<◌, ◌≤◌, inl, inr, List, [], ◌∷◌, ◌++◌, map, length, slice_get, Bool, true, false, if◌then◌else◌, Some, refl, sym, ◌∙◌, ap, append_assoc, append-nil, eqb-true, length-append, arith}
 use Rattle.std.specs.Prelude.{Contains, filter}
 use Rattle.std.proofs.lemmas.Bool.{cases_lt, eq-eqb}
@@ -18,7 +18,7 @@ use Rattle.totem_weave.specs.Laws.{StuckIsGreatest, LeftIsOrphan, WholeIsFound, 
 use Rattle.totem_weave.proofs.OwnActs.{in_longer, own_sent_grows_holds, state_is_own_holds, sent_by_all}
 use Rattle.totem_weave.proofs.OthersActs.{members-run, can_still_act}
 
--- a list that begins one which is no longer than it is that one
+-- two lists, one of which begins the other and is no shorter, are equal
 pub same_from_length : {X : Type 0} (xs ys : List X) → IsPrefixOf xs ys → length ys ≤ length xs → xs ≡ ys
 same_from_length xs ys ([], e) le = sym (append-nil xs) ∙ e
 same_from_length xs ys (r ∷ rest, e) le =
@@ -48,14 +48,14 @@ acts_of-append p xs ys =
     ap (λ ms. map (λ (m : RingMove). m.act) ms) (filter-append (λ (m : RingMove). p == m.proc) xs ys)
     ∙ map-append (λ (m : RingMove). m.act) (filter (λ (m : RingMove). p == m.proc) xs) (filter (λ (m : RingMove). p == m.proc) ys)
 
--- a move of another is none of its acts, and its own move is one
+-- a move of another member is none of this one's acts; its own move is one
 pub acts_of-other : (p : ℕ) (move : RingMove) (moves : List RingMove) → (p == move.proc) ≡ false → acts_of p (move ∷ moves) ≡ acts_of p moves
 acts_of-other p move moves is = ap (λ (b : Bool). map (λ (m : RingMove). m.act) (if b then move ∷ filter (λ (m : RingMove). p == m.proc) moves else filter (λ (m : RingMove). p == m.proc) moves)) is
 
 pub acts_of-own : (p : ℕ) (move : RingMove) (moves : List RingMove) → (p == move.proc) ≡ true → acts_of p (move ∷ moves) ≡ move.act ∷ acts_of p moves
 acts_of-own p move moves is = ap (λ (b : Bool). map (λ (m : RingMove). m.act) (if b then move ∷ filter (λ (m : RingMove). p == m.proc) moves else filter (λ (m : RingMove). p == m.proc) moves)) is
 
--- in a schedule without refusals each move can be taken when its turn comes
+-- in a schedule without refusals each move can be taken in its turn
 can_act_then : (w : World) (done rest : List RingMove) (move : RingMove) → IsSchedule w (done ++ move ∷ rest) → NoneRefused w (done ++ move ∷ rest) → CanAct (run w done) move.proc move.act
 can_act_then w [] rest move is none = record { member = is.0; comes = is.1; taken = none.0 }
 can_act_then w (m ∷ done) rest move is none = can_act_then (happens w m) done rest move is.2 none.1
@@ -159,7 +159,7 @@ whole_is_found_holds ring members steps_at stuck other most is_stuck is whole p 
     same_from_length (acts_of p stuck) (steps_at p) (most.begins p)
     (rw (← whole p) (stuck_is_greatest_holds ring members steps_at stuck other most is_stuck is p))
 
--- what a member handed up is what its own steps did
+-- what a member delivered is what its own steps delivered
 up_is : (ring : RingName) (members : List ℕ) (steps_at : ℕ → List Act) (moves : List RingMove) (p : ℕ) → IsWhole steps_at moves → (run (start ring members) moves).up p ≡ up_of ring members steps_at p
 up_is ring members steps_at moves p whole = (state_is_own_holds ring members moves p).up ∙ ap (λ acts. (with_acts (own_start ring members p) acts).up) (whole p)
 

@@ -1,4 +1,4 @@
--- What the members hand up by what their tracks say is what they hand up in a weave that has it all.
+-- What the members' tracks deliver is what the members deliver in a weave that has all of the tracks.
 use Rattle.std.proofs.Common.{◌≡◌, ℕ, suc, List, [], ◌∷◌, map, zip, slice_get, Some, refl, sym, ◌∙◌, ap}
 use Rattle.std.specs.List.Sorted.{IsStrictlyIncreasing}
 use Rattle.totem_ids.specs.Names.{RingName}
@@ -17,11 +17,11 @@ use Rattle.totem_weave.specs.Woven.{handed_by}
 use Rattle.totem_weave.proofs.OwnActs.{state_is_own_holds}
 use Rattle.totem_weave.proofs.RecordedOf.{same_cons, recorded_at}
 
--- a member, with what it hands up by what its book recorded
+-- a member, with the messages that the acts in its book deliver
 abbrev recorded_up : RingName → List Closed → List ℕ → ℕ → ℕ × List Message
 recorded_up ring books ids p = (p, (with_acts (own_start ring ids (id_of p)) (recorded ring books p)).up)
 
--- a member, with what it handed up by the end of these moves
+-- a member, with the messages that it delivered by the end of these moves
 abbrev moved_up : RingName → List RingMove → List ℕ → ℕ → ℕ × List Message
 moved_up ring moves ids p = (p, (run (start ring ids) moves).up (id_of p))
 

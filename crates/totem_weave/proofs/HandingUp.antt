@@ -1,4 +1,4 @@
--- What a member hands up, act by act, and what members hand up, one after another.
+-- The messages that a member delivers, act by act, and those of all members, one member after the other.
 use Rattle.std.proofs.Common.{◌≡◌, ℕ, ◌+◌, ◌<◌, ◌≤◌, List, [], ◌∷◌, ◌++◌, map, zip, length, take, get_or, Some, None, Result, Ok, Err, refl, sym, ◌∙◌, ap, arith}
 use Rattle.std.proofs.lemmas.List.{take_more, take_all, map_more}
 use Rattle.std.proofs.lemmas.Slice.Zip.{length-zip, get_or-zip}

@@ -1,4 +1,4 @@
--- Once a node is sealed, as it is where it recovers, no step of its life is on the ring that it then has installed.
+-- From the time when a node is sealed, as it is in Recovery, its life has no step on the ring that is installed then.
 use Rattle.std.proofs.Common.{◌≡◌, ◌≢◌, ℕ, ◌+◌, ◌≤◌, List, [], ◌∷◌, ◌++◌, length, drop, Option, None, Some, IfOk, Ok, Err, refl, sym, ap, ◌∙◌, subst, append_assoc, true, is_some, length-append, arith}
 use Rattle.std.specs.Prelude.{All, fold}
 use Rattle.std.proofs.lemmas.Bool.{true≢false}
@@ -17,11 +17,11 @@ use Rattle.totem_weave.specs.Adopting.{TellsNoStepOn, replies_after, OnlyAdoptsL
 use Rattle.totem_weave.proofs.Standing.{Suits, NodeStands, Goes, least_from}
 use Rattle.totem_weave.proofs.Going.{step_goes}
 
--- the reply tells no step on a ring below this number
+-- the reply reports no step on a ring below this number
 abbrev pub TellsAbove : ℕ → Outcome Answer → Type 0
 TellsAbove least reply = IfOk reply (λ answer. All (λ step. least ≤ step.ring.seq) answer.ring_steps)
 
--- after these replies a life has told no step on a ring below the number, nor will it
+-- after these replies a life reports no step on a ring below the number
 record Lives (least : ℕ) (before : List (Outcome Answer)) (life : Life) : Type 0 where
   stands : NodeStands least life.node
   later : List (Outcome Answer)
@@ -86,7 +86,7 @@ module _ (me : ℕ) (ring : RingName) (members : List ℕ) (before : List Input)
     above = All-nil (TellsAbove 0);
   })
 
-  -- what comes after so many inputs stands after so many replies
+  -- what follows n inputs corresponds to what follows n replies
   behind : (inputs : List Input) (later : List (Outcome Answer)) → (fold one_input so_far inputs).replies ≡ so_far.replies ++ later
       → replies_after me ring members before inputs ≡ later
   behind inputs later is =
@@ -94,7 +94,7 @@ module _ (me : ℕ) (ring : RingName) (members : List ℕ) (before : List Input)
       ap (λ (life : Life). drop (length before) life.replies) (fold-append one_input (born me ring members) before inputs)
       ∙ ap (drop (length before)) is ∙ ap (λ (k : ℕ). drop k (so_far.replies ++ later)) many ∙ drop-append_seam so_far.replies later
 
-  -- a node that is sealed has no step on its installed ring, whatever comes
+  -- a node that is sealed takes no step on its installed ring, whatever the inputs are
   pub none_once_sealed : is_sealed so_far.node ≡ true → (inputs : List Input)
       → All (TellsNoStepOn so_far.node.installed.ring) (replies_after me ring members before inputs)
   none_once_sealed is inputs =

@@ -33,7 +33,7 @@ moved w p act own h =
       accepted = ap (λ (b : Bool). if b then w.accepted p ++ submitted act else w.accepted p) at_p ∙ ap (λ bodies. bodies ++ submitted act) h.accepted;
     }
 
--- a move of another leaves it where it is
+-- a move of another member doesn't change this one
 left : (w : World) (q : ℕ) (act : Act) (r : Result Done RingFault) (p : ℕ) (own : Own) → (p == q) ≡ false → IsAsOwn w p own → IsAsOwn (world_after w q act r) p own
 left w q act (Err fault) p own other h = h
 left w q act (Ok done) p own other h = record {

@@ -1,4 +1,4 @@
--- The ring knows its members by identifier: what is recorded of an identifier is what the book of its member's life tells.
+-- The ring knows its members by identifier: what is recorded of an identifier is what the book of its member's life reports.
 use Rattle.std.proofs.Common.{◌≡◌, ℕ, zero, suc, ◌==◌, ◌<◌, ◌⊎◌, inl, inr, List, [], ◌∷◌, map, length, slice_get, Some, Bool, true, false, if◌then◌else◌, refl, sym, ◌∙◌, ap, subst, eqb-true, arith}
 use Rattle.std.specs.Prelude.{Contains}
 use Rattle.std.specs.List.Sorted.{IsStrictlyIncreasing}

@@ -1,4 +1,4 @@
--- Ascending numbers, and rising identifiers of processes, by their places.
+-- Ascending numbers, and ascending identifiers of processes, by their places.
 use Rattle.std.proofs.Common.{◌≡◌, ℕ, ◌<◌, ◌≤◌, List, length, get_or, slice_get, Some, refl, ◌∙◌, arith}
 use Rattle.std.specs.List.Sorted.{IsStrictlyIncreasing}
 use Rattle.std.proofs.lemmas.List.Kept.{AllPairs-from_increasing}
@@ -18,7 +18,7 @@ rises ns j k m n rising at_j at_k lt =
 pub id_at : (members : List ℕ) (k p : ℕ) → slice_get members k ≡ Some p → slice_get (ids_of members) k ≡ Some (id_of p)
 id_at members k p at = slice_get-map id_of members k ∙ rw at refl
 
--- of rising identifiers the one after is not the lesser or the same
+-- of ascending identifiers a later one is neither less than an earlier one nor equal to it
 pub do_not_rise : (members : List ℕ) (j k p q : ℕ) → j < k → k < length members → p ≡ get_or members j p → q ≡ get_or members k q → id_of q ≤ id_of p
     → IsStrictlyIncreasing (ids_of members) → ⊥
 do_not_rise members j k p q lt within at_p at_q falls rising =

@@ -1,4 +1,4 @@
--- How a node stands: its state, the ring of the commit token made or filled last, and the numbers of its rings.
+-- A node's state, the ring of the commit token that it made or filled last, and the numbers of its rings.
 use Rattle.std.proofs.Common.{◌≡◌, ℕ, ◌+◌, ◌<◌, ◌≤◌, false, Option, None, Some, is_some, sym, subst, arith}
 use Rattle.std.specs.Prelude.{All}
 use Rattle.std.proofs.lemmas.Bool.{true≢false}
@@ -21,13 +21,13 @@ Suits (Gathering g) filled = Unit {0}
 Suits (Committing g) filled = Unit {0}
 Suits (InRecovery x) filled = filled ≡ Some x.ring.ring
 
--- the least number of a ring on which a step may still come
+-- the least number of a ring on which a step can still follow
 abbrev pub least_from : Option RingName → ℕ → ℕ
 least_from None installed = installed
 least_from (Some ring) installed = installed + 1
 
 -- a node's state, what it made or filled last, its installed ring's number and its own suit one another,
--- and no step may come on a ring below this number
+-- and no step can follow on a ring below this number
 pub record Stands (least : ℕ) (state : State) (filled : Option RingName) (installed seq : ℕ) : Type 0 where
   pub above : IsAbove filled installed seq
   pub suits : Suits state filled
@@ -36,7 +36,7 @@ pub record Stands (least : ℕ) (state : State) (filled : Option RingName) (inst
 abbrev pub NodeStands : ℕ → Node → Type 0
 NodeStands least n = Stands least n.state n.filled n.installed.ring.seq n.seq
 
--- no step is on a ring below the number, and the node still stands so after it
+-- no step is on a ring below the number, and the same holds of the node after it
 pub record Goes (least : ℕ) (s : Stepped) : Type 0 where
   pub stands : NodeStands least s.node
   pub steps : All (λ step. least ≤ step.ring.seq) s.ring_steps
@@ -54,7 +54,7 @@ unsealed least None installed is low = low
 unsealed least (Some ring) installed is low = absurd (true≢false is)
 
 module _ (least : ℕ) (n : Node) (s : NodeStands least n) where
-  -- until it is sealed a node may have steps on the installed ring
+  -- until it is sealed, a node can take steps on the installed ring
   pub on_installed : is_some n.filled ≡ false → least ≤ n.installed.ring.seq
   on_installed is = unsealed least n.filled n.installed.ring.seq is s.none_below
 

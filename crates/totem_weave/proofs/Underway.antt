@@ -1,4 +1,4 @@
--- A weave that goes on by one move.
+-- A weave with one more move.
 use Rattle.std.proofs.Common.{◌≡◌, ◌≢◌, ℕ, zero, suc, ◌+◌, ◌==◌, ◌<◌, ◌≤◌, ◌⊎◌, inl, inr, List, [], ◌∷◌, ◌++◌, map, set, length, get_or, slice_get, Bool, true, false, if◌then◌else◌, Option, Some, None, Result, Ok, Err, refl, sym, ◌∙◌, ap, subst, append-nil, eqb-true, arith}
 use Rattle.std.specs.Prelude.{Contains, IsOk}
 use Rattle.std.proofs.lemmas.Bool.{cases_eq, eq-eqb, ne_eqb}
@@ -117,7 +117,7 @@ all_held_up ring tracks moves held p act next can = elim (track_or_none tracks p
       )
 ]
 
--- what is known of a member's step: it is the next one of its track, it could come, and this is what it came to
+-- what is known of a member's step: it is the next one of its track, it was possible, and this is its result
 record IsNext (ring : RingName) (tracks : List Track) (moves : List RingMove) (t : Track) (act : Act) (done : Done) : Type 0 where
   pub is_next : slice_get (steps_of tracks t.proc) (length (acts_of t.proc moves)) ≡ Some act
   pub member : Contains (procs_of tracks) t.proc
@@ -227,7 +227,7 @@ goes_on_by tracks old new place t seat act out apart h at taken same_ring seats 
     one : AreOne (run (start_of old.ring tracks) (old.moves.items ++ the_move t act ∷ [])).sent
     one = sent_are_one old.ring (procs_of tracks) (old.moves.items ++ the_move t act ∷ []) (weave_more old.ring tracks old.moves.items t act taken.done next h.weave).is_schedule
 
--- the seat that is read is where the member stands
+-- the seat that is read is the member's
 seat_read : (tracks : List Track) (w : Weaver) (place : ℕ) (t : Track) (seat : Seat) → IsUnderWay tracks w → place < length tracks → slice_get tracks place ≡ Some t
     → seat ≡ get_or w.seats.items place seat → seat ≡ seat_after w.ring tracks w.moves.items t.proc
 seat_read tracks w place t seat h within at is =
@@ -235,7 +235,7 @@ seat_read tracks w place t seat h within at is =
     let both : Some seat ≡ Some (seat_after w.ring tracks w.moves.items t.proc) = sym read ∙ h.seats place t at in
     cc
 
--- what taking the next act says, in words of the weave
+-- what taking the next act says about the weave
 taking_there : (tracks : List Track) (w : Weaver) (place : ℕ) (t : Track) (seat new : Seat) (acts : List Act) (sent : Sent) (found : Option (Act × RingOut))
     → IsUnderWay tracks w → place < length tracks → slice_get tracks place ≡ Some t → seat ≡ get_or w.seats.items place seat
     → acts ≡ t.acts.items → sent ≡ w.sent → TakesNext seat new acts sent found
@@ -276,7 +276,7 @@ track_there : (tracks : List Track) (place : ℕ) (t u : Track) → place < leng
 track_there tracks place t u within is at =
     let both : Some t ≡ Some u = sym (slice_get_read tracks (length tracks) place t refl within is) ∙ at in cc
 
--- who has taken as many steps as its track has is through
+-- a member that has taken as many steps as its track has is through
 pub through_there : (tracks : List Track) (w : Weaver) (place : ℕ) (t : Track) (seat : Seat) (acts : List Act) → AreApart tracks → IsUnderWay tracks w → place < length tracks
     → t ≡ get_or tracks place t → seat ≡ get_or w.seats.items place seat → acts ≡ t.acts.items → length acts ≤ seat.next → IsThrough tracks w place
 through_there tracks w place t seat acts apart h within t_is is acts_are all u at =

@@ -12,7 +12,7 @@ use Rattle.totem_node.specs.Outcomes.{Outcome}
 use Rattle.totem_node.specs.Visiting.{carried}
 use Rattle.totem_node.specs.Replay.{Answer, replay}
 
--- at this input the node adopts this message, or passes it over: it recovers, and a message comes that carries this one, of
+-- at this input the node adopts this message or ignores it: it recovers, and the input is a message that carries this one, of
 -- its installed ring
 pub record Adopts (n : Node) (i : Input) (adopted : Message) : Type 0 where
   pub recovering : Recovering
@@ -22,16 +22,16 @@ pub record Adopts (n : Node) (i : Input) (adopted : Message) : Type 0 where
   pub carries : carried outer.body ≡ Some adopted
   pub of_installed : adopted.ring ≡ n.installed.ring
 
--- the reply tells no step on this ring
+-- the reply reports no step on this ring
 abbrev pub TellsNoStepOn : RingName → Outcome Answer → Type 0
 TellsNoStepOn ring reply = IfOk reply (λ answer. All (λ step. step.ring ≢ ring) answer.ring_steps)
 
--- how a node that has lived through some inputs replies to those that come after them
+-- the replies of a node to further inputs, after it has taken some inputs
 abbrev pub replies_after : ℕ → RingName → List ℕ → List Input → List Input → List (Outcome Answer)
 replies_after me ring members before inputs = drop (length before) (replay me ring members (before ++ inputs)).replies
 
--- From the input on at which a node adopts a message, that one included, no reply tells a step on the message's ring,
--- whatever comes.
+-- From the input on at which a node adopts a message, that input included, no reply reports a step on the message's ring,
+-- whatever the inputs are.
 abbrev pub OnlyAdoptsLast : Type 0
 OnlyAdoptsLast = (me : ℕ) (ring : RingName) (members : List ℕ) (before more : List Input) (i : Input) (adopted : Message)
     → Adopts (replay me ring members before).node i adopted

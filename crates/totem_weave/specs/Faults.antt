@@ -1,4 +1,4 @@
--- Why nothing is woven, by number and name (docs/PROTOCOL.md, "The woven ring").
+-- Why a ring can't be woven, by number and name (docs/PROTOCOL.md, "The woven ring").
 use Rattle.std.specs.Prelude.{ℕ, List, codes}
 use Rattle.totem_weave.specs.declared.fault.WeaveFault.{WeaveFault}
 use Rattle.totem_weave.specs.declared.fault.WeaveFault.TheVariants.{Members, Orphan, Memory}

@@ -1,4 +1,4 @@
--- What one member of a ring makes of its own acts alone.
+-- The effect of one member's own acts alone.
 use Rattle.std.specs.Prelude.{◌≡◌, ℕ, ◌==◌, List, [], ◌∷◌, ◌++◌, map, filter, Result, Ok, Err}
 use Rattle.totem_ids.specs.Names.{RingName}
 use Rattle.totem_packets.specs.declared.message.Body.{Body}
@@ -38,15 +38,15 @@ abbrev pub with_acts : Own → List Act → Own
 with_acts own [] = own
 with_acts own (act ∷ acts) = with_acts (with_act own act) acts
 
--- what this member does in these moves, in their order
+-- the acts of this member in these moves, in their order
 abbrev pub acts_of : ℕ → List RingMove → List Act
 acts_of p moves = map (λ m. m.act) (filter (λ m. p == m.proc) moves)
 
--- what these moves come to for this member, by its own acts alone
+-- what this member's own acts among these moves bring it to
 abbrev pub own_of : RingName → List ℕ → List RingMove → ℕ → Own
 own_of ring members moves p = with_acts (own_start ring members p) (acts_of p moves)
 
--- the state and what was handed up, as a member has it
+-- the state and the messages delivered to the node are those of `own`
 pub record IsAt (own : Own) (state : Ring) (up : List Message) : Type 0 where
   pub state_is : state ≡ own.state
   pub up_is : up ≡ own.up

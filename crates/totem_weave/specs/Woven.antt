@@ -1,4 +1,4 @@
--- What `weave` answers for (docs/PROTOCOL.md, "The woven ring").
+-- The contract of `weave` (docs/PROTOCOL.md, "The woven ring").
 use Rattle.std.specs.Prelude.{◌≡◌, ℕ, ◌+◌, ◌<◌, ◌≤◌, ◌⊎◌, List, [], length, map, take, All, Contains}
 use Rattle.std.specs.List.Sorted.{IsStrictlyIncreasing}
 use Rattle.totem_ids.specs.Names.{RingName, PlaceName}
@@ -17,16 +17,16 @@ use Rattle.totem_weave.specs.declared.woven.Woven.{Woven}
 use Rattle.totem_weave.specs.declared.fault.WeaveFault.{WeaveFault}
 use Rattle.totem_weave.specs.declared.fault.WeaveFault.TheVariants.{Members, Orphan, Memory}
 
--- whose book it is, and of which life
+-- the process whose book it is, with its life
 abbrev pub process_of : Closed → ℕ
 process_of book = book.start.me
 
--- a book tells no step on the ring, or is a member's
+-- a book reports no step on the ring, or is a member's
 abbrev pub IsOfMember : RingName → List ℕ → Closed → Type 0
 IsOfMember ring members book = (calls_acts ring book.calls ≡ []) ⊎ Contains members book.start.me
 
--- 1 to 32 members, their identifiers strictly ascending; each book is of another process or another life; who took a step on the ring
--- is a member in that life
+-- 1 to 32 members, their identifiers strictly ascending; no two books are of the same process and life; a process with a step on
+-- the ring is a member in that life
 pub record CanWeave (ring : RingName) (members : List ℕ) (books : List Closed) : Type 0 where
   pub some : 0 < length members
   pub few : length members ≤ 32
@@ -34,11 +34,11 @@ pub record CanWeave (ring : RingName) (members : List ℕ) (books : List Closed)
   pub apart : AreDistinctBy process_of books
   pub known : All (IsOfMember ring members) books
 
--- each member in order, with what it handed up by the end of these moves
+-- each member in order, with the messages delivered to its node by the end of these moves
 abbrev pub handed_by : RingName → List ℕ → List RingMove → List (ℕ × List Message)
 handed_by ring members moves = map (λ p. (p, (run (start ring (ids_of members)) moves).up (id_of p))) members
 
--- a schedule of the ring that takes each recorded step in order, each once, no other step, and none that is refused
+-- a schedule of the ring that takes each recorded step once, in order, and no other step, and none of them is refused
 pub record IsWoven (ring : RingName) (members : List ℕ) (books : List Closed) (woven : Woven) : Type 0 where
   pub can_weave : CanWeave ring members books
   pub is_schedule : IsSchedule (start ring (ids_of members)) woven.steps.items
@@ -50,7 +50,7 @@ pub record IsWoven (ring : RingName) (members : List ℕ) (books : List Closed) 
 abbrev pub AreOneOrder : List (ℕ × List Message) → Type 0
 AreOneOrder lists = (a b : ℕ × List Message) → Contains lists a → Contains lists b → IsPrefixOf a.1 b.1 ⊎ IsPrefixOf b.1 a.1
 
--- The weave ended here, as far as any comes: who is below this member did all its steps, and its own next one stands in this call.
+-- No weave gets further than this one: all members below this one took all their steps, and its own next step is in this call.
 pub record IsOrphan (ring : RingName) (members : List ℕ) (books : List Closed) (place : PlaceName) : Type 0 where
   pub can_weave : CanWeave ring members books
   pub member : Contains members place.proc
@@ -59,11 +59,11 @@ pub record IsOrphan (ring : RingName) (members : List ℕ) (books : List Closed)
   pub stuck : IsStuck (start ring (ids_of members)) (recorded_of ring books members) so_far
   pub least : (id : ℕ) → id < id_of place.proc → acts_of id so_far ≡ recorded_of ring books members id
   pub call : IsCallOf ring books place.proc (length (acts_of (id_of place.proc) so_far)) place
-  -- no schedule of first steps of the books, with none refused, has every step of this call
+  -- no weave of the books has every step of this call
   pub never : (other : List RingMove) → IsWeave (start ring (ids_of members)) (recorded_of ring books members) other
       → length (acts_of (id_of place.proc) other) < length (calls_acts ring (take (call.call + 1) call.book.calls))
 
--- why nothing is woven: each of these comes where it is true, and the first of them that is
+-- why the ring is not woven: the first of these faults that applies
 abbrev pub Refuses : RingName → List ℕ → List Closed → WeaveFault → Type 0
 Refuses ring members books Members = ¬ (CanWeave ring members books)
 Refuses ring members books (Orphan place) = IsOrphan ring members books place

@@ -1,4 +1,4 @@
-//! Why nothing is woven.
+//! Why a ring can't be woven.
 ghost use Rattle.std.specs.Prelude.{◌≡◌};
 ghost use Rattle.totem_weave.specs.Faults.{weave_number, weave_name};
 ghost use Rattle.totem_weave.specs.declared.fault.WeaveFault.TheVariants.{Memory};

@@ -1,4 +1,4 @@
-//! What each member's steps hand up.
+//! The messages that each member's steps deliver to its node.
 ghost use Rattle.std.specs.Prelude.{◌≡◌, ◌<◌, length, map, IfOk, OnOk};
 ghost use Rattle.totem_weave.specs.Tracks.{up_of_tracks};
 ghost use Rattle.totem_weave.specs.Folds.{Own, IsAt, own_start, with_act, with_acts};
@@ -11,7 +11,7 @@ use totem_packets::Message;
 use totem_recover::ids_of;
 use totem_ring::{Act, RingState};
 
-/// Does an act of a member, and appends what it hands up. A refused act changes nothing.
+/// Does an act of a member, and appends what it delivers to the node. A refused act changes nothing.
 fn hand_up(
     alloc: Global,
     state: &mut RingState,
@@ -26,7 +26,7 @@ fn hand_up(
     Ok(())
 }
 
-/// Returns what a member hands up when it does these acts, one after another, on a new ring.
+/// Returns what a member delivers to its node when it does these acts, one after another, on a new ring.
 fn handed_by(
     alloc: Global,
     ring: RingId,
@@ -45,7 +45,7 @@ fn handed_by(
     Ok(handed)
 }
 
-/// Returns each member with what it hands up by its track, which stands at its place.
+/// Returns each member with what the track at its place delivers to the node.
 pub fn handed_up(
     alloc: Global,
     ring: RingId,

@@ -1,4 +1,4 @@
-//! The woven ring: one schedule of what the members of a ring did, found from their closed books.
+//! The woven ring: one schedule of the steps of all members of a ring, found from their closed books.
 #![tactic(auto)]
 
 mod adopting;

@@ -9,10 +9,10 @@ use crate::recorded::tell_none;
 use totem_books::ClosedBook;
 use totem_ids::{Proc, RingId};
 
-/// How many members a ring may have at most.
+/// The greatest number of members of a ring.
 const MOST: usize = 32;
 
-/// Returns whether the identifiers rise strictly. So two lives of one identifier are never both members.
+/// Returns whether the identifiers are strictly ascending. If they are, no two lives of one identifier are both members.
 fn rise(members: &[Proc]) -> bool
     ensures { MatchBool result (IsStrictlyIncreasing (ids_of members.now)) (¬ (IsStrictlyIncreasing (ids_of members.now))) }
 {
@@ -24,7 +24,7 @@ fn rise(members: &[Proc]) -> bool
     true
 }
 
-/// Returns whether an earlier book is of the same process, in the same life.
+/// Returns whether an earlier book is of the same process and life.
 fn is_second(books: &[ClosedBook], place: usize) -> bool
     requires { place < length books.now }
     ensures { MatchBool result (¬ (AreDistinctBy process_of books.now)) (IsFirstBy process_of books.now place) }
@@ -65,8 +65,8 @@ fn are_of_members(ring: RingId, members: &[Proc], books: &[ClosedBook]) -> bool
     true
 }
 
-/// Returns whether the members are 1 to 32 processes with rising identifiers, no two books are of one process in one life,
-/// and each book with a step on the ring is a member's, in its life.
+/// Returns whether the members are 1 to 32 processes with ascending identifiers, no two books are of the same process and life,
+/// and each book with a step on the ring is that of a member in its life.
 pub fn can_weave(books: &[ClosedBook], ring: RingId, members: &[Proc]) -> bool
     ensures { MatchBool result (CanWeave ring members.now books.now) (¬ (CanWeave ring members.now books.now)) }
 {

@@ -1,4 +1,4 @@
-//! The call with which a weave can't go on.
+//! The call at which a weave ends.
 ghost use Rattle.std.specs.Prelude.{◌≡◌, ◌-◌, ◌^◌, ◌<◌, length};
 ghost use Rattle.totem_weave.specs.Recorded.{recorded, place_at, IsCallOf};
 
@@ -6,7 +6,7 @@ use crate::recorded::{book_of, call_of};
 use totem_books::ClosedBook;
 use totem_ids::{Place, Proc, RingId};
 
-/// Returns the place of this call, counted from 0, of a process's book.
+/// Returns the place of this call, counted from 0, in a process's book.
 fn place_of(proc: Proc, call: usize) -> Place
     requires { call < 2 ^ 64 - 1 }
     ensures proc { result.proc ≡ proc }
@@ -18,7 +18,7 @@ fn place_of(proc: Proc, call: usize) -> Place
     }
 }
 
-/// Returns the place of the call of this process in which its step of this number, counted from 0, stands.
+/// Returns the place of the call of this process that has its step with this number, counted from 0.
 pub fn call_at(books: &[ClosedBook], ring: RingId, proc: Proc, step: usize) -> Place
     requires { step < length (recorded ring books.now proc) }
     ensures { IsCallOf ring books.now proc step result }

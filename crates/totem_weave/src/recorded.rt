@@ -9,7 +9,7 @@ use totem_ids::{Proc, RingId};
 use totem_node::RingStep;
 use totem_ring::{Act, is_same_ring};
 
-/// Returns the book of this process: the first one, if there are several.
+/// Returns the book of this process, or the first of them if there are several.
 pub fn book_of(books: &[ClosedBook], ring: RingId, proc: Proc) -> Option<&ClosedBook>
     ensures { MatchOption result (recorded ring books.now proc ≡ []) (λ book. IsBookOf ring books.now proc book.now) }
 {
@@ -53,7 +53,7 @@ fn put_call(acts: &mut Vec<Act>, alloc: Global, ring: RingId, call: &Call) -> Re
     }
 }
 
-/// Returns copies of the acts that these calls did on the ring, one after another.
+/// Returns copies of the acts that these calls did on the ring, one after the other.
 pub fn acts_in(alloc: Global, ring: RingId, calls: &[Call]) -> Result<Vec<Act>, AllocError>
     ensures { IfOk result (λ acts. acts.items ≡ calls_acts ring calls.now) }
 {
@@ -76,7 +76,7 @@ fn count_on(ring: RingId, steps: &[RingStep]) -> usize
     count
 }
 
-/// Returns how many steps the call took on the ring.
+/// Returns the number of steps that the call took on the ring.
 fn count_in(ring: RingId, call: &Call) -> usize
     ensures { result ≡ length (call_acts ring call.now) }
 {
@@ -98,7 +98,7 @@ pub fn tell_none(ring: RingId, calls: &[Call]) -> bool
     true
 }
 
-/// Returns the index of the call in which the step of this number, counted from 0, stands.
+/// Returns the index of the call that has the step with this number, counted from 0.
 pub fn call_of(ring: RingId, calls: &[Call], step: usize) -> usize
     requires { step < length (calls_acts ring calls.now) }
     ensures { StandsIn ring calls.now step result }

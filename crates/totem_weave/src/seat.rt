@@ -1,4 +1,4 @@
-//! Where one member stands.
+//! The state of one member of a weave.
 ghost use Rattle.std.specs.Prelude.{◌≡◌, ◌<◌, ◌≤◌, length, IfOk, MatchBool};
 ghost use Rattle.totem_ring.specs.Steps.{act_on};
 ghost use Rattle.totem_weave.specs.Weaving.{Tries, TakesNext};
@@ -7,7 +7,7 @@ use crate::sent::Sent;
 use std::alloc::{AllocError, Global};
 use totem_ring::{Act, RingFault, RingOut, RingState};
 
-/// A member's state, and which of its acts comes next.
+/// A member's state, and the index of its next act.
 #[derive(Drop)]
 pub struct Seat {
     pub state: RingState,
@@ -37,7 +37,7 @@ impl Seat {
         self.next >= acts.len()
     }
 
-    /// Does the next of these acts, if it can be done.
+    /// Does the next of these acts, if that is possible.
     pub fn take_next(
         &mut self,
         alloc: Global,

@@ -1,4 +1,4 @@
-//! What was sent on a ring: one message for each number, and one token for each token_seq.
+//! The packets sent on a ring: one message for each number, and one token for each token_seq.
 ghost use Rattle.std.specs.Prelude.{◌≡◌, ◌↔◌, IsTrue, OnOk, Some};
 ghost use Rattle.std.specs.Ordering.{nat_cmp};
 ghost use Rattle.std.specs.BTreeMap.{get, Updates};
@@ -8,7 +8,7 @@ use std::collections::BTreeMap;
 use totem_packets::{Message, Packet, Token};
 use totem_ring::{Act, To};
 
-/// The messages by number and the tokens by token_seq. On a ring no two differ, whatever is lost, late or repeated.
+/// The messages by number and the tokens by token_seq. On one ring no two with the same number or token_seq differ.
 #[derive(Drop)]
 pub struct Sent {
     messages: BTreeMap<u32, Message>,
@@ -61,7 +61,7 @@ impl Sent {
         }
     }
 
-    /// Returns whether what comes in this act, if anything does, was sent.
+    /// Returns whether what is received in this act, if anything, was sent.
     pub fn is_coming(&self, act: &Act) -> bool
         ensures { IsTrue result ↔ IsComing self.now act.now }
     {
@@ -85,7 +85,7 @@ impl Sent {
         }
     }
 
-    /// Adds the packets of a step, whomever they are for.
+    /// Adds the packets of a step, whoever receives them.
     pub fn add(&mut self, packets: Vec<(To, Packet)>) -> Result<(), AllocError>
         ensures { OnOk result (AddsAll self.old self.new packets.items) }
     {

@@ -1,4 +1,4 @@
-//! What the members did on a ring, member by member.
+//! The recorded acts on a ring, member by member.
 ghost use Rattle.std.specs.Prelude.{◌≡◌, IfOk};
 ghost use Rattle.totem_weave.specs.Recorded.{recorded, AreTracksOf};
 
@@ -8,14 +8,14 @@ use totem_books::ClosedBook;
 use totem_ids::{Proc, ProcId, RingId};
 use totem_ring::Act;
 
-/// What one member did on a ring, in order. The ring knows it by its identifier.
+/// The acts of one member on a ring, in order. The ring knows the member by its identifier.
 #[derive(Drop)]
 pub struct Track {
     pub proc: ProcId,
     pub acts: Vec<Act>,
 }
 
-/// Returns copies of what this process did on the ring, by its book: without one nothing.
+/// Returns copies of what this process did on the ring, by its book; nothing if it has none.
 fn recorded_by(
     alloc: Global,
     books: &[ClosedBook],
@@ -30,7 +30,7 @@ fn recorded_by(
     }
 }
 
-/// Returns what each member did on the ring, in the order of the members: one without a book of its life nothing.
+/// Returns what each member did on the ring, in the order of the members; nothing for one without a book of its life.
 pub fn tracks_of(
     alloc: Global,
     books: &[ClosedBook],

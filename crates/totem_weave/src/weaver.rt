@@ -10,7 +10,7 @@ use totem_ids::{ProcId, RingId};
 use totem_packets::Packet;
 use totem_ring::{RingMove, RingState, first_token};
 
-/// Where the members stand, what was sent, and the moves so far.
+/// The state of each member, what was sent, and the moves so far.
 #[derive(Drop)]
 pub struct Weaver {
     ring: RingId,
@@ -29,7 +29,7 @@ fn members_of(alloc: Global, tracks: &[Track]) -> Result<Vec<ProcId>, AllocError
     Ok(members)
 }
 
-/// Each member of the new ring, at its first step.
+/// Returns each member of the new ring, before its first step.
 fn seats_of(
     alloc: Global,
     ring: RingId,
@@ -66,7 +66,7 @@ impl Weaver {
         })
     }
 
-    /// Lets the member of this place take its next step, if it can. Returns whether it could.
+    /// Takes the next step of the member at this place, if that is possible. Returns whether it was.
     fn step(&mut self, alloc: Global, tracks: &[Track], place: usize) -> Result<bool, AllocError>
         requires under_way { IsUnderWay tracks.now self.old }
         requires apart { AreApart tracks.now }
@@ -86,7 +86,7 @@ impl Weaver {
         Ok(true)
     }
 
-    /// Lets the member of this place take steps as long as it can. Returns whether it took one.
+    /// Takes steps of the member at this place as long as possible. Returns whether it took one.
     fn advance(&mut self, alloc: Global, tracks: &[Track], place: usize) -> Result<bool, AllocError>
         requires under_way { IsUnderWay tracks.now self.old }
         requires apart { AreApart tracks.now }
@@ -101,7 +101,7 @@ impl Weaver {
         Ok(moved)
     }
 
-    /// Lets each member in turn take steps as long as it can. Returns whether one took any.
+    /// Takes steps of each member in turn as long as possible. Returns whether it took any.
     pub fn round(&mut self, alloc: Global, tracks: &[Track]) -> Result<bool, AllocError>
         requires under_way { IsUnderWay tracks.now self.old }
         requires apart { AreApart tracks.now }
@@ -132,7 +132,7 @@ impl Weaver {
         None
     }
 
-    /// Returns how many steps the member of this place has taken.
+    /// Returns the number of steps that the member at this place has taken.
     pub fn taken(&self, tracks: &[Track], place: usize) -> usize
         requires under_way { IsUnderWay tracks.now self.now }
         requires within { place < length tracks.now }

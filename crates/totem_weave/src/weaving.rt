@@ -15,7 +15,7 @@ use std::alloc::{AllocError, Global};
 use totem_books::ClosedBook;
 use totem_ids::{Proc, RingId};
 
-/// Weaves these tracks until no member can go on. So no schedule of them has more of any member.
+/// Weaves these tracks until no member can continue. So no schedule of them has more steps of any member.
 fn weave_tracks(alloc: Global, ring: RingId, tracks: &[Track]) -> Result<Weaver, AllocError>
     requires some { 0 < length tracks.now }
     requires apart { AreApart tracks.now }
@@ -27,11 +27,11 @@ fn weave_tracks(alloc: Global, ring: RingId, tracks: &[Track]) -> Result<Weaver,
     Ok(weaver)
 }
 
-/// Finds a schedule of the ring that takes each step that the books tell of it, in each book's order, each once, no other
+/// Finds a schedule of the ring that takes each step that the books report on it once, in each book's order, and no other
 /// step, and none that the ring refuses (docs/PROTOCOL.md, "The woven ring"). A member without a book of its life takes no step.
-/// `Members` if the members are not 1 to 32 processes with rising identifiers, two books are of one process in one life, or a
-/// book with a step on the ring is of no member; `Orphan` if there is no such schedule, with the first call that fits none, of
-/// the least process that has one. Waits for nobody, and starts no thread.
+/// `Members` if the members are not 1 to 32 processes with ascending identifiers, two books are of the same process and life, or a
+/// book with a step on the ring is no member's. `Orphan` if there is no such schedule, with the first call that fits none, of
+/// the least process that has such a call. Doesn't block, and starts no thread.
 pub fn weave(
     alloc: Global,
     books: &[ClosedBook],

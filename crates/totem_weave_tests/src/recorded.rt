@@ -1,4 +1,4 @@
-//! Closed books of nodes on ring 4.1 with the members 1, 2 and 3, from words that say what each node is given.
+//! Closed books of nodes on ring 4.1 with the members 1, 2 and 3, from words for the inputs of each node.
 ghost use Rattle.std.specs.Prelude.{◌≡◌};
 
 use bytes::Bytes;
@@ -22,13 +22,13 @@ pub(crate) fn ring() -> RingId
     }
 }
 
-/// The process with this number, in this life.
+/// Returns the process with this number, in this life.
 pub(crate) fn process(number: u16, life: u16) -> Result<Proc, Fail> {
     let id = ProcId::new(number).ok_or("no process has this number")?;
     Ok(Proc::new(id, life).ok_or("no life has this number")?)
 }
 
-/// The processes with these numbers, in their first lives.
+/// Returns the processes with these numbers, in their first lives.
 pub(crate) fn procs(alloc: Global, numbers: &[u16]) -> Result<Vec<Proc>, Fail> {
     let mut list = Vec::new(alloc);
     for number in numbers {
@@ -37,13 +37,13 @@ pub(crate) fn procs(alloc: Global, numbers: &[u16]) -> Result<Vec<Proc>, Fail> {
     Ok(list)
 }
 
-/// The digit at this place of a word.
+/// Returns the digit at this place of a word.
 fn digit(word: &str, place: usize) -> Option<usize> {
     let byte = *word.as_bytes().get(place)?;
     Some(usize::from(byte.saturating_sub(b'0')))
 }
 
-/// The packet that a word such as `2.3.0` names: of the second book, its third call, the packet with index 0.
+/// Returns the packet that a word such as `2.3.0` names: of the second book, its third call, the packet with index 0.
 fn packet(alloc: Global, books: &[ClosedBook], word: &str) -> Result<Option<Packet>, AllocError> {
     let (Some(book), Some(call), Some(place)) = (digit(word, 0), digit(word, 2), digit(word, 4))
     else {
@@ -64,7 +64,7 @@ fn packet(alloc: Global, books: &[ClosedBook], word: &str) -> Result<Option<Pack
     }
 }
 
-/// The input of a word: `submit`, `first` for the ring's first token, `timer`, or a packet that a book tells.
+/// Returns the input of a word: `submit`, `first` for the ring's first token, `timer`, or a packet that a book has.
 fn input(alloc: Global, books: &[ClosedBook], word: &str) -> Result<Input, Fail> {
     match word {
         "submit" => Ok(Input::Submit {
@@ -112,7 +112,7 @@ fn close<L: BookName>(
     }
 }
 
-/// A shared book with one seat, which gives the node these inputs and is closed.
+/// Returns the closed book of a node that gets these inputs, through a shared book with one seat.
 fn live<L: BookName, R: Wait>(
     rt: &R,
     alloc: Global,
@@ -140,7 +140,7 @@ fn book_of<R: Wait>(
     live::<Brand, _>(rt, alloc, Blank::new(1), me, members, inputs)
 }
 
-/// Writes the book of the process with this number anew, from what these words give its node.
+/// Writes the book of the process with this number anew, from these words for its node's inputs.
 fn write<R: Wait>(
     rt: &R,
     alloc: Global,
@@ -161,8 +161,8 @@ fn write<R: Wait>(
     Ok(())
 }
 
-/// The books of 1, 2 and 3. Each line gives the words of one of them; a later line writes its book anew, when there is more
-/// to give.
+/// Returns the books of 1, 2 and 3. Each line has the words of one of them; a later line writes the book anew, with more
+/// words.
 pub(crate) fn books<R: Wait>(
     rt: &R,
     alloc: Global,

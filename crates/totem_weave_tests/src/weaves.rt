@@ -8,7 +8,7 @@ use totem_ids::{Proc, ProcId, RingId};
 use totem_packets::Message;
 use totem_weave::{WeaveFault, Woven, weave};
 
-/// 1 and 2 send a message each. 1's message to 3 is lost, and comes when the token asks for it.
+/// 1 and 2 send a message each. 1's message to 3 is lost, and arrives after the token has requested it.
 const LOST: [(u16, &str); 6] = [
     (1, "submit first"),
     (2, "submit 1.2.0 1.2.1"),
@@ -61,8 +61,8 @@ fn told(
     }
 }
 
-/// What comes of weaving the books of these lines, without that of the process `left_out`, with these members in their first
-/// lives.
+/// Weaves the books of these lines, without that of the process `left_out`, with these members in their first
+/// lives, and returns the result.
 fn woven_without<R: Wait>(
     rt: &R,
     alloc: Global,
@@ -77,6 +77,7 @@ fn woven_without<R: Wait>(
     told(alloc, &books, ring(), &procs(alloc, members)?)
 }
 
+/// Books of a ring in which a lost message was sent again are woven.
 #[test]
 fn a_lost_message_that_is_sent_again(rt: HostRuntime) -> Result<(), Fail> {
     let alloc = rt.alloc();
@@ -87,6 +88,7 @@ fn a_lost_message_that_is_sent_again(rt: HostRuntime) -> Result<(), Fail> {
     Ok(())
 }
 
+/// A message that no book sent makes the call that received it an orphan.
 #[test]
 fn a_message_that_nobody_sent(rt: HostRuntime) -> Result<(), Fail> {
     let alloc = rt.alloc();
@@ -97,6 +99,7 @@ fn a_message_that_nobody_sent(rt: HostRuntime) -> Result<(), Fail> {
     Ok(())
 }
 
+/// A book with steps on the ring that belongs to no member is refused.
 #[test]
 fn a_book_of_no_member(rt: HostRuntime) -> Result<(), Fail> {
     let alloc = rt.alloc();
@@ -107,6 +110,7 @@ fn a_book_of_no_member(rt: HostRuntime) -> Result<(), Fail> {
     Ok(())
 }
 
+/// Members must be at least one, ascending and different; they need no books.
 #[test]
 fn members_that_are_none(rt: HostRuntime) -> Result<(), Fail> {
     let alloc = rt.alloc();
@@ -129,7 +133,7 @@ fn members_that_are_none(rt: HostRuntime) -> Result<(), Fail> {
     Ok(())
 }
 
-/// How many members' lists are told for the first `count` processes as members, or the fault's name.
+/// Returns the number of members' lists with the first `count` processes as members, or the fault's name.
 fn members_up_to(alloc: Global, count: u16) -> Result<String, Fail> {
     let mut members = Vec::new(alloc);
     for number in 1..=count {
@@ -141,6 +145,7 @@ fn members_up_to(alloc: Global, count: u16) -> Result<String, Fail> {
     }
 }
 
+/// A ring of 32 members is woven, and one of 33 is refused.
 #[test]
 fn thirty_two_members_at_most(rt: HostRuntime) -> Result<(), Fail> {
     let alloc = rt.alloc();
@@ -149,7 +154,7 @@ fn thirty_two_members_at_most(rt: HostRuntime) -> Result<(), Fail> {
     Ok(())
 }
 
-/// The first token comes twice, a timer sends the token again, and a refused call stands between two steps: they are woven
+/// The first token arrives twice, a timer sends the token again, and there is a refused call between two steps: they are woven
 /// all the same, and numbers are given once.
 #[test]
 fn a_repeated_token_gives_no_numbers(rt: HostRuntime) -> Result<(), Fail> {
@@ -165,7 +170,8 @@ fn a_repeated_token_gives_no_numbers(rt: HostRuntime) -> Result<(), Fail> {
     Ok(())
 }
 
-/// The token that 2 took came from nobody, and what 1 took of 2 neither: the least process is named.
+/// Without 1's book no member sent the token that 2 took, and so 2 did not send what 3 took: the orphan of 2, the least of
+/// them, is named.
 #[test]
 fn the_least_orphan_is_named(rt: HostRuntime) -> Result<(), Fail> {
     let alloc = rt.alloc();
@@ -176,7 +182,7 @@ fn the_least_orphan_is_named(rt: HostRuntime) -> Result<(), Fail> {
     Ok(())
 }
 
-/// Ring 8.1, of which no book tells a step.
+/// Returns ring 8.1, on which no book has a step.
 fn other_ring() -> RingId {
     RingId {
         seq: 8,
@@ -184,7 +190,7 @@ fn other_ring() -> RingId {
     }
 }
 
-/// No book tells a step of ring 8.1, so all members are as they began. Two books of one process are refused all the same.
+/// On ring 8.1 no book has a step, so all members are in their first state. Two books of one process are refused all the same.
 #[test]
 fn another_ring(rt: HostRuntime) -> Result<(), Fail> {
     let alloc = rt.alloc();
@@ -205,8 +211,8 @@ fn another_ring(rt: HostRuntime) -> Result<(), Fail> {
     Ok(())
 }
 
-/// 1's book is of its first life, and tells steps on ring 4.1: where 1 is a member in its second life, the book is of no
-/// member. On ring 8.1 no book tells a step.
+/// 1's book is of its first life, and has steps on ring 4.1: if 1 is a member in its second life, the book is no
+/// member's. On ring 8.1 no book has a step.
 #[test]
 fn a_member_in_another_life(rt: HostRuntime) -> Result<(), Fail> {
     let alloc = rt.alloc();
@@ -223,6 +229,7 @@ fn a_member_in_another_life(rt: HostRuntime) -> Result<(), Fail> {
     Ok(())
 }
 
+/// Two lives of one identifier can't both be members.
 #[test]
 fn two_lives_of_one_identifier(rt: HostRuntime) -> Result<(), Fail> {
     let alloc = rt.alloc();

@@ -1,4 +1,4 @@
-//! Compares packets, and for whom they are.
+//! Compares packets and their receivers.
 use crate::comparing::Same;
 use totem_packets::Packet;
 use totem_ring::To;

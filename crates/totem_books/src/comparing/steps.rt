@@ -1,4 +1,4 @@
-//! Compares what goes into a node's step, and what a node does on a ring.
+//! Compares the inputs of a node's step, and a node's steps on a ring.
 use crate::comparing::Same;
 use bytes::Bytes;
 use totem_node::{Input, NodeFault, RingStep};

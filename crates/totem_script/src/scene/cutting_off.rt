@@ -13,7 +13,7 @@ use crate::script_fault::ScriptFaultKind;
 use std::alloc::{AllocError, Global};
 use totem_ids::ProcId;
 
-/// Returns all processes of these groups, each as often as it stands there.
+/// Returns all processes of these groups, each as often as it is listed.
 fn all_of(alloc: Global, groups: &[ProcessList]) -> Result<Vec<ProcId>, AllocError>
     ensures { IfOk result (λ procs. procs.items ≡ concat groups.now) }
 {
@@ -24,14 +24,14 @@ fn all_of(alloc: Global, groups: &[ProcessList]) -> Result<Vec<ProcId>, AllocErr
     Ok(procs)
 }
 
-/// Counts how often a process stands there.
+/// Returns how often a process is listed.
 fn times_of(procs: &[ProcId], proc: ProcId) -> usize
     ensures { result ≡ count_by (λ q. q == proc) procs.now }
 {
     procs.iter().filter(|other| **other == proc).count()
 }
 
-/// Returns whether each process of the script stands there once.
+/// Returns whether each process of the script is listed once.
 fn each_once(procs: &[ProcId], actors: &[ActorState]) -> bool
     ensures { result ≡ list_all (λ a. count_by (λ q. q == id_of a.proc) procs.now == 1) actors.now }
 {

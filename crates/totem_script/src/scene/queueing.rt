@@ -8,7 +8,7 @@ use crate::script_fault::ScriptFaultKind;
 use std::alloc::Global;
 
 impl SceneState {
-    /// Loses the packet at this place, counted from 1. `Place` if there is none.
+    /// Removes the packet at this place, counted from 1. `Place` if there is none.
     pub(super) fn lose(&mut self, place: u32) -> Result<(), ScriptFaultKind>
         ensures { Becomes result self.new (dropped self.old place) }
     {
@@ -19,7 +19,7 @@ impl SceneState {
         }
     }
 
-    /// Puts a copy of the packet at this place, counted from 1, after the others. `Place` if there is none.
+    /// Adds a copy of the packet at this place, counted from 1, after the others. `Place` if there is none.
     pub(super) fn repeat(&mut self, alloc: Global, place: u32) -> Result<(), ScriptFaultKind>
         ensures { Becomes result self.new (once_more self.old (slice_get self.old.queue (place - 1))) }
     {

@@ -1,4 +1,4 @@
-//! `return`: a process that has crashed comes back.
+//! `return`: a process that has crashed begins its next life.
 ghost use Rattle.totem_script.specs.Judged.{Becomes};
 ghost use Rattle.totem_script.specs.Scenes.{brought_back};
 
@@ -8,7 +8,7 @@ use std::alloc::Global;
 use totem_ids::ProcId;
 
 impl SceneState {
-    /// Lets a process begin its next life, and puts the first token of its ring on its way to it, whatever the cut.
+    /// Begins the next life of a process, and puts the first token of its ring on its way to it, whatever the cut.
     pub(super) fn bring_back(&mut self, alloc: Global, proc: ProcId) -> Result<(), ScriptFaultKind>
         ensures { Becomes result self.new (brought_back self.old proc) }
     {

@@ -8,7 +8,7 @@ use std::alloc::Global;
 use totem_node::Input;
 
 impl SceneState {
-    /// Hands the first packet to its receiver, this many times while there is one.
+    /// Gives the first packet to its receiver, this many times while there is one.
     pub(super) fn run(&mut self, alloc: Global, times: u32) -> Result<(), ScriptFaultKind>
         ensures { Becomes result self.new (run_times times self.old) }
     {

@@ -1,4 +1,4 @@
-use Rattle.std.proofs.Common.{◌≡◌, ℕ, slice_get, Some, refl, ap}
+use Rattle.std.proofs.Common.{◌≡◌, slice_get, Some, refl, ap}
 use Rattle.std.proofs.lemmas.Option.{slice_get_read}
 use Rattle.totem_evs.specs.LogRecord.{LogRecord}
 use Rattle.totem_judge.proofs.Steps.{member_more, member_skip}
