@@ -64,7 +64,7 @@ struct Row {
 
 const ROWS: [Row; 28] = [
     Row {
-        about: "numbers that do not rise",
+        about: "numbers that are not in ascending order",
         what: What::Numbers,
         list: &[2, 1],
         times: 1,

@@ -205,7 +205,7 @@ const ROWS: [Row; 7] = [
             the element at index 2 has or names a life other than 1; the element at index 2 is quiet",
     },
     Row {
-        about: "specifications have their numbers, and rise",
+        about: "specifications have their numbers, in ascending order",
         topic: Topic::Specifications,
         told: "< 1.1 < 1.3 < 1.4 < 2.1 < 2.2 < 2.3 < 2.4 < 3 < 4 < 5 < 6.1 < 6.3 < 7.1 < 7.2 ",
     },
