@@ -96,7 +96,7 @@ const ROWS: [Row; 28] = [
         what: What::NumbersRefusal,
         list: &[0],
         times: 1,
-        told: "the one at index 0 is 0",
+        told: "the number at index 0 is 0",
     },
     Row {
         about: "two lines",
