@@ -181,7 +181,7 @@ const RUNS: [Row; 25] = [
         told: "no; 1.4 1@3",
     },
     Row {
-        rule: "a send behind a failure",
+        rule: "a send after a failure",
         logs: "log 1\nconf r4.1 1\nfail r4.1\nsend r4.1 a 4.1#1\nopen\n",
         judge: Judge::Audit,
         told: "no; 2.2 1@3",
@@ -207,7 +207,7 @@ const RUNS: [Row; 25] = [
         told: "no; 2.3 1@1",
     },
     Row {
-        rule: "a regular configuration behind a regular one",
+        rule: "a regular configuration after a regular one",
         logs: "log 1\nconf r4.1 1\nconf r8.1 1\nopen\n",
         judge: Judge::Audit,
         told: "no; 2.4 1@1 1@2",
@@ -219,7 +219,7 @@ const RUNS: [Row; 25] = [
         told: "no; 2.4 1@1",
     },
     Row {
-        rule: "one transitional configuration behind two regular ones",
+        rule: "one transitional configuration after two regular ones",
         logs: "log 1\nconf r4.1 1 2\nconf t8.1/1 1 2\nconf r8.1 1 2\nopen\n\
         log 2\nconf r5.1 1 2\nconf t8.1/1 1 2\nconf r8.1 1 2\nopen\n",
         judge: Judge::Audit,

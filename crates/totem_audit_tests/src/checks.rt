@@ -217,7 +217,7 @@ const ROWS: [Row; 17] = [
         told: "certified; Broken 6: 1.3 2@2",
     },
     Row {
-        about: "a regular configuration behind a regular one",
+        about: "a regular configuration after a regular one",
         logs: NO_TURNS,
         lines: "pos 1 1 2\npos 2 1\n",
         told: "certified; Broken 6: 2.4 1@1 1@2",

@@ -129,7 +129,7 @@ const ROWS: [Row; 9] = [
         told: "false",
     },
     Row {
-        about: "from 1, of which 3 delivers nothing",
+        about: "from 1, where 3 delivers nothing",
         logs: Logs::Lines(CAUSE_NOT_DELIVERED),
         sender: 1,
         receiver: 3,

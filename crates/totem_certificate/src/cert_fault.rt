@@ -10,18 +10,18 @@ use totem_ids::{ReadError, TextFault};
 pub enum CertFault {
     #[error("the text does not begin with the line `totem-cert 1` or `totem-cert 2`")]
     Header,
-    #[error("a byte that does not fit")]
+    #[error("unexpected byte")]
     Word,
-    #[error("a number that is out of range or has a zero in front")]
+    #[error("a number that is out of range or has leading zeros")]
     Number,
-    #[error("a line whose process is not above the one before")]
+    #[error("lines not in ascending order of their processes")]
     Order,
     #[error("the text ends before its last line")]
     Truncated,
     #[error("more than 32 lines, or 1000000 numbers in one")]
     TooMany,
     /// The reader of certificates never returns this. It is for callers that require the input to end after the certificate.
-    #[error("bytes behind the last line")]
+    #[error("bytes after the last line")]
     End,
     #[error("the source failed")]
     Read,

@@ -13,11 +13,11 @@ const MOST: usize = 1_000_000;
 /// The first rule that the numbers of a line break. Indices count from 0.
 #[derive(Clone, Copy, Debug, PartialEq, Eq, ThisError)]
 pub enum NumbersFault {
-    #[error("there is none")]
+    #[error("the list is empty")]
     Empty,
-    #[error("there are more than {0}")]
+    #[error("more than {0} numbers")]
     TooMany(usize),
-    #[error("the one at index {0} is 0")]
+    #[error("the number at index {0} is 0")]
     Zero(usize),
 }
 

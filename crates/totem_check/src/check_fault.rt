@@ -13,7 +13,7 @@ use totem_evs::Fault;
 pub enum CheckFault {
     #[error("the lines do not match the logs and their entries")]
     Count,
-    #[error("the numbers of a log do not rise")]
+    #[error("the numbers of a log are not in ascending order")]
     NotRising,
     #[error("the number of a send is not below that of a delivery of its message")]
     SendNotBefore,

@@ -15,21 +15,22 @@ fn wanted(kind: ScriptFaultKind) -> &'static str {
             "A line is `ring 4.1 1 2 3`, `submit 1 a word`, `run 7`, `drop 2`, `repeat 2`, `cut 1 2 / 3`, `join`, `timer 1`, `crash 1`, from version 2 on `return 1`, or `end`, with one space between its words."
         }
         ScriptFaultKind::Number => {
-            "Numbers have no zero in front. Processes are 1 to 65535, counts and places 1 to 100000."
+            "Numbers have no leading zeros. Processes are 1 to 65535, counts and places 1 to 100000."
         }
         ScriptFaultKind::Order => {
-            "Lines with `ring` come first, one or more, and behind another command there is none."
+            "One or more `ring` lines come first, before all other commands."
         }
         ScriptFaultKind::Members => {
-            "The members of a ring rise, are in no other ring, and the least is its representative. Other commands name processes of the script, and a cut names each of them once."
+            "The members of a ring are in ascending order and in no other ring, and the least is its representative. Other commands name processes of the script, and a cut names each of them once."
         }
         ScriptFaultKind::Place => {
-            "There are fewer packets on their way; or who is to return has not crashed, or has no life or ring number left."
+            "There are fewer packets on their way; or the process that is to return has not crashed, or has no life or ring number left."
         }
-        ScriptFaultKind::End => "Nothing stands behind the line `end`.",
-        ScriptFaultKind::Truncated => "Each line has its end, and the last one is `end`.",
+        ScriptFaultKind::End => "Nothing follows the line `end`.",
+        ScriptFaultKind::Truncated =>
+            "Each line ends with a line break, and the last one is `end`.",
         ScriptFaultKind::TooMany => {
-            "A script has 32 processes at most, each life counted, and 65536 bytes, and a log 1000000 entries."
+            "A script has at most 32 processes, where each life counts, and 65536 bytes, and a log at most 1000000 entries."
         }
         ScriptFaultKind::Read | ScriptFaultKind::Memory => "",
     }

@@ -23,7 +23,7 @@ use totem_verdicts::{RunWords, Words, answer, judge_io, read_words, tell};
 
 /// What is printed if the numbers for a run don't fit together.
 const UNFIT: &str = "\
-error: '--lose' and '--repeat' are together above 100
+error: '--lose' and '--repeat' add up to more than 100
 
 For more information, try '--help'.
 ";

@@ -225,7 +225,7 @@ fn words_and_packets_are_those_of_a_network(rt: HostRuntime) -> Result<(), Fail>
     for _ in 0..10 {
         let found = found_in_run(&rt, rt.alloc(), 4000, Plan::new(0, 0, 0), &Quiet)?;
         assert_eq!(rt; found.turns, (500, 500));
-        assert_eq!(rt; found.unsent, 1, "the first token alone was sent by nobody");
+        assert_eq!(rt; found.unsent, 1, "only the first token was sent by no node");
         if found.each {
             return Ok(());
         }

@@ -91,10 +91,10 @@ fn title_of(alloc: Global, fault: &Fault, count: usize) -> Result<String, AllocE
     let spec = fault.spec;
     let rule = rule_of(spec);
     if count == 1 {
-        return format!(in alloc; "No: the run breaks specification {spec}. It asks: {rule}");
+        return format!(in alloc; "No: the run breaks specification {spec}. It requires: {rule}");
     }
     format!(in alloc;
-        "No: the run breaks specification {spec}, the first of {count} faults. It asks: {rule}"
+        "No: the run breaks specification {spec}, the first of {count} faults. It requires: {rule}"
     )
 }
 

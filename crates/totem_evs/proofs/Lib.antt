@@ -49,6 +49,7 @@ pub mod Folding
 pub mod Gathers
 pub mod FoldedRun
 pub mod PartRuns
+pub mod SpelledParts
 pub mod LogOf
 pub mod Pushing
 pub mod NextChanges

@@ -12,7 +12,7 @@ use Rattle.totem_evs.specs.Events.{IsEvent, ChangesTo, Sends, Delivers, IsSafe, 
 use Rattle.totem_evs.specs.Steps.{SendsAt, Precedes, SameClass}
 use Rattle.totem_evs.specs.Following.{IsNextChange, Com, DeliversIn, HasDelivered, DeliversOrEnds}
 
--- 3: who sends a message delivers it
+-- 3: each process delivers the messages that it sends
 abbrev pub SelfDelivery : List Log → Type 0
 SelfDelivery run = (p i : ℕ) (m : MsgId) (c : RingId) → Sends (log_of run p) i m (Regular c) → DeliversOrEnds run p c m
 
@@ -40,7 +40,7 @@ pub record Numbers (run : List Log) (ord : Place → ℕ) : Type 0 where
 abbrev pub HasTotalOrder : List Log → Type 0
 HasTotalOrder run = (ord : Place → ℕ) × Numbers run ord
 
--- 6.3: who delivers a later message delivers the earlier one, if its sender is still there
+-- 6.3: a process that delivers a later message also delivers the earlier one, if the sender of that one is still a member
 abbrev pub NoGaps : List Log → Type 0
 NoGaps run = (c : RingId) (m n : MsgId) (p i j q k : ℕ) (d : ConfId)
     → DeliversIn (log_of run p) c m i → DeliversIn (log_of run p) c n j → i < j

@@ -63,7 +63,7 @@ quiet p entries = record { proc = first_life p; entries = entries; ending = Quie
 abbrev pub delivered_before_sent : List Log
 delivered_before_sent = standing 1 (Conf (regular 4) alone ∷ Deliver first (regular 4) ∷ Send first (regular 4) Agreed ∷ []) ∷ []
 
--- 2 delivers a message that no one sent
+-- 2 delivers a message that was never sent
 abbrev pub delivered_never_sent : List Log
 delivered_never_sent =
     standing 1 (Conf (regular 4) pair ∷ [])
@@ -163,7 +163,7 @@ safe_message_on_the_way =
     ∷ standing 2 (Conf (regular 4) pair ∷ Conf (transitional 8) pair ∷ Deliver first (transitional 8) ∷ Conf (regular 8) pair ∷ [])
     ∷ []
 
--- 1 sends a message that no one has delivered yet
+-- 1 sends a message that no process has delivered yet
 abbrev pub sent_and_open : List Log
 sent_and_open =
     standing 1 (Conf (regular 4) pair ∷ Send first (regular 4) Agreed ∷ [])
@@ -188,7 +188,7 @@ quiet_beside_a_failure =
 abbrev pub quiet_together : List Log
 quiet_together = quiet 1 (Conf (regular 4) pair ∷ []) ∷ quiet 2 (Conf (regular 4) pair ∷ []) ∷ []
 
--- 1 sends a message that no one delivers, and is quiet; 2 is open
+-- 1 sends a message that no process delivers, and is quiet; 2 is open
 abbrev pub sent_and_quiet : List Log
 sent_and_quiet =
     quiet 1 (Conf (regular 4) pair ∷ Send first (regular 4) Agreed ∷ [])

@@ -25,7 +25,7 @@ HasFirstLives log = (life_of log.proc ≡ 1) × All (λ e. AreFirst (members_of 
 abbrev pub AreLoud : List LogRecord → Type 0
 AreLoud logs = All (λ log. log.ending ≢ Quiet) logs
 
--- the first version of which texts can write these logs
+-- the first version whose texts can write these logs
 abbrev pub IsFirstVersion : Version → List LogRecord → Type 0
 IsFirstVersion One logs = AreLoud logs × All HasFirstLives logs
 IsFirstVersion Two logs = AreLoud logs × (All HasFirstLives logs → ⊥)

@@ -25,3 +25,16 @@ PartsMakeTheRun = (version : Version) (bytes mid rest : List ℕ) (parts : List 
 -- a run's text is its first line, the lines of its parts, and its last line
 abbrev pub TextIsOfParts : Type 0
 TextIsOfParts = (run : RunRecord) → run_text run ≡ header_text run.version ++ flat_map (part_text (process_text run.version)) (run_parts run.logs) ++ line (codes "end")
+
+-- what is read as a part is spelled as that part
+abbrev pub PartIsSpelled : Type 0
+PartIsSpelled = (stage : Stage) (bytes : List ℕ) (part : Part) (rest : List ℕ) → part_at stage bytes ≡ Ok (Some part, rest) → bytes ≡ part_text (process_text stage.version) part ++ rest
+
+-- from a stage on the bytes are read as these parts, one after the other; the rest is left, and the last line is not read yet
+abbrev pub ReadsSome : Stage → List ℕ → List Part → List ℕ → Type 0
+ReadsSome stage bytes [] rest = bytes ≡ rest
+ReadsSome stage bytes (part ∷ parts) rest = (mid : List ℕ) × (part_at stage bytes ≡ Ok (Some part, mid)) × ReadsSome (next_stage stage part) mid parts rest
+
+-- what is read so far is spelled as the parts so far, wherever a reader begins and stops
+abbrev pub PartsAreSpelled : Type 0
+PartsAreSpelled = (stage : Stage) (bytes : List ℕ) (parts : List Part) (rest : List ℕ) → ReadsSome stage bytes parts rest → bytes ≡ flat_map (part_text (process_text stage.version)) parts ++ rest

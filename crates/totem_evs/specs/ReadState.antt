@@ -64,7 +64,7 @@ ComesBetween logs last (Some (parts.Log p)) = ((logs == 32) ≡ false) × (last 
 ComesBetween logs last (Some (parts.Entry e)) = ⊥
 ComesBetween logs last (Some (parts.Close ending)) = ⊥
 
--- in a log: an entry while there are fewer than 1,000,000, or its end as the last entry asks, `quiet` where it is written
+-- in a log: an entry while there are fewer than 1,000,000, or the closing word that fits the last entry (`quiet` only if the version writes it)
 abbrev pub ComesWithin : Bool → ℕ → Bool → Option Part → Type 0
 ComesWithin written entries failed None = ⊥
 ComesWithin written entries failed (Some (parts.Log p)) = ⊥

@@ -13,7 +13,7 @@ use Rattle.totem_evs.specs.Following.{Com, DeliversIn, HasDelivered, DeliversOrE
 use Rattle.totem_evs.specs.Agreement.{Goes}
 use Rattle.totem_evs.specs.Places.{At}
 
--- 3: who sends a message in c delivers it
+-- 3: each process delivers the messages that it sends in c
 pub record OwnDeliveryIn (run : List Log) (c : RingId) : Type 0 where
   pub each : (p i : ℕ) (m : MsgId) → Sends (log_of run p) i m (Regular c) → DeliversOrEnds run p c m
 
@@ -31,7 +31,7 @@ pub record CausalityIn (run : List Log) (c : RingId) : Type 0 where
   pub each : (m n : MsgId) (e f : Place) → SendsAt run e m (Regular c) → SendsAt run f n (Regular c) → IsHop run c m e f
       → (r j : ℕ) → DeliversIn (log_of run r) c n j → (i : ℕ) × (i < j) × DeliversIn (log_of run r) c m i
 
--- 6.3: who delivers a later message delivers the earlier one, if its sender is still there
+-- 6.3: a process that delivers a later message also delivers the earlier one, if the sender of that one is still a member
 pub record NoGapsIn (run : List Log) (c : RingId) : Type 0 where
   pub each : (m n : MsgId) (p i j q k : ℕ) (d : ConfId)
       → DeliversIn (log_of run p) c m i → DeliversIn (log_of run p) c n j → i < j

@@ -6,7 +6,7 @@ pub fn delivered_before_sent()
     ensures { DeliveredBeforeSent }
 {}
 
-/// Process 2 delivers a message that no one sent (1.3).
+/// Process 2 delivers a message that was never sent (1.3).
 pub fn delivered_never_sent()
     ensures { DeliveredNeverSent }
 {}
@@ -81,12 +81,12 @@ pub fn quiet_beside_a_failure()
     ensures { QuietBesideAFailure }
 {}
 
-/// Processes 1 and 2 are quiet in one configuration, which 2.1 asks.
+/// Processes 1 and 2 are quiet in one configuration, as 2.1 requires.
 pub fn quiet_together()
     ensures { QuietTogether }
 {}
 
-/// Process 1 sends a message that no one delivers, and is quiet (3); so 2 may still deliver it, and 1 may not.
+/// Process 1 sends a message that neither process delivers, and is quiet (3): 2 may still deliver it, 1 may not.
 pub fn sent_and_quiet()
     ensures { SentAndQuiet }
 {}

@@ -3,7 +3,7 @@ ghost use Rattle.totem_evs.specs.Laws.{BreaksAreBreaks, CertifiedIsOrdered, Each
 ghost use Rattle.totem_evs.specs.OneHop.{ChainsAreFine};
 ghost use Rattle.totem_evs.specs.Meanings.{AnswersAreSound};
 
-/// A run of which some events break a specification does not meet the specifications.
+/// If some events of a run break a specification, the run does not meet the specifications.
 pub fn breaks_are_breaks()
     ensures { BreaksAreBreaks }
 {}

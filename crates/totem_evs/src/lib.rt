@@ -43,7 +43,7 @@ pub use log::Log;
 pub use logs::Logs;
 pub use members::Members;
 pub use part::Part;
-pub use part_laws::{parts_make_the_run, text_is_of_parts};
+pub use part_laws::{part_is_spelled, parts_are_spelled, parts_make_the_run, text_is_of_parts};
 pub use pending::{Pending, Waiting};
 pub use reading::{read_end, read_run};
 pub use run::Run;

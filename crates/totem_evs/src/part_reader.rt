@@ -21,7 +21,7 @@ use totem_ids::{Proc, ReadError, Source, Version};
 /// How many logs a run may have at most.
 const MOST_LOGS: u32 = 32;
 
-// Reads where no log has begun and not ended: the first line of a log, or the last line of the run.
+// Reads between logs: the first line of a log, or the last line of the run.
 #[tactic(auto, using(crate::proofs::ReaderSteps::reader_steps), unfolding(crate::specs::Parts::begun_at))]
 fn read_between<S: Source>(
     source: &mut S,

@@ -12,15 +12,15 @@ use totem_ids::{ReadError, TextFault, WrittenProc};
 pub enum RunFault {
     #[error("the text does not begin with a line `totem-run 1`, `totem-run 2` or `totem-run 3`")]
     Header,
-    #[error("a byte that does not fit")]
+    #[error("unexpected byte")]
     Word,
-    #[error("a number that is out of range or has a zero in front")]
+    #[error("a number that is out of range or has leading zeros")]
     Number,
-    #[error("a log whose process is not above the one before")]
+    #[error("logs not in ascending order of their processes")]
     Order,
-    #[error("members that do not rise")]
+    #[error("members not in ascending order")]
     Members,
-    #[error("a log that does not end as its last entry asks, or bytes behind the last line")]
+    #[error("a closing word that does not fit the log's entries, or bytes after the last line")]
     End,
     #[error("the text ends before its last line")]
     Truncated,

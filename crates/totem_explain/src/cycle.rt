@@ -8,7 +8,7 @@ use totem_ids::Place;
 /// Returns why the event at one place comes before the one at the next place, or is the same event.
 fn step(run: &Run, from: Place, to: Place) -> &'static str {
     if from.proc == to.proc && from.at < to.at {
-        return "they stand in one log, in this order";
+        return "they are in one log, in this order";
     }
     match (entry_at(run, from), entry_at(run, to)) {
         (Some(Entry::Send(_, _, _)), Some(Entry::Deliver(_, _))) => {

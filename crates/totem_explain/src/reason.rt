@@ -23,7 +23,7 @@ fn twice(alloc: Global, run: &Run, places: &[Place]) -> Result<String, AllocErro
         return Ok(String::new(alloc));
     };
     match (places.len(), entry_at(run, *first)) {
-        (1, _) => format!(in alloc; "  A transitional configuration is no place to send in.\n"),
+        (1, _) => format!(in alloc; "  A process can't send in a transitional configuration.\n"),
         (_, Some(Entry::Deliver(message, _))) => {
             let proc = first.proc.written(run.version);
             format!(in alloc; "  Process {proc} delivered {message} twice.\n")
@@ -41,13 +41,13 @@ fn misplaced(alloc: Global, run: &Run, place: Place) -> Result<String, AllocErro
         return Ok(String::new(alloc));
     };
     if let Some(Entry::Fail(_)) = entry_of(log, place.at.saturating_sub(1)) {
-        return format!(in alloc; "  It stands behind a failure.\n");
+        return format!(in alloc; "  It follows a failure.\n");
     }
     match change_before(log, place.at) {
-        None => format!(in alloc; "  No change stands before it.\n"),
+        None => format!(in alloc; "  No change comes before it.\n"),
         Some((conf, _)) => {
             let proc = place.proc.written(run.version);
-            format!(in alloc; "  Process {proc} stood in {conf} then.\n")
+            format!(in alloc; "  Process {proc} was in {conf} then.\n")
         }
     }
 }
@@ -59,7 +59,7 @@ fn configuration(alloc: Global, run: &Run, places: &[Place]) -> Result<String, A
     };
     let proc = first.proc.written(run.version);
     match places.get(1) {
-        None => format!(in alloc; "  Process {proc} is none of these members.\n"),
+        None => format!(in alloc; "  Process {proc} is not one of these members.\n"),
         Some(second) if second.proc == first.proc => {
             format!(in alloc; "  Process {proc} changed to it twice.\n")
         }

@@ -32,7 +32,7 @@ const BEHIND: [(&[u8], &str); 5] = [
 
 /// The text for a process without its life.
 const WANT_OF_A_LIFE: &str =
-    "A process without its life stands here: from version 2 on each is written with it, as in `2:1`. `tools/logs join --lives` adds lives to members.\n";
+    "This process has no life: from version 2 on each is written with its life, as in `2:1`. `tools/logs join --lives` adds lives to members.\n";
 
 /// Returns what may follow this beginning of a line.
 fn behind(line: &[u8]) -> &'static str {
@@ -80,24 +80,24 @@ fn wanted(alloc: Global, fault: &RunFault, line: &[u8]) -> Result<String, AllocE
             "The text of a run begins with a line `totem-run 1`, `totem-run 2` or `totem-run 3`.",
         RunFault::Word => behind(line),
         RunFault::Number => {
-            "A number has no zero in front. Processes and lives are 1 to 65535, the numbers of rings and messages 1 to 4294967295."
+            "A number has no leading zeros. Processes and lives are 1 to 65535, the numbers of rings and messages 1 to 4294967295."
         }
         RunFault::Order =>
-            "The process that ends here is not greater than that of the log before it. Logs stand in rising order.",
+            "The process that ends here is not greater than that of the log before it. Logs are in ascending order of their processes.",
         RunFault::Members =>
-            "The member that ends here is not greater than the one before it. Members stand in rising order, one life of each.",
+            "The member that ends here is not greater than the one before it. Members are in ascending order, one life of each.",
         RunFault::End => {
-            "A log whose last entry is `fail` ends with the line `failed`, any other with `open`, or from version 3 on with `quiet`; and nothing stands behind the line `end`."
+            "A log whose last entry is `fail` ends with the line `failed`, any other with `open`, or from version 3 on with `quiet`; and nothing follows the line `end`."
         }
         RunFault::Truncated => {
             "The text ends here. Each log ends with the line `open` or `failed`, or from version 3 on with `quiet`, and the text with the line `end`."
         }
         RunFault::TooMany => {
-            "A run has 32 logs at most, a configuration 32 members, and a log 1000000 entries."
+            "A run has at most 32 logs, a configuration at most 32 members, and a log at most 1000000 entries."
         }
         RunFault::MissingLog(proc) => {
             return format!(in alloc;
-                "Process {proc} is a member of a configuration, and has no log here. docs/OWN-LOGS.md says what to do about a lost log.\n"
+                "Process {proc} is a member of a configuration, but has no log here. docs/OWN-LOGS.md says what to do about a lost log.\n"
             );
         }
         RunFault::Read | RunFault::Memory => return Ok(String::new(alloc)),

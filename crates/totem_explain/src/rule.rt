@@ -12,35 +12,35 @@ pub fn rule_of(spec: SpecNo) -> &'static str {
             "A message is sent once, in a regular configuration, and each process delivers it at most once."
         }
         SpecNo::End => {
-            "Where a quiet log ends, each member ends too, without a failure, or is not quiet and has not come there yet."
+            "If a quiet log ends in a configuration, each member ends there without a failure, or is not quiet and may still come there."
         }
         SpecNo::Misplaced => {
-            "A log begins with a change, its entries name the configuration that they stand in, and nothing follows a failure."
+            "A log begins with a change, its entries name the configuration that they are in, and nothing follows a failure."
         }
         SpecNo::Configuration => {
-            "A configuration has the same members for all, a process changes to it once, and is one of them."
+            "A configuration has the same members in each log, and a process changes to it at most once and is one of them."
         }
         SpecNo::Turns => {
-            "Regular and transitional configurations take turns, and a transitional one fits those on both sides of it."
+            "Regular and transitional configurations alternate, and a transitional one fits those before and after it."
         }
         SpecNo::OwnDelivery => {
-            "Whoever sends a message delivers it, unless it fails or is still in that configuration."
+            "A process that sends a message delivers it, unless it fails or is still in that configuration."
         }
         SpecNo::Atomicity => {
             "Processes that go together from one configuration to the next deliver the same messages in the first."
         }
         SpecNo::Causality => {
-            "Whoever delivers a message has delivered before it each message whose send may have caused it."
+            "A process that delivers a message has first delivered each message whose send may have caused it."
         }
         SpecNo::Order => "All deliveries fit into one order.",
         SpecNo::Gap => {
-            "Whoever delivers a message lacks none that another delivered before it, unless the sender is no longer a member."
+            "A process that delivers a message lacks none that another delivered before it, unless the sender is no longer a member."
         }
         SpecNo::Safety => {
             "A safe message that one member delivers is delivered by all members, unless they fail or are still there."
         }
         SpecNo::Installed => {
-            "Whoever delivers a safe message in a regular configuration knows that all its members came to it."
+            "If a safe message is delivered in a regular configuration, all members of that configuration changed to it."
         }
     }
 }

@@ -74,7 +74,7 @@ fn waiting_lines(alloc: Global, run: &Run, list: &[Waiting]) -> Result<String, A
         let other = other.written(run.version);
         write!(
             text,
-            "  process {proc} stands in {conf} and waits for {other}, which {fate}\n"
+            "  process {proc} is in {conf} and waits for {other}, which {fate}\n"
         )?;
     }
     Ok(text)
@@ -99,16 +99,16 @@ pub fn explain_yes(
     let mut text = String::from_str(alloc, "Yes: the run meets specifications 1 to 7.\n")?;
     text.push_str(summary(alloc, run)?.as_str())?;
     if pending.is_empty() && waiting.is_empty() {
-        text.push_str("Nothing is pending, and nobody waits.\n")?;
+        text.push_str("Nothing is pending, and no process waits.\n")?;
     }
     push_headed(
         &mut text,
-        "Pending, which is no fault:",
+        "Pending, which is not a fault:",
         pending_lines(alloc, run.version, pending)?.as_str(),
     )?;
     push_headed(
         &mut text,
-        "Waiting, which is no fault:",
+        "Waiting, which is not a fault:",
         waiting_lines(alloc, run, waiting)?.as_str(),
     )?;
     Ok(text)

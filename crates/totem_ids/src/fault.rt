@@ -10,19 +10,19 @@ use thiserror::Error;
 pub enum TextFault {
     #[error("the first line is not a header")]
     Header,
-    #[error("another word is wanted")]
+    #[error("unexpected word")]
     Word,
-    #[error("a number is wanted, in its range and with no zero in front")]
+    #[error("expected a number in range, without leading zeros")]
     Number,
-    #[error("the order is not a rising one")]
+    #[error("not in ascending order")]
     Order,
-    #[error("the list of members is not one of the configuration")]
+    #[error("invalid process list")]
     Members,
-    #[error("more follows the end")]
+    #[error("unexpected text after the end")]
     End,
     #[error("the text ends too soon")]
     Truncated,
-    #[error("there are too many")]
+    #[error("too many elements")]
     TooMany,
 }
 

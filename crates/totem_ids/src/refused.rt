@@ -5,17 +5,17 @@ use thiserror::Error as ThisError;
 /// The first rule that a list breaks. Indices count from 0.
 #[derive(Clone, Copy, Debug, PartialEq, Eq, ThisError)]
 pub enum ListFault {
-    #[error("there is none")]
+    #[error("the list is empty")]
     Empty,
-    #[error("there are more than {0}")]
+    #[error("more than {0} elements")]
     TooMany(usize),
-    #[error("the one at index {0} is not above the one before")]
+    #[error("the element at index {0} is not above the one before")]
     NotRising(usize),
     /// In a list for texts of version 1: the element is of another life than 1, or names one.
-    #[error("the one at index {0} has lives other than 1")]
+    #[error("the element at index {0} has or names a life other than 1")]
     Life(usize),
     /// In a list for texts of version 1 or 2: the element is quiet.
-    #[error("the one at index {0} is quiet")]
+    #[error("the element at index {0} is quiet")]
     Silence(usize),
 }
 

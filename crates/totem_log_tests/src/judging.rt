@@ -62,7 +62,7 @@ const RUNS: [Row; 10] = [
         told: "0 pending, 0 wait",
     },
     Row {
-        shows: "1.3: nobody sent the message",
+        shows: "1.3: the message was never sent",
         logs: "log 1\nconf r4.1 1\ndlv r4.1 4.1#1\nopen\n",
         told: "no",
     },

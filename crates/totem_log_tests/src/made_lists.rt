@@ -64,7 +64,7 @@ struct Row {
 
 const ROWS: [Row; 28] = [
     Row {
-        about: "numbers that do not rise",
+        about: "numbers that are not in ascending order",
         what: What::Numbers,
         list: &[2, 1],
         times: 1,
@@ -96,7 +96,7 @@ const ROWS: [Row; 28] = [
         what: What::NumbersRefusal,
         list: &[0],
         times: 1,
-        told: "the one at index 0 is 0",
+        told: "the number at index 0 is 0",
     },
     Row {
         about: "two lines",

@@ -126,7 +126,7 @@ const MADE: [Made; 21] = [
         told: "log 1: conf r4.1 1 2; send r4.1 a 4.1#1; dlv r4.1 4.1#1; open. log 2: conf r4.1 1 2; dlv r4.1 4.1#1; open. end end ",
     },
     Made {
-        about: "a run with a byte behind it",
+        about: "a run with a byte after it",
         begin: RUN,
         piece: "x",
         times: 1,
@@ -171,7 +171,7 @@ const MADE: [Made; 21] = [
         told: "TooMany",
     },
     Made {
-        about: "a line's first byte behind 32",
+        about: "a line's first byte after 32 lines",
         begin: LINES,
         piece: "",
         times: 0,
@@ -180,7 +180,7 @@ const MADE: [Made; 21] = [
         told: "TooMany",
     },
     Made {
-        about: "a line behind 32 that does not rise",
+        about: "a line after 32 lines that is not above the last",
         begin: LINES,
         piece: "",
         times: 0,

@@ -200,12 +200,12 @@ const ROWS: [Row; 7] = [
     Row {
         about: "the texts of faults",
         topic: Topic::Texts,
-        told: "a line whose process is not above the one before; process 3 has no log; process 3:1 has no log; \
-            a byte that does not fit; there is none; there are more than 32; the one at index 2 is not above the one before; \
-            the one at index 2 has lives other than 1; the one at index 2 is quiet",
+        told: "lines not in ascending order of their processes; process 3 has no log; process 3:1 has no log; \
+            unexpected byte; the list is empty; more than 32 elements; the element at index 2 is not above the one before; \
+            the element at index 2 has or names a life other than 1; the element at index 2 is quiet",
     },
     Row {
-        about: "specifications have their numbers, and rise",
+        about: "specifications have their numbers, in ascending order",
         topic: Topic::Specifications,
         told: "< 1.1 < 1.3 < 1.4 < 2.1 < 2.2 < 2.3 < 2.4 < 3 < 4 < 5 < 6.1 < 6.3 < 7.1 < 7.2 ",
     },

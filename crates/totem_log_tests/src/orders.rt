@@ -58,7 +58,7 @@ struct Row {
 
 const RUNS: [Row; 10] = [
     Row {
-        rule: "who is left behind waits",
+        rule: "a process that is left behind waits",
         logs: "log 1:1\nconf r4.1 1:1 2:1\nsend r4.1 a 4.1#1\ndlv r4.1 4.1#1\nconf t8.1/1 1:1\nconf r8.1 1:1\nopen\n\
         log 2:1\nconf r4.1 1:1 2:1\ndlv r4.1 4.1#1\nopen\n",
         told: "orderly, 1 wait",
@@ -100,7 +100,7 @@ const RUNS: [Row; 10] = [
         told: "2.3 or 2.4 ",
     },
     Row {
-        rule: "one transitional configuration behind two regular ones",
+        rule: "one transitional configuration after two regular ones",
         logs: "log 1:1\nconf r4.1 1:1 2:1\nconf t8.1/1 1:1 2:1\nopen\n\
         log 2:1\nconf r4.2 1:1 2:1\nconf t8.1/1 1:1 2:1\nopen\n",
         told: "2.3 or 2.4 ",

@@ -171,7 +171,7 @@ const ROWS: [Row; 7] = [
         told: "log 1: conf r4.1 1 2; send r4.1 a 4.1#1; dlv r4.1 4.1#1; open. log 2: conf r4.1 1 2; dlv r4.1 4.1#1; open. end end ",
     },
     Row {
-        about: "a source that fails behind the run",
+        about: "a source that fails after the run",
         way: Way::Fused(RUN.len()),
         told: "log 1: conf r4.1 1 2; send r4.1 a 4.1#1; dlv r4.1 4.1#1; open. log 2: conf r4.1 1 2; dlv r4.1 4.1#1; open. Read Read ",
     },

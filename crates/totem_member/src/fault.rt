@@ -9,9 +9,9 @@ use thiserror::Error;
 /// Why a step of membership was refused.
 #[derive(Clone, Copy, Debug, PartialEq, Eq, Error)]
 pub enum MemberFault {
-    #[error("its sender can't be gathered with")]
+    #[error("can't gather with the sender")]
     Stranger,
-    #[error("it is of another gathering, or was taken before")]
+    #[error("the packet is of another gathering, or was taken before")]
     Stale,
     /// The number of the new ring would pass the greatest number, or the obligation union would have more than 32 processes.
     #[error("a value is out of range")]

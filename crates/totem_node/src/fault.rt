@@ -14,17 +14,17 @@ use totem_ring::RingFault;
 pub enum NodeFault {
     #[error("the node has crashed")]
     Stopped,
-    #[error("it is of another ring")]
+    #[error("the packet is of another ring")]
     OtherRing,
-    #[error("it was taken before")]
+    #[error("the packet was taken before")]
     Repeat,
-    #[error("it comes too late")]
+    #[error("the packet is out of date")]
     Stale,
-    #[error("it is of a process that can't be met")]
+    #[error("can't gather with these processes")]
     Stranger,
     #[error("a value is out of range")]
     Range,
-    #[error("16 messages wait")]
+    #[error("16 messages are already waiting")]
     Full,
     #[error("out of memory")]
     Memory,

@@ -475,6 +475,6 @@ fn faults_have_numbers_and_names(rt: HostRuntime) -> Result<(), Fail> {
         assert_eq!(rt; (fault.number() as usize, fault.name()), (at + 1, *name));
     }
     let shown = format!(in rt.alloc(); "{}", NodeFault::Full)?;
-    assert_eq!(rt; shown.as_str(), "16 messages wait");
+    assert_eq!(rt; shown.as_str(), "16 messages are already waiting");
     Ok(())
 }

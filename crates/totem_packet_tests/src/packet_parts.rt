@@ -224,7 +224,7 @@ pub(crate) const PARTS: [Case; 21] = [
     ("requests 1,2,9", " 1 2 9, 1 2 9"),
     ("requests 1,3,3", "3 back, no rise at 2"),
     ("requests 1-65", "65 back, more than 64"),
-    ("refusal 1-65", "there are more than 64"),
+    ("refusal 1-65", "more than 64 elements"),
     ("processes 1,2,65535", " 1 2 65535, 1 2 65535"),
     ("processes 2,1", "2 back, no rise at 1"),
     ("processes 1-33", "33 back, more than 32"),

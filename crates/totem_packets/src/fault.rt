@@ -11,11 +11,11 @@ use thiserror::Error;
 pub enum PacketFault {
     #[error("a field needs more bytes than there are")]
     Short,
-    #[error("the first byte is of no kind of packet")]
+    #[error("the first byte names no kind of packet")]
     Kind,
     #[error("a field has a value that is not allowed")]
     Range,
-    #[error("bytes behind the last field")]
+    #[error("bytes after the last field")]
     Trailing,
     #[error("out of memory")]
     Memory,

@@ -9,13 +9,13 @@ use thiserror::Error;
 /// Why a step of a ring was refused. If several reasons hold, the first of them in this order is given.
 #[derive(Clone, Copy, Debug, PartialEq, Eq, Error)]
 pub enum RingFault {
-    #[error("it is of another ring")]
+    #[error("the packet is of another ring")]
     OtherRing,
-    #[error("it was taken before")]
+    #[error("the packet was taken before")]
     Repeat,
     #[error("a value is out of range")]
     Range,
-    #[error("16 bodies wait")]
+    #[error("16 bodies are already waiting")]
     Full,
     #[error("out of memory")]
     Memory,

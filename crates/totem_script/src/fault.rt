@@ -8,9 +8,9 @@ use thiserror::Error;
 /// Why a line is not a command: what is wrong with its first unexpected byte.
 #[derive(Clone, Copy, Debug, PartialEq, Eq, Error)]
 pub enum LineFault {
-    #[error("a word that no command has there, or one too few")]
+    #[error("unexpected or missing word")]
     Word,
-    #[error("no number where one is wanted, or one out of range")]
+    #[error("expected a number in range, without leading zeros")]
     Number,
     #[error("out of memory")]
     Memory,

@@ -11,23 +11,23 @@ use thiserror::Error;
 /// (docs/PROTOCOL.md, "Scripts").
 #[derive(Clone, Copy, Debug, PartialEq, Eq, Error)]
 pub enum ScriptFaultKind {
-    #[error("a script begins with `totem-script 1` or `totem-script 2`")]
+    #[error("the script does not begin with a line `totem-script 1` or `totem-script 2`")]
     Header,
-    #[error("a word that no command has there, or one too few")]
+    #[error("unexpected or missing word")]
     Word,
-    #[error("no number where one is wanted, or one out of range")]
+    #[error("expected a number in range, without leading zeros")]
     Number,
-    #[error("a ring is wanted first, and none behind another command")]
+    #[error("expected one or more `ring` lines before all other commands")]
     Order,
-    #[error("these processes can't be meant")]
+    #[error("invalid process list")]
     Members,
     #[error("there is no such packet, or the process can't return")]
     Place,
-    #[error("something stands behind the last line")]
+    #[error("unexpected text after the last line")]
     End,
-    #[error("the script ends too early")]
+    #[error("the script ends too soon")]
     Truncated,
-    #[error("33 processes, 65537 bytes or 1000001 entries of a log")]
+    #[error("more than 32 processes, 65536 bytes, or 1000000 entries of a log")]
     TooMany,
     #[error("the script can't be read")]
     Read,

@@ -11,10 +11,10 @@ use totem_books::{BookFault, CloseFault};
 #[derive(Clone, Copy, Debug, PartialEq, Eq, Error)]
 pub enum BookTrouble {
     /// A call, or its log because that is too long for a run. In a run this is always `BookFault::Long`.
-    #[error("no further call is taken: {0}")]
+    #[error("the book takes no more calls: {0}")]
     Call(BookFault),
     /// To be closed. This never ends a run.
-    #[error("it is not closed: {0}")]
+    #[error("the book can't be closed: {0}")]
     Close(CloseFault),
 }
 

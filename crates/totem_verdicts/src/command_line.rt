@@ -20,6 +20,6 @@ pub fn no_words<E: Sink>(error: &io::Error, errors: &mut E) -> u8 {
     if error.kind() == io::ErrorKind::OutOfMemory {
         return tell_fault(errors, &VerdictFault::Memory);
     }
-    tell(errors, b"totem: the words are no UTF-8\n");
+    tell(errors, b"totem: the arguments are not valid UTF-8\n");
     64
 }

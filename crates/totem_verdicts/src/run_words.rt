@@ -32,7 +32,7 @@ const OPTIONS: [NumberOption; 6] = [
         least: 1,
         most: 32,
         default: "3",
-        help: "How many nodes, from 1 to 32",
+        help: "Number of nodes, from 1 to 32",
     },
     NumberOption {
         name: "ticks",
@@ -40,7 +40,7 @@ const OPTIONS: [NumberOption; 6] = [
         least: 1,
         most: 1_000_000,
         default: "4000",
-        help: "How many ticks, from 1 to 1000000; at every eighth a node's timer runs out and its client sends; a run that could need more memory than there is, 4 KB for each tick and node, does not begin",
+        help: "Number of ticks, from 1 to 1000000; at every eighth a node's timer expires and its client sends; the run begins only if 4 KB of memory are available for each tick and node",
     },
     NumberOption {
         name: "seed",
@@ -48,7 +48,7 @@ const OPTIONS: [NumberOption; 6] = [
         least: 0,
         most: u64::MAX,
         default: "1",
-        help: "What the fates of packets are drawn from",
+        help: "Seed for packet loss, duplication and reordering",
     },
     NumberOption {
         name: "lose",
@@ -56,7 +56,7 @@ const OPTIONS: [NumberOption; 6] = [
         least: 0,
         most: 100,
         default: "0",
-        help: "Of a hundred packets, how many are lost",
+        help: "Percentage of packets dropped",
     },
     NumberOption {
         name: "repeat",
@@ -64,7 +64,7 @@ const OPTIONS: [NumberOption; 6] = [
         least: 0,
         most: 100,
         default: "0",
-        help: "Of a hundred packets, how many go on twice; with those that are lost at most 100",
+        help: "Percentage of packets duplicated; with those dropped at most 100",
     },
     NumberOption {
         name: "hold",
@@ -72,7 +72,7 @@ const OPTIONS: [NumberOption; 6] = [
         least: 0,
         most: 255,
         default: "0",
-        help: "By how many further packets a copy is held back at most, up to 255; from 2 on a lone token waits for packets that do not come, and nodes mostly gather",
+        help: "How many later packets may overtake one, from 0 to 255; from 2 on a lone token waits for packets that never come, and nodes mostly gather",
     },
 ];
 
@@ -92,7 +92,7 @@ fn weave_option<'a>(alloc: Global) -> Arg<'a> {
         .long("weave")
         .action(ArgAction::SetTrue)
         .help(
-            "Writes no run, but the schedule of ring 4.1: how many steps it has, and what each member handed up; or the call that fits none",
+            "Write the schedule of ring 4.1 instead of the run: its number of steps, and what each member delivered to its node; or the call that fits no schedule",
         )
 }
 
@@ -100,7 +100,7 @@ fn quiet_option<'a>(alloc: Global) -> Arg<'a> {
     Arg::new(alloc, "quiet")
         .long("quiet")
         .action(ArgAction::SetTrue)
-        .help("Shows no line on a terminal that tells how far the run is")
+        .help("Hide progress")
 }
 
 /// Returns the command that runs nodes in threads.

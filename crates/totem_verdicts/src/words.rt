@@ -33,10 +33,10 @@ pub enum Words {
 }
 
 const ENDINGS: &str = "\
-Status: 0 yes, or a run was made, 1 no, or an orphan, 2 the input was refused, 3 out of memory, 4 a stream failed, 64 wrong words.";
+Status: 0 yes, or a run was made; 1 no, or an orphan; 2 the input was refused; 3 out of memory; 4 a stream failed; 64 usage error.";
 
 const AUDIT_EXAMPLE: &str = "\
-A log ends with the line open, with failed behind a failure, or from version 3 on with quiet, which says that nothing more was to come.
+A log ends with the line open, with failed after a failure, or from version 3 on with quiet, which says that nothing more was to come.
 Example: totem audit < examples/first-yes.run";
 
 const EXPLAIN_EXAMPLE: &str = "Example: totem explain < examples/first-no.run";
@@ -51,7 +51,9 @@ fn workers_option<'a>(alloc: Global) -> Arg<'a> {
         .value_name("W")
         .value_parser(ValueParser::Unsigned(1, 64))
         .default_value("1")
-        .help("How many threads judge the run, from 1 to 64; what is written is the same")
+        .help(
+            "Number of threads that judge the run, from 1 to 64; the output does not depend on it",
+        )
 }
 
 fn audit_command<'a>(alloc: Global) -> Result<Command<'a>, AllocError> {
@@ -66,7 +68,7 @@ fn svg_option<'a>(alloc: Global) -> Arg<'a> {
         .long("svg")
         .action(ArgAction::SetTrue)
         .help(
-            "Draws a picture in SVG: the run around its first fault, or a run that meets the specifications",
+            "Draw a picture in SVG: the run around its first fault, or a run that meets the specifications",
         )
 }
 
@@ -74,13 +76,13 @@ fn script_option<'a>(alloc: Global) -> Arg<'a> {
     Arg::new(alloc, "script")
         .long("script")
         .action(ArgAction::SetTrue)
-        .help("Follows a script as sim does, and shows the line for which it is refused")
+        .help("Follow a script as sim does, and show the line for which it is refused")
 }
 
 fn explain_command<'a>(alloc: Global) -> Result<Command<'a>, AllocError> {
     Command::new(alloc, "explain")
         .about(
-            "Judges the run on the standard input, and tells in words what is broken, by what, and where; or where its text is refused",
+            "Judges the run on the standard input, and explains what is broken, by which events, and where; or where its text is refused",
         )
         .after_help(EXPLAIN_EXAMPLE)
         .arg(workers_option(alloc))?

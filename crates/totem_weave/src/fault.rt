@@ -10,7 +10,7 @@ use totem_ids::Place;
 /// Why the books of a ring are not woven (docs/PROTOCOL.md, "The woven ring").
 #[derive(Clone, Copy, Debug, PartialEq, Eq, Error)]
 pub enum WeaveFault {
-    #[error("the members are not 1 to 32 processes with rising identifiers, one book each at most, and every book of the ring among them")]
+    #[error("expected 1 to 32 members with ascending identifiers, at most one book of each, and no other book with steps on the ring")]
     Members,
     /// The process with its life, and the place of its call among all calls of its book, counted from 1.
     #[error("no schedule of the ring has all steps of call {0}")]

@@ -31,7 +31,7 @@ def try_many_faults(program):
         '  Process 1 did not deliver 400.1#1 in r400.1 or what follows it: it went on to r404.1 (1@301).\n' in text and \
         text.endswith(
             '      open\n\nfault 3 1@302\n'
-            'Specification 3: Whoever sends a message delivers it, unless it fails or is still in that configuration.\n'
+            'Specification 3: A process that sends a message delivers it, unless it fails or is still in that configuration.\n'
             '  1@302  process 1 sent 404.1#1 in r404.1, an agreed message\n')
     return None if is_right else 'came: %s' % came
 
@@ -58,7 +58,7 @@ def try_long_picture(program):
     came = told_by(program, ('--svg',), long_run())
     text = came.output.decode()
     parts = (
-        "<title id='title'>No: the run breaks specification 1.3. It asks: What is delivered was sent",
+        "<title id='title'>No: the run breaks specification 1.3. It requires: What is delivered was sent",
         '>1: 2@202, process 2 delivered 4.1#999 in r4.1</text>',
         '>.. 198</text>',
         '<title>2@199: process 2 delivered 4.1#198 in r4.1</title>',

@@ -138,8 +138,8 @@ def what_is_wrong(handed, nodes):
         return 'members %s' % sorted(handed)
     longest = max(handed.values(), key=len)
     if longest != [b'4.1#%d' % number for number in range(1, len(longest) + 1)]:
-        return 'handed up: %s' % longest
-    return next(('%d handed up %s' % (node, names) for node, names in handed.items() if names != longest[:len(names)]), None)
+        return 'delivered to the nodes: %s' % longest
+    return next(('%d delivered %s' % (node, names) for node, names in handed.items() if names != longest[:len(names)]), None)
 
 
 def try_woven(words, program):
@@ -153,7 +153,7 @@ def try_woven(words, program):
     asked = words.split()
     nodes = int(asked[asked.index('--nodes') + 1]) if '--nodes' in asked else 3
     if steps < sum(map(len, handed.values())) or (not words and steps < SUBMITTED):
-        return '%d steps; handed up: %s' % (steps, handed)
+        return '%d steps; delivered to the nodes: %s' % (steps, handed)
     return what_is_wrong(handed, nodes)
 
 
