@@ -8,7 +8,7 @@
 //!   (`Shows`, specs/Clean).
 //! - A `true` of `is_agreed` means all six (`ShowsAgreement`). What a `false` means is left open.
 //! - `push_pending` appends exactly the messages that are pending there for the process of a log (`AddsPending`, specs/Pending).
-//! - A `LogSet` is the set of its members (`Has`, specs/LogSets).
+//! - The operations of `LogSet` are those of sets of logs, by their index in the run (`Has`, specs/LogSets).
 //!
 //! Nothing here reads a log. That the traffic is that of a run is proved in totem_judge, which alone uses this crate in the
 //! program.
