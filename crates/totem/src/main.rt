@@ -1,4 +1,7 @@
 //! The command `totem`: calls the program with its arguments and the standard streams.
+//!
+//! It claims nothing of its own: what it reads, writes and returns is by the contract of `totem_cluster::program_with_progress`
+//! (`Ends`, specs/Endings). The one thing that it adds is a line of progress on a terminal, for runs in threads.
 #![tactic(auto)]
 
 mod progress_line;

@@ -1,4 +1,8 @@
 //! The command `totem` for verdicts only: calls the auditor with its arguments and the standard streams.
+//!
+//! It claims nothing of its own: what it reads, writes and returns is by the contract of `totem_verdicts::auditor` (`Ends`,
+//! specs/Endings). `./totem` answers with this program as long as the whole one is not built: it depends on no crate of the nodes,
+//! so it takes half the time to prove.
 #![tactic(auto)]
 
 use std::process::ExitCode;

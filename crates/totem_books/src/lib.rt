@@ -1,4 +1,15 @@
-//! Books: a node's inputs and its answers, call by call, and the receipts that the callers keep.
+//! Books: a node's inputs and its answers, call by call, and the receipts that the callers keep (docs/PROTOCOL.md, "Books").
+//!
+//! What may be relied on:
+//! - `Book::apply` stores a call with the answer of the defined node step, and returns its receipt (`followed_by`, `answer`,
+//!   `receipt`, specs/History); at a fault nothing changes.
+//! - `SharedBook::call` answers as the node does after a list of calls that begins with all that this seat had seen (`IsAnswered`,
+//!   specs/Journals). While nobody has the lock, node and log are the replay of the calls.
+//! - `SharedBook::close` returns the book with exactly the calls whose receipts the seats have (`Agree`, `Covers`, specs/Receipts),
+//!   each after those that its seat had seen.
+//! - The log of a `ClosedBook` is the replay of its calls (`IsRecorded`, specs/Replay).
+//!
+//! Nothing is claimed about waiting or fairness.
 #![tactic(auto)]
 
 mod blank;

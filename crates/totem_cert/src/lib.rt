@@ -1,4 +1,14 @@
-//! Pass C: the certificate of a run, or a closed list of events that shows that the run has none.
+//! Pass C: the certificate of a run, or a closed list of events that shows that the run has none (docs/SPECIFICATIONS.md,
+//! "Positions").
+//!
+//! What may be relied on:
+//! - `positions` returns the one certificate that the run has by its positions, or the closed list that breaks 1.1 or 6.1
+//!   (`IsOrder`, specs/Answer, by `IsPositions` and `IsCycle` of totem_evs). It holds for every run.
+//! - `positions_over` does the same with a table of the run, in less time.
+//! - There is at most one of each, and never both: the laws `positions_are_one`, `closed_lists_are_one`,
+//!   `closed_lists_exclude_certificates`.
+//!
+//! It re-exports totem_certificate, so whoever makes certificates can also read and write them.
 #![tactic(auto)]
 
 mod closed;

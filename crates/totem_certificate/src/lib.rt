@@ -1,4 +1,17 @@
-//! Certificates, which number the events of a run: what they are, and how they are read and written.
+//! Certificates, which number the events of a run: what they are, and how they are read and written (docs/SPECIFICATIONS.md,
+//! "Certificate text").
+//!
+//! What may be relied on:
+//! - `Numbers`, `Lines` and `Certificate` keep the rules of the text (`IsNumbers`, `IsCertificate`, `IsCertificateIn`,
+//!   specs/Keeping). Their `new` refuses any other list, and gives it back with the first rule that it breaks.
+//! - `read_cert` returns exactly the certificate that the bytes spell, or the first fault of the grammar (`ReadsCert`,
+//!   specs/Reading).
+//! - `write_cert` and `put_cert` write `cert_text` (specs/CertText).
+//! - Spelling and grammar fit, and a fault is that of the first byte after which no text goes on: the laws `read_is_spelled`,
+//!   `spelled_is_read`, `no_text_begins_another`, `fault_byte_is_first`, `faults_are_its_own`.
+//!
+//! Whether a certificate certifies a run is not known here: totem_evs defines it, totem_certificate_check decides it, totem_cert
+//! finds one.
 #![tactic(auto)]
 
 mod cert_fault;

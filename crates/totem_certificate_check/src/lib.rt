@@ -1,4 +1,13 @@
 //! Certificates judged: whether the numbers of a certificate order the events of a run, by one walk along them.
+//!
+//! What may be relied on, by the contract of `certified`:
+//! - it accepts exactly if the certificate certifies the run (`Certified` of totem_evs, specs/Certificates);
+//! - otherwise it names the first of `Count`, `NotRising`, `SendNotBefore`, `TwinsDiffer` and `SharedPosition` that applies
+//!   (`Answers`, specs/Certifying);
+//! - it is refused memory only if the lines match the logs and are ascending.
+//!
+//! `rises`, `Head` and `least_head` (specs/Rising, specs/Walks) are the steps of that walk; totem_judge goes along a certificate
+//! with them. This crate uses no table, pass or search of the audit.
 #![tactic(auto)]
 
 mod certificate_fault;

@@ -1,4 +1,17 @@
-//! The program over any three streams: gives the verdicts of totem_verdicts, and makes runs from scripts or with nodes in threads.
+//! The program over any three streams: gives the verdicts of totem_verdicts, and makes runs from scripts or with nodes in threads
+//! (docs/SPECIFICATIONS.md, "The program").
+//!
+//! What may be relied on:
+//! - `audit_io`, `explain_io`, `draw_io` and `check_io` are those of totem_verdicts, with their faults among this crate's (`Gives`,
+//!   specs/IoFaults).
+//! - `sim_io` and `follow_io`: with an outcome, a script was read to its end, and what was written is the text of its run
+//!   (`Simulates`, specs/SimIo).
+//! - `run_threads`: the run is that of closed books, one for each node. `run_io` writes its text and nothing else (`Records`,
+//!   specs/RunIo).
+//! - `weave_io_with_progress` writes the woven ring of such a run, or the call that fits no schedule (`WeavesRun`, specs/WeaveIo).
+//! - `program` and `program_with_progress`: each status comes only with these streams (`Ends`, specs/Endings).
+//!
+//! Whoever wants only verdicts needs totem_verdicts and not this crate, under which all crates of the nodes are.
 #![tactic(auto)]
 
 mod io_fault;

@@ -1,5 +1,17 @@
 //! The rules of the judge for one regular configuration and what follows it: what specifications 3 to 7 require there, in terms of
 //! the sets of logs that deliver each message.
+//!
+//! A `Traffic` says what was sent and delivered in a configuration, and which logs end there or go on together. What may be relied
+//! on:
+//! - A `true` of `own_delivery_is_met`, `atomicity_is_met`, `causality_is_met`, `no_gap_is_left`, `safety_is_met` or
+//!   `installed_is_met` means that each run that has passed A and B and has this traffic meets 3, 4, 5, 6.3, 7.1 or 7.2 there
+//!   (`Shows`, specs/Clean).
+//! - A `true` of `is_agreed` means all six (`ShowsAgreement`). What a `false` means is left open.
+//! - `push_pending` appends exactly the messages that are pending there for the process of a log (`AddsPending`, specs/Pending).
+//! - The operations of `LogSet` are those of sets of logs, by their index in the run (`Has`, specs/LogSets).
+//!
+//! Nothing here reads a log. That the traffic is that of a run is proved in totem_judge, which alone uses this crate in the
+//! program.
 #![tactic(auto)]
 
 mod agreed;

@@ -1,4 +1,10 @@
-//! A run drawn as a picture: a lane for each process, bands for its configurations, its sends and deliveries, and the places of a fault.
+//! A run drawn as a picture: a lane for each process, bands for its configurations, its sends and deliveries, and the places of a
+//! fault (docs/SPECIFICATIONS.md, "Pictures").
+//!
+//! What may be relied on: `draw_no` and `draw_yes` return, whatever run, faults and lists they are given, and fail only as out of
+//! memory. No contract says what is drawn: tests show that.
+//!
+//! It takes its lanes, their layout and the words of its title from totem_explain.
 #![tactic(auto)]
 
 mod bands;

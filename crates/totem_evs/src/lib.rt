@@ -1,4 +1,19 @@
 //! Runs: what processes recorded, and what extended virtual synchrony requires of it.
+//!
+//! What may be relied on:
+//! - `Members`, `Entries`, `Logs` and `Run` keep the rules of specs/Members and specs/Runs (`IsMembers`, `IsEntries`, `IsRun`).
+//!   Their `new` refuses any other list and gives it back.
+//! - `read_run` returns exactly the run that the bytes spell, or the first fault of the grammar (`ReadsRun`, specs/Reading);
+//!   `RunReader` reads the same part by part (`ReadsNext`, `parts_make_the_run`). `write_run` writes `run_text` (specs/RunText).
+//!   Spelling and grammar fit: `spelled_is_read`, `read_is_spelled`, `fault_byte_is_first`.
+//! - What the specifications require is defined in specs/ and computed nowhere in this crate: `Meets` and `IsAnswered`
+//!   (specs/Answers), `Breaks` (specs/Faults), `ArePending` and `AreWaiting` (specs/Unsettled), `Certified` (specs/Certificates).
+//! - The defined answer means what it says (`answers_are_sound`): with a yes the run meets specifications 1 to 7, with a no each
+//!   fault breaks its own. A certificate gives 1.1 and 6.1 (`certified_is_ordered`). In a certified run that meets 1.3, 1.4 and
+//!   2.2, causal delivery between the sends and deliveries of each log gives it over chains of any length (`chains_are_fine`).
+//! - `examples` tries each definition on small runs, as laws.
+//!
+//! The nodes, which know nothing of the audit, write their logs with these types: this crate and totem_ids are all that both share.
 #![tactic(auto)]
 
 mod display;

@@ -1,4 +1,13 @@
-//! Explanations of an audit for people: what happened at the places of a fault, what is missing, and the log lines around them.
+//! Explanations of an audit for people: what happened at the places of a fault, what is missing, and the log lines around them
+//! (docs/SPECIFICATIONS.md, "Explanations").
+//!
+//! What may be relied on:
+//! - `explain_no` explains each fault that it is given, once and in their order (its contract compares the faults).
+//! - `line_of` returns the entry's line as in the run's text (`entry_text`, totem_evs specs/RunText).
+//! - Every call returns, whatever run, faults and lists it is given, and fails only as out of memory: `explain_yes`,
+//!   `explain_refusal`, `rule_of`.
+//!
+//! That the wording is right is tested and not proved. Lanes and their layout (`Lane`, `lay_out`) are shared with totem_draw.
 #![tactic(auto)]
 
 mod columns;

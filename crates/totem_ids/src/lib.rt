@@ -1,4 +1,19 @@
-//! Names of a run: processes, rings, configurations, messages and places.
+//! Names of a run: processes, rings, configurations, messages and places; their texts; and the streams of bytes that texts are read
+//! from and written to.
+//!
+//! What may be relied on:
+//! - No name has the number 0: `ProcId::new`, `Proc::new`, `RingId::new`, `MsgId::new` and `Place::new` return `None` for it.
+//! - `is_below` of `Proc`, `RingId`, `MsgId`, `Place` and `ConfId` is the order of specs/Orders and specs/Ranks, which is strict
+//!   and total: `life_order`, `ring_order`, `message_order`, `place_order`, `conf_order`.
+//! - `read_ring`, `read_conf`, `read_message`, `read_place`, `read_process`, `number` and `word` give the answer of their grammar
+//!   for the bytes that they took, whatever follows them (`Reads`, specs/Sources). `Pieces::put_ring` and the like write the one
+//!   spelling (`Writes`, specs/Writing). By the laws `ring_spelling`, `life_spelling` and the like, each grammar reads what is
+//!   spelled, and nothing else (`Spells`).
+//! - `bounded` and `rising` accept a list exactly if it keeps its rule (`IsListOf`), and otherwise give it back with the first rule
+//!   that it breaks (`Refuses`, specs/Lists). All lists of packets, runs and certificates are made with them, except the numbers of
+//!   a certificate.
+//! - Contracts see the bytes that a `Source` has left and those that a `Sink` holds, where these are known, and count each failure:
+//!   `FromRead`, `Buffered` and `ToWrite` over streams of the standard library, and `Fused`, which fails on purpose.
 #![tactic(auto)]
 
 mod buffered;

@@ -1,4 +1,14 @@
-//! Membership: which processes gather, and the commit token that forms their ring.
+//! Membership: which processes gather, and the commit token that forms their ring (docs/PROTOCOL.md, "Gathering" and "The commit
+//! token").
+//!
+//! What may be relied on:
+//! - `Gather::new`, `on_join` and `on_timeout` take the steps of specs/Gathers; a refused call changes nothing, and its fault is
+//!   that of the rules, or `Memory` where the rules would not refuse (`Begins`, `IsStep`, specs/Steps).
+//! - `Gather::consensus` returns the set on which there is consensus, with the process itself in it (`consensus`).
+//! - `first_commit` and `on_commit` make and take a commit token as specs/Commits says (`IsAnswer`). `commit_act` returns in which
+//!   way it would be taken, or why it would be refused, without allocating memory (specs/Shown).
+//!
+//! It is not claimed that a gathering ends.
 #![tactic(auto)]
 
 mod commit;

@@ -1,4 +1,18 @@
-//! Packets: what nodes send to each other, and their bytes.
+//! Packets: what nodes send to each other, and their bytes (docs/PROTOCOL.md, "Packets" and "Sets of processes").
+//!
+//! What may be relied on:
+//! - `Number`, `Life`, `TokenSeq`, `Payload`, `Requests`, `Processes` and `CommitMembers` keep their ranges; their `new` refuses
+//!   anything else, and gives a list or a payload back.
+//! - `Packet::encode` returns `packet_bytes` (specs/Spelling), the packet's one spelling. `Packet::decode` returns the packet that
+//!   the bytes spell or the fault of `decode_packet` (specs/Grammar), whatever bytes come. Bytes of no kind of packet take no
+//!   memory.
+//! - By the laws `read_is_spelled`, `spelled_is_read` and `no_packet_begins_another` grammar and spelling fit, and each fault has
+//!   its place (`a_cut_packet_is_short`, `kind_is_the_first_byte`, `range_is_known_at_once`).
+//! - `with`, `union`, `without` and `next_after` of `Processes` are the sets of specs/Sets. `transitional_set`, `least_aru`,
+//!   `greatest_delivered` and `obligation_union` of `CommitMembers` say what the reports of a commit token come to
+//!   (specs/OldRings).
+//!
+//! The auditor knows no packets: its crates don't depend on this one.
 #![tactic(auto)]
 
 mod commit;

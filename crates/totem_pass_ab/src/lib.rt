@@ -1,4 +1,13 @@
 //! The first passes of the audit. The module of each specification finds the least events that break it.
+//!
+//! What may be relied on:
+//! - `pass_a` lists, of 1.4, 2.1, 2.2, 2.3 and 2.4, each that the run breaks, with the least events that break it, and nothing for
+//!   those that the run meets (`Lists` with `pass_a`, totem_evs specs/Answers). `pass_b` does the same for 1.3.
+//! - `pass_a_and_b` lists the faults of A, or those of B if A has none (`ListsFirst`, specs/Listed). It takes a table and the
+//!   changes of the run, which make it quick.
+//!
+//! These contracts hold for every run; a run that breaks 2.3 or 2.4 may make pass B slow. The checker uses this crate as well: if
+//! the judge says no, passes A, B and D name what is broken.
 #![tactic(auto)]
 
 mod change_search;

@@ -1,4 +1,15 @@
 //! The rules of the judge for a whole run: what specifications 1.4 and 2 require of it, and which processes wait for which.
+//!
+//! What may be relied on, by definitions of specs/Orderly and of totem_evs:
+//! - A `true` of `sends_are_once`, `all_stay_in_place`, `changes_agree` or `end_together` means that the run meets the rule
+//!   (`SendsAreOnce`, `AllStayInPlace`, `ChangesAgree`, `EndsTogether`). What a `false` means is left open.
+//! - A `true` of `is_orderly` means that a run with a certificate meets 1.4 and 2.2 to 2.4 (`IsOrderly`).
+//! - `first_misplaced` returns the first entry of a log that breaks 2.2, and `first_end_alone` the first of a run that breaks 2.1;
+//!   or `None`, exactly if there is none (`IsMisplaced`, `IsLeastBreak`).
+//! - `waiting` lists exactly who waits in such a run, in ascending order (`AreWaiting`), and `in_order` puts what is pending in
+//!   order.
+//!
+//! The passes of the audit use some of these rules, too: totem_pass_ab and totem_pass_d share this crate with totem_judge.
 #![tactic(auto)]
 
 mod changes;

@@ -1,5 +1,16 @@
-//! Verdicts over any three streams: reads runs and certificates, judges them, and writes reports, explanations and pictures; and the
-//! auditor, which answers a command line.
+//! Verdicts over any three streams: reads runs and certificates, judges them, and writes reports, explanations and pictures; and
+//! the auditor, which answers a command line (docs/SPECIFICATIONS.md, "Report text" and "The program").
+//!
+//! What may be relied on:
+//! - `audit_io`: with an outcome, the whole input is the text of one run, and what was written is the report of that run's answer
+//!   and nothing else (`Audits`, specs/AuditIo). With a yes the run meets specifications 1 to 7.
+//! - `check_io`: the same for a run and its certificate, with the checker's report (`ChecksText`, specs/CheckIo).
+//! - `explain_io` and `draw_io`: the outcome is that of the run's answer; of what is written the contracts say less (`ExplainsRun`,
+//!   `DrawsRun`).
+//! - At each fault except a failed write nothing was written, and the fault is that of the reader, the checker or a stream.
+//! - `judge_io`, `answer` and `auditor`: each status comes only with these streams (`Judges`, `Answers`, `Ends`, specs/Endings).
+//!
+//! totem_cluster, the whole program, answers `audit`, `explain` and `check` by these calls.
 #![tactic(auto)]
 
 mod alone;

@@ -1,4 +1,15 @@
-//! The woven ring: one schedule of the steps of all members of a ring, found from their closed books.
+//! The woven ring: one schedule of the steps of all members of a ring, found from their closed books (docs/PROTOCOL.md, "The woven
+//! ring").
+//!
+//! What may be relied on:
+//! - `weave` returns a schedule of the ring with each step that the books report of it, once and in its book's order, and no other
+//!   (`IsWoven`, specs/Woven). Of the lists of messages that any two members delivered to their nodes, one is a prefix of the other
+//!   (`AreOneOrder`).
+//! - `Members` comes exactly if books and members don't fit; an `Orphan` is a member's call that is in no schedule (`Refuses`).
+//! - A node takes no step on a ring after it has adopted a message of it: the law `only_adopts_last` (specs/Adopting).
+//! - The laws from `state_is_own` to `whole_is_one_order` say why a search member by member finds all (specs/Laws).
+//!
+//! Nothing is assumed of the network or the threads: the books alone say what was on the ring.
 #![tactic(auto)]
 
 mod adopting;
