@@ -7,3 +7,4 @@ pub mod Refusing
 pub mod Crowding
 pub mod Foretelling
 pub mod Visits
+pub mod FirstLives

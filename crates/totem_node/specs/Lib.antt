@@ -12,3 +12,4 @@ pub mod NewVisits
 pub mod Sizes
 pub mod Replay
 pub mod Crowds
+pub mod FirstLives

@@ -22,6 +22,7 @@ mod fault;
 mod gathering;
 mod input;
 mod joins;
+mod laws;
 mod leaving;
 mod messages;
 mod node_core;
@@ -40,6 +41,7 @@ mod visiting;
 
 pub use fault::NodeFault;
 pub use input::Input;
+pub use laws::first_lives_stay;
 pub use node_core::NodeCore;
 pub use outcome::StepOut;
 pub use ring_step::RingStep;

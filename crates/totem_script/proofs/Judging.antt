@@ -98,7 +98,7 @@ unfolding all_played
 no_head [] kind fails = record { is = λ other. let same : Truncated ≡ kind = (let e = fails.is other in cc) in rw same }
 no_head (l ∷ lines) kind fails = record { is = λ other. rw (fails.is other) }
 
-a_head : (version : ScriptVersion) (lines rest : Texts) → first_headed lines ≡ Ok version → rest ≡ drop 1 lines
+pub a_head : (version : ScriptVersion) (lines rest : Texts) → first_headed lines ≡ Ok version → rest ≡ drop 1 lines
     → all_played lines ≡ play 2 (empty_scene version) rest
 unfolding all_played
 a_head version [] rest head is = absurd (cc)

@@ -9,6 +9,6 @@ pub mod Rings
 pub mod Logged
 pub mod Sent
 pub mod Happening
-pub mod Versions
+pub mod FirstLives
 pub mod Judging
 pub mod Returns

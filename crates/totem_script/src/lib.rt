@@ -36,7 +36,9 @@ pub use command::Command;
 pub use fault::LineFault;
 pub use groups::Groups;
 pub use keyword::Keyword;
-pub use laws::{a_return_begins_the_next_life, only_the_crashed_return};
+pub use laws::{
+    a_return_begins_the_next_life, a_run_has_its_scripts_version, only_the_crashed_return,
+};
 pub use parts::Parts;
 pub use playing::simulate;
 pub use process_list::ProcessList;

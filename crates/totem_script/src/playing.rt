@@ -71,8 +71,7 @@ fn begin(lines: &mut Lines<'_>) -> Result<ScriptVersion, ScriptFaultKind>
 /// Returns the run that a script makes (docs/PROTOCOL.md, "Scripts"), with a log for each life of each of its processes. A
 /// fault is that of the first line that has one, and says which line that is.
 ///
-/// A script of version 2 gives a run of version 2, one of version 1 the run in the first version whose texts can write it.
-/// That this is version 1, since each process is in its first life, is tested and not proved.
+/// The run has the version of the script. A run of version 1 names no life but the first, since nobody returns there.
 pub fn simulate(alloc: Global, script: &[u8]) -> Result<Run, ScriptFault>
     ensures { Gives result (simulate script.now) }
 {

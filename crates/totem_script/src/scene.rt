@@ -48,7 +48,7 @@ impl Model for SceneState {
 impl SceneState {
     ghost use Rattle.std.specs.Prelude.{IfOk};
     ghost use Rattle.totem_script.specs.Casts.{logs_in};
-    ghost use Rattle.totem_script.specs.Versions.{run_of};
+    ghost use Rattle.totem_script.specs.Versions.{FitVersion, run_of};
 
     /// Returns the scene at the beginning of a script of this version.
     pub fn new(alloc: Global, version: ScriptVersion) -> SceneState
@@ -145,6 +145,7 @@ impl SceneState {
 
     /// Returns the run that the processes have recorded.
     pub fn into_run(self, alloc: Global) -> Result<Run, AllocError>
+        requires { FitVersion self.version (logs_in self.actors) }
         ensures { IfOk result (λ run. run ≡ run_of self.version (logs_in self.actors)) }
     {
         let SceneState {

@@ -1,6 +1,8 @@
 //! The version of a script.
 ghost use Rattle.std.specs.Prelude.{◌≡◌};
-ghost use Rattle.totem_script.specs.Versions.{version_in};
+ghost use Rattle.totem_script.specs.Versions.{version_in, version_of};
+
+use totem_ids::Version;
 
 /// The version of a script: which commands there are.
 #[derive(Clone, Copy, Debug, PartialEq, Eq)]
@@ -22,6 +24,16 @@ impl ScriptVersion {
             Some(ScriptVersion::Two)
         } else {
             None
+        }
+    }
+
+    /// Returns the version of the runs that scripts of this version make.
+    pub fn of_runs(self) -> Version
+        ensures { result ≡ version_of self }
+    {
+        match self {
+            ScriptVersion::One => Version::One,
+            ScriptVersion::Two => Version::Two,
         }
     }
 }

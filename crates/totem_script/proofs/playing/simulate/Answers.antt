@@ -1,5 +1,6 @@
 use Rattle.std.proofs.Common.{rules}
 use Rattle.totem_script.proofs.Judging.{without_head, few_behind, play_fails, play_ends}
+use Rattle.totem_script.proofs.FirstLives.{played_first}
 use Rattle.totem_script.proofs.playing.simulate.Goals as goal
 
 pub returns-in-Err : goal.returns-in-Err
@@ -18,3 +19,8 @@ pub returns-in-Ok-into_run : goal.returns-in-Ok-into_run
 returns-in-Ok-into_run c =
     let played = rw c.new-scene.ensures at c.in_ok-line.ensures in
     play_ends c.args.script.now c.new-lines.result c.new-lines.ensures c.in-Ok.version c.begin.new.lines c.in-Ok.ensures.head c.in-Ok.ensures.rest c.play.new.scene c.in-Ok-into_run.run' played c.in-Ok-into_run.ensures
+
+pub into_run-requires : goal.into_run-requires
+into_run-requires c =
+    let played = rw c.new-scene.ensures at c.in_ok-line.ensures in
+    played_first c.in-Ok.version c.begin.new.lines c.play.new.scene played

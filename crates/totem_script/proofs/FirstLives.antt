@@ -1,0 +1,459 @@
+-- In a script of version 1 no life but the first is named.
+use Rattle.std.proofs.Common.{◌≡◌, ℕ, zero, suc, ◌+◌, ◌-◌, ◌==◌, not, Bool, true, false, List, [], ◌∷◌, length, map, take, drop, Option, None, Some, Result, Ok, Err, nat_lt, refl, ◌∙◌, arith}
+use Rattle.std.specs.Prelude.{if◌then◌else◌, IfOk, IfSome, All, slice_get, codes}
+use Rattle.std.specs.Str.{bytes_eq}
+use Rattle.std.proofs.lemmas.List.Elements.{All-nil, All-cons, All-head, All-tail, All-append, All-push, All-take, All-drop}
+use Rattle.totem_ids.specs.Names.{RingName}
+use Rattle.totem_ids.specs.Ranks.{id_of, life_of}
+use Rattle.totem_ids.specs.declared.message.Service.{Service}
+use Rattle.totem_packets.specs.declared.packet.Packet.{Packet}
+use Rattle.totem_evs.specs.RunRecord.{RunRecord}
+use Rattle.totem_evs.specs.Lives.{AreFirst, HasFirstLives}
+use Rattle.totem_ring.specs.declared.outcome.To.{To}
+use Rattle.totem_ring.specs.declared.outcome.To.TheVariants.{All as ToAll, One as ToOne}
+use Rattle.totem_ring.specs.Visits.{Sending}
+use Rattle.totem_recover.specs.Lives.{first_rank, first_ranks}
+use Rattle.totem_node.specs.declared.input.Input.{Input}
+use Rattle.totem_node.specs.declared.input.Input.TheVariants as input
+use Rattle.totem_node.specs.Nodes.{Stepped}
+use Rattle.totem_node.specs.Outcomes.{Outcome}
+use Rattle.totem_node.specs.Replay.{first_change}
+use Rattle.totem_node.specs.Table.{step}
+use Rattle.totem_node.specs.FirstLives.{IsFirstPacket, IsFirstSending, IsFirstInput, IsFirstEntry, IsFirstNode, IsFirstStep}
+use Rattle.totem_node.proofs.FirstLives.{step_stays}
+use Rattle.totem_script.specs.declared.command.Command.{Command}
+use Rattle.totem_script.specs.declared.command.Command.TheVariants as command
+use Rattle.totem_script.specs.declared.keyword.Keyword.{Keyword}
+use Rattle.totem_script.specs.declared.script_version.ScriptVersion.{ScriptVersion}
+use Rattle.totem_script.specs.declared.script_version.ScriptVersion.TheVariants as script
+use Rattle.totem_script.specs.Judged.{Judged, ◌>>=◌, by_line}
+use Rattle.totem_script.specs.Parsed as parsed
+use Rattle.totem_script.specs.Parsed.{Parsed}
+use Rattle.totem_script.specs.Keywords.{keyword_of}
+use Rattle.totem_script.specs.Numbers.{process_in, ring_in, only}
+use Rattle.totem_script.specs.Commands.{words_of, number_words, process_words, some_processes, service_in, payload_in, payload_words, service_words, submit_words, ring_words, groups_from, count_command, process_command, command_by, command_named, command_in, command_of}
+use Rattle.totem_script.specs.Actors.{Actor, ActorStepped, new_actor, after_step, actor_step, log_of, logs_of}
+use Rattle.totem_script.specs.Casts.{CastStepped, logs_in, with_actor, with_nodes, with_ring, may_make, lives_of, with_return, cast_step, is_known}
+use Rattle.totem_script.specs.Scenes.{Queue, Scene, empty_scene, may_pass, to_others, posted_to, posted, posted_all, scene_step, named_step, run_one, run_times, with_first_token, once_more, is_partition, effect, makes_ring, is_in_order, carried_out}
+use Rattle.totem_script.specs.Lines.{lines_of}
+use Rattle.totem_script.specs.Simulation.{Texts, Told, LinePlayed, at_line, and_then, line_played, closing, play, first_headed, simulate}
+use Rattle.totem_script.specs.Versions.{FitVersion, version_of, run_of}
+use Rattle.totem_script.proofs.Judging.{a_head}
+
+-- ---- what becomes of values that may be missing
+
+if_holds : {A E : Type 0} (P : A → Type 0) (b : Bool) (v w : Result A E) → IfOk v P → IfOk w P → IfOk (if b then v else w) P
+if_holds P true v w then_so else_so = then_so
+if_holds P false v w then_so else_so = else_so
+
+then_holds : {A B : Type 0} (P : A → Type 0) (Q : B → Type 0) (v : Judged A) (f : A → Judged B) → IfOk v P → ((x : A) → P x → IfOk (f x) Q) → IfOk (v >>= f) Q
+then_holds P Q (Ok x) f is each = each x is
+then_holds P Q (Err fault) f is each = tt
+
+-- ---- what a script has, where no life but the first is named
+
+-- a process that has had one life
+pub record IsFirstActor (a : Actor) : Type 0 where
+  pub proc : life_of a.proc ≡ 1
+  pub earlier : All HasFirstLives a.earlier
+  pub node : IsFirstNode a.node
+  pub entries : All IsFirstEntry a.entries
+
+abbrev pub IsFirstOnItsWay : ℕ × Packet → Type 0
+IsFirstOnItsWay e = IsFirstPacket e.1
+
+pub record IsFirstScene (s : Scene) : Type 0 where
+  pub version : s.version ≡ script.One
+  pub actors : All IsFirstActor s.actors
+  pub queue : All IsFirstOnItsWay s.queue
+
+-- ---- a process
+
+record IsFirstActorStep (done : ActorStepped) : Type 0 where
+  actor : IsFirstActor done.actor
+  packets : All IsFirstSending done.packets
+
+after_first : (a : Actor) (o : Outcome Stepped) → IsFirstActor a → IfOk o IsFirstStep → IfOk (after_step a o) IsFirstActorStep
+after_first a (Err fault) is all = record { actor = is; packets = All-nil IsFirstSending }
+after_first a (Ok done) is all =
+    if_holds IsFirstActorStep (nat_lt 1000000 (length a.entries + length done.entries)) _ _ tt (record {
+      actor = record {
+        proc = is.proc;
+        earlier = is.earlier;
+        node = all.node;
+        entries = All-append IsFirstEntry a.entries done.entries is.entries all.entries;
+      };
+      packets = all.packets;
+    })
+
+actor_first : (a : Actor) (i : Input) → IsFirstActor a → IsFirstInput i → IfOk (actor_step a i) IsFirstActorStep
+unfolding actor_step
+actor_first a i is first = after_first a (step a.node i) is (step_stays a.node i is.node first)
+
+new_first : (p : ℕ) (ring : RingName) (members : List ℕ) → life_of p ≡ 1 → AreFirst members → IsFirstActor (new_actor p ring members)
+unfolding new_actor
+new_first p ring members is all = record {
+  proc = is;
+  earlier = All-nil HasFirstLives;
+  node = record { life = is; state = tt };
+  entries = All-cons IsFirstEntry (first_change ring members) [] all (All-nil IsFirstEntry);
+}
+
+-- ---- all processes
+
+record IsFirstCastStep (done : CastStepped) : Type 0 where
+  actors : All IsFirstActor done.actors
+  packets : All IsFirstSending done.packets
+
+cast_first : (actors : List Actor) (p : ℕ) (i : Input) → All IsFirstActor actors → IsFirstInput i → IfOk (cast_step actors p i) IsFirstCastStep
+unfolding cast_step
+cast_first [] p i all first = record { actors = all; packets = All-nil IsFirstSending }
+cast_first (a ∷ actors) p i all first =
+    let one = All-head IsFirstActor a actors all in
+    let others = All-tail IsFirstActor a actors all in
+    if_holds IsFirstCastStep (id_of a.proc == p) _ _
+    (then_holds IsFirstActorStep IsFirstCastStep (actor_step a i) _ (actor_first a i one first)
+    (λ done is. record { actors = All-cons IsFirstActor done.actor actors is.actor others; packets = is.packets }))
+    (then_holds IsFirstCastStep IsFirstCastStep (cast_step actors p i) _ (cast_first actors p i others first)
+    (λ rest is. record { actors = All-cons IsFirstActor a rest.actors one is.actors; packets = is.packets }))
+
+with_first : (actors : List Actor) (a : Actor) → All IsFirstActor actors → IsFirstActor a → All IsFirstActor (with_actor actors a)
+unfolding with_actor
+with_first [] a all is = All-cons IsFirstActor a [] is all
+with_first (b ∷ actors) a all is =
+    by_place (nat_lt (id_of a.proc) (id_of b.proc)) (with_first actors a (All-tail IsFirstActor b actors all) is)
+  where
+    by_place : (before : Bool) → All IsFirstActor (with_actor actors a) → All IsFirstActor (if before then a ∷ b ∷ actors else b ∷ with_actor actors a)
+    by_place true later = All-cons IsFirstActor a (b ∷ actors) is all
+    by_place false later = All-cons IsFirstActor b (with_actor actors a) (All-head IsFirstActor b actors all) later
+
+nodes_first : (ring : RingName) (members procs : List ℕ) (actors : List Actor) → AreFirst members → AreFirst procs → All IsFirstActor actors
+    → All IsFirstActor (with_nodes ring members procs actors)
+unfolding with_nodes
+nodes_first ring members [] actors first firsts all = all
+nodes_first ring members (p ∷ procs) actors first firsts all =
+    nodes_first ring members procs (with_actor actors (new_actor p ring members)) first (All-tail (λ p. life_of p ≡ 1) p procs firsts)
+    (with_first actors (new_actor p ring members) all (new_first p ring members (All-head (λ p. life_of p ≡ 1) p procs firsts) first))
+
+ranks_first : (ids : List ℕ) → AreFirst (first_ranks ids)
+ranks_first [] = All-nil (λ p. life_of p ≡ 1)
+ranks_first (id ∷ ids) = All-cons (λ p. life_of p ≡ 1) (first_rank id) (first_ranks ids) (omega arith) (ranks_first ids)
+
+ring_first : (actors : List Actor) (ring : RingName) (members : List ℕ) → All IsFirstActor actors → IfOk (with_ring actors ring members) (All IsFirstActor)
+ring_first actors ring members all =
+    if_holds (All IsFirstActor) (may_make actors ring members) _ _
+    (if_holds (All IsFirstActor) (nat_lt 32 (lives_of actors + length members)) _ _ tt
+    (nodes_first ring (first_ranks members) (first_ranks members) actors (ranks_first members) (ranks_first members) all))
+    tt
+
+-- ---- packets on their way
+
+to_each : (packet : Packet) (actors : List Actor) → IsFirstPacket packet → All IsFirstOnItsWay (map (λ (a : Actor). (id_of a.proc, packet)) actors)
+to_each packet [] is = All-nil IsFirstOnItsWay
+to_each packet (a ∷ actors) is = All-cons IsFirstOnItsWay (id_of a.proc, packet) _ is (to_each packet actors is)
+
+sent_first : (cut : Option (List (List ℕ))) (actors : List Actor) (from : ℕ) (packet : Packet) (to : To) → IsFirstPacket packet
+    → All IsFirstOnItsWay (posted_to cut actors from packet to)
+unfolding to_others
+sent_first cut actors from packet ToAll is = to_each packet _ is
+sent_first cut actors from packet (ToOne q) is = by_cut (may_pass cut from q)
+  where
+    by_cut : (passes : Bool) → All IsFirstOnItsWay (if passes then (q, packet) ∷ [] else [])
+    by_cut true = All-cons IsFirstOnItsWay (q, packet) [] is (All-nil IsFirstOnItsWay)
+    by_cut false = All-nil IsFirstOnItsWay
+
+posted_first : (cut : Option (List (List ℕ))) (actors : List Actor) (from : ℕ) (sendings : List Sending) → All IsFirstSending sendings
+    → All IsFirstOnItsWay (posted_all cut actors from sendings)
+unfolding posted_all
+posted_first cut actors from [] all = All-nil IsFirstOnItsWay
+posted_first cut actors from (sending ∷ sendings) all =
+    All-append IsFirstOnItsWay (posted cut actors from sending) (posted_all cut actors from sendings)
+    (sent_first cut actors from sending.1 sending.0 (All-head IsFirstSending sending sendings all))
+    (posted_first cut actors from sendings (All-tail IsFirstSending sending sendings all))
+
+token_first : (queue : Queue) (ring : RingName) → All IsFirstOnItsWay queue → All IsFirstOnItsWay (with_first_token queue ring)
+token_first queue ring all = All-push IsFirstOnItsWay queue _ all tt
+
+-- ---- commands
+
+step_first : (s : Scene) (p : ℕ) (i : Input) → IsFirstScene s → IsFirstInput i → IfOk (scene_step s p i) IsFirstScene
+unfolding scene_step
+step_first s p i is first =
+    then_holds IsFirstCastStep IsFirstScene (cast_step s.actors p i) _ (cast_first s.actors p i is.actors first)
+    (λ done now. record {
+      version = is.version;
+      actors = now.actors;
+      queue = All-append IsFirstOnItsWay s.queue _ is.queue (posted_first s.cut done.actors p done.packets now.packets);
+    })
+
+named_first : (s : Scene) (p : ℕ) (i : Input) → IsFirstScene s → IsFirstInput i → IfOk (named_step s p i) IsFirstScene
+named_first s p i is first = if_holds IsFirstScene (is_known s.actors p) _ _ (step_first s p i is first) tt
+
+one_first : (s : Scene) (queue : Queue) → IsFirstScene s → All IsFirstOnItsWay queue → IfOk (run_one s queue) IsFirstScene
+one_first s [] is all = is
+one_first s (e ∷ queue) is all =
+    step_first (record s { queue = queue }) e.0 (input.Packet e.1)
+    (record { version = is.version; actors = is.actors; queue = All-tail IsFirstOnItsWay e queue all })
+    (All-head IsFirstOnItsWay e queue all)
+
+run_first : (times : ℕ) (s : Scene) → IsFirstScene s → IfOk (run_times times s) IsFirstScene
+unfolding run_times
+run_first zero s is = is
+run_first (suc times) s is =
+    then_holds IsFirstScene IsFirstScene (run_one s s.queue) (run_times times) (one_first s s.queue is is.queue) (λ next now. run_first times next now)
+
+found_first : (queue : Queue) (place : ℕ) → All IsFirstOnItsWay queue → IfSome (slice_get queue place) IsFirstOnItsWay
+found_first [] place all = tt
+found_first (e ∷ queue) zero all = All-head IsFirstOnItsWay e queue all
+found_first (e ∷ queue) (suc place) all = found_first queue place (All-tail IsFirstOnItsWay e queue all)
+
+more_first : (s : Scene) (e : Option (ℕ × Packet)) → IsFirstScene s → IfSome e IsFirstOnItsWay → IfOk (once_more s e) IsFirstScene
+more_first s None is first = tt
+more_first s (Some e) is first = record { version = is.version; actors = is.actors; queue = All-push IsFirstOnItsWay s.queue e is.queue first }
+
+-- a command other than `return`
+abbrev pub BringsNobodyBack : Command → Type 0
+BringsNobodyBack (command.Ring ring members) = Unit {0}
+BringsNobodyBack (command.Submit p service payload) = Unit {0}
+BringsNobodyBack (command.Run times) = Unit {0}
+BringsNobodyBack (command.Drop place) = Unit {0}
+BringsNobodyBack (command.Repeat place) = Unit {0}
+BringsNobodyBack (command.Cut groups) = Unit {0}
+BringsNobodyBack command.Join = Unit {0}
+BringsNobodyBack (command.Timer p) = Unit {0}
+BringsNobodyBack (command.Crash p) = Unit {0}
+BringsNobodyBack (command.Return p) = ⊥
+BringsNobodyBack command.End = Unit {0}
+
+effect_first : (s : Scene) (c : Command) → IsFirstScene s → BringsNobodyBack c → IfOk (effect s c) IsFirstScene
+effect_first s (command.Ring ring members) is kind =
+    then_holds (All IsFirstActor) IsFirstScene (with_ring s.actors ring members) _ (ring_first s.actors ring members is.actors)
+    (λ actors all. record { version = is.version; actors = all; queue = token_first s.queue ring is.queue })
+effect_first s (command.Submit p service payload) is kind = named_first s p (input.Submit service payload) is tt
+effect_first s (command.Run times) is kind = run_first times s is
+effect_first s (command.Drop place) is kind =
+    if_holds IsFirstScene (nat_lt (place - 1) (length s.queue)) _ _
+    (record {
+      version = is.version;
+      actors = is.actors;
+      queue = All-append IsFirstOnItsWay (take (place - 1) s.queue) (drop (suc (place - 1)) s.queue)
+          (All-take IsFirstOnItsWay (place - 1) s.queue is.queue) (All-drop IsFirstOnItsWay (suc (place - 1)) s.queue is.queue);
+    })
+    tt
+effect_first s (command.Repeat place) is kind = more_first s (slice_get s.queue (place - 1)) is (found_first s.queue (place - 1) is.queue)
+effect_first s (command.Cut groups) is kind =
+    if_holds IsFirstScene (is_partition s.actors groups) _ _ (record { version = is.version; actors = is.actors; queue = is.queue }) tt
+effect_first s command.Join is kind = record { version = is.version; actors = is.actors; queue = is.queue }
+effect_first s (command.Timer p) is kind = named_first s p input.Timer is tt
+effect_first s (command.Crash p) is kind = named_first s p input.Crash is tt
+effect_first s (command.Return p) is kind = absurd kind
+effect_first s command.End is kind = is
+
+carried_first : (s : Scene) (c : Command) → IsFirstScene s → BringsNobodyBack c → IfOk (carried_out s c) IsFirstScene
+carried_first s c is kind =
+    if_holds IsFirstScene (is_in_order s c) _ _
+    (effect_first (record s { under_way = not (makes_ring c) }) c (record { version = is.version; actors = is.actors; queue = is.queue }) kind)
+    tt
+
+-- ---- no line of version 1 says `return`
+
+then_parsed : {A B : Type 0} (Q : B → Type 0) (v : Parsed A) (f : A → Parsed B) → ((x : A) → IfOk (f x) Q) → IfOk (parsed.◌>>=◌ v f) Q
+then_parsed Q (Ok x) f each = each x
+then_parsed Q (Err fault) f each = tt
+
+only_this : (c : Command) (ws : List (List ℕ)) → BringsNobodyBack c → IfOk (only c ws) BringsNobodyBack
+only_this c [] kind = kind
+only_this c (w ∷ ws) kind = tt
+
+counts : (make : ℕ → Command) (ws : List (List ℕ)) → ((n : ℕ) → BringsNobodyBack (make n)) → IfOk (count_command make ws) BringsNobodyBack
+counts make ws kind = then_parsed BringsNobodyBack (number_words ws) _ kind
+
+names : (make : ℕ → Command) (ws : List (List ℕ)) → ((p : ℕ) → BringsNobodyBack (make p)) → IfOk (process_command make ws) BringsNobodyBack
+names make ws kind = then_parsed BringsNobodyBack (process_words ws) _ kind
+
+rings : (ws : List (List ℕ)) → IfOk (ring_words ws) BringsNobodyBack
+rings [] = tt
+rings (w ∷ ws) = then_parsed BringsNobodyBack (ring_in w) _ (λ ring. then_parsed BringsNobodyBack (some_processes ws) _ (λ members. tt))
+
+payloads : (p : ℕ) (service : Service) (ws : List (List ℕ)) → IfOk (payload_words p service ws) BringsNobodyBack
+payloads p service [] = tt
+payloads p service (w ∷ ws) = then_parsed BringsNobodyBack (payload_in w) _ (λ payload. only_this (command.Submit p service payload) ws tt)
+
+services : (p : ℕ) (ws : List (List ℕ)) → IfOk (service_words p ws) BringsNobodyBack
+services p [] = tt
+services p (w ∷ ws) = then_parsed BringsNobodyBack (service_in w) _ (λ service. payloads p service ws)
+
+submits : (ws : List (List ℕ)) → IfOk (submit_words ws) BringsNobodyBack
+submits [] = tt
+submits (w ∷ ws) = then_parsed BringsNobodyBack (process_in w) _ (λ p. services p ws)
+
+-- the words after this keyword say no `return`
+abbrev pub IsOther : Keyword → Type 0
+IsOther k = (ws : List (List ℕ)) → IfOk (command_by k ws) BringsNobodyBack
+
+if_other : (b : Bool) (k : Keyword) (o : Option Keyword) → IsOther k → IfSome o IsOther → IfSome (if b then Some k else o) IsOther
+if_other true k o one others = one
+if_other false k o one others = others
+
+unless_return : (b : Bool) (o : Option Keyword) → IfSome o IsOther → IfSome (if b then None else o) IsOther
+unless_return true o others = tt
+unless_return false o others = others
+
+other_keyword : (w : List ℕ) → IfSome (keyword_of script.One w) IsOther
+other_keyword w =
+    if_other (bytes_eq w (codes "ring")) _ _ rings
+    (if_other (bytes_eq w (codes "submit")) _ _ submits
+    (if_other (bytes_eq w (codes "run")) _ _ (λ ws. counts command.Run ws (λ n. tt))
+    (if_other (bytes_eq w (codes "drop")) _ _ (λ ws. counts command.Drop ws (λ n. tt))
+    (if_other (bytes_eq w (codes "repeat")) _ _ (λ ws. counts command.Repeat ws (λ n. tt))
+    (if_other (bytes_eq w (codes "cut")) _ _ (λ ws. then_parsed BringsNobodyBack (groups_from [] [] ws) _ (λ groups. tt))
+    (if_other (bytes_eq w (codes "join")) _ _ (λ ws. only_this command.Join ws tt)
+    (if_other (bytes_eq w (codes "timer")) _ _ (λ ws. names command.Timer ws (λ p. tt))
+    (if_other (bytes_eq w (codes "crash")) _ _ (λ ws. names command.Crash ws (λ p. tt))
+    (unless_return (bytes_eq w (codes "return")) _
+    (if_other (bytes_eq w (codes "end")) _ None (λ ws. only_this command.End ws tt) tt))))))))))
+
+by_keyword : (o : Option Keyword) (ws : List (List ℕ)) → IfSome o IsOther → IfOk (command_named o ws) BringsNobodyBack
+by_keyword None ws other = tt
+by_keyword (Some k) ws other = other ws
+
+in_words : (ws : List (List ℕ)) → IfOk (command_in script.One ws) BringsNobodyBack
+in_words [] = tt
+in_words (w ∷ ws) = by_keyword (keyword_of script.One w) ws (other_keyword w)
+
+first_command : (version : ScriptVersion) (line : List ℕ) → version ≡ script.One → IfOk (command_of version line) BringsNobodyBack
+first_command version line is = rw is (in_words (words_of line))
+
+-- ---- the version stays
+
+abbrev pub Anything : {A : Type 0} → A → Type 0
+Anything x = Unit {0}
+
+anyway : {A E : Type 0} (v : Result A E) → IfOk v Anything
+anyway (Ok x) = tt
+anyway (Err fault) = tt
+
+module _ (version : ScriptVersion) where
+  abbrev pub IsIn : Scene → Type 0
+  IsIn s = s.version ≡ version
+
+  step_in : (s : Scene) (p : ℕ) (i : Input) → IsIn s → IfOk (scene_step s p i) IsIn
+  unfolding scene_step
+  step_in s p i is = then_holds Anything IsIn (cast_step s.actors p i) _ (anyway (cast_step s.actors p i)) (λ done any. is)
+
+  named_in : (s : Scene) (p : ℕ) (i : Input) → IsIn s → IfOk (named_step s p i) IsIn
+  named_in s p i is = if_holds IsIn (is_known s.actors p) _ _ (step_in s p i is) tt
+
+  one_in : (s : Scene) (queue : Queue) → IsIn s → IfOk (run_one s queue) IsIn
+  one_in s [] is = is
+  one_in s (e ∷ queue) is = step_in (record s { queue = queue }) e.0 (input.Packet e.1) is
+
+  run_in : (times : ℕ) (s : Scene) → IsIn s → IfOk (run_times times s) IsIn
+  unfolding run_times
+  run_in zero s is = is
+  run_in (suc times) s is = then_holds IsIn IsIn (run_one s s.queue) (run_times times) (one_in s s.queue is) (λ next now. run_in times next now)
+
+  more_in : (s : Scene) (e : Option (ℕ × Packet)) → IsIn s → IfOk (once_more s e) IsIn
+  more_in s None is = tt
+  more_in s (Some e) is = is
+
+  effect_in : (s : Scene) (c : Command) → IsIn s → IfOk (effect s c) IsIn
+  effect_in s (command.Ring ring members) is =
+      then_holds Anything IsIn (with_ring s.actors ring members) _ (anyway (with_ring s.actors ring members)) (λ actors any. is)
+  effect_in s (command.Submit p service payload) is = named_in s p (input.Submit service payload) is
+  effect_in s (command.Run times) is = run_in times s is
+  effect_in s (command.Drop place) is = if_holds IsIn (nat_lt (place - 1) (length s.queue)) _ _ is tt
+  effect_in s (command.Repeat place) is = more_in s (slice_get s.queue (place - 1)) is
+  effect_in s (command.Cut groups) is = if_holds IsIn (is_partition s.actors groups) _ _ is tt
+  effect_in s command.Join is = is
+  effect_in s (command.Timer p) is = named_in s p input.Timer is
+  effect_in s (command.Crash p) is = named_in s p input.Crash is
+  effect_in s (command.Return p) is = then_holds Anything IsIn (with_return s.actors p) _ (anyway (with_return s.actors p)) (λ done any. is)
+  effect_in s command.End is = is
+
+  carried_in : (s : Scene) (c : Command) → IsIn s → IfOk (carried_out s c) IsIn
+  carried_in s c is = if_holds IsIn (is_in_order s c) _ _ (effect_in (record s { under_way = not (makes_ring c) }) c is) tt
+
+-- ---- line after line
+
+line_holds : {A B : Type 0} (P : A → Type 0) (Q : B → Type 0) (n : ℕ) (v : Judged A) (f : A → Told B) → IfOk v P → ((x : A) → P x → IfOk (f x) Q)
+    → IfOk (and_then (at_line n v) f) Q
+line_holds P Q n (Ok x) f is each = each x is
+line_holds P Q n (Err fault) f is each = tt
+
+by_line_holds : {A : Type 0} (P : A → Type 0) (v : Parsed A) → IfOk v P → IfOk (by_line v) P
+by_line_holds P (Ok x) is = is
+by_line_holds P (Err fault) is = tt
+
+-- what holds of a scene, and stays so whatever a line says, holds in the end
+module _ (P : Scene → Type 0) (Q : Command → Type 0) (reads : (s : Scene) (text : List ℕ) → P s → IfOk (command_of s.version text) Q)
+    (stays : (s : Scene) (c : Command) → P s → Q c → IfOk (carried_out s c) P) where
+  abbrev pub Leaves : LinePlayed → Type 0
+  Leaves next = P next.scene
+
+  line_leaves : (s : Scene) (line : Judged (List ℕ)) → P s → IfOk (line_played s line) Leaves
+  unfolding line_played
+  line_leaves s line is =
+      then_holds Anything Leaves line _ (anyway line)
+      (λ text any. then_holds Q Leaves (by_line (command_of s.version text)) _ (by_line_holds Q (command_of s.version text) (reads s text is))
+      (λ c kind. then_holds P Leaves (carried_out s c) _ (stays s c is kind)
+      (λ next now. now)))
+
+  closes : (n : ℕ) (s : Scene) (lines : Texts) → P s → IfOk (closing n s lines) P
+  unfolding closing
+  closes n s [] is = is
+  closes n s (line ∷ lines) is = tt
+
+  plays : (n : ℕ) (s : Scene) (lines : Texts) → P s → IfOk (play n s lines) P
+  unfolding play
+  plays n s [] is = tt
+  plays n s (line ∷ lines) is =
+      line_holds Leaves P n (line_played s line) _ (line_leaves s line is)
+      (λ next now. if_holds P next.ended _ _ (closes (n + 1) next.scene lines now) (plays (n + 1) next.scene lines now))
+
+begins_first : IsFirstScene (empty_scene script.One)
+begins_first = record { version = refl; actors = All-nil IsFirstActor; queue = All-nil IsFirstOnItsWay }
+
+plays_first : (lines : Texts) → IfOk (play 2 (empty_scene script.One) lines) IsFirstScene
+plays_first lines =
+    plays IsFirstScene BringsNobodyBack (λ s text is. first_command s.version text is.version) carried_first 2 (empty_scene script.One) lines begins_first
+
+plays_in : (version : ScriptVersion) (lines : Texts) → IfOk (play 2 (empty_scene version) lines) (IsIn version)
+plays_in version lines = plays (IsIn version) Anything (λ s text is. anyway (command_of s.version text)) (λ s c is any. carried_in version s c is) 2 (empty_scene version) lines refl
+
+-- ---- the logs
+
+actor_logs : (a : Actor) → IsFirstActor a → All HasFirstLives (logs_of a)
+actor_logs a is = All-push HasFirstLives a.earlier (log_of a) is.earlier (is.proc, is.entries)
+
+all_logs : (actors : List Actor) → All IsFirstActor actors → All HasFirstLives (logs_in actors)
+all_logs [] all = All-nil HasFirstLives
+all_logs (a ∷ actors) all =
+    All-append HasFirstLives (logs_of a) (logs_in actors) (actor_logs a (All-head IsFirstActor a actors all)) (all_logs actors (All-tail IsFirstActor a actors all))
+
+-- a script of version 1 leaves logs that name first lives alone
+pub played_first : (version : ScriptVersion) (lines : Texts) (s : Scene) → play 2 (empty_scene version) lines ≡ Ok s → s.version ≡ script.One → All HasFirstLives (logs_in s.actors)
+played_first script.One lines s played one =
+    let is = rw played at (plays_first lines) in
+    all_logs s.actors is.actors
+played_first script.Two lines s played one =
+    let is = rw played at (plays_in script.Two lines) in
+    absurd (cc)
+
+-- ---- the run
+
+module _ (script : List ℕ) (version : ScriptVersion) (run : RunRecord) (head : first_headed (lines_of 65536 script) ≡ Ok version) where
+  fits : (r : Told Scene) → play 2 (empty_scene version) (drop 1 (lines_of 65536 script)) ≡ r → and_then r (λ s. Ok (run_of s.version (logs_in s.actors))) ≡ Ok run
+      → (run.version ≡ version_of version) × FitVersion version run.logs
+  fits (Ok s) played is =
+      let same : run ≡ run_of s.version (logs_in s.actors) = cc in
+      let stays = rw played at (plays_in version (drop 1 (lines_of 65536 script))) in
+      rw (same, stays) (refl, λ one. played_first version (drop 1 (lines_of 65536 script)) s played (stays ∙ one))
+  fits (Err fault) played is = absurd (cc)
+
+  pub run_fits : simulate script ≡ Ok run → (run.version ≡ version_of version) × FitVersion version run.logs
+  unfolding simulate
+  run_fits is =
+      let whole = a_head version (lines_of 65536 script) (drop 1 (lines_of 65536 script)) head refl in
+      let made = rw whole at is in
+      fits (play 2 (empty_scene version) (drop 1 (lines_of 65536 script))) refl made
