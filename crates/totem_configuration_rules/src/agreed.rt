@@ -54,12 +54,7 @@ impl Shown {
     pub fn is_all(&self) -> bool
         ensures { OnTrue result (IsAllShown self.now) }
     {
-        self.own
-            && self.atomicity
-            && self.causality
-            && self.gap
-            && self.safety
-            && self.installed
+        self.own && self.atomicity && self.causality && self.gap && self.safety && self.installed
     }
 }
 

@@ -145,11 +145,7 @@ impl Relation for Deliveries<'_, '_> {
 }
 
 /// Returns the least events that break 4 in this configuration. None is searched for where it is known to be met.
-pub fn find(
-    alloc: Global,
-    stays: &Stays,
-    is_met: bool,
-) -> Result<Option<Places>, AllocError>
+pub fn find(alloc: Global, stays: &Stays, is_met: bool) -> Result<Option<Places>, AllocError>
     requires { OnTrue is_met (MeetsIn stays.now.run.now.logs stays.now.ring SpecNo.Atomicity) }
     ensures { IfOk result (FindsIn stays.now.run.now.logs stays.now.ring SpecNo.Atomicity) }
 {

@@ -275,11 +275,7 @@ impl Finder for EachLeader<'_, '_> {
 }
 
 /// Returns the least events that break 6.3 in this configuration. None is searched for where it is known to be met.
-pub fn find(
-    alloc: Global,
-    stays: &Stays,
-    is_met: bool,
-) -> Result<Option<Places>, AllocError>
+pub fn find(alloc: Global, stays: &Stays, is_met: bool) -> Result<Option<Places>, AllocError>
     requires { OnTrue is_met (MeetsIn stays.now.run.now.logs stays.now.ring SpecNo.Gap) }
     ensures { IfOk result (FindsIn stays.now.run.now.logs stays.now.ring SpecNo.Gap) }
 {

@@ -38,11 +38,7 @@ impl EventTest for Undelivered<'_, '_> {
 }
 
 /// Returns the least event that breaks 3 in this configuration. None is searched for where it is known to be met.
-pub fn find(
-    alloc: Global,
-    stays: &Stays,
-    is_met: bool,
-) -> Result<Option<Places>, AllocError>
+pub fn find(alloc: Global, stays: &Stays, is_met: bool) -> Result<Option<Places>, AllocError>
     requires { OnTrue is_met (MeetsIn stays.now.run.now.logs stays.now.ring SpecNo.OwnDelivery) }
     ensures { IfOk result (FindsIn stays.now.run.now.logs stays.now.ring SpecNo.OwnDelivery) }
 {

@@ -119,11 +119,7 @@ fn add_open(
 }
 
 /// Adds what is pending in one configuration.
-fn add_pending(
-    alloc: Global,
-    list: &mut Vec<Pending>,
-    stays: &RingStays,
-) -> Result<(), AllocError>
+fn add_pending(alloc: Global, list: &mut Vec<Pending>, stays: &RingStays) -> Result<(), AllocError>
     ensures { OnOk result (Adds (IsPendingIn stays.now.run.now.logs stays.now.ring) list.old.items list.new.items) }
 {
     for stay in &stays.list {

@@ -66,11 +66,7 @@ impl EventTest for Unreached<'_, '_> {
 }
 
 /// Returns the least event that breaks 7.1 in this configuration. None is searched for where it is known to be met.
-pub fn find(
-    alloc: Global,
-    stays: &Stays,
-    is_met: bool,
-) -> Result<Option<Places>, AllocError>
+pub fn find(alloc: Global, stays: &Stays, is_met: bool) -> Result<Option<Places>, AllocError>
     requires { OnTrue is_met (MeetsIn stays.now.run.now.logs stays.now.ring SpecNo.Safety) }
     ensures { IfOk result (FindsIn stays.now.run.now.logs stays.now.ring SpecNo.Safety) }
 {
