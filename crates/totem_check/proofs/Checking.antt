@@ -13,7 +13,7 @@ use Rattle.totem_check.specs.declared.accepted.Accepted.{Accepted}
 use Rattle.totem_check.specs.declared.check_fault.CheckFault.{CheckFault}
 use Rattle.totem_check.specs.declared.check_fault.CheckFault.TheVariants as faults
 use Rattle.totem_check.specs.CheckFaults.{check_fault}
-use Rattle.totem_certificate_check.specs.Certifying.{Answers, Rise}
+use Rattle.totem_certificate_check.specs.Certifying.{Answers}
 use Rattle.totem_check.specs.Checks.{IsAcceptable, IsFirstFault, HasPassed, IsEarlyFault, Judges, BeginsWith, Checks, RefusesRightly}
 use Rattle.totem_certificate_check.proofs.Exactly.{not_certified}
 

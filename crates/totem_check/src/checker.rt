@@ -3,6 +3,8 @@ ghost use Rattle.std.specs.Prelude.{IfOk};
 ghost use Rattle.totem_evs.specs.Answers.{HasCertificate};
 ghost use Rattle.totem_evs.specs.Certificates.{Certified};
 ghost use Rattle.totem_table.specs.Changes.{AreChanges};
+ghost use Rattle.totem_configuration_rules.specs.Traffics.{AreTraffic};
+ghost use Rattle.totem_judge.specs.Judged.{IsView};
 ghost use Rattle.totem_check.specs.Checks.{HasPassed, IsEarlyFault, Judges, Checks, RefusesRightly, BeginsWith};
 
 use crate::accepted::Accepted;
@@ -10,10 +12,12 @@ use crate::check_fault::CheckFault;
 use std::alloc::{AllocError, Global};
 use totem_certificate::Certificate;
 use totem_certificate_check::certified;
+use totem_configuration_rules::Observed;
 use totem_evs::{Fault, Run};
-use totem_judge::judge;
+use totem_judge::{View, observe};
 use totem_pass_ab::pass_a_and_b;
-use totem_pass_d::{Jobs, Judged, pass_d_of, pending_of, waiting};
+use totem_pass_d::{Jobs, pass_d_of, pending_of};
+use totem_run_rules::waiting;
 use totem_table::{Changes, Table};
 
 fn first_of(mut faults: Vec<Fault>) -> Option<Fault>
@@ -35,25 +39,31 @@ fn early_fault(alloc: Global, run: &Run, changes: &Changes) -> Result<Option<Fau
     Ok(first_of(pass_a_and_b(alloc, run, table.as_ref(), changes)?))
 }
 
-/// Returns the result of the last pass for a certified run that has passed A and B.
-fn settle(alloc: Global, run: &Run, changes: Changes) -> Result<Accepted, CheckFault>
+/// Searches a certified run that has passed A and B for what it breaks in pass D, given what was observed of its configurations.
+fn search_last(
+    alloc: Global,
+    run: &Run,
+    changes: Changes,
+    observed: Vec<Observed>,
+) -> Result<Accepted, CheckFault>
     requires certificate { HasCertificate run.now.logs }
     requires passed { HasPassed run.now.logs }
     requires changes { AreChanges run.now.logs changes.rows.items }
+    requires observed { AreTraffic run.now.logs observed.items }
     ensures { Judges run.now.logs result }
 {
-    let jobs = Jobs::over(alloc, run, changes)?;
-    let Judged { faults, complete } = pass_d_of(alloc, &jobs)?;
+    let jobs = Jobs::over(alloc, run, changes, observed)?;
+    let faults = pass_d_of(alloc, &jobs)?;
     if let Some(fault) = first_of(faults) {
         return Err(CheckFault::Broken(fault));
     }
     Ok(Accepted {
-        pending: pending_of(alloc, &jobs, &complete)?,
+        pending: pending_of(alloc, &jobs)?,
         waiting: waiting(alloc, run)?,
     })
 }
 
-/// Returns what a certified run breaks, using the passes of the audit. Its certificate orders the events, so pass C finds no fault.
+/// Searches a certified run for what it breaks, pass by pass. Its certificate orders the events, so pass C has no fault.
 fn search(alloc: Global, run: &Run) -> Result<Accepted, CheckFault>
     requires { HasCertificate run.now.logs }
     ensures { Judges run.now.logs result }
@@ -62,7 +72,29 @@ fn search(alloc: Global, run: &Run) -> Result<Accepted, CheckFault>
     if let Some(fault) = early_fault(alloc, run, &changes)? {
         return Err(CheckFault::Broken(fault));
     }
-    settle(alloc, run, changes)
+    search_last(alloc, run, changes, Vec::new(alloc))
+}
+
+/// Judges a certified run by what was observed of it. Where the rules of all configurations are met, nothing is searched.
+fn settle(
+    alloc: Global,
+    run: &Run,
+    certificate: &Certificate,
+    view: View,
+) -> Result<Accepted, CheckFault>
+    requires certified { Certified run.now.logs certificate.now.lines }
+    requires view { IsView run.now.logs view.observed.items view.pending.items }
+    ensures { Judges run.now.logs result }
+{
+    let _ = certificate;
+    if view.agrees() {
+        return Ok(Accepted {
+            pending: view.pending,
+            waiting: waiting(alloc, run)?,
+        });
+    }
+    let changes = Changes::of(alloc, run)?;
+    search_last(alloc, run, changes, view.observed)
 }
 
 /// Judges a certified run. The judge says yes if it can; otherwise a search finds what is broken.
@@ -70,13 +102,10 @@ fn judged(alloc: Global, run: &Run, certificate: &Certificate) -> Result<Accepte
     requires { Certified run.now.logs certificate.now.lines }
     ensures { Judges run.now.logs result }
 {
-    if let Some(left) = judge(alloc, run, certificate)? {
-        return Ok(Accepted {
-            pending: left.pending,
-            waiting: left.waiting,
-        });
+    match observe(alloc, run, certificate)? {
+        Some(view) => settle(alloc, run, certificate, view),
+        None => search(alloc, run),
     }
-    search(alloc, run)
 }
 
 /// Checks that the certificate certifies the run and that the run meets specifications 1 to 7 (docs/SPECIFICATIONS.md,

@@ -28,8 +28,7 @@ use Rattle.totem_judge.specs.Seen.{IsSeen}
 use Rattle.totem_judge.specs.Pending.{IsPendingFrom}
 use Rattle.totem_run_rules.specs.Endings.{IsInOrder, HoldsPending}
 use Rattle.totem_run_rules.specs.Orderly.{IsOrderly}
-use Rattle.totem_judge.specs.Judged.{IsVerified, AllAreTraffic, AreObserved, Covers, IsView, AgreesAt}
-use Rattle.totem_judge.specs.Lists.{EachBelow}
+use Rattle.totem_judge.specs.Judged.{IsVerified, AllAreTraffic, AreObserved, Covers, IsView, Agree}
 use Rattle.totem_judge.proofs.Whole as place
 use Rattle.totem_judge.proofs.Viewed.{traffic_is}
 use Rattle.totem_judge.proofs.Unsent.{unsent_met}
@@ -103,7 +102,7 @@ module _ (run : List Log) (lines : List Numbering) (list : List Gathered) (obser
   view ordered sorted = record { meets = meets; traffic = traffic; covers = covers; are = are_pending run pending ordered holds_pending sorted }
 
 -- where the rules of each configuration are met, the run meets all specifications
-module _ (run : List Log) (lines : List Numbering) (observed : List Observed) (pending : List Pending) (certified : Certified run lines) (is : IsView run observed pending) (agree : EachBelow (AgreesAt observed) (length observed)) where
+module _ (run : List Log) (lines : List Numbering) (observed : List Observed) (pending : List Pending) (certified : Certified run lines) (is : IsView run observed pending) (agree : Agree observed) where
   agrees : (c : RingId) → IsRing run c → AgreesIn run c
   agrees c ring =
       let here = is.covers c ring in

@@ -3,17 +3,16 @@ use Rattle.std.specs.Prelude.{◌≡◌, ◌↔◌, ℕ, List, length, slice_get
 use Rattle.totem_ids.specs.declared.ring.RingId.{RingId}
 use Rattle.totem_evs.specs.declared.log.Log.{Log}
 use Rattle.totem_evs.specs.declared.pending.Pending.{Pending}
-use Rattle.totem_evs.specs.declared.pending.Waiting.{Waiting}
 use Rattle.totem_evs.specs.Answers.{MeetsPasses, IsRing}
 use Rattle.totem_evs.specs.Certificates.{Numbering}
-use Rattle.totem_evs.specs.Synchrony.{IsVirtuallySynchronous}
-use Rattle.totem_evs.specs.Unsettled.{ArePending, AreWaiting}
+use Rattle.totem_evs.specs.Unsettled.{ArePending}
 use Rattle.totem_configuration_rules.specs.declared.observed.Observed.{Observed}
 use Rattle.totem_configuration_rules.specs.declared.traffic.Traffic.{Traffic}
 use Rattle.totem_configuration_rules.specs.Clean.{ShowsAgreement}
 use Rattle.totem_configuration_rules.specs.Traffics.{IsTrafficOf, AreTraffic}
 use Rattle.totem_judge.specs.declared.gathered.Gathered.{Gathered}
 use Rattle.totem_judge.specs.Seen.{IsSeen}
+use Rattle.totem_judge.specs.Lists.{EachBelow}
 use Rattle.totem_judge.specs.Pending.{AddsAll, IsPendingFrom}
 
 -- the traffic of a configuration was verified
@@ -55,6 +54,6 @@ pub record IsView (run : List Log) (observed : List Observed) (pending : List Pe
 abbrev pub AgreesAt : List Observed → ℕ → Type 0
 AgreesAt observed k = (one : Observed) → slice_get observed k ≡ Some one → ShowsAgreement one.traffic
 
--- the run meets specifications 1 to 7, and this is left open
-abbrev pub LeavesOpen : List Log → List Pending → List Waiting → Type 0
-LeavesOpen run pending waiting = IsVirtuallySynchronous run × ArePending run pending × AreWaiting run waiting
+-- the rules of all these configurations are met
+abbrev pub Agree : List Observed → Type 0
+Agree observed = EachBelow (AgreesAt observed) (length observed)

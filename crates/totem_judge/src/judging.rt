@@ -4,8 +4,7 @@ ghost use Rattle.std.specs.Bool.{OnTrue};
 ghost use Rattle.totem_evs.specs.Changes.{EndsTogether};
 ghost use Rattle.totem_evs.specs.Certificates.{Certified};
 ghost use Rattle.totem_run_rules.specs.Orderly.{IsOrderly};
-ghost use Rattle.totem_judge.specs.Judged.{IsObserved, AreObserved, IsView, AgreesAt, LeavesOpen};
-ghost use Rattle.totem_judge.specs.Lists.{EachBelow};
+ghost use Rattle.totem_judge.specs.Judged.{IsObserved, AreObserved, IsView, Agree};
 
 use crate::arrivals::{all_have_come, rise};
 use crate::gather::gather;
@@ -15,8 +14,8 @@ use crate::traffic::traffic_of;
 use std::alloc::{AllocError, Global};
 use totem_certificate::{Certificate, Line};
 use totem_configuration_rules::{Observed, is_agreed};
-use totem_evs::{Log, Pending, Run, Waiting};
-use totem_run_rules::{end_together, in_order, is_orderly, waiting};
+use totem_evs::{Log, Pending, Run};
+use totem_run_rules::{end_together, in_order, is_orderly};
 
 /// What is seen of a run that meets the specifications of the first two passes, along its certificate.
 #[derive(Drop)]
@@ -114,7 +113,7 @@ pub fn observe(
 
 /// Returns `true` only where the rules of all these configurations are met.
 fn all_agree(list: &[Observed]) -> bool
-    ensures { OnTrue result (EachBelow (AgreesAt list.now) (length list.now)) }
+    ensures { OnTrue result (Agree list.now) }
 {
     for one in list {
         if !is_agreed(&one.traffic) {
@@ -124,31 +123,14 @@ fn all_agree(list: &[Observed]) -> bool
     true
 }
 
-/// What is left open of a run that meets the specifications.
-#[derive(Debug, Drop)]
-pub struct Unsettled {
-    /// By process and then by message.
-    pub pending: Vec<Pending>,
-    /// By process and then by the other process.
-    pub waiting: Vec<Waiting>,
-}
+impl View {
+    ghost use Rattle.std.specs.Bool.{OnTrue};
+    ghost use Rattle.totem_judge.specs.Judged.{Agree};
 
-/// Judges a run that its certificate orders. Returns what is left open, or `None` if it does not find that the run meets
-/// specifications 1 to 7: then one of them is broken, and a search has to name it.
-pub fn judge(
-    alloc: Global,
-    run: &Run,
-    certificate: &Certificate,
-) -> Result<Option<Unsettled>, AllocError>
-    requires { Certified run.now.logs certificate.now.lines }
-    ensures { IfOk result (λ judged. IfSome judged (λ left. LeavesOpen run.now.logs left.pending.items left.waiting.items)) }
-{
-    let Some(View { observed, pending }) = observe(alloc, run, certificate)? else {
-        return Ok(None);
-    };
-    if !all_agree(&observed) {
-        return Ok(None);
+    /// Returns `true` only where the rules of all configurations are met. Then the run meets all specifications.
+    pub fn agrees(&self) -> bool
+        ensures { OnTrue result (Agree self.now.observed.items) }
+    {
+        all_agree(&self.observed)
     }
-    let waiting = waiting(alloc, run)?;
-    Ok(Some(Unsettled { pending, waiting }))
 }

@@ -15,4 +15,4 @@ mod sends;
 mod stay;
 mod traffic;
 
-pub use judging::{Unsettled, View, judge, observe};
+pub use judging::{View, observe};

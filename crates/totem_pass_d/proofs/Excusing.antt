@@ -1,6 +1,5 @@
 -- The processes that the end of a stay excuses: their logs are not quiet, and they failed or are open there.
 use Rattle.std.proofs.Common.{◌≡◌, ◌⊎◌, inl, inr, List, length, Bool, true, false, refl, arith}
-use Rattle.std.proofs.lemmas.Bool.{cases_eq}
 use Rattle.totem_ids.specs.declared.ring.RingId.{RingId}
 use Rattle.totem_evs.specs.declared.log.Log.{Log}
 use Rattle.totem_evs.specs.Events.{IsQuiet, log_of}
@@ -8,14 +7,6 @@ use Rattle.totem_evs.specs.Following.{FailedIn, StaysIn, OpenIn}
 use Rattle.totem_evs.proofs.LogOf.{less_or_not}
 use Rattle.totem_pass_d.specs.declared.stay.Stay.{Stay}
 use Rattle.totem_pass_d.specs.Stays.{IsExcused, IsStayOf}
-use Rattle.totem_pass_d.proofs.Deciding.{both_or_not}
-
-pub excused_or_not : (stay : Stay) → IsExcused stay ⊎ (IsExcused stay → ⊥)
-excused_or_not stay = both_or_not (cases_eq stay.end (length stay.log.now)) (loud_or_not stay.quiet)
-  where
-    loud_or_not : (b : Bool) → (b ≡ false) ⊎ (b ≡ false → ⊥)
-    loud_or_not true = inr (λ e. cc)
-    loud_or_not false = inl refl
 
 pub excused : (run : List Log) (c : RingId) (stay : Stay) → IsStayOf run c stay → IsExcused stay → FailedIn (log_of run stay.proc) c ⊎ OpenIn run stay.proc c
 excused run c stay is e = go (rw is.log at (is.is.ends e.0))

@@ -1,9 +1,8 @@
 -- What the traffic of a configuration shows of it.
-use Rattle.std.proofs.Common.{◌≡◌, List, [], slice_get, Some, IsTrue, subst, sym}
+use Rattle.std.proofs.Common.{◌≡◌, List, [], slice_get, Some}
 use Rattle.totem_ids.specs.declared.ring.RingId.{RingId}
 use Rattle.totem_evs.specs.declared.log.Log.{Log}
-use Rattle.totem_evs.specs.declared.spec.SpecNo.TheVariants as spec
-use Rattle.totem_evs.specs.Answers.{MeetsPasses, FindsIn}
+use Rattle.totem_evs.specs.Answers.{MeetsPasses}
 use Rattle.totem_configuration_rules.specs.declared.agreed.Shown.{Shown}
 use Rattle.totem_configuration_rules.specs.declared.observed.Observed.{Observed}
 use Rattle.totem_configuration_rules.specs.declared.traffic.Traffic.{Traffic}

@@ -1,8 +1,8 @@
 -- From the findings of each job to the faults of the pass.
 use Rattle.std.proofs.Common.{◌≡◌, ◌<◌, ◌+◌, ℕ, inl, inr, List, [], ◌∷◌, ◌++◌, length, take, slice_get, Option, Some, None, refl, ap, arith}
-use Rattle.std.proofs.Common.{◌≤◌, zero, suc, Result, Ok, Err, IfOk}
+use Rattle.std.proofs.Common.{◌≤◌, Result, Ok, Err, IfOk}
 use Rattle.std.specs.Prelude.{slice_index_or}
-use Rattle.std.proofs.lemmas.List.{take_more, take_all, length-append}
+use Rattle.std.proofs.lemmas.List.{take_more, take_all}
 use Rattle.std.proofs.lemmas.Option.{slice_get_cases, slice_get_read}
 use Rattle.totem_ids.specs.declared.ring.RingId.{RingId}
 use Rattle.totem_ids.specs.declared.place.Place.{Place}

@@ -1,6 +1,6 @@
 -- What is pending: send by send, stay by stay and ring by ring.
 use Rattle.std.proofs.Common.{◌≡◌, ◌⊎◌, ◌↔◌, ℕ, ◌+◌, ◌<◌, ◌≤◌, inl, inr, List, length, slice_get, Some, Bool, true, false, not, IsTrue, Result, Ok, Err, refl, sym, ◌∙◌, ap, arith}
-use Rattle.std.specs.Prelude.{All, Contains, OnOk}
+use Rattle.std.specs.Prelude.{Contains, OnOk}
 use Rattle.std.specs.Bool.{OnTrue, OnFalse}
 use Rattle.std.proofs.lemmas.Option.{slice_get_within, slice_get_read}
 use Rattle.totem_ids.specs.declared.ring.RingId.{RingId}

@@ -11,10 +11,7 @@ use Rattle.totem_evs.specs.declared.log.Log.{Log}
 use Rattle.totem_evs.specs.declared.pending.Pending.{Pending}
 use Rattle.totem_evs.specs.Events.{WasSentIn, log_of}
 use Rattle.totem_evs.specs.Following.{HasDelivered, OpenIn}
-use Rattle.totem_evs.specs.Changes.{StaysInPlace}
 use Rattle.totem_pass_d.specs.declared.stay.Stay.{Stay}
-use Rattle.totem_pass_d.specs.Stays.{IsExcused}
-use Rattle.totem_run_rules.specs.Endings.{HasFailed}
 
 -- the new list has what the old one had and everything for which P holds
 pub record Adds (P : Pending → Type 0) (old new : List Pending) : Type 0 where

@@ -1,15 +1,8 @@
-use Rattle.totem_check.proofs.Checking.{has_met, first_of_last, none_of_last}
+use Rattle.totem_judge.proofs.Settled.{settled}
 use Rattle.totem_check.proofs.checker.settle.Goals as goal
 
-pub over-requires-clause-meets : goal.over-requires-clause-meets
-over-requires-clause-meets c = has_met _ c.requires.passed
-
-pub returns-in-Some : goal.returns-in-Some
-returns-in-Some c =
-    first_of_last _ c.in_ok-faults.field-0.faults.items _ c.requires.certificate c.requires.passed (rw c.in_ok-jobs.ensures.logs at c.in_ok-faults.ensures.faults) c.in-Some.ensures
-
-pub returns : goal.returns
-returns c = (
-  none_of_last _ c.in_ok-faults.field-0.faults.items c.requires.certificate c.requires.passed (rw c.in_ok-jobs.ensures.logs at c.in_ok-faults.ensures.faults) c.in_default.ensures,
-  record { pending = rw c.in_ok-jobs.ensures.logs at c.in_ok-pending_of.ensures; waiting = c.in_ok-waiting.ensures },
+pub returns-then-agrees : goal.returns-then-agrees
+returns-then-agrees c = (
+  settled c.args.run.now.logs c.args.certificate.now.lines c.args.view.observed.items c.args.view.pending.items c.requires.certified c.requires.view c.if-agrees.ensures,
+  record { pending = c.requires.view.are; waiting = c.in_ok-waiting.ensures },
 )
