@@ -1,9 +1,10 @@
 -- What a run in threads writes (docs/PROTOCOL.md, "A run in threads").
-use Rattle.std.specs.Prelude.{◌≡◌, ℕ, ◌+◌, ◌%◌, ◌^◌, List, Result, Ok, Err}
+use Rattle.std.specs.Prelude.{◌≡◌, ℕ, ◌+◌, ◌%◌, ◌^◌, List, All, Result, Ok, Err}
+use Rattle.totem_ids.specs.declared.version.Version.TheVariants as versions
 use Rattle.totem_ids.specs.Writing.{Held, Wrote}
 use Rattle.totem_evs.specs.RunRecord.{RunRecord}
 use Rattle.totem_evs.specs.Runs.{IsRunOf as IsRunRecord}
-use Rattle.totem_evs.specs.Lives.{IsFirstVersion}
+use Rattle.totem_evs.specs.Lives.{HasFirstLives}
 use Rattle.totem_evs.specs.RunText.{run_text}
 use Rattle.totem_books.specs.Seats.{Closed}
 use Rattle.totem_threads.specs.Books.{IsRunOf}
@@ -23,13 +24,14 @@ IsOfThreads (faults.Cert fault) = ⊥
 IsOfThreads (faults.Refused fault) = ⊥
 IsOfThreads (faults.Script fault) = ⊥
 
--- a book was closed for each of this many nodes, and the text of their logs and nothing else was written, in the first version whose
--- texts can write them
+-- a book was closed for each of these nodes, and the text of their logs was written, in version 1, which
+-- names no life but the first, and nothing else
 pub record IsRecorded (nodes : ℕ) (was is : Held) : Type 0 where
   pub books : List Closed
   pub run : RunRecord
   pub is_run : IsRunRecord run
-  pub version : IsFirstVersion run.version run.logs
+  pub version : run.version ≡ versions.One
+  pub lives : All HasFirstLives run.logs
   pub run_of : IsRunOf nodes books run.logs
   pub written : Wrote was is (run_text run)
 

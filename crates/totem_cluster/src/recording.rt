@@ -1,7 +1,8 @@
 //! Runs of nodes in threads.
-ghost use Rattle.std.specs.Prelude.{[], IfOk, IfErr};
+ghost use Rattle.std.specs.Prelude.{◌≡◌, [], All, IfOk, IfErr};
 ghost use Rattle.totem_ids.specs.Writing.{held};
-ghost use Rattle.totem_evs.specs.Lives.{IsFirstVersion};
+ghost use Rattle.totem_ids.specs.declared.version.Version.TheVariants.{One};
+ghost use Rattle.totem_evs.specs.Lives.{HasFirstLives};
 ghost use Rattle.totem_threads.specs.Starts.{IsInRange};
 ghost use Rattle.totem_threads.specs.Books.{IsRunOf};
 ghost use Rattle.totem_cluster.specs.RunIo.{Records, IsOfThreads};
@@ -19,7 +20,8 @@ use totem_verdicts::Outcome;
 
 /// Runs this many nodes in threads, on ring 4.1, over a network that follows the plan, until the ticks are used up
 /// (docs/PROTOCOL.md, "A run in threads"). The receiving thread of each node calls `start.begun` before it receives. Waits for
-/// all threads, and returns the run that the nodes recorded with their books in ascending order. The contract leaves open which run it is.
+/// all threads, and returns the run that the nodes recorded, in version 1, with their books in ascending order. It is not
+/// determined which run comes out.
 pub fn run_threads<S: Start, R: Threads + Wait + Sync>(
     rt: &R,
     alloc: Global,
@@ -28,7 +30,8 @@ pub fn run_threads<S: Start, R: Threads + Wait + Sync>(
 ) -> Result<(Run, Vec<ClosedBook>), IoFault>
     requires { IsInRange plan }
     ensures run { IfOk result (λ made. IsRunOf plan.nodes made.1.items made.0.logs) }
-    ensures version { IfOk result (λ made. IsFirstVersion made.0.version made.0.logs) }
+    ensures version { IfOk result (λ made. made.0.version ≡ One) }
+    ensures lives { IfOk result (λ made. All HasFirstLives made.0.logs) }
     ensures faults { IfErr result IsOfThreads }
 {
     run_watched(rt, alloc, plan, start, &mut Unwatched)
@@ -44,7 +47,8 @@ pub(crate) fn run_watched<S: Start, R: Threads + Wait + Sync, P: Progress>(
 ) -> Result<(Run, Vec<ClosedBook>), IoFault>
     requires { IsInRange plan }
     ensures run { IfOk result (λ made. IsRunOf plan.nodes made.1.items made.0.logs) }
-    ensures version { IfOk result (λ made. IsFirstVersion made.0.version made.0.logs) }
+    ensures version { IfOk result (λ made. made.0.version ≡ One) }
+    ensures lives { IfOk result (λ made. All HasFirstLives made.0.logs) }
     ensures faults { IfErr result IsOfThreads }
 {
     Ok(run_nodes(rt, alloc, plan, start, progress)?)

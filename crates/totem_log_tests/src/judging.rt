@@ -5,7 +5,7 @@ use std::process::Abort;
 use totem_cert::{Order, positions};
 use totem_evs::{Pending, Run, read_run};
 use totem_ids::{FromRead, MsgId, Proc, ProcId, RingId};
-use totem_judge::judge;
+use totem_judge::observe;
 use totem_run_rules::{in_order, walk_to_change};
 
 /// Adds the judge's answer on a run, with the certificate that the auditor makes of it.
@@ -13,14 +13,10 @@ fn push_judged(alloc: Global, text: &mut String, run: &Run) -> Result<(), AllocE
     let Order::Positions(certificate) = positions(alloc, run)? else {
         return text.push_str("no certificate");
     };
-    match judge(alloc, run, &certificate)? {
-        Some(left) => write!(
-            text,
-            "{} pending, {} wait",
-            left.pending.len(),
-            left.waiting.len()
-        ),
-        None => text.push_str("no"),
+    match observe(alloc, run, &certificate)? {
+        Some(view) if view.agrees() => write!(text, "{} pending", view.pending.len()),
+        Some(_) => text.push_str("no"),
+        None => text.push_str("passes A and B say no"),
     }
 }
 
@@ -47,24 +43,24 @@ const RUNS: [Row; 10] = [
         shows: "a message that both deliver",
         logs: "log 1\nconf r4.1 1 2\nsend r4.1 s 4.1#1\ndlv r4.1 4.1#1\nopen\n\
         log 2\nconf r4.1 1 2\ndlv r4.1 4.1#1\nopen\n",
-        told: "0 pending, 0 wait",
+        told: "0 pending",
     },
     Row {
         shows: "a partition: one goes on alone, and one may still come",
         logs: "log 1\nconf r4.1 1 2\nsend r4.1 a 4.1#1\ndlv r4.1 4.1#1\nconf t8.1/1 1\nconf r8.1 1\nopen\n\
         log 2\nconf r4.1 1 2\nopen\n",
-        told: "1 pending, 1 wait",
+        told: "1 pending",
     },
     Row {
         shows: "deliveries in a transitional configuration",
         logs: "log 1\nconf r4.1 1 2\nsend r4.1 s 4.1#1\nconf t8.1/1 1\ndlv t8.1/1 4.1#1\nconf r8.1 1\nopen\n\
         log 2\nconf r4.1 1 2\nfail r4.1\nfailed\n",
-        told: "0 pending, 0 wait",
+        told: "0 pending",
     },
     Row {
         shows: "1.3: the message was never sent",
         logs: "log 1\nconf r4.1 1\ndlv r4.1 4.1#1\nopen\n",
-        told: "no",
+        told: "passes A and B say no",
     },
     Row {
         shows: "3: a process goes on without its own message",

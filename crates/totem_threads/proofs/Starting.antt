@@ -60,7 +60,7 @@ numbers : (nodes : ℕ) (ns : List ℕ) → map (λ (s : Start). s.me) (map (sta
 numbers nodes [] = refl
 numbers nodes (n ∷ ns) = ap (λ (xs : List ℕ). first_rank n ∷ xs) (numbers nodes ns)
 
-processes : (nodes : ℕ) (books : List Closed) (logs : List LogRecord) → map (λ (b : Closed). b.start) books ≡ starts nodes → AreLogsOf books logs
+pub processes : (nodes : ℕ) (books : List Closed) (logs : List LogRecord) → map (λ (b : Closed). b.start) books ≡ starts nodes → AreLogsOf books logs
     → map (λ (l : LogRecord). l.proc) logs ≡ first_ranks (node_numbers nodes)
 processes nodes books logs begun are =
     are.processes ∙ sym (mes books) ∙ ap (map (λ (s : Start). s.me)) begun ∙ numbers nodes (node_numbers nodes)

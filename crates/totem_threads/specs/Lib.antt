@@ -3,3 +3,4 @@ pub mod Logging
 pub mod Faults
 pub mod Starts
 pub mod Books
+pub mod FirstLives

@@ -1,9 +1,11 @@
 //! Makes a run from books.
 ghost use Rattle.std.specs.Prelude.{◌≡◌, ◌≢◌, ◌≤◌, IfOk, IfErr, map, All};
-ghost use Rattle.totem_evs.specs.Lives.{IsFirstVersion};
+ghost use Rattle.totem_ids.specs.declared.version.Version.TheVariants.{One};
+ghost use Rattle.totem_evs.specs.Lives.{HasFirstLives};
 ghost use Rattle.totem_threads.specs.Faults.{EndsRun};
 ghost use Rattle.totem_threads.specs.Starts.{starts};
 ghost use Rattle.totem_threads.specs.Books.{AreLogsOf, IsReplayed};
+ghost use Rattle.totem_threads.specs.FirstLives.{IsFirstBook};
 
 use crate::fault::{BookTrouble, ThreadsFault};
 use std::alloc::{AllocError, Global};
@@ -47,13 +49,15 @@ pub fn all_replayed(books: &[ClosedBook])
     }
 }
 
-/// Returns the run whose logs are those of these books, in the first version whose texts can write it.
-#[tactic(auto, using(crate::proofs::Starting::logs_taken))]
+/// Returns the run whose logs are those of these books, in version 1.
+#[tactic(auto, using(crate::proofs::Starting::logs_taken, crate::proofs::FirstLives::logs_first, crate::proofs::FirstLives::in_version_one))]
 pub fn run_of(alloc: Global, nodes: u16, books: &[ClosedBook]) -> Result<Run, ThreadsFault>
     requires few { nodes ≤ 32 }
     requires begun { map (λ b. b.start) books.now ≡ starts nodes }
+    requires first { All IsFirstBook books.now }
     ensures logs { IfOk result (λ run. AreLogsOf books.now run.logs) }
-    ensures version { IfOk result (λ run. IsFirstVersion run.version run.logs) }
+    ensures version { IfOk result (λ run. run.version ≡ One) }
+    ensures lives { IfOk result (λ run. All HasFirstLives run.logs) }
     ensures fault { IfErr result EndsRun }
 {
     match Run::of(logs_of(alloc, books)?) {

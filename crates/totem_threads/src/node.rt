@@ -1,7 +1,9 @@
-//! A node's main thread, which opens the node's book, runs three threads on it, and closes it.
-ghost use Rattle.std.specs.Prelude.{◌≡◌, ◌<◌, ◌≤◌, IfOk, IfErr, vec_len};
+//! A node's thread, which opens the node's book, runs three threads over it, and closes it.
+ghost use Rattle.std.specs.Prelude.{◌≡◌, ◌<◌, ◌≤◌, IfOk, IfErr, All, vec_len};
+ghost use Rattle.totem_evs.specs.Lives.{AreFirst};
 ghost use Rattle.totem_recover.specs.Lives.{first_rank};
 ghost use Rattle.totem_threads.specs.Faults.{EndsRun};
+ghost use Rattle.totem_threads.specs.FirstLives.{IsFirstSeat, IsFirstBook};
 ghost use Rattle.totem_threads.specs.Starts.{first_ring, start_of};
 
 use crate::fault::ThreadsFault;
@@ -11,15 +13,28 @@ use std::alloc::Global;
 use std::marker::Brand;
 use std::sync::Wait;
 use std::thread;
-use std::thread::Threads;
+use std::thread::{Promise, Threads};
 use totem_books::{Blank, BookFault, BookName, ClosedBook, Seat, SharedBook};
 use totem_evs::Members;
 use totem_ids::Proc;
 use totem_net::{NodeEnds, Outlet, Start};
 
+/// A promise of a thread: the calls of the seat that it gives back name no life but the first.
+#[derive(Clone, Copy)]
+struct NamesFirst;
+
+impl<L: BookName> Promise<Result<Seat<L>, BookFault>> for NamesFirst {
+    ghost use Rattle.std.specs.Prelude.{IfOk};
+    ghost use Rattle.totem_threads.specs.FirstLives.{IsFirstSeat};
+
+    ghost kept_by = { λ p r. IfOk r IsFirstSeat };
+}
+
 /// Returns the three seats.
 fn three<L: BookName>(seats: Vec<Seat<L>>) -> (Seat<L>, Seat<L>, Seat<L>)
-    requires { vec_len seats ≡ 3 }
+    requires count { vec_len seats ≡ 3 }
+    requires first { All IsFirstSeat seats.items }
+    ensures first { IsFirstSeat result.0 × IsFirstSeat result.1 × IsFirstSeat result.2 }
 {
     let mut seats = seats;
     let (Some(third), Some(second), Some(first)) = (seats.pop(), seats.pop(), seats.pop()) else {
@@ -44,8 +59,10 @@ fn serve_all<L: BookName + Send + Sync, S: Start, R: Threads + Wait + Sync>(
     outlet: &Outlet,
     start: &S,
 ) -> Result<Vec<Seat<L>>, BookFault>
-    requires { vec_len seats ≡ 3 }
-    ensures { IfOk result (λ back. vec_len back ≡ 3) }
+    requires count { vec_len seats ≡ 3 }
+    requires first { All IsFirstSeat seats.items }
+    ensures count { IfOk result (λ back. vec_len back ≡ 3) }
+    ensures first { IfOk result (λ back. All IsFirstSeat back.items) }
 {
     let (first, second, third) = three(seats);
     let NodeEnds {
@@ -58,17 +75,26 @@ fn serve_all<L: BookName + Send + Sync, S: Start, R: Threads + Wait + Sync>(
         thread::scope_env(),
         rt,
         move |scope| -> Result<Vec<Seat<L>>, BookFault>
-            ensures { IfOk result (λ back. vec_len back ≡ 3) }
+            requires { IsFirstSeat first × IsFirstSeat second × IsFirstSeat third }
+            ensures count { IfOk result (λ back. vec_len back ≡ 3) }
+            ensures first { IfOk result (λ back. All IsFirstSeat back.items) }
         {
-            let Ok(receiver) = scope.spawn(move || receive(
-                rt, alloc, book, first, receiving, node, start,
-            )) else {
+            let receives = move || -> Result<Seat<L>, BookFault>
+                requires { IsFirstSeat first }
+            { receive(rt, alloc, book, first, receiving, node, start) };
+            let Ok(receiver) = scope.spawn_with(NamesFirst, receives) else {
                 return Err(unmade(rt, outlet));
             };
-            let Ok(timing) = scope.spawn(move || serve(rt, alloc, book, second, timer)) else {
+            let times = move || -> Result<Seat<L>, BookFault>
+                requires { IsFirstSeat second }
+            { serve(rt, alloc, book, second, timer) };
+            let Ok(timing) = scope.spawn_with(NamesFirst, times) else {
                 return Err(unmade(rt, outlet));
             };
-            let Ok(asking) = scope.spawn(move || serve(rt, alloc, book, third, client)) else {
+            let asks = move || -> Result<Seat<L>, BookFault>
+                requires { IsFirstSeat third }
+            { serve(rt, alloc, book, third, client) };
+            let Ok(asking) = scope.spawn_with(NamesFirst, asks) else {
                 return Err(unmade(rt, outlet));
             };
             let mut back = Vec::with_capacity(alloc, 3)?;
@@ -93,9 +119,11 @@ fn keep_book<L: BookName + Send + Sync, S: Start, R: Threads + Wait + Sync>(
     requires ledger { (blank.name ≡ L.name) × (blank.parts ≡ L.parts) × (L.parts ≡ 3) }
     requires journal { blank.journal ≡ L.journal }
     requires start { (first_rank ends.node ≡ L.me) × (L.ring ≡ first_ring) × (L.members ≡ members.now) }
+    requires first { AreFirst members.now }
     ensures me { IfOk result (λ book. book.start.me ≡ first_rank ends.node) }
     ensures ring { IfOk result (λ book. book.start.ring ≡ first_ring) }
     ensures members { IfOk result (λ book. book.start.members ≡ members.now) }
+    ensures first { IfOk result IsFirstBook }
     ensures fault { IfErr result EndsRun }
 {
     let me = Proc::first(ends.node);
@@ -125,6 +153,7 @@ fn run_to_end<S: Start, R: Threads + Wait + Sync>(
 ) -> Result<ClosedBook, ThreadsFault>
     requires { (0 < nodes) × (nodes ≤ 32) }
     ensures book { IfOk result (λ book. book.start ≡ start_of nodes ends.node) }
+    ensures first { IfOk result IsFirstBook }
     ensures fault { IfErr result EndsRun }
 {
     let members = first_members(alloc, nodes)?;
@@ -141,6 +170,7 @@ pub fn run_node<S: Start, R: Threads + Wait + Sync>(
 ) -> Result<ClosedBook, ThreadsFault>
     requires { (0 < nodes) × (nodes ≤ 32) }
     ensures book { IfOk result (λ book. book.start ≡ start_of nodes ends.node) }
+    ensures first { IfOk result IsFirstBook }
     ensures fault { IfErr result EndsRun }
 {
     let Ok(outlet) = ends.receiving.outlet.try_clone() else {

@@ -1,9 +1,11 @@
 //! Runs nodes in threads.
-ghost use Rattle.std.specs.Prelude.{◌≡◌, ◌<◌, ◌≤◌, IfOk, IfErr, map};
+ghost use Rattle.std.specs.Prelude.{◌≡◌, ◌<◌, ◌≤◌, All, IfOk, IfErr, map};
 ghost use Rattle.totem_net.specs.Nodes.{node_numbers};
 ghost use Rattle.totem_threads.specs.Faults.{EndsRun};
 ghost use Rattle.totem_threads.specs.Starts.{IsInRange, start_of, starts};
-ghost use Rattle.totem_evs.specs.Lives.{IsFirstVersion};
+ghost use Rattle.totem_ids.specs.declared.version.Version.TheVariants.{One};
+ghost use Rattle.totem_evs.specs.Lives.{HasFirstLives};
+ghost use Rattle.totem_threads.specs.FirstLives.{IsFirstBook};
 ghost use Rattle.totem_threads.specs.Books.{IsRunOf};
 
 use crate::fault::ThreadsFault;
@@ -31,9 +33,10 @@ struct BookOf {
 impl Promise<Result<ClosedBook, ThreadsFault>> for BookOf {
     ghost use Rattle.std.specs.Prelude.{◌≡◌, IfOk, IfErr};
     ghost use Rattle.totem_threads.specs.Faults.{EndsRun};
+    ghost use Rattle.totem_threads.specs.FirstLives.{IsFirstBook};
     ghost use Rattle.totem_threads.specs.Starts.{start_of};
 
-    ghost kept_by = { λ p r. IfOk r (λ book. book.start ≡ start_of p.nodes p.node) × IfErr r EndsRun };
+    ghost kept_by = { λ p r. IfOk r (λ book. book.start ≡ start_of p.nodes p.node) × IfOk r IsFirstBook × IfErr r EndsRun };
 }
 
 type NodeHandle = PromisedHandle<Result<ClosedBook, ThreadsFault>, BookOf>;
@@ -46,6 +49,7 @@ fn joined<R: Threads>(
 ) -> Result<Vec<ClosedBook>, ThreadsFault>
     ensures books { IfOk result (λ books. map (λ b. b.start) books.items
         ≡ map (λ h. start_of h.promise.nodes h.promise.node) running.items) }
+    ensures first { IfOk result (λ books. All IsFirstBook books.items) }
     ensures fault { IfErr result EndsRun }
 {
     let mut books = Vec::with_capacity(alloc, running.len())?;
@@ -67,6 +71,7 @@ fn run_network<S: Start, R: Threads + Wait + Sync, P: Progress>(
     requires few { (0 < count) × (count ≤ 32) }
     requires nodes { map (λ ends. ends.node) network.nodes.items ≡ node_numbers count }
     ensures books { IfOk result (λ books. map (λ b. b.start) books.items ≡ starts count) }
+    ensures first { IfOk result (λ books. All IsFirstBook books.items) }
     ensures fault { IfErr result EndsRun }
 {
     let Network {
@@ -81,6 +86,7 @@ fn run_network<S: Start, R: Threads + Wait + Sync, P: Progress>(
             requires few { (0 < count) × (count ≤ 32) }
             requires nodes { map (λ ends. ends.node) nodes.items ≡ node_numbers count }
             ensures books { IfOk result (λ books. map (λ b. b.start) books.items ≡ starts count) }
+            ensures first { IfOk result (λ books. All IsFirstBook books.items) }
             ensures fault { IfErr result EndsRun }
         {
             let mut running = Vec::with_capacity(alloc, nodes.len())?;
@@ -110,8 +116,8 @@ fn run_network<S: Start, R: Threads + Wait + Sync, P: Progress>(
 }
 
 /// Runs this many nodes in threads, on ring 4.1, over a network that follows the plan, until the ticks are used up
-/// (docs/PROTOCOL.md, "A run in threads"). Waits for all threads, and returns the run that the nodes recorded with
-/// their books in ascending order. The contract leaves open which run it is. The switch reports the progress at each tick.
+/// (docs/PROTOCOL.md, "A run in threads"). Waits for all threads, and returns the run that the nodes recorded, in version 1,
+/// with their books in ascending order. It is not determined which run comes out. At each tick the switch reports how far the run is.
 pub fn run_nodes<S: Start, R: Threads + Wait + Sync, P: Progress>(
     rt: &R,
     alloc: Global,
@@ -121,7 +127,8 @@ pub fn run_nodes<S: Start, R: Threads + Wait + Sync, P: Progress>(
 ) -> Result<(Run, Vec<ClosedBook>), ThreadsFault>
     requires { IsInRange plan }
     ensures run { IfOk result (λ made. IsRunOf plan.nodes made.1.items made.0.logs) }
-    ensures version { IfOk result (λ made. IsFirstVersion made.0.version made.0.logs) }
+    ensures version { IfOk result (λ made. made.0.version ≡ One) }
+    ensures lives { IfOk result (λ made. All HasFirstLives made.0.logs) }
     ensures fault { IfErr result EndsRun }
 {
     let fates = Fates::new(plan.seed, plan.plan);

@@ -1,6 +1,7 @@
-use Rattle.std.proofs.Common.{◌≡◌, map}
+use Rattle.std.proofs.Common.{◌≡◌, All, map}
+use Rattle.totem_threads.specs.FirstLives.{IsFirstBook}
 use Rattle.totem_threads.specs.Starts.{start_of}
 use Rattle.totem_threads.proofs.run.joined.Given as goal
 
 abbrev pub invariant-loop-handle : goal.invariant-loop-handle
-invariant-loop-handle g l = map (λ b. b.start) l.books.items ≡ map (λ h. start_of h.promise.nodes h.promise.node) l.yielded
+invariant-loop-handle g l = (map (λ b. b.start) l.books.items ≡ map (λ h. start_of h.promise.nodes h.promise.node) l.yielded) × All IsFirstBook l.books.items

@@ -18,5 +18,6 @@ returns g c =
           ∙ c.loop-ends.invariant
           ∙ ap (map (λ e. start_of c.captures.count e.node)) all
           ∙ starts_of c.captures.count c.captures.nodes.items c.requires.nodes;
+      first = c.in_ok-books.ensures.first;
       fault = tt;
     }

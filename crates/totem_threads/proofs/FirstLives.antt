@@ -1,0 +1,147 @@
+-- Where no life but the first is named: from the words of the threads to the logs of their books.
+use Rattle.std.proofs.Common.{◌≡◌, ℕ, zero, suc, ◌<◌, ◌+◌, ◌-◌, ◌==◌, List, [], ◌∷◌, length, map, reverse, Bool, true, false, Ok, Err, IfSome, refl, arith}
+use Rattle.std.specs.Prelude.{All, IfOk, slice_get}
+use Rattle.std.proofs.lemmas.Bool.{eqb-true}
+use Rattle.std.proofs.lemmas.List.{reverse-append}
+use Rattle.std.proofs.lemmas.List.Elements.{All-nil, All-cons, All-head, All-tail, All-append, All-push, All-map, All-weaker}
+use Rattle.std.proofs.lemmas.List.Sums.{sum_by-cons}
+use Rattle.totem_ids.specs.Ranks.{life_of}
+use Rattle.totem_ids.specs.declared.version.Version.{Version}
+use Rattle.totem_ids.specs.declared.version.Version.TheVariants.{One, Two, Three}
+use Rattle.totem_packets.specs.declared.commit_member.CommitMember.{CommitMember}
+use Rattle.totem_packets.specs.CommitMembers.{IsCommitMembers}
+use Rattle.totem_packets.specs.Lives.{has_later_life}
+use Rattle.totem_packets.proofs.GivenLives.{first_each}
+use Rattle.totem_evs.specs.declared.entry.Entry.{Entry}
+use Rattle.totem_evs.specs.LogRecord.{LogRecord}
+use Rattle.totem_evs.specs.Lives.{AreFirst, AreLoud, HasFirstLives, IsFirstVersion}
+use Rattle.totem_recover.specs.Lives.{first_rank, first_ranks}
+use Rattle.totem_node.specs.Nodes.{Stepped}
+use Rattle.totem_node.specs.Outcomes.{Outcome}
+use Rattle.totem_node.specs.Table.{step}
+use Rattle.totem_node.specs.Replay.{Life, lived, first_change}
+use Rattle.totem_node.specs.FirstLives.{AreFirstReports, IsFirstInput, IsFirstEntry, IsFirstNode, IsFirstStep}
+use Rattle.totem_node.proofs.FirstLives.{step_stays}
+use Rattle.totem_net.specs.Nodes.{node_numbers}
+use Rattle.totem_books.specs.Calls.{Called, Receipt}
+use Rattle.totem_books.specs.Replay.{Start, lived_back, IsRecorded}
+use Rattle.totem_books.specs.Receipts.{FitRising, count_at, count_in, Agree, Covers}
+use Rattle.totem_books.specs.Seats.{SeatRecord, Closed}
+use Rattle.totem_threads.specs.Starts.{starts}
+use Rattle.totem_threads.specs.Books.{AreLogsOf}
+use Rattle.totem_threads.specs.FirstLives.{IsFirstSeat, IsFirstBook}
+use Rattle.totem_threads.proofs.Starting.{processes}
+
+-- ---- packets
+
+pub reports_first : (members : List CommitMember) → IsCommitMembers members → has_later_life members ≡ false → AreFirstReports members
+reports_first members are none = first_each members are.each none
+
+-- ---- the calls of a book
+
+abbrev pub IsFirstCall : Called → Type 0
+IsFirstCall call = IsFirstInput call.input
+
+abbrev pub IsFirstReceipt : Receipt → Type 0
+IsFirstReceipt stub = IsFirstInput stub.input
+
+module _ (calls : List Called) (k : ℕ) where
+  -- a receipt of the call at this place is among these
+  found_in : (low : ℕ) (stubs : List Receipt) → FitRising calls low stubs → All IsFirstReceipt stubs → 0 < count_at (k + 1) stubs → IfSome (slice_get calls k) IsFirstCall
+  found_in low [] fit first some = absurd (omega arith)
+  found_in low (stub ∷ stubs) fit first some = by_place (stub.at == k + 1) refl (found_in stub.at stubs fit.2 (All-tail IsFirstReceipt stub stubs first))
+    where
+      by_place : (b : Bool) → (stub.at == k + 1) ≡ b → (0 < count_at (k + 1) stubs → IfSome (slice_get calls k) IsFirstCall) → IfSome (slice_get calls k) IsFirstCall
+      by_place true here others =
+          let at : stub.at - 1 ≡ k = omega (arith, eqb-true stub.at (k + 1) here) in
+          let call = rw at at fit.1.1 in
+          rw call (All-head IsFirstReceipt stub stubs first)
+      by_place false other others = let more = rw other at some in others more
+
+  found : (seats : List SeatRecord) → All (λ seat. FitRising calls 0 seat.stubs) seats → All IsFirstSeat seats → 0 < count_in (k + 1) seats → IfSome (slice_get calls k) IsFirstCall
+  found [] fit first some = absurd (omega arith)
+  found (seat ∷ seats) fit first some =
+      by_count (count_at (k + 1) seat.stubs) refl (found seats (All-tail (λ (s : SeatRecord). FitRising calls 0 s.stubs) seat seats fit) (All-tail IsFirstSeat seat seats first))
+    where
+      all : count_in (k + 1) (seat ∷ seats) ≡ count_at (k + 1) seat.stubs + count_in (k + 1) seats
+      all = sum_by-cons (λ (s : SeatRecord). count_at (k + 1) s.stubs) seat seats
+
+      by_count : (n : ℕ) → count_at (k + 1) seat.stubs ≡ n → (0 < count_in (k + 1) seats → IfSome (slice_get calls k) IsFirstCall) → IfSome (slice_get calls k) IsFirstCall
+      by_count zero none others = others (omega (arith, all))
+      by_count (suc n) here others =
+          found_in 0 seat.stubs (All-head (λ (s : SeatRecord). FitRising calls 0 s.stubs) seat seats fit) (All-head IsFirstSeat seat seats first) (omega arith)
+
+each_found : {X : Type 0} (P : X → Type 0) (xs : List X) → ((k : ℕ) → k < length xs → IfSome (slice_get xs k) P) → All P xs
+each_found P [] at = All-nil P
+each_found P (x ∷ xs) at = All-cons P x xs (at zero (omega arith)) (each_found P xs (λ k inside. at (suc k) (omega arith)))
+
+-- each call has a receipt in one of the seats
+calls_first : (calls : List Called) (seats : List SeatRecord) → Agree calls seats → Covers calls seats → All IsFirstSeat seats → All IsFirstCall calls
+calls_first calls seats agree covers first =
+    each_found IsFirstCall calls (λ k inside. found calls k seats agree.each first (let one = covers.one k inside in omega arith))
+
+-- who has made no call has named no life
+pub empty_first : (seats : List SeatRecord) → All (λ seat. (seat.stubs ≡ []) × (seat.share ≡ 0)) seats → All IsFirstSeat seats
+empty_first seats empty = All-weaker (λ (s : SeatRecord). (s.stubs ≡ []) × (s.share ≡ 0)) IsFirstSeat (λ s none. rw none.0 (All-nil IsFirstReceipt)) seats empty
+
+pub three_first : (a b c : SeatRecord) → IsFirstSeat a → IsFirstSeat b → IsFirstSeat c → All IsFirstSeat (a ∷ b ∷ c ∷ [])
+three_first a b c first second third =
+    All-cons IsFirstSeat a (b ∷ c ∷ []) first (All-cons IsFirstSeat b (c ∷ []) second (All-cons IsFirstSeat c [] third (All-nil IsFirstSeat)))
+
+-- ---- the log of a book
+
+record IsFirstLife (life : Life) : Type 0 where
+  node : IsFirstNode life.node
+  entries : All IsFirstEntry life.entries
+
+lived_first : (life : Life) (o : Outcome Stepped) → IsFirstLife life → IfOk o IsFirstStep → IsFirstLife (lived life o)
+lived_first life (Ok s) is stays = record { node = stays.node; entries = All-append IsFirstEntry life.entries s.entries is.entries stays.entries }
+lived_first life (Err fault) is stays = record { node = is.node; entries = is.entries }
+
+module _ (start : Start) (me : life_of start.me ≡ 1) (members : AreFirst start.members) where
+  back_first : (calls : List Called) → All IsFirstCall calls → IsFirstLife (lived_back start calls)
+  back_first [] all = record {
+    node = record { life = me; state = tt };
+    entries = All-cons IsFirstEntry (first_change start.ring start.members) [] members (All-nil IsFirstEntry);
+  }
+  back_first (call ∷ before) all =
+      let life = lived_back start before in
+      let is = back_first before (All-tail IsFirstCall call before all) in
+      lived_first life (step life.node call.input) is (step_stays life.node call.input is.node (All-head IsFirstCall call before all))
+
+reversed : {X : Type 0} (P : X → Type 0) (xs : List X) → All P xs → All P (reverse xs)
+reversed P [] all = all
+reversed P (x ∷ xs) all = rw (reverse-append (x ∷ []) xs) (All-push P (reverse xs) x (reversed P xs (All-tail P x xs all)) (All-head P x xs all))
+
+pub book_first : (start : Start) (calls : List Called) (log : List Entry) (seats : List SeatRecord) → IsRecorded start calls log → life_of start.me ≡ 1
+    → AreFirst start.members → Agree calls seats → Covers calls seats → All IsFirstSeat seats → All IsFirstEntry log
+book_first start calls log seats recorded me members agree covers first =
+    rw recorded.log_is (back_first start me members (reverse calls) (reversed IsFirstCall calls (calls_first calls seats agree covers first))).entries
+
+-- ---- the logs of all books
+
+pub ranks_first : (ids : List ℕ) → AreFirst (first_ranks ids)
+ranks_first [] = All-nil (λ p. life_of p ≡ 1)
+ranks_first (id ∷ ids) = All-cons (λ p. life_of p ≡ 1) (first_rank id) (first_ranks ids) (omega arith) (ranks_first ids)
+
+unmapped : {X Y : Type 0} (f : X → Y) (P : Y → Type 0) (xs : List X) → All P (map f xs) → All (λ x. P (f x)) xs
+unmapped f P [] all = All-nil (λ x. P (f x))
+unmapped f P (x ∷ xs) all = All-cons (λ x. P (f x)) x xs (All-head P (f x) (map f xs) all) (unmapped f P xs (All-tail P (f x) (map f xs) all))
+
+pub logs_first : (nodes : ℕ) (books : List Closed) (logs : List LogRecord) → map (λ (b : Closed). b.start) books ≡ starts nodes → AreLogsOf books logs
+    → All IsFirstBook books → All HasFirstLives logs
+logs_first nodes books logs begun are first =
+    let procs : AreFirst (map (λ (l : LogRecord). l.proc) logs) = rw (processes nodes books logs begun are) (ranks_first (node_numbers nodes)) in
+    let entries : All (All IsFirstEntry) (map (λ (l : LogRecord). l.entries) logs) = rw are.entries (All-map (All IsFirstEntry) (λ (b : Closed). b.log) books first) in
+    let each = unmapped (λ (l : LogRecord). l.proc) (λ p. life_of p ≡ 1) logs procs in
+    let all = unmapped (λ (l : LogRecord). l.entries) (All IsFirstEntry) logs entries in
+    λ k d inside. (each k d inside, all k d inside)
+
+version_one : (version : Version) (logs : List LogRecord) → IsFirstVersion version logs → AreLoud logs → All HasFirstLives logs → version ≡ One
+version_one One logs first loud all = refl
+version_one Two logs first loud all = absurd (first.1 all)
+version_one Three logs first loud all = absurd (first loud)
+
+pub in_version_one : (nodes : ℕ) (books : List Closed) (logs : List LogRecord) (version : Version) → map (λ (b : Closed). b.start) books ≡ starts nodes → AreLogsOf books logs
+    → All IsFirstBook books → IsFirstVersion version logs → version ≡ One
+in_version_one nodes books logs version begun are first is = version_one version logs is are.loud (logs_first nodes books logs begun are first)
