@@ -40,7 +40,7 @@ const OPTIONS: [NumberOption; 6] = [
         least: 1,
         most: 1_000_000,
         default: "4000",
-        help: "Number of ticks, from 1 to 1000000; at every eighth a node's timer expires and its client sends; the run begins only if 4 KB of memory are available for each tick and node",
+        help: "Length of the run in ticks, from 1 to 1000000; at every eighth one node's timer expires and its client sends. Takes 4 KB of memory for each tick and node",
     },
     NumberOption {
         name: "seed",
@@ -64,7 +64,7 @@ const OPTIONS: [NumberOption; 6] = [
         least: 0,
         most: 100,
         default: "0",
-        help: "Percentage of packets duplicated; with those dropped at most 100",
+        help: "Percentage of packets duplicated; together with those dropped at most 100",
     },
     NumberOption {
         name: "hold",
@@ -72,7 +72,7 @@ const OPTIONS: [NumberOption; 6] = [
         least: 0,
         most: 255,
         default: "0",
-        help: "How many later packets may overtake one, from 0 to 255; from 2 on a lone token waits for packets that never come, and nodes mostly gather",
+        help: "How many later packets may overtake one, from 0 to 255; from 2 on tokens are held up so long that nodes mostly form new rings",
     },
 ];
 
@@ -92,7 +92,7 @@ fn weave_option<'a>(alloc: Global) -> Arg<'a> {
         .long("weave")
         .action(ArgAction::SetTrue)
         .help(
-            "Write the schedule of ring 4.1 instead of the run: its number of steps, and what each member delivered to its node; or the call that fits no schedule",
+            "Write what the threads did on ring 4.1 as one schedule instead of the run: its number of steps, and the messages that each member handed to its node; or the call that fits no schedule",
         )
 }
 

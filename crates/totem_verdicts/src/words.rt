@@ -33,10 +33,11 @@ pub enum Words {
 }
 
 const ENDINGS: &str = "\
-Status: 0 yes, or a run was made; 1 no, or an orphan; 2 the input was refused; 3 out of memory; 4 a stream failed; 64 usage error.";
+Status: 0 yes, or a run was made; 1 no, or a call that fits no schedule; 2 the input was refused; 3 out of memory; 4 a stream failed;
+64 usage error.";
 
 const AUDIT_EXAMPLE: &str = "\
-A log ends with the line open, with failed after a failure, or from version 3 on with quiet, which says that nothing more was to come.
+A log ends with the line `open`; with `failed` if its last entry is a failure; or from version 3 on with `quiet`, if it is complete.
 Example: totem audit < examples/first-yes.run";
 
 const EXPLAIN_EXAMPLE: &str = "Example: totem explain < examples/first-no.run";
@@ -58,7 +59,7 @@ fn workers_option<'a>(alloc: Global) -> Arg<'a> {
 
 fn audit_command<'a>(alloc: Global) -> Result<Command<'a>, AllocError> {
     Command::new(alloc, "audit")
-        .about("Judges the run on the standard input, and writes a report")
+        .about("Judges the run on standard input, and writes a report")
         .after_help(AUDIT_EXAMPLE)
         .arg(workers_option(alloc))
 }
@@ -67,22 +68,20 @@ fn svg_option<'a>(alloc: Global) -> Arg<'a> {
     Arg::new(alloc, "svg")
         .long("svg")
         .action(ArgAction::SetTrue)
-        .help(
-            "Draw a picture in SVG: the run around its first fault, or a run that meets the specifications",
-        )
+        .help("Draw the verdict as an SVG picture, around the first fault if there is one")
 }
 
 fn script_option<'a>(alloc: Global) -> Arg<'a> {
     Arg::new(alloc, "script")
         .long("script")
         .action(ArgAction::SetTrue)
-        .help("Follow a script as sim does, and show the line for which it is refused")
+        .help("Follow a script as sim does, and show the line at which it is refused")
 }
 
 fn explain_command<'a>(alloc: Global) -> Result<Command<'a>, AllocError> {
     Command::new(alloc, "explain")
         .about(
-            "Judges the run on the standard input, and explains what is broken, by which events, and where; or where its text is refused",
+            "Judges the run on standard input, and explains in words what is broken; if its text is refused, shows where",
         )
         .after_help(EXPLAIN_EXAMPLE)
         .arg(workers_option(alloc))?
@@ -109,20 +108,20 @@ fn workers_of(matches: &ArgMatches<'_>) -> u32 {
 
 fn check_command<'a>(alloc: Global) -> Command<'a> {
     Command::new(alloc, "check")
-        .about("Judges a run and its certificate, one after the other on the standard input")
+        .about("Judges a run and its certificate, one after the other on standard input")
         .after_help(CHECK_EXAMPLE)
 }
 
 fn sim_command<'a>(alloc: Global) -> Command<'a> {
     Command::new(alloc, "sim")
-        .about("Follows the script on the standard input, and writes the run that its nodes record")
+        .about("Follows the script on standard input, and writes the run that its nodes record")
         .after_help(SIM_EXAMPLE)
 }
 
 fn command<'a>(alloc: Global) -> Result<Command<'a>, AllocError> {
     Command::new(alloc, "totem")
         .version("0.2.0")
-        .about("Audits the logs of a process group: what was sent, delivered and installed")
+        .about("Audits the logs of a process group: its messages and its changes of membership")
         .after_help(ENDINGS)
         .subcommand_required(true)
         .subcommand(audit_command(alloc)?)?
