@@ -1,4 +1,10 @@
-//! The checker: decides whether a certificate certifies a run, and whether the run meets the specifications.
+//! The checker: it judges a run and a certificate, whoever made the certificate (docs/SPECIFICATIONS.md, "The checker").
+//!
+//! `check` accepts exactly if the certificate certifies the run and the run meets specifications 1 to 7, and then lists what is
+//! pending and who waits (`Checks`, specs/Checks); a refusal is right (`RefusesRightly`), and `Broken` names the first fault that the
+//! audit would list (`IsFirstFault`). Out of memory says nothing.
+//!
+//! A yes is that of totem_certificate_check and totem_judge. The passes are asked only to name what is broken.
 #![tactic(auto)]
 
 mod accepted;

@@ -10,8 +10,8 @@
 //! - `push_pending` appends exactly the messages that are pending there for the process of a log (`AddsPending`, specs/Pending).
 //! - The operations of `LogSet` are those of sets of logs, by their index in the run (`Has`, specs/LogSets).
 //!
-//! Nothing here reads a log. That the traffic is that of a run is proved in totem_judge, which alone uses this crate in the
-//! program.
+//! `Shown::by` applies the six rules (`AreShown`). Nothing here reads a log: that the traffic is that of a run is proved in
+//! totem_judge, and totem_pass_d spares the searches for what is shown.
 #![tactic(auto)]
 
 mod agreed;

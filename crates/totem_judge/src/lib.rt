@@ -1,4 +1,14 @@
-//! The judge: whether a run that its certificate orders meets the specifications, judged by the traffic of each regular configuration.
+//! The judge: what is observed of a run along a certificate that orders its events, and whether it meets the specifications.
+//!
+//! `observe` tests the rules of the whole run, gathers the traffic of each regular configuration in one walk along the numbers, and
+//! compares it with the logs, entry by entry. What may be relied on:
+//! - If it returns a `View`, the run meets the specifications of passes A and B, the view has the traffic of all its regular
+//!   configurations, and what is pending, in ascending order (`IsView`, specs/Judged).
+//! - A `true` of `View::agrees` means that the rules of all configurations are met (`Agree`); then the run meets specifications 1
+//!   to 7 (`settled`, proofs/Settled; `totem_check::check` says so).
+//! - What `None` or `false` means is left open.
+//!
+//! The walk that gathers promises nothing. The checker's yes rests on this crate and those below it, and no search does.
 #![tactic(auto)]
 
 mod arrivals;
