@@ -3,8 +3,6 @@ ghost use Rattle.std.specs.Prelude.{[]};
 ghost use Rattle.totem_ids.specs.Sources.{seen};
 ghost use Rattle.totem_ids.specs.Writing.{held};
 ghost use Rattle.totem_verdicts.specs.AuditIo.{Audits};
-ghost use Rattle.totem_verdicts.specs.ExplainIo.{ExplainsRun};
-ghost use Rattle.totem_verdicts.specs.DrawIo.{DrawsRun};
 ghost use Rattle.totem_verdicts.specs.CheckIo.{ChecksText};
 ghost use Rattle.totem_cluster.specs.IoFaults.{Gives};
 
@@ -28,40 +26,6 @@ pub fn audit_io<T: Threads + Wait + Sync, R: Source, W: Sink>(
         (held W.contents W.failures [] output.old) (held W.contents W.failures [] output.new)) result }
 {
     match totem_verdicts::audit_io(rt, alloc, input, output, workers) {
-        Ok(outcome) => Ok(outcome),
-        Err(fault) => Err(IoFault::from(fault)),
-    }
-}
-
-/// Does the same as `totem_verdicts::explain_io`, with its fault among all faults.
-pub fn explain_io<T: Threads + Wait + Sync, R: Source, W: Sink>(
-    rt: &T,
-    alloc: Global,
-    input: &mut R,
-    output: &mut W,
-    workers: Workers,
-) -> Result<Outcome, IoFault>
-    ensures { Gives (ExplainsRun (seen R.remaining R.failures input.old) (seen R.remaining R.failures input.new)
-        (held W.contents W.failures [] output.old) (held W.contents W.failures [] output.new)) result }
-{
-    match totem_verdicts::explain_io(rt, alloc, input, output, workers) {
-        Ok(outcome) => Ok(outcome),
-        Err(fault) => Err(IoFault::from(fault)),
-    }
-}
-
-/// Does the same as `totem_verdicts::draw_io`, with its fault among all faults.
-pub fn draw_io<T: Threads + Wait + Sync, R: Source, W: Sink>(
-    rt: &T,
-    alloc: Global,
-    input: &mut R,
-    output: &mut W,
-    workers: Workers,
-) -> Result<Outcome, IoFault>
-    ensures { Gives (DrawsRun (seen R.remaining R.failures input.old) (seen R.remaining R.failures input.new)
-        (held W.contents W.failures [] output.old) (held W.contents W.failures [] output.new)) result }
-{
-    match totem_verdicts::draw_io(rt, alloc, input, output, workers) {
         Ok(outcome) => Ok(outcome),
         Err(fault) => Err(IoFault::from(fault)),
     }

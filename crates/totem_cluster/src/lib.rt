@@ -2,13 +2,13 @@
 //! (docs/SPECIFICATIONS.md, "The program").
 //!
 //! What may be relied on:
-//! - `audit_io`, `explain_io`, `draw_io` and `check_io` are those of totem_verdicts, with their faults among this crate's (`Gives`,
+//! - `audit_io` and `check_io` are those of totem_verdicts, with their faults among this crate's (`Gives`,
 //!   specs/IoFaults).
 //! - `sim_io` and `follow_io`: with an outcome, a script was read to its end, and what was written is the text of its run
 //!   (`Simulates`, specs/SimIo).
 //! - `run_threads`: the run is that of closed books, one for each node. `run_io` writes its text and nothing else (`Records`,
 //!   specs/RunIo).
-//! - `weave_io_with_progress` writes the woven ring of such a run, or the call that fits no schedule (`WeavesRun`, specs/WeaveIo).
+//! - `weave_io` writes the woven ring of such a run, or the call that fits no schedule (`WeavesRun`, specs/WeaveIo).
 //! - `program` and `program_with_progress`: each status comes only with these streams (`Ends`, specs/Endings).
 //!
 //! Whoever wants only verdicts needs totem_verdicts and not this crate, under which all crates of the nodes are.
@@ -25,8 +25,8 @@ mod telling;
 mod weaving;
 
 pub use io_fault::IoFault;
-pub use judging::{audit_io, check_io, draw_io, explain_io};
-pub use recording::{run_io, run_io_with_progress, run_threads};
+pub use judging::{audit_io, check_io};
+pub use recording::{run_io, run_threads};
 pub use shell::{program, program_with_progress};
 pub use simulating::{Unmade, follow_io, sim_io};
 pub use telling::tell_fault;
@@ -35,4 +35,4 @@ pub use totem_net::{Logged, Progress};
 pub use totem_threads::{BookTrouble, RunPlan};
 pub use totem_verdicts::Outcome;
 pub use totem_weave::{WeaveFault, Woven, weave};
-pub use weaving::{Weave, weave_io_with_progress};
+pub use weaving::{Weave, weave_io};

@@ -54,21 +54,9 @@ pub(crate) fn run_watched<S: Start, R: Threads + Wait + Sync, P: Progress>(
     Ok(run_nodes(rt, alloc, plan, start, progress)?)
 }
 
-/// Runs nodes in threads, and writes the run that they record.
-pub fn run_io<R: Threads + Wait + Sync, W: Sink>(
-    rt: &R,
-    alloc: Global,
-    plan: RunPlan,
-    output: &mut W,
-) -> Result<Outcome, IoFault>
-    requires { IsInRange plan }
-    ensures { Records plan.nodes (held W.contents W.failures [] output.old) (held W.contents W.failures [] output.new) result }
-{
-    run_io_with_progress(rt, alloc, plan, output, &mut Unwatched)
-}
-
-/// Does the same as `run_io`, and reports the progress, and the end of the run before the run is written.
-pub fn run_io_with_progress<R: Threads + Wait + Sync, W: Sink, P: Progress>(
+/// Runs nodes in threads, and writes the run that they record. Reports the progress at each tick, and the end of the run before it is
+/// written.
+pub fn run_io<R: Threads + Wait + Sync, W: Sink, P: Progress>(
     rt: &R,
     alloc: Global,
     plan: RunPlan,

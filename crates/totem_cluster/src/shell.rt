@@ -8,11 +8,11 @@ ghost use Rattle.totem_cluster.specs.Endings.{Ends, Points, Plays};
 
 use crate::io_fault::IoFault;
 use crate::planning::plan_of;
-use crate::recording::run_io_with_progress;
+use crate::recording::run_io;
 use crate::script_words::explain_line;
 use crate::simulating::{Unmade, follow_io, sim_io};
 use crate::telling::{tell_fault, tell_with_words};
-use crate::weaving::weave_io_with_progress;
+use crate::weaving::weave_io;
 use std::alloc::{AllocError, Global};
 use std::sync::Wait;
 use std::thread::Threads;
@@ -41,7 +41,7 @@ fn play_woven<T: Threads + Wait + Sync, W: Sink, E: Sink, P: Progress>(
     ensures { Plays (held W.contents W.failures [] output.old) (held W.contents W.failures [] output.new)
         (bare E.contents E.failures errors.old) (bare E.contents E.failures errors.new) result }
 {
-    match weave_io_with_progress(rt, alloc, plan, output, progress) {
+    match weave_io(rt, alloc, plan, output, progress) {
         Ok(weave) => weave.status(),
         Err(fault) => tell_fault(errors, &fault),
     }
@@ -66,7 +66,7 @@ fn play<T: Threads + Wait + Sync, W: Sink, E: Sink, P: Progress>(
     if words.weave {
         return play_woven(rt, alloc, plan, output, errors, progress);
     }
-    match run_io_with_progress(rt, alloc, plan, output, progress) {
+    match run_io(rt, alloc, plan, output, progress) {
         Ok(outcome) => outcome.status(),
         Err(fault) => tell_fault(errors, &fault),
     }

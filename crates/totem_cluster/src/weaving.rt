@@ -191,7 +191,7 @@ fn write_weave<S: Sink>(alloc: Global, books: &[ClosedBook], sink: &mut S) -> Re
 
 /// Runs nodes in threads, weaves ring 4.1 of their books, and writes the woven ring or the call that fits no schedule
 /// (docs/PROTOCOL.md, "The woven ring"). Reports the progress, and when the run has ended.
-pub fn weave_io_with_progress<R: Threads + Wait + Sync, W: Sink, P: Progress>(
+pub fn weave_io<R: Threads + Wait + Sync, W: Sink, P: Progress>(
     rt: &R,
     alloc: Global,
     plan: RunPlan,

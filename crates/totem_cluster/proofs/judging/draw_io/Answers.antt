@@ -1,8 +1,0 @@
-use Rattle.std.proofs.Common.{Ok, Err, refl, ap}
-use Rattle.totem_cluster.proofs.judging.draw_io.Goals as goal
-
-pub returns-in-Ok : goal.returns-in-Ok
-returns-in-Ok g c = (Ok c.in-Ok.outcome, c.in-Ok.ensures, refl)
-
-pub returns-in-Err : goal.returns-in-Err
-returns-in-Err g c = (Err c.in-Err.fault, c.in-Err.ensures, ap Err c.from.ensures)
