@@ -1,13 +1,13 @@
 use bytes::Bytes;
 use crossbeam_channel::Receiver;
 use std::alloc::{AllocError, Global};
-use std::sync::{Mutex, Wait};
+use std::sync::Wait;
 use std::test::Fail;
 use std::thread;
 use std::thread::Threads;
-use totem_ids::{ProcId, Service};
+use totem_ids::Service;
 use totem_net::{
-    ClientWord, Fates, Logged, Network, NodeEnds, Outlet, Pacer, PacketWord, Plan, Start, Switch,
+    ClientWord, Fates, Logged, Network, NodeEnds, Outlet, Pacer, PacketWord, Plan, Switch,
     ThreadEnd, TimerWord, Unwatched,
 };
 
@@ -265,30 +265,4 @@ fn each_thread_has_its_words(rt: HostRuntime) -> Result<(), Fail> {
     let all = all_given(&rt, rt.alloc())?;
     assert_eq!(rt; all.as_slice(), b"as.sa.as.tt.tt.tt....".as_slice());
     Ok(())
-}
-
-/// Adds up the numbers of the nodes that begin.
-#[derive(Drop)]
-struct Begun<'a, R: Wait + Sync> {
-    rt: &'a R,
-    count: Mutex<u32>,
-}
-
-impl<R: Wait + Sync> Start for Begun<'_, R> {
-    fn begun(&self, node: ProcId) {
-        let mut count = self.count.lock(self.rt);
-        *count = count.saturating_add(u32::from(node.number()));
-    }
-}
-
-/// A `Start` is called with each node that begins.
-#[test]
-fn a_start_is_told_of_each_node(rt: HostRuntime) {
-    let start = Begun {
-        rt: &rt,
-        count: Mutex::new(0),
-    };
-    start.begun(ProcId::of(2));
-    start.begun(ProcId::of(3));
-    assert_eq!(rt; *start.count.lock(&rt), 5);
 }
