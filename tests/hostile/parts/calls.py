@@ -5,8 +5,8 @@ import re
 from harness import process
 from harness.sweep import Sweeper
 
-# What a test of `starved` prints if it could not make what it needs.
-NOT_MADE = re.compile(rb'error: (AllocError|Memory)\nthe test failed: its result gives status 1\n')
+# What a test of `starved` prints if it could not make what it needs: a fault, or its name in quotes.
+NOT_MADE = re.compile(rb'error: (AllocError|Memory|"Memory")\nthe test failed: its result gives status 1\n')
 PASSES = 'the test passes'
 
 
