@@ -18,7 +18,7 @@ pub enum CertFault {
     Order,
     #[error("the text ends before its last line")]
     Truncated,
-    #[error("more than 32 lines, or 1000000 numbers in one")]
+    #[error("more than 32 lines, or 1,000,000 numbers in one")]
     TooMany,
     /// The reader of certificates never returns this. It is for callers that require the input to end after the certificate.
     #[error("bytes after the last line")]

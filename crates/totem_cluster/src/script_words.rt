@@ -30,7 +30,7 @@ fn wanted(kind: ScriptFaultKind) -> &'static str {
         ScriptFaultKind::Truncated =>
             "Each line ends with a line break, and the last one is `end`.",
         ScriptFaultKind::TooMany => {
-            "A script has at most 32 processes, where each life counts, and 65536 bytes, and a log at most 1000000 entries."
+            "A script has at most 32 processes, where each life counts, and 65,536 bytes, and a log at most 1,000,000 entries."
         }
         ScriptFaultKind::Read | ScriptFaultKind::Memory => "",
     }

@@ -24,7 +24,7 @@ pub enum RunFault {
     End,
     #[error("the text ends before its last line")]
     Truncated,
-    #[error("more than 32 logs, 32 members, or 1000000 entries of a log")]
+    #[error("more than 32 logs, 32 members, or 1,000,000 entries of a log")]
     TooMany,
     #[error("process {0} has no log")]
     MissingLog(WrittenProc),

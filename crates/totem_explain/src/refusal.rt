@@ -93,7 +93,7 @@ fn wanted(alloc: Global, fault: &RunFault, line: &[u8]) -> Result<String, AllocE
             "The text ends here. Each log ends with the line `open` or `failed`, or from version 3 on with `quiet`, and the text with the line `end`."
         }
         RunFault::TooMany => {
-            "A run has at most 32 logs, a configuration at most 32 members, and a log at most 1000000 entries."
+            "A run has at most 32 logs, a configuration at most 32 members, and a log at most 1,000,000 entries."
         }
         RunFault::MissingLog(proc) => {
             return format!(in alloc;

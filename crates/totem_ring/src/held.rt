@@ -2,16 +2,16 @@
 ghost use Rattle.std.specs.Prelude.{◌≡◌, ◌+◌, ◌^◌, ◌<◌, [], false, filter, length, nat_le, All, IfOk, OnOk, OnErr};
 ghost use Rattle.std.specs.List.{filter_map};
 ghost use Rattle.std.specs.Option.{option_copied};
-ghost use Rattle.totem_ring.specs.Rings.{aru_of, going_up, holds, may_go_up, message_at, up_to, with_message, with_messages, without};
+ghost use Rattle.totem_ring.specs.Rings.{aru_of, going_up, holds, is_agreed, may_go_up, message_at, up_to, with_message, with_messages, without};
 ghost use Rattle.totem_ring.specs.Invariant.{RisesFrom};
 ghost use Rattle.totem_ring.specs.Refusals.{holds_above};
 
-use crate::refusals::is_agreed;
 use crate::walks::{add_all, cut_above, put, whole_to};
 use std::alloc::{AllocError, Global};
 use std::collections::BTreeMap;
 use std::marker::Model;
-use totem_packets::{Message, Number};
+use totem_ids::Service;
+use totem_packets::{Body, Message, Number};
 
 /// The messages of a ring that were received or sent here, by number.
 #[derive(Debug, Drop)]
@@ -30,6 +30,21 @@ impl Model for Held {
     ghost view = { λ h. h.messages.entries };
 
     ghost invariant = { λ h. KeepsAru h.messages.entries h.aru };
+}
+
+/// Returns whether a message with this body is delivered to the node as soon as its turn has come. Any other is safe, and
+/// waits until all members are known to hold it. `Old` counts as agreed, `Mark` as safe.
+pub fn is_agreed(body: &Body) -> bool
+    ensures { result ≡ is_agreed body.now }
+{
+    match body {
+        Body::App { service, .. } => match service {
+            Service::Agreed => true,
+            Service::Safe => false,
+        },
+        Body::Old { .. } => true,
+        Body::Mark => false,
+    }
 }
 
 fn may_go_up(safe_to: u32, number: u32, message: &Message) -> bool

@@ -1,12 +1,12 @@
 //! A member's state on its ring, and all its steps except the visit of the token.
-ghost use Rattle.std.specs.Prelude.{◌≡◌, ◌+◌, ◌<◌, ◌++◌, length, take, IfOk, OnOk, MatchResult, Ok};
+ghost use Rattle.std.specs.Prelude.{◌≡◌, ◌==◌, ◌+◌, ◌<◌, ◌++◌, length, position, take, IfOk, IfSome, OnOk, MatchResult, Ok};
+ghost use Rattle.totem_ring.specs.Rings.{same_ring};
 ghost use Rattle.totem_ring.specs.Steps.{kept_after};
 ghost use Rattle.totem_ring.specs.Undoing.{kept_again};
 
 use crate::fault::RingFault;
 use crate::held::Held;
 use crate::outcome::{RingOut, To};
-use crate::refusals::{MOST_WAITING, is_same_ring, place_of};
 use crate::undo::{RingUndo, VisitUndo};
 use std::alloc::{AllocError, Global};
 use std::collections::BTreeMap;
@@ -16,6 +16,9 @@ use totem_packets::{Body, Message, Number, Packet, Token, is_among};
 
 mod act;
 mod visit;
+
+/// How many bodies may wait at most.
+pub const MOST_WAITING: usize = 16;
 
 /// One member's state on its ring (docs/PROTOCOL.md, "The ring"). A call that is refused leaves it as it was.
 #[derive(Debug, Drop)]
@@ -56,6 +59,20 @@ impl Model for RingState {
     } };
 
     ghost invariant = { λ s. 0 < length s.members.items };
+}
+
+pub fn is_same_ring(a: RingId, b: RingId) -> bool
+    ensures { result ≡ same_ring a b }
+{
+    a.seq == b.seq && a.rep.number() == b.rep.number()
+}
+
+/// Returns the index of this process among the members, or `None` if it is not a member.
+pub fn place_of(members: &[ProcId], proc: ProcId) -> Option<usize>
+    ensures place { result ≡ position (λ p. p == proc) members.now }
+    ensures within { IfSome result (λ place. place < length members.now) }
+{
+    members.iter().position(|p| p.number() == proc.number())
 }
 
 /// Forgets the kept token and returns it, if this number is above the token's `seq`.

@@ -27,7 +27,7 @@ pub enum ScriptFaultKind {
     End,
     #[error("the script ends too soon")]
     Truncated,
-    #[error("more than 32 processes, 65536 bytes, or 1000000 entries of a log")]
+    #[error("more than 32 processes, 65,536 bytes, or 1,000,000 entries of a log")]
     TooMany,
     #[error("the script can't be read")]
     Read,

@@ -4,8 +4,7 @@ ghost use Rattle.std.specs.Prelude.{◌≡◌};
 use crate::fault::RingFault;
 use crate::moves::Act;
 use crate::outcome::RingOut;
-use crate::refusals::MOST_WAITING;
-use crate::state::RingState;
+use crate::state::{MOST_WAITING, RingState};
 use std::alloc::Global;
 use totem_packets::Body;
 

@@ -1,17 +1,32 @@
 //! The visit of the token.
 ghost use Rattle.std.specs.Prelude.{◌≡◌, ◌+◌, ◌^◌, ◌<◌, length, IfOk};
+ghost use Rattle.totem_ring.specs.Refusals.{is_none_or_member, is_above};
 
 use crate::departure::{Departure, sendings, set_aru};
 use crate::fault::RingFault;
 use crate::outcome::RingOut;
-use crate::refusals::{is_above, is_none_or_member, is_same_ring};
 use crate::requests::{Answered, answer, ask_missing};
-use crate::state::RingState;
+use crate::state::{RingState, is_same_ring};
 use crate::undo::{RingUndo, VisitUndo};
 use std::alloc::{AllocError, Global};
 use std::mem;
 use totem_ids::ProcId;
-use totem_packets::{Body, Message, Number, Requests, Token, TokenSeq};
+use totem_packets::{Body, Message, Number, Requests, Token, TokenSeq, is_among};
+
+pub fn is_none_or_member(members: &[ProcId], proc: Option<ProcId>) -> bool
+    ensures { result ≡ is_none_or_member members.now proc }
+{
+    match proc {
+        None => true,
+        Some(proc) => is_among(members, proc),
+    }
+}
+
+pub fn is_above(seq: u32, numbers: &[Number]) -> bool
+    ensures { result ≡ is_above seq numbers.now }
+{
+    numbers.iter().any(|n| n.get() > seq)
+}
 
 impl RingState {
     ghost use Rattle.totem_ring.specs.Rings.{taker_of};
