@@ -13,7 +13,7 @@ use totem_configuration_rules::Observed;
 use totem_evs::{Fault, Pending, Run};
 use totem_judge::{View, observe};
 use totem_pass_ab::pass_a_and_b;
-use totem_table::{Changes, Table};
+use totem_table::Changes;
 
 /// What is known of a run that has passed A, B and C.
 #[derive(Drop)]
@@ -47,9 +47,8 @@ fn one_fault(alloc: Global, fault: Fault) -> Result<Vec<Fault>, AllocError>
 fn search(alloc: Global, run: &Run) -> Result<Vec<Fault>, AllocError>
     ensures { IfOk result (λ faults. ListsFirst run.now.logs faults.items) }
 {
-    let table = Table::build(alloc, run)?;
     let changes = Changes::of(alloc, run)?;
-    pass_a_and_b(alloc, run, table.as_ref(), &changes)
+    pass_a_and_b(alloc, run, &changes)
 }
 
 /// Does the passes for a run whose events have no order, because of this closed list.

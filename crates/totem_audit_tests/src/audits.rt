@@ -5,9 +5,8 @@ use totem_audit::{Verdict, Workers, audit, early};
 use totem_evs::{Run, read_run};
 use totem_ids::FromRead;
 use totem_pass_ab::{pass_a, pass_b};
-use totem_table::{
-    Changes, Row as Numbers, Table, is_once, numbers_tell_confs, numbers_tell_messages,
-};
+use totem_run_rules::{deliveries_are_once, sends_are_once};
+use totem_table::{Changes, Row as Numbers, Table, numbers_tell_confs, numbers_tell_messages};
 
 fn push_verdict(text: &mut String, verdict: &Verdict) -> Result<(), AllocError> {
     match verdict {
@@ -47,12 +46,11 @@ fn push_passes(alloc: Global, text: &mut String, run: &Run) -> Result<(), AllocE
 
 /// Adds whether each message is sent once and delivered once in each log, and the numbers of the entries, log by log.
 fn push_numbers(alloc: Global, text: &mut String, run: &Run) -> Result<(), AllocError> {
-    let Some(table) = Table::build(alloc, run)? else {
-        return text.push_str("no table");
-    };
+    let table = Table::build(alloc, run)?;
     numbers_tell_messages(run, &table);
     numbers_tell_confs(run, &table);
-    let once = is_once(alloc, run, &table)?;
+    let logs = run.logs.as_slice();
+    let once = sends_are_once(alloc, logs)? && deliveries_are_once(alloc, logs)?;
     write!(text, "{once}")?;
     push_rows(text, &table.rows)
 }
@@ -113,7 +111,7 @@ struct Row {
     told: &'static str,
 }
 
-const RUNS: [Row; 25] = [
+const RUNS: [Row; 27] = [
     Row {
         rule: "changes stand where the logs have them",
         logs: "log 1\nconf r4.1 1 2\nsend r4.1 a 4.1#1\nconf t8.1/1 1\nconf r8.1 1\nfail r8.1\nfailed\n\
@@ -133,6 +131,18 @@ const RUNS: [Row; 25] = [
         logs: "log 1\nconf r4.1 1\nsend r4.1 a 4.1#1\ndlv r4.1 4.1#1\ndlv r4.1 4.1#1\nopen\n",
         judge: Judge::Numbers,
         told: "false; 0 0 0 0",
+    },
+    Row {
+        rule: "a message that is sent twice is not sent once",
+        logs: "log 1\nconf r4.1 1\nsend r4.1 a 4.1#1\nsend r4.1 a 4.1#1\nopen\n",
+        judge: Judge::Numbers,
+        told: "false; 0 0 0",
+    },
+    Row {
+        rule: "messages with numbers far apart",
+        logs: "log 1\nconf r4.1 1\nsend r4.1 a 4.1#4000000000\nsend r4.1 a 4.1#1\ndlv r4.1 4.1#1\nfail r4.1\nfailed\n",
+        judge: Judge::Numbers,
+        told: "true; 0 1 0 0 0",
     },
     Row {
         rule: "a good run",

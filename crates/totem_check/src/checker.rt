@@ -18,7 +18,7 @@ use totem_judge::{View, observe};
 use totem_pass_ab::pass_a_and_b;
 use totem_pass_d::{Jobs, pass_d_of, pending_of};
 use totem_run_rules::waiting;
-use totem_table::{Changes, Table};
+use totem_table::Changes;
 
 fn first_of(mut faults: Vec<Fault>) -> Option<Fault>
     ensures { BeginsWith faults.items result }
@@ -35,8 +35,7 @@ fn early_fault(alloc: Global, run: &Run, changes: &Changes) -> Result<Option<Fau
     requires { AreChanges run.now.logs changes.now.rows.items }
     ensures { IfOk result (IsEarlyFault run.now.logs) }
 {
-    let table = Table::build(alloc, run)?;
-    Ok(first_of(pass_a_and_b(alloc, run, table.as_ref(), changes)?))
+    Ok(first_of(pass_a_and_b(alloc, run, changes)?))
 }
 
 /// Searches a certified run that has passed A and B for what it breaks in pass D, given what was observed of its configurations.

@@ -1,7 +1,7 @@
 //! Positions and closed lists of small runs, with the numbers and faults that docs/SPECIFICATIONS.md gives for them.
 use crate::values::{is_told, push_lines};
 use std::alloc::{AllocError, Global};
-use totem_cert::{Order, positions, positions_over};
+use totem_cert::{Order, positions};
 use totem_evs::{Run, read_run};
 use totem_ids::FromRead;
 
@@ -12,31 +12,21 @@ fn push_order(text: &mut String, order: &Order) -> Result<(), AllocError> {
     }
 }
 
-/// How the entries with a key are ordered: by counting over a table, or by sorting without one.
-#[derive(Clone, Copy)]
-enum Way {
-    Counting,
-    Sorting,
-}
-
 /// Returns a copy of the run's order.
-fn copied_order(alloc: Global, run: &Run, way: Way) -> Result<Order, AllocError> {
-    match way {
-        Way::Counting => positions(alloc, run)?.try_clone(alloc),
-        Way::Sorting => positions_over(alloc, run, None)?.try_clone(alloc),
-    }
+fn copied_order(alloc: Global, run: &Run) -> Result<Order, AllocError> {
+    positions(alloc, run)?.try_clone(alloc)
 }
 
-fn push_order_of(alloc: Global, text: &mut String, run: &Run, way: Way) -> Result<(), AllocError> {
-    push_order(text, &copied_order(alloc, run, way)?)
+fn push_order_of(alloc: Global, text: &mut String, run: &Run) -> Result<(), AllocError> {
+    push_order(text, &copied_order(alloc, run)?)
 }
 
 /// Returns the order of a run of these logs, or why there is no such run.
-fn told(alloc: Global, logs: &str, way: Way) -> Result<String, AllocError> {
+fn told(alloc: Global, logs: &str) -> Result<String, AllocError> {
     let bytes = format!(in alloc; "totem-run 1\n{logs}end\n")?;
     let mut text = String::new(alloc);
     match read_run(alloc, &mut FromRead::new(bytes.as_bytes())) {
-        Ok(run) => push_order_of(alloc, &mut text, &run, way)?,
+        Ok(run) => push_order_of(alloc, &mut text, &run)?,
         Err(fault) => text.push_str(fault.name())?,
     }
     Ok(text)
@@ -102,14 +92,12 @@ const RUNS: [Row; 8] = [
     },
 ];
 
-/// Small runs have the positions or closed lists that are worked out by hand, by counting and by sorting.
+/// Small runs have the positions or closed lists that are worked out by hand.
 #[test]
 fn small_runs_have_their_positions_or_closed_lists(rt: HostRuntime) -> Result<(), AllocError> {
     for row in &RUNS {
-        for way in [Way::Counting, Way::Sorting] {
-            let told = told(rt.alloc(), row.logs, way)?;
-            is_told(&rt, &told, row.order, row.rule);
-        }
+        let told = told(rt.alloc(), row.logs)?;
+        is_told(&rt, &told, row.order, row.rule);
     }
     Ok(())
 }

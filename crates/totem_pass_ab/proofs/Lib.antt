@@ -13,4 +13,3 @@ pub mod Originating
 pub mod Exact
 pub mod QuickSends
 pub mod QuickTest
-pub mod KnownSending

@@ -9,7 +9,7 @@ use Rattle.totem_evs.specs.Changes.{StaysInPlace}
 use Rattle.totem_evs.specs.ChangeFaults.{IsMisplaced, BreaksPlace}
 use Rattle.totem_evs.specs.Answers.{ComesFirst, IsLeastBreak}
 use Rattle.totem_evs.proofs.LogOf.{Rising, log_of_cases, log_of_at, in_order, less_or_not}
-use Rattle.totem_run_rules.proofs.Placed.{PlacedBefore, same_place}
+use Rattle.totem_run_rules.proofs.Placed.{EachBefore, same_place}
 
 -- a log that stays in place has no entry out of place
 pub placed_contradicts : (log : List Entry) (i : ℕ) → StaysInPlace log → IsMisplaced log i → ⊥
@@ -18,7 +18,7 @@ placed_contradicts log i ok (lt, inr (inl (x, names, never))) = never (ok.named 
 placed_contradicts log i ok (lt, inr (inr (k, x, before, fails))) = ok.final k i x fails before lt
 
 -- the first entry out of place, in a log after those that stay in place, is the first of the run
-pub least_at : (run : List Log) (k i n : ℕ) (log : Log) → Rising run → slice_get run k ≡ Some log → IsMisplaced log.entries i → PlacedBefore run k
+pub least_at : (run : List Log) (k i n : ℕ) (log : Log) → Rising run → slice_get run k ≡ Some log → IsMisplaced log.entries i → EachBefore StaysInPlace run k
     → ((j : ℕ) → j < i → IsMisplaced log.entries j → ⊥) → n ≡ i + 1 → IsLeastBreak run spec.Misplaced (record { proc = log.proc; at = n } ∷ [])
 least_at run k i n log rising at misplaced placed least e = record {
   holds = (i, e, rw (log_of_at run k log rising at) misplaced);

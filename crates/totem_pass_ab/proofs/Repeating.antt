@@ -1,5 +1,5 @@
 -- Entering sends and deliveries, and what it shows.
-use Rattle.std.proofs.Common.{◌≡◌, ◌≢◌, ◌⊎◌, ℕ, ◌+◌, inl, inr, List, [], ◌∷◌, slice_get, Option, Some, refl, sym, ap, subst, arith}
+use Rattle.std.proofs.Common.{◌≡◌, ◌≢◌, ◌⊎◌, ℕ, ◌+◌, inl, inr, List, [], ◌∷◌, slice_get, Option, Some, Bool, true, false, refl, sym, ap, subst, arith}
 use Rattle.std.specs.declared.cmp.Ordering.{Ordering}
 use Rattle.std.specs.Cmp.{IsTotalOrder}
 use Rattle.std.specs.BTreeMap.{BTreeMap}
@@ -13,8 +13,10 @@ use Rattle.totem_evs.specs.declared.entry.Entry.{Entry}
 use Rattle.totem_evs.specs.declared.entry.Entry.TheVariants.{Conf, Send, Deliver, Fail}
 use Rattle.totem_evs.specs.declared.log.Log.{Log}
 use Rattle.totem_evs.specs.Events.{log_of}
+use Rattle.totem_evs.specs.Delivery.{DeliversOnce}
 use Rattle.totem_pass_ab.specs.declared.keys.Delivery.{Delivery}
 use Rattle.totem_pass_ab.specs.Met.{IsMet, Knows}
+use Rattle.totem_run_rules.specs.Orderly.{DeliveriesAreOnce, SendsAreOnce}
 use Rattle.totem_table.specs.Registers.{Keeps, KnowsRun}
 use Rattle.totem_pass_ab.specs.Repeats.{KnowsAct}
 use Rattle.totem_table.specs.Search.{place, HoldsOfNone}
@@ -25,38 +27,58 @@ use Rattle.totem_pass_ab.proofs.Knowing.{meets_knows, meets_keeps}
 abbrev delivery : ℕ → MsgId → Delivery
 delivery p m = record { proc = p; message = m }
 
-module _ (by_message : MsgId → MsgId → Ordering) (by_delivery : Delivery → Delivery → Ordering) where
+pub once_each : (run : List Log) → SendsAreOnce run → DeliveriesAreOnce run → DeliversOnce run
+once_each run sends deliveries = record { one_send = sends.one; regular = sends.regular; one_delivery = deliveries.one }
+
+-- where no log delivers a message twice
+pub once_delivery : (run : List Log) (p i : ℕ) (m : MsgId) (x : ConfId) → slice_get (log_of run p) i ≡ Some (Deliver m x) → DeliveriesAreOnce run → HoldsOfNone (IsOne run (AreTwice p i (Deliver m x)))
+once_delivery run p i m x here once = record { none = λ places h. go places h }
+  where
+    go : (places : List Place) → IsOne run (AreTwice p i (Deliver m x)) places → ⊥
+    go [] h = h
+    go (f ∷ []) (j, js, (Deliver n y, at, (same, procs, other))) = other (once.one p i j m x y here (rw (procs, same) at))
+    go (f ∷ []) (j, js, (Conf y ns, at, h)) = h
+    go (f ∷ []) (j, js, (Send n y t, at, h)) = h
+    go (f ∷ []) (j, js, (Fail y, at, h)) = h
+    go (f ∷ g ∷ more) h = h
+
+module _ (by_message : MsgId → MsgId → Ordering) (by_delivery : Delivery → Delivery → Ordering) (only : Bool) where
   pub keeps_sends : IsTotalOrder by_message → (s t : BTreeMap MsgId (Option Place)) (d : BTreeMap Delivery (Option Place)) (m : MsgId) (e : Place) → IsMet by_message s t m e
-      → Keeps (KnowsAct by_message by_delivery s d) (KnowsAct by_message by_delivery t d)
+      → Keeps (KnowsAct by_message by_delivery s d only) (KnowsAct by_message by_delivery t d only)
   keeps_sends total s t d m e met = record {
     each = λ p log i h. record { sent = λ n x at. meets_keeps by_message total s t m e met n (place p i) (h.sent n x at); delivered = h.delivered };
   }
 
   pub keeps_deliveries : IsTotalOrder by_delivery → (s : BTreeMap MsgId (Option Place)) (d f : BTreeMap Delivery (Option Place)) (k : Delivery) (e : Place) → IsMet by_delivery d f k e
-      → Keeps (KnowsAct by_message by_delivery s d) (KnowsAct by_message by_delivery s f)
+      → Keeps (KnowsAct by_message by_delivery s d only) (KnowsAct by_message by_delivery s f only)
   keeps_deliveries total s d f k e met = record {
-    each = λ p log i h. record { sent = h.sent; delivered = λ n x at. meets_keeps by_delivery total d f k e met (record { proc = p; message = n }) (place p i) (h.delivered n x at) };
+    each = λ p log i h. record { sent = h.sent; delivered = λ entered n x at. meets_keeps by_delivery total d f k e met (record { proc = p; message = n }) (place p i) (h.delivered entered n x at) };
   }
 
   pub enters_delivery : IsTotalOrder by_delivery → (s : BTreeMap MsgId (Option Place)) (d f : BTreeMap Delivery (Option Place)) (p : ℕ) (log : List Entry) (i : ℕ) (m : MsgId) (x : ConfId) → slice_get log i ≡ Some (Deliver m x)
-      → IsMet by_delivery d f (record { proc = p; message = m }) (place p i) → KnowsAct by_message by_delivery s f p log i
+      → IsMet by_delivery d f (record { proc = p; message = m }) (place p i) → KnowsAct by_message by_delivery s f only p log i
   enters_delivery total s d f p log i m x at met = record {
     sent = λ n y (v, at'). absurd cc;
-    delivered = λ n y at'. (let same : m ≡ n = (let one : Deliver m x ≡ Deliver n y = cc in cc) in
+    delivered = λ entered n y at'. (let same : m ≡ n = (let one : Deliver m x ≡ Deliver n y = cc in cc) in
         subst (λ (z : MsgId). Knows by_delivery f (record { proc = p; message = z }) (place p i)) same (meets_knows by_delivery total d f (record { proc = p; message = m }) (place p i) met));
   }
 
   pub enters_nothing : (s : BTreeMap MsgId (Option Place)) (d : BTreeMap Delivery (Option Place)) (p : ℕ) (log : List Entry) (i : ℕ) (e : Entry) → slice_get log i ≡ Some e
-      → ((m : MsgId) (x : ConfId) (v : Service) → e ≡ Send m x v → ⊥) → ((m : MsgId) (x : ConfId) → e ≡ Deliver m x → ⊥) → KnowsAct by_message by_delivery s d p log i
+      → ((m : MsgId) (x : ConfId) (v : Service) → e ≡ Send m x v → ⊥) → ((m : MsgId) (x : ConfId) → e ≡ Deliver m x → ⊥) → KnowsAct by_message by_delivery s d only p log i
   enters_nothing s d p log i e at no_send no_delivery = record {
     sent = λ n y (v, at'). absurd (no_send n y v cc);
-    delivered = λ n y at'. absurd (no_delivery n y cc);
+    delivered = λ entered n y at'. absurd (no_delivery n y cc);
   }
 
+  -- a delivery that is left out
+  pub leaves_out : (s : BTreeMap MsgId (Option Place)) (d : BTreeMap Delivery (Option Place)) (p : ℕ) (log : List Entry) (i : ℕ) (m : MsgId) (x : ConfId) → slice_get log i ≡ Some (Deliver m x)
+      → only ≡ true → KnowsAct by_message by_delivery s d only p log i
+  leaves_out s d p log i m x at left_out = record { sent = λ n y (v, at'). absurd cc; delivered = λ entered n y at'. absurd cc }
+
   -- a message that was sent at one place only was not sent twice
-  pub only_send : (run : List Log) (s : BTreeMap MsgId (Option Place)) (d : BTreeMap Delivery (Option Place)) (p i : ℕ) (m : MsgId) (x : ConfId) (v : Service) → KnowsRun (KnowsAct by_message by_delivery s d) run
+  pub only_send : (run : List Log) (s : BTreeMap MsgId (Option Place)) (d : BTreeMap Delivery (Option Place)) (p i : ℕ) (m : MsgId) (x : ConfId) (v : Service) → KnowsRun (KnowsAct by_message by_delivery s d only) run
       → tree.get by_message s m ≡ Some (Some (place p i)) → HoldsOfNone (IsOne run (AreTwice p i (Send m x v)))
-  only_send run s d p i m x v known only = record { none = λ places h. go places h }
+  only_send run s d p i m x v known once = record { none = λ places h. go places h }
     where
       apart : (q j : ℕ) → place q j ≡ place p i → (p ≢ q) ⊎ (i ≢ j) → ⊥
       apart q j same (inl other) = other (sym (ap (λ (e : Place). e.proc) same))
@@ -65,7 +87,7 @@ module _ (by_message : MsgId → MsgId → Ordering) (by_delivery : Delivery →
       go : (places : List Place) → IsOne run (AreTwice p i (Send m x v)) places → ⊥
       go [] h = h
       go (f ∷ []) (j, js, (Send n y t, at, (same, other))) =
-          let met = ((known.each f.proc j (slice_get_within (log_of run f.proc) j (Send n y t) at)).sent n y (t, at)).only (place p i) (rw same at only) in
+          let met = ((known.each f.proc j (slice_get_within (log_of run f.proc) j (Send n y t) at)).sent n y (t, at)).only (place p i) (rw same at once) in
           apart f.proc j (sym met) other
       go (f ∷ []) (j, js, (Conf y ns, at, h)) = h
       go (f ∷ []) (j, js, (Deliver n y, at, h)) = h
@@ -73,16 +95,16 @@ module _ (by_message : MsgId → MsgId → Ordering) (by_delivery : Delivery →
       go (f ∷ g ∷ more) h = h
 
   -- a message that a process delivered at one place only was not delivered twice
-  pub only_delivery : (run : List Log) (s : BTreeMap MsgId (Option Place)) (d : BTreeMap Delivery (Option Place)) (p i : ℕ) (m : MsgId) (x : ConfId) → KnowsRun (KnowsAct by_message by_delivery s d) run
+  pub only_delivery : (run : List Log) (s : BTreeMap MsgId (Option Place)) (d : BTreeMap Delivery (Option Place)) (p i : ℕ) (m : MsgId) (x : ConfId) → only ≡ false → KnowsRun (KnowsAct by_message by_delivery s d only) run
       → tree.get by_delivery d (record { proc = p; message = m }) ≡ Some (Some (place p i)) → HoldsOfNone (IsOne run (AreTwice p i (Deliver m x)))
-  only_delivery run s d p i m x known only = record { none = λ places h. go places h }
+  only_delivery run s d p i m x entered known once = record { none = λ places h. go places h }
     where
       go : (places : List Place) → IsOne run (AreTwice p i (Deliver m x)) places → ⊥
       go [] h = h
       go (f ∷ []) (j, js, (Deliver n y, at, (same, procs, other))) =
           let key : delivery p m ≡ delivery f.proc n = rw (procs, same) refl in
-          let met = ((known.each f.proc j (slice_get_within (log_of run f.proc) j (Deliver n y) at)).delivered n y at).only (place p i)
-          (subst (λ (k : Delivery). tree.get by_delivery d k ≡ Some (Some (place p i))) key only) in
+          let met = ((known.each f.proc j (slice_get_within (log_of run f.proc) j (Deliver n y) at)).delivered entered n y at).only (place p i)
+          (subst (λ (k : Delivery). tree.get by_delivery d k ≡ Some (Some (place p i))) key once) in
           other (let ats : i + 1 ≡ j + 1 = ap (λ (e : Place). e.at) met in omega arith)
       go (f ∷ []) (j, js, (Conf y ns, at, h)) = h
       go (f ∷ []) (j, js, (Send n y t, at, h)) = h

@@ -1,7 +1,6 @@
 pub mod Pairs
 pub mod Bad
 pub mod Turns
-pub mod Sent
 pub mod Listed
 pub mod Met
 pub mod Repeats

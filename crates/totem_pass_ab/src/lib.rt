@@ -3,8 +3,8 @@
 //! What may be relied on:
 //! - `pass_a` lists, of 1.4, 2.1, 2.2, 2.3 and 2.4, each that the run breaks, with the least events that break it, and nothing for
 //!   those that the run meets (`Lists` with `pass_a`, totem_evs specs/Answers). `pass_b` does the same for 1.3.
-//! - `pass_a_and_b` lists the faults of A, or those of B if A has none (`ListsFirst`, specs/Listed). It takes a table and the
-//!   changes of the run, which make it quick.
+//! - `pass_a_and_b` lists the faults of A, or those of B if A has none (`ListsFirst`, specs/Listed). It takes the changes
+//!   of the run.
 //!
 //! These contracts hold for every run; a run that breaks 2.3 or 2.4 may make pass B slow. The checker uses this crate as well: if
 //! the judge says no, passes A, B and D name what is broken.
@@ -18,7 +18,6 @@ mod followed;
 mod forms;
 mod keys;
 mod kinds;
-mod known_sends;
 mod met;
 mod misplaced;
 mod origins;

@@ -1,5 +1,5 @@
 //! Finds the least list of one entry that is bad alone, or of two that are bad together.
-ghost use Rattle.std.specs.Prelude.{◌≡◌, ◌↔◌, ℕ, ◌<◌, ◌≤◌, List, IsTrue, IfOk, MatchOption, length};
+ghost use Rattle.std.specs.Prelude.{◌≡◌, ◌↔◌, ℕ, ◌<◌, ◌≤◌, List, IsTrue, IfOk, MatchOption, Some, length, slice_get};
 ghost use Rattle.std.specs.Bool.{OnFalse};
 ghost use Rattle.totem_ids.specs.declared.place.Place.{Place};
 ghost use Rattle.totem_evs.specs.declared.entry.Entry.{Entry};
@@ -42,7 +42,8 @@ pub trait Test {
 
     /// Returns `false` only if no entry is bad together with this one: a quick test that can make the search unnecessary.
     fn may_pair(&self, first: &Standing) -> bool
-        requires { first.now.at < 1000000 }
+        requires few { first.now.at < 1000000 }
+        requires here { slice_get (log_of (of self.now) first.now.proc) first.now.at ≡ Some first.now.entry.now }
         ensures { OnFalse result (HoldsOfNone (IsOne (of self.now) (pair self.now first.now.proc first.now.at first.now.entry.now))) };
 }
 

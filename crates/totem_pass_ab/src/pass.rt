@@ -1,27 +1,20 @@
 //! The passes of the audit (docs/SPECIFICATIONS.md, "Passes").
-ghost use Rattle.std.specs.Prelude.{IfOk, IfSome};
+ghost use Rattle.std.specs.Prelude.{IfOk};
 ghost use Rattle.totem_evs.specs.Answers.{Lists, pass_a, pass_b};
-ghost use Rattle.totem_table.specs.Tables.{IsTable};
 ghost use Rattle.totem_table.specs.Changes.{AreChanges};
 ghost use Rattle.totem_pass_ab.specs.Listed.{ListsFirst};
 
 use crate::{configuration, ends, misplaced, turns, twice, unsent};
 use std::alloc::{AllocError, Global};
 use totem_evs::{Fault, Run, SpecNo};
-use totem_table::{Changes, Table, with_found};
+use totem_table::{Changes, with_found};
 
-/// Pass A, made quick by a table of the run.
-fn pass_a_over(
-    alloc: Global,
-    run: &Run,
-    table: Option<&Table>,
-    changes: &Changes,
-) -> Result<Vec<Fault>, AllocError>
-    requires table { IfSome table (λ t. IsTable run.now.logs t.now) }
-    requires changes { AreChanges run.now.logs changes.now.rows.items }
+/// Pass A, given the changes of the run.
+fn pass_a_over(alloc: Global, run: &Run, changes: &Changes) -> Result<Vec<Fault>, AllocError>
+    requires { AreChanges run.now.logs changes.now.rows.items }
     ensures { IfOk result (λ faults. Lists run.now.logs pass_a faults.items) }
 {
-    let once = twice::find(alloc, run, table)?;
+    let once = twice::find(alloc, run)?;
     let sends = with_found(Vec::new(alloc), SpecNo::Twice, once)?;
     let last = with_found(sends, SpecNo::End, ends::find(alloc, run)?)?;
     let places = with_found(last, SpecNo::Misplaced, misplaced::find(alloc, run)?)?;
@@ -33,17 +26,12 @@ fn pass_a_over(
     with_found(forms, SpecNo::Turns, turns::find(alloc, run, changes)?)
 }
 
-/// Pass B, made quick by a table of the run.
-fn pass_b_over(
-    alloc: Global,
-    run: &Run,
-    table: Option<&Table>,
-    changes: &Changes,
-) -> Result<Vec<Fault>, AllocError>
+/// Pass B, given the changes of the run.
+fn pass_b_over(alloc: Global, run: &Run, changes: &Changes) -> Result<Vec<Fault>, AllocError>
     requires { AreChanges run.now.logs changes.now.rows.items }
     ensures { IfOk result (λ faults. Lists run.now.logs pass_b faults.items) }
 {
-    let unsent = unsent::find(alloc, run, table, changes)?;
+    let unsent = unsent::find(alloc, run, changes)?;
     with_found(Vec::new(alloc), SpecNo::Unsent, unsent)
 }
 
@@ -52,9 +40,8 @@ fn pass_b_over(
 pub fn pass_a(alloc: Global, run: &Run) -> Result<Vec<Fault>, AllocError>
     ensures { IfOk result (λ faults. Lists run.now.logs pass_a faults.items) }
 {
-    let table = Table::build(alloc, run)?;
     let changes = Changes::of(alloc, run)?;
-    pass_a_over(alloc, run, table.as_ref(), &changes)
+    pass_a_over(alloc, run, &changes)
 }
 
 /// Pass B: the least event that breaks 1.3, if one does. `Err` means out of memory, and says nothing about the run. The pass is made
@@ -62,25 +49,18 @@ pub fn pass_a(alloc: Global, run: &Run) -> Result<Vec<Fault>, AllocError>
 pub fn pass_b(alloc: Global, run: &Run) -> Result<Vec<Fault>, AllocError>
     ensures { IfOk result (λ faults. Lists run.now.logs pass_b faults.items) }
 {
-    let table = Table::build(alloc, run)?;
     let changes = Changes::of(alloc, run)?;
-    pass_b_over(alloc, run, table.as_ref(), &changes)
+    pass_b_over(alloc, run, &changes)
 }
 
-/// Passes A and B, made quick by a table of the run and the places of its changes: the faults of pass A, or if it has none those of pass B.
-pub fn pass_a_and_b(
-    alloc: Global,
-    run: &Run,
-    table: Option<&Table>,
-    changes: &Changes,
-) -> Result<Vec<Fault>, AllocError>
-    requires table { IfSome table (λ t. IsTable run.now.logs t.now) }
-    requires changes { AreChanges run.now.logs changes.now.rows.items }
+/// Passes A and B, given the changes of the run: the faults of pass A, or if it has none those of pass B.
+pub fn pass_a_and_b(alloc: Global, run: &Run, changes: &Changes) -> Result<Vec<Fault>, AllocError>
+    requires { AreChanges run.now.logs changes.now.rows.items }
     ensures { IfOk result (λ faults. ListsFirst run.now.logs faults.items) }
 {
-    let faults = pass_a_over(alloc, run, table, changes)?;
+    let faults = pass_a_over(alloc, run, changes)?;
     if !faults.is_empty() {
         return Ok(faults);
     }
-    pass_b_over(alloc, run, table, changes)
+    pass_b_over(alloc, run, changes)
 }

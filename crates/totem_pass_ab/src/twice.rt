@@ -1,13 +1,12 @@
 //! 1.4: each message is sent and delivered once (docs/SPECIFICATIONS.md, "1 Basic delivery").
-ghost use Rattle.std.specs.Prelude.{◌≡◌, ◌↔◌, IsTrue, IfOk, IfSome};
+ghost use Rattle.std.specs.Prelude.{◌≡◌, ◌↔◌, IsTrue, IfOk};
 ghost use Rattle.totem_evs.specs.Events.{IsTransitional};
 ghost use Rattle.std.specs.Bool.{OnTrue};
 ghost use Rattle.totem_evs.specs.Answers.{Finds};
-ghost use Rattle.totem_evs.specs.Delivery.{DeliversOnce};
-ghost use Rattle.totem_table.specs.Tables.{IsTable};
 ghost use Rattle.totem_pass_ab.specs.Bad.{IsSendBetween, AreTwice};
 ghost use Rattle.totem_table.specs.Registers.{KnowsRun};
 ghost use Rattle.totem_pass_ab.specs.Repeats.{KnowsAct};
+ghost use Rattle.totem_run_rules.specs.Orderly.{DeliveriesAreOnce};
 
 use crate::keys::Delivery;
 use crate::kinds::is_transitional;
@@ -16,14 +15,16 @@ use crate::repeats::Repeats;
 use std::alloc::{AllocError, Global};
 use totem_evs::{Entry, Places, Run, SpecNo};
 use totem_ids::{MsgId, Place};
-use totem_table::{Table, enter_run, is_once};
+use totem_run_rules::{deliveries_are_once, sends_are_once};
+use totem_table::enter_run;
 
 /// Looks for sends in transitional configurations, and for what is sent or delivered twice.
 #[derive(Drop)]
 struct Twice<'r> {
     run: &'r Run,
     repeats: Repeats,
-    ghost known: { ∥ KnowsRun (KnowsAct ⟦<MsgId as Ord>⟧.cmp ⟦<Delivery as Ord>⟧.cmp repeats.sends.values repeats.deliveries.values) run.now.logs ∥₁ },
+    ghost known: { ∥ KnowsRun (KnowsAct ⟦<MsgId as Ord>⟧.cmp ⟦<Delivery as Ord>⟧.cmp repeats.sends.values repeats.deliveries.values repeats.sends_only) run.now.logs ∥₁ },
+    ghost once: { ∥ OnTrue repeats.sends_only (DeliveriesAreOnce run.now.logs) ∥₁ },
 }
 
 impl Test for Twice<'_> {
@@ -67,33 +68,23 @@ impl Test for Twice<'_> {
             Entry::Deliver(message, _) => {
                 let message = *message;
                 let delivery = Delivery { proc, message };
-                !self.repeats.deliveries.is_only(&delivery, &place)
+                !self.repeats.sends_only && !self.repeats.deliveries.is_only(&delivery, &place)
             }
             _ => false,
         }
     }
 }
 
-/// Returns `true` only if the run meets 1.4: a quick test over the numbers of the messages. `false` means nothing.
-fn is_met(alloc: Global, run: &Run, table: Option<&Table>) -> Result<bool, AllocError>
-    requires { IfSome table (λ t. IsTable run.now.logs t.now) }
-    ensures { IfOk result (λ met. OnTrue met (DeliversOnce run.now.logs)) }
-{
-    match table {
-        Some(table) => is_once(alloc, run, table),
-        None => Ok(false),
-    }
-}
-
-/// Finds the least events that break 1.4. A table of the run makes it quick.
-pub fn find(alloc: Global, run: &Run, table: Option<&Table>) -> Result<Option<Places>, AllocError>
-    requires { IfSome table (λ t. IsTable run.now.logs t.now) }
+/// Finds the least events that break 1.4.
+pub fn find(alloc: Global, run: &Run) -> Result<Option<Places>, AllocError>
     ensures { IfOk result (Finds run.now.logs SpecNo.Twice) }
 {
-    if is_met(alloc, run, table)? {
+    let logs = run.logs.as_slice();
+    let sends_only = deliveries_are_once(alloc, logs)?;
+    if sends_only && sends_are_once(alloc, logs)? {
         return Ok(None);
     }
-    let mut repeats = Repeats::new(alloc);
+    let mut repeats = Repeats::new(alloc, sends_only);
     enter_run(&mut repeats, alloc, run)?;
     let twice = Twice { run, repeats };
     least_bad(&twice, alloc)

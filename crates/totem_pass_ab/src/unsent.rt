@@ -13,12 +13,11 @@ ghost use Rattle.totem_pass_ab.specs.Followed.{AreFollowed};
 use crate::follow::is_in;
 use crate::followed::Followed;
 use crate::keys::Sending;
-use crate::known_sends::is_met;
 use crate::sendings::Sendings;
 use std::alloc::{AllocError, Global};
 use totem_evs::{Entry, Places, Run, SpecNo};
 use totem_ids::{ConfId, MsgId, Place, Proc, RingId};
-use totem_table::{Change, Changes, Relation, Table, enter_changes, enter_run, least, places_of};
+use totem_table::{Change, Changes, Relation, enter_changes, enter_run, least, places_of};
 
 /// Looks for the sends that one delivery may be of.
 #[derive(Clone, Copy)]
@@ -145,19 +144,11 @@ impl Relation for Unsent<'_> {
     }
 }
 
-/// Finds the least events that break 1.3. A table of the run makes it quick.
-pub fn find(
-    alloc: Global,
-    run: &Run,
-    table: Option<&Table>,
-    changes: &Changes,
-) -> Result<Option<Places>, AllocError>
+/// Finds the least events that break 1.3.
+pub fn find(alloc: Global, run: &Run, changes: &Changes) -> Result<Option<Places>, AllocError>
     requires { AreChanges run.now.logs changes.now.rows.items }
     ensures { IfOk result (Finds run.now.logs SpecNo.Unsent) }
 {
-    if is_met(alloc, run, table, changes)? {
-        return Ok(None);
-    }
     let mut sendings = Sendings::new(alloc);
     enter_run(&mut sendings, alloc, run)?;
     let mut followed = Followed::new(alloc);

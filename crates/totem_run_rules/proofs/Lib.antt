@@ -1,6 +1,6 @@
 pub mod Staying
 pub mod Passing
-pub mod SentOnce
+pub mod Distinct
 pub mod Decisions
 pub mod Exact
 pub mod Behind

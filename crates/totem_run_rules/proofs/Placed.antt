@@ -1,26 +1,35 @@
--- The logs of a run stay in place, up to one of them.
+-- What holds of each log of a run, log after log; and that they stay in place.
 use Rattle.std.proofs.Common.{◌≡◌, ℕ, ◌+◌, ◌<◌, ◌≤◌, inl, inr, List, [], length, slice_get, Some, refl, arith}
 use Rattle.std.proofs.lemmas.Option.{slice_get_within}
 use Rattle.totem_ids.specs.declared.place.Place.{Place}
+use Rattle.totem_evs.specs.declared.entry.Entry.{Entry}
 use Rattle.totem_evs.specs.declared.log.Log.{Log}
 use Rattle.totem_evs.specs.Changes.{StaysInPlace}
+use Rattle.totem_evs.specs.Events.{log_of}
 use Rattle.totem_evs.proofs.LogOf.{log_of_cases, less_or_not}
 use Rattle.totem_run_rules.specs.Orderly.{AllStayInPlace}
 
--- the logs before the one at k stay in place
-pub record PlacedBefore (run : List Log) (k : ℕ) : Type 0 where
-  pub each : (j : ℕ) (log : Log) → j < k → slice_get run j ≡ Some log → StaysInPlace log.entries
+module _ (P : List Entry → Type 0) where
+  -- P holds of each log before the one at k
+  pub record EachBefore (run : List Log) (k : ℕ) : Type 0 where
+    pub each : (j : ℕ) (log : Log) → j < k → slice_get run j ≡ Some log → P log.entries
 
-pub one_more : (run : List Log) (k : ℕ) (log : Log) → slice_get run k ≡ Some log → StaysInPlace log.entries → PlacedBefore run k → PlacedBefore run (k + 1)
-one_more run k log at here before = record {
-  each = λ j l lt at_j. elim (less_or_not j k) [
-    | inl under ↦ before.each j l under at_j
-    | inr rest ↦ elim rest [
-      | inl over ↦ absurd (omega arith)
-      | inr same ↦ let same_log : log ≡ l = (let h : slice_get run k ≡ Some l = rw same at at_j in cc) in rw same_log at here
-    ]
-  ];
-}
+  pub one_more : (run : List Log) (k : ℕ) (log : Log) → slice_get run k ≡ Some log → P log.entries → EachBefore run k → EachBefore run (k + 1)
+  one_more run k log at here before = record {
+    each = λ j l lt at_j. elim (less_or_not j k) [
+      | inl under ↦ before.each j l under at_j
+      | inr rest ↦ elim rest [
+        | inl over ↦ absurd (omega arith)
+        | inr same ↦ let same_log : log ≡ l = (let h : slice_get run k ≡ Some l = rw same at at_j in cc) in rw same_log at here
+      ]
+    ];
+  }
+
+  pub each_process : (run : List Log) (k : ℕ) → P [] → length run ≤ k → EachBefore run k → (p : ℕ) → P (log_of run p)
+  each_process run k empty end before p = elim (log_of_cases run p) [
+    | inl none ↦ rw none empty
+    | inr found ↦ rw found.4 (before.each found.0 found.1 (omega (arith, slice_get_within run found.0 found.1 found.2)) found.2)
+  ]
 
 empty_placed : StaysInPlace []
 empty_placed = record {
@@ -29,13 +38,8 @@ empty_placed = record {
   final = λ i j x fails lt below. omega arith;
 }
 
-pub all_logs : (run : List Log) (k : ℕ) → length run ≤ k → PlacedBefore run k → AllStayInPlace run
-all_logs run k end placed = record {
-  each = λ p. elim (log_of_cases run p) [
-    | inl none ↦ rw none empty_placed
-    | inr found ↦ rw found.4 (placed.each found.0 found.1 (omega (arith, slice_get_within run found.0 found.1 found.2)) found.2)
-  ];
-}
+pub all_logs : (run : List Log) (k : ℕ) → length run ≤ k → EachBefore StaysInPlace run k → AllStayInPlace run
+all_logs run k end placed = record { each = each_process StaysInPlace run k empty_placed end placed }
 
 -- places of one process and one number are one
 pub same_place : (p n : ℕ) (f : Place) → p ≡ f.proc → n ≡ f.at → record { proc = p; at = n } ≡ f

@@ -10,6 +10,7 @@ use Rattle.totem_evs.specs.Changes.{Names, NamesOnly, StandsIn, StaysInPlace}
 use Rattle.totem_evs.specs.ChangeFaults.{IsMisplaced}
 use Rattle.totem_run_rules.specs.Misplaced.{Fits, standing_after}
 use Rattle.totem_evs.proofs.LogOf.{less_or_not}
+use Rattle.totem_evs.proofs.Standing.{one_standing}
 
 -- what is known before the entry at i
 pub record Knows (log : List Entry) (i : ℕ) (standing : Option ConfId) (failed : Bool) : Type 0 where
@@ -19,20 +20,6 @@ pub record Knows (log : List Entry) (i : ℕ) (standing : Option ConfId) (failed
   pub begins : 0 < i → IsChange log 0
   pub named : (k : ℕ) (x : ConfId) → k < i → Names log k x → StandsIn log k x
   pub final : (j k : ℕ) (x : ConfId) → Fails log j x → j < k → k < i → ⊥
-
-same_change : (log : List Entry) (i j : ℕ) (x y : ConfId) → i ≡ j → ChangesTo log i x → ChangesTo log j y → x ≡ y
-same_change log i j x y e (ms, h) (ns, k) = let at : slice_get log j ≡ Some (Conf x ms) = rw e at h in cc
-
--- a log is in one configuration at a time
-pub one_standing : (log : List Entry) (i : ℕ) (x y : ConfId) → StandsIn log i x → StandsIn log i y → x ≡ y
-one_standing log i x y a b =
-    elim (less_or_not a.from b.from) [
-      | inl lt ↦ absurd (a.none_between b.from lt b.before (y, b.change))
-      | inr rest ↦ elim rest [
-        | inl gt ↦ absurd (b.none_between a.from gt a.before (x, a.change))
-        | inr same ↦ same_change log a.from b.from x y same a.change b.change
-      ]
-    ]
 
 -- two configurations that one entry names are one
 names_one : (e : Entry) (x y : ConfId) → NamesOnly e x → NamesOnly e y → x ≡ y

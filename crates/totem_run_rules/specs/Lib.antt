@@ -1,6 +1,6 @@
 pub mod Past
 pub mod Orderly
-pub mod SendsKnown
+pub mod Once
 pub mod Misplaced
 pub mod Succession
 pub mod FirstChanges

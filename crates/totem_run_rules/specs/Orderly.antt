@@ -4,7 +4,7 @@ use Rattle.std.specs.Prelude.{◌≡◌, ℕ, List, Contains}
 use Rattle.totem_ids.specs.declared.conf.ConfId.{ConfId}
 use Rattle.totem_ids.specs.declared.message.MsgId.{MsgId}
 use Rattle.totem_evs.specs.declared.log.Log.{Log}
-use Rattle.totem_evs.specs.Events.{ChangesWith, Sends, IsRegular, log_of}
+use Rattle.totem_evs.specs.Events.{ChangesWith, Delivers, Sends, IsRegular, log_of}
 use Rattle.totem_evs.specs.Delivery.{DeliversOnce}
 use Rattle.totem_evs.specs.Changes.{StaysInPlace, IsOneConfiguration}
 use Rattle.totem_evs.specs.Answers.{TakeTurns}
@@ -13,6 +13,10 @@ use Rattle.totem_evs.specs.Answers.{TakeTurns}
 pub record SendsAreOnce (run : List Log) : Type 0 where
   pub one : (p i q j : ℕ) (m : MsgId) (x y : ConfId) → Sends (log_of run p) i m x → Sends (log_of run q) j m y → (p ≡ q) × (i ≡ j)
   pub regular : (p i : ℕ) (m : MsgId) (x : ConfId) → Sends (log_of run p) i m x → IsRegular x
+
+-- 1.4: one delivery of each message in each log
+pub record DeliveriesAreOnce (run : List Log) : Type 0 where
+  pub one : (p i j : ℕ) (m : MsgId) (x y : ConfId) → Delivers (log_of run p) i m x → Delivers (log_of run p) j m y → i ≡ j
 
 -- 2.2
 pub record AllStayInPlace (run : List Log) : Type 0 where

@@ -1,8 +1,9 @@
 //! The rules of the judge for a whole run: what specifications 1.4 and 2 require of it, and which processes wait for which.
 //!
 //! What may be relied on, by definitions of specs/Orderly and of totem_evs:
-//! - A `true` of `sends_are_once`, `all_stay_in_place`, `changes_agree` or `end_together` means that the run meets the rule
-//!   (`SendsAreOnce`, `AllStayInPlace`, `ChangesAgree`, `EndsTogether`). What a `false` means is left open.
+//! - A `true` of `sends_are_once`, `deliveries_are_once`, `all_stay_in_place`, `changes_agree` or `end_together` means that the run
+//!   meets the rule (`SendsAreOnce`, `DeliveriesAreOnce`, `AllStayInPlace`, `ChangesAgree`, `EndsTogether`). What a `false` means is
+//!   left open.
 //! - A `true` of `is_orderly` means that a run with a certificate meets 1.4 and 2.2 to 2.4 (`IsOrderly`).
 //! - `first_misplaced` returns the first entry of a log that breaks 2.2, and `first_end_alone` the first of a run that breaks 2.1;
 //!   or `None`, exactly if there is none (`IsMisplaced`, `IsLeastBreak`).
@@ -15,8 +16,8 @@
 mod changes;
 mod ends;
 mod misplaced;
+mod once;
 mod orderly;
-mod sends;
 mod standing;
 mod succession;
 mod waitings;
@@ -24,8 +25,8 @@ mod waitings;
 pub use changes::changes_agree;
 pub use ends::{end_together, first_end_alone};
 pub use misplaced::{all_stay_in_place, first_misplaced};
+pub use once::{deliveries_are_once, sends_are_once};
 pub use orderly::is_orderly;
-pub use sends::sends_are_once;
 pub use standing::has_failed;
 pub use succession::{is_wrong, walk_to_change};
 pub use waitings::{in_order, waiting};

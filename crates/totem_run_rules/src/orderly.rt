@@ -6,7 +6,7 @@ ghost use Rattle.totem_run_rules.specs.Orderly.{IsOrderly};
 
 use crate::changes::changes_agree;
 use crate::misplaced::all_stay_in_place;
-use crate::sends::sends_are_once;
+use crate::once::sends_are_once;
 use std::alloc::{AllocError, Global};
 use totem_evs::Run;
 

@@ -21,7 +21,7 @@ pub loop-log-preserved : goal.loop-log-preserved
 loop-log-preserved c =
     let at = slice_get_read c.as_slice-log-items.result.now _ c.loop-log.log-index c.log-item.result refl c.loop-log-test.true c.log-item.is in
     let entries = ap (λ (l : LogRecord). l.entries) c.log.view_is in
-    one_more _ _ _ at (rw (c.as_slice.ensures.value ∙ entries) at (c.in_default.ensures.none)) c.loop-log.invariant
+    one_more _ _ _ _ at (rw (c.as_slice.ensures.value ∙ entries) at (c.in_default.ensures.none)) c.loop-log.invariant
 
 pub returns-clause-none : goal.returns-clause-none
 returns-clause-none c =
