@@ -1,7 +1,7 @@
 use Rattle.std.proofs.Common.{◌∙◌, ap}
 use Rattle.totem_evs.specs.LogRecord.{LogRecord}
 use Rattle.totem_cert.proofs.GiveSteps.{mate_decided, no_head}
-use Rattle.totem_cert.proofs.give.is_head_mate.Goals as goal
+use Rattle.totem_cert.proofs.mates.is_head_mate.Goals as goal
 
 pub returns-then-head-entries : goal.returns-then-head-entries
 returns-then-head-entries c =

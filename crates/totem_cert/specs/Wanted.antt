@@ -1,5 +1,5 @@
--- Entries that keep a class from being ready, among those with its key.
-use Rattle.std.specs.Prelude.{◌≡◌, ◌⊎◌, ℕ, ◌<◌, ◌≤◌, List, length, slice_get, Bool, false, IsTrue, Option, Some, None}
+-- The wanted entries, among those with one key.
+use Rattle.std.specs.Prelude.{◌≡◌, ◌⊎◌, ℕ, ◌<◌, ◌≤◌, List, length, slice_get, false, IsTrue, Option, Some, None}
 use Rattle.totem_evs.specs.Certificates.{Numbering}
 use Rattle.totem_ids.specs.declared.place.Place.{Place}
 use Rattle.totem_evs.specs.declared.log.Log.{Log}
@@ -9,6 +9,7 @@ use Rattle.totem_cert.specs.Search.{place}
 use Rattle.totem_cert.specs.declared.key.Key.{Key}
 use Rattle.totem_cert.specs.declared.key.KeyedEntry.{KeyedEntry}
 
+-- how many numbers the line has, if there is one
 abbrev pub count_of : Option Numbering → ℕ
 count_of (Some line) = length line.numbers
 count_of None = 0
@@ -16,23 +17,6 @@ count_of None = 0
 -- how many entries of the k-th log have a number
 abbrev pub given_at : List Numbering → ℕ → ℕ
 given_at lines k = count_of (slice_get lines k)
-
--- an entry of the class is after the first entry of its log without a number, or a send has no number
-abbrev pub StandsBehind : Bool → ℕ → ℕ → Type 0
-StandsBehind shares given at = (IsTrue shares × (given < at)) ⊎ ((shares ≡ false) × (given ≤ at))
-
--- the entry keeps the class of a key from being ready
-abbrev pub EntryKeeps : List Numbering → Key → KeyedEntry → Type 0
-EntryKeeps lines key m = (m.key ≡ key) × StandsBehind m.shares (given_at lines m.log) m.at
-
-pub record KeepsAt (lines : List Numbering) (keyed : List KeyedEntry) (key : Key) (s : ℕ) : Type 0 where
-  pub member : KeyedEntry
-  pub at : slice_get keyed s ≡ Some member
-  pub keeps : EntryKeeps lines key member
-
--- no entry from s on keeps the class from being ready
-pub record NoneKeepsFrom (lines : List Numbering) (keyed : List KeyedEntry) (key : Key) (s : ℕ) : Type 0 where
-  pub none : (t : ℕ) (member : KeyedEntry) → s ≤ t → slice_get keyed t ≡ Some member → EntryKeeps lines key member → ⊥
 
 -- no entry from s on has the key
 pub record IsEnd (keyed : List KeyedEntry) (key : Key) (s : ℕ) : Type 0 where
