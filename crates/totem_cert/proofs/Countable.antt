@@ -14,7 +14,7 @@ use Rattle.totem_evs.proofs.LogOf.{Rising, less_or_not}
 use Rattle.totem_table.specs.declared.table.Table.{Table}
 use Rattle.totem_table.specs.Tables.{IsTable, IsEntryAt, NamedBy, number_at}
 use Rattle.totem_cert.specs.Search.{place, NoneOf}
-use Rattle.totem_cert.specs.Keepers.{given_at}
+use Rattle.totem_cert.specs.Wanted.{given_at}
 use Rattle.totem_evs.specs.Classes.{AreOfOneClass, AreSendAndDelivery}
 use Rattle.totem_cert.specs.Progress.{Fits, IsReady, IsMate, KeepsBack}
 use Rattle.totem_cert.specs.Counts.{class_in, class_fed, one, from, keeping_at, kept_in, kept_at, kept_by, Counts, Tells}

@@ -254,9 +254,6 @@ module _ (run : List Log) (old new : List Numbering) (p j : ℕ) (x : Entry) (n 
           ])
           (given_fits.short i log m.0 s.log_at m.1)
 
-pub same_read : (xs : List Numbering) (k : ℕ) (x y : Numbering) → k < length xs → x ≡ get_or xs k x → y ≡ get_or xs k y → x ≡ y
-same_read xs k x y lt is_x is_y = let a = slice_get_read xs _ k x refl lt is_x in let b = slice_get_read xs _ k y refl lt is_y in cc
-
 pub given_pushed : (p j : ℕ) (x : Entry) (n : ℕ) (log : Log) (was read now : Numbering) → HeadIsMate p j x log was → read ≡ was → now ≡ record read { numbers = read.numbers ++ n ∷ [] } → LineGiven p j x n log was now
 given_pushed p j x n log was read now mate same is = inl (mate, rw same at is)
 

@@ -1,5 +1,5 @@
--- Which classes are ready, found among the keyed entries with their key.
-use Rattle.std.proofs.Common.{◌≡◌, ℕ, ◌<◌, ◌≤◌, ◌⊎◌, inl, inr, List, [], length, get_or, slice_get, Some, None, Bool, true, false, IsTrue, ◌↔◌, refl, sym, ◌∙◌, ap, arith}
+-- Entries with the key of a class.
+use Rattle.std.proofs.Common.{◌≡◌, ℕ, ◌<◌, ◌≤◌, ◌⊎◌, inl, inr, List, length, get_or, slice_get, Some, None, true, false, refl, sym, ◌∙◌, ap, arith}
 use Rattle.std.proofs.lemmas.Option.{slice_get_within, slice_get_cases, slice_get_read}
 use Rattle.totem_evs.specs.declared.entry.Entry.{Entry}
 use Rattle.totem_evs.specs.declared.entry.Entry.TheVariants.{Conf, Send, Deliver, Fail}
@@ -8,14 +8,12 @@ use Rattle.totem_evs.specs.Events.{log_of}
 use Rattle.totem_evs.specs.Certificates.{Numbering, numbers_of}
 use Rattle.totem_cert.specs.declared.key.Key.{Key}
 use Rattle.totem_cert.specs.declared.key.KeyedEntry.{KeyedEntry}
-use Rattle.totem_cert.specs.Keys.{key_of, class_key, shares, IsKeyedOf, IsIndex}
-use Rattle.totem_cert.specs.Keepers.{given_at, count_of, KeepsAt, NoneKeepsFrom}
-use Rattle.totem_cert.specs.Search.{place, NoneOf}
+use Rattle.totem_cert.specs.Keys.{key_of, class_key, shares, IsKeyedOf}
+use Rattle.totem_cert.specs.Wanted.{given_at, count_of}
 use Rattle.totem_evs.specs.Classes.{AreOfOneClass, AreSendAndDelivery}
-use Rattle.totem_cert.specs.Progress.{Fits, IsReady, IsMate, KeepsBack}
+use Rattle.totem_cert.specs.Progress.{Fits}
 use Rattle.totem_evs.proofs.LogOf.{Rising, log_of_at}
-use Rattle.totem_cert.proofs.LineFacts.{Stands, where_is, stands_at}
-use Rattle.totem_cert.proofs.LogHeads.{nothing_keeps, something_keeps}
+use Rattle.totem_cert.proofs.LineFacts.{Stands, stands_at}
 
 -- an entry in x's class has x's key
 pub mate_key : (x y : Entry) (key : Key) → class_key x ≡ Some key → AreOfOneClass x y → (key_of y ≡ Some key) × (shares y ≡ true)
@@ -91,72 +89,6 @@ member_stands run lines m log entry rising fits of = go (slice_get_cases lines m
         → (line : Numbering) × Stands run lines log.proc m.log log line × (slice_get (log_of run log.proc) m.at ≡ Some entry)
     go (inl (line, within, at, _)) = (line, stands_at run lines m.log log line rising fits of.log_at at, rw (log_of_at run m.log log rising of.log_at) of.entry_at)
     go (inr (le, _)) = absurd (let lt = slice_get_within run m.log log of.log_at in let c = fits.count in omega arith)
-
-module _ (run : List Log) (lines : List Numbering) (keyed : List KeyedEntry) (rising : Rising run) (fits : Fits run lines) (index : IsIndex run keyed) (p j : ℕ) (x : Entry)
-    (at : slice_get (log_of run p) j ≡ Some x) (head : length (numbers_of lines p) ≡ j) where
-  not_itself : (q i : ℕ) → p ≡ q → j ≡ i → length (numbers_of lines q) < i → ⊥
-  not_itself q i same also lt = let h : length (numbers_of lines p) ≡ length (numbers_of lines q) = ap (λ (r : ℕ). length (numbers_of lines r)) same in omega arith
-
-  -- the entry is among the keyed entries with its key
-  among : (q i : ℕ) (y : Entry) (key : Key) (shared : Bool) → slice_get (log_of run q) i ≡ Some y → key_of y ≡ Some key → shares y ≡ shared
-      → (k : ℕ) × (s : ℕ) × (slice_get keyed s ≡ Some (record { key = key; shares = shared; log = k; at = i })) × (given_at lines k ≡ length (numbers_of lines q))
-  among q i y key shared at_y is_key is_shared = go (where_is run lines q fits)
-    where
-      go : ((log_of run q ≡ []) × (numbers_of lines q ≡ [])) ⊎ ((k : ℕ) × (log : Log) × (line : Numbering) × Stands run lines q k log line)
-          → (k : ℕ) × (s : ℕ) × (slice_get keyed s ≡ Some (record { key = key; shares = shared; log = k; at = i })) × (given_at lines k ≡ length (numbers_of lines q))
-      go (inl (none, nothing)) = absurd (let h : slice_get {X = Entry} [] i ≡ Some y = rw none at at_y in cc)
-      go (inr (k, log, line, s)) =
-          let m : KeyedEntry = record { key = key; shares = shared; log = k; at = i } in
-          let w = index.whole m log y (record { log_at = s.log_at; entry_at = rw s.log_is at at_y; key = is_key; shared = is_shared }) in
-          (k, w.0, w.1, given_is run lines k q log line s)
-
-  none_back : (key : Key) → class_key x ≡ Some key → NoneKeepsFrom lines keyed key 0 → NoneOf run (KeepsBack run lines p j x)
-  none_back key has none = record { none = λ q i within (y, at_y, k). go q i y at_y k }
-    where
-      mate : (q i : ℕ) (y : Entry) → slice_get (log_of run q) i ≡ Some y → AreOfOneClass x y → length (numbers_of lines q) < i → ⊥
-      mate q i y at_y alike lt =
-          let k = mate_key x y key has alike in
-          let a = among q i y key true at_y k.0 k.1 in
-          none.none a.1 _ (omega arith) a.2 (refl, inl (refl, rw a.3 lt))
-
-      send : (q i : ℕ) (y : Entry) → slice_get (log_of run q) i ≡ Some y → AreSendAndDelivery y x → length (numbers_of lines q) ≤ i → ⊥
-      send q i y at_y feeds le =
-          let k = send_key y x key has feeds in
-          let a = among q i y key false at_y k.0 k.1 in
-          none.none a.1 _ (omega arith) a.2 (refl, inr (refl, rw a.3 le))
-
-      go : (q i : ℕ) (y : Entry) → slice_get (log_of run q) i ≡ Some y → (IsMate p j x q i y × (length (numbers_of lines q) < i)) ⊎ (AreSendAndDelivery y x × (length (numbers_of lines q) ≤ i)) → ⊥
-      go q i y at_y (inl (inl (same, also), lt)) = not_itself q i same also lt
-      go q i y at_y (inl (inr alike, lt)) = mate q i y at_y alike lt
-      go q i y at_y (inr (feeds, le)) = send q i y at_y feeds le
-
-  none_alone : class_key x ≡ None → NoneOf run (KeepsBack run lines p j x)
-  none_alone alone = record { none = λ q i within (y, at_y, k). go q i y k }
-    where
-      go : (q i : ℕ) (y : Entry) → (IsMate p j x q i y × (length (numbers_of lines q) < i)) ⊎ (AreSendAndDelivery y x × (length (numbers_of lines q) ≤ i)) → ⊥
-      go q i y (inl (inl (same, also), lt)) = not_itself q i same also lt
-      go q i y (inl (inr alike, lt)) = alone_alike x y alone alike
-      go q i y (inr (feeds, le)) = alone_fed y x alone feeds
-
-  pub ready_with_key : (key : Key) → class_key x ≡ Some key → NoneKeepsFrom lines keyed key 0 → IsTrue true ↔ IsReady run lines (place p j)
-  ready_with_key key has none = (λ _. nothing_keeps run lines p j x at (omega arith) (none_back key has none), λ _. refl)
-
-  pub ready_alone : class_key x ≡ None → IsTrue true ↔ IsReady run lines (place p j)
-  ready_alone alone = (λ _. nothing_keeps run lines p j x at (omega arith) (none_alone alone), λ _. refl)
-
-  pub kept : (key : Key) (s : ℕ) → class_key x ≡ Some key → KeepsAt lines keyed key s → IsTrue false ↔ IsReady run lines (place p j)
-  kept key s has keeps = (λ h. absurd cc, λ ready. absurd (go ready (index.sound s keeps.member keeps.at)))
-    where
-      back : (y : Entry) (q i given : ℕ) → key_of y ≡ Some key → (shared : Bool) → shares y ≡ shared → given ≡ length (numbers_of lines q) → slice_get (log_of run q) i ≡ Some y
-          → (IsTrue shared × (given < i)) ⊎ ((shared ≡ false) × (given ≤ i)) → KeepsBack run lines p j x q i
-      back y q i given is_key shared is_shared same at_y (inl (yes_shared, lt)) = (y, at_y, inl (inr (key_alike x y key has is_key (is_shared ∙ yes_shared)), rw same at lt))
-      back y q i given is_key shared is_shared same at_y (inr (no_shared, le)) = (y, at_y, inr (key_feeds y x key has is_key (is_shared ∙ no_shared), rw same at le))
-
-      go : IsReady run lines (place p j) → (log : Log) × (entry : Entry) × IsKeyedOf run keeps.member log entry → ⊥
-      go ready (log, y, of) =
-          let s = member_stands run lines keeps.member log y rising fits of in
-          something_keeps run lines p j x at log.proc keeps.member.at
-          (back y log.proc keeps.member.at (given_at lines keeps.member.log) (of.key ∙ ap Some keeps.keeps.0) keeps.member.shares of.shared (given_is run lines keeps.member.log log.proc log s.0 s.1) s.2 keeps.keeps.1) ready
 
 -- the head of a log, as the code reads it
 pub head_entry : (run : List Log) (log : Log) (line : Numbering) (entries : List Entry) (numbers : List ℕ) (x : Entry) → log_of run log.proc ≡ log.entries → entries ≡ log.entries → numbers ≡ line.numbers

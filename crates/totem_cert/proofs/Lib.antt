@@ -19,13 +19,11 @@ pub mod Closable
 pub mod Excluded
 pub mod KeyOrder
 pub mod Indexed
-pub mod Scanning
 pub mod Wanting
 pub mod Picking
 pub mod Noting
 pub mod Turning
 pub mod ClosedOne
-pub mod Ordering
 pub mod Sums
 pub mod CountSteps
 pub mod Countable

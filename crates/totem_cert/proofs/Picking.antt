@@ -14,7 +14,7 @@ use Rattle.totem_cert.specs.declared.key.Key.{Key}
 use Rattle.totem_cert.specs.declared.key.KeyedEntry.{KeyedEntry}
 use Rattle.totem_cert.specs.declared.wanted.Wanted.TheVariants.{Sends, Mates}
 use Rattle.totem_cert.specs.Keys.{key_of, class_key, shares, IsKeyedOf, IsIndex}
-use Rattle.totem_cert.specs.Keepers.{given_at, IsNoLater, NoneWantedFrom, IsFirstWantedFrom, IsPlaceOf, IsFirstPlace}
+use Rattle.totem_cert.specs.Wanted.{given_at, IsNoLater, NoneWantedFrom, IsFirstWantedFrom, IsPlaceOf, IsFirstPlace}
 use Rattle.totem_cert.specs.Search.{place, IsLeast, NoneOf}
 use Rattle.totem_cert.specs.Progress.{Fits, IsMate, IsOpenSend, IsHeldMate}
 use Rattle.totem_evs.proofs.LogOf.{Rising, in_order, log_of_cases}

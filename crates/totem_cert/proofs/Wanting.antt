@@ -1,13 +1,27 @@
 -- The first wanted keyed entry, found step by step.
-use Rattle.std.proofs.Common.{◌≡◌, ℕ, ◌+◌, ◌<◌, ◌≤◌, ◌⊎◌, inl, inr, List, slice_get, Option, Some, None, sym, ◌∙◌, ap, arith}
+use Rattle.std.proofs.Common.{◌≡◌, ℕ, ◌+◌, ◌<◌, ◌≤◌, ◌⊎◌, inl, inr, List, length, slice_get, Option, Some, None, sym, ◌∙◌, ap, arith}
+use Rattle.std.proofs.lemmas.Option.{slice_get_within, get_or_from_slice_get}
 use Rattle.totem_evs.specs.Certificates.{Numbering}
 use Rattle.totem_cert.specs.declared.key.Key.{Key}
 use Rattle.totem_cert.specs.declared.key.KeyedEntry.{KeyedEntry}
 use Rattle.totem_cert.specs.declared.wanted.Wanted.{Wanted}
 use Rattle.totem_cert.specs.Keys.{KeyBelow, KeysRise}
-use Rattle.totem_cert.specs.Keepers.{IsEnd, Wants, IsNoLater, IsBestWith, IsBestFrom, NoneWantedFrom, IsFirstWantedFrom}
+use Rattle.totem_cert.specs.Wanted.{IsEnd, Wants, IsNoLater, IsBestWith, IsBestFrom, NoneWantedFrom, IsFirstWantedFrom}
 use Rattle.totem_evs.proofs.LogOf.{less_or_not}
-use Rattle.totem_cert.proofs.Scanning.{rises}
+
+-- the keys of the keyed entries are ascending: none is below one before it
+rises : (keyed : List KeyedEntry) (s t : ℕ) (a b : KeyedEntry) → KeysRise keyed → slice_get keyed s ≡ Some a → slice_get keyed t ≡ Some b → s ≤ t → KeyBelow b.key a.key → ⊥
+rises keyed s t a b rise at_a at_b le below =
+    rise.rise s t a le (slice_get_within keyed t b at_b) (rw (get_or_from_slice_get keyed t b a at_b, get_or_from_slice_get keyed s a a at_a) below)
+
+pub end_here : (keyed : List KeyedEntry) (key : Key) (s : ℕ) (m : KeyedEntry) → KeysRise keyed → slice_get keyed s ≡ Some m → KeyBelow key m.key → IsEnd keyed key s
+end_here keyed key s m rise is below = record {
+  within = (let lt = slice_get_within keyed s m is in omega arith);
+  after = λ t other le at same. rises keyed s t m other rise is at le (rw same below);
+}
+
+pub end_of_all : (keyed : List KeyedEntry) (key : Key) (s : ℕ) → s ≡ length keyed → IsEnd keyed key s
+end_of_all keyed key s is = record { within = omega arith; after = λ t m le at same. (let lt = slice_get_within keyed t m at in omega arith) }
 
 pub best_yet : (lines : List Numbering) (keyed : List KeyedEntry) (key : Key) (wanted : Wanted) (s : ℕ) → IsEnd keyed key s → IsBestFrom lines keyed key wanted s None
 best_yet lines keyed key wanted s end = record { none = λ t n le at wants. end.after t n le at wants.0 }

@@ -8,7 +8,7 @@ use Rattle.totem_evs.specs.declared.log.Log.{Log}
 use Rattle.totem_evs.specs.Certificates.{Numbering}
 use Rattle.totem_table.specs.declared.table.Table.{Table}
 use Rattle.totem_table.specs.Tables.{IsEntryAt, NamesMessage, NamesConf, number_at}
-use Rattle.totem_cert.specs.Keepers.{given_at}
+use Rattle.totem_cert.specs.Wanted.{given_at}
 
 -- f 0 + .. + f (n - 1)
 abbrev pub sum_to : ℕ → (ℕ → ℕ) → ℕ

@@ -4,6 +4,5 @@ pub mod Answer
 pub mod Visited
 pub mod Laws
 pub mod Keys
-pub mod Keepers
-pub mod Counted
+pub mod Wanted
 pub mod Counts

@@ -9,8 +9,8 @@ ghost use Rattle.totem_cert.specs.Counts.{Counts, Tells};
 ghost use Rattle.totem_cert.specs.Progress.{Fits, IsNext, IsNextHead, IsReady, IsSound, NoneReady, Gives, Sound, entries_left};
 
 use crate::counts::{class_in, count_all, none_keeps, number_head};
-use crate::give::is_head_mate;
 use crate::key::Key;
+use crate::mates::is_head_mate;
 use crate::numbering::started;
 use std::alloc::{AllocError, Global};
 use totem_certificate::OpenLine;

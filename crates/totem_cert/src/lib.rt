@@ -4,7 +4,6 @@
 //! What may be relied on:
 //! - `positions` returns the one certificate that the run has by its positions, or the closed list that breaks 1.1 or 6.1
 //!   (`IsOrder`, specs/Answer, by `IsPositions` and `IsCycle` of totem_evs). It holds for every run.
-//! - `positions_over` does the same with a table of the run, in less time.
 //! - There is at most one of each, and never both: the laws `positions_are_one`, `closed_lists_are_one`,
 //!   `closed_lists_exclude_certificates`.
 //!
@@ -14,16 +13,13 @@
 mod closed;
 mod closed_list;
 mod counted;
-mod counting;
 mod counts;
-mod give;
 mod index;
-mod keeper;
 mod key;
 mod laws;
+mod mates;
 mod numbering;
 mod order;
-mod ready;
 mod spot;
 mod step;
 mod twins;
@@ -31,7 +27,7 @@ mod walk;
 mod wanted;
 
 pub use laws::{closed_lists_are_one, closed_lists_exclude_certificates, positions_are_one};
-pub use order::{Order, positions, positions_over};
+pub use order::{Order, positions};
 pub use totem_certificate::{
     CertFault, Certificate, Line, Lines, Numbers, NumbersFault, RefusedNumbers, a_fault_is_no_text,
     cut_text_goes_on, fault_byte_is_first, fault_is_first, faults_are_its_own,

@@ -1,13 +1,12 @@
-ghost use Rattle.std.specs.Prelude.{◌≡◌, IfOk, IfSome};
+ghost use Rattle.std.specs.Prelude.{◌≡◌, IfOk};
 ghost use Rattle.totem_cert.specs.Answer.{IsOrder};
 ghost use Rattle.totem_certificate.specs.Keeping.{certificate_version};
 ghost use Rattle.totem_cert.specs.Progress.{IsSound, IsFull};
-ghost use Rattle.totem_table.specs.Tables.{IsTable};
 
 use crate::closed_list::closed_list;
 use crate::counted::number_by_counts;
 use crate::index::Index;
-use crate::numbering::{first_left, number_all};
+use crate::numbering::first_left;
 use std::alloc::{AllocError, Global};
 use totem_certificate::{Certificate, Line, Lines, OpenLine};
 use totem_evs::{Fault, Run};
@@ -66,43 +65,12 @@ pub fn positions(alloc: Global, run: &Run) -> Result<Order, AllocError>
     ensures { IfOk result (λ order. IsOrder run.now order) }
 {
     let table = Table::build(alloc, run)?;
-    positions_over(alloc, run, table)
-}
-
-/// Numbers over a table of the run, and looks for a closed list only if one is needed.
-fn over_table(alloc: Global, run: &Run, table: Table) -> Result<Order, AllocError>
-    requires { IsTable run.now.logs table }
-    ensures { IfOk result (λ order. IsOrder run.now order) }
-{
     let lines = number_by_counts(alloc, run, &table)?;
     match first_left(run, &lines) {
         None => Ok(Order::Positions(certificate(alloc, run, lines)?)),
         Some(k) => {
-            let index = Index::of(alloc, run, Some(table))?;
+            let index = Index::of(alloc, run)?;
             Ok(Order::Cycle(closed_list(alloc, run, &index, &lines, k)?))
         }
-    }
-}
-
-/// Numbers by sorted keys.
-fn by_keys(alloc: Global, run: &Run) -> Result<Order, AllocError>
-    ensures { IfOk result (λ order. IsOrder run.now order) }
-{
-    let index = Index::of(alloc, run, None)?;
-    let lines = number_all(alloc, run, &index)?;
-    match first_left(run, &lines) {
-        None => Ok(Order::Positions(certificate(alloc, run, lines)?)),
-        Some(k) => Ok(Order::Cycle(closed_list(alloc, run, &index, &lines, k)?)),
-    }
-}
-
-/// Does the same as `positions` over a table of the run. Without a table it sorts, and takes longer.
-pub fn positions_over(alloc: Global, run: &Run, table: Option<Table>) -> Result<Order, AllocError>
-    requires { IfSome table (IsTable run.now.logs) }
-    ensures { IfOk result (λ order. IsOrder run.now order) }
-{
-    match table {
-        Some(table) => over_table(alloc, run, table),
-        None => by_keys(alloc, run),
     }
 }

@@ -71,25 +71,8 @@ pub fn entry_at(run: &Run, proc: Proc, at: usize) -> Option<&Entry>
     None
 }
 
-/// Returns the index of a process's log among the logs, or any number if it has none.
-fn log_index(run: &Run, proc: Proc) -> usize {
-    for (k, log) in run.logs.as_slice().iter().enumerate() {
-        if log.proc == proc {
-            return k;
-        }
-    }
-    0
-}
-
-/// Returns the least send without a number of the message that an entry delivers. The entry is at index `at` of the k-th log.
-fn open_send(
-    run: &Run,
-    index: &Index<'_>,
-    lines: &[OpenLine],
-    k: usize,
-    at: usize,
-    entry: &Entry,
-) -> Option<Place>
+/// Returns the least send without a number of the message that an entry delivers.
+fn open_send(run: &Run, index: &Index<'_>, lines: &[OpenLine], entry: &Entry) -> Option<Place>
     requires run { IsRun run.now.logs }
     requires index { IsIndex run.now.logs index.now }
     requires fits { Fits run.now.logs lines.now }
@@ -98,7 +81,7 @@ fn open_send(
 {
     match Key::of_class(entry) {
         None => None,
-        Some(key) => first_place(run, index, lines, &key, Wanted::Sends, k, at),
+        Some(key) => first_place(run, index, lines, &key, Wanted::Sends),
     }
 }
 
@@ -119,12 +102,11 @@ fn held_alone(lines: &[OpenLine], proc: Proc, at: usize, waits: bool) -> Option<
 }
 
 /// Returns the least event of a class that is held up. `waits` says whether the class waits for a send. `left` is an entry
-/// of the class, and is in the k-th log.
+/// of the class.
 fn held_mate(
     run: &Run,
     index: &Index<'_>,
     lines: &[OpenLine],
-    k: usize,
     left: &Standing,
     waits: bool,
 ) -> Option<Place>
@@ -138,7 +120,7 @@ fn held_mate(
 {
     match Key::of_class(left.entry) {
         None => held_alone(lines, left.proc, left.at, waits),
-        Some(key) => first_place(run, index, lines, &key, Wanted::Mates { waits }, k, left.at),
+        Some(key) => first_place(run, index, lines, &key, Wanted::Mates { waits }),
     }
 }
 
@@ -184,9 +166,8 @@ fn step_at(
     requires entry { slice_get (log_of run.now.logs standing.now.proc) standing.now.at ≡ Some standing.now.entry.now }
     ensures { IsStepOf run.now.logs left.now result }
 {
-    let k = log_index(run, standing.proc);
-    let send = open_send(run, index, lines, k, standing.at, standing.entry);
-    match held_mate(run, index, lines, k, standing, send.is_some()) {
+    let send = open_send(run, index, lines, standing.entry);
+    match held_mate(run, index, lines, standing, send.is_some()) {
         None => Step {
             from: *left,
             to: *left,

@@ -2,10 +2,9 @@
 ghost use Rattle.std.specs.Prelude.{◌≡◌, ◌↔◌, ◌<◌, IsTrue, length};
 ghost use Rattle.totem_evs.specs.Runs.{IsRun};
 ghost use Rattle.totem_cert.specs.Keys.{KeysRise, IsIndex};
-ghost use Rattle.totem_cert.specs.Keepers.{IsWanted, Wants, IsNoLater, IsEarlier, IsBestWith, IsBestFrom, IsPlaceOf, IsFirstPlace};
+ghost use Rattle.totem_cert.specs.Wanted.{given_at, IsEnd, IsWanted, Wants, IsNoLater, IsEarlier, IsBestWith, IsBestFrom, IsPlaceOf, IsFirstPlace};
 
 use crate::index::Index;
-use crate::keeper::{end_of, given_at};
 use crate::key::{Key, KeyedEntry};
 use totem_certificate::OpenLine;
 use totem_evs::Run;
@@ -19,6 +18,16 @@ pub enum Wanted {
     /// Entries of the class that are held up: all of them if the class waits for a send, otherwise those after an entry without
     /// a number.
     Mates { waits: bool },
+}
+
+/// Returns how many entries of the log at this index have a number.
+fn given_at(lines: &[OpenLine], log: usize) -> usize
+    ensures { result ≡ given_at lines.now log }
+{
+    match lines.get(log) {
+        Some(line) => line.numbers().len(),
+        None => 0,
+    }
 }
 
 fn is_wanted(wanted: Wanted, given: usize, entry: &KeyedEntry) -> bool
@@ -74,21 +83,38 @@ fn best_with(
     }
 }
 
-/// Returns the wanted entry with a key that has the least place. The entry at index `at` of this log has the key.
-#[tactic(auto, using(crate::proofs::Wanting::best_yet, crate::proofs::Wanting::best_more, crate::proofs::Wanting::best_below))]
+/// Returns the index after the entries with a key.
+#[tactic(auto, using(crate::proofs::Wanting::end_here, crate::proofs::Wanting::end_of_all))]
+fn end_of(index: &Index<'_>, key: &Key) -> usize
+    requires { KeysRise index.now }
+    ensures { IsEnd index.now key.now result }
+{
+    let mut low = 0;
+    let mut end = index.len();
+    while low < end {
+        let middle = low + (end - low) / 2;
+        if key.is_below(&index.entry(middle).key) {
+            end = middle;
+        } else {
+            low = middle + 1;
+        }
+    }
+    end
+}
+
+/// Returns the wanted entry with a key that has the least place.
+#[tactic(auto, using(crate::proofs::Wanting::best_yet, crate::proofs::Wanting::best_below))]
 fn first_wanted(
     index: &Index<'_>,
     lines: &[OpenLine],
     key: &Key,
     wanted: Wanted,
-    log: usize,
-    at: usize,
 ) -> Option<KeyedEntry>
     requires { KeysRise index.now }
     ensures { IsBestFrom lines.now index.now key.now wanted 0 result }
 {
     let mut best = None;
-    let mut s = end_of(index, key, log, at);
+    let mut s = end_of(index, key);
     while 0 < s {
         s -= 1;
         let entry = index.entry(s);
@@ -113,21 +139,19 @@ fn place_of(run: &Run, entry: &KeyedEntry) -> Place
     }
 }
 
-/// Returns the place of the first wanted entry with a key. The entry at index `at` of this log has the key.
+/// Returns the place of the first wanted entry with a key.
 pub fn first_place(
     run: &Run,
     index: &Index<'_>,
     lines: &[OpenLine],
     key: &Key,
     wanted: Wanted,
-    log: usize,
-    at: usize,
 ) -> Option<Place>
     requires run { IsRun run.now.logs }
     requires index { IsIndex run.now.logs index.now }
     ensures { IsFirstPlace run.now.logs lines.now index.now key.now wanted result }
 {
-    match first_wanted(index, lines, key, wanted, log, at) {
+    match first_wanted(index, lines, key, wanted) {
         None => None,
         Some(entry) => Some(place_of(run, &entry)),
     }

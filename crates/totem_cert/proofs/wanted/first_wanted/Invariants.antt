@@ -1,5 +1,5 @@
 use Rattle.std.proofs.Common.{◌≤◌, length}
-use Rattle.totem_cert.specs.Keepers.{IsBestFrom}
+use Rattle.totem_cert.specs.Wanted.{IsBestFrom}
 use Rattle.totem_cert.proofs.wanted.first_wanted.Given as goal
 
 abbrev pub invariant-loop-s : goal.invariant-loop-s
