@@ -3,7 +3,7 @@
 //! Nothing is proved about what is gathered: its user has to verify it.
 ghost use Rattle.std.specs.Prelude.{◌≡◌, ◌≤◌, ◌<◌, length};
 
-use crate::gathered::{Arrival, Gathered, Origin};
+use crate::gathered::{Gathered, Origin, Stay};
 use std::alloc::{AllocError, Global};
 use std::collections::BTreeMap;
 use totem_certificate::Line;
@@ -159,20 +159,57 @@ impl Gatherer {
         })
     }
 
+    /// Enters that these logs change here, in the stays that they are in.
+    fn move_on(&mut self, next: &Next, passed: &[usize]) {
+        for log in 0..32u32 {
+            let index = log as usize;
+            if next.logs.contains(log)
+                && index < passed.len()
+                && index < self.standing.len()
+                && self.standing[index] < self.list.len()
+            {
+                let at = passed[index].saturating_sub(1);
+                let gathered = &mut self.list[self.standing[index]];
+                for stay in gathered.stays.iter_mut() {
+                    if stay.log == log {
+                        if stay.turn == stay.end {
+                            stay.turn = at;
+                        } else {
+                            stay.end = at;
+                        }
+                    }
+                }
+            }
+        }
+    }
+
     /// Enters the changes of these logs to a regular configuration. `passed` has the number of entries passed in each log, with this one.
     fn change(
         &mut self,
         alloc: Global,
+        logs: &[Log],
         ring: RingId,
         next: &Next,
         passed: &[usize],
     ) -> Result<(), AllocError> {
+        self.move_on(next, passed);
         let mut gathered = Gathered::new(alloc, ring, next.number);
         for log in 0..32u32 {
             let index = log as usize;
-            if next.logs.contains(log) && index < passed.len() && index < self.standing.len() {
-                let at = passed[index].saturating_sub(1);
-                gathered.arrivals.push(Arrival { log, at })?;
+            if next.logs.contains(log)
+                && index < logs.len()
+                && index < passed.len()
+                && index < self.standing.len()
+            {
+                let recorded = &logs[index];
+                let from = passed[index].saturating_sub(1);
+                let end = recorded.entries.as_slice().len();
+                gathered.stays.push(Stay {
+                    log,
+                    from,
+                    turn: end,
+                    end,
+                })?;
                 self.standing[index] = self.list.len();
             }
         }
@@ -205,7 +242,7 @@ impl Gatherer {
         })?;
         gathered.origins.push(Origin {
             at: index_of(at),
-            safe: matches!(service, Service::Safe),
+            service,
             got: None,
         })?;
         gathered.sent_numbers.push(next.number)?;
@@ -236,7 +273,7 @@ impl Gatherer {
         gathered.got.push(Got {
             sent: spot.index,
             sender: gathered.sent[index].sender,
-            safe: gathered.origins[index].safe,
+            safe: gathered.origins[index].is_safe(),
             regular: next.logs.minus(self.behind),
             transitional: next.logs.intersection(self.behind),
         })?;
@@ -248,14 +285,16 @@ impl Gatherer {
     fn enter(
         &mut self,
         alloc: Global,
+        logs: &[Log],
         entry: &Entry,
         at: usize,
         next: &Next,
         passed: &[usize],
     ) -> Result<(), AllocError> {
         match entry {
-            Entry::Conf(ConfId::Regular(ring), _) => self.change(alloc, *ring, next, passed),
+            Entry::Conf(ConfId::Regular(ring), _) => self.change(alloc, logs, *ring, next, passed),
             Entry::Conf(ConfId::Transitional { .. }, _) => {
+                self.move_on(next, passed);
                 self.behind = self.behind.union(next.logs);
                 Ok(())
             }
@@ -299,7 +338,7 @@ pub fn gather(alloc: Global, logs: &[Log], lines: &[Line]) -> Result<Vec<Gathere
             number: head.number,
             logs: go_past(lines, &mut passed, head.number),
         };
-        gatherer.enter(alloc, &entries[at], at, &next, &passed)?;
+        gatherer.enter(alloc, logs, &entries[at], at, &next, &passed)?;
     }
     Ok(gatherer.list)
 }
