@@ -14,9 +14,6 @@ use Rattle.totem_judge.specs.Lists.{AreSkipped, IsDeliveryOf, IsListed, AreAsLis
 
 -- ---- what a log does not deliver
 
-pub skipped_none : (gots : List Got) (log from : ℕ) → AreSkipped gots log from from
-skipped_none gots log from = record { none = λ k got le lt stands by. omega arith }
-
 pub skipped_more : (gots : List Got) (log from n : ℕ) (got : Got) → slice_get gots n ≡ Some got → (IsBy got log → ⊥) → AreSkipped gots log from n → AreSkipped gots log from (n + 1)
 skipped_more gots log from n got at never so_far = record {
   none = λ k other le lt stands by. elim (before_or_at k n lt) [
@@ -25,15 +22,9 @@ skipped_more gots log from n got at never so_far = record {
   ];
 }
 
-pub skipped_all : (gots : List Got) (log from n m : ℕ) → m ≤ n → AreSkipped gots log from n → AreSkipped gots log from m
-skipped_all gots log from n m le so_far = record { none = λ k got above below stands by. so_far.none k got above (omega arith) stands by }
-
 -- ---- what is listed
 
 module _ (entries : List Entry) (numbers : List ℕ) (g : Gathered) (stay : Stay) where
-  pub listed_none : AreAsListed entries numbers g stay (stay.from + 1) 0
-  listed_none = record { listed = λ at x above below stands. absurd (omega arith); delivered = λ k got lt stands by. absurd (omega arith) }
-
   -- the next entry is listed, and is no delivery
   pub listed_more : (at n : ℕ) (x : Entry) → slice_get entries at ≡ Some x → IsListed numbers g stay at x → AreAsListed entries numbers g stay at n → AreAsListed entries numbers g stay (at + 1) n
   listed_more at n x stands here so_far = record {

@@ -2,6 +2,7 @@
 ghost use Rattle.std.specs.Prelude.{IfSome, length};
 ghost use Rattle.std.specs.Bool.{OnTrue};
 ghost use Rattle.totem_judge.specs.Covered.{IsCoveredTo, AreCovered, AreRisingTo};
+ghost use Rattle.totem_judge.specs.Lists.{EachBelow};
 
 use crate::gathered::Gathered;
 use totem_evs::Log;
@@ -27,7 +28,7 @@ fn covered_to(list: &[Gathered], log: usize) -> Option<usize>
 
 /// Returns whether each log is made up of stays.
 pub fn are_covered(logs: &[Log], list: &[Gathered]) -> bool
-    ensures { OnTrue result (AreCovered logs.now list.now (length logs.now)) }
+    ensures { OnTrue result (EachBelow (AreCovered logs.now list.now) (length logs.now)) }
 {
     for index in 0..logs.len() {
         let log = &logs[index];

@@ -14,7 +14,6 @@
 mod covered;
 mod deliveries;
 mod ends;
-mod event;
 mod following;
 mod gather;
 mod gathered;

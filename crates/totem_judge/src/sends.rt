@@ -1,14 +1,41 @@
 //! Tests whether the lists of a configuration agree with the logs about what was sent and delivered there.
-ghost use Rattle.std.specs.Prelude.{◌≡◌, ◌<◌, length};
+ghost use Rattle.std.specs.Prelude.{◌≡◌, ◌<◌, IfSome, length};
 ghost use Rattle.std.specs.Bool.{OnTrue};
+ghost use Rattle.totem_judge.specs.Events.{IsEventAt};
 ghost use Rattle.totem_judge.specs.Lists.{EachBelow, IsSendOf, ComesBefore, IsLinked, IsSentAt, IsGotAt};
 
-use crate::event::event_at;
 use crate::gathered::Gathered;
 use totem_certificate::Line;
 use totem_configuration_rules::{LogSet, Sent};
 use totem_evs::{Entry, Log};
 use totem_ids::{ConfId, MsgId, RingId, Service};
+
+/// An entry and its number.
+#[derive(Clone, Copy)]
+struct Event<'a> {
+    entry: &'a Entry,
+    number: u32,
+}
+
+/// Returns the event at this index of a log, or `None` unless it has an entry and a number.
+fn event_at<'a>(logs: &'a [Log], lines: &[Line], log: usize, at: usize) -> Option<Event<'a>>
+    ensures { IfSome result (λ event. IsEventAt logs.now lines.now log at event.entry.now event.number) }
+{
+    if log >= logs.len() || log >= lines.len() {
+        return None;
+    }
+    let line = &lines[log];
+    let log = &logs[log];
+    let entries = log.entries.as_slice();
+    let numbers = line.numbers.as_slice();
+    if at >= entries.len() || at >= numbers.len() {
+        return None;
+    }
+    Some(Event {
+        entry: &entries[at],
+        number: numbers[at],
+    })
+}
 
 /// Returns whether the entry sends the message in the ring's regular configuration, by this service.
 fn is_send_of(entry: &Entry, ring: &RingId, message: &MsgId, service: Service) -> bool
