@@ -1,4 +1,5 @@
 pub mod Numbers
+pub mod Replayed
 pub mod Listed
 pub mod Told
 pub mod Endings
@@ -8,5 +9,6 @@ pub mod Whole
 pub mod Unsent
 pub mod Asked
 pub mod Steps
+pub mod Replaying
 pub mod OneByOne
 pub mod Settled

@@ -14,67 +14,53 @@ use Rattle.totem_evs.specs.Changes.{Names}
 use Rattle.totem_evs.specs.Following.{Follows, Com, DeliversIn}
 use Rattle.totem_evs.specs.Certificates.{Numbering, Certified}
 use Rattle.totem_evs.proofs.LogOf.{less_or_not}
-use Rattle.totem_certificate_check.proofs.Walking.{at_index}
 use Rattle.totem_configuration_rules.specs.declared.traffic.Sent.{Sent}
 use Rattle.totem_configuration_rules.specs.declared.traffic.Got.{Got}
 use Rattle.totem_configuration_rules.specs.declared.traffic.Traffic.{Traffic}
 use Rattle.totem_configuration_rules.specs.Clean.{IsBy}
 use Rattle.totem_configuration_rules.specs.Traffics.{IsLogAt}
-use Rattle.totem_run_rules.specs.Stays.{Bounds, IsStay}
+use Rattle.totem_run_rules.specs.Stays.{IsStay}
 use Rattle.totem_configuration_rules.proofs.Facts.{one_log}
-use Rattle.totem_run_rules.proofs.Staying.{KeepsRules, is_stay, names_no_change}
-use Rattle.totem_judge.specs.declared.gathered.Arrival.{Arrival}
+use Rattle.totem_run_rules.proofs.Staying.{names_no_change}
 use Rattle.totem_judge.specs.declared.gathered.Origin.{Origin}
 use Rattle.totem_judge.specs.declared.gathered.Gathered.{Gathered}
 use Rattle.totem_judge.specs.declared.gathered.Stay.{Stay}
 use Rattle.totem_judge.specs.Events.{IsEventAt}
 use Rattle.totem_judge.specs.Ends.{HasSuch, IsAny}
-use Rattle.totem_judge.specs.Arrivals.{IsArrivedAs}
-use Rattle.totem_judge.specs.Lists.{is_safe, ComesBefore, IsLinked, IsThere, IsGotAt, IsSentAt}
+use Rattle.totem_judge.specs.Lists.{ComesBefore, IsLinked, IsThere, IsGotAt, IsSentAt}
 use Rattle.totem_judge.specs.Seen.{IsReplayed, IsSeen}
 use Rattle.totem_run_rules.specs.Orderly.{IsOrderly}
-use Rattle.totem_judge.proofs.Numbers.{one_at, entries_of, entry_of, event_of, one_event, one_number, same_index}
+use Rattle.totem_judge.proofs.Numbers.{one_at, entry_of, one_event, one_number, same_index}
+use Rattle.totem_judge.proofs.Replayed.{entries_in, stay_in}
 
 module _ (run : List Log) (lines : List Numbering) (g : Gathered) (traffic : Traffic) (is_run : IsRun run) (orderly : IsOrderly run) (certified : Certified run lines) (seen : IsSeen run lines g traffic)
-    (whole : (l p i : ℕ) → IsLogAt run l p → ChangesTo (log_of run p) i (Regular g.ring) → HasSuch IsAny seen.stays (length seen.stays) l) where
+    (whole : (l p i : ℕ) → IsLogAt run l p → ChangesTo (log_of run p) i (Regular g.ring) → HasSuch IsAny g.stays.items (length g.stays.items) l) where
   -- ---- stays
-
-  keeps : (p : ℕ) → KeepsRules (log_of run p)
-  keeps p = record { placed = orderly.placed p; once = orderly.one.once p; turns = orderly.turns.each p }
-
-  pub arrived : (k : ℕ) (stay : Stay) → slice_get seen.stays k ≡ Some stay → (arrival : Arrival) × IsArrivedAs run lines g arrival stay
-  arrived k stay at =
-      let found = at_index g.arrivals.items k (omega (arith, seen.are.to.count, slice_get_within seen.stays k stay at)) in
-      (found.0, seen.are.to.each k found.0 stay found.1 at)
 
   -- the stay of p's log, at l, in the configuration
   pub record StayOf (l p : ℕ) : Type 0 where
     pub stay : Stay
     pub at : ℕ
-    pub stands : slice_get seen.stays at ≡ Some stay
+    pub stands : slice_get g.stays.items at ≡ Some stay
     pub log : stay.log ≡ l
     pub is : IsStay (log_of run p) g.ring stay.from stay.turn stay.end
     pub replayed : IsReplayed run lines g stay
 
-  stay_is : (k p : ℕ) (stay : Stay) → slice_get seen.stays k ≡ Some stay → IsLogAt run stay.log p → IsStay (log_of run p) g.ring stay.from stay.turn stay.end
-  stay_is k p stay at log =
-      let here = (arrived k stay at).1.is in
-      let same : here.log ≡ log.log = one_at run stay.log here.log log.log here.stands log.stands in
-      let entries : here.log.entries ≡ log_of run p = ap (λ (x : Log). x.entries) same ∙ sym (entries_of run stay.log p is_run.rising log) in
-      is_stay (log_of run p) g.ring stay.from stay.turn stay.end (keeps p) (subst (λ (es : List Entry). Bounds es g.ring stay.from stay.turn stay.end) entries here.bounds)
+  replayed_at : (k : ℕ) (stay : Stay) → slice_get g.stays.items k ≡ Some stay → IsReplayed run lines g stay
+  replayed_at k stay at = seen.lists.replayed.each k (slice_get_within g.stays.items k stay at) stay at
 
-  pub stay_with : (l p k : ℕ) (stay : Stay) → IsLogAt run l p → slice_get seen.stays k ≡ Some stay → stay.log ≡ l → StayOf l p
+  pub stay_with : (l p k : ℕ) (stay : Stay) → IsLogAt run l p → slice_get g.stays.items k ≡ Some stay → stay.log ≡ l → StayOf l p
   stay_with l p k stay log at of = record {
     stay = stay;
     at = k;
     stands = at;
     log = of;
-    is = stay_is k p stay at (subst (λ (j : ℕ). IsLogAt run j p) (sym of) log);
-    replayed = seen.lists.replayed.each k stay (slice_get_within seen.stays k stay at) at;
+    is = stay_in run lines g stay p is_run orderly (subst (λ (j : ℕ). IsLogAt run j p) (sym of) log) (replayed_at k stay at);
+    replayed = replayed_at k stay at;
   }
 
   -- the stay of a log, which keeps the condition
-  pub such_stay : (Such : Stay → Type 0) (l p : ℕ) → IsLogAt run l p → HasSuch Such seen.stays (length seen.stays) l → (s : StayOf l p) × Such s.stay
+  pub such_stay : (Such : Stay → Type 0) (l p : ℕ) → IsLogAt run l p → HasSuch Such g.stays.items (length g.stays.items) l → (s : StayOf l p) × Such s.stay
   unfolding stay_with
   such_stay Such l p log has = (stay_with l p has.at has.stay log has.stands has.of, has.such)
 
@@ -109,6 +95,20 @@ module _ (run : List Log) (lines : List Numbering) (g : Gathered) (traffic : Tra
     | inr (inr same) ↦ absurd (let turns = s.is.turns (omega (arith, same, until)) in names_no_change (log_of run p) s.stay.turn d (rw same at names) (turns.conf, turns.change))
   ]
 
+  -- the entries of the log are those that were replayed
+  pub own_entry : (l p i : ℕ) (x : Entry) (s : StayOf l p) → IsLogAt run l p → slice_get (log_of run p) i ≡ Some x → slice_get s.replayed.log.entries i ≡ Some x
+  own_entry l p i x s log at = rw (entries_in run lines g s.stay p is_run (subst (λ (j : ℕ). IsLogAt run j p) (sym s.log) log) s.replayed) at
+
+  own_event : (l p i : ℕ) (x : Entry) (n : ℕ) (s : StayOf l p) → slice_get s.replayed.log.entries i ≡ Some x → slice_get s.replayed.line.numbers i ≡ Some n → IsEventAt run lines l i x n
+  own_event l p i x n s entry number = subst (λ (j : ℕ). IsEventAt run lines j i x n) s.log (record {
+    log = s.replayed.log;
+    line = s.replayed.line;
+    log_is = s.replayed.log_is;
+    line_is = s.replayed.line_is;
+    entry_is = entry;
+    number_is = number;
+  })
+
   -- ---- what is delivered is listed
 
   -- p's delivery of m at i is listed
@@ -129,31 +129,27 @@ module _ (run : List Log) (lines : List Numbering) (g : Gathered) (traffic : Tra
     pub message : sent.message ≡ m
     pub there : IsThere got s.stay i
 
-  of_delivery : (m n : MsgId) (x y : ConfId) → Deliver m x ≡ Deliver n y → n ≡ m
-  of_delivery m n x y e = cc
-
   pub listed : (l p i : ℕ) (m : MsgId) → IsLogAt run l p → DeliversIn (log_of run p) g.ring m i → Listed l p i m
   listed l p i m log (d, at, belongs) =
       let s = stay_around l p i d log (Deliver m d, at, refl) belongs in
       let bounds = s.is.here i d (Deliver m d, at, refl) belongs in
-      let event = event_of run lines l p i (Deliver m d) is_run.rising certified.matches log at in
-      let there : IsEventAt run lines s.stay.log i (Deliver m d) event.0 = subst (λ (k : ℕ). IsEventAt run lines k i (Deliver m d) event.0) (sym s.log) event.1 in
-      let told = s.replayed.listed.each i event.0 (Deliver m d) bounds.0 bounds.1 there in
+      let entry = own_entry l p i (Deliver m d) s log at in
+      let told = s.replayed.are.listed i (Deliver m d) bounds.0 bounds.1 entry in
       record {
         s = s;
         conf = d;
-        number = event.0;
+        number = told.1.number;
         at = told.0;
         got = told.1.got;
         sent = told.1.sent;
         after = bounds.0;
         until = bounds.1;
         delivers = at;
-        event = event.1;
+        event = own_event l p i (Deliver m d) told.1.number s entry told.1.own_number;
         got_is = told.1.got_is;
         number_is = told.1.number_is;
         sent_is = told.1.sent_is;
-        message = told.1.message_is ∙ of_delivery m told.1.message d told.1.conf told.1.entry_is;
+        message = told.1.message_is;
         there = told.1.there;
       }
 
@@ -186,20 +182,20 @@ module _ (run : List Log) (lines : List Numbering) (g : Gathered) (traffic : Tra
   pub found : (k l p : ℕ) (got : Got) (sent : Sent) → slice_get g.got.items k ≡ Some got → slice_get g.sent.items got.sent ≡ Some sent → IsLogAt run l p → IsBy got l → Found k l p got sent
   found k l p got sent at of log by =
       let s = stay_by k l p got at log by in
-      let d = (s.replayed.delivered.each k (slice_get_within g.got.items k got at)).each got at (subst (λ (j : ℕ). IsBy got j) (sym s.log) by) in
+      let d = s.replayed.are.delivered k got (slice_get_within g.got.items k got at) at (subst (λ (j : ℕ). IsBy got j) (sym s.log) by) in
       let same : d.is.got ≡ got = one_at g.got.items k d.is.got got d.is.got_is at in
       let sents : d.is.sent ≡ sent = one_at g.sent.items got.sent d.is.sent sent (subst (λ (x : Got). slice_get g.sent.items x.sent ≡ Some d.is.sent) same d.is.sent_is) of in
-      let message : d.is.message ≡ sent.message = sym d.is.message_is ∙ ap (λ (x : Sent). x.message) sents in
-      let entry : d.entry ≡ Deliver sent.message d.is.conf = d.is.entry_is ∙ ap (λ (m : MsgId). Deliver m d.is.conf) message in
-      let event : IsEventAt run lines l d.at (Deliver sent.message d.is.conf) d.number = subst (λ (e : Entry). IsEventAt run lines l d.at e d.number) entry (subst (λ (j : ℕ). IsEventAt run lines j d.at d.entry d.number) s.log d.event) in
+      let message : d.message ≡ sent.message = sym d.is.message_is ∙ ap (λ (x : Sent). x.message) sents in
+      let entry : slice_get s.replayed.log.entries d.at ≡ Some (Deliver sent.message d.conf) = d.entry ∙ ap (λ (m : MsgId). Some (Deliver m d.conf)) message in
+      let event = own_event l p d.at (Deliver sent.message d.conf) d.is.number s entry d.is.own_number in
       record {
         s = s;
         at = d.at;
-        conf = d.is.conf;
-        number = d.number;
+        conf = d.conf;
+        number = d.is.number;
         after = d.after;
         until = d.until;
-        delivers = entry_of run lines l p d.at (Deliver sent.message d.is.conf) d.number is_run.rising log event;
+        delivers = entry_of run lines l p d.at (Deliver sent.message d.conf) d.is.number is_run.rising log event;
         event = event;
         number_is = d.is.number_is;
         there = subst (λ (x : Got). IsThere x s.stay d.at) same d.is.there;
@@ -225,8 +221,8 @@ module _ (run : List Log) (lines : List Numbering) (g : Gathered) (traffic : Tra
       let l = is.some.0 in
       let by : IsBy got l = subst (λ (x : Got). IsBy x l) same is.some.1 in
       let has = (seen.ends.all.exact l).0 (is.among l is.some.1) in
-      let here = (arrived has.at has.stay has.stands).1.is in
-      let log : IsLogAt run l here.log.proc = record { log = here.log; stands = subst (λ (j : ℕ). slice_get run j ≡ Some here.log) has.of here.stands; proc = refl } in
+      let here = replayed_at has.at has.stay has.stands in
+      let log : IsLogAt run l here.log.proc = record { log = here.log; stands = subst (λ (j : ℕ). slice_get run j ≡ Some here.log) has.of here.log_is; proc = refl } in
       let f = found k l here.log.proc got sent at of log by in
       record { l = l; p = here.log.proc; at = f.at; conf = f.conf; number = f.number; log = log; event = f.event; number_is = f.number_is }
 
@@ -256,7 +252,7 @@ module _ (run : List Log) (lines : List Numbering) (g : Gathered) (traffic : Tra
     pub origin : Origin
     pub origin_is : slice_get g.origins.items k ≡ Some origin
     pub origin_at : origin.at ≡ at
-    pub kind : is_safe service ≡ origin.safe
+    pub kind : service ≡ origin.service
 
   pub sent_at : (k : ℕ) (sent : Sent) → slice_get g.sent.items k ≡ Some sent → SentAt k sent
   sent_at k sent at =
@@ -265,15 +261,15 @@ module _ (run : List Log) (lines : List Numbering) (g : Gathered) (traffic : Tra
     where
       of : (is : IsSentAt run lines g k) → SentAt k is.sent
       of is =
-          let event : IsEventAt run lines is.sent.sender is.origin.at (Send is.sent.message (Regular g.ring) is.send.service) is.number = subst (λ (e : Entry). IsEventAt run lines is.sent.sender is.origin.at e is.number) is.send.is is.event in
+          let event : IsEventAt run lines is.sent.sender is.origin.at (Send is.sent.message (Regular g.ring) is.origin.service) is.number = subst (λ (e : Entry). IsEventAt run lines is.sent.sender is.origin.at e is.number) is.send.is is.event in
           let log : IsLogAt run is.sent.sender is.event.log.proc = record { log = is.event.log; stands = is.event.log_is; proc = refl } in
           record {
             p = is.event.log.proc;
             at = is.origin.at;
-            service = is.send.service;
+            service = is.origin.service;
             number = is.number;
             log = log;
-            entry = entry_of run lines is.sent.sender is.event.log.proc is.origin.at (Send is.sent.message (Regular g.ring) is.send.service) is.number is_run.rising log event;
+            entry = entry_of run lines is.sent.sender is.event.log.proc is.origin.at (Send is.sent.message (Regular g.ring) is.origin.service) is.number is_run.rising log event;
             event = event;
             number_is = is.number_is;
             before = is.before;
@@ -281,7 +277,7 @@ module _ (run : List Log) (lines : List Numbering) (g : Gathered) (traffic : Tra
             origin = is.origin;
             origin_is = is.origin_is;
             origin_at = refl;
-            kind = is.send.kind;
+            kind = refl;
           }
 
   -- the number of a send is that in the list

@@ -94,25 +94,6 @@ module _ (run : List Log) (lines : List Numbering) (rising : Rising run) (certif
       let both : Some a ≡ Some b = sym e.number ∙ same ∙ f.number in
       cc
 
-  -- and changes that share their number are to one configuration
-  pub one_configuration : (k l p q i j : ℕ) (x y : ConfId) (ms ns : List ℕ) (n : ℕ) → IsLogAt run k p → IsLogAt run l q → IsEventAt run lines k i (Conf x ms) n → IsEventAt run lines l j (Conf y ns) n → x ≡ y
-  one_configuration k l p q i j x y ms ns n at_p at_q first second =
-      let e = stands run lines k p i (Conf x ms) n rising certified.matches at_p first in
-      let f = stands run lines l q j (Conf y ns) n rising certified.matches at_q second in
-      elim (certified.apart (place p i) (place q j) (Conf x ms, e.entry) (Conf y ns, f.entry) (e.number ∙ sym f.number)) [
-        | inl same ↦ (
-            let there : Stands run lines (place p i) (Conf y ns) n = subst (λ w. Stands run lines w (Conf y ns) n) (sym same) f in
-            let both : Some (Conf x ms) ≡ Some (Conf y ns) = sym e.entry ∙ there.entry in
-            cc
-            )
-        | inr (inl (z, (xs, one), (ys, other))) ↦ (
-            let a : Some (Conf x ms) ≡ Some (Conf z xs) = sym e.entry ∙ one in
-            let b : Some (Conf y ns) ≡ Some (Conf z ys) = sym f.entry ∙ other in
-            cc
-            )
-        | inr (inr (m, (c, one), other)) ↦ absurd (let a : Some (Conf x ms) ≡ Some (Deliver m c) = sym e.entry ∙ one in cc)
-      ]
-
 -- ---- lists of ascending numbers
 
 pub same_index : (numbers : List ℕ) (j k n m : ℕ) → RisesBefore numbers (length numbers) → slice_get numbers j ≡ Some n → slice_get numbers k ≡ Some m → n ≡ m → j ≡ k

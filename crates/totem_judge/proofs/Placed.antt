@@ -6,11 +6,11 @@ use Rattle.totem_ids.specs.declared.conf.ConfId.{ConfId}
 use Rattle.totem_ids.specs.declared.conf.ConfId.TheVariants.{Regular}
 use Rattle.totem_evs.specs.declared.entry.Entry.{Entry}
 use Rattle.totem_evs.specs.declared.entry.Entry.TheVariants.{Conf, Send, Deliver, Fail}
-use Rattle.totem_evs.specs.declared.ending.Ending.TheVariants.{Quiet}
+use Rattle.totem_evs.specs.declared.ending.Ending.TheVariants.{Failed, Quiet}
 use Rattle.totem_evs.specs.declared.log.Log.{Log}
 use Rattle.totem_evs.specs.Runs.{IsRun, IsLog, IsFailure, EndsInFail}
 use Rattle.totem_evs.specs.Events.{ChangesTo, ChangesWith, IsMember, IsQuiet, log_of}
-use Rattle.totem_evs.specs.Following.{IsNextChange, Follows, FailedIn, StaysIn, OpenIn}
+use Rattle.totem_evs.specs.Following.{IsNextChange, Follows, NeverFails, FailedIn, StaysIn, OpenIn}
 use Rattle.totem_evs.specs.Agreement.{Goes}
 use Rattle.totem_evs.specs.Answers.{MeetsPasses}
 use Rattle.totem_evs.specs.Certificates.{Numbering, Certified}
@@ -32,15 +32,14 @@ use Rattle.totem_judge.specs.Seen.{IsSeen}
 use Rattle.totem_run_rules.specs.Orderly.{IsOrderly}
 use Rattle.totem_judge.proofs.Numbers.{one_at, entries_of}
 use Rattle.totem_judge.proofs.Endings.{ending_at}
-use Rattle.totem_run_rules.proofs.LogEnds.{quiet_never_fails}
 use Rattle.totem_judge.proofs.Listed as view
 
 module _ (run : List Log) (lines : List Numbering) (g : Gathered) (traffic : Traffic) (is_run : IsRun run) (orderly : IsOrderly run) (meets : MeetsPasses run) (certified : Certified run lines) (seen : IsSeen run lines g traffic)
-    (whole : (l p i : ℕ) → IsLogAt run l p → ChangesTo (log_of run p) i (Regular g.ring) → HasSuch IsAny seen.stays (length seen.stays) l) where
+    (whole : (l p i : ℕ) → IsLogAt run l p → ChangesTo (log_of run p) i (Regular g.ring) → HasSuch IsAny g.stays.items (length g.stays.items) l) where
   abbrev StayOf : ℕ → ℕ → Type 0
   StayOf = view.StayOf run lines g traffic is_run orderly certified seen whole
 
-  such_of : (Such : Stay → Type 0) (l p : ℕ) → IsLogAt run l p → HasSuch Such seen.stays (length seen.stays) l → (s : StayOf l p) × Such s.stay
+  such_of : (Such : Stay → Type 0) (l p : ℕ) → IsLogAt run l p → HasSuch Such g.stays.items (length g.stays.items) l → (s : StayOf l p) × Such s.stay
   such_of = view.such_stay run lines g traffic is_run orderly certified seen whole
 
   come : (l p i : ℕ) → IsLogAt run l p → ChangesTo (log_of run p) i (Regular g.ring) → StayOf l p
@@ -85,13 +84,36 @@ module _ (run : List Log) (lines : List Numbering) (g : Gathered) (traffic : Tra
   quiet_here : (l p : ℕ) (log : IsLogAt run l p) → log.log.ending ≡ Quiet → IsQuiet run p
   quiet_here l p log quiet = ending_at run l p is_run.rising log ∙ quiet
 
+  -- a log with a failure ends as failed: the failure is its last entry
+  failed_with : (l p i : ℕ) (x : ConfId) (log : IsLogAt run l p) → slice_get (log_of run p) i ≡ Some (Fail x) → log.log.ending ≡ Failed
+  failed_with l p i x log fails = (all_at IsLog run l log.log is_run.each log.stands).ending.1 (i, Fail x, rw entries at last, rw entries at fails, tt)
+    where
+      entries : log_of run p ≡ log.log.entries
+      entries = entries_of run l p is_run.rising log
+
+      last : length (log_of run p) ≡ i + 1
+      last = elim (less_or_not (i + 1) (length (log_of run p))) [
+        | inl under ↦ absurd ((orderly.placed p).final i (i + 1) x fails (omega arith) under)
+        | inr (inl over) ↦ absurd (omega (arith, over, slice_get_within (log_of run p) i (Fail x) fails))
+        | inr (inr is) ↦ sym is
+      ]
+
+  never_failed : (l p : ℕ) (log : IsLogAt run l p) → NeverFails (log_of run p) → log.log.ending ≡ Failed → ⊥
+  never_failed l p log never failed = of ((all_at IsLog run l log.log is_run.each log.stands).ending.0 failed)
+    where
+      failure_of : (e : Entry) → IsFailure e → (x : ConfId) × (e ≡ Fail x)
+      failure_of (Conf x ms) h = absurd h
+      failure_of (Send m x s) h = absurd h
+      failure_of (Deliver m x) h = absurd h
+      failure_of (Fail x) h = (x, refl)
+
+      of : EndsInFail log.log.entries → ⊥
+      of (i, e, many, at, fails) = let f = failure_of e fails in never i f.0 (rw (entries_of run l p is_run.rising log, ← f.1) at)
+
   -- a quiet log neither fails nor is open
   loud : (l p : ℕ) (log : IsLogAt run l p) → FailedIn (log_of run p) g.ring ⊎ OpenIn run p g.ring → log.log.ending ≡ Quiet → ⊥
   loud l p log (inr (not_quiet, stays)) quiet = not_quiet (quiet_here l p log quiet)
-  loud l p log (inl (i, d, fails, belongs)) quiet =
-      let of_log = all_at IsLog run l log.log is_run.each log.stands in
-      let entries = entries_of run l p is_run.rising log in
-      quiet_never_fails log.log.entries log.log.ending (rw entries at (orderly.placed p)) of_log.ending quiet i d (rw entries at fails)
+  loud l p log (inl (i, d, fails, belongs)) quiet = (let failed = failed_with l p i d log fails in cc)
 
   excused : (l p : ℕ) (log : IsLogAt run l p) (h : FailedIn (log_of run p) g.ring ⊎ OpenIn run p g.ring) → (s : StayOf l p) → IsExcusedIn run s.stay
   excused l p log h s = record {
@@ -122,21 +144,7 @@ module _ (run : List Log) (lines : List Numbering) (g : Gathered) (traffic : Tra
       to : (l p : ℕ) → IsLogAt run l p → FailedIn (log_of run p) g.ring ⊎ OpenIn run p g.ring → Has traffic.ended l
       to l p log h =
           let s = stay_of_end l p log (stays_or_fails p h) in
-          (seen.ends.ending.exact l).1 (record { at = s.at; stay = s.stay; before = slice_get_within seen.stays s.at s.stay s.stands; stands = s.stands; of = s.log; such = excused l p log h s })
-
-  -- a log that does not end in a failure has none
-  no_failure : (entries : List Entry) (p i : ℕ) (x : ConfId) → entries ≡ log_of run p → (EndsInFail entries → ⊥) → slice_get (log_of run p) i ≡ Some (Fail x) → ⊥
-  no_failure entries p i x same never fails = elim (less_or_not (i + 1) (length (log_of run p))) [
-    | inl under ↦ (orderly.placed p).final i (i + 1) x fails (omega arith) under
-    | inr (inl over) ↦ absurd (omega (arith, over, slice_get_within (log_of run p) i (Fail x) fails))
-    | inr (inr is) ↦ never (i, Fail x, ap (λ (es : List Entry). length es) same ∙ sym is, rw same fails, tt)
-  ]
-
-  failure_of : (e : Entry) → IsFailure e → (x : ConfId) × (e ≡ Fail x)
-  failure_of (Conf x ms) h = absurd h
-  failure_of (Send m x s) h = absurd h
-  failure_of (Deliver m x) h = absurd h
-  failure_of (Fail x) h = (x, refl)
+          (seen.ends.ending.exact l).1 (record { at = s.at; stay = s.stay; before = slice_get_within g.stays.items s.at s.stay s.stands; stands = s.stands; of = s.log; such = excused l p log h s })
 
   pub open_are : AreLogsOf run traffic.open (λ p. OpenIn run p g.ring)
   open_are = record { exact = λ l p log. (from l p log, to l p log) }
@@ -145,20 +153,19 @@ module _ (run : List Log) (lines : List Numbering) (g : Gathered) (traffic : Tra
       from l p log has =
           let such = such_of (IsOpenAt run) l p log ((seen.ends.opened.exact l).0 has) in
           let on = such.1.1 in
-          let entries : on.log.entries ≡ log_of run p = entries_at l p on.log log (subst (λ (j : ℕ). slice_get run j ≡ Some on.log) such.0.log on.stands) in
+          let same : on.log ≡ log.log = one_at run l on.log log.log (subst (λ (j : ℕ). slice_get run j ≡ Some on.log) such.0.log on.stands) log.stands in
           elim (ends_so l p log such.0 such.1.0) [
-            | inl (i, x, fails, belongs) ↦ absurd (no_failure on.log.entries p i x entries on.goes_on fails)
+            | inl (i, x, fails, belongs) ↦ absurd (on.goes_on (ap (λ (y : Log). y.ending) same ∙ failed_with l p i x log fails))
             | inr stands ↦ stands
           ]
 
       to : (l p : ℕ) → IsLogAt run l p → OpenIn run p g.ring → Has traffic.open l
       to l p log (not_quiet, (d, never, last, belongs)) =
           let s = stay_of_end l p log (inr (d, never, last, belongs)) in
-          let entries = entries_of run l p is_run.rising log in
           (seen.ends.opened.exact l).1 (record {
             at = s.at;
             stay = s.stay;
-            before = slice_get_within seen.stays s.at s.stay s.stands;
+            before = slice_get_within g.stays.items s.at s.stay s.stands;
             stands = s.stands;
             of = s.log;
             such = (
@@ -166,7 +173,7 @@ module _ (run : List Log) (lines : List Numbering) (g : Gathered) (traffic : Tra
               record {
                 log = log.log;
                 stands = subst (λ (j : ℕ). slice_get run j ≡ Some log.log) (sym s.log) log.stands;
-                goes_on = λ (i, e, many, at, fails). (let f = failure_of e fails in never i f.0 (rw (entries, ← f.1) at));
+                goes_on = never_failed l p log never;
               },
             );
           })
@@ -200,7 +207,7 @@ module _ (run : List Log) (lines : List Numbering) (g : Gathered) (traffic : Tra
   members_are =
       let m = seen.members in
       let at : IsLogAt run m.stay.log m.log.proc = record { log = m.log; stands = m.log_is; proc = refl } in
-      let such = such_of (λ (y : Stay). y ≡ m.stay) m.stay.log m.log.proc at (record { at = m.at; stay = m.stay; before = slice_get_within seen.stays m.at m.stay m.stands; stands = m.stands; of = refl; such = refl }) in
+      let such = such_of (λ (y : Stay). y ≡ m.stay) m.stay.log m.log.proc at (record { at = m.at; stay = m.stay; before = slice_get_within g.stays.items m.at m.stay m.stands; stands = m.stands; of = refl; such = refl }) in
       let here : ChangesWith (log_of run m.log.proc) m.stay.from m.conf m.members = rw (entries_at m.stay.log m.log.proc m.log at m.log_is) at m.change in
       let from : such.0.stay.from ≡ m.stay.from = ap (λ (y : Stay). y.from) such.1 in
       let conf : m.conf ≡ Regular g.ring = same_change (log_of run m.log.proc) m.stay.from such.0.stay.from m.conf (Regular g.ring) (sym from) (m.members, here) such.0.is.change in
@@ -241,11 +248,11 @@ module _ (run : List Log) (lines : List Numbering) (g : Gathered) (traffic : Tra
         },
       )
 
-  such_stay : (l p : ℕ) (s : StayOf l p) (Such : Stay → Type 0) → Such s.stay → HasSuch Such seen.stays (length seen.stays) l
-  such_stay l p s Such such = record { at = s.at; stay = s.stay; before = slice_get_within seen.stays s.at s.stay s.stands; stands = s.stands; of = s.log; such = such }
+  such_stay : (l p : ℕ) (s : StayOf l p) (Such : Stay → Type 0) → Such s.stay → HasSuch Such g.stays.items (length g.stays.items) l
+  such_stay l p s Such such = record { at = s.at; stay = s.stay; before = slice_get_within g.stays.items s.at s.stay s.stands; stands = s.stands; of = s.log; such = such }
 
   -- the configuration that follows in these stays, as it follows in the run
-  follows_as : (p l : ℕ) (x : ConfId) → IsLogAt run l p → Follows (log_of run p) g.ring x → (h : HasFollowingOf run seen.stays traffic.following.items l) → h.conf ≡ x → IsFollowingAs run g.ring x h.following
+  follows_as : (p l : ℕ) (x : ConfId) → IsLogAt run l p → Follows (log_of run p) g.ring x → (h : HasFollowingOf run g.stays.items traffic.following.items l) → h.conf ≡ x → IsFollowingAs run g.ring x h.following
   follows_as p l x log f h same = subst (λ (y : ConfId). IsFollowingAs run g.ring y h.following) same (record {
     members = members_here;
     logs = record { exact = λ k q at. (from k q at, to k q at) };
@@ -310,8 +317,8 @@ module _ (run : List Log) (lines : List Numbering) (g : Gathered) (traffic : Tra
       let l = log.0 in
       let s = come l p f.from log.1 f.first.change in
       let t = turns_to l p x s log.1 f in
-      let h : HasFollowingOf run seen.stays traffic.following.items l = subst (λ (j : ℕ). HasFollowingOf run seen.stays traffic.following.items j) s.log
-      (seen.following.each s.at s.stay x t.0 (slice_get_within seen.stays s.at s.stay s.stands) s.stands t.1) in
+      let h : HasFollowingOf run g.stays.items traffic.following.items l = subst (λ (j : ℕ). HasFollowingOf run g.stays.items traffic.following.items j) s.log
+      (seen.following.each s.at s.stay x t.0 (slice_get_within g.stays.items s.at s.stay s.stands) s.stands t.1) in
       let such = such_of (TurnsToConf run h.conf) l p log.1 ((h.is.logs.exact l).0 h.has) in
       let same : h.conf ≡ x = one_following run g.ring meets p h.conf x (turned l p h.conf such.0 log.1 such.1) f in
       record { at = h.at; following = h.following; stands = h.stands; is = follows_as p l x log.1 f h same }

@@ -23,7 +23,8 @@ use Rattle.totem_configuration_rules.specs.Pending.{IsPendingIn}
 use Rattle.totem_configuration_rules.specs.Traffics.{IsTrafficOf, AreTraffic}
 use Rattle.totem_configuration_rules.proofs.Facts.{has_log}
 use Rattle.totem_judge.specs.declared.gathered.Gathered.{Gathered}
-use Rattle.totem_judge.specs.Arrivals.{AllHaveCome, AreRisingTo}
+use Rattle.totem_judge.specs.Covered.{AreCovered, AreRisingTo}
+use Rattle.totem_judge.specs.Lists.{EachBelow}
 use Rattle.totem_judge.specs.Seen.{IsSeen}
 use Rattle.totem_judge.specs.Pending.{IsPendingFrom}
 use Rattle.totem_run_rules.specs.Endings.{IsInOrder, HoldsPending}
@@ -35,7 +36,7 @@ use Rattle.totem_judge.proofs.Unsent.{unsent_met}
 use Rattle.totem_run_rules.proofs.PendingOrder.{are_pending}
 
 module _ (run : List Log) (lines : List Numbering) (list : List Gathered) (observed : List Observed) (pending : List Pending) (is_run : IsRun run) (orderly : IsOrderly run) (together : EndsTogether run) (certified : Certified run lines)
-    (come : AllHaveCome run lines list (length run)) (rise : AreRisingTo list (length list)) (are : AreObserved run lines list observed pending) where
+    (covered : EachBelow (AreCovered run list) (length run)) (rise : AreRisingTo list (length list)) (are : AreObserved run lines list observed pending) where
   -- what was observed of a configuration that was gathered
   one_at : (k : ℕ) (g : Gathered) → slice_get list k ≡ Some g → (one : Observed) × (slice_get observed k ≡ Some one) × IsVerified run lines g one
   one_at k g at =
@@ -48,7 +49,7 @@ module _ (run : List Log) (lines : List Numbering) (list : List Gathered) (obser
   -- with 1.3 the run has passed A and B
   pub meets : MeetsPasses run
   meets = record {
-    sent = unsent_met run lines list is_run orderly certified come rise all_seen;
+    sent = unsent_met run lines list is_run orderly certified covered rise all_seen;
     once = orderly.once;
     together = together;
     placed = orderly.placed;
@@ -58,7 +59,7 @@ module _ (run : List Log) (lines : List Numbering) (list : List Gathered) (obser
 
   all_traffic : AllAreTraffic run lines list
   all_traffic = record {
-    each = λ k g traffic at seen. traffic_is run lines g traffic is_run meets certified seen (place.whole run lines list is_run certified come rise k g traffic at seen);
+    each = λ k g traffic at seen. traffic_is run lines g traffic is_run meets certified seen (place.whole run lines list is_run orderly certified covered rise all_seen k g at);
   }
 
   traffic : AreTraffic run observed
@@ -70,14 +71,14 @@ module _ (run : List Log) (lines : List Numbering) (list : List Gathered) (obser
           let is = are.each k g.0 one g.1 here in
           subst (λ (d : RingId). IsTrafficOf run d one.traffic) (sym is.ring) (all_traffic.each k g.0 one.traffic g.1 is.seen)
 
-  gathered : (c : RingId) → IsRing run c → place.Covers run lines list is_run certified come rise c
+  gathered : (c : RingId) → IsRing run c → (l : ℕ) × place.Gathers run lines list is_run orderly certified covered rise all_seen l c
   gathered c ring =
       let log = has_log run ring.proc ring.index (Conf (Regular c) ring.change.0) ring.change.1 in
-      place.covers run lines list is_run certified come rise log.0 ring.proc ring.index c all_seen log.1 ring.change
+      (log.0, place.gathers run lines list is_run orderly certified covered rise all_seen log.0 ring.proc ring.index c log.1 ring.change)
 
   covers : (c : RingId) → IsRing run c → Covers observed c
   covers c ring =
-      let here = gathered c ring in
+      let here = (gathered c ring).1 in
       let one = one_at here.at here.gathered here.stands in
       record { at = here.at; one = one.0; stands = one.1; ring = one.2.ring ∙ here.ring }
 
@@ -89,7 +90,7 @@ module _ (run : List Log) (lines : List Numbering) (list : List Gathered) (obser
 
       to : (x : Pending) → IsPending run x.proc x.msg → IsPendingFrom run list (length list) x
       to x h =
-          let here = gathered h.ring (ring_of_send run h.sent.0 h.sent.1 h.ring x.msg meets h.sent.2) in
+          let here = (gathered h.ring (ring_of_send run h.sent.0 h.sent.1 h.ring x.msg meets h.sent.2)).1 in
           record {
             at = here.at;
             gathered = here.gathered;

@@ -1,12 +1,12 @@
 -- Steps of the loops over stays, logs and members.
-use Rattle.std.proofs.Common.{◌≡◌, ◌≢◌, ◌⊎◌, inl, inr, ℕ, zero, suc, ◌+◌, ◌<◌, List, [], ◌∷◌, ◌++◌, length, slice_get, Some, refl, sym, ◌∙◌, ap, subst, arith}
+use Rattle.std.proofs.Common.{◌≡◌, ◌≢◌, ◌⊎◌, inl, inr, ℕ, zero, suc, ◌+◌, ◌<◌, ◌≤◌, List, [], ◌∷◌, ◌++◌, length, slice_get, Some, refl, sym, ◌∙◌, ap, subst, arith}
 use Rattle.std.specs.Prelude.{◌↔◌, Contains}
 use Rattle.std.proofs.lemmas.Option.{slice_get_within}
 use Rattle.totem_ids.specs.declared.ring.RingId.{RingId}
 use Rattle.totem_ids.specs.declared.conf.ConfId.{ConfId}
 use Rattle.totem_evs.specs.declared.log.Log.{Log}
 use Rattle.totem_evs.specs.declared.pending.Pending.{Pending}
-use Rattle.totem_evs.specs.Certificates.{Numbering}
+use Rattle.totem_evs.proofs.LogOf.{less_or_not}
 use Rattle.totem_configuration_rules.specs.declared.log_set.LogSet.{LogSet}
 use Rattle.totem_configuration_rules.specs.declared.traffic.Following.{Following}
 use Rattle.totem_configuration_rules.specs.declared.traffic.Traffic.{Traffic}
@@ -19,7 +19,7 @@ use Rattle.totem_judge.specs.declared.gathered.Stay.{Stay}
 use Rattle.totem_judge.specs.Ends.{HasSuch, Selects}
 use Rattle.totem_judge.specs.Members.{IsLogOfMember, AreLogsOfMembers}
 use Rattle.totem_judge.specs.Turns.{TurnsTo, IsFollowing, HasFollowingOf, HasFollowings}
-use Rattle.totem_judge.specs.Seen.{IsReplayed, AreReplayed}
+use Rattle.totem_judge.specs.Covered.{IsCovered, IsCoveredTo}
 use Rattle.totem_judge.specs.Pending.{IsPendingTo, AddsAll}
 
 same_or_not : (a b : ℕ) → (a ≡ b) ⊎ (a ≢ b)
@@ -183,15 +183,19 @@ module _ (run : List Log) (stays : List Stay) (n : ℕ) (stay : Stay) (at : slic
       each = λ log has. elim ((union log).0 has) [ inl before ↦ following_kept run stays list (following ∷ []) log (so_far.each log before) | inr here ↦ newest log here ];
     }
 
--- ---- stays that are replayed
+-- ---- entries in stays
 
-pub replay_more : (run : List Log) (lines : List Numbering) (g : Gathered) (stays : List Stay) (n : ℕ) (stay : Stay) → slice_get stays n ≡ Some stay → IsReplayed run lines g stay → AreReplayed run lines g stays n → AreReplayed run lines g stays (n + 1)
-replay_more run lines g stays n stay at here so_far = record {
-  each = λ k other lt stands. elim (before_or_at k n lt) [
-    | inl under ↦ so_far.each k other under stands
-    | inr level ↦ subst (λ (y : Stay). IsReplayed run lines g y) (sym (one_at stays n other stay (rw level at stands) at)) here
+pub covered_more : (list : List Gathered) (l n k j : ℕ) (g : Gathered) (stay : Stay) → slice_get list k ≡ Some g → slice_get g.stays.items j ≡ Some stay → stay.log ≡ l → stay.from ≡ n → IsCoveredTo list l n → IsCoveredTo list l stay.end
+covered_more list l n k j g stay at stands log from so_far = record {
+  each = λ i lt. elim (less_or_not i n) [
+    | inl under ↦ so_far.each i under
+    | inr (inl over) ↦ here i (omega (arith, from)) lt
+    | inr (inr same) ↦ here i (omega (arith, from, same)) lt
   ];
 }
+  where
+    here : (i : ℕ) → stay.from ≤ i → i < stay.end → IsCovered list l i
+    here i le lt = record { at = k; gathered = g; stands = at; place = j; stay = stay; stay_is = stands; log_is = log; from = le; until = lt }
 
 -- ---- what is pending
 

@@ -31,7 +31,7 @@ use Rattle.totem_judge.proofs.Numbers.{one_at, event_of, one_event, in_order, by
 use Rattle.totem_judge.proofs.Listed as view
 
 module _ (run : List Log) (lines : List Numbering) (g : Gathered) (traffic : Traffic) (is_run : IsRun run) (orderly : IsOrderly run) (certified : Certified run lines) (seen : IsSeen run lines g traffic)
-    (whole : (l p i : ℕ) → IsLogAt run l p → ChangesTo (log_of run p) i (Regular g.ring) → HasSuch IsAny seen.stays (length seen.stays) l) where
+    (whole : (l p i : ℕ) → IsLogAt run l p → ChangesTo (log_of run p) i (Regular g.ring) → HasSuch IsAny g.stays.items (length g.stays.items) l) where
   abbrev Listed : ℕ → ℕ → ℕ → MsgId → Type 0
   Listed = view.Listed run lines g traffic is_run orderly certified seen whole
 
@@ -176,7 +176,7 @@ module _ (run : List Log) (lines : List Numbering) (g : Gathered) (traffic : Tra
 
       from : IsTrue is.got.safe → IsSafe run is.sent.message
       from told =
-          let kind : is_safe s.service ≡ true = s.kind ∙ ap (λ (o : Origin). o.safe) (sym origins) ∙ sym is.kind ∙ told in
+          let kind : is_safe s.service ≡ true = ap is_safe s.kind ∙ ap (λ (o : Origin). is_safe o.service) (sym origins) ∙ sym is.kind ∙ told in
           (s.p, s.at, Regular g.ring, rw (safe_told s.service kind) at s.entry)
 
       to : IsSafe run is.sent.message → IsTrue is.got.safe
@@ -184,7 +184,7 @@ module _ (run : List Log) (lines : List Numbering) (g : Gathered) (traffic : Tra
           let one = orderly.once.one_send s.p s.at q j is.sent.message (Regular g.ring) x (s.service, s.entry) (services.Safe, at_j) in
           let here : slice_get (log_of run q) j ≡ Some (Send is.sent.message (Regular g.ring) s.service) = rw one.1 at (rw one.0 at s.entry) in
           let services_are : s.service ≡ services.Safe = cc in
-          is.kind ∙ ap (λ (o : Origin). o.safe) origins ∙ sym s.kind ∙ ap is_safe services_are
+          is.kind ∙ ap (λ (o : Origin). is_safe o.service) origins ∙ ap is_safe (sym s.kind ∙ services_are)
 
   pub all_sent : (p i : ℕ) (m : MsgId) → Sends (log_of run p) i m (Regular g.ring) → HasSent run g.sent.items p m
   all_sent p i m (service, at) =
@@ -193,8 +193,7 @@ module _ (run : List Log) (lines : List Numbering) (g : Gathered) (traffic : Tra
       let s = view.stay_around run lines g traffic is_run orderly certified seen whole l p i (Regular g.ring) log.1 (Send m (Regular g.ring) service, at, refl) (inl refl) in
       let bounds = s.is.here i (Regular g.ring) (Send m (Regular g.ring) service, at, refl) (inl refl) in
       let event = event_of run lines l p i (Send m (Regular g.ring) service) is_run.rising certified.matches log.1 at in
-      let there : IsEventAt run lines s.stay.log i (Send m (Regular g.ring) service) event.0 = subst (λ (k : ℕ). IsEventAt run lines k i (Send m (Regular g.ring) service) event.0) (sym s.log) event.1 in
-      let told = s.replayed.listed.each i event.0 (Send m (Regular g.ring) service) bounds.0 bounds.1 there in
+      let told = s.replayed.are.listed i (Send m (Regular g.ring) service) bounds.0 bounds.1 (view.own_entry run lines g traffic is_run orderly certified seen whole l p i (Send m (Regular g.ring) service) s log.1 at) in
       of l log.1 event.0 event.1 told.0 s.stay.log told.1 s.log
     where
       of : (l : ℕ) → IsLogAt run l p → (n : ℕ) → IsEventAt run lines l i (Send m (Regular g.ring) service) n → (k y : ℕ) (o : IsOriginAt g y k i) → y ≡ l → HasSent run g.sent.items p m

@@ -21,7 +21,7 @@ pub orderly_of : (run : List Log) → MeetsPasses run → IsOrderly run
 orderly_of run meets = record { once = meets.once; placed = meets.placed; one = meets.one; turns = meets.turns }
 
 pub traffic_is : (run : List Log) (lines : List Numbering) (g : Gathered) (traffic : Traffic) → IsRun run → (meets : MeetsPasses run) → Certified run lines → (seen : IsSeen run lines g traffic)
-    → ((l p i : ℕ) → IsLogAt run l p → ChangesTo (log_of run p) i (Regular g.ring) → HasSuch IsAny seen.stays (length seen.stays) l) → IsTrafficOf run g.ring traffic
+    → ((l p i : ℕ) → IsLogAt run l p → ChangesTo (log_of run p) i (Regular g.ring) → HasSuch IsAny g.stays.items (length g.stays.items) l) → IsTrafficOf run g.ring traffic
 traffic_is run lines g traffic is_run meets certified seen whole = record {
   of_run = is_run;
   sent = λ k s at. told.sent_in run lines g traffic is_run orderly certified seen whole k s (subst (λ (xs : List Sent). slice_get xs k ≡ Some s) seen.sent at);

@@ -1,8 +1,7 @@
 -- How the stays of one regular configuration end (docs/SPECIFICATIONS.md, "Failed and open").
 use Rattle.std.specs.Prelude.{◌≡◌, ◌↔◌, ℕ, ◌<◌, List, length, slice_get, Some}
 use Rattle.totem_evs.specs.declared.log.Log.{Log}
-use Rattle.totem_evs.specs.declared.ending.Ending.TheVariants.{Quiet}
-use Rattle.totem_evs.specs.Runs.{EndsInFail}
+use Rattle.totem_evs.specs.declared.ending.Ending.TheVariants.{Failed, Quiet}
 use Rattle.totem_configuration_rules.specs.declared.log_set.LogSet.{LogSet}
 use Rattle.totem_configuration_rules.specs.LogSets.{Has}
 use Rattle.totem_judge.specs.declared.gathered.Stay.{Stay}
@@ -30,11 +29,11 @@ pub record IsExcusedIn (run : List Log) (stay : Stay) : Type 0 where
   pub end : stay.end ≡ length log.entries
   pub loud : log.ending ≡ Quiet → ⊥
 
--- the log of the stay does not end in a failure
+-- the log of the stay does not end as failed
 pub record GoesOnAt (run : List Log) (stay : Stay) : Type 0 where
   pub log : Log
   pub stands : slice_get run stay.log ≡ Some log
-  pub goes_on : EndsInFail log.entries → ⊥
+  pub goes_on : log.ending ≡ Failed → ⊥
 
 abbrev pub IsOpenAt : List Log → Stay → Type 0
 IsOpenAt run stay = IsExcusedIn run stay × GoesOnAt run stay

@@ -4,7 +4,7 @@ pub mod Lists
 pub mod Ends
 pub mod Members
 pub mod Turns
-pub mod Arrivals
+pub mod Covered
 pub mod Seen
 pub mod Pending
 pub mod Judged

@@ -24,6 +24,7 @@ use Rattle.totem_judge.specs.Events.{IsEventAt}
 pub record EachBelow (Holds : ℕ → Type 0) (n : ℕ) : Type 0 where
   pub each : (k : ℕ) → k < n → Holds k
 
+-- it is the service of safe messages
 abbrev pub is_safe : Service → Bool
 is_safe services.Agreed = false
 is_safe services.Safe = true
@@ -31,10 +32,8 @@ is_safe services.Safe = true
 -- ---- what was sent
 
 -- the entry sends m in c
-pub record IsSendOf (e : Entry) (c : RingId) (m : MsgId) (safe : Bool) : Type 0 where
-  pub service : Service
+pub record IsSendOf (e : Entry) (c : RingId) (m : MsgId) (service : Service) : Type 0 where
   pub is : e ≡ Send m (Regular c) service
-  pub kind : is_safe service ≡ safe
 
 -- a send with this number is before what is delivered from this index on
 abbrev pub ComesBefore : List ℕ → ℕ → ℕ → Type 0
@@ -62,7 +61,7 @@ pub record IsSentAt (run : List Log) (lines : List Numbering) (g : Gathered) (k 
   pub origin_is : slice_get g.origins.items k ≡ Some origin
   pub number_is : slice_get g.sent_numbers.items k ≡ Some number
   pub event : IsEventAt run lines sent.sender origin.at entry number
-  pub send : IsSendOf entry g.ring sent.message origin.safe
+  pub send : IsSendOf entry g.ring sent.message origin.service
   pub before : ComesBefore g.got_numbers.items sent.before number
   pub linked : IsLinked g.got.items k sent
 
@@ -77,7 +76,7 @@ pub record IsGotAt (g : Gathered) (logs : LogSet) (k : ℕ) : Type 0 where
   pub sent_is : slice_get g.sent.items got.sent ≡ Some sent
   pub origin_is : slice_get g.origins.items got.sent ≡ Some origin
   pub sender : got.sender ≡ sent.sender
-  pub kind : got.safe ≡ origin.safe
+  pub kind : got.safe ≡ is_safe origin.service
   pub behind : sent.before ≤ k
   pub within : (log : ℕ) → IsBy got log → Has sent.by log
   pub among : (log : ℕ) → IsBy got log → Has logs log
@@ -90,21 +89,16 @@ pub record IsThere (got : Got) (stay : Stay) (at : ℕ) : Type 0 where
   pub regular : at < stay.turn → Has got.regular stay.log × (Has got.transitional stay.log → ⊥)
   pub transitional : stay.turn ≤ at → Has got.transitional stay.log × (Has got.regular stay.log → ⊥)
 
--- the entry delivers m
-abbrev pub IsDeliveryOfMessage : Entry → MsgId → Type 0
-IsDeliveryOfMessage e m = (conf : ConfId) × (e ≡ Deliver m conf)
-
--- the entry x with the number n, at this index of the stay's log, delivers what is listed at k
-pub record IsDeliveryOf (g : Gathered) (stay : Stay) (k at : ℕ) (x : Entry) (n : ℕ) : Type 0 where
-  pub message : MsgId
-  pub conf : ConfId
+-- the entry at this index of the stay's log, a delivery of m, is listed at k: with its number, and as in the configuration that the log is in
+pub record IsDeliveryOf (numbers : List ℕ) (g : Gathered) (stay : Stay) (k at : ℕ) (m : MsgId) : Type 0 where
   pub got : Got
   pub sent : Sent
-  pub entry_is : x ≡ Deliver message conf
+  pub number : ℕ
   pub got_is : slice_get g.got.items k ≡ Some got
-  pub number_is : slice_get g.got_numbers.items k ≡ Some n
   pub sent_is : slice_get g.sent.items got.sent ≡ Some sent
-  pub message_is : sent.message ≡ message
+  pub message_is : sent.message ≡ m
+  pub number_is : slice_get g.got_numbers.items k ≡ Some number
+  pub own_number : slice_get numbers at ≡ Some number
   pub there : IsThere got stay at
 
 -- what is listed at k was sent by this log, at this index
@@ -116,27 +110,28 @@ pub record IsOriginAt (g : Gathered) (log k at : ℕ) : Type 0 where
   pub sender : sent.sender ≡ log
   pub at_is : origin.at ≡ at
 
--- what the entry sends or delivers is listed
-abbrev pub IsListed : Gathered → Stay → ℕ → Entry → ℕ → Type 0
-IsListed g stay at (Conf x members) n = Unit {0}
-IsListed g stay at (Send m x service) n = (k : ℕ) × IsOriginAt g stay.log k at
-IsListed g stay at (Deliver m x) n = (k : ℕ) × IsDeliveryOf g stay k at (Deliver m x) n
-IsListed g stay at (Fail x) n = Unit {0}
-
--- the entries of the stay at indices below n are listed
-pub record AreListed (run : List Log) (lines : List Numbering) (g : Gathered) (stay : Stay) (n : ℕ) : Type 0 where
-  pub each : (at number : ℕ) (x : Entry) → stay.from < at → at < n → IsEventAt run lines stay.log at x number → IsListed g stay at x number
+-- what the entry sends or delivers is listed, and a change is where the stay turns
+abbrev pub IsListed : List ℕ → Gathered → Stay → ℕ → Entry → Type 0
+IsListed numbers g stay at (Conf x members) = at ≡ stay.turn
+IsListed numbers g stay at (Send m x service) = (k : ℕ) × IsOriginAt g stay.log k at
+IsListed numbers g stay at (Deliver m x) = (k : ℕ) × IsDeliveryOf numbers g stay k at m
+IsListed numbers g stay at (Fail x) = Unit {0}
 
 -- an entry of the stay delivers what is listed at k
-pub record IsDeliveredAt (run : List Log) (lines : List Numbering) (g : Gathered) (stay : Stay) (k : ℕ) : Type 0 where
+pub record IsDeliveredAt (entries : List Entry) (numbers : List ℕ) (g : Gathered) (stay : Stay) (k : ℕ) : Type 0 where
   pub at : ℕ
-  pub entry : Entry
-  pub number : ℕ
+  pub message : MsgId
+  pub conf : ConfId
   pub after : stay.from < at
   pub until : at < stay.end
-  pub event : IsEventAt run lines stay.log at entry number
-  pub is : IsDeliveryOf g stay k at entry number
+  pub entry : slice_get entries at ≡ Some (Deliver message conf)
+  pub is : IsDeliveryOf numbers g stay k at message
 
--- what is listed at k is delivered in the stay, if its log delivers it
-pub record IsDelivered (run : List Log) (lines : List Numbering) (g : Gathered) (stay : Stay) (k : ℕ) : Type 0 where
-  pub each : (got : Got) → slice_get g.got.items k ≡ Some got → IsBy got stay.log → IsDeliveredAt run lines g stay k
+-- the log delivers none of what is listed from one index on and before the other
+pub record AreSkipped (gots : List Got) (log from to : ℕ) : Type 0 where
+  pub none : (k : ℕ) (got : Got) → from ≤ k → k < to → slice_get gots k ≡ Some got → IsBy got log → ⊥
+
+-- the entries of the stay before the index `to` are listed; of what is listed before the index n, they deliver all that the log delivers
+pub record AreAsListed (entries : List Entry) (numbers : List ℕ) (g : Gathered) (stay : Stay) (to n : ℕ) : Type 0 where
+  pub listed : (at : ℕ) (x : Entry) → stay.from < at → at < to → slice_get entries at ≡ Some x → IsListed numbers g stay at x
+  pub delivered : (k : ℕ) (got : Got) → k < n → slice_get g.got.items k ≡ Some got → IsBy got stay.log → IsDeliveredAt entries numbers g stay k

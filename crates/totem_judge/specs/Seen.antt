@@ -1,5 +1,5 @@
 -- What was verified about the traffic gathered for one regular configuration.
-use Rattle.std.specs.Prelude.{◌≡◌, ℕ, ◌<◌, List, length, slice_get, Some}
+use Rattle.std.specs.Prelude.{◌≡◌, ℕ, List, length, slice_get, Some}
 use Rattle.totem_ids.specs.declared.conf.ConfId.{ConfId}
 use Rattle.totem_evs.specs.declared.log.Log.{Log}
 use Rattle.totem_evs.specs.Events.{ChangesWith}
@@ -10,30 +10,33 @@ use Rattle.totem_configuration_rules.specs.declared.traffic.MemberLogs.{MemberLo
 use Rattle.totem_configuration_rules.specs.declared.traffic.Traffic.{Traffic}
 use Rattle.totem_judge.specs.declared.gathered.Gathered.{Gathered}
 use Rattle.totem_judge.specs.declared.gathered.Stay.{Stay}
-use Rattle.totem_judge.specs.Arrivals.{AreStaysAt}
+use Rattle.totem_judge.specs.StaysIn.{IsBounded}
 use Rattle.totem_judge.specs.Ends.{AreEnds}
 use Rattle.totem_judge.specs.Members.{AreMemberLogs}
 use Rattle.totem_judge.specs.Turns.{HasFollowings}
-use Rattle.totem_judge.specs.Lists.{EachBelow, IsSentAt, IsGotAt, AreListed, IsDelivered}
+use Rattle.totem_judge.specs.Lists.{EachBelow, IsSentAt, IsGotAt, AreAsListed}
 
--- the lists and the entries of the stay agree
+-- the stay is one of its log, begins with the number of the configuration, and its entries agree with the lists
 pub record IsReplayed (run : List Log) (lines : List Numbering) (g : Gathered) (stay : Stay) : Type 0 where
-  pub listed : AreListed run lines g stay stay.end
-  pub delivered : EachBelow (IsDelivered run lines g stay) (length g.got.items)
+  pub log : Log
+  pub line : Numbering
+  pub log_is : slice_get run stay.log ≡ Some log
+  pub line_is : slice_get lines stay.log ≡ Some line
+  pub bounded : IsBounded log.entries g.ring stay
+  pub number : slice_get line.numbers stay.from ≡ Some g.number
+  pub are : AreAsListed log.entries line.numbers g stay stay.end (length g.got.items)
 
--- the lists and the entries of the first n stays agree
-pub record AreReplayed (run : List Log) (lines : List Numbering) (g : Gathered) (stays : List Stay) (n : ℕ) : Type 0 where
-  pub each : (k : ℕ) (stay : Stay) → k < n → slice_get stays k ≡ Some stay → IsReplayed run lines g stay
+-- it holds for the k-th stay
+abbrev pub IsReplayedAt : List Log → List Numbering → Gathered → ℕ → Type 0
+IsReplayedAt run lines g k = (stay : Stay) → slice_get g.stays.items k ≡ Some stay → IsReplayed run lines g stay
 
--- the lists have what was sent and delivered in these stays
-pub record AreTrue (run : List Log) (lines : List Numbering) (g : Gathered) (stays : List Stay) (logs : LogSet) : Type 0 where
-  pub got_many : length g.got.items ≡ length g.got_numbers.items
+-- the lists have what was sent and delivered in the stays
+pub record AreTrue (run : List Log) (lines : List Numbering) (g : Gathered) (logs : LogSet) : Type 0 where
   pub got_rise : RisesBefore g.got_numbers.items (length g.got_numbers.items)
-  pub sent_many : length g.sent.items ≡ length g.sent_numbers.items
   pub sent_rise : RisesBefore g.sent_numbers.items (length g.sent_numbers.items)
   pub sent : EachBelow (IsSentAt run lines g) (length g.sent.items)
   pub got : EachBelow (IsGotAt g logs) (length g.got.items)
-  pub replayed : AreReplayed run lines g stays (length stays)
+  pub replayed : EachBelow (IsReplayedAt run lines g) (length g.stays.items)
 
 -- the members are those of the configuration in which one of the stays begins
 pub record HasMembers (run : List Log) (stays : List Stay) (found : MemberLogs) : Type 0 where
@@ -51,9 +54,7 @@ pub record HasMembers (run : List Log) (stays : List Stay) (found : MemberLogs) 
 pub record IsSeen (run : List Log) (lines : List Numbering) (g : Gathered) (traffic : Traffic) : Type 0 where
   pub sent : traffic.sent.items ≡ g.sent.items
   pub got : traffic.got.items ≡ g.got.items
-  pub stays : List Stay
-  pub are : AreStaysAt run lines g stays
-  pub lists : AreTrue run lines g stays traffic.logs
-  pub ends : AreEnds run stays (length stays) traffic.logs traffic.ended traffic.open
-  pub members : HasMembers run stays traffic.members
-  pub following : HasFollowings run stays (length stays) traffic.following.items
+  pub lists : AreTrue run lines g traffic.logs
+  pub ends : AreEnds run g.stays.items (length g.stays.items) traffic.logs traffic.ended traffic.open
+  pub members : HasMembers run g.stays.items traffic.members
+  pub following : HasFollowings run g.stays.items (length g.stays.items) traffic.following.items

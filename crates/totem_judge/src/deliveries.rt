@@ -1,10 +1,11 @@
 //! Tests whether the lists of a configuration and the entries of a stay agree.
-ghost use Rattle.std.specs.Prelude.{◌≡◌, ◌<◌, IfSome, length};
+ghost use Rattle.std.specs.Prelude.{◌≤◌, ◌<◌, length};
 ghost use Rattle.std.specs.Bool.{OnTrue};
-ghost use Rattle.totem_judge.specs.Lists.{EachBelow, IsThere, IsDeliveryOfMessage, IsDeliveryOf, IsOriginAt, AreListed, IsDelivered, IsDeliveredAt};
+ghost use Rattle.totem_judge.specs.Lists.{AreSkipped, IsThere, IsDeliveryOf, IsOriginAt, AreAsListed};
+ghost use Rattle.totem_judge.specs.Seen.{IsReplayed};
 
-use crate::event::{Event, event_at};
 use crate::gathered::{Gathered, Stay};
+use crate::stay::is_bounded;
 use totem_certificate::Line;
 use totem_configuration_rules::{Got, Sent};
 use totem_evs::{Entry, Log};
@@ -20,9 +21,10 @@ fn next_sent(list: &[Sent], from: usize, log: u32) -> usize {
     list.len()
 }
 
-/// Returns the index of the next message that this log delivers, in the list of what is delivered. It is a guess, to be tested.
+/// Returns the index of the next message that this log delivers, or the length of the list if there is none.
 fn next_got(list: &[Got], from: usize, log: u32) -> usize
     requires { log < 32 }
+    ensures { AreSkipped list.now log from result }
 {
     for index in from..list.len() {
         if list[index].by().contains(log) {
@@ -30,22 +32,6 @@ fn next_got(list: &[Got], from: usize, log: u32) -> usize
         }
     }
     list.len()
-}
-
-/// Returns the index of the next delivery of a log. It is a guess, to be tested.
-fn next_delivery(logs: &[Log], log: u32, from: usize) -> usize {
-    let log = log as usize;
-    if log >= logs.len() {
-        return from;
-    }
-    let log = &logs[log];
-    let entries = log.entries.as_slice();
-    for at in from..entries.len() {
-        if let Entry::Deliver(_, _) = &entries[at] {
-            return at;
-        }
-    }
-    from
 }
 
 /// Returns whether the message at `index` in the list of what was sent is listed as sent by the log's entry at `at`.
@@ -80,18 +66,16 @@ fn is_there(got: &Got, stay: &Stay, at: usize) -> bool
     }
 }
 
-fn delivers(entry: &Entry, message: &MsgId) -> bool
-    ensures { OnTrue result (IsDeliveryOfMessage entry.now message.now) }
-{
-    match entry {
-        Entry::Deliver(other, _) => *other == *message,
-        _ => false,
-    }
-}
-
-/// Returns whether the event, at `at` in the stay's log, delivers the message at `index` in the list of what is delivered.
-fn is_delivery_of(gathered: &Gathered, stay: &Stay, index: usize, at: usize, event: &Event) -> bool
-    ensures { OnTrue result (IsDeliveryOf gathered.now stay.now index at event.now.entry.now event.now.number) }
+/// Returns whether the entry at `at` in the stay's log, which delivers this message, is listed at `index`.
+fn is_delivery_of(
+    numbers: &[u32],
+    gathered: &Gathered,
+    stay: &Stay,
+    index: usize,
+    at: usize,
+    message: &MsgId,
+) -> bool
+    ensures { OnTrue result (IsDeliveryOf numbers.now gathered.now stay.now index at message.now) }
 {
     let Some(got) = gathered.got_at(index) else {
         return false;
@@ -99,13 +83,13 @@ fn is_delivery_of(gathered: &Gathered, stay: &Stay, index: usize, at: usize, eve
     let Some(sent) = gathered.sent_at(got.sent as usize) else {
         return false;
     };
-    if !delivers(event.entry, &sent.message) {
+    if sent.message != *message {
         return false;
     }
     let Some(number) = gathered.got_number_at(index) else {
         return false;
     };
-    if number != event.number {
+    if at >= numbers.len() || numbers[at] != number {
         return false;
     }
     if !is_there(&got, stay, at) {
@@ -114,17 +98,16 @@ fn is_delivery_of(gathered: &Gathered, stay: &Stay, index: usize, at: usize, eve
     true
 }
 
-/// Returns whether the lists have what each entry of the stay sends or delivers.
-pub fn are_listed(logs: &[Log], lines: &[Line], gathered: &Gathered, stay: &Stay) -> bool
-    ensures { OnTrue result (AreListed logs.now lines.now gathered.now stay.now stay.now.end) }
+/// Returns whether the lists have what the entries of the stay send and deliver, and nothing else that its log delivers.
+fn are_as_listed(entries: &[Entry], numbers: &[u32], gathered: &Gathered, stay: &Stay) -> bool
+    requires some { stay.now.from < stay.now.end }
+    requires within { stay.now.end ≤ length entries.now }
+    ensures { OnTrue result (AreAsListed entries.now numbers.now gathered.now stay.now stay.now.end (length gathered.now.got.items)) }
 {
     let mut sent = 0;
     let mut got = 0;
-    for at in stay.from.saturating_add(1)..stay.end {
-        let Some(event) = event_at(logs, lines, stay.log as usize, at) else {
-            return false;
-        };
-        match event.entry {
+    for at in stay.from + 1..stay.end {
+        match &entries[at] {
             Entry::Send(_, _, _) => {
                 let index = next_sent(&gathered.sent, sent, stay.log);
                 if !is_origin_at(gathered, stay.log, index, at) {
@@ -132,56 +115,47 @@ pub fn are_listed(logs: &[Log], lines: &[Line], gathered: &Gathered, stay: &Stay
                 }
                 sent = index.saturating_add(1);
             }
-            Entry::Deliver(_, _) => {
+            Entry::Deliver(message, _) => {
                 let index = next_got(&gathered.got, got, stay.log);
-                if !is_delivery_of(gathered, stay, index, at, &event) {
+                if !is_delivery_of(numbers, gathered, stay, index, at, message) {
                     return false;
                 }
                 got = index.saturating_add(1);
             }
-            Entry::Conf(_, _) | Entry::Fail(_) => {}
+            Entry::Conf(_, _) => {
+                if at != stay.turn {
+                    return false;
+                }
+            }
+            Entry::Fail(_) => {}
         }
+    }
+    if next_got(&gathered.got, got, stay.log) < gathered.got.len() {
+        return false;
     }
     true
 }
 
-/// Returns the index of the entry of the stay that delivers the message at this index, or `None` unless the next delivery does.
-fn delivery_in(
-    logs: &[Log],
-    lines: &[Line],
-    gathered: &Gathered,
-    stay: &Stay,
-    index: usize,
-    from: usize,
-) -> Option<usize>
-    ensures { IfSome result (λ _. IsDeliveredAt logs.now lines.now gathered.now stay.now index) }
+/// Returns whether the stay is one of its log, begins with the number of the configuration, and agrees with the lists.
+pub fn is_replayed(logs: &[Log], lines: &[Line], gathered: &Gathered, stay: &Stay) -> bool
+    ensures { OnTrue result (IsReplayed logs.now lines.now gathered.now stay.now) }
 {
-    let at = next_delivery(logs, stay.log, from);
-    if at <= stay.from || at >= stay.end {
-        return None;
+    let index = stay.log as usize;
+    if index >= logs.len() || index >= lines.len() {
+        return false;
     }
-    let event = event_at(logs, lines, stay.log as usize, at)?;
-    if !is_delivery_of(gathered, stay, index, at, &event) {
-        return None;
+    let line = &lines[index];
+    let log = &logs[index];
+    let entries = log.entries.as_slice();
+    let numbers = line.numbers.as_slice();
+    if !is_bounded(entries, &gathered.ring, stay) {
+        return false;
     }
-    Some(at)
-}
-
-/// Returns whether entries of the stay deliver what its log delivers according to the lists.
-pub fn are_delivered(logs: &[Log], lines: &[Line], gathered: &Gathered, stay: &Stay) -> bool
-    ensures { OnTrue result (EachBelow (IsDelivered logs.now lines.now gathered.now stay.now) (length gathered.now.got.items)) }
-{
-    let mut next = stay.from.saturating_add(1);
-    for index in 0..gathered.got.len() {
-        let Some(got) = gathered.got_at(index) else {
-            return false;
-        };
-        if got.by().contains(stay.log) {
-            let Some(at) = delivery_in(logs, lines, gathered, stay, index, next) else {
-                return false;
-            };
-            next = at.saturating_add(1);
-        }
+    if stay.from >= numbers.len() || numbers[stay.from] != gathered.number {
+        return false;
+    }
+    if !are_as_listed(entries, numbers, gathered, stay) {
+        return false;
     }
     true
 }

@@ -1,11 +1,10 @@
 //! Which logs stay in a configuration, which end there, and which are open there (docs/SPECIFICATIONS.md, "Failed and open").
 ghost use Rattle.std.specs.Prelude.{◌≡◌, ◌↔◌, IsTrue, length};
-ghost use Rattle.totem_evs.specs.Runs.{EndsInFail};
 ghost use Rattle.totem_judge.specs.Ends.{IsExcusedIn, GoesOnAt, AreEnds};
 
 use crate::gathered::Stay;
 use totem_configuration_rules::LogSet;
-use totem_evs::{Ending, Entry, Log};
+use totem_evs::{Ending, Log};
 
 /// The logs that stay in a configuration, those of them that fail or are open there, and those that are open.
 #[derive(Clone, Copy)]
@@ -13,15 +12,6 @@ pub struct Ends {
     pub logs: LogSet,
     pub ended: LogSet,
     pub open: LogSet,
-}
-
-fn has_failed(entries: &[Entry]) -> bool
-    ensures { IsTrue result ↔ EndsInFail entries.now }
-{
-    if entries.is_empty() {
-        return false;
-    }
-    entries[entries.len() - 1].is_failure()
 }
 
 /// Returns whether the stay reaches the end of a log that is not quiet.
@@ -36,7 +26,7 @@ fn is_excused(logs: &[Log], stay: &Stay) -> bool
     stay.end == log.entries.as_slice().len() && log.ending != Ending::Quiet
 }
 
-/// Returns whether the log of the stay does not end in a failure.
+/// Returns whether the log of the stay does not end as failed.
 fn goes_on(logs: &[Log], stay: &Stay) -> bool
     ensures { IsTrue result ↔ GoesOnAt logs.now stay.now }
 {
@@ -45,7 +35,7 @@ fn goes_on(logs: &[Log], stay: &Stay) -> bool
         return false;
     }
     let log = &logs[index];
-    !has_failed(log.entries.as_slice())
+    log.ending != Ending::Failed
 }
 
 /// Returns how the stays end.

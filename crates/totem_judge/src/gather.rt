@@ -3,11 +3,10 @@
 //! Nothing is proved about what is gathered: its user has to verify it.
 ghost use Rattle.std.specs.Prelude.{◌≡◌, ◌≤◌, ◌<◌, length};
 
-use crate::gathered::{Arrival, Gathered, Origin};
+use crate::gathered::{Gathered, Origin, Stay};
 use std::alloc::{AllocError, Global};
 use std::collections::BTreeMap;
 use totem_certificate::Line;
-use totem_certificate_check::least_head;
 use totem_configuration_rules::{Got, LogSet, Sent};
 use totem_evs::{Entry, Log};
 use totem_ids::{ConfId, MsgId, RingId, Service};
@@ -45,7 +44,6 @@ struct Next {
     log: u32,
     number: u32,
     logs: LogSet,
-    ghost in_range: { log < 32 },
 }
 
 /// What has been gathered so far.
@@ -59,22 +57,40 @@ struct Gatherer {
     behind: LogSet,
 }
 
-/// Moves past the next events with this number. Returns their logs.
-fn go_past(lines: &[Line], passed: &mut [usize], number: u32) -> LogSet
+/// Moves past the next events, those with the least number that is left. Returns `None` if there are none.
+fn go_on(lines: &[Line], passed: &mut [usize]) -> Option<Next>
     requires as_many { length passed.old ≡ length lines.now }
     requires few { length lines.now ≤ 32 }
-    ensures { length passed.new ≡ length passed.old }
 {
-    let mut logs = LogSet::none();
+    let mut next = Next {
+        log: 0,
+        number: u32::MAX,
+        logs: LogSet::none(),
+    };
     for log in 0..lines.len() {
         let line = &lines[log];
         let numbers = line.numbers.as_slice();
-        if passed[log] < numbers.len() && numbers[passed[log]] == number {
-            passed[log] += 1;
-            logs = logs.with(log as u32);
+        if passed[log] < numbers.len() {
+            let number = numbers[passed[log]];
+            if next.logs.is_empty() || number < next.number {
+                next.log = log as u32;
+                next.number = number;
+                next.logs = LogSet::none();
+            }
+            if number == next.number {
+                next.logs = next.logs.with(log as u32);
+            }
         }
     }
-    logs
+    if next.logs.is_empty() {
+        return None;
+    }
+    for log in 0..lines.len() {
+        if next.logs.contains(log as u32) {
+            passed[log] = passed[log].saturating_add(1);
+        }
+    }
+    Some(next)
 }
 
 fn index_of(at: usize) -> u32 {
@@ -159,20 +175,57 @@ impl Gatherer {
         })
     }
 
+    /// Enters that these logs change here, in the stays that they are in.
+    fn move_on(&mut self, next: &Next, passed: &[usize]) {
+        for log in 0..32u32 {
+            let index = log as usize;
+            if next.logs.contains(log)
+                && index < passed.len()
+                && index < self.standing.len()
+                && self.standing[index] < self.list.len()
+            {
+                let at = passed[index].saturating_sub(1);
+                let gathered = &mut self.list[self.standing[index]];
+                for stay in gathered.stays.iter_mut() {
+                    if stay.log == log {
+                        if stay.turn == stay.end {
+                            stay.turn = at;
+                        } else {
+                            stay.end = at;
+                        }
+                    }
+                }
+            }
+        }
+    }
+
     /// Enters the changes of these logs to a regular configuration. `passed` has the number of entries passed in each log, with this one.
     fn change(
         &mut self,
         alloc: Global,
+        logs: &[Log],
         ring: RingId,
         next: &Next,
         passed: &[usize],
     ) -> Result<(), AllocError> {
+        self.move_on(next, passed);
         let mut gathered = Gathered::new(alloc, ring, next.number);
         for log in 0..32u32 {
             let index = log as usize;
-            if next.logs.contains(log) && index < passed.len() && index < self.standing.len() {
-                let at = passed[index].saturating_sub(1);
-                gathered.arrivals.push(Arrival { log, at })?;
+            if next.logs.contains(log)
+                && index < logs.len()
+                && index < passed.len()
+                && index < self.standing.len()
+            {
+                let recorded = &logs[index];
+                let from = passed[index].saturating_sub(1);
+                let end = recorded.entries.as_slice().len();
+                gathered.stays.push(Stay {
+                    log,
+                    from,
+                    turn: end,
+                    end,
+                })?;
                 self.standing[index] = self.list.len();
             }
         }
@@ -191,7 +244,7 @@ impl Gatherer {
     ) -> Result<(), AllocError> {
         let sender = next.log;
         let log = sender as usize;
-        if log >= self.standing.len() || self.standing[log] >= self.list.len() {
+        if sender >= 32 || log >= self.standing.len() || self.standing[log] >= self.list.len() {
             return Ok(());
         }
         let configuration = self.standing[log];
@@ -205,7 +258,7 @@ impl Gatherer {
         })?;
         gathered.origins.push(Origin {
             at: index_of(at),
-            safe: matches!(service, Service::Safe),
+            service,
             got: None,
         })?;
         gathered.sent_numbers.push(next.number)?;
@@ -236,7 +289,7 @@ impl Gatherer {
         gathered.got.push(Got {
             sent: spot.index,
             sender: gathered.sent[index].sender,
-            safe: gathered.origins[index].safe,
+            safe: gathered.origins[index].is_safe(),
             regular: next.logs.minus(self.behind),
             transitional: next.logs.intersection(self.behind),
         })?;
@@ -248,14 +301,16 @@ impl Gatherer {
     fn enter(
         &mut self,
         alloc: Global,
+        logs: &[Log],
         entry: &Entry,
         at: usize,
         next: &Next,
         passed: &[usize],
     ) -> Result<(), AllocError> {
         match entry {
-            Entry::Conf(ConfId::Regular(ring), _) => self.change(alloc, *ring, next, passed),
+            Entry::Conf(ConfId::Regular(ring), _) => self.change(alloc, logs, *ring, next, passed),
             Entry::Conf(ConfId::Transitional { .. }, _) => {
+                self.move_on(next, passed);
                 self.behind = self.behind.union(next.logs);
                 Ok(())
             }
@@ -282,24 +337,20 @@ pub fn gather(alloc: Global, logs: &[Log], lines: &[Line]) -> Result<Vec<Gathere
     let mut gatherer = Gatherer::new(alloc)?;
     let mut passed = vec![in alloc; 0usize; lines.len()]?;
     for _ in 0..entries_of(logs) {
-        let Some(head) = least_head(lines, &passed) else {
+        let Some(next) = go_on(lines, &mut passed) else {
             break;
         };
-        if head.log >= logs.len() || head.log >= passed.len() || head.log >= 32 {
+        let log = next.log as usize;
+        if log >= logs.len() || log >= passed.len() {
             break;
         }
-        let at = passed[head.log];
-        let log = &logs[head.log];
+        let at = passed[log].saturating_sub(1);
+        let log = &logs[log];
         let entries = log.entries.as_slice();
         if at >= entries.len() {
             break;
         }
-        let next = Next {
-            log: head.log as u32,
-            number: head.number,
-            logs: go_past(lines, &mut passed, head.number),
-        };
-        gatherer.enter(alloc, &entries[at], at, &next, &passed)?;
+        gatherer.enter(alloc, logs, &entries[at], at, &next, &passed)?;
     }
     Ok(gatherer.list)
 }

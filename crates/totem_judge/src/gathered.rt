@@ -3,17 +3,7 @@ ghost use Rattle.std.specs.Prelude.{◌<◌};
 
 use std::alloc::Global;
 use totem_configuration_rules::{Got, Sent};
-use totem_ids::RingId;
-
-/// A log's change to the configuration.
-#[derive(Clone, Copy)]
-pub struct Arrival {
-    /// The log, by index.
-    pub log: u32,
-    /// The index of the change in the log.
-    pub at: usize,
-    ghost in_range: { log < 32 },
-}
+use totem_ids::{RingId, Service};
 
 /// A stay: the log changes to the regular configuration at `from` and to what follows that at `turn`, and its entries up to
 /// `end` are those in these two. If nothing follows, `turn` is `end`.
@@ -32,7 +22,7 @@ pub struct Stay {
 pub struct Origin {
     /// The index of the send in the log of the sender.
     pub at: u32,
-    pub safe: bool,
+    pub service: Service,
     /// Its index in the list of what is delivered, or `None` if no process delivers it.
     pub got: Option<u32>,
 }
@@ -43,7 +33,8 @@ pub struct Gathered {
     pub ring: RingId,
     /// The number of the changes to it.
     pub number: u32,
-    pub arrivals: Vec<Arrival>,
+    /// The stays of logs in it.
+    pub stays: Vec<Stay>,
     pub sent: Vec<Sent>,
     /// For each message sent, where it was sent.
     pub origins: Vec<Origin>,
@@ -54,6 +45,18 @@ pub struct Gathered {
     pub got_numbers: Vec<u32>,
 }
 
+impl Origin {
+    ghost use Rattle.std.specs.Prelude.{◌≡◌};
+    ghost use Rattle.totem_judge.specs.Lists.{is_safe};
+
+    /// Returns whether the message was sent as a safe one.
+    pub fn is_safe(&self) -> bool
+        ensures { result ≡ is_safe self.now.service }
+    {
+        matches!(self.service, Service::Safe)
+    }
+}
+
 impl Gathered {
     ghost use Rattle.std.specs.Prelude.{◌≡◌, slice_get};
 
@@ -61,7 +64,7 @@ impl Gathered {
         Gathered {
             ring,
             number,
-            arrivals: Vec::new(alloc),
+            stays: Vec::new(alloc),
             sent: Vec::new(alloc),
             origins: Vec::new(alloc),
             sent_numbers: Vec::new(alloc),

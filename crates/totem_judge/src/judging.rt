@@ -6,7 +6,7 @@ ghost use Rattle.totem_evs.specs.Certificates.{Certified};
 ghost use Rattle.totem_run_rules.specs.Orderly.{IsOrderly};
 ghost use Rattle.totem_judge.specs.Judged.{IsObserved, AreObserved, IsView, Agree};
 
-use crate::arrivals::{all_have_come, rise};
+use crate::covered::{are_covered, rise};
 use crate::gather::gather;
 use crate::gathered::Gathered;
 use crate::pending::add_pending;
@@ -81,7 +81,7 @@ fn observe_configurations(
     let logs = run.logs.as_slice();
     let lines = certificate.as_slice();
     let list = gather(alloc, logs, lines)?;
-    if !rise(&list) || !all_have_come(logs, lines, &list) {
+    if !rise(&list) || !are_covered(logs, &list) {
         return Ok(None);
     }
     let Some(View { observed, pending }) = observe_all(alloc, logs, lines, list)? else {

@@ -11,10 +11,9 @@
 //! The walk that gathers promises nothing. The checker's yes rests on this crate and those below it, and no search does.
 #![tactic(auto)]
 
-mod arrivals;
+mod covered;
 mod deliveries;
 mod ends;
-mod event;
 mod following;
 mod gather;
 mod gathered;

@@ -1,35 +1,49 @@
 //! Tests whether the lists of a configuration agree with the logs about what was sent and delivered there.
-ghost use Rattle.std.specs.Prelude.{◌≡◌, ◌<◌, length};
+ghost use Rattle.std.specs.Prelude.{◌≡◌, ◌<◌, IfSome, length};
 ghost use Rattle.std.specs.Bool.{OnTrue};
-ghost use Rattle.totem_judge.specs.Lists.{EachBelow, is_safe, IsSendOf, ComesBefore, IsLinked, IsSentAt, IsGotAt};
+ghost use Rattle.totem_judge.specs.Events.{IsEventAt};
+ghost use Rattle.totem_judge.specs.Lists.{EachBelow, IsSendOf, ComesBefore, IsLinked, IsSentAt, IsGotAt};
 
-use crate::event::event_at;
 use crate::gathered::Gathered;
 use totem_certificate::Line;
 use totem_configuration_rules::{LogSet, Sent};
 use totem_evs::{Entry, Log};
 use totem_ids::{ConfId, MsgId, RingId, Service};
 
-fn is_safe(service: Service) -> bool
-    ensures { result ≡ is_safe service }
-{
-    matches!(service, Service::Safe)
+/// An entry and its number.
+#[derive(Clone, Copy)]
+struct Event<'a> {
+    entry: &'a Entry,
+    number: u32,
 }
 
-/// Returns whether both are true or both false.
-fn are_same(first: bool, second: bool) -> bool
-    ensures { OnTrue result (first ≡ second) }
+/// Returns the event at this index of a log, or `None` unless it has an entry and a number.
+fn event_at<'a>(logs: &'a [Log], lines: &[Line], log: usize, at: usize) -> Option<Event<'a>>
+    ensures { IfSome result (λ event. IsEventAt logs.now lines.now log at event.entry.now event.number) }
 {
-    first == second
+    if log >= logs.len() || log >= lines.len() {
+        return None;
+    }
+    let line = &lines[log];
+    let log = &logs[log];
+    let entries = log.entries.as_slice();
+    let numbers = line.numbers.as_slice();
+    if at >= entries.len() || at >= numbers.len() {
+        return None;
+    }
+    Some(Event {
+        entry: &entries[at],
+        number: numbers[at],
+    })
 }
 
-/// Returns whether the entry sends the message in the ring's regular configuration, as a safe one or not.
-fn is_send_of(entry: &Entry, ring: &RingId, message: &MsgId, safe: bool) -> bool
-    ensures { OnTrue result (IsSendOf entry.now ring.now message.now safe) }
+/// Returns whether the entry sends the message in the ring's regular configuration, by this service.
+fn is_send_of(entry: &Entry, ring: &RingId, message: &MsgId, service: Service) -> bool
+    ensures { OnTrue result (IsSendOf entry.now ring.now message.now service) }
 {
     match entry {
-        Entry::Send(other, ConfId::Regular(conf), service) => {
-            *other == *message && *conf == *ring && is_safe(*service) == safe
+        Entry::Send(other, ConfId::Regular(conf), kind) => {
+            *other == *message && *conf == *ring && *kind == service
         }
         _ => false,
     }
@@ -85,7 +99,7 @@ fn is_sent(logs: &[Log], lines: &[Line], gathered: &Gathered, index: usize) -> b
     if event.number != number {
         return false;
     }
-    if !is_send_of(event.entry, &gathered.ring, &sent.message, origin.safe) {
+    if !is_send_of(event.entry, &gathered.ring, &sent.message, origin.service) {
         return false;
     }
     if !comes_before(&gathered.got_numbers, sent.before, number) {
@@ -130,7 +144,7 @@ fn is_got(gathered: &Gathered, logs: LogSet, index: usize) -> bool
     if got.sender != sent.sender {
         return false;
     }
-    if !are_same(got.safe, origin.safe) {
+    if got.safe != origin.is_safe() {
         return false;
     }
     if sent.before as usize > index {

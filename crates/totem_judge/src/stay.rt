@@ -1,12 +1,11 @@
-//! The part of a log that is in a regular configuration and in what follows it (docs/SPECIFICATIONS.md, "Following").
-ghost use Rattle.std.specs.Prelude.{◌↔◌, ◌≡◌, IsTrue, IfSome};
-ghost use Rattle.totem_evs.specs.Runs.{IsRun};
-ghost use Rattle.totem_judge.specs.StaysIn.{IsChangeToRing, IsStayIn};
+//! Tests whether a log changes where a stay begins, turns and ends (docs/SPECIFICATIONS.md, "Following").
+ghost use Rattle.std.specs.Prelude.{◌↔◌, IsTrue};
+ghost use Rattle.std.specs.Bool.{OnTrue};
+ghost use Rattle.totem_judge.specs.StaysIn.{IsChangeToRing, ChangesOrEnds, IsBounded};
 
-use crate::gathered::{Arrival, Stay};
-use totem_evs::{Entry, Log};
+use crate::gathered::Stay;
+use totem_evs::Entry;
 use totem_ids::{ConfId, RingId};
-use totem_run_rules::walk_to_change;
 
 fn is_change_to(entry: &Entry, ring: &RingId) -> bool
     ensures { IsTrue result ↔ IsChangeToRing entry.now ring.now }
@@ -17,34 +16,38 @@ fn is_change_to(entry: &Entry, ring: &RingId) -> bool
     }
 }
 
-impl Stay {
-    /// Returns the stay that begins here, or `None` unless the log changes to the ring's regular configuration here.
-    pub fn at(logs: &[Log], ring: &RingId, arrival: &Arrival) -> Option<Stay>
-        ensures stay { IfSome result (IsStayIn logs.now ring.now) }
-        ensures log { IfSome result (λ stay. stay.log ≡ arrival.now.log) }
-        ensures from { IfSome result (λ stay. stay.from ≡ arrival.now.at) }
-    {
-        let index = arrival.log as usize;
-        if index >= logs.len() {
-            return None;
-        }
-        let log = &logs[index];
-        let entries = log.entries.as_slice();
-        let from = arrival.at;
-        if from >= entries.len() || !is_change_to(&entries[from], ring) {
-            return None;
-        }
-        let turn = walk_to_change(entries, from);
-        let end = if turn < entries.len() {
-            walk_to_change(entries, turn)
-        } else {
-            turn
-        };
-        Some(Stay {
-            log: arrival.log,
-            from,
-            turn,
-            end,
-        })
+/// Returns whether the log has a change at this index, or ends there.
+fn changes_or_ends(entries: &[Entry], at: usize) -> bool
+    ensures { OnTrue result (ChangesOrEnds entries.now at) }
+{
+    if at >= entries.len() {
+        return at == entries.len();
     }
+    match &entries[at] {
+        Entry::Conf(_, _) => true,
+        _ => false,
+    }
+}
+
+/// Returns whether the log changes to the ring's regular configuration where the stay begins, and changes or ends where it turns and
+/// where it ends.
+pub fn is_bounded(entries: &[Entry], ring: &RingId, stay: &Stay) -> bool
+    ensures { OnTrue result (IsBounded entries.now ring.now stay.now) }
+{
+    if stay.from >= stay.turn || stay.turn > stay.end || stay.from >= entries.len() {
+        return false;
+    }
+    if stay.turn == stay.end && stay.turn != entries.len() {
+        return false;
+    }
+    if !is_change_to(&entries[stay.from], ring) {
+        return false;
+    }
+    if !changes_or_ends(entries, stay.turn) {
+        return false;
+    }
+    if !changes_or_ends(entries, stay.end) {
+        return false;
+    }
+    true
 }

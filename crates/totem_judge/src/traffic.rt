@@ -1,10 +1,10 @@
 //! The traffic of a regular configuration, as it was gathered and verified.
-ghost use Rattle.std.specs.Prelude.{◌<◌, ◌≤◌, IfOk, IfSome, length};
+ghost use Rattle.std.specs.Prelude.{◌≤◌, IfOk, IfSome, length};
 ghost use Rattle.std.specs.Bool.{OnTrue};
-ghost use Rattle.totem_judge.specs.Seen.{AreReplayed, AreTrue, HasMembers, IsSeen};
+ghost use Rattle.totem_judge.specs.Lists.{EachBelow};
+ghost use Rattle.totem_judge.specs.Seen.{IsReplayedAt, AreTrue, HasMembers, IsSeen};
 
-use crate::arrivals::stays_in;
-use crate::deliveries::{are_delivered, are_listed};
+use crate::deliveries::is_replayed;
 use crate::ends::ends_of;
 use crate::following::following_in;
 use crate::gathered::{Gathered, Stay};
@@ -17,14 +17,11 @@ use totem_configuration_rules::{LogSet, MemberLogs, Traffic};
 use totem_evs::{Entry, Log};
 
 /// Returns whether the lists and the entries of each stay agree.
-fn are_replayed(logs: &[Log], lines: &[Line], gathered: &Gathered, stays: &[Stay]) -> bool
-    ensures { OnTrue result (AreReplayed logs.now lines.now gathered.now stays.now (length stays.now)) }
+fn are_replayed(logs: &[Log], lines: &[Line], gathered: &Gathered) -> bool
+    ensures { OnTrue result (EachBelow (IsReplayedAt logs.now lines.now gathered.now) (length gathered.now.stays.items)) }
 {
-    for stay in stays {
-        if !are_listed(logs, lines, gathered, stay) {
-            return false;
-        }
-        if !are_delivered(logs, lines, gathered, stay) {
+    for stay in &gathered.stays {
+        if !is_replayed(logs, lines, gathered, stay) {
             return false;
         }
     }
@@ -32,24 +29,24 @@ fn are_replayed(logs: &[Log], lines: &[Line], gathered: &Gathered, stays: &[Stay
 }
 
 /// Returns whether the lists agree with the logs that stay in the configuration about what was sent and delivered.
-fn are_true(logs: &[Log], lines: &[Line], gathered: &Gathered, stays: &[Stay], set: LogSet) -> bool
-    ensures { OnTrue result (AreTrue logs.now lines.now gathered.now stays.now set) }
+fn are_true(logs: &[Log], lines: &[Line], gathered: &Gathered, set: LogSet) -> bool
+    ensures { OnTrue result (AreTrue logs.now lines.now gathered.now set) }
 {
-    gathered.got.len() == gathered.got_numbers.len()
-        && rises(&gathered.got_numbers)
-        && gathered.sent.len() == gathered.sent_numbers.len()
+    rises(&gathered.got_numbers)
         && rises(&gathered.sent_numbers)
         && all_are_sent(logs, lines, gathered)
         && all_are_got(gathered, set)
-        && are_replayed(logs, lines, gathered, stays)
+        && are_replayed(logs, lines, gathered)
 }
 
 /// Returns the members of the configuration in which the first of the stays begins.
 fn members_in(logs: &[Log], stays: &[Stay]) -> Option<MemberLogs>
-    requires few { length logs.now ≤ 32 }
-    requires some { 0 < length stays.now }
+    requires { length logs.now ≤ 32 }
     ensures { IfSome result (HasMembers logs.now stays.now) }
 {
+    if stays.is_empty() {
+        return None;
+    }
     let stay = &stays[0];
     let index = stay.log as usize;
     if index >= logs.len() {
@@ -76,17 +73,14 @@ pub fn traffic_of(
     requires { length logs.now ≤ 32 }
     ensures { IfOk result (λ found. IfSome found (IsSeen logs.now lines.now gathered)) }
 {
-    let Some(stays) = stays_in(alloc, logs, lines, &gathered)? else {
-        return Ok(None);
-    };
-    let ends = ends_of(logs, &stays);
-    if !are_true(logs, lines, &gathered, &stays, ends.logs) {
+    let ends = ends_of(logs, &gathered.stays);
+    if !are_true(logs, lines, &gathered, ends.logs) {
         return Ok(None);
     }
-    let Some(members) = members_in(logs, &stays) else {
+    let Some(members) = members_in(logs, &gathered.stays) else {
         return Ok(None);
     };
-    let following = following_in(alloc, logs, &stays)?;
+    let following = following_in(alloc, logs, &gathered.stays)?;
     let Gathered { sent, got, .. } = gathered;
     Ok(Some(Traffic {
         sent,

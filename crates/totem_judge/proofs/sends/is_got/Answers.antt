@@ -1,4 +1,4 @@
-use Rattle.std.proofs.Common.{sym, ◌∙◌, refl, arith}
+use Rattle.std.proofs.Common.{sym, ◌∙◌, refl, arith, rules}
 use Rattle.totem_judge.proofs.sends.is_got.Goals as goal
 
 pub returns : goal.returns
@@ -10,7 +10,7 @@ returns c = record {
   sent_is = sym c.sent_at.ensures ∙ c.in-Some-sent_at.is;
   origin_is = sym c.origin_at.ensures ∙ c.in-Some-origin_at.is;
   sender = omega (arith, c.if-got-sent.false);
-  kind = c.if-not-are_same.ensures;
+  kind = (let h = c.if-got-is_safe.false in let e = c.is_safe.ensures in search rules);
   behind = omega (arith, c.if-sent-index.false);
   within = λ log by. (c.if-not-is_within.ensures.0 refl).each log ((c.by-by.ensures log).1 by);
   among = λ log by. (c.if-not-is_within-2.ensures.0 refl).each log ((c.by-by.ensures log).1 by);

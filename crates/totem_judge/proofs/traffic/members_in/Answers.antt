@@ -1,4 +1,4 @@
-use Rattle.std.proofs.Common.{Some, refl, ap, ◌∙◌, arith}
+use Rattle.std.proofs.Common.{Some, refl, ap, ◌∙◌, arith, rules}
 use Rattle.std.proofs.lemmas.Option.{slice_get_read}
 use Rattle.totem_evs.specs.declared.entry.Entry.{Entry}
 use Rattle.totem_evs.specs.LogRecord.{LogRecord}
@@ -13,7 +13,7 @@ returns-in-Conf c =
     record {
       at = 0;
       stay = stay;
-      stands = slice_get_read c.args.stays.now _ 0 stay refl c.requires.some c.index-stays-0.is;
+      stands = slice_get_read c.args.stays.now _ 0 stay refl (search rules) c.index-stays-0.is;
       log = log;
       log_is = slice_get_read c.args.logs.now _ stay.log log refl (omega (arith, c.if-index-logs.false)) c.index-logs-index.is;
       conf = c.in-Conf.field-0;
