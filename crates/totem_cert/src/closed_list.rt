@@ -6,7 +6,7 @@ ghost use Rattle.totem_cert.specs.Keys.{IsIndex};
 ghost use Rattle.totem_cert.specs.Progress.{IsSound, NoneReady, IsFirstLeft};
 
 use crate::closed::{forward, turned};
-use crate::index::Index;
+use crate::key::KeyedEntry;
 use crate::twins::has_twins;
 use crate::walk::walk_round;
 use std::alloc::{AllocError, Global};
@@ -43,7 +43,7 @@ fn broken_by(run: &Run, places: &[Place]) -> SpecNo
 pub fn closed_list(
     alloc: Global,
     run: &Run,
-    index: &Index<'_>,
+    index: &[KeyedEntry],
     lines: &[OpenLine],
     k: usize,
 ) -> Result<Fault, AllocError>

@@ -20,7 +20,6 @@ mod laws;
 mod mates;
 mod numbering;
 mod order;
-mod spot;
 mod step;
 mod twins;
 mod walk;

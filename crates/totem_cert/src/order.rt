@@ -5,7 +5,7 @@ ghost use Rattle.totem_cert.specs.Progress.{IsSound, IsFull};
 
 use crate::closed_list::closed_list;
 use crate::counted::number_by_counts;
-use crate::index::Index;
+use crate::index::index_of;
 use crate::numbering::first_left;
 use std::alloc::{AllocError, Global};
 use totem_certificate::{Certificate, Line, Lines, OpenLine};
@@ -69,7 +69,7 @@ pub fn positions(alloc: Global, run: &Run) -> Result<Order, AllocError>
     match first_left(run, &lines) {
         None => Ok(Order::Positions(certificate(alloc, run, lines)?)),
         Some(k) => {
-            let index = Index::of(alloc, run)?;
+            let index = index_of(alloc, run)?;
             Ok(Order::Cycle(closed_list(alloc, run, &index, &lines, k)?))
         }
     }

@@ -8,8 +8,7 @@ ghost use Rattle.totem_evs.specs.Runs.{IsRun};
 ghost use Rattle.totem_cert.specs.Keys.{IsIndex};
 ghost use Rattle.totem_cert.specs.Progress.{Fits, IsSound, NoneReady, IsOpenSend, IsHeldMate, IsHeldBy};
 
-use crate::index::Index;
-use crate::key::Key;
+use crate::key::{Key, KeyedEntry};
 use crate::wanted::{Wanted, first_place};
 use std::marker::Model;
 use totem_certificate::OpenLine;
@@ -72,7 +71,7 @@ pub fn entry_at(run: &Run, proc: Proc, at: usize) -> Option<&Entry>
 }
 
 /// Returns the least send without a number of the message that an entry delivers.
-fn open_send(run: &Run, index: &Index<'_>, lines: &[OpenLine], entry: &Entry) -> Option<Place>
+fn open_send(run: &Run, index: &[KeyedEntry], lines: &[OpenLine], entry: &Entry) -> Option<Place>
     requires run { IsRun run.now.logs }
     requires index { IsIndex run.now.logs index.now }
     requires fits { Fits run.now.logs lines.now }
@@ -105,7 +104,7 @@ fn held_alone(lines: &[OpenLine], proc: Proc, at: usize, waits: bool) -> Option<
 /// of the class.
 fn held_mate(
     run: &Run,
-    index: &Index<'_>,
+    index: &[KeyedEntry],
     lines: &[OpenLine],
     left: &Standing,
     waits: bool,
@@ -150,7 +149,7 @@ fn step_to(lines: &[OpenLine], send: Option<Place>, to: &Place) -> Step
 /// Returns the step to the class of an entry that has no number.
 fn step_at(
     run: &Run,
-    index: &Index<'_>,
+    index: &[KeyedEntry],
     lines: &[OpenLine],
     left: &Place,
     standing: &Standing,
@@ -177,7 +176,7 @@ fn step_at(
 }
 
 /// Returns the step to the class of an event that has no number.
-pub fn step_of(run: &Run, index: &Index<'_>, lines: &[OpenLine], left: &Place) -> Step
+pub fn step_of(run: &Run, index: &[KeyedEntry], lines: &[OpenLine], left: &Place) -> Step
     requires run { IsRun run.now.logs }
     requires index { IsIndex run.now.logs index.now }
     requires sound { IsSound run.now.logs lines.now }

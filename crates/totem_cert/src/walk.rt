@@ -6,7 +6,7 @@ ghost use Rattle.totem_cert.specs.Keys.{IsIndex};
 ghost use Rattle.totem_cert.specs.Progress.{IsSound, NoneReady, IsRound};
 ghost use Rattle.totem_cert.specs.Visited.{place_order};
 
-use crate::index::Index;
+use crate::key::KeyedEntry;
 use crate::step::{Step, step_of};
 use std::alloc::{AllocError, Global};
 use std::collections::BTreeMap;
@@ -39,7 +39,7 @@ fn note(seen: &mut BTreeMap<Place, usize>, to: Place, step: usize) -> Result<(),
 pub fn walk_round(
     alloc: Global,
     run: &Run,
-    index: &Index<'_>,
+    index: &[KeyedEntry],
     lines: &[OpenLine],
     start: &Place,
 ) -> Result<Round, AllocError>

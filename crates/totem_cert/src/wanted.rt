@@ -4,7 +4,6 @@ ghost use Rattle.totem_evs.specs.Runs.{IsRun};
 ghost use Rattle.totem_cert.specs.Keys.{KeysRise, IsIndex};
 ghost use Rattle.totem_cert.specs.Wanted.{given_at, IsEnd, IsWanted, Wants, IsNoLater, IsEarlier, IsBestWith, IsBestFrom, IsPlaceOf, IsFirstPlace};
 
-use crate::index::Index;
 use crate::key::{Key, KeyedEntry};
 use totem_certificate::OpenLine;
 use totem_evs::Run;
@@ -84,8 +83,8 @@ fn best_with(
 }
 
 /// Returns the index after the entries with a key.
-#[tactic(auto, using(crate::proofs::Wanting::end_here, crate::proofs::Wanting::end_of_all))]
-fn end_of(index: &Index<'_>, key: &Key) -> usize
+#[tactic(auto, using(crate::proofs::Wanting::end_of_all))]
+fn end_of(index: &[KeyedEntry], key: &Key) -> usize
     requires { KeysRise index.now }
     ensures { IsEnd index.now key.now result }
 {
@@ -93,7 +92,7 @@ fn end_of(index: &Index<'_>, key: &Key) -> usize
     let mut end = index.len();
     while low < end {
         let middle = low + (end - low) / 2;
-        if key.is_below(&index.entry(middle).key) {
+        if key.is_below(&index[middle].key) {
             end = middle;
         } else {
             low = middle + 1;
@@ -103,9 +102,9 @@ fn end_of(index: &Index<'_>, key: &Key) -> usize
 }
 
 /// Returns the wanted entry with a key that has the least place.
-#[tactic(auto, using(crate::proofs::Wanting::best_yet, crate::proofs::Wanting::best_below))]
+#[tactic(auto, using(crate::proofs::Wanting::best_yet))]
 fn first_wanted(
-    index: &Index<'_>,
+    index: &[KeyedEntry],
     lines: &[OpenLine],
     key: &Key,
     wanted: Wanted,
@@ -117,7 +116,7 @@ fn first_wanted(
     let mut s = end_of(index, key);
     while 0 < s {
         s -= 1;
-        let entry = index.entry(s);
+        let entry = index[s];
         if entry.key.is_below(key) {
             return best;
         }
@@ -142,7 +141,7 @@ fn place_of(run: &Run, entry: &KeyedEntry) -> Place
 /// Returns the place of the first wanted entry with a key.
 pub fn first_place(
     run: &Run,
-    index: &Index<'_>,
+    index: &[KeyedEntry],
     lines: &[OpenLine],
     key: &Key,
     wanted: Wanted,

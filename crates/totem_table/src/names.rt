@@ -22,8 +22,10 @@ pub trait Name: Ord + Copy {
     fn of(entry: &Entry) -> Option<Self>
         ensures { result ≡ name_of entry.now };
 
+    /// What compares as less is below.
     ghost rises: { (a b : Self) → Self.cmp a b ≡ Less → below a b };
 
+    /// What compares as equal is the same.
     ghost exact: { (a b : Self) → Self.cmp a b ≡ Equal → a ≡ b };
 }
 
