@@ -47,7 +47,7 @@ module _ (run : List Log) (lines : List Numbering) (g : Gathered) (traffic : Tra
     pub replayed : IsReplayed run lines g stay
 
   replayed_at : (k : ℕ) (stay : Stay) → slice_get g.stays.items k ≡ Some stay → IsReplayed run lines g stay
-  replayed_at k stay at = seen.lists.replayed.each k (slice_get_within g.stays.items k stay at) stay at
+  replayed_at k stay at = seen.lists.replayed.each k stay (slice_get_within g.stays.items k stay at) at
 
   pub stay_with : (l p k : ℕ) (stay : Stay) → IsLogAt run l p → slice_get g.stays.items k ≡ Some stay → stay.log ≡ l → StayOf l p
   stay_with l p k stay log at of = record {

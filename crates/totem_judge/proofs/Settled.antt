@@ -24,7 +24,6 @@ use Rattle.totem_configuration_rules.specs.Traffics.{IsTrafficOf, AreTraffic}
 use Rattle.totem_configuration_rules.proofs.Facts.{has_log}
 use Rattle.totem_judge.specs.declared.gathered.Gathered.{Gathered}
 use Rattle.totem_judge.specs.Covered.{AreCovered, AreRisingTo}
-use Rattle.totem_judge.specs.Lists.{EachBelow}
 use Rattle.totem_judge.specs.Seen.{IsSeen}
 use Rattle.totem_judge.specs.Pending.{IsPendingFrom}
 use Rattle.totem_run_rules.specs.Endings.{IsInOrder, HoldsPending}
@@ -36,7 +35,7 @@ use Rattle.totem_judge.proofs.Unsent.{unsent_met}
 use Rattle.totem_run_rules.proofs.PendingOrder.{are_pending}
 
 module _ (run : List Log) (lines : List Numbering) (list : List Gathered) (observed : List Observed) (pending : List Pending) (is_run : IsRun run) (orderly : IsOrderly run) (together : EndsTogether run) (certified : Certified run lines)
-    (covered : EachBelow (AreCovered run list) (length run)) (rise : AreRisingTo list (length list)) (are : AreObserved run lines list observed pending) where
+    (covered : AreCovered run list (length run)) (rise : AreRisingTo list (length list)) (are : AreObserved run lines list observed pending) where
   -- what was observed of a configuration that was gathered
   one_at : (k : ℕ) (g : Gathered) → slice_get list k ≡ Some g → (one : Observed) × (slice_get observed k ≡ Some one) × IsVerified run lines g one
   one_at k g at =

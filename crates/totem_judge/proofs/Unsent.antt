@@ -16,14 +16,13 @@ use Rattle.totem_configuration_rules.specs.declared.traffic.Traffic.{Traffic}
 use Rattle.totem_configuration_rules.proofs.Facts.{has_log}
 use Rattle.totem_judge.specs.declared.gathered.Gathered.{Gathered}
 use Rattle.totem_judge.specs.Covered.{AreCovered, AreRisingTo}
-use Rattle.totem_judge.specs.Lists.{EachBelow}
 use Rattle.totem_judge.specs.Seen.{IsSeen}
 use Rattle.totem_run_rules.specs.Orderly.{IsOrderly}
 use Rattle.totem_judge.proofs.Whole as place
 use Rattle.totem_judge.proofs.Listed as view
 
 module _ (run : List Log) (lines : List Numbering) (list : List Gathered) (is_run : IsRun run) (orderly : IsOrderly run) (certified : Certified run lines)
-    (covered : EachBelow (AreCovered run list) (length run)) (rise : AreRisingTo list (length list)) (seen : (k : ℕ) (g : Gathered) → slice_get list k ≡ Some g → (traffic : Traffic) × IsSeen run lines g traffic) where
+    (covered : AreCovered run list (length run)) (rise : AreRisingTo list (length list)) (seen : (k : ℕ) (g : Gathered) → slice_get list k ≡ Some g → (traffic : Traffic) × IsSeen run lines g traffic) where
   -- what p delivers in c, or in what follows it, was sent in c
   sent_in : (p i j : ℕ) (m : MsgId) (c : RingId) (d : ConfId) → Delivers (log_of run p) i m d → ChangesTo (log_of run p) j (Regular c) → Com (log_of run p) c d → WasSentFor run p m d
   sent_in p i j m c d delivers change belongs =

@@ -21,7 +21,6 @@ use Rattle.totem_judge.specs.declared.gathered.Stay.{Stay}
 use Rattle.totem_judge.specs.Events.{IsEventAt}
 use Rattle.totem_judge.specs.Ends.{HasSuch, IsAny}
 use Rattle.totem_judge.specs.Covered.{AreCovered, AreRisingTo}
-use Rattle.totem_judge.specs.Lists.{EachBelow}
 use Rattle.totem_judge.specs.Seen.{IsReplayed, IsSeen}
 use Rattle.totem_judge.proofs.Numbers.{one_at, entries_of, one_change_number}
 use Rattle.totem_judge.proofs.Replayed.{stay_in}
@@ -40,10 +39,10 @@ begins log c d from turn end i is le until change = elim (less_or_not from i) [
   | inr (inr same) ↦ (let equal : Regular d ≡ Regular c = same_change log from i (Regular d) (Regular c) same is.change change in cc)
 ]
 
-module _ (run : List Log) (lines : List Numbering) (list : List Gathered) (is_run : IsRun run) (orderly : IsOrderly run) (certified : Certified run lines) (covered : EachBelow (AreCovered run list) (length run))
+module _ (run : List Log) (lines : List Numbering) (list : List Gathered) (is_run : IsRun run) (orderly : IsOrderly run) (certified : Certified run lines) (covered : AreCovered run list (length run))
     (rise : AreRisingTo list (length list)) (seen : (k : ℕ) (g : Gathered) → slice_get list k ≡ Some g → (traffic : Traffic) × IsSeen run lines g traffic) where
   replayed_at : (k j : ℕ) (g : Gathered) (stay : Stay) → slice_get list k ≡ Some g → slice_get g.stays.items j ≡ Some stay → IsReplayed run lines g stay
-  replayed_at k j g stay at stands = (seen k g at).1.lists.replayed.each j (slice_get_within g.stays.items j stay stands) stay stands
+  replayed_at k j g stay at stands = (seen k g at).1.lists.replayed.each j stay (slice_get_within g.stays.items j stay stands) stands
 
   -- the configuration of this ring is gathered, with a stay of the log at l
   pub record Gathers (l : ℕ) (c : RingId) : Type 0 where
@@ -56,7 +55,7 @@ module _ (run : List Log) (lines : List Numbering) (list : List Gathered) (is_ru
   pub gathers : (l p i : ℕ) (c : RingId) → IsLogAt run l p → ChangesTo (log_of run p) i (Regular c) → Gathers l c
   gathers l p i c log change =
       let within = rw (entries_of run l p is_run.rising log) at (change_within (log_of run p) i (Regular c) change) in
-      let found = (covered.each l (slice_get_within run l log.log log.stands) log.log log.stands).each i within in
+      let found = (covered.each l log.log (slice_get_within run l log.log log.stands) log.stands).each i within in
       let g = found.gathered in
       let stay = found.stay in
       let is = stay_in run lines g stay p is_run orderly (subst (λ (j : ℕ). IsLogAt run j p) (sym found.log_is) log) (replayed_at found.at found.place g stay found.stands found.stay_is) in
