@@ -33,8 +33,17 @@ use Rattle.totem_run_rules.specs.Orderly.{IsOrderly}
 use Rattle.totem_judge.proofs.Numbers.{one_at, entry_of, one_event, one_number, same_index}
 use Rattle.totem_judge.proofs.Replayed.{entries_in, stay_in}
 
-module _ (run : List Log) (lines : List Numbering) (g : Gathered) (traffic : Traffic) (is_run : IsRun run) (orderly : IsOrderly run) (certified : Certified run lines) (seen : IsSeen run lines g traffic)
-    (whole : (l p i : ℕ) → IsLogAt run l p → ChangesTo (log_of run p) i (Regular g.ring) → HasSuch IsAny g.stays.items (length g.stays.items) l) where
+-- what was gathered about a configuration of an orderly run was verified, and each log that changes to it has a stay
+pub record Verified (run : List Log) (lines : List Numbering) (g : Gathered) (traffic : Traffic) : Type 0 where
+  pub is_run : IsRun run
+  pub orderly : IsOrderly run
+  pub certified : Certified run lines
+  pub seen : IsSeen run lines g traffic
+  pub whole : (l p i : ℕ) → IsLogAt run l p → ChangesTo (log_of run p) i (Regular g.ring) → HasSuch IsAny g.stays.items (length g.stays.items) l
+
+module _ {run : List Log} {lines : List Numbering} {g : Gathered} {traffic : Traffic} (v : Verified run lines g traffic) where
+  open v use {is_run, orderly, certified, seen, whole}
+
   -- ---- stays
 
   -- the stay of p's log, at l, in the configuration
@@ -47,7 +56,7 @@ module _ (run : List Log) (lines : List Numbering) (g : Gathered) (traffic : Tra
     pub replayed : IsReplayed run lines g stay
 
   replayed_at : (k : ℕ) (stay : Stay) → slice_get g.stays.items k ≡ Some stay → IsReplayed run lines g stay
-  replayed_at k stay at = seen.lists.replayed.each k (slice_get_within g.stays.items k stay at) stay at
+  replayed_at k stay at = seen.lists.replayed.each k stay (slice_get_within g.stays.items k stay at) at
 
   pub stay_with : (l p k : ℕ) (stay : Stay) → IsLogAt run l p → slice_get g.stays.items k ≡ Some stay → stay.log ≡ l → StayOf l p
   stay_with l p k stay log at of = record {
@@ -60,9 +69,9 @@ module _ (run : List Log) (lines : List Numbering) (g : Gathered) (traffic : Tra
   }
 
   -- the stay of a log, which keeps the condition
-  pub such_stay : (Such : Stay → Type 0) (l p : ℕ) → IsLogAt run l p → HasSuch Such g.stays.items (length g.stays.items) l → (s : StayOf l p) × Such s.stay
+  pub such_stay_of : (Such : Stay → Type 0) (l p : ℕ) → IsLogAt run l p → HasSuch Such g.stays.items (length g.stays.items) l → (s : StayOf l p) × Such s.stay
   unfolding stay_with
-  such_stay Such l p log has = (stay_with l p has.at has.stay log has.stands has.of, has.such)
+  such_stay_of Such l p log has = (stay_with l p has.at has.stay log has.stands has.of, has.such)
 
   -- a process that changes to the configuration has a stay
   pub come : (l p i : ℕ) → IsLogAt run l p → ChangesTo (log_of run p) i (Regular g.ring) → StayOf l p

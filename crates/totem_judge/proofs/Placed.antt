@@ -8,12 +8,12 @@ use Rattle.totem_evs.specs.declared.entry.Entry.{Entry}
 use Rattle.totem_evs.specs.declared.entry.Entry.TheVariants.{Conf, Send, Deliver, Fail}
 use Rattle.totem_evs.specs.declared.ending.Ending.TheVariants.{Failed, Quiet}
 use Rattle.totem_evs.specs.declared.log.Log.{Log}
-use Rattle.totem_evs.specs.Runs.{IsRun, IsLog, IsFailure, EndsInFail}
+use Rattle.totem_evs.specs.Runs.{IsLog, IsFailure, EndsInFail}
 use Rattle.totem_evs.specs.Events.{ChangesTo, ChangesWith, IsMember, IsQuiet, log_of}
 use Rattle.totem_evs.specs.Following.{IsNextChange, Follows, NeverFails, FailedIn, StaysIn, OpenIn}
 use Rattle.totem_evs.specs.Agreement.{Goes}
 use Rattle.totem_evs.specs.Answers.{MeetsPasses}
-use Rattle.totem_evs.specs.Certificates.{Numbering, Certified}
+use Rattle.totem_evs.specs.Certificates.{Numbering}
 use Rattle.totem_evs.proofs.LogOf.{less_or_not}
 use Rattle.totem_configuration_rules.specs.declared.traffic.MemberLogs.{MemberLogs}
 use Rattle.totem_configuration_rules.specs.declared.traffic.Traffic.{Traffic}
@@ -28,22 +28,12 @@ use Rattle.totem_judge.specs.declared.gathered.Stay.{Stay}
 use Rattle.totem_judge.specs.Ends.{HasSuch, IsAny, IsExcusedIn, IsOpenAt}
 use Rattle.totem_judge.specs.Members.{AreMemberLogs}
 use Rattle.totem_judge.specs.Turns.{TurnsToConf, LeavesFrom, HasFollowingOf}
-use Rattle.totem_judge.specs.Seen.{IsSeen}
-use Rattle.totem_run_rules.specs.Orderly.{IsOrderly}
 use Rattle.totem_judge.proofs.Numbers.{one_at, entries_of}
 use Rattle.totem_judge.proofs.Endings.{ending_at}
-use Rattle.totem_judge.proofs.Listed as view
+use Rattle.totem_judge.proofs.Listed.{Verified, StayOf, such_stay_of, come, stay_around}
 
-module _ (run : List Log) (lines : List Numbering) (g : Gathered) (traffic : Traffic) (is_run : IsRun run) (orderly : IsOrderly run) (meets : MeetsPasses run) (certified : Certified run lines) (seen : IsSeen run lines g traffic)
-    (whole : (l p i : ℕ) → IsLogAt run l p → ChangesTo (log_of run p) i (Regular g.ring) → HasSuch IsAny g.stays.items (length g.stays.items) l) where
-  abbrev StayOf : ℕ → ℕ → Type 0
-  StayOf = view.StayOf run lines g traffic is_run orderly certified seen whole
-
-  such_of : (Such : Stay → Type 0) (l p : ℕ) → IsLogAt run l p → HasSuch Such g.stays.items (length g.stays.items) l → (s : StayOf l p) × Such s.stay
-  such_of = view.such_stay run lines g traffic is_run orderly certified seen whole
-
-  come : (l p i : ℕ) → IsLogAt run l p → ChangesTo (log_of run p) i (Regular g.ring) → StayOf l p
-  come = view.come run lines g traffic is_run orderly certified seen whole
+module _ {run : List Log} {lines : List Numbering} {g : Gathered} {traffic : Traffic} (v : Verified run lines g traffic) (meets : MeetsPasses run) where
+  open v use {is_run, orderly, seen, whole}
 
   -- the log at an index is p's
   entries_at : (l p : ℕ) (log : Log) → IsLogAt run l p → slice_get run l ≡ Some log → log.entries ≡ log_of run p
@@ -56,7 +46,7 @@ module _ (run : List Log) (lines : List Numbering) (g : Gathered) (traffic : Tra
     where
       from : (l p : ℕ) → IsLogAt run l p → Has traffic.logs l → (i : ℕ) × ChangesTo (log_of run p) i (Regular g.ring)
       from l p log has =
-          let such = such_of IsAny l p log ((seen.ends.all.exact l).0 has) in
+          let such = such_stay_of v IsAny l p log ((seen.ends.all.exact l).0 has) in
           (such.0.stay.from, such.0.is.change)
 
       to : (l p : ℕ) → IsLogAt run l p → (i : ℕ) × ChangesTo (log_of run p) i (Regular g.ring) → Has traffic.logs l
@@ -64,7 +54,7 @@ module _ (run : List Log) (lines : List Numbering) (g : Gathered) (traffic : Tra
 
   -- ---- how they end
 
-  ends_here : (l p : ℕ) (s : StayOf l p) → FailedIn (log_of run p) g.ring ⊎ StaysIn (log_of run p) g.ring → s.stay.end ≡ length (log_of run p)
+  ends_here : (l p : ℕ) (s : StayOf v l p) → FailedIn (log_of run p) g.ring ⊎ StaysIn (log_of run p) g.ring → s.stay.end ≡ length (log_of run p)
   ends_here l p s h = elim (less_or_not s.stay.end (length (log_of run p))) [
     | inl under ↦ absurd (s.is.goes_on under h)
     | inr (inl over) ↦ absurd (omega (arith, over, s.is.within))
@@ -72,10 +62,10 @@ module _ (run : List Log) (lines : List Numbering) (g : Gathered) (traffic : Tra
   ]
 
   -- a process that fails or is open in the configuration has a stay there
-  stay_of_end : (l p : ℕ) → IsLogAt run l p → FailedIn (log_of run p) g.ring ⊎ StaysIn (log_of run p) g.ring → StayOf l p
-  stay_of_end l p log (inl (i, d, fails, belongs)) = view.stay_around run lines g traffic is_run orderly certified seen whole l p i d log (Fail d, fails, refl) belongs
-  stay_of_end l p log (inr (d, never, last, inl same)) = come l p last.index log (rw same at last.change)
-  stay_of_end l p log (inr (d, never, last, inr follows)) = come l p follows.from log follows.first.change
+  stay_of_end : (l p : ℕ) → IsLogAt run l p → FailedIn (log_of run p) g.ring ⊎ StaysIn (log_of run p) g.ring → StayOf v l p
+  stay_of_end l p log (inl (i, d, fails, belongs)) = stay_around v l p i d log (Fail d, fails, refl) belongs
+  stay_of_end l p log (inr (d, never, last, inl same)) = come v l p last.index log (rw same at last.change)
+  stay_of_end l p log (inr (d, never, last, inr follows)) = come v l p follows.from log follows.first.change
 
   stays_or_fails : (p : ℕ) → FailedIn (log_of run p) g.ring ⊎ OpenIn run p g.ring → FailedIn (log_of run p) g.ring ⊎ StaysIn (log_of run p) g.ring
   stays_or_fails p (inl failed) = inl failed
@@ -115,7 +105,7 @@ module _ (run : List Log) (lines : List Numbering) (g : Gathered) (traffic : Tra
   loud l p log (inr (not_quiet, stays)) quiet = not_quiet (quiet_here l p log quiet)
   loud l p log (inl (i, d, fails, belongs)) quiet = (let failed = failed_with l p i d log fails in cc)
 
-  excused : (l p : ℕ) (log : IsLogAt run l p) (h : FailedIn (log_of run p) g.ring ⊎ OpenIn run p g.ring) → (s : StayOf l p) → IsExcusedIn run s.stay
+  excused : (l p : ℕ) (log : IsLogAt run l p) (h : FailedIn (log_of run p) g.ring ⊎ OpenIn run p g.ring) → (s : StayOf v l p) → IsExcusedIn run s.stay
   excused l p log h s = record {
     log = log.log;
     stands = subst (λ (j : ℕ). slice_get run j ≡ Some log.log) (sym s.log) log.stands;
@@ -123,7 +113,7 @@ module _ (run : List Log) (lines : List Numbering) (g : Gathered) (traffic : Tra
     loud = loud l p log h;
   }
 
-  ends_so : (l p : ℕ) → IsLogAt run l p → (s : StayOf l p) → IsExcusedIn run s.stay → FailedIn (log_of run p) g.ring ⊎ OpenIn run p g.ring
+  ends_so : (l p : ℕ) → IsLogAt run l p → (s : StayOf v l p) → IsExcusedIn run s.stay → FailedIn (log_of run p) g.ring ⊎ OpenIn run p g.ring
   ends_so l p log s e =
       let at : slice_get run l ≡ Some e.log = subst (λ (j : ℕ). slice_get run j ≡ Some e.log) s.log e.stands in
       let end : s.stay.end ≡ length (log_of run p) = e.end ∙ ap (λ (es : List Entry). length es) (entries_at l p e.log log at) in
@@ -138,7 +128,7 @@ module _ (run : List Log) (lines : List Numbering) (g : Gathered) (traffic : Tra
     where
       from : (l p : ℕ) → IsLogAt run l p → Has traffic.ended l → FailedIn (log_of run p) g.ring ⊎ OpenIn run p g.ring
       from l p log has =
-          let such = such_of (IsExcusedIn run) l p log ((seen.ends.ending.exact l).0 has) in
+          let such = such_stay_of v (IsExcusedIn run) l p log ((seen.ends.ending.exact l).0 has) in
           ends_so l p log such.0 such.1
 
       to : (l p : ℕ) → IsLogAt run l p → FailedIn (log_of run p) g.ring ⊎ OpenIn run p g.ring → Has traffic.ended l
@@ -151,7 +141,7 @@ module _ (run : List Log) (lines : List Numbering) (g : Gathered) (traffic : Tra
     where
       from : (l p : ℕ) → IsLogAt run l p → Has traffic.open l → OpenIn run p g.ring
       from l p log has =
-          let such = such_of (IsOpenAt run) l p log ((seen.ends.opened.exact l).0 has) in
+          let such = such_stay_of v (IsOpenAt run) l p log ((seen.ends.opened.exact l).0 has) in
           let on = such.1.1 in
           let same : on.log ≡ log.log = one_at run l on.log log.log (subst (λ (j : ℕ). slice_get run j ≡ Some on.log) such.0.log on.stands) log.stands in
           elim (ends_so l p log such.0 such.1.0) [
@@ -207,7 +197,7 @@ module _ (run : List Log) (lines : List Numbering) (g : Gathered) (traffic : Tra
   members_are =
       let m = seen.members in
       let at : IsLogAt run m.stay.log m.log.proc = record { log = m.log; stands = m.log_is; proc = refl } in
-      let such = such_of (λ (y : Stay). y ≡ m.stay) m.stay.log m.log.proc at (record { at = m.at; stay = m.stay; before = slice_get_within g.stays.items m.at m.stay m.stands; stands = m.stands; of = refl; such = refl }) in
+      let such = such_stay_of v (λ (y : Stay). y ≡ m.stay) m.stay.log m.log.proc at (record { at = m.at; stay = m.stay; before = slice_get_within g.stays.items m.at m.stay m.stands; stands = m.stands; of = refl; such = refl }) in
       let here : ChangesWith (log_of run m.log.proc) m.stay.from m.conf m.members = rw (entries_at m.stay.log m.log.proc m.log at m.log_is) at m.change in
       let from : such.0.stay.from ≡ m.stay.from = ap (λ (y : Stay). y.from) such.1 in
       let conf : m.conf ≡ Regular g.ring = same_change (log_of run m.log.proc) m.stay.from such.0.stay.from m.conf (Regular g.ring) (sym from) (m.members, here) such.0.is.change in
@@ -216,7 +206,7 @@ module _ (run : List Log) (lines : List Numbering) (g : Gathered) (traffic : Tra
   -- ---- what follows
 
   -- the configuration that a stay turns to follows the regular one in its log
-  turned : (l p : ℕ) (x : ConfId) (s : StayOf l p) → IsLogAt run l p → TurnsToConf run x s.stay → Follows (log_of run p) g.ring x
+  turned : (l p : ℕ) (x : ConfId) (s : StayOf v l p) → IsLogAt run l p → TurnsToConf run x s.stay → Follows (log_of run p) g.ring x
   turned l p x s log (ms, t) =
       let turns = s.is.turns t.before in
       let entries : t.log.entries ≡ log_of run p = entries_at l p t.log log (subst (λ (j : ℕ). slice_get run j ≡ Some t.log) s.log t.stands) in
@@ -224,7 +214,7 @@ module _ (run : List Log) (lines : List Numbering) (g : Gathered) (traffic : Tra
       rw same at turns.follows
 
   -- and the stay turns to the one that follows there
-  turns_at : (l p : ℕ) (x : ConfId) (s : StayOf l p) → (f : Follows (log_of run p) g.ring x) → f.to ≡ s.stay.turn
+  turns_at : (l p : ℕ) (x : ConfId) (s : StayOf v l p) → (f : Follows (log_of run p) g.ring x) → f.to ≡ s.stay.turn
   turns_at l p x s f = elim (less_or_not s.stay.turn (length (log_of run p))) [
     | inl under ↦ one_next (log_of run p) s.stay.from f.to s.stay.turn (rw from at f.next) (s.is.next under).1
     | inr (inl over) ↦ absurd (omega (arith, over, s.is.within, s.is.until))
@@ -234,7 +224,7 @@ module _ (run : List Log) (lines : List Numbering) (g : Gathered) (traffic : Tra
       from : f.from ≡ s.stay.from
       from = orderly.one.once p f.from s.stay.from (Regular g.ring) f.first.change s.is.change
 
-  turns_to : (l p : ℕ) (x : ConfId) (s : StayOf l p) → IsLogAt run l p → Follows (log_of run p) g.ring x → TurnsToConf run x s.stay
+  turns_to : (l p : ℕ) (x : ConfId) (s : StayOf v l p) → IsLogAt run l p → Follows (log_of run p) g.ring x → TurnsToConf run x s.stay
   turns_to l p x s log f =
       let at = turns_at l p x s f in
       let change : ChangesTo (log_of run p) s.stay.turn x = subst (λ (j : ℕ). ChangesTo (log_of run p) j x) at f.change in
@@ -248,7 +238,7 @@ module _ (run : List Log) (lines : List Numbering) (g : Gathered) (traffic : Tra
         },
       )
 
-  such_stay : (l p : ℕ) (s : StayOf l p) (Such : Stay → Type 0) → Such s.stay → HasSuch Such g.stays.items (length g.stays.items) l
+  such_stay : (l p : ℕ) (s : StayOf v l p) (Such : Stay → Type 0) → Such s.stay → HasSuch Such g.stays.items (length g.stays.items) l
   such_stay l p s Such such = record { at = s.at; stay = s.stay; before = slice_get_within g.stays.items s.at s.stay s.stands; stands = s.stands; of = s.log; such = such }
 
   -- the configuration that follows in these stays, as it follows in the run
@@ -267,17 +257,17 @@ module _ (run : List Log) (lines : List Numbering) (g : Gathered) (traffic : Tra
 
       from : (k q : ℕ) → IsLogAt run k q → Has h.following.logs k → Follows (log_of run q) g.ring h.conf
       from k q at has =
-          let such = such_of (TurnsToConf run h.conf) k q at ((h.is.logs.exact k).0 has) in
+          let such = such_stay_of v (TurnsToConf run h.conf) k q at ((h.is.logs.exact k).0 has) in
           turned k q h.conf such.0 at such.1
 
       to : (k q : ℕ) → IsLogAt run k q → Follows (log_of run q) g.ring h.conf → Has h.following.logs k
       to k q at follows =
-          let s = come k q follows.from at follows.first.change in
+          let s = come v k q follows.from at follows.first.change in
           (h.is.logs.exact k).1 (such_stay k q s (TurnsToConf run h.conf) (turns_to k q h.conf s at follows))
 
       left_from : (k q : ℕ) → IsLogAt run k q → Has h.following.left k → (d : ConfId) × Goes (log_of run q) h.conf d
       left_from k q at has =
-          let such = such_of (LeavesFrom run h.conf) k q at ((h.is.left.exact k).0 has) in
+          let such = such_stay_of v (LeavesFrom run h.conf) k q at ((h.is.left.exact k).0 has) in
           let s = such.0 in
           let further = such.1.1 in
           let entries : further.log.entries ≡ log_of run q = entries_at k q further.log at (subst (λ (j : ℕ). slice_get run j ≡ Some further.log) s.log further.stands) in
@@ -289,7 +279,7 @@ module _ (run : List Log) (lines : List Numbering) (g : Gathered) (traffic : Tra
       left_to : (k q : ℕ) → IsLogAt run k q → (d : ConfId) × Goes (log_of run q) h.conf d → Has h.following.left k
       left_to k q at (d, (i, j, change, next, further)) =
           let follows = follows_too run g.ring meets p q i h.conf (rw same f) change in
-          let s = come k q follows.from at follows.first.change in
+          let s = come v k q follows.from at follows.first.change in
           let turn : s.stay.turn ≡ i = sym (turns_at k q h.conf s follows) ∙ orderly.one.once q follows.to i h.conf follows.change change in
           (h.is.left.exact k).1 (such_stay k q s (LeavesFrom run h.conf) (
             turns_to k q h.conf s at follows,
@@ -300,7 +290,7 @@ module _ (run : List Log) (lines : List Numbering) (g : Gathered) (traffic : Tra
             },
           ))
         where
-          ends_before : (k q : ℕ) (s : StayOf k q) (i j : ℕ) → s.stay.turn ≡ i → IsNextChange (log_of run q) i j → s.stay.end < length (log_of run q)
+          ends_before : (k q : ℕ) (s : StayOf v k q) (i j : ℕ) → s.stay.turn ≡ i → IsNextChange (log_of run q) i j → s.stay.end < length (log_of run q)
           ends_before k q s i j turn next = elim (less_or_not s.stay.end (length (log_of run q))) [
             | inl under ↦ under
             | inr (inl over) ↦ absurd (omega (arith, over, s.is.within))
@@ -315,10 +305,10 @@ module _ (run : List Log) (lines : List Numbering) (g : Gathered) (traffic : Tra
   following_are p x f =
       let log = has_log run p f.from (Conf (Regular g.ring) f.first.change.0) f.first.change.1 in
       let l = log.0 in
-      let s = come l p f.from log.1 f.first.change in
+      let s = come v l p f.from log.1 f.first.change in
       let t = turns_to l p x s log.1 f in
       let h : HasFollowingOf run g.stays.items traffic.following.items l = subst (λ (j : ℕ). HasFollowingOf run g.stays.items traffic.following.items j) s.log
       (seen.following.each s.at s.stay x t.0 (slice_get_within g.stays.items s.at s.stay s.stands) s.stands t.1) in
-      let such = such_of (TurnsToConf run h.conf) l p log.1 ((h.is.logs.exact l).0 h.has) in
+      let such = such_stay_of v (TurnsToConf run h.conf) l p log.1 ((h.is.logs.exact l).0 h.has) in
       let same : h.conf ≡ x = one_following run g.ring meets p h.conf x (turned l p h.conf such.0 log.1 such.1) f in
       record { at = h.at; following = h.following; stands = h.stands; is = follows_as p l x log.1 f h same }

@@ -17,39 +17,36 @@ use Rattle.totem_evs.proofs.Synchronous.{MeetsConfigurations, synchronous}
 use Rattle.totem_evs.proofs.Originating.{ring_of_send}
 use Rattle.totem_certificate_check.proofs.Walking.{at_index}
 use Rattle.totem_configuration_rules.specs.declared.observed.Observed.{Observed}
-use Rattle.totem_configuration_rules.specs.declared.traffic.Traffic.{Traffic}
 use Rattle.totem_configuration_rules.specs.Clean.{AgreesIn}
 use Rattle.totem_configuration_rules.specs.Pending.{IsPendingIn}
 use Rattle.totem_configuration_rules.specs.Traffics.{IsTrafficOf, AreTraffic}
 use Rattle.totem_configuration_rules.proofs.Facts.{has_log}
 use Rattle.totem_judge.specs.declared.gathered.Gathered.{Gathered}
 use Rattle.totem_judge.specs.Covered.{AreCovered, AreRisingTo}
-use Rattle.totem_judge.specs.Lists.{EachBelow}
-use Rattle.totem_judge.specs.Seen.{IsSeen}
 use Rattle.totem_judge.specs.Pending.{IsPendingFrom}
 use Rattle.totem_run_rules.specs.Endings.{IsInOrder, HoldsPending}
 use Rattle.totem_run_rules.specs.Orderly.{IsOrderly}
 use Rattle.totem_judge.specs.Judged.{IsVerified, AllAreTraffic, AreObserved, Covers, IsView, Agree}
-use Rattle.totem_judge.proofs.Whole as place
+use Rattle.totem_judge.proofs.Whole.{AllSeen, Gathers, gathers, verified}
 use Rattle.totem_judge.proofs.Viewed.{traffic_is}
 use Rattle.totem_judge.proofs.Unsent.{unsent_met}
 use Rattle.totem_run_rules.proofs.PendingOrder.{are_pending}
 
 module _ (run : List Log) (lines : List Numbering) (list : List Gathered) (observed : List Observed) (pending : List Pending) (is_run : IsRun run) (orderly : IsOrderly run) (together : EndsTogether run) (certified : Certified run lines)
-    (covered : EachBelow (AreCovered run list) (length run)) (rise : AreRisingTo list (length list)) (are : AreObserved run lines list observed pending) where
+    (covered : AreCovered run list (length run)) (rise : AreRisingTo list (length list)) (are : AreObserved run lines list observed pending) where
   -- what was observed of a configuration that was gathered
   one_at : (k : ℕ) (g : Gathered) → slice_get list k ≡ Some g → (one : Observed) × (slice_get observed k ≡ Some one) × IsVerified run lines g one
   one_at k g at =
       let found = at_index observed k (let lt = slice_get_within list k g at in let long = are.long in omega (arith, lt, long)) in
       (found.0, found.1, are.each k g found.0 at found.1)
 
-  all_seen : (k : ℕ) (g : Gathered) → slice_get list k ≡ Some g → (traffic : Traffic) × IsSeen run lines g traffic
-  all_seen k g at = let here = one_at k g at in (here.0.traffic, here.2.seen)
+  all : AllSeen run lines list
+  all = record { is_run = is_run; orderly = orderly; certified = certified; covered = covered; rise = rise; seen = λ k g at. (let here = one_at k g at in (here.0.traffic, here.2.seen)) }
 
   -- with 1.3 the run has passed A and B
   pub meets : MeetsPasses run
   meets = record {
-    sent = unsent_met run lines list is_run orderly certified covered rise all_seen;
+    sent = unsent_met all;
     once = orderly.once;
     together = together;
     placed = orderly.placed;
@@ -59,7 +56,7 @@ module _ (run : List Log) (lines : List Numbering) (list : List Gathered) (obser
 
   all_traffic : AllAreTraffic run lines list
   all_traffic = record {
-    each = λ k g traffic at seen. traffic_is run lines g traffic is_run meets certified seen (place.whole run lines list is_run orderly certified covered rise all_seen k g at);
+    each = λ k g traffic at seen. traffic_is run lines g traffic (verified all k g traffic at seen) meets;
   }
 
   traffic : AreTraffic run observed
@@ -71,10 +68,10 @@ module _ (run : List Log) (lines : List Numbering) (list : List Gathered) (obser
           let is = are.each k g.0 one g.1 here in
           subst (λ (d : RingId). IsTrafficOf run d one.traffic) (sym is.ring) (all_traffic.each k g.0 one.traffic g.1 is.seen)
 
-  gathered : (c : RingId) → IsRing run c → (l : ℕ) × place.Gathers run lines list is_run orderly certified covered rise all_seen l c
+  gathered : (c : RingId) → IsRing run c → (l : ℕ) × Gathers all l c
   gathered c ring =
       let log = has_log run ring.proc ring.index (Conf (Regular c) ring.change.0) ring.change.1 in
-      (log.0, place.gathers run lines list is_run orderly certified covered rise all_seen log.0 ring.proc ring.index c log.1 ring.change)
+      (log.0, gathers all log.0 ring.proc ring.index c log.1 ring.change)
 
   covers : (c : RingId) → IsRing run c → Covers observed c
   covers c ring =

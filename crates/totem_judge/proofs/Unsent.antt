@@ -1,41 +1,36 @@
 -- 1.3: if all configurations were verified, what is delivered was sent there.
-use Rattle.std.proofs.Common.{◌≡◌, inl, inr, ℕ, List, length, slice_get, Some, refl, sym, subst, arith}
+use Rattle.std.proofs.Common.{◌≡◌, inl, inr, ℕ, List, refl, sym, subst, arith}
 use Rattle.totem_ids.specs.declared.ring.RingId.{RingId}
 use Rattle.totem_ids.specs.declared.conf.ConfId.{ConfId}
 use Rattle.totem_ids.specs.declared.conf.ConfId.TheVariants.{Regular, Transitional}
 use Rattle.totem_ids.specs.declared.message.MsgId.{MsgId}
 use Rattle.totem_evs.specs.declared.entry.Entry.TheVariants.{Deliver}
 use Rattle.totem_evs.specs.declared.log.Log.{Log}
-use Rattle.totem_evs.specs.Runs.{IsRun}
 use Rattle.totem_evs.specs.Events.{ChangesTo, IsChange, IsRegular, IsTransitional, Sends, Delivers, log_of}
 use Rattle.totem_evs.specs.Following.{IsNextChange, Follows, Com}
 use Rattle.totem_evs.specs.Delivery.{WasSentFor, DeliversWhatWasSent}
-use Rattle.totem_evs.specs.Certificates.{Numbering, Certified}
+use Rattle.totem_evs.specs.Certificates.{Numbering}
 use Rattle.totem_evs.proofs.Originating.{LastBefore, last_before}
-use Rattle.totem_configuration_rules.specs.declared.traffic.Traffic.{Traffic}
 use Rattle.totem_configuration_rules.proofs.Facts.{has_log}
 use Rattle.totem_judge.specs.declared.gathered.Gathered.{Gathered}
-use Rattle.totem_judge.specs.Covered.{AreCovered, AreRisingTo}
-use Rattle.totem_judge.specs.Lists.{EachBelow}
-use Rattle.totem_judge.specs.Seen.{IsSeen}
-use Rattle.totem_run_rules.specs.Orderly.{IsOrderly}
-use Rattle.totem_judge.proofs.Whole as place
-use Rattle.totem_judge.proofs.Listed as view
+use Rattle.totem_judge.proofs.Listed.{listed, sent_at}
+use Rattle.totem_judge.proofs.Whole.{AllSeen, gathers, verified}
 
-module _ (run : List Log) (lines : List Numbering) (list : List Gathered) (is_run : IsRun run) (orderly : IsOrderly run) (certified : Certified run lines)
-    (covered : EachBelow (AreCovered run list) (length run)) (rise : AreRisingTo list (length list)) (seen : (k : ℕ) (g : Gathered) → slice_get list k ≡ Some g → (traffic : Traffic) × IsSeen run lines g traffic) where
+module _ {run : List Log} {lines : List Numbering} {list : List Gathered} (all : AllSeen run lines list) where
+  open all use {orderly, seen}
+
   -- what p delivers in c, or in what follows it, was sent in c
   sent_in : (p i j : ℕ) (m : MsgId) (c : RingId) (d : ConfId) → Delivers (log_of run p) i m d → ChangesTo (log_of run p) j (Regular c) → Com (log_of run p) c d → WasSentFor run p m d
   sent_in p i j m c d delivers change belongs =
       let log = has_log run p i (Deliver m d) delivers in
       let l = log.0 in
-      let here = place.gathers run lines list is_run orderly certified covered rise seen l p j c log.1 change in
+      let here = gathers all l p j c log.1 change in
       let g = here.gathered in
       let known = seen here.at g here.stands in
-      let whole = place.whole run lines list is_run orderly certified covered rise seen here.at g here.stands in
+      let v = verified all here.at g known.0 here.stands known.1 in
       let there : Com (log_of run p) g.ring d = subst (λ (r : RingId). Com (log_of run p) r d) (sym here.ring) belongs in
-      let f = view.listed run lines g known.0 is_run orderly certified known.1 whole l p i m log.1 (d, delivers, there) in
-      let s = view.sent_at run lines g known.0 is_run orderly certified known.1 whole f.got.sent f.sent f.sent_is in
+      let f = listed v l p i m log.1 (d, delivers, there) in
+      let s = sent_at v f.got.sent f.sent f.sent_is in
       let sends : Sends (log_of run s.p) s.at m (Regular g.ring) = (s.service, rw f.message at s.entry) in
       (c, (s.p, s.at, subst (λ (r : RingId). Sends (log_of run s.p) s.at m (Regular r)) here.ring sends), belongs)
 

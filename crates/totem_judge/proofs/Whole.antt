@@ -21,10 +21,10 @@ use Rattle.totem_judge.specs.declared.gathered.Stay.{Stay}
 use Rattle.totem_judge.specs.Events.{IsEventAt}
 use Rattle.totem_judge.specs.Ends.{HasSuch, IsAny}
 use Rattle.totem_judge.specs.Covered.{AreCovered, AreRisingTo}
-use Rattle.totem_judge.specs.Lists.{EachBelow}
 use Rattle.totem_judge.specs.Seen.{IsReplayed, IsSeen}
 use Rattle.totem_judge.proofs.Numbers.{one_at, entries_of, one_change_number}
 use Rattle.totem_judge.proofs.Replayed.{stay_in}
+use Rattle.totem_judge.proofs.Listed.{Verified}
 
 -- a change to a regular configuration in a stay is that with which the stay begins
 begins : (log : List Entry) (c d : RingId) (from turn end i : ℕ) → IsStay log d from turn end → from ≤ i → i < end → ChangesTo log i (Regular c) → d ≡ c
@@ -40,10 +40,20 @@ begins log c d from turn end i is le until change = elim (less_or_not from i) [
   | inr (inr same) ↦ (let equal : Regular d ≡ Regular c = same_change log from i (Regular d) (Regular c) same is.change change in cc)
 ]
 
-module _ (run : List Log) (lines : List Numbering) (list : List Gathered) (is_run : IsRun run) (orderly : IsOrderly run) (certified : Certified run lines) (covered : EachBelow (AreCovered run list) (length run))
-    (rise : AreRisingTo list (length list)) (seen : (k : ℕ) (g : Gathered) → slice_get list k ≡ Some g → (traffic : Traffic) × IsSeen run lines g traffic) where
+-- the configurations of an orderly run were gathered and verified
+pub record AllSeen (run : List Log) (lines : List Numbering) (list : List Gathered) : Type 0 where
+  pub is_run : IsRun run
+  pub orderly : IsOrderly run
+  pub certified : Certified run lines
+  pub covered : AreCovered run list (length run)
+  pub rise : AreRisingTo list (length list)
+  pub seen : (k : ℕ) (g : Gathered) → slice_get list k ≡ Some g → (traffic : Traffic) × IsSeen run lines g traffic
+
+module _ {run : List Log} {lines : List Numbering} {list : List Gathered} (all : AllSeen run lines list) where
+  open all use {is_run, orderly, certified, covered, rise, seen}
+
   replayed_at : (k j : ℕ) (g : Gathered) (stay : Stay) → slice_get list k ≡ Some g → slice_get g.stays.items j ≡ Some stay → IsReplayed run lines g stay
-  replayed_at k j g stay at stands = (seen k g at).1.lists.replayed.each j (slice_get_within g.stays.items j stay stands) stay stands
+  replayed_at k j g stay at stands = (seen k g at).1.lists.replayed.each j stay (slice_get_within g.stays.items j stay stands) stands
 
   -- the configuration of this ring is gathered, with a stay of the log at l
   pub record Gathers (l : ℕ) (c : RingId) : Type 0 where
@@ -56,7 +66,7 @@ module _ (run : List Log) (lines : List Numbering) (list : List Gathered) (is_ru
   pub gathers : (l p i : ℕ) (c : RingId) → IsLogAt run l p → ChangesTo (log_of run p) i (Regular c) → Gathers l c
   gathers l p i c log change =
       let within = rw (entries_of run l p is_run.rising log) at (change_within (log_of run p) i (Regular c) change) in
-      let found = (covered.each l (slice_get_within run l log.log log.stands) log.log log.stands).each i within in
+      let found = (covered.each l log.log (slice_get_within run l log.log log.stands) log.stands).each i within in
       let g = found.gathered in
       let stay = found.stay in
       let is = stay_in run lines g stay p is_run orderly (subst (λ (j : ℕ). IsLogAt run j p) (sym found.log_is) log) (replayed_at found.at found.place g stay found.stands found.stay_is) in
@@ -105,8 +115,12 @@ module _ (run : List Log) (lines : List Numbering) (list : List Gathered) (is_ru
           let event : IsEventAt run lines a.l a.at (Conf (Regular h.ring) a.members) g.number = subst (λ (c : RingId). IsEventAt run lines a.l a.at (Conf (Regular c) a.members) g.number) same a.event in
           one_change_number run lines is_run.rising certified a.l b.l a.p b.p a.at b.at (Regular h.ring) a.members b.members g.number h.number a.log b.log event b.event
 
-  -- a process that changes to the configuration has a stay there
-  pub whole : (k : ℕ) (g : Gathered) → slice_get list k ≡ Some g → (l p i : ℕ) → IsLogAt run l p → ChangesTo (log_of run p) i (Regular g.ring) → HasSuch IsAny g.stays.items (length g.stays.items) l
-  whole k g at l p i log change =
-      let found = gathers l p i g.ring log change in
-      subst (λ (x : Gathered). HasSuch IsAny x.stays.items (length x.stays.items) l) (one_gathered found.at k found.gathered g found.stands at found.ring) found.has
+  -- each process that changes to the configuration has a stay there
+  pub verified : (k : ℕ) (g : Gathered) (traffic : Traffic) → slice_get list k ≡ Some g → IsSeen run lines g traffic → Verified run lines g traffic
+  verified k g traffic at is = record {
+    is_run = is_run;
+    orderly = orderly;
+    certified = certified;
+    seen = is;
+    whole = λ l p i log change. (let found = gathers l p i g.ring log change in subst (λ (x : Gathered). HasSuch IsAny x.stays.items (length x.stays.items) l) (one_gathered found.at k found.gathered g found.stands at found.ring) found.has);
+  }

@@ -20,9 +20,9 @@ pub record IsCovered (list : List Gathered) (l i : ℕ) : Type 0 where
 pub record IsCoveredTo (list : List Gathered) (l n : ℕ) : Type 0 where
   pub each : (i : ℕ) → i < n → IsCovered list l i
 
--- so are all entries of the log at index l
-abbrev pub AreCovered : List Log → List Gathered → ℕ → Type 0
-AreCovered run list l = (log : Log) → slice_get run l ≡ Some log → IsCoveredTo list l (length log.entries)
+-- so are all entries of the first n logs
+pub record AreCovered (run : List Log) (list : List Gathered) (n : ℕ) : Type 0 where
+  pub each : (l : ℕ) (log : Log) → l < n → slice_get run l ≡ Some log → IsCoveredTo list l (length log.entries)
 
 -- the numbers of the first n configurations are ascending
 pub record AreRisingTo (list : List Gathered) (n : ℕ) : Type 0 where

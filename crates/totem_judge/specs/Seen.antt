@@ -1,5 +1,5 @@
 -- What was verified about the traffic gathered for one regular configuration.
-use Rattle.std.specs.Prelude.{◌≡◌, ℕ, List, length, slice_get, Some}
+use Rattle.std.specs.Prelude.{◌≡◌, ℕ, ◌<◌, List, length, slice_get, Some}
 use Rattle.totem_ids.specs.declared.conf.ConfId.{ConfId}
 use Rattle.totem_evs.specs.declared.log.Log.{Log}
 use Rattle.totem_evs.specs.Events.{ChangesWith}
@@ -26,9 +26,9 @@ pub record IsReplayed (run : List Log) (lines : List Numbering) (g : Gathered) (
   pub number : slice_get line.numbers stay.from ≡ Some g.number
   pub are : AreAsListed log.entries line.numbers g stay stay.end (length g.got.items)
 
--- it holds for the k-th stay
-abbrev pub IsReplayedAt : List Log → List Numbering → Gathered → ℕ → Type 0
-IsReplayedAt run lines g k = (stay : Stay) → slice_get g.stays.items k ≡ Some stay → IsReplayed run lines g stay
+-- so do the first n stays
+pub record AreReplayed (run : List Log) (lines : List Numbering) (g : Gathered) (n : ℕ) : Type 0 where
+  pub each : (k : ℕ) (stay : Stay) → k < n → slice_get g.stays.items k ≡ Some stay → IsReplayed run lines g stay
 
 -- the lists have what was sent and delivered in the stays
 pub record AreTrue (run : List Log) (lines : List Numbering) (g : Gathered) (logs : LogSet) : Type 0 where
@@ -36,7 +36,7 @@ pub record AreTrue (run : List Log) (lines : List Numbering) (g : Gathered) (log
   pub sent_rise : RisesBefore g.sent_numbers.items (length g.sent_numbers.items)
   pub sent : EachBelow (IsSentAt run lines g) (length g.sent.items)
   pub got : EachBelow (IsGotAt g logs) (length g.got.items)
-  pub replayed : EachBelow (IsReplayedAt run lines g) (length g.stays.items)
+  pub replayed : AreReplayed run lines g (length g.stays.items)
 
 -- the members are those of the configuration in which one of the stays begins
 pub record HasMembers (run : List Log) (stays : List Stay) (found : MemberLogs) : Type 0 where

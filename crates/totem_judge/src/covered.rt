@@ -2,7 +2,6 @@
 ghost use Rattle.std.specs.Prelude.{IfSome, length};
 ghost use Rattle.std.specs.Bool.{OnTrue};
 ghost use Rattle.totem_judge.specs.Covered.{IsCoveredTo, AreCovered, AreRisingTo};
-ghost use Rattle.totem_judge.specs.Lists.{EachBelow};
 
 use crate::gathered::Gathered;
 use totem_evs::Log;
@@ -26,16 +25,21 @@ fn covered_to(list: &[Gathered], log: usize) -> Option<usize>
     Some(end)
 }
 
+fn is_covered(list: &[Gathered], index: usize, log: &Log) -> bool
+    ensures { OnTrue result (IsCoveredTo list.now index (length log.now.entries)) }
+{
+    match covered_to(list, index) {
+        Some(end) => end == log.entries.as_slice().len(),
+        None => false,
+    }
+}
+
 /// Returns whether each log is made up of stays.
 pub fn are_covered(logs: &[Log], list: &[Gathered]) -> bool
-    ensures { OnTrue result (EachBelow (AreCovered logs.now list.now) (length logs.now)) }
+    ensures { OnTrue result (AreCovered logs.now list.now (length logs.now)) }
 {
     for index in 0..logs.len() {
-        let log = &logs[index];
-        let Some(end) = covered_to(list, index) else {
-            return false;
-        };
-        if end != log.entries.as_slice().len() {
+        if !is_covered(list, index, &logs[index]) {
             return false;
         }
     }

@@ -1,8 +1,7 @@
 //! The traffic of a regular configuration, as it was gathered and verified.
 ghost use Rattle.std.specs.Prelude.{◌≤◌, IfOk, IfSome, length};
 ghost use Rattle.std.specs.Bool.{OnTrue};
-ghost use Rattle.totem_judge.specs.Lists.{EachBelow};
-ghost use Rattle.totem_judge.specs.Seen.{IsReplayedAt, AreTrue, HasMembers, IsSeen};
+ghost use Rattle.totem_judge.specs.Seen.{AreReplayed, AreTrue, HasMembers, IsSeen};
 
 use crate::deliveries::is_replayed;
 use crate::ends::ends_of;
@@ -18,7 +17,7 @@ use totem_evs::{Entry, Log};
 
 /// Returns whether the lists and the entries of each stay agree.
 fn are_replayed(logs: &[Log], lines: &[Line], gathered: &Gathered) -> bool
-    ensures { OnTrue result (EachBelow (IsReplayedAt logs.now lines.now gathered.now) (length gathered.now.stays.items)) }
+    ensures { OnTrue result (AreReplayed logs.now lines.now gathered.now (length gathered.now.stays.items)) }
 {
     for stay in &gathered.stays {
         if !is_replayed(logs, lines, gathered, stay) {

@@ -1,6 +1,6 @@
-use Rattle.std.proofs.Common.{◌≡◌, ◌≤◌, length, slice_get, Some, refl, arith, rules}
+use Rattle.std.proofs.Common.{◌≡◌, slice_get, Some, refl, arith}
 use Rattle.std.proofs.lemmas.Option.{slice_get_read}
-use Rattle.totem_judge.proofs.Replaying.{listed_more, delivered_more, listed_all}
+use Rattle.totem_judge.proofs.Replaying.{listed_more, delivered_more}
 use Rattle.totem_judge.proofs.deliveries.are_as_listed.Goals.{in-Send+else-not-is_origin_at, in-Deliver+else-not-is_delivery_of, in-Conf+else-at-stay, in-Fail}
 use Rattle.totem_judge.proofs.deliveries.are_as_listed.Goals as goal
 
@@ -21,8 +21,3 @@ loop-at-preserved c =
       | in-Conf+else-at-stay w ↦ rw w.got-is (listed_more entries numbers g stay at got _ (rw w.in-Conf.is at stands) w.if-at-stay.false c.loop-at.invariant)
       | in-Fail w ↦ rw w.got-is (listed_more entries numbers g stay at got _ (rw w.in-Fail.is at stands) tt c.loop-at.invariant)
     ]
-
-pub returns : goal.returns
-returns c =
-    let all : length c.args.gathered.now.got.items ≤ c.next_got.result = search rules in
-    listed_all c.args.entries.now c.args.numbers.now c.args.gathered.now c.args.stay.now c.loop-at.at c.loop-at.got c.next_got.result c.loop-at-test.false (rw c.deref-2.ensures.value at c.next_got.ensures) all c.loop-at.invariant
