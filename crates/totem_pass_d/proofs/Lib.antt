@@ -15,7 +15,6 @@ pub mod CausalityFaults
 pub mod GapFaults
 pub mod AtomicityFaults
 pub mod Coming
-pub mod Arriving
 pub mod Listing
 pub mod Rings
 pub mod Adding

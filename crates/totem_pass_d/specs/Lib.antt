@@ -1,4 +1,3 @@
-pub mod Arrivals
 pub mod Comings
 pub mod Pendings
 pub mod Stays

@@ -138,7 +138,7 @@ fn add_ring(
     requires { AreJobs jobs.now.run.now.logs jobs.now }
     ensures { OnOk result (Adds (IsPendingIn jobs.now.run.now.logs ring) list.old.items list.new.items) }
 {
-    let found = jobs.comings.stays(alloc, jobs.run, &jobs.changes, ring)?;
+    let found = jobs.comings.stays(alloc, jobs.run, ring)?;
     let stays = RingStays::of(jobs.run, ring, found);
     add_pending(alloc, list, &stays)
 }
