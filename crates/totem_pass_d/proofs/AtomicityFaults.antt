@@ -12,7 +12,7 @@ use Rattle.totem_evs.specs.declared.entry.Entry.TheVariants.{Deliver}
 use Rattle.totem_evs.specs.declared.log.Log.{Log}
 use Rattle.totem_evs.specs.Events.{log_of, IsChange, ChangesTo, Delivers, IsRegular, IsTransitional}
 use Rattle.totem_evs.specs.Changes.{ChangesNext}
-use Rattle.totem_evs.specs.Following.{IsNextChange, Follows, Com}
+use Rattle.totem_evs.specs.Following.{IsNextChange, Follows, Com, DeliversIn}
 use Rattle.totem_evs.specs.RingAgreement.{AtomicityIn}
 use Rattle.totem_evs.specs.RingFaults.{BreaksAtomicityIn}
 use Rattle.totem_evs.specs.AgreementFaults.{GoesAt}
@@ -23,14 +23,12 @@ use Rattle.totem_run_rules.proofs.Staying.{same_change, change_within}
 use Rattle.totem_evs.proofs.NextChanges.{one_next}
 use Rattle.totem_pass_d.specs.declared.stay.Stay.{Stay}
 use Rattle.totem_run_rules.specs.Stays.{IsStay}
-use Rattle.totem_pass_d.specs.Acts.{IsAmong, DeliversHere, DeliversNot}
+use Rattle.totem_pass_d.specs.Acts.{IsAmong, DeliversNot}
 use Rattle.totem_pass_d.specs.Search.{IsInside, EachBeginsWithin, BeginsWithin, NoneWithin, IsLeastWithin}
 use Rattle.totem_pass_d.specs.Partings.{IsAnywhere, IsSpan, IsNoChange, NeverDelivers, IsPartner, IsOnePartner}
-use Rattle.totem_pass_d.proofs.Deciding.{below_or_not, delivers_or_not}
-use Rattle.totem_pass_d.proofs.KnownStays.{any_change_at_or_not}
-use Rattle.totem_pass_d.proofs.Facts.{Facts, StayFacts}
+use Rattle.totem_pass_d.proofs.Deciding.{below_or_not, any_change_at_or_not, delivers_or_not}
+use Rattle.totem_pass_d.proofs.Facts.{Facts}
 use Rattle.totem_pass_d.proofs.Rests.{nothing_here, only_here, begins_at}
-use Rattle.totem_pass_d.proofs.CausalityFaults.{not_delivered_in}
 
 -- the next change after the one to c, and after the one to what follows it
 pub next_of_from : (log : List Entry) (c : RingId) (from turn end k : ℕ) → IsStay log c from turn end → IsNextChange log from k → k ≡ turn
@@ -155,36 +153,31 @@ next_is_short run c stays stay d nx facts among to =
     let lt = change_within (log_of run stay.proc) nx d at in let size = of.size in omega arith
 
 -- whether the message is delivered in x
-pub never_there : (run : List Log) (c : RingId) (stay : Stay) (m : MsgId) (x : ConfId) → StayFacts run c stay → DeliversNot stay.log.now c m → NeverDelivers (log_of run stay.proc) c m x
-never_there run c stay m x facts never = record { never = λ inside l at. not_delivered_in run c stay m facts never (l, (x, at, inside)) }
+pub never_there : (run : List Log) (c : RingId) (p : ℕ) (m : MsgId) (x : ConfId) → DeliversNot (log_of run p) c m → NeverDelivers (log_of run p) c m x
+never_there run c p m x never = record { never = λ inside l at. never.never (l, (x, at, inside)) }
 
-here_is : (run : List Log) (c : RingId) (stay : Stay) (m : MsgId) (k : ℕ) → StayFacts run c stay → (here : DeliversHere stay m k) → Delivers (log_of run stay.proc) k m here.conf
-here_is run c stay m k facts here = rw facts.log at here.delivers
-
-pub delivers_on_true : (run : List Log) (c : RingId) (stay : Stay) (m o : MsgId) (x y : ConfId) (k : ℕ) (b : Bool) → StayFacts run c stay → DeliversHere stay m k → slice_get (log_of run stay.proc) k ≡ Some (Deliver o y) → IsTrue b ↔ (y ≡ x)
+pub delivers_on_true : (run : List Log) (c : RingId) (stay : Stay) (m o : MsgId) (x y : ConfId) (k : ℕ) (b : Bool) → DeliversIn (log_of run stay.proc) c m k → slice_get (log_of run stay.proc) k ≡ Some (Deliver o y) → IsTrue b ↔ (y ≡ x)
     → OnTrue b ((l : ℕ) × Delivers (log_of run stay.proc) l m x)
-delivers_on_true run c stay m o x y k true facts here at decides =
-    let mine = here_is run c stay m k facts here in
-    let same : here.conf ≡ y = cc in
+delivers_on_true run c stay m o x y k true (d, mine, _) at decides =
+    let same : d ≡ y = cc in
     (k, rw (same, decides.0 refl) at mine)
-delivers_on_true run c stay m o x y k false facts here at decides = tt
+delivers_on_true run c stay m o x y k false here at decides = tt
 
-pub never_on_false : (run : List Log) (c : RingId) (stays : List Stay) (stay : Stay) (m o : MsgId) (x y : ConfId) (k : ℕ) (b : Bool) → Facts run c stays → IsAmong stays stay → DeliversHere stay m k → slice_get (log_of run stay.proc) k ≡ Some (Deliver o y)
+pub never_on_false : (run : List Log) (c : RingId) (stays : List Stay) (stay : Stay) (m o : MsgId) (x y : ConfId) (k : ℕ) (b : Bool) → Facts run c stays → DeliversIn (log_of run stay.proc) c m k → slice_get (log_of run stay.proc) k ≡ Some (Deliver o y)
     → IsTrue b ↔ (y ≡ x) → OnFalse b (NeverDelivers (log_of run stay.proc) c m x)
-never_on_false run c stays stay m o x y k true facts among here at decides = tt
-never_on_false run c stays stay m o x y k false facts among here at decides = record { never = λ inside l at_l. go l at_l }
+never_on_false run c stays stay m o x y k true facts here at decides = tt
+never_on_false run c stays stay m o x y k false facts (d, mine, _) at decides = record { never = λ inside l at_l. go l at_l }
   where
     go : (l : ℕ) → Delivers (log_of run stay.proc) l m x → ⊥
     go l at_l =
-        let mine = here_is run c stay m k (facts.each stay among) here in
-        let same = facts.meets.once.one_delivery stay.proc l k m x here.conf at_l mine in
+        let same = facts.meets.once.one_delivery stay.proc l k m x d at_l mine in
         let moved : Delivers (log_of run stay.proc) k m x = rw same at at_l in
         let conf : y ≡ x = cc in
         let t : false ≡ true = decides.1 conf in cc
 
-pub here_delivered : (run : List Log) (c : RingId) (stay : Stay) (m : MsgId) (x : ConfId) (k : ℕ) (e : Entry) → StayFacts run c stay → DeliversHere stay m k → slice_get (log_of run stay.proc) k ≡ Some e → ((o : MsgId) (y : ConfId) → e ≡ Deliver o y → ⊥)
+pub here_delivered : (run : List Log) (c : RingId) (stay : Stay) (m : MsgId) (x : ConfId) (k : ℕ) (e : Entry) → DeliversIn (log_of run stay.proc) c m k → slice_get (log_of run stay.proc) k ≡ Some e → ((o : MsgId) (y : ConfId) → e ≡ Deliver o y → ⊥)
     → NeverDelivers (log_of run stay.proc) c m x
-here_delivered run c stay m x k e facts here at other = let mine = here_is run c stay m k facts here in absurd (other m here.conf cc)
+here_delivered run c stay m x k e (d, mine, _) at other = absurd (other m d cc)
 
 -- the last change before an index
 record LastBefore (log : List Entry) (n : ℕ) : Type 0 where

@@ -1,5 +1,5 @@
 -- Building the stays, log by log.
-use Rattle.std.proofs.Common.{◌≡◌, ℕ, ◌+◌, ◌<◌, ◌≤◌, ◌⊎◌, inl, inr, List, [], ◌∷◌, ◌++◌, length, get_or, slice_get, Some, None, IsTrue, ◌↔◌, refl, sym, ◌∙◌, ap, arith}
+use Rattle.std.proofs.Common.{◌≡◌, ℕ, ◌+◌, ◌<◌, ◌≤◌, ◌⊎◌, inl, inr, List, [], ◌∷◌, ◌++◌, length, get_or, slice_get, Some, None, IsTrue, ◌↔◌, sym, ◌∙◌, ap, arith}
 use Rattle.std.specs.declared.cmp.Ordering.{Ordering}
 use Rattle.std.specs.BTreeMap as tree
 use Rattle.std.specs.BTreeMap.{BTreeMap}
@@ -8,22 +8,20 @@ use Rattle.std.proofs.lemmas.Option.{slice_get-get_or, slice_get_within, get_or_
 use Rattle.totem_ids.specs.declared.ring.RingId.{RingId}
 use Rattle.totem_ids.specs.declared.conf.ConfId.TheVariants.{Regular}
 use Rattle.totem_evs.specs.declared.log.Log.{Log}
-use Rattle.totem_evs.specs.declared.ending.Ending.TheVariants.{Quiet}
 use Rattle.totem_evs.specs.Runs.{IsRun, IsLog}
 use Rattle.totem_evs.specs.Events.{ChangesTo, IsQuiet, log_of, ending_of}
 use Rattle.totem_evs.specs.Following.{NeverFails}
 use Rattle.totem_evs.specs.Answers.{MeetsPasses}
-use Rattle.totem_evs.proofs.LogOf.{Rising, log_of_at, log_of_cases, in_order, less_or_not}
+use Rattle.totem_evs.proofs.LogOf.{log_of_at, log_of_cases, in_order, less_or_not}
 use Rattle.totem_table.specs.declared.keys.Change.{Change}
 use Rattle.totem_table.proofs.Exact.{change_by}
 use Rattle.totem_pass_d.specs.declared.stay.Stay.{Stay}
 use Rattle.totem_pass_d.specs.Comings.{HoldsComings}
-use Rattle.totem_run_rules.specs.Stays.{AreNextTwo, IsStay}
-use Rattle.totem_pass_d.specs.Stays.{IsStayOf, HasStay, AreStays}
+use Rattle.totem_run_rules.specs.Stays.{IsStay}
+use Rattle.totem_pass_d.specs.Stays.{IsStayFrom, IsStayOf, HasStay, AreStays}
 use Rattle.totem_run_rules.proofs.Staying.{is_stay}
 use Rattle.totem_evs.proofs.Pushing.{nothing, before_push, stands_before, stands_last}
 use Rattle.totem_run_rules.proofs.LogEnds.{ending_of_at, quiet_never_fails}
-use Rattle.totem_pass_d.proofs.KnownStays.{keeps_rules}
 
 -- the stay is that of one of the first n logs
 pub record IsOfFirst (run : List Log) (c : RingId) (n : ℕ) (stay : Stay) : Type 0 where
@@ -51,6 +49,12 @@ none_yet run c = record {
 module _ (run : List Log) (c : RingId) (n : ℕ) (log : Log) (is_run : IsRun run) (at_n : slice_get run n ≡ Some log) where
   own : log_of run log.proc ≡ log.entries
   own = log_of_at run n log is_run.rising at_n
+
+  kept : IsLog log
+  kept = rw (get_or_from_slice_get run n log log at_n) at (is_run.each n log (slice_get_within run n log at_n))
+
+  pub few_entries : length log.entries ≤ 1000000
+  few_entries = kept.entries.few
 
   same_log : (k : ℕ) (other : Log) → k ≡ n → slice_get run k ≡ Some other → other ≡ log
   same_log k other same at = let there : slice_get run n ≡ Some other = rw same at at in cc
@@ -104,33 +108,30 @@ module _ (run : List Log) (c : RingId) (n : ℕ) (log : Log) (is_run : IsRun run
 
   -- the stay that starts at the log's change to c
   pub stay_at : (by_ring : RingId → RingId → Ordering) (by_change : Change → Change → Ordering) (rings : BTreeSet RingId) (indices : BTreeMap Change ℕ) (from : ℕ) (s : Stay) → HoldsComings by_ring by_change rings indices run
-      → tree.get by_change indices (change_by log.proc (Regular c)) ≡ Some from → MeetsPasses run → s.proc ≡ log.proc → s.log.now ≡ log.entries → IsTrue s.quiet ↔ (log.ending ≡ Quiet) → s.from ≡ from
-      → AreNextTwo log.entries from s.turn s.end → IsStayOf run c s
-  stay_at by_ring by_change rings indices from s holds found meets proc entries tells starts two = record { log = logs; few = few; quiet = quiet; unfailed = unfailed; is = is }
+      → tree.get by_change indices (change_by log.proc (Regular c)) ≡ Some from → MeetsPasses run → IsStayFrom log from s → IsStayOf run c s
+  stay_at by_ring by_change rings indices from s holds found meets here = record { log = logs; few = few; quiet = quiet; unfailed = unfailed; is = is; told = here.told }
     where
-      kept : IsLog log
-      kept = rw (get_or_from_slice_get run n log log at_n) at (is_run.each n log (slice_get_within run n log at_n))
-
       logs : s.log.now ≡ log_of run s.proc
-      logs = entries ∙ sym own ∙ ap (λ p. log_of run p) (sym proc)
+      logs = here.log ∙ sym own ∙ ap (λ p. log_of run p) (sym here.proc)
 
       few : length s.log.now ≤ 1000000
-      few = rw entries kept.entries.few
+      few = rw here.log kept.entries.few
 
       ending : ending_of run s.proc ≡ log.ending
-      ending = rw proc (ending_of_at run n log is_run.rising at_n)
+      ending = rw here.proc (ending_of_at run n log is_run.rising at_n)
 
       quiet : IsTrue s.quiet ↔ IsQuiet run s.proc
-      quiet = (λ t. ending ∙ tells.0 t, λ q. tells.1 (sym ending ∙ q))
+      quiet = (λ t. ending ∙ here.quiet.0 t, λ q. here.quiet.1 (sym ending ∙ q))
 
       unfailed : IsTrue s.quiet → NeverFails s.log.now
-      unfailed t = rw entries (quiet_never_fails log.entries log.ending (rw (← entries, logs) (meets.placed s.proc)) kept.ending (tells.0 t))
+      unfailed t = rw here.log (quiet_never_fails log.entries log.ending (rw (← here.log, logs) (meets.placed s.proc)) kept.ending (here.quiet.0 t))
 
       change : ChangesTo (log_of run log.proc) from (Regular c)
       change = holds.only.index (change_by log.proc (Regular c)) from found
 
       is : IsStay s.log.now c s.from s.turn s.end
-      is = is_stay s.log.now c s.from s.turn s.end (rw logs (keeps_rules run s.proc meets)) (record { change = rw (entries, starts, ← own) change; two = rw (entries, starts) two })
+      is = is_stay s.log.now c s.from s.turn s.end (rw logs (record { placed = meets.placed s.proc; once = meets.one.once s.proc; turns = meets.turns.each s.proc }))
+          (record { change = rw (here.log, here.from, ← own) change; two = rw (here.log, here.from) here.next })
 
   pub from_within : (by_ring : RingId → RingId → Ordering) (by_change : Change → Change → Ordering) (rings : BTreeSet RingId) (indices : BTreeMap Change ℕ) (from : ℕ) → HoldsComings by_ring by_change rings indices run
       → tree.get by_change indices (change_by log.proc (Regular c)) ≡ Some from → from < length log.entries

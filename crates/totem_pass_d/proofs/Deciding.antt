@@ -1,24 +1,19 @@
 -- Deciding whether a log has an entry of some kind.
-use Rattle.std.proofs.Common.{◌≡◌, ℕ, zero, suc, ◌<◌, ◌⊎◌, inl, inr, List, [], ◌∷◌, length, get_or, slice_get, Some, refl, ap, arith}
+use Rattle.std.proofs.Common.{◌≡◌, ℕ, ◌<◌, ◌⊎◌, inl, inr, List, slice_get, Some, refl, arith}
 use Rattle.std.proofs.lemmas.Bool.{cases_eq}
 use Rattle.totem_ids.specs.declared.ring.RingId.{RingId}
 use Rattle.totem_ids.specs.declared.conf.ConfId.{ConfId}
 use Rattle.totem_ids.specs.declared.message.MsgId.{MsgId}
-use Rattle.totem_ids.specs.declared.message.Service.{Service}
-use Rattle.totem_ids.specs.declared.message.Service.TheVariants.{Agreed, Safe}
 use Rattle.totem_evs.specs.declared.entry.Entry.{Entry}
 use Rattle.totem_evs.specs.declared.entry.Entry.TheVariants.{Conf, Send, Deliver, Fail}
 use Rattle.totem_evs.specs.Runs.{IsFailure}
 use Rattle.totem_evs.specs.declared.log.Log.{Log}
 use Rattle.totem_evs.specs.declared.ending.Ending.{Ending}
 use Rattle.totem_evs.specs.declared.ending.Ending.TheVariants.{Standing, Failed, Quiet}
-use Rattle.totem_evs.specs.Events.{ChangesTo, Delivers, IsQuiet, log_of, ending_of}
+use Rattle.totem_evs.specs.Events.{ChangesTo, IsChange, Delivers, IsQuiet, log_of, ending_of}
 use Rattle.totem_evs.specs.Following.{Com, DeliversIn, HasDelivered, NeverFails, LastChange, FailedIn, StaysIn, OpenIn, DeliversOrEnds}
-use Rattle.totem_evs.specs.Changes.{SharesEnd}
-use Rattle.totem_evs.specs.Missing.{HasLog}
 use Rattle.totem_evs.proofs.LogOf.{less_or_not}
-use Rattle.totem_run_rules.proofs.Decisions.{same_list_or_not}
-use Rattle.totem_run_rules.proofs.SentOrNot.{first_or_none, same_conf_or_not, same_message_or_not, change_to_or_not, change_of, IsAnyChange, any_change_or_not, in_or_not}
+use Rattle.totem_run_rules.proofs.SentOrNot.{first_or_none, same_conf_or_not, same_message_or_not, change_to_or_not, change_of, IsAnyChange, any_change_or_not, any_change_of, in_or_not}
 
 -- both hold, or not both
 pub both_or_not : {A B : Type 0} → A ⊎ (A → ⊥) → B ⊎ (B → ⊥) → (A × B) ⊎ (A × B → ⊥)
@@ -42,46 +37,11 @@ below_or_not a b = elim (less_or_not a b) [
   | inr rest ↦ inr (λ lt. elim rest [ inl gt ↦ omega arith | inr same ↦ omega arith ])
 ]
 
-same_service_or_not : (s t : Service) → (s ≡ t) ⊎ (s ≡ t → ⊥)
-same_service_or_not Agreed Agreed = inl refl
-same_service_or_not Agreed Safe = inr (λ e. cc)
-same_service_or_not Safe Agreed = inr (λ e. cc)
-same_service_or_not Safe Safe = inl refl
-
-pub same_entry_or_not : (e f : Entry) → (e ≡ f) ⊎ (e ≡ f → ⊥)
-same_entry_or_not (Conf x ms) (Conf y ns) = elim (both_or_not (same_conf_or_not x y) (same_list_or_not ms ns)) [
-  | inl same ↦ inl (let a = same.0 in let b = same.1 in cc)
-  | inr other ↦ inr (λ e. other (cc, cc))
-]
-same_entry_or_not (Send m x s) (Send n y t) = elim (both_or_not (same_message_or_not m n) (both_or_not (same_conf_or_not x y) (same_service_or_not s t))) [
-  | inl same ↦ inl (let a = same.0 in let b = same.1.0 in let d = same.1.1 in cc)
-  | inr other ↦ inr (λ e. other (cc, (cc, cc)))
-]
-same_entry_or_not (Deliver m x) (Deliver n y) = elim (both_or_not (same_message_or_not m n) (same_conf_or_not x y)) [
-  | inl same ↦ inl (let a = same.0 in let b = same.1 in cc)
-  | inr other ↦ inr (λ e. other (cc, cc))
-]
-same_entry_or_not (Fail x) (Fail y) = elim (same_conf_or_not x y) [ inl same ↦ inl (ap Fail same) | inr other ↦ inr (λ e. other cc) ]
-same_entry_or_not (Conf x ms) (Send n y t) = inr (λ e. cc)
-same_entry_or_not (Conf x ms) (Deliver n y) = inr (λ e. cc)
-same_entry_or_not (Conf x ms) (Fail y) = inr (λ e. cc)
-same_entry_or_not (Send m x s) (Conf y ns) = inr (λ e. cc)
-same_entry_or_not (Send m x s) (Deliver n y) = inr (λ e. cc)
-same_entry_or_not (Send m x s) (Fail y) = inr (λ e. cc)
-same_entry_or_not (Deliver m x) (Conf y ns) = inr (λ e. cc)
-same_entry_or_not (Deliver m x) (Send n y t) = inr (λ e. cc)
-same_entry_or_not (Deliver m x) (Fail y) = inr (λ e. cc)
-same_entry_or_not (Fail x) (Conf y ns) = inr (λ e. cc)
-same_entry_or_not (Fail x) (Send n y t) = inr (λ e. cc)
-same_entry_or_not (Fail x) (Deliver n y) = inr (λ e. cc)
-
-pub same_log_or_not : (xs ys : List Entry) → (xs ≡ ys) ⊎ (xs ≡ ys → ⊥)
-same_log_or_not [] [] = inl refl
-same_log_or_not [] (y ∷ ys) = inr (λ e. cc)
-same_log_or_not (x ∷ xs) [] = inr (λ e. cc)
-same_log_or_not (x ∷ xs) (y ∷ ys) = elim (both_or_not (same_entry_or_not x y) (same_log_or_not xs ys)) [
-  | inl same ↦ inl (let a = same.0 in let b = same.1 in cc)
-  | inr other ↦ inr (λ e. other (cc, cc))
+-- a change at an index
+pub any_change_at_or_not : (log : List Entry) (i : ℕ) → IsChange log i ⊎ (IsChange log i → ⊥)
+any_change_at_or_not log i = elim (first_or_none log (λ k e. (k ≡ i) × IsAnyChange e) (λ k e. both_or_not (cases_eq k i) (any_change_or_not e))) [
+  | inl found ↦ inl (let change = any_change_of log found.index found.entry found.at found.has.1 in rw found.has.0 at change)
+  | inr none ↦ inr (λ (x, (ms, h)). none i (Conf x ms) h (refl, tt))
 ]
 
 -- a change to x
@@ -277,36 +237,3 @@ ends_or_not run p c = one_or_not (failed_in_or_not (log_of run p) c) (open_in_or
 
 pub delivers_or_ends_or_not : (run : List Log) (p : ℕ) (c : RingId) (m : MsgId) → DeliversOrEnds run p c m ⊎ (DeliversOrEnds run p c m → ⊥)
 delivers_or_ends_or_not run p c m = one_or_not (has_delivered_or_not (log_of run p) c m) (ends_or_not run p c)
-
-has_log_or_not : (run : List Log) (p : ℕ) → HasLog run p ⊎ (HasLog run p → ⊥)
-has_log_or_not [] p = inr (λ h. omega (arith, h.2))
-has_log_or_not (log ∷ logs) p = elim (cases_eq log.proc p) [
-  | inl same ↦ inl (0, log, omega arith, refl, same)
-  | inr other ↦ elim (has_log_or_not logs p) [
-    | inl h ↦ inl (suc h.0, h.1, omega (arith, h.2), h.3, h.4)
-    | inr none ↦ inr (λ (k, l, lt, is, same). beyond other none k l lt is same)
-  ]
-]
-  where
-    beyond : (log.proc ≡ p → ⊥) → (HasLog logs p → ⊥) → (k : ℕ) (l : Log) → k < length (log ∷ logs) → get_or (log ∷ logs) k l ≡ l → l.proc ≡ p → ⊥
-    beyond other none zero l lt is same = other (rw is same)
-    beyond other none (suc k) l lt is same = none (k, l, omega arith, is, same)
-
-last_change_or_not : (log : List Entry) (x : ConfId) → LastChange log x ⊎ (LastChange log x → ⊥)
-last_change_or_not log x = elim (last_or_not (λ d. d ≡ x) log (λ d. same_conf_or_not d x)) [
-  | inl (d, last, same) ↦ inl (rw same at last)
-  | inr none ↦ inr (λ last. none x last refl)
-]
-
-never_changes_or_not : (log : List Entry) (x : ConfId) → ((k : ℕ) → ChangesTo log k x → ⊥) ⊎ (((k : ℕ) → ChangesTo log k x → ⊥) → ⊥)
-never_changes_or_not log x = elim (changes_or_not log x) [ inl found ↦ inr (λ never. never found.0 found.1) | inr none ↦ inl none ]
-
-pub shares_end_or_not : (run : List Log) (x : ConfId) (q : ℕ) → SharesEnd run x q ⊎ (SharesEnd run x q → ⊥)
-shares_end_or_not run x q = elim (both_or_not (has_log_or_not run q) (both_or_not (never_fails_or_not (log_of run q)) ends)) [
-  | inl h ↦ inl (record { has_log = h.0; goes_on = h.1.0; ends = h.1.1 })
-  | inr never ↦ inr (λ s. never (s.has_log, (s.goes_on, s.ends)))
-]
-  where
-    ends : (LastChange (log_of run q) x ⊎ ((IsQuiet run q → ⊥) × ((k : ℕ) → ChangesTo (log_of run q) k x → ⊥)))
-        ⊎ (LastChange (log_of run q) x ⊎ ((IsQuiet run q → ⊥) × ((k : ℕ) → ChangesTo (log_of run q) k x → ⊥)) → ⊥)
-    ends = one_or_not (last_change_or_not (log_of run q) x) (both_or_not (denied_or_not (is_quiet_or_not run q)) (never_changes_or_not (log_of run q) x))

@@ -1,13 +1,11 @@
 pub mod Deciding
 pub mod Excusing
-pub mod KnownStays
 pub mod Building
 pub mod FindingStays
 pub mod Reaching
 pub mod OneEvent
 pub mod EventFaults
 pub mod Indexing
-pub mod FoundByIndex
 pub mod Searching
 pub mod Facts
 pub mod Rests
@@ -22,3 +20,4 @@ pub mod WhatIsPending
 pub mod Suspecting
 pub mod LastCommonDeliveries
 pub mod Known
+pub mod Sending

@@ -11,3 +11,5 @@ pub mod Jobs
 pub mod Partings
 pub mod Suspects
 pub mod Findings
+pub mod Sends
+pub mod KnownStays

@@ -103,7 +103,7 @@ impl Comings {
             let proc = log.proc;
             let conf = ConfId::Regular(ring);
             if let Some(from) = self.indices.get(&Change { proc, conf }) {
-                list.extend_from_slice(&[stay_from(log, *from)])?;
+                list.push(stay_from(alloc, log, *from)?)?;
             }
         }
         Ok(list)

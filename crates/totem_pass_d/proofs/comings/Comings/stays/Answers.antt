@@ -2,18 +2,24 @@ use Rattle.std.proofs.Common.{refl, sym, ap, ◌∙◌}
 use Rattle.std.proofs.lemmas.Option.{slice_get_read}
 use Rattle.totem_evs.specs.LogRecord.{LogRecord}
 use Rattle.totem_evs.specs.RunRecord.{RunRecord}
-use Rattle.totem_pass_d.proofs.Building.{no_more, one_more, stay_at, from_within, all_stays}
-use Rattle.totem_pass_d.proofs.comings.Comings.stays.Goals.{in-Some+in_ok-extend_from_slice, in_default}
+use Rattle.totem_pass_d.proofs.Building.{few_entries, no_more, one_more, stay_at, from_within, all_stays}
+use Rattle.totem_pass_d.proofs.comings.Comings.stays.Goals.{in-Some+in_ok-stay_from+in_ok-push, in_default}
 use Rattle.totem_pass_d.proofs.comings.Comings.stays.Goals as goal
 
-pub stay_from-requires : goal.stay_from-requires
-stay_from-requires c =
+pub stay_from-requires-clause-within : goal.stay_from-requires-clause-within
+stay_from-requires-clause-within c =
     let runs = ap (λ (r : RunRecord). r.logs) c.run.view_is in
     let at = slice_get_read c.as_slice-log-items.result.now _ c.loop-log.log-index c.log-item.result refl c.loop-log-test.true c.log-item.is in
     let procs = ap (λ (l : LogRecord). l.proc) c.log.view_is in
     let value = rw procs at c.get.ensures.value in
     let found = sym (rw c.in-Some.is at value) in
     from_within c.args.run.now.logs c.args.ring c.loop-log.log-index c.log-item.result (rw runs at c.as_slice-log-items.ensures.run) (rw (c.as_slice-log-items.ensures.value ∙ runs) at at) _ _ _ _ _ c.requires.comings found
+
+pub stay_from-requires-clause-few : goal.stay_from-requires-clause-few
+stay_from-requires-clause-few c =
+    let runs = ap (λ (r : RunRecord). r.logs) c.run.view_is in
+    let at = slice_get_read c.as_slice-log-items.result.now _ c.loop-log.log-index c.log-item.result refl c.loop-log-test.true c.log-item.is in
+    few_entries c.args.run.now.logs c.args.ring c.loop-log.log-index c.log-item.result (rw runs at c.as_slice-log-items.ensures.run) (rw (c.as_slice-log-items.ensures.value ∙ runs) at at)
 
 pub loop-log-preserved : goal.loop-log-preserved
 loop-log-preserved c =
@@ -24,9 +30,9 @@ loop-log-preserved c =
     let procs = ap (λ (l : LogRecord). l.proc) c.log.view_is in
     let value = rw procs at c.get.ensures.value in
     elim c.match-get.branch [
-      | in-Some+in_ok-extend_from_slice w ↦ (let h = w.stay_from.ensures in rw (w.list-is, w.in_ok-extend_from_slice.ensures.items)
-          (one_more _ _ _ _ is_run there _ w.stay_from.result h.proc
-          (stay_at _ _ _ _ is_run there _ _ _ _ _ w.stay_from.result c.requires.comings (sym (rw w.in-Some.is at value)) c.requires.meets h.proc h.log h.quiet h.from h.next) c.loop-log.invariant))
+      | in-Some+in_ok-stay_from+in_ok-push w ↦ (let h = w.in_ok-stay_from.ensures in rw (w.list-is, w.in_ok-push.ensures.items)
+          (one_more _ _ _ _ is_run there _ w.in_ok-stay_from.field-0 h.proc
+          (stay_at _ _ _ _ is_run there _ _ _ _ _ w.in_ok-stay_from.field-0 c.requires.comings (sym (rw w.in-Some.is at value)) c.requires.meets h) c.loop-log.invariant))
       | in_default w ↦ rw w.list-is (no_more _ _ _ _ is_run there _ _ _ _ _ c.requires.comings (sym (rw w.in_default.is at value)) c.loop-log.invariant)
     ]
 
