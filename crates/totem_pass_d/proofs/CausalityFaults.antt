@@ -12,7 +12,7 @@ use Rattle.totem_evs.specs.declared.entry.Entry.TheVariants.{Send, Deliver}
 use Rattle.totem_evs.specs.declared.log.Log.{Log}
 use Rattle.totem_evs.specs.Events.{log_of}
 use Rattle.totem_evs.specs.Steps.{SendsAt}
-use Rattle.totem_evs.specs.Following.{DeliversIn}
+use Rattle.totem_evs.specs.Following.{Com, DeliversIn}
 use Rattle.totem_evs.specs.RingAgreement.{IsHop, CausalityIn}
 use Rattle.totem_evs.specs.RingFaults.{BreaksCausalityIn}
 use Rattle.totem_evs.specs.Answers.{IsLeast}
@@ -21,7 +21,8 @@ use Rattle.totem_pass_d.specs.declared.stay.Stay.{Stay}
 use Rattle.totem_pass_d.specs.Acts.{IsAmong, DeliversNot}
 use Rattle.totem_pass_d.specs.Search.{IsInside, EachBeginsWithin, NoneWithin, IsLeastWithin, BeginsWithin}
 use Rattle.totem_pass_d.specs.Causality.{IsSurprise, IsOneSurprise, IsEffect}
-use Rattle.totem_pass_d.proofs.Deciding.{delivered_before_or_not}
+use Rattle.totem_pass_d.proofs.Deciding.{both_or_not, below_or_not, delivery_or_not}
+use Rattle.totem_run_rules.proofs.SentOrNot.{in_or_not}
 use Rattle.totem_pass_d.proofs.Facts.{Facts}
 use Rattle.totem_pass_d.proofs.Rests.{none_rest, least_rest, nothing_here, only_here, sends_there, there_sends, index_of, begins_at}
 
@@ -177,8 +178,8 @@ causes_begin run c stays facts = record { each = λ places h. go places h }
 -- if nothing breaks 5, it holds
 pub causal : (run : List Log) (c : RingId) → HoldsOfNone (BreaksCausalityIn run c) → CausalityIn run c
 causal run c none = record {
-  each = λ m n e f send effect hop r j delivers. elim (delivered_before_or_not (log_of run r) c m j) [
-    | inl found ↦ found
-    | inr never ↦ absurd (none.none (e ∷ f ∷ place r j ∷ []) (j, refl, (m, n, send, effect, hop, delivers, never)))
+  each = λ m n e f send effect hop r j delivers. elim (delivery_or_not (λ l x. (l < j) × Com (log_of run r) c x) (log_of run r) m (λ l x. both_or_not (below_or_not l j) (in_or_not (log_of run r) c x))) [
+    | inl (l, x, at, (lt, inside)) ↦ (l, lt, (x, at, inside))
+    | inr never ↦ absurd (none.none (e ∷ f ∷ place r j ∷ []) (j, refl, (m, n, send, effect, hop, delivers, λ l lt (x, at, inside). never l x at (lt, inside))))
   ];
 }

@@ -1,8 +1,9 @@
 -- What breaks 3, 7.1 and 7.2 in one regular configuration, event by event.
-use Rattle.std.proofs.Common.{◌≡◌, ℕ, ◌<◌, ◌≤◌, inl, inr, List, length, get_or, slice_get, Some, Bool, true, false, not, refl, sym, arith}
+use Rattle.std.proofs.Common.{◌≡◌, ℕ, ◌<◌, ◌≤◌, ◌⊎◌, inl, inr, List, length, get_or, slice_get, Some, Bool, true, false, not, refl, sym, arith}
 use Rattle.std.specs.Prelude.{All}
 use Rattle.std.specs.Bool.{MatchBool, OnTrue, OnFalse}
 use Rattle.std.specs.List.{AllWithin, HoldsAt}
+use Rattle.std.proofs.lemmas.Bool.{cases_eq}
 use Rattle.std.proofs.lemmas.Grind.{get_or_default_zero}
 use Rattle.std.proofs.lemmas.List.Elements.{All-from_all_within, All-contains}
 use Rattle.totem_ids.specs.declared.ring.RingId.{RingId}
@@ -26,7 +27,7 @@ use Rattle.totem_pass_d.specs.Stays.{IsExcused, IsStayOf}
 use Rattle.totem_pass_d.specs.Acts.{HasCome, NeverComes, DeliversNot}
 use Rattle.totem_pass_d.specs.Search.{IsInside, EachStandsInside}
 use Rattle.totem_pass_d.specs.Reached.{IsSafeIn, AreMembersAt, HoldsNotOfAll}
-use Rattle.totem_pass_d.proofs.Deciding.{delivers_or_ends_or_not, changes_or_not}
+use Rattle.totem_pass_d.proofs.Deciding.{both_or_not, changes_or_not, has_delivered_or_not}
 use Rattle.totem_pass_d.proofs.Excusing.{excused, not_excused}
 use Rattle.totem_pass_d.proofs.Facts.{Facts, StayFacts, at_turn_no_name}
 use Rattle.totem_pass_d.proofs.OneEvent.{IsOfOne}
@@ -54,6 +55,29 @@ absent run c q m meets never h = go h
     go (inr (inr (loud, (d, fails, last, inl same)))) = never.never last.index (last.change.0, rw same at last.change.1)
     go (inr (inr (loud, (d, fails, last, inr f)))) = never.never f.from f.first.change
 
+excused_or_not : (stay : Stay) → IsExcused stay ⊎ (IsExcused stay → ⊥)
+excused_or_not stay = both_or_not (cases_eq stay.end (length stay.log.now)) (false_or_not stay.quiet)
+  where
+    false_or_not : (b : Bool) → (b ≡ false) ⊎ (b ≡ false → ⊥)
+    false_or_not true = inr (λ e. cc)
+    false_or_not false = inl refl
+
+-- a process delivers m or is excused, or it does not and is not
+delivers_or_ends_or_not : (run : List Log) (c : RingId) (stays : List Stay) → Facts run c stays → (p : ℕ) (m : MsgId) → DeliversOrEnds run p c m ⊎ (DeliversOrEnds run p c m → ⊥)
+delivers_or_ends_or_not run c stays facts p m = elim (changes_or_not (log_of run p) (Regular c)) [
+  | inl (i, change) ↦ (let has = facts.whole p i change in rw has.proc at (of_stay has.stay (facts.each has.stay (record { at = has.at; stands = has.stands }))))
+  | inr none ↦ inr (absent run c p m facts.meets (record { never = none }))
+]
+  where
+    of_stay : (stay : Stay) → StayFacts run c stay → DeliversOrEnds run stay.proc c m ⊎ (DeliversOrEnds run stay.proc c m → ⊥)
+    of_stay stay is = elim (excused_or_not stay) [
+      | inl e ↦ inl (inr (excused run c stay is.of e))
+      | inr other ↦ elim (has_delivered_or_not (log_of run stay.proc) c m) [
+        | inl has ↦ inl (inl has)
+        | inr never ↦ inr (missed run c stay m is.of other (record { never = never }))
+      ]
+    ]
+
 -- what a test of all members says
 pub all_or_not_all : (b : Bool) (P : ℕ → Type 0) (members : List ℕ) → MatchBool b (AllWithin P members 0 (length members)) ((k : ℕ) × (k < length members) × HoldsAt (λ q. P q → ⊥) members k)
     → OnTrue b (All P members) × OnFalse b (HoldsNotOfAll P members)
@@ -79,9 +103,9 @@ owned_of_one run c = record { empty = λ h. h; one = λ e h. h; is = λ e h. h; 
 pub owned_inside : (run : List Log) (c : RingId) (stays : List Stay) → Facts run c stays → EachStandsInside stays (IsNotOwned run c)
 owned_inside run c stays facts = record { each = λ p i (m, (v, at), never). facts.inside p i (Regular c) (Send m (Regular c) v, at, refl) (inl refl) }
 
-pub owned : (run : List Log) (c : RingId) → ((p i : ℕ) → IsNotOwned run c p i → ⊥) → OwnDeliveryIn run c
-owned run c none = record {
-  each = λ p i m sends. elim (delivers_or_ends_or_not run p c m) [ inl ends ↦ ends | inr never ↦ absurd (none p i (m, sends, never)) ];
+pub owned : (run : List Log) (c : RingId) (stays : List Stay) → Facts run c stays → ((p i : ℕ) → IsNotOwned run c p i → ⊥) → OwnDeliveryIn run c
+owned run c stays facts none = record {
+  each = λ p i m sends. elim (delivers_or_ends_or_not run c stays facts p m) [ inl ends ↦ ends | inr never ↦ absurd (none p i (m, sends, never)) ];
 }
 
 pub owned_no_send : (run : List Log) (c : RingId) (p i : ℕ) (e : Entry) → slice_get (log_of run p) i ≡ Some e → ((m : MsgId) (x : ConfId) (v : Service) → e ≡ Send m x v → ⊥) → IsNotOwned run c p i → ⊥
@@ -149,9 +173,9 @@ safety_of_one run c = record { empty = λ h. h; one = λ e h. h; is = λ e h. h;
 pub safety_inside : (run : List Log) (c : RingId) (stays : List Stay) → Facts run c stays → EachStandsInside stays (IsNotReached run c)
 safety_inside run c stays facts = record { each = λ p i (m, d, q, safe, at, inside, member, never). facts.inside p i d (Deliver m d, at, refl) inside }
 
-pub safety : (run : List Log) (c : RingId) → ((p i : ℕ) → IsNotReached run c p i → ⊥) → SafetyIn run c
-safety run c none = record {
-  each = λ m p i d q safe at inside member. elim (delivers_or_ends_or_not run q c m) [ inl ends ↦ ends | inr never ↦ absurd (none p i (m, d, q, safe, at, inside, member, never)) ];
+pub safety : (run : List Log) (c : RingId) (stays : List Stay) → Facts run c stays → ((p i : ℕ) → IsNotReached run c p i → ⊥) → SafetyIn run c
+safety run c stays facts none = record {
+  each = λ m p i d q safe at inside member. elim (delivers_or_ends_or_not run c stays facts q m) [ inl ends ↦ ends | inr never ↦ absurd (none p i (m, d, q, safe, at, inside, member, never)) ];
 }
 
 pub safety_no_delivery : (run : List Log) (c : RingId) (p i : ℕ) (e : Entry) → slice_get (log_of run p) i ≡ Some e → ((m : MsgId) (x : ConfId) → e ≡ Deliver m x → ⊥) → IsNotReached run c p i → ⊥

@@ -9,11 +9,10 @@ use Rattle.totem_evs.specs.declared.entry.Entry.TheVariants.{Send, Deliver}
 use Rattle.totem_evs.specs.declared.log.Log.{Log}
 use Rattle.totem_evs.specs.Events.{IsRegular, IsTransitional, ChangesTo, Sends, log_of}
 use Rattle.totem_evs.specs.Changes.{Names}
-use Rattle.totem_evs.specs.Following.{Follows, Com, DeliversIn}
+use Rattle.totem_evs.specs.Following.{Com, DeliversIn}
 use Rattle.totem_evs.specs.Answers.{MeetsPasses}
 use Rattle.totem_evs.proofs.LogOf.{less_or_not}
-use Rattle.totem_run_rules.proofs.Staying.{names_no_change, same_change}
-use Rattle.totem_evs.proofs.NextChanges.{same_first, one_next}
+use Rattle.totem_run_rules.proofs.Staying.{names_no_change}
 use Rattle.totem_pass_d.specs.declared.stay.Stay.{Stay}
 use Rattle.totem_pass_d.specs.declared.stays.Stays.{Stays}
 use Rattle.totem_run_rules.specs.Stays.{IsStay}
@@ -35,7 +34,6 @@ pub record StayFacts (run : List Log) (c : RingId) (stay : Stay) : Type 0 where
   pub is : IsStay (log_of run stay.proc) c stay.from stay.turn stay.end
   -- an entry of the stay is in c or in what follows it
   pub stands : (i : ℕ) (x : ConfId) → IsInside stay i → Names (log_of run stay.proc) i x → Com (log_of run stay.proc) c x
-  pub following : (i : ℕ) (x : ConfId) → stay.turn ≤ i → i < stay.end → Names (log_of run stay.proc) i x → ChangesTo (log_of run stay.proc) stay.turn x
   pub sends : (i : ℕ) (m : MsgId) (x : ConfId) → IsInside stay i → Sends (log_of run stay.proc) i m x → (x ≡ Regular c) × (i < stay.turn)
 
 -- what is known of the run
@@ -59,21 +57,6 @@ com_of log c from turn end i x is after until names = elim (less_or_not i turn) 
   | inl lt ↦ inl (is.regular i x after lt names)
   | inr more ↦ elim more [
     | inl gt ↦ inr (is.following i x gt until names)
-    | inr same ↦ absurd (at_turn_no_name log c from turn end i x is (omega arith) same names)
-  ]
-]
-
-pub one_following : (log : List Entry) (c : RingId) (x y : ConfId) → Follows log c x → Follows log c y → x ≡ y
-one_following log c x y a b =
-    let from = same_first log (Regular c) a.from b.from a.first b.first in
-    let to = one_next log b.from a.to b.to (rw from at a.next) b.next in
-    same_change log a.to b.to x y to a.change b.change
-
-following_of : (log : List Entry) (c : RingId) (from turn end i : ℕ) (x : ConfId) → IsStay log c from turn end → turn ≤ i → i < end → Names log i x → ChangesTo log turn x
-following_of log c from turn end i x is le until names = elim (less_or_not i turn) [
-  | inl lt ↦ absurd (omega arith)
-  | inr more ↦ elim more [
-    | inl gt ↦ (let t = is.turns (omega arith) in rw (one_following log c t.conf x t.follows (is.following i x gt until names)) at t.change)
     | inr same ↦ absurd (at_turn_no_name log c from turn end i x is (omega arith) same names)
   ]
 ]
@@ -118,7 +101,6 @@ stay_facts run c stays stay meets are among =
       size = rw of.log at of.few;
       is = is;
       stands = λ i x inside names. com_of (log_of run stay.proc) c stay.from stay.turn stay.end i x is inside.after inside.until names;
-      following = λ i x le until names. following_of (log_of run stay.proc) c stay.from stay.turn stay.end i x is le until names;
       sends = λ i m x inside send. sends_of (log_of run stay.proc) c stay.from stay.turn stay.end i m x is (meets.once.regular stay.proc i m x send) inside.after inside.until send;
     }
 

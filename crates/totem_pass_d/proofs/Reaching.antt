@@ -16,12 +16,12 @@ use Rattle.totem_evs.specs.Delivery.{WasSentFor}
 use Rattle.totem_evs.specs.Following.{Follows, Com}
 use Rattle.totem_evs.specs.Answers.{MeetsPasses}
 use Rattle.totem_evs.proofs.LogOf.{less_or_not}
+use Rattle.totem_evs.proofs.NextChanges.{same_first, one_next}
 use Rattle.totem_run_rules.proofs.Staying.{names_no_change, same_change}
 use Rattle.totem_pass_d.specs.declared.stays.Sending.{Sending}
 use Rattle.totem_run_rules.specs.Stays.{IsStay}
 use Rattle.totem_pass_d.specs.Acts.{IsSendingOf}
 use Rattle.totem_pass_d.specs.Reached.{IsSafeIn, AreMembersAt}
-use Rattle.totem_pass_d.proofs.Facts.{one_following}
 
 -- a message sent for another service is not safe
 pub not_safe : (run : List Log) (c : RingId) (m : MsgId) (s : Sending) → MeetsPasses run → IsSendingOf run c m s → (s.service ≡ Safe → ⊥) → IsSafeIn run c m → ⊥
@@ -48,6 +48,12 @@ members_before log c from turn end i k e is lt below first at =
     let same : e ≡ Conf (Regular c) ms = (let h = is.change.1 in let there : slice_get log from ≡ Some e = rw first at at in cc) in
     record { change = from; conf = Regular c; with = rw same is.change.1; named = λ d names. is.regular i d lt below names }
 
+-- at most one configuration follows c in a log
+one_follows : (log : List Entry) (c : RingId) (d e : ConfId) → Follows log c d → Follows log c e → d ≡ e
+one_follows log c d e f g =
+    let from = same_first log (Regular c) f.from g.from f.first g.first in
+    let to = one_next log g.from f.to g.to (rw from at f.next) g.next in same_change log f.to g.to d e to f.change g.change
+
 pub members_after : (log : List Entry) (c : RingId) (from turn end i k : ℕ) (e : Entry) → IsStay log c from turn end → turn ≤ i → i < end → k ≡ turn → slice_get log k ≡ Some e → AreMembersAt log i (members_of e)
 members_after log c from turn end i k e is le below first at =
     let t = is.turns (omega arith) in
@@ -57,7 +63,7 @@ members_after log c from turn end i k e is le below first at =
   where
     named : (x : ConfId) → ChangesTo log turn x → Follows log c x → (d : ConfId) → Names log i d → d ≡ x
     named x change f d names = elim (less_or_not turn i) [
-      | inl over ↦ one_following log c d x (is.following i d over below names) f
+      | inl over ↦ one_follows log c d x (is.following i d over below names) f
       | inr rest ↦ elim rest [
         | inl under ↦ absurd (omega arith)
         | inr same ↦ absurd (names_no_change log i d names (x, rw same at change))
