@@ -1,17 +1,18 @@
--- Adding to a list everything for which a property holds at some index, one index after the other.
-use Rattle.std.proofs.Common.{◌≡◌, ◌⊎◌, ℕ, ◌+◌, ◌<◌, ◌≤◌, inl, inr, List, [], ◌∷◌, ◌++◌, sym, subst, arith}
+-- Adding to a list everything for which a property holds at some element of another list.
+use Rattle.std.proofs.Common.{◌≡◌, ◌⊎◌, ◌↔◌, ℕ, ◌+◌, ◌<◌, inl, inr, List, [], ◌∷◌, ◌++◌, slice_get, Some, subst, arith}
 use Rattle.std.specs.Prelude.{Contains}
 use Rattle.std.proofs.lemmas.List.Elements.{Contains-push, Contains-append_left, Contains-push_cases}
 use Rattle.totem_evs.specs.declared.pending.Pending.{Pending}
 use Rattle.totem_evs.proofs.LogOf.{less_or_not}
 use Rattle.totem_pass_d.specs.Pendings.{Adds}
 
--- the property holds at an index from lo on and below n
-pub record Between (P : ℕ → Pending → Type 0) (lo n : ℕ) (x : Pending) : Type 0 where
-  pub index : ℕ
-  pub from : lo ≤ index
-  pub below : index < n
-  pub holds : P index x
+-- the property holds at one of the first n elements
+pub record AtSome {X : Type 0} (P : X → Pending → Type 0) (xs : List X) (n : ℕ) (x : Pending) : Type 0 where
+  pub at : ℕ
+  pub item : X
+  pub below : at < n
+  pub stands : slice_get xs at ≡ Some item
+  pub holds : P item x
 
 pub adds_nothing : (P : Pending → Type 0) (s : List Pending) → ((x : Pending) → P x → ⊥) → Adds P s s
 adds_nothing P s never = record { each = λ x. (λ has. inl has, λ h. elim h [ inl old ↦ old | inr new ↦ absurd (never x new) ]) }
@@ -21,38 +22,58 @@ adds_alike P Q s t to from h = record {
   each = λ x. (λ has. elim ((h.each x).0 has) [ inl old ↦ inl old | inr new ↦ inr (to x new) ], λ k. (h.each x).1 (elim k [ inl old ↦ inl old | inr new ↦ inr (from x new) ]));
 }
 
-pub adds_one : (P : Pending → Type 0) (k : Pending) (s : List Pending) → P k → ((x : Pending) → P x → x ≡ k) → Adds P s (s ++ k ∷ [])
-adds_one P k s holds one = record {
-  each = λ x. (
-    λ has. elim (Contains-push_cases s k x has) [ inl old ↦ inl old | inr same ↦ inr (subst P same holds) ],
-    λ given. elim given [ inl old ↦ Contains-append_left s (k ∷ []) x old | inr new ↦ subst (λ (y : Pending). Contains (s ++ k ∷ []) y) (sym (one x new)) (Contains-push s k) ],
-  );
-}
+pub some_yet : {X : Type 0} (P : X → Pending → Type 0) (xs : List X) (s : List Pending) → Adds (AtSome P xs 0) s s
+some_yet P xs s = adds_nothing (AtSome P xs 0) s (λ x h. let below = h.below in omega arith)
 
-pub between_yet : (P : ℕ → Pending → Type 0) (lo : ℕ) (s : List Pending) → Adds (Between P lo lo) s s
-between_yet P lo s = adds_nothing (Between P lo lo) s (λ x h. let a = h.from in let b = h.below in omega arith)
-
-pub between_more : (P : ℕ → Pending → Type 0) (lo n : ℕ) (s t u : List Pending) → lo ≤ n → Adds (Between P lo n) s t → Adds (P n) t u → Adds (Between P lo (n + 1)) s u
-between_more P lo n s t u le first second = record { each = λ x. (λ has. to x has, λ given. from x given) }
+pub some_more : {X : Type 0} (P : X → Pending → Type 0) (xs : List X) (n : ℕ) (item : X) (s t u : List Pending) → slice_get xs n ≡ Some item → Adds (P item) t u → Adds (AtSome P xs n) s t → Adds (AtSome P xs (n + 1)) s u
+some_more P xs n item s t u at second first = record { each = λ x. (λ has. to x has, λ given. from x given) }
   where
-    wider : (x : Pending) → Between P lo n x → Between P lo (n + 1) x
-    wider x b = record { index = b.index; from = b.from; below = (let lt = b.below in omega arith); holds = b.holds }
-
-    to : (x : Pending) → Contains u x → Contains s x ⊎ Between P lo (n + 1) x
+    to : (x : Pending) → Contains u x → Contains s x ⊎ AtSome P xs (n + 1) x
     to x has = elim ((second.each x).0 has) [
-      | inl old ↦ elim ((first.each x).0 old) [ inl oldest ↦ inl oldest | inr before ↦ inr (wider x before) ]
-      | inr new ↦ inr (record { index = n; from = le; below = omega arith; holds = new })
+      | inl old ↦ elim ((first.each x).0 old) [
+        | inl oldest ↦ inl oldest
+        | inr b ↦ inr (record { at = b.at; item = b.item; below = (let lt = b.below in omega arith); stands = b.stands; holds = b.holds })
+      ]
+      | inr new ↦ inr (record { at = n; item = item; below = omega arith; stands = at; holds = new })
     ]
 
-    last : (x : Pending) (b : Between P lo (n + 1) x) → b.index ≡ n → P n x
-    last x b same = rw same at b.holds
+    here : (x : Pending) (b : AtSome P xs (n + 1) x) → b.at ≡ n → P item x
+    here x b same = (let there : slice_get xs n ≡ Some b.item = rw same at b.stands in let one : b.item ≡ item = cc in rw one at b.holds)
 
-    from : (x : Pending) → Contains s x ⊎ Between P lo (n + 1) x → Contains u x
+    from : (x : Pending) → Contains s x ⊎ AtSome P xs (n + 1) x → Contains u x
     from x (inl old) = (second.each x).1 (inl ((first.each x).1 (inl old)))
-    from x (inr b) = elim (less_or_not b.index n) [
-      | inl under ↦ (second.each x).1 (inl ((first.each x).1 (inr (record { index = b.index; from = b.from; below = under; holds = b.holds }))))
+    from x (inr b) = elim (less_or_not b.at n) [
+      | inl under ↦ (second.each x).1 (inl ((first.each x).1 (inr (record { at = b.at; item = b.item; below = under; stands = b.stands; holds = b.holds }))))
       | inr rest ↦ elim rest [
         | inl over ↦ absurd (let lt = b.below in omega arith)
-        | inr same ↦ (second.each x).1 (inr (last x b same))
+        | inr same ↦ (second.each x).1 (inr (here x b same))
       ]
     ]
+
+-- what is in the new list, and what Q still adds to it, are what is in the old one and what P adds to it
+pub record Leaves (P Q : Pending → Type 0) (old now : List Pending) : Type 0 where
+  pub each : (x : Pending) → (Contains now x ⊎ Q x) ↔ (Contains old x ⊎ P x)
+
+pub leaves_all : (P : Pending → Type 0) (s : List Pending) → Leaves P P s s
+leaves_all P s = record { each = λ x. (λ h. h, λ h. h) }
+
+pub leaves_nothing : (P Q : Pending → Type 0) (old now : List Pending) → ((x : Pending) → Q x → ⊥) → Leaves P Q old now → Adds P old now
+leaves_nothing P Q old now never h = record { each = λ x. (λ has. (h.each x).0 (inl has), λ given. elim ((h.each x).1 given) [ inl has ↦ has | inr left ↦ absurd (never x left) ]) }
+
+-- what is left loses nothing
+pub leaves_same : (P Q R : Pending → Type 0) (old now : List Pending) → ((x : Pending) → Q x → R x) → ((x : Pending) → R x → Q x) → Leaves P Q old now → Leaves P R old now
+leaves_same P Q R old now to from h = record {
+  each = λ x. (λ has. (h.each x).0 (elim has [ inl in_now ↦ inl in_now | inr left ↦ inr (from x left) ]), λ given. elim ((h.each x).1 given) [ inl in_now ↦ inl in_now | inr left ↦ inr (to x left) ]);
+}
+
+-- one that was left is appended
+pub leaves_pushed : (P Q R : Pending → Type 0) (k : Pending) (old now : List Pending) → Q k → ((x : Pending) → Q x → (k ≡ x) ⊎ R x) → ((x : Pending) → R x → Q x) → Leaves P Q old now → Leaves P R old (now ++ k ∷ [])
+leaves_pushed P Q R k old now holds to from h = record { each = λ x. (λ has. (h.each x).0 (back x has), λ given. forth x ((h.each x).1 given)) }
+  where
+    back : (x : Pending) → Contains (now ++ k ∷ []) x ⊎ R x → Contains now x ⊎ Q x
+    back x (inl has) = elim (Contains-push_cases now k x has) [ inl old ↦ inl old | inr same ↦ inr (subst Q same holds) ]
+    back x (inr left) = inr (from x left)
+
+    forth : (x : Pending) → Contains now x ⊎ Q x → Contains (now ++ k ∷ []) x ⊎ R x
+    forth x (inl has) = inl (Contains-append_left now (k ∷ []) x has)
+    forth x (inr left) = elim (to x left) [ inl same ↦ inl (subst (λ (y : Pending). Contains (now ++ k ∷ []) y) same (Contains-push now k)) | inr later ↦ inr later ]

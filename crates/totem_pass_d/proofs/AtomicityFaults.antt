@@ -1,6 +1,6 @@
 -- The list found for 4 is the least that breaks it: a delivery, its process's next change, and that of a process that
 -- goes along without the message.
-use Rattle.std.proofs.Common.{◌≡◌, ℕ, zero, suc, ◌+◌, ◌<◌, ◌⊎◌, inl, inr, List, [], ◌∷◌, length, slice_get, Some, Bool, true, false, IsTrue, ◌↔◌, refl, sym, arith}
+use Rattle.std.proofs.Common.{◌≡◌, ℕ, ◌+◌, ◌<◌, inl, inr, List, [], ◌∷◌, length, slice_get, Some, Bool, true, false, IsTrue, ◌↔◌, refl, arith}
 use Rattle.std.specs.Bool.{OnTrue, OnFalse}
 use Rattle.totem_ids.specs.declared.ring.RingId.{RingId}
 use Rattle.totem_ids.specs.declared.conf.ConfId.{ConfId}
@@ -10,9 +10,8 @@ use Rattle.totem_ids.specs.declared.place.Place.{Place}
 use Rattle.totem_evs.specs.declared.entry.Entry.{Entry}
 use Rattle.totem_evs.specs.declared.entry.Entry.TheVariants.{Deliver}
 use Rattle.totem_evs.specs.declared.log.Log.{Log}
-use Rattle.totem_evs.specs.Events.{log_of, IsChange, ChangesTo, Delivers, IsRegular, IsTransitional}
-use Rattle.totem_evs.specs.Changes.{ChangesNext}
-use Rattle.totem_evs.specs.Following.{IsNextChange, Follows, Com}
+use Rattle.totem_evs.specs.Events.{log_of, ChangesTo, Delivers}
+use Rattle.totem_evs.specs.Following.{IsNextChange, Follows, Com, DeliversIn}
 use Rattle.totem_evs.specs.RingAgreement.{AtomicityIn}
 use Rattle.totem_evs.specs.RingFaults.{BreaksAtomicityIn}
 use Rattle.totem_evs.specs.AgreementFaults.{GoesAt}
@@ -23,14 +22,14 @@ use Rattle.totem_run_rules.proofs.Staying.{same_change, change_within}
 use Rattle.totem_evs.proofs.NextChanges.{one_next}
 use Rattle.totem_pass_d.specs.declared.stay.Stay.{Stay}
 use Rattle.totem_run_rules.specs.Stays.{IsStay}
-use Rattle.totem_pass_d.specs.Acts.{IsAmong, DeliversHere, DeliversNot}
+use Rattle.totem_pass_d.specs.Acts.{IsAmong, DeliversNot}
 use Rattle.totem_pass_d.specs.Search.{IsInside, EachBeginsWithin, BeginsWithin, NoneWithin, IsLeastWithin}
 use Rattle.totem_pass_d.specs.Partings.{IsAnywhere, IsSpan, IsNoChange, NeverDelivers, IsPartner, IsOnePartner}
-use Rattle.totem_pass_d.proofs.Deciding.{below_or_not, delivers_or_not}
-use Rattle.totem_pass_d.proofs.KnownStays.{any_change_at_or_not}
-use Rattle.totem_pass_d.proofs.Facts.{Facts, StayFacts}
+use Rattle.totem_configuration_rules.proofs.Together.{follows_too}
+use Rattle.totem_run_rules.proofs.SentOrNot.{same_conf_or_not}
+use Rattle.totem_pass_d.proofs.Deciding.{below_or_not, delivery_or_not}
+use Rattle.totem_pass_d.proofs.Facts.{Facts}
 use Rattle.totem_pass_d.proofs.Rests.{nothing_here, only_here, begins_at}
-use Rattle.totem_pass_d.proofs.CausalityFaults.{not_delivered_in}
 
 -- the next change after the one to c, and after the one to what follows it
 pub next_of_from : (log : List Entry) (c : RingId) (from turn end k : ℕ) → IsStay log c from turn end → IsNextChange log from k → k ≡ turn
@@ -155,118 +154,35 @@ next_is_short run c stays stay d nx facts among to =
     let lt = change_within (log_of run stay.proc) nx d at in let size = of.size in omega arith
 
 -- whether the message is delivered in x
-pub never_there : (run : List Log) (c : RingId) (stay : Stay) (m : MsgId) (x : ConfId) → StayFacts run c stay → DeliversNot stay.log.now c m → NeverDelivers (log_of run stay.proc) c m x
-never_there run c stay m x facts never = record { never = λ inside l at. not_delivered_in run c stay m facts never (l, (x, at, inside)) }
+pub never_there : (run : List Log) (c : RingId) (p : ℕ) (m : MsgId) (x : ConfId) → DeliversNot (log_of run p) c m → NeverDelivers (log_of run p) c m x
+never_there run c p m x never = record { never = λ inside l at. never.never (l, (x, at, inside)) }
 
-here_is : (run : List Log) (c : RingId) (stay : Stay) (m : MsgId) (k : ℕ) → StayFacts run c stay → (here : DeliversHere stay m k) → Delivers (log_of run stay.proc) k m here.conf
-here_is run c stay m k facts here = rw facts.log at here.delivers
-
-pub delivers_on_true : (run : List Log) (c : RingId) (stay : Stay) (m o : MsgId) (x y : ConfId) (k : ℕ) (b : Bool) → StayFacts run c stay → DeliversHere stay m k → slice_get (log_of run stay.proc) k ≡ Some (Deliver o y) → IsTrue b ↔ (y ≡ x)
+pub delivers_on_true : (run : List Log) (c : RingId) (stay : Stay) (m o : MsgId) (x y : ConfId) (k : ℕ) (b : Bool) → DeliversIn (log_of run stay.proc) c m k → slice_get (log_of run stay.proc) k ≡ Some (Deliver o y) → IsTrue b ↔ (y ≡ x)
     → OnTrue b ((l : ℕ) × Delivers (log_of run stay.proc) l m x)
-delivers_on_true run c stay m o x y k true facts here at decides =
-    let mine = here_is run c stay m k facts here in
-    let same : here.conf ≡ y = cc in
+delivers_on_true run c stay m o x y k true (d, mine, _) at decides =
+    let same : d ≡ y = cc in
     (k, rw (same, decides.0 refl) at mine)
-delivers_on_true run c stay m o x y k false facts here at decides = tt
+delivers_on_true run c stay m o x y k false here at decides = tt
 
-pub never_on_false : (run : List Log) (c : RingId) (stays : List Stay) (stay : Stay) (m o : MsgId) (x y : ConfId) (k : ℕ) (b : Bool) → Facts run c stays → IsAmong stays stay → DeliversHere stay m k → slice_get (log_of run stay.proc) k ≡ Some (Deliver o y)
+pub never_on_false : (run : List Log) (c : RingId) (stays : List Stay) (stay : Stay) (m o : MsgId) (x y : ConfId) (k : ℕ) (b : Bool) → Facts run c stays → DeliversIn (log_of run stay.proc) c m k → slice_get (log_of run stay.proc) k ≡ Some (Deliver o y)
     → IsTrue b ↔ (y ≡ x) → OnFalse b (NeverDelivers (log_of run stay.proc) c m x)
-never_on_false run c stays stay m o x y k true facts among here at decides = tt
-never_on_false run c stays stay m o x y k false facts among here at decides = record { never = λ inside l at_l. go l at_l }
+never_on_false run c stays stay m o x y k true facts here at decides = tt
+never_on_false run c stays stay m o x y k false facts (d, mine, _) at decides = record { never = λ inside l at_l. go l at_l }
   where
     go : (l : ℕ) → Delivers (log_of run stay.proc) l m x → ⊥
     go l at_l =
-        let mine = here_is run c stay m k (facts.each stay among) here in
-        let same = facts.meets.once.one_delivery stay.proc l k m x here.conf at_l mine in
+        let same = facts.meets.once.one_delivery stay.proc l k m x d at_l mine in
         let moved : Delivers (log_of run stay.proc) k m x = rw same at at_l in
         let conf : y ≡ x = cc in
         let t : false ≡ true = decides.1 conf in cc
 
-pub here_delivered : (run : List Log) (c : RingId) (stay : Stay) (m : MsgId) (x : ConfId) (k : ℕ) (e : Entry) → StayFacts run c stay → DeliversHere stay m k → slice_get (log_of run stay.proc) k ≡ Some e → ((o : MsgId) (y : ConfId) → e ≡ Deliver o y → ⊥)
+pub here_delivered : (run : List Log) (c : RingId) (stay : Stay) (m : MsgId) (x : ConfId) (k : ℕ) (e : Entry) → DeliversIn (log_of run stay.proc) c m k → slice_get (log_of run stay.proc) k ≡ Some e → ((o : MsgId) (y : ConfId) → e ≡ Deliver o y → ⊥)
     → NeverDelivers (log_of run stay.proc) c m x
-here_delivered run c stay m x k e facts here at other = let mine = here_is run c stay m k facts here in absurd (other m here.conf cc)
-
--- the last change before an index
-record LastBefore (log : List Entry) (n : ℕ) : Type 0 where
-  pub at : ℕ
-  pub lt : at < n
-  pub change : IsChange log at
-  pub none_between : (k : ℕ) → at < k → k < n → IsChange log k → ⊥
-
-last_before : (log : List Entry) (n : ℕ) → LastBefore log n ⊎ ((k : ℕ) → k < n → IsChange log k → ⊥)
-last_before log zero = inr (λ k lt change. omega arith)
-last_before log (suc n) = elim (any_change_at_or_not log n) [
-  | inl here ↦ inl (record { at = n; lt = omega arith; change = here; none_between = λ k above below change. omega arith })
-  | inr never ↦ elim (last_before log n) [
-    | inl last ↦ inl (record { at = last.at; lt = (let lt = last.lt in omega arith); change = last.change; none_between = λ k above below change. at_most k above below change never last.none_between })
-    | inr none ↦ inr (λ k lt change. elim (less_or_not k n) [
-      | inl under ↦ none k under change
-      | inr more ↦ elim more [ inl over ↦ omega arith | inr same ↦ never (rw same at change) ]
-    ])
-  ]
-]
-  where
-    at_most : {a : ℕ} (k : ℕ) → a < k → k < suc n → IsChange log k → (IsChange log n → ⊥) → ((k : ℕ) → a < k → k < n → IsChange log k → ⊥) → ⊥
-    at_most k above below change never none = elim (less_or_not k n) [
-      | inl under ↦ none k above under change
-      | inr more ↦ elim more [ inl over ↦ omega arith | inr same ↦ never (rw same at change) ]
-    ]
-
-not_regular : (x : ConfId) → IsRegular x → IsTransitional x → ⊥
-not_regular (Regular c) r t = t
-not_regular (Transitional n l) r t = r
-
--- what follows c in one log follows it in each log that changes to what follows
-origin : (run : List Log) (c : RingId) (stays : List Stay) (p q i : ℕ) (x : ConfId) → Facts run c stays → Follows (log_of run p) c x → ChangesTo (log_of run q) i x → Follows (log_of run q) c x
-origin run c stays p q i x facts f change = elim (last_before (log_of run q) i) [
-  | inr none ↦ absurd (not_regular x ((facts.meets.turns.each q).regular_first i x change none) f.transitional)
-  | inl last ↦ of_last last last.change
-]
-  where
-    by_order : (k : ℕ) (r : RingId) (ms : List ℕ) → ChangesNext (log_of run q) k i (Regular r) x ms change.0 → c ≡ r
-    by_order k r ms turn = elim (less_or_not p q) [
-      | inl lt ↦ facts.meets.turns.origin p f.from f.to q k i c r x f.first.change.0 f.change.0 ms change.0 lt f.transitional
-          (record { first = f.first.change.1; second = f.change.1; next = f.next }) turn
-      | inr more ↦ elim more [
-        | inl gt ↦ sym (facts.meets.turns.origin q k i p f.from f.to r c x ms change.0 f.first.change.0 f.change.0 gt f.transitional turn
-            (record { first = f.first.change.1; second = f.change.1; next = f.next }))
-        | inr same ↦ in_one same
-      ]
-    ]
-      where
-        in_one : p ≡ q → c ≡ r
-        in_one same =
-            let first : ChangesTo (log_of run q) f.from (Regular c) = rw same at f.first.change in
-            let next : IsNextChange (log_of run q) f.from f.to = rw same at f.next in
-            let to = facts.meets.one.once q f.to i x (rw same at f.change) change in
-            let later : f.from < i = (let l = f.next.later in rw to at l) in
-            let earlier : k < f.to = (let l = turn.next.later in rw to l) in
-            let from : f.from ≡ k = elim (less_or_not f.from k) [
-              | inl under ↦ absurd (next.none_between k under earlier (Regular r, (ms, turn.first)))
-              | inr others ↦ elim others [ inl over ↦ absurd (turn.next.none_between f.from over later (Regular c, first)) | inr e ↦ e ]
-            ] in
-            let e = same_change (log_of run q) f.from k (Regular c) (Regular r) from first (ms, turn.first) in cc
-
-    of_last : (last : LastBefore (log_of run q) i) → IsChange (log_of run q) last.at → Follows (log_of run q) c x
-    of_last last (Transitional n l, (ms, at)) =
-        let turn : ChangesNext (log_of run q) last.at i (Transitional n l) x ms change.0 = record { first = at; second = change.1; next = record { change = (x, change); later = last.lt; none_between = last.none_between } } in
-        absurd (((facts.meets.turns.each q).turns last.at i (Transitional n l) x ms change.0 turn).1 f.transitional)
-    of_last last (Regular r, (ms, at)) =
-        let next : IsNextChange (log_of run q) last.at i = record { change = (x, change); later = last.lt; none_between = last.none_between } in
-        let same = by_order last.at r ms (record { first = at; second = change.1; next = next }) in
-        let first : ChangesTo (log_of run q) last.at (Regular c) = rw same (ms, at) in
-        record {
-          from = last.at;
-          to = i;
-          first = record { change = first; none_before = λ k lt other. let e = facts.meets.one.once q k last.at (Regular c) other first in omega arith };
-          next = next;
-          change = change;
-          transitional = f.transitional;
-        }
+here_delivered run c stay m x k e (d, mine, _) at other = absurd (other m d cc)
 
 pub goes_along : (run : List Log) (c : RingId) (stays : List Stay) (p q k : ℕ) (x d : ConfId) → Facts run c stays → Com (log_of run p) c x → GoesAt (log_of run q) x d k → Com (log_of run q) c x
 goes_along run c stays p q k x d facts (inl same) goes = inl same
-goes_along run c stays p q k x d facts (inr f) (i, change, next, to) = inr (origin run c stays p q i x facts f change)
+goes_along run c stays p q k x d facts (inr f) (i, change, next, to) = inr (follows_too run c facts.meets p q i x f change)
 
 pub partings_begin : (run : List Log) (c : RingId) (stays : List Stay) (m : MsgId) (x d : ConfId) → Facts run c stays → EachBeginsWithin stays IsAnywhere (IsOnePartner run c m x d)
 partings_begin run c stays m x d facts = record { each = λ places h. go places h }
@@ -400,8 +316,8 @@ deliveries_begin run c stays facts = record { each = λ places h. go places h }
 -- if nothing breaks 4, it holds
 pub atomic : (run : List Log) (c : RingId) → HoldsOfNone (BreaksAtomicityIn run c) → AtomicityIn run c
 atomic run c none = record {
-  each = λ p q x d inside (f, j, from, next, to) (g, k, from', next', to') i m at. elim (delivers_or_not (log_of run q) m x) [
-    | inl found ↦ found
-    | inr lacks ↦ absurd (none.none (place p i ∷ place p j ∷ place q k ∷ []) (i, refl, (j, refl, (k, refl, (refl, (x, inside, (m, d, at, (f, from, next, to), (g, from', next', to'), lacks)))))))
+  each = λ p q x d inside (f, j, from, next, to) (g, k, from', next', to') i m at. elim (delivery_or_not (λ l y. y ≡ x) (log_of run q) m (λ l y. same_conf_or_not y x)) [
+    | inl (l, y, delivers, same) ↦ (l, rw same at delivers)
+    | inr never ↦ absurd (none.none (place p i ∷ place p j ∷ place q k ∷ []) (i, refl, (j, refl, (k, refl, (refl, (x, inside, (m, d, at, (f, from, next, to), (g, from', next', to'), (λ l delivers. never l x delivers refl))))))))
   ];
 }

@@ -10,57 +10,50 @@ use Rattle.totem_ids.specs.declared.place.Place.{Place}
 use Rattle.totem_evs.specs.declared.entry.Entry.{Entry}
 use Rattle.totem_evs.specs.declared.entry.Entry.TheVariants.{Send, Deliver}
 use Rattle.totem_evs.specs.declared.log.Log.{Log}
-use Rattle.totem_evs.specs.Events.{log_of, Delivers}
+use Rattle.totem_evs.specs.Events.{log_of}
 use Rattle.totem_evs.specs.Steps.{SendsAt}
-use Rattle.totem_evs.specs.Following.{DeliversIn, HasDelivered}
+use Rattle.totem_evs.specs.Following.{Com, DeliversIn}
 use Rattle.totem_evs.specs.RingAgreement.{IsHop, CausalityIn}
 use Rattle.totem_evs.specs.RingFaults.{BreaksCausalityIn}
 use Rattle.totem_evs.specs.Answers.{IsLeast}
 use Rattle.totem_table.specs.Search.{place, NoneFrom, IsLeastFrom, HoldsOfNone}
 use Rattle.totem_pass_d.specs.declared.stay.Stay.{Stay}
-use Rattle.totem_pass_d.specs.Acts.{IsAmong, DeliversHere, DeliversNot}
+use Rattle.totem_pass_d.specs.Acts.{IsAmong, DeliversNot}
 use Rattle.totem_pass_d.specs.Search.{IsInside, EachBeginsWithin, NoneWithin, IsLeastWithin, BeginsWithin}
 use Rattle.totem_pass_d.specs.Causality.{IsSurprise, IsOneSurprise, IsEffect}
-use Rattle.totem_pass_d.proofs.Deciding.{delivered_before_or_not}
-use Rattle.totem_pass_d.proofs.Facts.{Facts, StayFacts, here_delivers}
+use Rattle.totem_pass_d.proofs.Deciding.{both_or_not, below_or_not, delivery_or_not}
+use Rattle.totem_run_rules.proofs.SentOrNot.{in_or_not}
+use Rattle.totem_pass_d.proofs.Facts.{Facts}
 use Rattle.totem_pass_d.proofs.Rests.{none_rest, least_rest, nothing_here, only_here, sends_there, there_sends, index_of, begins_at}
 
 -- one delivery of a message in c and in what follows it
 pub one_delivery_in : (run : List Log) (c : RingId) (stays : List Stay) (p i j : ℕ) (m : MsgId) → Facts run c stays → DeliversIn (log_of run p) c m i → DeliversIn (log_of run p) c m j → i ≡ j
 one_delivery_in run c stays p i j m facts (x, at_i, _) (y, at_j, _) = facts.meets.once.one_delivery p i j m x y at_i at_j
 
--- if no entry there delivers it, the log does not
-pub not_delivered_in : (run : List Log) (c : RingId) (stay : Stay) (m : MsgId) → StayFacts run c stay → DeliversNot stay.log.now c m → HasDelivered (log_of run stay.proc) c m → ⊥
-not_delivered_in run c stay m facts never h = never.never (rw facts.log h)
-
 -- the surprises of one stay
 surprise_at : (run : List Log) (c : RingId) (m n : MsgId) (p i : ℕ) (rest : List Place) → IsOneSurprise run c m n (place p i ∷ rest) → IsSurprise run c m n p i
 surprise_at run c m n p i [] (j, is, h) = let same : j ≡ i = omega arith in rw same at h
 surprise_at run c m n p i (f ∷ more) h = absurd h
 
-pub none_undelivered : (run : List Log) (c : RingId) (stay : Stay) (m n : MsgId) → StayFacts run c stay → DeliversNot stay.log.now c n → NoneWithin IsInside (IsOneSurprise run c m n) stay
-none_undelivered run c stay m n facts never = record { none = λ i rest inside h. not_delivered_in run c stay n facts never (i, (surprise_at run c m n stay.proc i rest h).0) }
+pub none_undelivered : (run : List Log) (c : RingId) (stay : Stay) (m n : MsgId) → DeliversNot (log_of run stay.proc) c n → NoneWithin IsInside (IsOneSurprise run c m n) stay
+none_undelivered run c stay m n never = record { none = λ i rest inside h. never.never (i, (surprise_at run c m n stay.proc i rest h).0) }
 
-pub none_caused : (run : List Log) (c : RingId) (stays : List Stay) (stay : Stay) (m n : MsgId) (k l : ℕ) → Facts run c stays → IsAmong stays stay → DeliversHere stay n k → DeliversHere stay m l → l < k
+pub none_caused : (run : List Log) (c : RingId) (stays : List Stay) (stay : Stay) (m n : MsgId) (k l : ℕ) → Facts run c stays → DeliversIn (log_of run stay.proc) c n k → DeliversIn (log_of run stay.proc) c m l → l < k
     → NoneWithin IsInside (IsOneSurprise run c m n) stay
-none_caused run c stays stay m n k l facts among effect cause lt = record { none = λ i rest inside h. never i (surprise_at run c m n stay.proc i rest h) }
+none_caused run c stays stay m n k l facts effect cause lt = record { none = λ i rest inside h. never i (surprise_at run c m n stay.proc i rest h) }
   where
     never : (i : ℕ) → IsSurprise run c m n stay.proc i → ⊥
-    never i (delivers, none) =
-        let same = one_delivery_in run c stays stay.proc i k n facts delivers (here_delivers run c stay n k (facts.each stay among) effect) in
-        none l (rw same lt) (here_delivers run c stay m l (facts.each stay among) cause)
+    never i (delivers, none) = none l (rw (one_delivery_in run c stays stay.proc i k n facts delivers effect) lt) cause
 
-pub surprise_here : (run : List Log) (c : RingId) (stays : List Stay) (stay : Stay) (m n : MsgId) (k : ℕ) (places : List Place) → Facts run c stays → IsAmong stays stay → DeliversHere stay n k
+pub surprise_here : (run : List Log) (c : RingId) (stays : List Stay) (stay : Stay) (m n : MsgId) (k : ℕ) (places : List Place) → Facts run c stays → DeliversIn (log_of run stay.proc) c n k
     → ((l : ℕ) → l < k → DeliversIn (log_of run stay.proc) c m l → ⊥) → places ≡ place stay.proc k ∷ [] → IsLeastWithin IsInside (IsOneSurprise run c m n) stay places
-surprise_here run c stays stay m n k places facts among effect none is =
-    let delivers = here_delivers run c stay n k (facts.each stay among) effect in
+surprise_here run c stays stay m n k places facts delivers none is =
     only_here IsInside (IsOneSurprise run c m n) stay k places (k, refl, (delivers, none))
     (λ i rest h. one_delivery_in run c stays stay.proc i k n facts (surprise_at run c m n stay.proc i rest h).0 delivers) is
 
-pub not_before : (run : List Log) (c : RingId) (stays : List Stay) (stay : Stay) (m : MsgId) (k l : ℕ) → Facts run c stays → IsAmong stays stay → DeliversHere stay m l → k ≤ l
+pub not_before : (run : List Log) (c : RingId) (stays : List Stay) (stay : Stay) (m : MsgId) (k l : ℕ) → Facts run c stays → DeliversIn (log_of run stay.proc) c m l → k ≤ l
     → (i : ℕ) → i < k → DeliversIn (log_of run stay.proc) c m i → ⊥
-not_before run c stays stay m k l facts among cause le i lt delivers =
-    let same = one_delivery_in run c stays stay.proc i l m facts delivers (here_delivers run c stay m l (facts.each stay among) cause) in omega arith
+not_before run c stays stay m k l facts cause le i lt delivers = let same = one_delivery_in run c stays stay.proc i l m facts delivers cause in omega arith
 
 pub surprises_begin : (run : List Log) (c : RingId) (stays : List Stay) (m n : MsgId) → Facts run c stays → EachBeginsWithin stays IsInside (IsOneSurprise run c m n)
 surprises_begin run c stays m n facts = record { each = λ places h. go places h }
@@ -77,29 +70,22 @@ same_proc run c m p i q j same lt = inl (sym same, omega arith)
 pub hop_in_log : (run : List Log) (c : RingId) (m : MsgId) (p i q j : ℕ) → (q ≡ p) → i < j → IsTrue true ↔ IsHop run c m (place p i) (place q j)
 hop_in_log run c m p i q j same lt = (λ t. same_proc run c m p i q j same lt, λ h. refl)
 
-pub no_hop : (run : List Log) (c : RingId) (stay : Stay) (m : MsgId) (p i j : ℕ) → ((stay.proc ≡ p) × (i < j) → ⊥) → StayFacts run c stay → DeliversNot stay.log.now c m → IsTrue false ↔ IsHop run c m (place p i) (place stay.proc j)
-no_hop run c stay m p i j apart facts never = (λ t. absurd cc, λ h. absurd (go h))
+pub no_hop : (run : List Log) (c : RingId) (stay : Stay) (m : MsgId) (p i j : ℕ) → ((stay.proc ≡ p) × (i < j) → ⊥) → DeliversNot (log_of run stay.proc) c m → IsTrue false ↔ IsHop run c m (place p i) (place stay.proc j)
+no_hop run c stay m p i j apart never = (λ t. absurd cc, λ h. absurd (go h))
   where
     go : IsHop run c m (place p i) (place stay.proc j) → ⊥
     go (inl (same, lt)) = apart (sym same, omega arith)
-    go (inr (k, is, (l, lt, at))) = not_delivered_in run c stay m facts never (l, (Regular c, at, inl refl))
+    go (inr (k, is, (l, lt, at))) = never.never (l, (Regular c, at, inl refl))
 
-pub hop_by_delivery : (run : List Log) (c : RingId) (stays : List Stay) (stay : Stay) (m : MsgId) (p i j l : ℕ) (b : Bool) → ((stay.proc ≡ p) × (i < j) → ⊥) → Facts run c stays → IsAmong stays stay → DeliversHere stay m l
+pub hop_by_delivery : (run : List Log) (c : RingId) (stays : List Stay) (stay : Stay) (m : MsgId) (p i j l : ℕ) (b : Bool) → ((stay.proc ≡ p) × (i < j) → ⊥) → Facts run c stays → IsAmong stays stay → DeliversIn (log_of run stay.proc) c m l
     → j < stay.turn → IsTrue b ↔ (l < j) → IsTrue b ↔ IsHop run c m (place p i) (place stay.proc j)
-hop_by_delivery run c stays stay m p i j l b apart facts among here before decides = (λ t. to (decides.0 t), λ h. decides.1 (from h))
+hop_by_delivery run c stays stay m p i j l b apart facts among delivers before decides = (λ t. to delivers (decides.0 t), λ h. decides.1 (from h))
   where
-    delivers : DeliversIn (log_of run stay.proc) c m l
-    delivers = here_delivers run c stay m l (facts.each stay among) here
-
-    to : l < j → IsHop run c m (place p i) (place stay.proc j)
-    to lt =
+    to : DeliversIn (log_of run stay.proc) c m l → l < j → IsHop run c m (place p i) (place stay.proc j)
+    to (d, at, belongs) lt =
         let of = facts.each stay among in
-        let at : Delivers (log_of run stay.proc) l m here.conf = delivered of here.delivers in
-        let is = of.is.regular l here.conf here.after (omega arith) (Deliver m here.conf, at, refl) in
-        inr (j, refl, (l, lt, rw is at at))
-      where
-        delivered : StayFacts run c stay → Delivers stay.log.now l m here.conf → Delivers (log_of run stay.proc) l m here.conf
-        delivered of at = rw of.log at at
+        let here = of.is.here l d (Deliver m d, at, refl) belongs in
+        inr (j, refl, (l, lt, rw (of.is.regular l d here.0 (omega arith) (Deliver m d, at, refl)) at at))
 
     from : IsHop run c m (place p i) (place stay.proc j) → l < j
     from (inl (same, lt)) = absurd (apart (sym same, omega arith))
@@ -192,8 +178,8 @@ causes_begin run c stays facts = record { each = λ places h. go places h }
 -- if nothing breaks 5, it holds
 pub causal : (run : List Log) (c : RingId) → HoldsOfNone (BreaksCausalityIn run c) → CausalityIn run c
 causal run c none = record {
-  each = λ m n e f send effect hop r j delivers. elim (delivered_before_or_not (log_of run r) c m j) [
-    | inl found ↦ found
-    | inr never ↦ absurd (none.none (e ∷ f ∷ place r j ∷ []) (j, refl, (m, n, send, effect, hop, delivers, never)))
+  each = λ m n e f send effect hop r j delivers. elim (delivery_or_not (λ l x. (l < j) × Com (log_of run r) c x) (log_of run r) m (λ l x. both_or_not (below_or_not l j) (in_or_not (log_of run r) c x))) [
+    | inl (l, x, at, (lt, inside)) ↦ (l, lt, (x, at, inside))
+    | inr never ↦ absurd (none.none (e ∷ f ∷ place r j ∷ []) (j, refl, (m, n, send, effect, hop, delivers, λ l lt (x, at, inside). never l x at (lt, inside))))
   ];
 }

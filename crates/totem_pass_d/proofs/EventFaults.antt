@@ -1,8 +1,9 @@
 -- What breaks 3, 7.1 and 7.2 in one regular configuration, event by event.
-use Rattle.std.proofs.Common.{◌≡◌, ℕ, ◌<◌, ◌≤◌, inl, inr, List, length, get_or, slice_get, Some, Bool, true, false, not, refl, sym, arith}
+use Rattle.std.proofs.Common.{◌≡◌, ℕ, ◌<◌, ◌≤◌, ◌⊎◌, inl, inr, List, length, get_or, slice_get, Some, Bool, true, false, not, refl, sym, arith}
 use Rattle.std.specs.Prelude.{All}
 use Rattle.std.specs.Bool.{MatchBool, OnTrue, OnFalse}
 use Rattle.std.specs.List.{AllWithin, HoldsAt}
+use Rattle.std.proofs.lemmas.Bool.{cases_eq}
 use Rattle.std.proofs.lemmas.Grind.{get_or_default_zero}
 use Rattle.std.proofs.lemmas.List.Elements.{All-from_all_within, All-contains}
 use Rattle.totem_ids.specs.declared.ring.RingId.{RingId}
@@ -15,7 +16,7 @@ use Rattle.totem_evs.specs.declared.entry.Entry.TheVariants.{Send, Deliver, Fail
 use Rattle.totem_evs.specs.declared.log.Log.{Log}
 use Rattle.totem_evs.specs.Events.{ChangesTo, Delivers, log_of}
 use Rattle.totem_evs.specs.Changes.{Names}
-use Rattle.totem_evs.specs.Following.{Com, DeliversOrEnds}
+use Rattle.totem_evs.specs.Following.{Com, DeliversIn, DeliversOrEnds}
 use Rattle.totem_evs.specs.AgreementFaults.{IsNotOwned, IsNotReached, IsNotInstalled}
 use Rattle.totem_evs.specs.RingAgreement.{OwnDeliveryIn, SafetyIn, InstalledIn}
 use Rattle.totem_evs.specs.RingFaults.{BreaksOwnDeliveryIn, BreaksSafetyIn, BreaksInstalledIn}
@@ -23,18 +24,18 @@ use Rattle.totem_evs.specs.Answers.{MeetsPasses}
 use Rattle.totem_evs.proofs.LogOf.{less_or_not}
 use Rattle.totem_pass_d.specs.declared.stay.Stay.{Stay}
 use Rattle.totem_pass_d.specs.Stays.{IsExcused, IsStayOf}
-use Rattle.totem_pass_d.specs.Acts.{HasCome, NeverComes, DeliversHere, DeliversNot}
+use Rattle.totem_pass_d.specs.Acts.{HasCome, NeverComes, DeliversNot}
 use Rattle.totem_pass_d.specs.Search.{IsInside, EachStandsInside}
 use Rattle.totem_pass_d.specs.Reached.{IsSafeIn, AreMembersAt, HoldsNotOfAll}
-use Rattle.totem_pass_d.proofs.Deciding.{delivers_or_ends_or_not, changes_or_not}
+use Rattle.totem_pass_d.proofs.Deciding.{both_or_not, changes_or_not, has_delivered_or_not}
 use Rattle.totem_pass_d.proofs.Excusing.{excused, not_excused}
-use Rattle.totem_pass_d.proofs.Facts.{Facts, StayFacts, at_turn_no_name, here_delivers}
+use Rattle.totem_pass_d.proofs.Facts.{Facts, StayFacts, at_turn_no_name}
 use Rattle.totem_pass_d.proofs.OneEvent.{IsOfOne}
 use Rattle.totem_pass_d.proofs.Reaching.{is_among_members, is_member, safe_in}
 
 -- a process that has changed to c, is not excused and has not delivered m has missed it
-pub missed : (run : List Log) (c : RingId) (stay : Stay) (m : MsgId) → IsStayOf run c stay → (IsExcused stay → ⊥) → DeliversNot stay.log.now c m → DeliversOrEnds run stay.proc c m → ⊥
-missed run c stay m is other not (inl delivered) = not.never (rw is.log delivered)
+pub missed : (run : List Log) (c : RingId) (stay : Stay) (m : MsgId) → IsStayOf run c stay → (IsExcused stay → ⊥) → DeliversNot (log_of run stay.proc) c m → DeliversOrEnds run stay.proc c m → ⊥
+missed run c stay m is other not (inl delivered) = not.never delivered
 missed run c stay m is other not (inr ends) = not_excused run c stay is other ends
 
 -- so has a process that never changed to c
@@ -53,6 +54,29 @@ absent run c q m meets never h = go h
     go (inr (inl (i, d, at, com_d))) = inside i d (Fail d, at, refl) com_d
     go (inr (inr (loud, (d, fails, last, inl same)))) = never.never last.index (last.change.0, rw same at last.change.1)
     go (inr (inr (loud, (d, fails, last, inr f)))) = never.never f.from f.first.change
+
+excused_or_not : (stay : Stay) → IsExcused stay ⊎ (IsExcused stay → ⊥)
+excused_or_not stay = both_or_not (cases_eq stay.end (length stay.log.now)) (false_or_not stay.quiet)
+  where
+    false_or_not : (b : Bool) → (b ≡ false) ⊎ (b ≡ false → ⊥)
+    false_or_not true = inr (λ e. cc)
+    false_or_not false = inl refl
+
+-- a process delivers m or is excused, or it does not and is not
+delivers_or_ends_or_not : (run : List Log) (c : RingId) (stays : List Stay) → Facts run c stays → (p : ℕ) (m : MsgId) → DeliversOrEnds run p c m ⊎ (DeliversOrEnds run p c m → ⊥)
+delivers_or_ends_or_not run c stays facts p m = elim (changes_or_not (log_of run p) (Regular c)) [
+  | inl (i, change) ↦ (let has = facts.whole p i change in rw has.proc at (of_stay has.stay (facts.each has.stay (record { at = has.at; stands = has.stands }))))
+  | inr none ↦ inr (absent run c p m facts.meets (record { never = none }))
+]
+  where
+    of_stay : (stay : Stay) → StayFacts run c stay → DeliversOrEnds run stay.proc c m ⊎ (DeliversOrEnds run stay.proc c m → ⊥)
+    of_stay stay is = elim (excused_or_not stay) [
+      | inl e ↦ inl (inr (excused run c stay is.of e))
+      | inr other ↦ elim (has_delivered_or_not (log_of run stay.proc) c m) [
+        | inl has ↦ inl (inl has)
+        | inr never ↦ inr (missed run c stay m is.of other (record { never = never }))
+      ]
+    ]
 
 -- what a test of all members says
 pub all_or_not_all : (b : Bool) (P : ℕ → Type 0) (members : List ℕ) → MatchBool b (AllWithin P members 0 (length members)) ((k : ℕ) × (k < length members) × HoldsAt (λ q. P q → ⊥) members k)
@@ -79,9 +103,9 @@ owned_of_one run c = record { empty = λ h. h; one = λ e h. h; is = λ e h. h; 
 pub owned_inside : (run : List Log) (c : RingId) (stays : List Stay) → Facts run c stays → EachStandsInside stays (IsNotOwned run c)
 owned_inside run c stays facts = record { each = λ p i (m, (v, at), never). facts.inside p i (Regular c) (Send m (Regular c) v, at, refl) (inl refl) }
 
-pub owned : (run : List Log) (c : RingId) → ((p i : ℕ) → IsNotOwned run c p i → ⊥) → OwnDeliveryIn run c
-owned run c none = record {
-  each = λ p i m sends. elim (delivers_or_ends_or_not run p c m) [ inl ends ↦ ends | inr never ↦ absurd (none p i (m, sends, never)) ];
+pub owned : (run : List Log) (c : RingId) (stays : List Stay) → Facts run c stays → ((p i : ℕ) → IsNotOwned run c p i → ⊥) → OwnDeliveryIn run c
+owned run c stays facts none = record {
+  each = λ p i m sends. elim (delivers_or_ends_or_not run c stays facts p m) [ inl ends ↦ ends | inr never ↦ absurd (none p i (m, sends, never)) ];
 }
 
 pub owned_no_send : (run : List Log) (c : RingId) (p i : ℕ) (e : Entry) → slice_get (log_of run p) i ≡ Some e → ((m : MsgId) (x : ConfId) (v : Service) → e ≡ Send m x v → ⊥) → IsNotOwned run c p i → ⊥
@@ -90,13 +114,13 @@ owned_no_send run c p i e at other (m, (v, sends), never) = other m (Regular c) 
 pub owned_excused : (run : List Log) (c : RingId) (stay : Stay) (i : ℕ) → StayFacts run c stay → IsExcused stay → IsNotOwned run c stay.proc i → ⊥
 owned_excused run c stay i is e (m, sends, never) = never (inr (excused run c stay is.of e))
 
-pub owned_delivered : (run : List Log) (c : RingId) (stay : Stay) (i k : ℕ) (m : MsgId) (x : ConfId) (v : Service) → StayFacts run c stay → slice_get (log_of run stay.proc) i ≡ Some (Send m x v) → DeliversHere stay m k → IsNotOwned run c stay.proc i → ⊥
-owned_delivered run c stay i k m x v is at here (n, (w, sends), never) =
+pub owned_delivered : (run : List Log) (c : RingId) (stay : Stay) (i k : ℕ) (m : MsgId) (x : ConfId) (v : Service) → slice_get (log_of run stay.proc) i ≡ Some (Send m x v) → DeliversIn (log_of run stay.proc) c m k → IsNotOwned run c stay.proc i → ⊥
+owned_delivered run c stay i k m x v at here (n, (w, sends), never) =
     let same : n ≡ m = (let entries : Some (Send n (Regular c) w) ≡ Some (Send m x v) = cc in cc) in
-    never (inl (rw same (k, here_delivers run c stay m k is here)))
+    never (inl (rw same (k, here)))
 
 pub owned_never : (run : List Log) (c : RingId) (stay : Stay) (i : ℕ) (m : MsgId) (x : ConfId) (v : Service) → StayFacts run c stay → IsInside stay i → slice_get (log_of run stay.proc) i ≡ Some (Send m x v)
-    → (IsExcused stay → ⊥) → DeliversNot stay.log.now c m → IsNotOwned run c stay.proc i
+    → (IsExcused stay → ⊥) → DeliversNot (log_of run stay.proc) c m → IsNotOwned run c stay.proc i
 owned_never run c stay i m x v is inside at other not =
     let regular : x ≡ Regular c = (is.sends i m x inside (v, at)).0 in
     (m, (v, rw regular at at), missed run c stay m is.of other not)
@@ -130,19 +154,17 @@ installed_unsafe run c p i m x meets at unsafe (n, q, safe, delivers, member, ne
     let same = same_delivery (log_of run p) i m n x (Regular c) at delivers in
     unsafe (rw same.0 at (safe_in run c p i n (Regular c) meets safe delivers (inl refl)))
 
-pub installed_everywhere : (run : List Log) (c : RingId) (stay : Stay) (i : ℕ) (members : List ℕ) → MeetsPasses run → StayFacts run c stay → AreMembersAt stay.log.now i members → All (HasCome run c) members → IsNotInstalled run c stay.proc i → ⊥
-installed_everywhere run c stay i members meets is are all (n, q, safe, delivers, member, never) =
-    let here : Delivers stay.log.now i n (Regular c) = rw is.log delivers in
-    let come = All-contains (HasCome run c) members q all (is_among_members run stay.proc i stay.log.now members (Regular c) q meets is.log are (Deliver n (Regular c), here, refl) member) in
+pub installed_everywhere : (run : List Log) (c : RingId) (stay : Stay) (i : ℕ) (members : List ℕ) → MeetsPasses run → AreMembersAt (log_of run stay.proc) i members → All (HasCome run c) members → IsNotInstalled run c stay.proc i → ⊥
+installed_everywhere run c stay i members meets are all (n, q, safe, delivers, member, never) =
+    let come = All-contains (HasCome run c) members q all (is_among_members run stay.proc i members (Regular c) q meets are (Deliver n (Regular c), delivers, refl) member) in
     never come.0 come.1
 
 pub installed_not : (run : List Log) (c : RingId) (stay : Stay) (i : ℕ) (m : MsgId) (x : ConfId) (members : List ℕ) → StayFacts run c stay → stay.from < i → i < stay.turn → slice_get (log_of run stay.proc) i ≡ Some (Deliver m x)
-    → IsSafeIn run c m → AreMembersAt stay.log.now i members → HoldsNotOfAll (HasCome run c) members → IsNotInstalled run c stay.proc i
+    → IsSafeIn run c m → AreMembersAt (log_of run stay.proc) i members → HoldsNotOfAll (HasCome run c) members → IsNotInstalled run c stay.proc i
 installed_not run c stay i m x members is lt below at safe are not_all =
     let regular : x ≡ Regular c = is.is.regular i x lt below (Deliver m x, at, refl) in
     let delivers : Delivers (log_of run stay.proc) i m (Regular c) = rw regular at at in
-    let here : Delivers stay.log.now i m (Regular c) = rw is.log delivers in
-    (m, not_all.member, (safe.proc, safe.index, Regular c, safe.sends), delivers, is_member run stay.proc i stay.log.now members (Regular c) not_all.member is.log are (Deliver m (Regular c), here, refl) not_all.among, λ j change. not_all.never (j, change))
+    (m, not_all.member, (safe.proc, safe.index, Regular c, safe.sends), delivers, is_member run stay.proc i members (Regular c) not_all.member are (Deliver m (Regular c), delivers, refl) not_all.among, λ j change. not_all.never (j, change))
 
 -- 7.1
 pub safety_of_one : (run : List Log) (c : RingId) → IsOfOne (BreaksSafetyIn run c) (IsNotReached run c)
@@ -151,9 +173,9 @@ safety_of_one run c = record { empty = λ h. h; one = λ e h. h; is = λ e h. h;
 pub safety_inside : (run : List Log) (c : RingId) (stays : List Stay) → Facts run c stays → EachStandsInside stays (IsNotReached run c)
 safety_inside run c stays facts = record { each = λ p i (m, d, q, safe, at, inside, member, never). facts.inside p i d (Deliver m d, at, refl) inside }
 
-pub safety : (run : List Log) (c : RingId) → ((p i : ℕ) → IsNotReached run c p i → ⊥) → SafetyIn run c
-safety run c none = record {
-  each = λ m p i d q safe at inside member. elim (delivers_or_ends_or_not run q c m) [ inl ends ↦ ends | inr never ↦ absurd (none p i (m, d, q, safe, at, inside, member, never)) ];
+pub safety : (run : List Log) (c : RingId) (stays : List Stay) → Facts run c stays → ((p i : ℕ) → IsNotReached run c p i → ⊥) → SafetyIn run c
+safety run c stays facts none = record {
+  each = λ m p i d q safe at inside member. elim (delivers_or_ends_or_not run c stays facts q m) [ inl ends ↦ ends | inr never ↦ absurd (none p i (m, d, q, safe, at, inside, member, never)) ];
 }
 
 pub safety_no_delivery : (run : List Log) (c : RingId) (p i : ℕ) (e : Entry) → slice_get (log_of run p) i ≡ Some e → ((m : MsgId) (x : ConfId) → e ≡ Deliver m x → ⊥) → IsNotReached run c p i → ⊥
@@ -164,16 +186,14 @@ safety_unsafe run c p i m x meets at unsafe (n, d, q, safe, delivers, inside, me
     let same = same_delivery (log_of run p) i m n x d at delivers in
     unsafe (rw same.0 at (safe_in run c p i n d meets safe delivers inside))
 
-pub safety_everywhere : (run : List Log) (c : RingId) (stay : Stay) (i : ℕ) (m : MsgId) (x : ConfId) (members : List ℕ) → MeetsPasses run → StayFacts run c stay → slice_get (log_of run stay.proc) i ≡ Some (Deliver m x) → AreMembersAt stay.log.now i members
+pub safety_everywhere : (run : List Log) (c : RingId) (stay : Stay) (i : ℕ) (m : MsgId) (x : ConfId) (members : List ℕ) → MeetsPasses run → slice_get (log_of run stay.proc) i ≡ Some (Deliver m x) → AreMembersAt (log_of run stay.proc) i members
     → All (λ q. DeliversOrEnds run q c m) members → IsNotReached run c stay.proc i → ⊥
-safety_everywhere run c stay i m x members meets is at are all (n, d, q, safe, delivers, inside, member, never) =
+safety_everywhere run c stay i m x members meets at are all (n, d, q, safe, delivers, inside, member, never) =
     let same = same_delivery (log_of run stay.proc) i m n x d at delivers in
-    let here : Delivers stay.log.now i n d = rw is.log delivers in
-    never (rw same.0 (All-contains (λ r. DeliversOrEnds run r c m) members q all (is_among_members run stay.proc i stay.log.now members d q meets is.log are (Deliver n d, here, refl) member)))
+    never (rw same.0 (All-contains (λ r. DeliversOrEnds run r c m) members q all (is_among_members run stay.proc i members d q meets are (Deliver n d, delivers, refl) member)))
 
 pub safety_not : (run : List Log) (c : RingId) (stay : Stay) (i : ℕ) (m : MsgId) (x : ConfId) (members : List ℕ) → StayFacts run c stay → IsInside stay i → slice_get (log_of run stay.proc) i ≡ Some (Deliver m x)
-    → IsSafeIn run c m → AreMembersAt stay.log.now i members → HoldsNotOfAll (λ q. DeliversOrEnds run q c m) members → IsNotReached run c stay.proc i
+    → IsSafeIn run c m → AreMembersAt (log_of run stay.proc) i members → HoldsNotOfAll (λ q. DeliversOrEnds run q c m) members → IsNotReached run c stay.proc i
 safety_not run c stay i m x members is inside at safe are not_all =
-    let here : Delivers stay.log.now i m x = rw is.log at in
     let belongs = is.stands i x inside (Deliver m x, at, refl) in
-    (m, x, not_all.member, (safe.proc, safe.index, Regular c, safe.sends), at, belongs, is_member run stay.proc i stay.log.now members x not_all.member is.log are (Deliver m x, here, refl) not_all.among, not_all.never)
+    (m, x, not_all.member, (safe.proc, safe.index, Regular c, safe.sends), at, belongs, is_member run stay.proc i members x not_all.member are (Deliver m x, at, refl) not_all.among, not_all.never)

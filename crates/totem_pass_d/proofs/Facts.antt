@@ -1,5 +1,5 @@
 -- What the stays of a run that meets the specifications of the first two passes say about its logs.
-use Rattle.std.proofs.Common.{◌≡◌, ℕ, ◌<◌, ◌≤◌, inl, inr, List, length, slice_get, Some, refl, arith}
+use Rattle.std.proofs.Common.{◌≡◌, ℕ, ◌<◌, ◌≤◌, inl, inr, List, length, refl, arith}
 use Rattle.totem_ids.specs.declared.ring.RingId.{RingId}
 use Rattle.totem_ids.specs.declared.conf.ConfId.{ConfId}
 use Rattle.totem_ids.specs.declared.conf.ConfId.TheVariants.{Regular, Transitional}
@@ -7,20 +7,19 @@ use Rattle.totem_ids.specs.declared.message.MsgId.{MsgId}
 use Rattle.totem_evs.specs.declared.entry.Entry.{Entry}
 use Rattle.totem_evs.specs.declared.entry.Entry.TheVariants.{Send, Deliver}
 use Rattle.totem_evs.specs.declared.log.Log.{Log}
-use Rattle.totem_evs.specs.Events.{IsRegular, IsTransitional, ChangesTo, Sends, Delivers, log_of}
+use Rattle.totem_evs.specs.Events.{IsRegular, IsTransitional, ChangesTo, Sends, log_of}
 use Rattle.totem_evs.specs.Changes.{Names}
-use Rattle.totem_evs.specs.Following.{Follows, Com, DeliversIn}
+use Rattle.totem_evs.specs.Following.{Com, DeliversIn}
 use Rattle.totem_evs.specs.Answers.{MeetsPasses}
 use Rattle.totem_evs.proofs.LogOf.{less_or_not}
-use Rattle.totem_run_rules.proofs.Staying.{names_no_change, same_change}
-use Rattle.totem_evs.proofs.NextChanges.{same_first, one_next}
+use Rattle.totem_run_rules.proofs.Staying.{names_no_change}
 use Rattle.totem_pass_d.specs.declared.stay.Stay.{Stay}
 use Rattle.totem_pass_d.specs.declared.stays.Stays.{Stays}
 use Rattle.totem_run_rules.specs.Stays.{IsStay}
 use Rattle.totem_pass_d.specs.Stays.{IsStayOf, HasStay, AreStays}
-use Rattle.totem_pass_d.specs.Acts.{IsAmong, DeliversHere}
+use Rattle.totem_pass_d.specs.Acts.{IsAmong}
 use Rattle.totem_pass_d.specs.Search.{IsInside, StandsInside}
-use Rattle.totem_pass_d.proofs.KnownStays.{meets, stays}
+use Rattle.totem_pass_d.specs.KnownStays.{AreKnown}
 use Rattle.totem_pass_d.proofs.Searching.{stay_of}
 
 -- what is known of a stay
@@ -35,7 +34,6 @@ pub record StayFacts (run : List Log) (c : RingId) (stay : Stay) : Type 0 where
   pub is : IsStay (log_of run stay.proc) c stay.from stay.turn stay.end
   -- an entry of the stay is in c or in what follows it
   pub stands : (i : ℕ) (x : ConfId) → IsInside stay i → Names (log_of run stay.proc) i x → Com (log_of run stay.proc) c x
-  pub following : (i : ℕ) (x : ConfId) → stay.turn ≤ i → i < stay.end → Names (log_of run stay.proc) i x → ChangesTo (log_of run stay.proc) stay.turn x
   pub sends : (i : ℕ) (m : MsgId) (x : ConfId) → IsInside stay i → Sends (log_of run stay.proc) i m x → (x ≡ Regular c) × (i < stay.turn)
 
 -- what is known of the run
@@ -59,21 +57,6 @@ com_of log c from turn end i x is after until names = elim (less_or_not i turn) 
   | inl lt ↦ inl (is.regular i x after lt names)
   | inr more ↦ elim more [
     | inl gt ↦ inr (is.following i x gt until names)
-    | inr same ↦ absurd (at_turn_no_name log c from turn end i x is (omega arith) same names)
-  ]
-]
-
-one_following : (log : List Entry) (c : RingId) (x y : ConfId) → Follows log c x → Follows log c y → x ≡ y
-one_following log c x y a b =
-    let from = same_first log (Regular c) a.from b.from a.first b.first in
-    let to = one_next log b.from a.to b.to (rw from at a.next) b.next in
-    same_change log a.to b.to x y to a.change b.change
-
-following_of : (log : List Entry) (c : RingId) (from turn end i : ℕ) (x : ConfId) → IsStay log c from turn end → turn ≤ i → i < end → Names log i x → ChangesTo log turn x
-following_of log c from turn end i x is le until names = elim (less_or_not i turn) [
-  | inl lt ↦ absurd (omega arith)
-  | inr more ↦ elim more [
-    | inl gt ↦ (let t = is.turns (omega arith) in rw (one_following log c t.conf x t.follows (is.following i x gt until names)) at t.change)
     | inr same ↦ absurd (at_turn_no_name log c from turn end i x is (omega arith) same names)
   ]
 ]
@@ -118,32 +101,24 @@ stay_facts run c stays stay meets are among =
       size = rw of.log at of.few;
       is = is;
       stands = λ i x inside names. com_of (log_of run stay.proc) c stay.from stay.turn stay.end i x is inside.after inside.until names;
-      following = λ i x le until names. following_of (log_of run stay.proc) c stay.from stay.turn stay.end i x is le until names;
       sends = λ i m x inside send. sends_of (log_of run stay.proc) c stay.from stay.turn stay.end i m x is (meets.once.regular stay.proc i m x send) inside.after inside.until send;
     }
 
-pub facts : (run : List Log) (c : RingId) (list : List Stay) → ∥ MeetsPasses run ∥₁ → ∥ AreStays run c list ∥₁ → Facts run c list
-facts run c list met known =
-    let m = meets run met in
-    let are = stays run c list m known in
+pub facts_of : (stays : Stays) → AreKnown stays → Facts stays.run.now.logs stays.ring stays.list.items
+facts_of stays known =
+    let run = stays.run.now.logs in
+    let list = stays.list.items in
     record {
-      meets = m;
-      each = λ stay among. stay_facts run c list stay m are among;
-      inside = λ p i x names belongs. stay_around run c list p i x m are names belongs;
-      whole = are.whole;
+      meets = known.meets;
+      each = λ stay among. stay_facts run stays.ring list stay known.meets known.are among;
+      inside = λ p i x names belongs. stay_around run stays.ring list p i x known.meets known.are names belongs;
+      whole = known.are.whole;
     }
 
-pub facts_of : (stays : Stays) → Facts stays.run.now.logs stays.ring stays.list.items
-facts_of stays = facts stays.run.now.logs stays.ring stays.list.items stays.meets stays.are
+-- a delivery in c or in what follows it is in the stay of its process
+pub delivery_inside : (run : List Log) (c : RingId) (stays : List Stay) (stay : Stay) (n : MsgId) (j : ℕ) → Facts run c stays → IsAmong stays stay → DeliversIn (log_of run stay.proc) c n j → IsInside stay j
+delivery_inside run c stays stay n j facts among (d, at, belongs) =
+    let bounds = (facts.each stay among).is.here j d (Deliver n d, at, refl) belongs in record { after = bounds.0; until = bounds.1 }
 
-pub here_delivers : (run : List Log) (c : RingId) (stay : Stay) (m : MsgId) (k : ℕ) → StayFacts run c stay → DeliversHere stay m k → DeliversIn (log_of run stay.proc) c m k
-here_delivers run c stay m k facts here =
-    let at : Delivers (log_of run stay.proc) k m here.conf = rw facts.log at here.delivers in
-    (here.conf, at, facts.stands k here.conf (record { after = here.after; until = here.until }) (Deliver m here.conf, at, refl))
-
-pub reads_inside : (run : List Log) (c : RingId) (list : List Stay) (stay : Stay) (i : ℕ) → ∥ MeetsPasses run ∥₁ → ∥ AreStays run c list ∥₁ → IsAmong list stay → IsInside stay i → i < length stay.log.now
-reads_inside run c list stay i met known among inside =
-    let of = (facts run c list met known).each stay among in let within = of.within in let until = inside.until in rw of.log (omega arith)
-
-pub entry_inside : (run : List Log) (c : RingId) (list : List Stay) (stay : Stay) (i : ℕ) (e : Entry) → ∥ MeetsPasses run ∥₁ → ∥ AreStays run c list ∥₁ → IsAmong list stay → slice_get stay.log.now i ≡ Some e → slice_get (log_of run stay.proc) i ≡ Some e
-entry_inside run c list stay i e met known among at = rw ((facts run c list met known).each stay among).log at at
+pub delivery_short : (run : List Log) (c : RingId) (stays : List Stay) (stay : Stay) (n : MsgId) (j : ℕ) → Facts run c stays → IsAmong stays stay → DeliversIn (log_of run stay.proc) c n j → j < 1000000
+delivery_short run c stays stay n j facts among delivers = omega (arith, (facts.each stay among).few, (delivery_inside run c stays stay n j facts among delivers).until)

@@ -1,9 +1,7 @@
 -- The list found for 6.3 is the least that breaks it: an earlier message, a later one, and a process that delivers only
 -- the later one.
-use Rattle.std.proofs.Common.{◌≡◌, ℕ, ◌+◌, ◌<◌, ◌≤◌, inl, inr, List, [], ◌∷◌, length, slice_get, Option, Some, None, Bool, true, false, IsTrue, ◌↔◌, refl, arith}
-use Rattle.std.specs.Prelude.{Contains, IfSome, IfNone}
-use Rattle.std.specs.Option.{is_some}
-use Rattle.std.proofs.lemmas.Option.{slice_get_within}
+use Rattle.std.proofs.Common.{◌≡◌, ℕ, ◌<◌, ◌≤◌, inl, inr, List, [], ◌∷◌, slice_get, Some, Bool, true, false, IsTrue, ◌↔◌, refl, arith}
+use Rattle.std.specs.Prelude.{Contains}
 use Rattle.totem_ids.specs.declared.ring.RingId.{RingId}
 use Rattle.totem_ids.specs.declared.conf.ConfId.{ConfId}
 use Rattle.totem_ids.specs.declared.conf.ConfId.TheVariants.{Regular}
@@ -12,9 +10,8 @@ use Rattle.totem_ids.specs.declared.place.Place.{Place}
 use Rattle.totem_evs.specs.declared.entry.Entry.{Entry}
 use Rattle.totem_evs.specs.declared.entry.Entry.TheVariants.{Deliver}
 use Rattle.totem_evs.specs.declared.log.Log.{Log}
-use Rattle.totem_evs.specs.Events.{log_of, Delivers, WasSentIn, IsTransitional}
-use Rattle.totem_evs.specs.Changes.{IsOneConfiguration}
-use Rattle.totem_evs.specs.Following.{Com, DeliversIn, HasDelivered}
+use Rattle.totem_evs.specs.Events.{log_of, Delivers, WasSentIn}
+use Rattle.totem_evs.specs.Following.{Com, DeliversIn}
 use Rattle.totem_evs.specs.RingAgreement.{NoGapsIn}
 use Rattle.totem_evs.specs.RingFaults.{BreaksGapIn}
 use Rattle.totem_evs.specs.AgreementFaults.{IsGap}
@@ -23,40 +20,22 @@ use Rattle.totem_evs.proofs.LogOf.{less_or_not}
 use Rattle.totem_table.specs.Search.{place, NoneFrom, IsLeastFrom, HoldsOfNone}
 use Rattle.totem_pass_d.specs.declared.stay.Stay.{Stay}
 use Rattle.totem_pass_d.specs.declared.stays.Sending.{Sending}
-use Rattle.totem_pass_d.specs.Acts.{IsAmong, DeliversHere, DeliversNot, IsSendingOf, NobodySent}
+use Rattle.totem_pass_d.specs.Acts.{IsAmong, DeliversNot, IsSendingOf, NobodySent}
 use Rattle.totem_pass_d.specs.Search.{IsInside, EachBeginsWithin, NoneWithin, IsLeastWithin, BeginsWithin}
 use Rattle.totem_pass_d.specs.Reached.{AreMembersAt}
-use Rattle.totem_pass_d.specs.Gaps.{IsLack, IsOneLack, IsLater, IsEverywhere, TellsMember}
+use Rattle.totem_pass_d.specs.Gaps.{IsLack, IsOneLack, IsLater, TellsMember}
 use Rattle.totem_pass_d.proofs.Deciding.{has_delivered_or_not}
-use Rattle.totem_run_rules.proofs.Staying.{same_change}
-use Rattle.totem_pass_d.proofs.Reaching.{is_among_members, is_member}
-use Rattle.totem_pass_d.proofs.Facts.{Facts, StayFacts, here_delivers}
+use Rattle.totem_pass_d.proofs.Reaching.{is_among_members, is_member, one_origin}
+use Rattle.totem_pass_d.proofs.Facts.{Facts, delivery_inside}
 use Rattle.totem_pass_d.proofs.Rests.{none_rest, least_rest, nothing_here, only_here, begins_at}
-use Rattle.totem_pass_d.proofs.CausalityFaults.{one_delivery_in, not_delivered_in}
-
--- one regular configuration that another is, or follows, in one log
-pub one_ring : (run : List Log) (p : ℕ) (c c' : RingId) (d : ConfId) → IsOneConfiguration run → Com (log_of run p) c d → Com (log_of run p) c' d → c ≡ c'
-one_ring run p c c' d one (inl a) (inl b) = let e : Regular c ≡ Regular c' = cc in cc
-one_ring run p c c' d one (inl a) (inr b) = absurd (let t : IsTransitional (Regular c) = rw a at b.transitional in t)
-one_ring run p c c' d one (inr a) (inl b) = absurd (let t : IsTransitional (Regular c') = rw b at a.transitional in t)
-one_ring run p c c' d one (inr a) (inr b) =
-    let e = same_change (log_of run p) a.from b.from (Regular c) (Regular c') (elim (less_or_not a.from b.from) [
-      | inl lt ↦ absurd (a.next.none_between b.from lt (let later = b.next.later in rw to later) (Regular c', b.first.change))
-      | inr more ↦ elim more [
-        | inl gt ↦ absurd (b.next.none_between a.from gt (let later = a.next.later in rw (← to) later) (Regular c, a.first.change))
-        | inr same ↦ same
-      ]
-    ]) a.first.change b.first.change in cc
-  where
-    to : a.to ≡ b.to
-    to = one.once p a.to b.to d a.change b.change
+use Rattle.totem_pass_d.proofs.CausalityFaults.{one_delivery_in}
 
 -- members
-pub tells_member : (run : List Log) (p i q : ℕ) (log : List Entry) (members : List ℕ) (b : Bool) → MeetsPasses run → log ≡ log_of run p → AreMembersAt log i members → IsTrue b ↔ Contains members q → TellsMember run (log_of run p) i q b
-tells_member run p i q log members b meets logs are decides = record {
+pub tells_member : (run : List Log) (p i q : ℕ) (members : List ℕ) (b : Bool) → MeetsPasses run → AreMembersAt (log_of run p) i members → IsTrue b ↔ Contains members q → TellsMember run (log_of run p) i q b
+tells_member run p i q members b meets are decides = record {
   each = λ x names. (
-    λ t. is_member run p i log members x q logs are (rw logs names) (decides.0 t),
-    λ member. decides.1 (is_among_members run p i log members x q meets logs are (rw logs names) member),
+    λ t. is_member run p i members x q are names (decides.0 t),
+    λ member. decides.1 (is_among_members run p i members x q meets are names member),
   );
 }
 
@@ -65,37 +44,37 @@ lack_at : (run : List Log) (c : RingId) (s : ℕ) (m n : MsgId) (q k : ℕ) (res
 lack_at run c s m n q k [] (j, is, h) = let same : j ≡ k = omega arith in rw same at h
 lack_at run c s m n q k (f ∷ more) h = absurd h
 
-pub none_later : (run : List Log) (c : RingId) (stay : Stay) (s : ℕ) (m n : MsgId) → StayFacts run c stay → DeliversNot stay.log.now c n → NoneWithin IsInside (IsOneLack run c s m n) stay
-none_later run c stay s m n facts never = record { none = λ i rest inside h. go i (lack_at run c s m n stay.proc i rest h) }
+pub none_later : (run : List Log) (c : RingId) (stay : Stay) (s : ℕ) (m n : MsgId) → DeliversNot (log_of run stay.proc) c n → NoneWithin IsInside (IsOneLack run c s m n) stay
+none_later run c stay s m n never = record { none = λ i rest inside h. go i (lack_at run c s m n stay.proc i rest h) }
   where
     go : (i : ℕ) → IsLack run c s m n stay.proc i → ⊥
-    go i (d, at, belongs, member, lacks) = not_delivered_in run c stay n facts never (i, (d, at, belongs))
+    go i (d, at, belongs, member, lacks) = never.never (i, (d, at, belongs))
 
-pub none_lacks : (run : List Log) (c : RingId) (stay : Stay) (s k : ℕ) (m n : MsgId) → StayFacts run c stay → DeliversHere stay m k → NoneWithin IsInside (IsOneLack run c s m n) stay
-none_lacks run c stay s k m n facts here = record { none = λ i rest inside h. go i (lack_at run c s m n stay.proc i rest h) }
+pub none_lacks : (run : List Log) (c : RingId) (stay : Stay) (s k : ℕ) (m n : MsgId) → DeliversIn (log_of run stay.proc) c m k → NoneWithin IsInside (IsOneLack run c s m n) stay
+none_lacks run c stay s k m n here = record { none = λ i rest inside h. go i (lack_at run c s m n stay.proc i rest h) }
   where
     go : (i : ℕ) → IsLack run c s m n stay.proc i → ⊥
-    go i (d, at, belongs, member, lacks) = lacks (k, here_delivers run c stay m k facts here)
+    go i (d, at, belongs, member, lacks) = lacks (k, here)
 
-pub none_member : (run : List Log) (c : RingId) (stays : List Stay) (stay : Stay) (s k : ℕ) (m n : MsgId) (b : Bool) → Facts run c stays → IsAmong stays stay → DeliversHere stay n k → TellsMember run (log_of run stay.proc) k s b → b ≡ false
+pub none_member : (run : List Log) (c : RingId) (stays : List Stay) (stay : Stay) (s k : ℕ) (m n : MsgId) (b : Bool) → Facts run c stays → DeliversIn (log_of run stay.proc) c n k → TellsMember run (log_of run stay.proc) k s b → b ≡ false
     → NoneWithin IsInside (IsOneLack run c s m n) stay
-none_member run c stays stay s k m n b facts among here tells no_member = record { none = λ i rest inside h. go i (lack_at run c s m n stay.proc i rest h) }
+none_member run c stays stay s k m n b facts here tells no_member = record { none = λ i rest inside h. go i (lack_at run c s m n stay.proc i rest h) }
   where
     go : (i : ℕ) → IsLack run c s m n stay.proc i → ⊥
     go i (d, at, belongs, member, lacks) =
-        let same = one_delivery_in run c stays stay.proc i k n facts (d, at, belongs) (here_delivers run c stay n k (facts.each stay among) here) in
+        let same = one_delivery_in run c stays stay.proc i k n facts (d, at, belongs) here in
         let t : b ≡ true = (tells.each d (Deliver n d, rw same at at, refl)).1 member in cc
 
-pub lack_here : (run : List Log) (c : RingId) (stays : List Stay) (stay : Stay) (s k : ℕ) (m n : MsgId) (b : Bool) (places : List Place) → Facts run c stays → IsAmong stays stay → DeliversHere stay n k → DeliversNot stay.log.now c m
+pub lack_here : (run : List Log) (c : RingId) (stays : List Stay) (stay : Stay) (s k : ℕ) (m n : MsgId) (b : Bool) (places : List Place) → Facts run c stays → DeliversIn (log_of run stay.proc) c n k → DeliversNot (log_of run stay.proc) c m
     → TellsMember run (log_of run stay.proc) k s b → b ≡ true → places ≡ place stay.proc k ∷ [] → IsLeastWithin IsInside (IsOneLack run c s m n) stay places
-lack_here run c stays stay s k m n b places facts among here never tells is_member is = go (here_delivers run c stay n k (facts.each stay among) here)
+lack_here run c stays stay s k m n b places facts here never tells is_member is = go here
   where
     one : DeliversIn (log_of run stay.proc) c n k → (i : ℕ) → IsLack run c s m n stay.proc i → i ≡ k
     one there i (d, at, belongs, member, lacks) = one_delivery_in run c stays stay.proc i k n facts (d, at, belongs) there
 
     go : DeliversIn (log_of run stay.proc) c n k → IsLeastWithin IsInside (IsOneLack run c s m n) stay places
     go (d, at, belongs) = only_here IsInside (IsOneLack run c s m n) stay k places
-        (k, refl, (d, at, belongs, (tells.each d (Deliver n d, at, refl)).0 is_member, not_delivered_in run c stay m (facts.each stay among) never))
+        (k, refl, (d, at, belongs, (tells.each d (Deliver n d, at, refl)).0 is_member, never.never))
         (λ i rest h. one (d, at, belongs) i (lack_at run c s m n stay.proc i rest h)) is
 
 pub lacks_begin : (run : List Log) (c : RingId) (stays : List Stay) (s : ℕ) (m n : MsgId) → Facts run c stays → EachBeginsWithin stays IsInside (IsOneLack run c s m n)
@@ -131,39 +110,6 @@ least_lack run c stays stay s m n i j d rest facts among inside at lt least =
     (λ others h. (j, refl, (lt, (n, (d, at, (facts.each stay among).stands j d inside (Deliver n d, at, refl)), h))))
     (λ others h. later_at run c s m n i stay.proc j d others at h) least
 
--- the result of a look-up
-pub found_there : (o : Option ℕ) (P : ℕ → Type 0) → is_some o ≡ true → IfSome o P → (k : ℕ) × P k
-found_there None P is h = absurd cc
-found_there (Some k) P is h = (k, h)
-
-pub not_found : (o : Option ℕ) (Q : Type 0) → is_some o ≡ false → IfNone o Q → Q
-not_found None Q is h = h
-not_found (Some k) Q is h = absurd cc
-
--- where each process delivers the message
-pub record EachBefore (run : List Log) (c : RingId) (stays : List Stay) (m : MsgId) (n : ℕ) : Type 0 where
-  pub each : (k : ℕ) (stay : Stay) → k < n → slice_get stays k ≡ Some stay → HasDelivered (log_of run stay.proc) c m
-
-pub each_yet : (run : List Log) (c : RingId) (stays : List Stay) (m : MsgId) → EachBefore run c stays m 0
-each_yet run c stays m = record { each = λ k stay lt at. absurd (omega arith) }
-
-pub each_more : (run : List Log) (c : RingId) (stays : List Stay) (m : MsgId) (n : ℕ) (stay : Stay) → slice_get stays n ≡ Some stay → HasDelivered (log_of run stay.proc) c m → EachBefore run c stays m n → EachBefore run c stays m (n + 1)
-each_more run c stays m n stay at here before = record {
-  each = λ k other lt at_k. elim (less_or_not k n) [
-    | inl under ↦ before.each k other under at_k
-    | inr more ↦ elim more [
-      | inl over ↦ absurd (omega arith)
-      | inr same ↦ let one : stay ≡ other = (let h : slice_get stays n ≡ Some other = rw same at at_k in cc) in rw one at here
-    ]
-  ];
-}
-
-pub everywhere : (run : List Log) (c : RingId) (stays : List Stay) (m : MsgId) (n : ℕ) → length stays ≤ n → EachBefore run c stays m n → IsEverywhere run c stays m
-everywhere run c stays m n end before = record { each = λ stay among. before.each among.at stay (omega (arith, slice_get_within stays among.at stay among.stands)) among.stands }
-
-pub delivered_by : (run : List Log) (c : RingId) (stays : List Stay) (stay : Stay) (m : MsgId) (o : Option ℕ) → Facts run c stays → IsAmong stays stay → is_some o ≡ true → IfSome o (DeliversHere stay m) → HasDelivered (log_of run stay.proc) c m
-delivered_by run c stays stay m o facts among is h = let found = found_there o (DeliversHere stay m) is h in (found.0, here_delivers run c stay m found.0 (facts.each stay among) found.1)
-
 -- gaps
 pub gap_at : (run : List Log) (c : RingId) (p i : ℕ) (rest : List Place) → BreaksGapIn run c (place p i ∷ rest) → (j q k : ℕ) × (rest ≡ place p j ∷ place q k ∷ []) × IsGap run c p i j q k
 gap_at run c p i [] h = absurd h
@@ -174,21 +120,12 @@ gap_at run c p i (f ∷ g ∷ []) (a, is, (j, is_f, (k, is_g, (same, gap)))) = (
     placed = rw (same, ← is_f, ← is_g) refl
 gap_at run c p i (f ∷ g ∷ h ∷ rest) b = absurd b
 
-pub none_everywhere : (run : List Log) (c : RingId) (stays : List Stay) (m : MsgId) (d : ConfId) (p i : ℕ) → Facts run c stays → slice_get (log_of run p) i ≡ Some (Deliver m d) → IsEverywhere run c stays m → NoneFrom (BreaksGapIn run c) p i
-none_everywhere run c stays m d p i facts at everyone = nothing_here (BreaksGapIn run c) p i (λ rest h. let g = gap_at run c p i rest h in go g.0 g.1 g.2 g.4)
-  where
-    go : (j q k : ℕ) → IsGap run c p i j q k → ⊥
-    go j q k (o, n, x, y, s, l, (z, at', b'), later, lt, at_k, belongs, send, member, lacks) =
-        let same : o ≡ m = cc in
-        let s = facts.inside q k x (Deliver n x, at_k, refl) belongs in
-        lacks (rw (same, ← s.proc) (everyone.each s.stay s.among))
-
 -- the sender of a message that is delivered in c or in what follows it sent it in c
 pub sent_in : (run : List Log) (c : RingId) (stays : List Stay) (m : MsgId) (p i : ℕ) → Facts run c stays → DeliversIn (log_of run p) c m i → WasSentIn run m (Regular c)
 sent_in run c stays m p i facts (d, at, belongs) = go (facts.meets.sent p i m d at)
   where
     go : (c' : RingId) × WasSentIn run m (Regular c') × Com (log_of run p) c' d → WasSentIn run m (Regular c)
-    go (c', sent, from) = rw (one_ring run p c c' d facts.meets.one belongs from) sent
+    go (c', sent, from) = rw (one_origin (log_of run p) c c' d (facts.meets.one.once p) belongs from) sent
 
 pub none_unsent : (run : List Log) (c : RingId) (stays : List Stay) (stay : Stay) (m : MsgId) (d : ConfId) (i : ℕ) → Facts run c stays → IsAmong stays stay → IsInside stay i → slice_get (log_of run stay.proc) i ≡ Some (Deliver m d) → NobodySent run c m
     → NoneFrom (BreaksGapIn run c) stay.proc i
@@ -208,11 +145,6 @@ gap_of run c m p i j [] sending delivers of (a, is, (lt, (n, later, one))) = abs
 gap_of run c m p i j (g ∷ []) sending delivers of (a, is, (lt, (n, later, (k, is_g, (x, at_k, belongs, member, lacks))))) =
     (i, refl, (a, is, (k, is_g, (refl, (m, n, x, Regular c, sending.proc, sending.at, delivers, later, lt, at_k, belongs, (sending.service, of.sends), member, lacks)))))
 gap_of run c m p i j (g ∷ h ∷ rest) sending delivers of (a, is, (lt, (n, later, one))) = absurd one
-
--- the later delivery is in the same stay
-pub delivery_inside : (run : List Log) (c : RingId) (stays : List Stay) (stay : Stay) (n : MsgId) (j : ℕ) → Facts run c stays → IsAmong stays stay → DeliversIn (log_of run stay.proc) c n j → IsInside stay j
-delivery_inside run c stays stay n j facts among (d, at, belongs) =
-    let bounds = (facts.each stay among).is.here j d (Deliver n d, at, refl) belongs in record { after = bounds.0; until = bounds.1 }
 
 pub none_after : (run : List Log) (c : RingId) (stays : List Stay) (stay : Stay) (m : MsgId) (d : ConfId) (i : ℕ) (sending : Sending) → Facts run c stays → IsAmong stays stay → slice_get (log_of run stay.proc) i ≡ Some (Deliver m d) → IsSendingOf run c m sending
     → NoneWithin IsInside (IsLater run c sending.proc m i) stay → NoneFrom (BreaksGapIn run c) stay.proc i

@@ -18,14 +18,13 @@ use Rattle.totem_table.specs.Search.{NoneFrom}
 use Rattle.totem_pass_d.specs.declared.stay.Stay.{Stay}
 use Rattle.totem_pass_d.specs.Acts.{IsAmong, DeliversNot}
 use Rattle.totem_pass_d.specs.Gaps.{IsApart, IsBeyond, AreLasts, IsSettled}
-use Rattle.totem_pass_d.proofs.Facts.{Facts, StayFacts}
+use Rattle.totem_pass_d.proofs.Facts.{Facts, delivery_inside}
 use Rattle.totem_pass_d.proofs.Rests.{nothing_here}
-use Rattle.totem_pass_d.proofs.CausalityFaults.{not_delivered_in}
-use Rattle.totem_pass_d.proofs.GapFaults.{delivery_inside, gap_at}
+use Rattle.totem_pass_d.proofs.GapFaults.{gap_at}
 
-pub apart_undelivered : (run : List Log) (c : RingId) (follower : Stay) (p at : ℕ) (m : MsgId) (d : ConfId) → StayFacts run c follower → slice_get (log_of run p) at ≡ Some (Deliver m d) → DeliversNot follower.log.now c m → IsApart run c p follower.proc at
-apart_undelivered run c follower p at m d of there not = record {
-  never = λ n (x, is, belongs) h. (let same : n ≡ m = cc in not_delivered_in run c follower m of not (rw same at h));
+pub apart_undelivered : (run : List Log) (c : RingId) (follower : Stay) (p at : ℕ) (m : MsgId) (d : ConfId) → slice_get (log_of run p) at ≡ Some (Deliver m d) → DeliversNot (log_of run follower.proc) c m → IsApart run c p follower.proc at
+apart_undelivered run c follower p at m d there not = record {
+  never = λ n (x, is, belongs) h. (let same : n ≡ m = cc in not.never (rw same at h));
 }
 
 pub apart_other : (run : List Log) (c : RingId) (p q at : ℕ) (e : Entry) → slice_get (log_of run p) at ≡ Some e → ((m : MsgId) (d : ConfId) → e ≡ Deliver m d → ⊥) → IsApart run c p q at

@@ -1,13 +1,11 @@
 pub mod Deciding
 pub mod Excusing
-pub mod KnownStays
 pub mod Building
 pub mod FindingStays
 pub mod Reaching
 pub mod OneEvent
 pub mod EventFaults
 pub mod Indexing
-pub mod FoundByIndex
 pub mod Searching
 pub mod Facts
 pub mod Rests
@@ -15,7 +13,6 @@ pub mod CausalityFaults
 pub mod GapFaults
 pub mod AtomicityFaults
 pub mod Coming
-pub mod Arriving
 pub mod Listing
 pub mod Rings
 pub mod Adding
@@ -23,3 +20,4 @@ pub mod WhatIsPending
 pub mod Suspecting
 pub mod LastCommonDeliveries
 pub mod Known
+pub mod Sending

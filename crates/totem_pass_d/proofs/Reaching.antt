@@ -3,7 +3,7 @@ use Rattle.std.proofs.Common.{◌≡◌, ℕ, ◌<◌, ◌≤◌, inl, inr, List
 use Rattle.std.specs.Prelude.{Contains}
 use Rattle.totem_ids.specs.declared.ring.RingId.{RingId}
 use Rattle.totem_ids.specs.declared.conf.ConfId.{ConfId}
-use Rattle.totem_ids.specs.declared.conf.ConfId.TheVariants.{Regular, Transitional}
+use Rattle.totem_ids.specs.declared.conf.ConfId.TheVariants.{Regular}
 use Rattle.totem_ids.specs.declared.message.MsgId.{MsgId}
 use Rattle.totem_ids.specs.declared.message.Service.TheVariants.{Safe}
 use Rattle.totem_evs.specs.declared.entry.Entry.{Entry}
@@ -16,23 +16,22 @@ use Rattle.totem_evs.specs.Delivery.{WasSentFor}
 use Rattle.totem_evs.specs.Following.{Follows, Com}
 use Rattle.totem_evs.specs.Answers.{MeetsPasses}
 use Rattle.totem_evs.proofs.LogOf.{less_or_not}
-use Rattle.totem_run_rules.proofs.Staying.{names_no_change, same_change}
 use Rattle.totem_evs.proofs.NextChanges.{same_first, one_next}
+use Rattle.totem_run_rules.proofs.Staying.{names_no_change, same_change}
 use Rattle.totem_pass_d.specs.declared.stays.Sending.{Sending}
 use Rattle.totem_run_rules.specs.Stays.{IsStay}
 use Rattle.totem_pass_d.specs.Acts.{IsSendingOf}
 use Rattle.totem_pass_d.specs.Reached.{IsSafeIn, AreMembersAt}
-use Rattle.totem_pass_d.proofs.KnownStays as known
 
 -- a message sent for another service is not safe
-pub not_safe : (run : List Log) (c : RingId) (m : MsgId) (s : Sending) → ∥ MeetsPasses run ∥₁ → IsSendingOf run c m s → (s.service ≡ Safe → ⊥) → IsSafeIn run c m → ⊥
+pub not_safe : (run : List Log) (c : RingId) (m : MsgId) (s : Sending) → MeetsPasses run → IsSendingOf run c m s → (s.service ≡ Safe → ⊥) → IsSafeIn run c m → ⊥
 not_safe run c m s met sending other safe =
-    let one = (known.meets run met).once.one_send safe.proc safe.index s.proc s.at m (Regular c) (Regular c) (Safe, safe.sends) (s.service, sending.sends) in
+    let one = met.once.one_send safe.proc safe.index s.proc s.at m (Regular c) (Regular c) (Safe, safe.sends) (s.service, sending.sends) in
     let there : slice_get (log_of run s.proc) s.at ≡ Some (Send m (Regular c) Safe) = rw (one.0, one.1) at safe.sends in
     let here = sending.sends in
     other (let same : Some (Send m (Regular c) s.service) ≡ Some (Send m (Regular c) Safe) = cc in cc)
 
-pub safe_or_not : (run : List Log) (c : RingId) (m : MsgId) (s : Sending) (b : Bool) → ∥ MeetsPasses run ∥₁ → IsSendingOf run c m s → IsTrue b ↔ (s.service ≡ Safe) → IsTrue b ↔ IsSafeIn run c m
+pub safe_or_not : (run : List Log) (c : RingId) (m : MsgId) (s : Sending) (b : Bool) → MeetsPasses run → IsSendingOf run c m s → IsTrue b ↔ (s.service ≡ Safe) → IsTrue b ↔ IsSafeIn run c m
 safe_or_not run c m s b met sending decides = (
   λ t. record { proc = s.proc; index = s.at; sends = rw (decides.0 t) at sending.sends },
   λ safe. back b safe decides,
@@ -42,18 +41,18 @@ safe_or_not run c m s b met sending decides = (
     back true safe decides = refl
     back false safe decides = absurd (not_safe run c m s met sending (λ e. let t = decides.1 e in cc) safe)
 
--- at most one configuration follows c in a log
-pub one_follows : (log : List Entry) (c : RingId) (d e : ConfId) → Follows log c d → Follows log c e → d ≡ e
-one_follows log c d e f g =
-    let from = same_first log (Regular c) f.from g.from f.first g.first in
-    let to = one_next log g.from f.to g.to (rw from at f.next) g.next in same_change log f.to g.to d e to f.change g.change
-
 -- the members of the change before an entry are those of the configuration that the entry names
 pub members_before : (log : List Entry) (c : RingId) (from turn end i k : ℕ) (e : Entry) → IsStay log c from turn end → from < i → i < turn → k ≡ from → slice_get log k ≡ Some e → AreMembersAt log i (members_of e)
 members_before log c from turn end i k e is lt below first at =
     let ms = is.change.0 in
     let same : e ≡ Conf (Regular c) ms = (let h = is.change.1 in let there : slice_get log from ≡ Some e = rw first at at in cc) in
     record { change = from; conf = Regular c; with = rw same is.change.1; named = λ d names. is.regular i d lt below names }
+
+-- at most one configuration follows c in a log
+one_follows : (log : List Entry) (c : RingId) (d e : ConfId) → Follows log c d → Follows log c e → d ≡ e
+one_follows log c d e f g =
+    let from = same_first log (Regular c) f.from g.from f.first g.first in
+    let to = one_next log g.from f.to g.to (rw from at f.next) g.next in same_change log f.to g.to d e to f.change g.change
 
 pub members_after : (log : List Entry) (c : RingId) (from turn end i k : ℕ) (e : Entry) → IsStay log c from turn end → turn ≤ i → i < end → k ≡ turn → slice_get log k ≡ Some e → AreMembersAt log i (members_of e)
 members_after log c from turn end i k e is le below first at =
@@ -72,30 +71,22 @@ members_after log c from turn end i k e is le below first at =
     ]
 
 -- members of the configuration that an entry names are those of the change before it
-pub is_among_members : (run : List Log) (p i : ℕ) (log : List Entry) (members : List ℕ) (d : ConfId) (q : ℕ) → MeetsPasses run → log ≡ log_of run p → AreMembersAt log i members → Names log i d → IsMember run d q → Contains members q
-is_among_members run p i log members d q meets logs are names (r, j, ns, changes, here) =
+pub is_among_members : (run : List Log) (p i : ℕ) (members : List ℕ) (d : ConfId) (q : ℕ) → MeetsPasses run → AreMembersAt (log_of run p) i members → Names (log_of run p) i d → IsMember run d q → Contains members q
+is_among_members run p i members d q meets are names (r, j, ns, changes, here) =
     let conf : d ≡ are.conf = are.named d names in
-    let same : ns ≡ members = meets.one.members r j p are.change are.conf ns members (rw conf at changes) (rw logs at are.with) in
+    let same : ns ≡ members = meets.one.members r j p are.change are.conf ns members (rw conf at changes) are.with in
     rw same at here
 
-pub is_member : (run : List Log) (p i : ℕ) (log : List Entry) (members : List ℕ) (d : ConfId) (q : ℕ) → log ≡ log_of run p → AreMembersAt log i members → Names log i d → Contains members q → IsMember run d q
-is_member run p i log members d q logs are names here =
+pub is_member : (run : List Log) (p i : ℕ) (members : List ℕ) (d : ConfId) (q : ℕ) → AreMembersAt (log_of run p) i members → Names (log_of run p) i d → Contains members q → IsMember run d q
+is_member run p i members d q are names here =
     let conf : d ≡ are.conf = are.named d names in
-    (p, are.change, members, rw (← logs, conf) are.with, here)
+    (p, are.change, members, rw conf are.with, here)
 
 -- a safe message that is delivered in c, or in what follows it, was sent in c
-one_origin : (log : List Entry) (b c : RingId) (d : ConfId) → ((i j : ℕ) (x : ConfId) → ChangesTo log i x → ChangesTo log j x → i ≡ j) → Com log b d → Com log c d → b ≡ c
+pub one_origin : (log : List Entry) (b c : RingId) (d : ConfId) → ((i j : ℕ) (x : ConfId) → ChangesTo log i x → ChangesTo log j x → i ≡ j) → Com log b d → Com log c d → b ≡ c
 one_origin log b c d once (inl x) (inl y) = (let same : Regular b ≡ Regular c = cc in cc)
-one_origin log b c d once (inl x) (inr g) = absurd (moves d b x g.transitional)
-  where
-    moves : (d : ConfId) (b : RingId) → d ≡ Regular b → IsTransitional d → ⊥
-    moves (Regular x) b e t = t
-    moves (Transitional n l) b e t = cc
-one_origin log b c d once (inr f) (inl y) = absurd (moves d c y f.transitional)
-  where
-    moves : (d : ConfId) (b : RingId) → d ≡ Regular b → IsTransitional d → ⊥
-    moves (Regular x) b e t = t
-    moves (Transitional n l) b e t = cc
+one_origin log b c d once (inl x) (inr g) = absurd (let t : IsTransitional (Regular b) = rw x at g.transitional in t)
+one_origin log b c d once (inr f) (inl y) = absurd (let t : IsTransitional (Regular c) = rw y at f.transitional in t)
 one_origin log b c d once (inr f) (inr g) =
     let to : f.to ≡ g.to = once f.to g.to d f.change g.change in
     let from : f.from ≡ g.from = (elim (less_or_not f.from g.from) [

@@ -4,14 +4,13 @@ use Rattle.std.proofs.lemmas.Option.{slice_get_within, get_or_from_slice_get}
 use Rattle.totem_ids.specs.declared.ring.RingId.{RingId}
 use Rattle.totem_ids.specs.declared.place.Place.{Place}
 use Rattle.totem_evs.specs.declared.log.Log.{Log}
-use Rattle.totem_evs.specs.Answers.{ComesFirst, IsLeast, MeetsPasses}
+use Rattle.totem_evs.specs.Answers.{ComesFirst, IsLeast}
 use Rattle.totem_table.specs.Search.{place, NoneFrom, IsLeastFrom, HoldsOfNone}
 use Rattle.totem_evs.proofs.LogOf.{less_or_not}
 use Rattle.totem_pass_d.specs.declared.stay.Stay.{Stay}
 use Rattle.totem_pass_d.specs.Stays.{AreStays, IsStayOf}
 use Rattle.totem_pass_d.specs.Acts.{IsAmong}
-use Rattle.totem_pass_d.proofs.KnownStays.{meets, stays}
-use Rattle.totem_pass_d.specs.Search.{IsInside, EachBeginsWithin, NoneBelow, NoneWithin, IsLeastWithin, IsShort}
+use Rattle.totem_pass_d.specs.Search.{IsInside, EachBeginsWithin, NoneBelow, NoneWithin, IsLeastWithin}
 
 -- index by index
 pub none_inside_yet : (H : List Place → Type 0) (stay : Stay) → NoneBelow IsInside H stay (stay.from + 1)
@@ -68,12 +67,6 @@ pub stay_of : (run : List Log) (c : RingId) (stays : List Stay) (stay : Stay) �
 stay_of run c stays stay are among =
     let h = are.each among.at stay (slice_get_within stays among.at stay among.stands) in
     rw (get_or_from_slice_get stays among.at stay stay among.stands) at h
-
-pub short : (run : List Log) (c : RingId) (stays : List Stay) (stay : Stay) → ∥ MeetsPasses run ∥₁ → ∥ AreStays run c stays ∥₁ → IsAmong stays stay → IsShort stay
-short run c list stay met known among =
-    let of = stay_of run c list stay (stays run c list (meets run met) known) among in
-    let few = of.few in let before = of.is.before in let until = of.is.until in let within = of.is.within in
-    record { some = omega arith; few = omega arith }
 
 pub least_here : (run : List Log) (c : RingId) (stays : List Stay) (Reaches : Stay → ℕ → Type 0) (H : List Place → Type 0) (k : ℕ) (stay : Stay) (places : List Place) → AreStays run c stays → slice_get stays k ≡ Some stay
     → EachBeginsWithin stays Reaches H → IsLeastWithin Reaches H stay places → NoneBefore stays Reaches H k → IsLeast H places

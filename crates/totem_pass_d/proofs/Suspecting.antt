@@ -24,12 +24,11 @@ use Rattle.totem_evs.proofs.LogOf.{less_or_not}
 use Rattle.totem_table.specs.Search.{place, NoneFrom}
 use Rattle.totem_ids.proofs.Exact.{equal_at, apart_or_at}
 use Rattle.totem_pass_d.specs.declared.stay.Stay.{Stay}
-use Rattle.totem_pass_d.specs.Acts.{IsAmong, DeliversHere, DeliversNot}
+use Rattle.totem_pass_d.specs.Acts.{IsAmong, DeliversNot}
 use Rattle.totem_pass_d.specs.Suspects.{Handles, HandlesNothing, ComesBefore, ComesNotBefore, IsEarlier, IsSuspect, HasAllOf, IsNoted, AreNotedFrom, AreNoted, AllNoted, AreSuspects}
-use Rattle.totem_pass_d.proofs.Facts.{Facts, StayFacts, here_delivers}
+use Rattle.totem_pass_d.proofs.Facts.{Facts, delivery_inside}
 use Rattle.totem_pass_d.proofs.Rests.{nothing_here, sends_there}
-use Rattle.totem_pass_d.proofs.CausalityFaults.{one_delivery_in, not_delivered_in}
-use Rattle.totem_pass_d.proofs.GapFaults.{delivery_inside}
+use Rattle.totem_pass_d.proofs.CausalityFaults.{one_delivery_in}
 
 -- ---- one entry
 
@@ -42,28 +41,25 @@ handles_one (Fail x) m n a b = absurd a
 pub sends_nothing : (run : List Log) (c : RingId) (q : ℕ) (e : Entry) (early : ℕ) → ((m : MsgId) (x : ConfId) (s : Service) → e ≡ Send m x s → ⊥) → IsEarlier run c q e early early
 sends_nothing run c q e early other = record { no_later = omega arith; each = λ n x s k is h. absurd (other n x s is) }
 
-pub undelivered : (run : List Log) (c : RingId) (stay : Stay) (e : Entry) (m : MsgId) (y : ConfId) (v : Service) (early : ℕ) → StayFacts run c stay → e ≡ Send m y v → DeliversNot stay.log.now c m → IsEarlier run c stay.proc e early early
-undelivered run c stay e m y v early of sends not = record {
+pub undelivered : (run : List Log) (c : RingId) (stay : Stay) (e : Entry) (m : MsgId) (y : ConfId) (v : Service) (early : ℕ) → e ≡ Send m y v → DeliversNot (log_of run stay.proc) c m → IsEarlier run c stay.proc e early early
+undelivered run c stay e m y v early sends not = record {
   no_later = omega arith;
-  each = λ n x s k is h. (let same : n ≡ m = (let t : Send n x s ≡ Send m y v = sym is ∙ sends in cc) in absurd (not_delivered_in run c stay m of not (k, rw same at h)));
+  each = λ n x s k is h. (let same : n ≡ m = (let t : Send n x s ≡ Send m y v = sym is ∙ sends in cc) in absurd (not.never (k, rw same at h)));
 }
 
-pub delivered_at : (run : List Log) (c : RingId) (stays : List Stay) (stay : Stay) (e : Entry) (m : MsgId) (y : ConfId) (v : Service) (at old new : ℕ) → Facts run c stays → IsAmong stays stay → e ≡ Send m y v → DeliversHere stay m at → new ≤ old → new ≤ at
+pub delivered_at : (run : List Log) (c : RingId) (stays : List Stay) (stay : Stay) (e : Entry) (m : MsgId) (y : ConfId) (v : Service) (at old new : ℕ) → Facts run c stays → e ≡ Send m y v → DeliversIn (log_of run stay.proc) c m at → new ≤ old → new ≤ at
     → IsEarlier run c stay.proc e old new
-delivered_at run c stays stay e m y v at old new of among sends here no_later le = record {
+delivered_at run c stays stay e m y v at old new of sends here no_later le = record {
   no_later = no_later;
   each = λ n x s k is h. (let same : n ≡ m = (let t : Send n x s ≡ Send m y v = sym is ∙ sends in cc) in
-      let one = one_delivery_in run c stays stay.proc at k m of (here_delivers run c stay m at (of.each stay among) here) (rw same at h) in omega arith);
+      let one = one_delivery_in run c stays stay.proc at k m of here (rw same at h) in omega arith);
 }
 
-pub comes : (run : List Log) (c : RingId) (stay : Stay) (m : MsgId) (at k : ℕ) → StayFacts run c stay → DeliversHere stay m at → at < k → ComesBefore run c stay.proc m k
-comes run c stay m at k of here lt = record { index = at; before = lt; delivers = here_delivers run c stay m at of here }
-
-pub comes_if_before : (run : List Log) (c : RingId) (stay : Stay) (m : MsgId) (at k : ℕ) → StayFacts run c stay → DeliversHere stay m at → OnTrue (nat_lt at k) (ComesBefore run c stay.proc m k)
-comes_if_before run c stay m at k of here = go (nat_lt at k) refl
+pub comes_if_before : (run : List Log) (c : RingId) (stay : Stay) (m : MsgId) (at k : ℕ) → DeliversIn (log_of run stay.proc) c m at → OnTrue (nat_lt at k) (ComesBefore run c stay.proc m k)
+comes_if_before run c stay m at k here = go (nat_lt at k) refl
   where
     go : (b : Bool) → nat_lt at k ≡ b → OnTrue b (ComesBefore run c stay.proc m k)
-    go true e = comes run c stay m at k of here (grind arith)
+    go true e = record { index = at; before = grind arith; delivers = here }
     go false e = tt
 
 module _ (cmp : MsgId → MsgId → Ordering) where

@@ -30,10 +30,6 @@ abbrev pub IsLater : List Log → RingId → ℕ → MsgId → ℕ → List Plac
 IsLater run c sender earlier i [] = ⊥
 IsLater run c sender earlier i (f ∷ rest) = At f (λ p j. (i < j) × ((later : MsgId) × DeliversIn (log_of run p) c later j × IsOneLack run c sender earlier later rest))
 
--- the processes of all stays deliver the message
-pub record IsEverywhere (run : List Log) (c : RingId) (stays : List Stay) (m : MsgId) : Type 0 where
-  pub each : (stay : Stay) → IsAmong stays stay → HasDelivered (log_of run stay.proc) c m
-
 -- the test says whether q is a member of the configuration that the entry at i names
 pub record TellsMember (run : List Log) (log : List Entry) (i q : ℕ) (test : Bool) : Type 0 where
   pub each : (x : ConfId) → Names log i x → IsTrue test ↔ IsMember run x q

@@ -5,7 +5,6 @@ use Rattle.totem_ids.specs.contracts.ring.RingIdOrd.TheImpl as ring
 use Rattle.totem_table.specs.contracts.keys.ChangeOrd.TheImpl as change
 use Rattle.totem_evs.specs.declared.log.Log.{Log}
 use Rattle.totem_evs.specs.Answers.{MeetsPasses, AreRings}
-use Rattle.totem_table.specs.Changes.{AreChanges}
 use Rattle.totem_configuration_rules.specs.Traffics.{AreTraffic}
 use Rattle.totem_pass_d.specs.declared.findings.Findings.{Findings}
 use Rattle.totem_pass_d.specs.declared.jobs.Jobs.{Jobs}
@@ -17,7 +16,6 @@ pub record AreJobs (run : List Log) (jobs : Jobs) : Type 0 where
   pub logs : jobs.run.now.logs ≡ run
   pub meets : MeetsPasses run
   pub rings : AreRings run jobs.rings.items
-  pub changes : AreChanges run jobs.changes.rows.items
   pub observed : AreTraffic run jobs.observed.items
   pub comings : HoldsComings ring.cmp-value.it change.cmp-value.it jobs.comings.rings jobs.comings.indices run
 

@@ -1,4 +1,3 @@
-pub mod Arrivals
 pub mod Comings
 pub mod Pendings
 pub mod Stays
@@ -12,3 +11,5 @@ pub mod Jobs
 pub mod Partings
 pub mod Suspects
 pub mod Findings
+pub mod Sends
+pub mod KnownStays

@@ -1,5 +1,5 @@
 -- Lists of events that start in the stay of a process (docs/SPECIFICATIONS.md, "Faults").
-use Rattle.std.specs.Prelude.{◌≡◌, ℕ, ◌<◌, ◌≤◌, List, [], ◌∷◌}
+use Rattle.std.specs.Prelude.{◌≡◌, ℕ, ◌<◌, List, [], ◌∷◌}
 use Rattle.totem_ids.specs.declared.place.Place.{Place}
 use Rattle.totem_evs.specs.Places.{At}
 use Rattle.totem_table.specs.Search.{place, IsLeastFrom}
@@ -55,8 +55,3 @@ pub record IsLeastWithin (Reaches : Stay → ℕ → Type 0) (Holds : List Place
   pub is : places ≡ place stay.proc at ∷ rest
   pub least : IsLeastFrom Holds stay.proc at rest
   pub none_before : NoneBelow Reaches Holds stay at
-
--- the stay ends among the first million entries
-pub record IsShort (stay : Stay) : Type 0 where
-  pub some : stay.from < stay.end
-  pub few : stay.end ≤ 1000000

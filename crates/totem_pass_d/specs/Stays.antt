@@ -6,14 +6,25 @@ use Rattle.totem_ids.specs.declared.conf.ConfId.TheVariants.{Regular}
 use Rattle.totem_evs.specs.declared.log.Log.{Log}
 use Rattle.totem_evs.specs.Events.{ChangesTo, IsQuiet, log_of}
 use Rattle.totem_evs.specs.Following.{NeverFails}
-use Rattle.totem_run_rules.specs.Stays.{IsStay}
+use Rattle.totem_evs.specs.declared.ending.Ending.TheVariants.{Quiet}
+use Rattle.totem_run_rules.specs.Stays.{AreNextTwo, IsStay}
 use Rattle.totem_pass_d.specs.declared.stay.Stay.{Stay}
+use Rattle.totem_pass_d.specs.Indexes.{told, Tells}
 
 -- the stay is within its log, which is not too long
 pub record IsShortStay (stay : Stay) : Type 0 where
-  pub some : stay.from < stay.end
-  pub within : stay.end ≤ length stay.log.now
+  pub before : stay.from < stay.turn
+  pub within : stay.turn ≤ length stay.log.now
   pub few : length stay.log.now ≤ 1000000
+
+-- this is the part of a log from an index up to the change after the next one
+pub record IsStayFrom (whole : Log) (at : ℕ) (stay : Stay) : Type 0 where
+  pub proc : stay.proc ≡ whole.proc
+  pub log : stay.log.now ≡ whole.entries
+  pub quiet : IsTrue stay.quiet ↔ (whole.ending ≡ Quiet)
+  pub from : stay.from ≡ at
+  pub next : AreNextTwo whole.entries at stay.turn stay.end
+  pub told : Tells (told stay.deliveries) stay.log.now stay.from stay.end stay.end
 
 -- the stay extends to the end of its log, which is not quiet: the process failed there, or it is open
 abbrev pub IsExcused : Stay → Type 0
@@ -26,6 +37,7 @@ pub record IsStayOf (run : List Log) (c : RingId) (stay : Stay) : Type 0 where
   pub quiet : IsTrue stay.quiet ↔ IsQuiet run stay.proc
   pub unfailed : IsTrue stay.quiet → NeverFails stay.log.now
   pub is : IsStay stay.log.now c stay.from stay.turn stay.end
+  pub told : Tells (told stay.deliveries) stay.log.now stay.from stay.end stay.end
 
 -- one process is below the other
 abbrev pub IsBelowStay : Stay → Stay → Type 0

@@ -5,6 +5,7 @@ ghost use Rattle.std.specs.Bool.{OnTrue, OnFalse};
 ghost use Rattle.totem_evs.specs.Events.{log_of, ChangesTo, Delivers};
 ghost use Rattle.totem_evs.specs.RingFaults.{BreaksAtomicityIn, MeetsIn};
 ghost use Rattle.totem_evs.specs.Answers.{FindsIn};
+ghost use Rattle.totem_pass_d.specs.KnownStays.{AreKnown};
 ghost use Rattle.totem_pass_d.specs.Acts.{IsAmong};
 ghost use Rattle.totem_pass_d.specs.Partings.{IsAnywhere, IsSpan, IsNoChange, NeverDelivers, IsOnePartner};
 
@@ -71,7 +72,8 @@ struct Partings<'s, 'r, 'm> {
 impl Partings<'_, '_, '_> {
     /// Returns whether the process of this stay delivers the message in this configuration.
     fn is_delivered(&self, stay: &Stay) -> bool
-        requires { IsAmong self.now.stays.now.list.items stay.now }
+        requires known { AreKnown self.now.stays.now }
+        requires among { IsAmong self.now.stays.now.list.items stay.now }
         ensures there { OnTrue result ((l : ℕ) × Delivers (log_of self.now.stays.now.run.now.logs stay.now.proc) l self.now.message.now self.now.conf.now) }
         ensures never { OnFalse result (NeverDelivers (log_of self.now.stays.now.run.now.logs stay.now.proc) self.now.stays.now.ring self.now.message.now self.now.conf.now) }
     {
@@ -86,7 +88,7 @@ impl Partings<'_, '_, '_> {
 }
 
 impl Finder for Partings<'_, '_, '_> {
-    ghost among = { λ p. p.stays.now.list.items };
+    ghost among = { λ p. p.stays.now };
 
     ghost reaches = { λ p. IsAnywhere };
 
@@ -114,7 +116,7 @@ struct Deliveries<'s, 'r> {
 }
 
 impl Relation for Deliveries<'_, '_> {
-    ghost among = { λ d. d.stays.now.list.items };
+    ghost among = { λ d. d.stays.now };
 
     ghost holds = { λ d. BreaksAtomicityIn d.stays.now.run.now.logs d.stays.now.ring };
 
@@ -146,7 +148,8 @@ impl Relation for Deliveries<'_, '_> {
 
 /// Returns the least events that break 4 in this configuration. None is searched for where it is known to be met.
 pub fn find(alloc: Global, stays: &Stays, is_met: bool) -> Result<Option<Places>, AllocError>
-    requires { OnTrue is_met (MeetsIn stays.now.run.now.logs stays.now.ring SpecNo.Atomicity) }
+    requires known { AreKnown stays.now }
+    requires met { OnTrue is_met (MeetsIn stays.now.run.now.logs stays.now.ring SpecNo.Atomicity) }
     ensures { IfOk result (FindsIn stays.now.run.now.logs stays.now.ring SpecNo.Atomicity) }
 {
     if is_met {

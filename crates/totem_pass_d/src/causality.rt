@@ -6,6 +6,7 @@ ghost use Rattle.totem_evs.specs.RingFaults.{BreaksCausalityIn, MeetsIn};
 ghost use Rattle.totem_evs.specs.RingAgreement.{IsHop};
 ghost use Rattle.std.specs.Bool.{OnTrue};
 ghost use Rattle.totem_evs.specs.Answers.{FindsIn};
+ghost use Rattle.totem_pass_d.specs.KnownStays.{AreKnown};
 ghost use Rattle.totem_pass_d.specs.Acts.{IsAmong};
 ghost use Rattle.totem_pass_d.specs.Search.{IsInside};
 ghost use Rattle.totem_pass_d.specs.Causality.{IsOneSurprise, IsEffect};
@@ -29,7 +30,7 @@ struct Surprises<'s, 'r, 'm> {
 }
 
 impl Finder for Surprises<'_, '_, '_> {
-    ghost among = { λ s. s.stays.now.list.items };
+    ghost among = { λ s. s.stays.now };
 
     ghost reaches = { λ s. IsInside };
 
@@ -60,6 +61,7 @@ struct Effects<'s, 'r, 'm> {
 impl Effects<'_, '_, '_> {
     /// Returns whether a send at this index of a stay is one hop after the cause: its process sent or delivered the cause.
     fn is_hop(&self, stay: &Stay, at: usize) -> bool
+        requires known { AreKnown self.now.stays.now }
         requires among { IsAmong self.now.stays.now.list.items stay.now }
         requires before { at < stay.now.turn }
         ensures { IsTrue result ↔ IsHop self.now.stays.now.run.now.logs self.now.stays.now.ring self.now.cause.now (place self.now.proc self.now.at) (place stay.now.proc at) }
@@ -75,7 +77,7 @@ impl Effects<'_, '_, '_> {
 }
 
 impl Relation for Effects<'_, '_, '_> {
-    ghost among = { λ s. s.stays.now.list.items };
+    ghost among = { λ s. s.stays.now };
 
     ghost holds = { λ s. IsEffect s.stays.now.run.now.logs s.stays.now.ring s.cause.now (place s.proc s.at) };
 
@@ -109,7 +111,7 @@ struct Causes<'s, 'r> {
 }
 
 impl Relation for Causes<'_, '_> {
-    ghost among = { λ s. s.stays.now.list.items };
+    ghost among = { λ s. s.stays.now };
 
     ghost holds = { λ s. BreaksCausalityIn s.stays.now.run.now.logs s.stays.now.ring };
 
@@ -137,7 +139,8 @@ impl Relation for Causes<'_, '_> {
 
 /// Returns the least events that break 5 in this configuration. None is searched for where it is known to be met.
 pub fn find(alloc: Global, stays: &Stays, is_met: bool) -> Result<Option<Places>, AllocError>
-    requires { OnTrue is_met (MeetsIn stays.now.run.now.logs stays.now.ring SpecNo.Causality) }
+    requires known { AreKnown stays.now }
+    requires met { OnTrue is_met (MeetsIn stays.now.run.now.logs stays.now.ring SpecNo.Causality) }
     ensures { IfOk result (FindsIn stays.now.run.now.logs stays.now.ring SpecNo.Causality) }
 {
     if is_met {

@@ -8,13 +8,6 @@ use totem_evs::{Entry, Run};
 use totem_ids::{ConfId, Proc, RingId};
 use totem_table::{Change, ChangeRegister, Changes, enter_changes};
 
-/// A change to a regular configuration: the index of the log in the run, and the index of the change in that log.
-#[derive(Clone, Copy, PartialEq, Eq, PartialOrd, Ord)]
-pub struct Arrival {
-    pub log: usize,
-    pub at: usize,
-}
-
 /// The rings of the regular configurations, and the index at which each process changes to each of them.
 #[derive(Drop)]
 pub struct Comings {
@@ -59,7 +52,6 @@ impl Comings {
     ghost use Rattle.std.specs.BTreeSet as sorted;
     ghost use Rattle.totem_evs.specs.Answers.{AreRings, MeetsPasses};
     ghost use Rattle.totem_table.specs.Changes.{AreChanges};
-    ghost use Rattle.totem_pass_d.specs.Arrivals.{AreArrivals};
     ghost use Rattle.totem_pass_d.specs.Stays.{AreStays};
     ghost use Rattle.totem_pass_d.specs.Comings.{HoldsComings};
 
@@ -95,43 +87,24 @@ impl Comings {
         Ok(list)
     }
 
-    /// Returns the changes to the regular configuration of this ring, log by log.
-    fn arrivals(&self, alloc: Global, run: &Run, ring: RingId) -> Result<Vec<Arrival>, AllocError>
-        requires comings { HoldsComings ⟦<RingId as Ord>⟧.cmp ⟦<Change as Ord>⟧.cmp self.now.rings self.now.indices run.now.logs }
-        requires meets { MeetsPasses run.now.logs }
-        ensures { IfOk result (λ list. AreArrivals run.now.logs ring list.items) }
-    {
-        let mut arrivals = Vec::new(alloc);
-        for (log, recorded) in run.logs.as_slice().iter().enumerate() {
-            let proc = recorded.proc;
-            let conf = ConfId::Regular(ring);
-            if let Some(at) = self.indices.get(&Change { proc, conf }) {
-                arrivals.push(Arrival { log, at: *at })?;
-            }
-        }
-        Ok(arrivals)
-    }
-
     /// Returns the stays in the regular configuration of this ring, log by log.
     pub fn stays<'r>(
         &self,
         alloc: Global,
         run: &'r Run,
-        changes: &Changes,
         ring: RingId,
     ) -> Result<Vec<Stay<'r>>, AllocError>
         requires comings { HoldsComings ⟦<RingId as Ord>⟧.cmp ⟦<Change as Ord>⟧.cmp self.now.rings self.now.indices run.now.logs }
         requires meets { MeetsPasses run.now.logs }
-        requires changes { AreChanges run.now.logs changes.now.rows.items }
         ensures { IfOk result (λ list. AreStays run.now.logs ring list.items) }
     {
-        let arrivals = self.arrivals(alloc, run, ring)?;
         let mut list = Vec::new(alloc);
-        let logs = run.logs.as_slice();
-        for arrival in &arrivals {
-            let row = changes.rows[arrival.log].as_slice();
-            let stay = stay_from(&logs[arrival.log], row, arrival.at);
-            list.extend_from_slice(&[stay])?;
+        for log in run.logs.as_slice() {
+            let proc = log.proc;
+            let conf = ConfId::Regular(ring);
+            if let Some(from) = self.indices.get(&Change { proc, conf }) {
+                list.push(stay_from(alloc, log, *from)?)?;
+            }
         }
         Ok(list)
     }

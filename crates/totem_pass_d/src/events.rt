@@ -1,9 +1,10 @@
 //! The least single event of a run that breaks a specification.
-ghost use Rattle.std.specs.Prelude.{◌≡◌, ℕ, IfOk, MatchOption, List};
+ghost use Rattle.std.specs.Prelude.{◌≡◌, ℕ, IfOk, MatchOption};
 ghost use Rattle.std.specs.Bool.{OnTrue, OnFalse};
 ghost use Rattle.totem_evs.specs.Answers.{IsLeast};
 ghost use Rattle.totem_table.specs.Search.{HoldsOfNone};
-ghost use Rattle.totem_pass_d.specs.declared.stay.Stay.{Stay};
+ghost use Rattle.totem_pass_d.specs.declared.stays.Stays.{Stays};
+ghost use Rattle.totem_pass_d.specs.KnownStays.{AreKnown};
 ghost use Rattle.totem_pass_d.specs.Acts.{IsAmong};
 ghost use Rattle.totem_pass_d.specs.Search.{IsInside, EachStandsInside, IsOneEvent};
 
@@ -17,14 +18,15 @@ use totem_ids::Place;
 /// A test for events that break a specification, each by itself.
 pub trait EventTest {
     /// The stays.
-    ghost among: { Self → List Stay };
+    ghost among: { Self → Stays };
 
     /// What it means that the event at an index of a process's log breaks the specification.
     ghost breaks: { Self → ℕ → ℕ → Type 0 };
 
     /// Returns whether the event at this index of a stay breaks the specification.
     fn breaks_at(&self, stay: &Stay, at: usize) -> bool
-        requires among { IsAmong (among self.now) stay.now }
+        requires known { AreKnown (among self.now) }
+        requires among { IsAmong (among self.now).list.items stay.now }
         requires inside { IsInside stay.now at }
         ensures there { OnTrue result (breaks self.now stay.now.proc at) }
         ensures never { OnFalse result (breaks self.now stay.now.proc at → ⊥) };
@@ -61,7 +63,8 @@ pub fn least_event<T: EventTest>(
     alloc: Global,
     stays: &Stays,
 ) -> Result<Option<Places>, AllocError>
-    requires among { T.among test.now ≡ stays.now.list.items }
+    requires known { AreKnown stays.now }
+    requires among { T.among test.now ≡ stays.now }
     requires inside { EachStandsInside stays.now.list.items (T.breaks test.now) }
     ensures { IfOk result (λ found. MatchOption found (HoldsOfNone (IsOneEvent (T.breaks test.now))) (IsLeast (IsOneEvent (T.breaks test.now)))) }
 {

@@ -1,5 +1,6 @@
 ghost use Rattle.std.specs.Prelude.{IfOk};
 ghost use Rattle.totem_pass_d.specs.Findings.{AreFindings, AreMet};
+ghost use Rattle.totem_pass_d.specs.KnownStays.{AreKnown};
 
 use crate::stays::Stays;
 use crate::{atomicity, causality, gap, installed, own, safety};
@@ -45,7 +46,8 @@ impl Findings {
 
 /// Does the job of one regular configuration, which is known to meet what is shown.
 pub fn findings_in(alloc: Global, stays: &Stays, shown: &Shown) -> Result<Findings, AllocError>
-    requires { AreMet stays.now.run.now.logs stays.now.ring shown.now }
+    requires known { AreKnown stays.now }
+    requires met { AreMet stays.now.run.now.logs stays.now.ring shown.now }
     ensures { IfOk result (AreFindings stays.now.run.now.logs stays.now.ring) }
 {
     Ok(Findings {

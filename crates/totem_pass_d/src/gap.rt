@@ -7,9 +7,10 @@ ghost use Rattle.totem_evs.specs.Following.{HasDelivered};
 ghost use Rattle.totem_table.specs.Search.{NoneFrom, IsLeastFrom};
 ghost use Rattle.totem_evs.specs.RingFaults.{BreaksGapIn, MeetsIn};
 ghost use Rattle.totem_evs.specs.Answers.{FindsIn};
+ghost use Rattle.totem_pass_d.specs.KnownStays.{AreKnown};
 ghost use Rattle.totem_pass_d.specs.Acts.{IsAmong};
 ghost use Rattle.totem_pass_d.specs.Search.{IsInside};
-ghost use Rattle.totem_pass_d.specs.Gaps.{IsOneLack, IsLater, IsEverywhere, TellsMember, IsApart, IsBeyond, AreLasts, IsSettled};
+ghost use Rattle.totem_pass_d.specs.Gaps.{IsOneLack, IsLater, TellsMember, IsApart, IsBeyond, AreLasts, IsSettled};
 
 use crate::search::{Finder, Relation, first_found, least_found, least_in, only};
 use crate::stay::Stay;
@@ -37,6 +38,7 @@ struct Lacks<'s, 'r, 'm> {
 impl Lacks<'_, '_, '_> {
     /// Returns whether the sender is a member of the configuration that the entry at this index of a stay names.
     fn has_sender(&self, stay: &Stay, at: usize) -> bool
+        requires known { AreKnown self.now.stays.now }
         requires among { IsAmong self.now.stays.now.list.items stay.now }
         requires inside { IsInside stay.now at }
         ensures { TellsMember self.now.stays.now.run.now.logs (log_of self.now.stays.now.run.now.logs stay.now.proc) at self.now.sender result }
@@ -46,7 +48,7 @@ impl Lacks<'_, '_, '_> {
 }
 
 impl Finder for Lacks<'_, '_, '_> {
-    ghost among = { λ l. l.stays.now.list.items };
+    ghost among = { λ l. l.stays.now };
 
     ghost reaches = { λ l. IsInside };
 
@@ -76,7 +78,7 @@ struct Later<'s, 'r, 'm> {
 }
 
 impl Relation for Later<'_, '_, '_> {
-    ghost among = { λ l. l.stays.now.list.items };
+    ghost among = { λ l. l.stays.now };
 
     ghost holds = { λ l. IsLater l.stays.now.run.now.logs l.stays.now.ring l.sender l.earlier.now l.at };
 
@@ -102,58 +104,9 @@ impl Relation for Later<'_, '_, '_> {
     }
 }
 
-/// The deliveries of earlier messages.
-#[derive(Clone, Copy)]
-struct Gaps<'s, 'r> {
-    stays: &'s Stays<'r>,
-}
-
-impl Gaps<'_, '_> {
-    /// Returns whether all processes of the configuration deliver the message. This quick test saves a search.
-    fn is_everywhere(&self, message: &MsgId) -> bool
-        ensures { OnTrue result (IsEverywhere self.now.stays.now.run.now.logs self.now.stays.now.ring self.now.stays.now.list.items message.now) }
-    {
-        for stay in &self.stays.list {
-            if self.stays.delivery_of(stay, message).is_none() {
-                return false;
-            }
-        }
-        true
-    }
-}
-
-impl Relation for Gaps<'_, '_> {
-    ghost among = { λ g. g.stays.now.list.items };
-
-    ghost holds = { λ g. BreaksGapIn g.stays.now.run.now.logs g.stays.now.ring };
-
-    fn rest(
-        &self,
-        alloc: Global,
-        stay: &Stay,
-        at: usize,
-    ) -> Result<Option<Vec<Place>>, AllocError> {
-        let Entry::Deliver(earlier, _) = self.stays.entry_in(stay, at) else {
-            return Ok(None);
-        };
-        if self.is_everywhere(earlier) {
-            return Ok(None);
-        }
-        let Some(sending) = self.stays.send_of(earlier) else {
-            return Ok(None);
-        };
-        let later = Later {
-            stays: self.stays,
-            sender: sending.proc,
-            earlier,
-            at,
-        };
-        least_in(&later, alloc, stay)
-    }
-}
-
 /// Returns whether the entry at this index of the leader's stay delivers a message that the follower delivers too.
 fn is_common(stays: &Stays, leader: &Stay, follower: &Stay, at: usize) -> bool
+    requires known { AreKnown stays.now }
     requires leader { IsAmong stays.now.list.items leader.now }
     requires follower { IsAmong stays.now.list.items follower.now }
     requires inside { IsInside leader.now at }
@@ -170,6 +123,7 @@ fn is_common(stays: &Stays, leader: &Stay, follower: &Stay, at: usize) -> bool
 
 /// Returns an index after which the leader delivers nothing that the follower delivers too.
 fn last_common(stays: &Stays, leader: &Stay, follower: &Stay) -> usize
+    requires known { AreKnown stays.now }
     requires leader { IsAmong stays.now.list.items leader.now }
     requires follower { IsAmong stays.now.list.items follower.now }
     ensures { IsBeyond stays.now.run.now.logs stays.now.ring leader.now.proc follower.now.proc result }
@@ -187,7 +141,8 @@ fn last_common(stays: &Stays, leader: &Stay, follower: &Stay) -> usize
 
 /// Returns this last index for each follower of the leader, in the order of the stays.
 fn lasts_of(alloc: Global, stays: &Stays, leader: &Stay) -> Result<Vec<usize>, AllocError>
-    requires { IsAmong stays.now.list.items leader.now }
+    requires known { AreKnown stays.now }
+    requires among { IsAmong stays.now.list.items leader.now }
     ensures { IfOk result (λ lasts. AreLasts stays.now.run.now.logs stays.now.ring stays.now.list.items leader.now.proc lasts.items) }
 {
     let mut lasts = Vec::new(alloc);
@@ -199,7 +154,8 @@ fn lasts_of(alloc: Global, stays: &Stays, leader: &Stay) -> Result<Vec<usize>, A
 
 /// Returns whether the follower delivers the leader's message, or delivers nothing that the leader delivers after it.
 fn keeps_up(stays: &Stays, follower: &Stay, last: usize, message: &MsgId, at: usize) -> bool
-    requires { IsAmong stays.now.list.items follower.now }
+    requires known { AreKnown stays.now }
+    requires among { IsAmong stays.now.list.items follower.now }
     ensures { OnTrue result ((last ≤ at) ⊎ HasDelivered (log_of stays.now.run.now.logs follower.now.proc) stays.now.ring message.now) }
 {
     if last <= at {
@@ -213,7 +169,8 @@ fn keeps_up(stays: &Stays, follower: &Stay, last: usize, message: &MsgId, at: us
 
 /// Returns whether each follower delivers the leader's message, or delivers nothing that the leader delivers after it.
 fn all_keep_up(stays: &Stays, leader: &Stay, lasts: &[usize], message: &MsgId, at: usize) -> bool
-    requires { AreLasts stays.now.run.now.logs stays.now.ring stays.now.list.items leader.now.proc lasts.now }
+    requires known { AreKnown stays.now }
+    requires lasts { AreLasts stays.now.run.now.logs stays.now.ring stays.now.list.items leader.now.proc lasts.now }
     ensures { OnTrue result (IsSettled stays.now.run.now.logs stays.now.ring stays.now.list.items leader.now.proc message.now at) }
 {
     for (k, follower) in stays.list.iter().enumerate() {
@@ -224,13 +181,13 @@ fn all_keep_up(stays: &Stays, leader: &Stay, lasts: &[usize], message: &MsgId, a
     true
 }
 
-/// The gaps of one leader after another.
+/// The deliveries of earlier messages.
 #[derive(Clone, Copy)]
-struct EachLeader<'s, 'r> {
-    gaps: Gaps<'s, 'r>,
+struct Gaps<'s, 'r> {
+    stays: &'s Stays<'r>,
 }
 
-impl EachLeader<'_, '_> {
+impl Gaps<'_, '_> {
     /// Returns the rest of the least gap that starts at this index of the leader's stay.
     fn rest_at(
         &self,
@@ -239,32 +196,43 @@ impl EachLeader<'_, '_> {
         lasts: &[usize],
         at: usize,
     ) -> Result<Option<Vec<Place>>, AllocError>
-        requires among { IsAmong self.now.gaps.stays.now.list.items leader.now }
+        requires known { AreKnown self.now.stays.now }
+        requires among { IsAmong self.now.stays.now.list.items leader.now }
         requires inside { IsInside leader.now at }
-        requires lasts { AreLasts self.now.gaps.stays.now.run.now.logs self.now.gaps.stays.now.ring self.now.gaps.stays.now.list.items leader.now.proc lasts.now }
+        requires lasts { AreLasts self.now.stays.now.run.now.logs self.now.stays.now.ring self.now.stays.now.list.items leader.now.proc lasts.now }
         ensures { IfOk result (λ found. MatchOption found
-            (NoneFrom (BreaksGapIn self.now.gaps.stays.now.run.now.logs self.now.gaps.stays.now.ring) leader.now.proc at)
-            (λ rest. IsLeastFrom (BreaksGapIn self.now.gaps.stays.now.run.now.logs self.now.gaps.stays.now.ring) leader.now.proc at rest.items)) }
+            (NoneFrom (BreaksGapIn self.now.stays.now.run.now.logs self.now.stays.now.ring) leader.now.proc at)
+            (λ rest. IsLeastFrom (BreaksGapIn self.now.stays.now.run.now.logs self.now.stays.now.ring) leader.now.proc at rest.items)) }
     {
-        let stays = self.gaps.stays;
-        if let Entry::Deliver(message, _) = stays.entry_in(leader, at) {
-            if all_keep_up(stays, leader, lasts, message, at) {
-                return Ok(None);
-            }
+        let stays = self.stays;
+        let Entry::Deliver(earlier, _) = stays.entry_in(leader, at) else {
+            return Ok(None);
+        };
+        if all_keep_up(stays, leader, lasts, earlier, at) {
+            return Ok(None);
         }
-        self.gaps.rest(alloc, leader, at)
+        let Some(sending) = stays.send_of(earlier) else {
+            return Ok(None);
+        };
+        let later = Later {
+            stays,
+            sender: sending.proc,
+            earlier,
+            at,
+        };
+        least_in(&later, alloc, leader)
     }
 }
 
-impl Finder for EachLeader<'_, '_> {
-    ghost among = { λ e. e.gaps.stays.now.list.items };
+impl Finder for Gaps<'_, '_> {
+    ghost among = { λ g. g.stays.now };
 
-    ghost reaches = { λ e. IsInside };
+    ghost reaches = { λ g. IsInside };
 
-    ghost holds = { λ e. BreaksGapIn e.gaps.stays.now.run.now.logs e.gaps.stays.now.ring };
+    ghost holds = { λ g. BreaksGapIn g.stays.now.run.now.logs g.stays.now.ring };
 
     fn find_in(&self, alloc: Global, stay: &Stay) -> Result<Option<Vec<Place>>, AllocError> {
-        let lasts = lasts_of(alloc, self.gaps.stays, stay)?;
+        let lasts = lasts_of(alloc, self.stays, stay)?;
         for at in stay.from + 1..stay.end {
             if let Some(rest) = self.rest_at(alloc, stay, &lasts, at)? {
                 return Ok(Some(begin_at(stay.proc, at, rest)?));
@@ -276,12 +244,12 @@ impl Finder for EachLeader<'_, '_> {
 
 /// Returns the least events that break 6.3 in this configuration. None is searched for where it is known to be met.
 pub fn find(alloc: Global, stays: &Stays, is_met: bool) -> Result<Option<Places>, AllocError>
-    requires { OnTrue is_met (MeetsIn stays.now.run.now.logs stays.now.ring SpecNo.Gap) }
+    requires known { AreKnown stays.now }
+    requires met { OnTrue is_met (MeetsIn stays.now.run.now.logs stays.now.ring SpecNo.Gap) }
     ensures { IfOk result (FindsIn stays.now.run.now.logs stays.now.ring SpecNo.Gap) }
 {
     if is_met {
         return Ok(None);
     }
-    let gaps = Gaps { stays };
-    least_found(&EachLeader { gaps }, alloc, stays)
+    least_found(&Gaps { stays }, alloc, stays)
 }

@@ -1,32 +1,39 @@
-//! The index at which a stay sends, or delivers, each message.
-ghost use Rattle.std.specs.Prelude.{◌≡◌, All, IfSome, IfNone, IfOk};
+//! The index at which each message is delivered in a part of a log.
+ghost use Rattle.std.specs.Prelude.{◌≡◌, IfSome, IfNone, IfOk};
 ghost use Rattle.std.specs.Bool.{OnTrue};
 ghost use Rattle.std.specs.BTreeMap as tree;
-ghost use Rattle.totem_pass_d.specs.Stays.{IsShortStay};
-ghost use Rattle.totem_pass_d.specs.Acts.{IsActAt, NeverActs};
-ghost use Rattle.totem_pass_d.specs.Indexes.{index_told, noted, Tells, AllTell};
+ghost use Rattle.totem_pass_d.specs.Indexes.{IsShortPart, delivered_at, IsDelivery, IsNoDelivery, noted, told, Tells};
 
-use crate::act::Act;
 use crate::row::Row;
-use crate::stay::Stay;
 use std::alloc::{AllocError, Global};
 use std::collections::BTreeMap;
+use totem_evs::Entry;
 use totem_ids::MsgId;
 
-/// The index of each send, or of each delivery, of a stay: in a row by message number if that has all of them, else by message.
+/// The index of each delivery: in a row by message number if that has all of them, else by message.
 #[derive(Drop)]
 pub enum Indexes {
     ByNumber(Row),
     ByMessage(BTreeMap<MsgId, usize>),
 }
 
-/// Returns whether the row has each index at which the stay does this.
-fn tells_all(row: &Row, stay: &Stay, act: Act) -> bool
-    requires { IsShortStay stay.now }
-    ensures { OnTrue result (Tells (noted row.now) stay.now act stay.now.end) }
+/// Returns the message that the entry at this index of the log delivers.
+pub fn delivered_at(log: &[Entry], at: usize) -> Option<MsgId>
+    ensures { result ≡ delivered_at log.now at }
 {
-    for at in stay.from + 1..stay.end {
-        if let Some(message) = stay.message_at(act, at) {
+    match log.get(at) {
+        Some(Entry::Deliver(message, _)) => Some(*message),
+        _ => None,
+    }
+}
+
+/// Returns whether the row has the index of each delivery.
+fn tells_all(row: &Row, log: &[Entry], from: usize, end: usize) -> bool
+    requires { IsShortPart log.now from end }
+    ensures { OnTrue result (Tells (noted row.now) log.now from end end) }
+{
+    for at in from + 1..end {
+        if let Some(message) = delivered_at(log, at) {
             if row.get(&message) != Some(at as u32) {
                 return false;
             }
@@ -35,14 +42,19 @@ fn tells_all(row: &Row, stay: &Stay, act: Act) -> bool
     true
 }
 
-/// Returns the index at which the stay does this with each message.
-fn by_message(alloc: Global, stay: &Stay, act: Act) -> Result<BTreeMap<MsgId, usize>, AllocError>
-    requires { IsShortStay stay.now }
-    ensures { IfOk result (λ map. Tells (tree.get ⟦<MsgId as Ord>⟧.cmp map) stay.now act stay.now.end) }
+/// Returns the index at which each message is delivered.
+fn by_message(
+    alloc: Global,
+    log: &[Entry],
+    from: usize,
+    end: usize,
+) -> Result<BTreeMap<MsgId, usize>, AllocError>
+    requires { IsShortPart log.now from end }
+    ensures { IfOk result (λ map. Tells (tree.get ⟦<MsgId as Ord>⟧.cmp map) log.now from end end) }
 {
     let mut map = BTreeMap::new(alloc);
-    for at in stay.from + 1..stay.end {
-        if let Some(message) = stay.message_at(act, at) {
+    for at in from + 1..end {
+        if let Some(message) = delivered_at(log, at) {
             map.insert(message, at)?;
         }
     }
@@ -50,22 +62,22 @@ fn by_message(alloc: Global, stay: &Stay, act: Act) -> Result<BTreeMap<MsgId, us
 }
 
 impl Indexes {
-    /// Finds the indices at which the stay does this, in as many steps as it has entries if the numbers of the messages are close
-    /// together, and in n log n steps otherwise.
-    pub fn of(alloc: Global, stay: &Stay, act: Act) -> Result<Indexes, AllocError>
-        requires { IsShortStay stay.now }
-        ensures { IfOk result (λ indexes. Tells (index_told ⟦<MsgId as Ord>⟧.cmp indexes) stay.now act stay.now.end) }
+    /// Finds the indices of the deliveries after the first of these indices and before the second, in as many steps as there are
+    /// entries if the numbers of the messages are close together, and in n log n steps otherwise.
+    pub fn of(alloc: Global, log: &[Entry], from: usize, end: usize) -> Result<Indexes, AllocError>
+        requires { IsShortPart log.now from end }
+        ensures { IfOk result (λ indexes. Tells (told indexes) log.now from end end) }
     {
-        let row = Row::of(alloc, stay, act)?;
-        if tells_all(&row, stay, act) {
+        let row = Row::of(alloc, log, from, end)?;
+        if tells_all(&row, log, from, end) {
             return Ok(Indexes::ByNumber(row));
         }
-        Ok(Indexes::ByMessage(by_message(alloc, stay, act)?))
+        Ok(Indexes::ByMessage(by_message(alloc, log, from, end)?))
     }
 
     /// Returns what is noted for the message.
     fn told(&self, message: &MsgId) -> Option<usize>
-        ensures { result ≡ index_told ⟦<MsgId as Ord>⟧.cmp self.now message.now }
+        ensures { result ≡ told self.now message.now }
     {
         match self {
             Indexes::ByNumber(row) => match row.get(message) {
@@ -76,29 +88,17 @@ impl Indexes {
         }
     }
 
-    /// Returns the index at which the stay does this with the message. `self` has to be the indices of the stay.
-    pub fn index_of(&self, stay: &Stay, act: Act, message: &MsgId) -> Option<usize>
-        requires { ∥ Tells (index_told ⟦<MsgId as Ord>⟧.cmp self.now) stay.now act stay.now.end ∥₁ }
-        ensures found { IfSome result (IsActAt stay.now act message.now) }
-        ensures none { IfNone result (NeverActs stay.now act message.now) }
+    /// Returns the index at which the message is delivered in this part of the log, whose indices these have to be.
+    pub fn index_of(&self, log: &[Entry], from: usize, end: usize, message: &MsgId) -> Option<usize>
+        requires { Tells (told self.now) log.now from end end }
+        ensures found { IfSome result (IsDelivery log.now from end message.now) }
+        ensures none { IfNone result (IsNoDelivery log.now from end message.now) }
     {
         let at = self.told(message)?;
-        if stay.does_at(act, at, message) {
+        if from < at && at < end && delivered_at(log, at) == Some(*message) {
             Some(at)
         } else {
             None
         }
     }
-}
-
-/// Returns the indices at which each of these stays does this.
-pub fn indexes_of(alloc: Global, stays: &[Stay], act: Act) -> Result<Vec<Indexes>, AllocError>
-    requires { All IsShortStay stays.now }
-    ensures { IfOk result (λ list. AllTell ⟦<MsgId as Ord>⟧.cmp act stays.now list.items) }
-{
-    let mut list = Vec::new(alloc);
-    for stay in stays {
-        list.push(Indexes::of(alloc, stay, act)?)?;
-    }
-    Ok(list)
 }

@@ -7,6 +7,7 @@ ghost use Rattle.totem_evs.specs.Answers.{FindsIn};
 ghost use Rattle.totem_evs.specs.AgreementFaults.{IsNotInstalled};
 ghost use Rattle.totem_pass_d.specs.Acts.{HasCome};
 ghost use Rattle.totem_pass_d.specs.Reached.{HoldsNotOfAll};
+ghost use Rattle.totem_pass_d.specs.KnownStays.{AreKnown};
 
 use crate::events::{EventTest, least_event};
 use crate::stay::Stay;
@@ -24,6 +25,7 @@ struct Uninstalled<'s, 'r> {
 impl Uninstalled<'_, '_> {
     /// Returns whether the log of this process changes to the regular configuration.
     fn has_come(&self, proc: Proc) -> bool
+        requires { AreKnown self.now.stays.now }
         ensures { IsTrue result ↔ HasCome self.now.stays.now.run.now.logs self.now.stays.now.ring proc }
     {
         match self.stays.stay_of(proc) {
@@ -34,6 +36,7 @@ impl Uninstalled<'_, '_> {
 
     /// Returns whether the log of each of these members changes to the regular configuration.
     fn have_come(&self, members: &[Proc]) -> bool
+        requires { AreKnown self.now.stays.now }
         ensures all { OnTrue result (All (HasCome self.now.stays.now.run.now.logs self.now.stays.now.ring) members.now) }
         ensures not_all { OnFalse result (HoldsNotOfAll (HasCome self.now.stays.now.run.now.logs self.now.stays.now.ring) members.now) }
     {
@@ -42,7 +45,7 @@ impl Uninstalled<'_, '_> {
 }
 
 impl EventTest for Uninstalled<'_, '_> {
-    ghost among = { λ s. s.stays.now.list.items };
+    ghost among = { λ s. s.stays.now };
 
     ghost breaks = { λ s. IsNotInstalled s.stays.now.run.now.logs s.stays.now.ring };
 
@@ -62,7 +65,8 @@ impl EventTest for Uninstalled<'_, '_> {
 
 /// Returns the least event that breaks 7.2 in this configuration. None is searched for where it is known to be met.
 pub fn find(alloc: Global, stays: &Stays, is_met: bool) -> Result<Option<Places>, AllocError>
-    requires { OnTrue is_met (MeetsIn stays.now.run.now.logs stays.now.ring SpecNo.Installed) }
+    requires known { AreKnown stays.now }
+    requires met { OnTrue is_met (MeetsIn stays.now.run.now.logs stays.now.ring SpecNo.Installed) }
     ensures { IfOk result (FindsIn stays.now.run.now.logs stays.now.ring SpecNo.Installed) }
 {
     if is_met {

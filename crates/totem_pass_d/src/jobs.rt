@@ -25,7 +25,6 @@ pub struct Jobs<'r> {
     /// The configurations, by ring number and then by representative.
     pub rings: Vec<RingId>,
     pub comings: Comings,
-    pub changes: Changes,
     /// What was observed of configurations, in any order: of all of them, of some or of none.
     pub observed: Vec<Observed>,
     /// For each job the index of its configuration among those that were observed, as a guess.
@@ -84,7 +83,6 @@ impl<'r> Jobs<'r> {
             run,
             rings,
             comings,
-            changes,
             observed,
             slots,
         })
@@ -131,7 +129,7 @@ impl<'r> Jobs<'r> {
         if shown.is_all() {
             return Ok(Findings::none());
         }
-        let list = self.comings.stays(alloc, self.run, &self.changes, ring)?;
+        let list = self.comings.stays(alloc, self.run, ring)?;
         let stays = Stays::build(alloc, self.run, ring, list)?;
         findings_in(alloc, &stays, &shown)
     }

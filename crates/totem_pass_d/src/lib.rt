@@ -9,7 +9,6 @@
 //! - `pending_of` and `waiting` list exactly what is pending and who waits, in ascending order (`ArePending`, `AreWaiting`).
 #![tactic(auto)]
 
-mod act;
 mod atomicity;
 mod causality;
 mod comings;
@@ -22,7 +21,6 @@ mod jobs;
 mod own;
 mod pass;
 mod pendings;
-mod ring_stays;
 mod row;
 mod safety;
 mod search;

@@ -5,6 +5,7 @@ ghost use Rattle.std.specs.Bool.{OnTrue};
 ghost use Rattle.totem_evs.specs.RingFaults.{MeetsIn};
 ghost use Rattle.totem_evs.specs.Answers.{FindsIn};
 ghost use Rattle.totem_evs.specs.AgreementFaults.{IsNotOwned};
+ghost use Rattle.totem_pass_d.specs.KnownStays.{AreKnown};
 
 use crate::events::{EventTest, least_event};
 use crate::stay::Stay;
@@ -19,7 +20,7 @@ struct Undelivered<'s, 'r> {
 }
 
 impl EventTest for Undelivered<'_, '_> {
-    ghost among = { λ s. s.stays.now.list.items };
+    ghost among = { λ s. s.stays.now };
 
     ghost breaks = { λ s. IsNotOwned s.stays.now.run.now.logs s.stays.now.ring };
 
@@ -39,7 +40,8 @@ impl EventTest for Undelivered<'_, '_> {
 
 /// Returns the least event that breaks 3 in this configuration. None is searched for where it is known to be met.
 pub fn find(alloc: Global, stays: &Stays, is_met: bool) -> Result<Option<Places>, AllocError>
-    requires { OnTrue is_met (MeetsIn stays.now.run.now.logs stays.now.ring SpecNo.OwnDelivery) }
+    requires known { AreKnown stays.now }
+    requires met { OnTrue is_met (MeetsIn stays.now.run.now.logs stays.now.ring SpecNo.OwnDelivery) }
     ensures { IfOk result (FindsIn stays.now.run.now.logs stays.now.ring SpecNo.OwnDelivery) }
 {
     if is_met {

@@ -1,129 +1,56 @@
 //! What a run leaves open (docs/SPECIFICATIONS.md, "Pending and waiting").
-ghost use Rattle.std.specs.Prelude.{◌≡◌, ◌↔◌, ◌<◌, All, IsTrue, IfSome, IfNone, IfOk, OnOk, length};
+ghost use Rattle.std.specs.Prelude.{◌↔◌, IsTrue, IfOk, OnOk};
 ghost use Rattle.totem_evs.specs.Answers.{MeetsPasses};
 ghost use Rattle.totem_evs.specs.Following.{OpenIn};
-ghost use Rattle.totem_evs.specs.Unsettled.{ArePending, AreWaiting, IsPending};
+ghost use Rattle.totem_evs.specs.Unsettled.{ArePending, AreWaiting};
 ghost use Rattle.totem_pass_d.specs.Acts.{IsAmong};
 ghost use Rattle.totem_pass_d.specs.Jobs.{AreJobs};
-ghost use Rattle.totem_pass_d.specs.Indexes.{index_told, Tells};
-ghost use Rattle.totem_pass_d.specs.Pendings.{Adds, MissesAt, MissesNothingAt, MissesFrom, Misses, IsPendingIn, IsPendingFor};
+ghost use Rattle.totem_pass_d.specs.KnownStays.{AreKnown};
+ghost use Rattle.totem_pass_d.specs.Pendings.{Adds, IsPendingIn, IsPendingFor};
 
-use crate::act::Act;
-use crate::indexes::Indexes;
 use crate::jobs::Jobs;
-use crate::ring_stays::RingStays;
 use crate::stay::Stay;
+use crate::stays::Stays;
 use std::alloc::{AllocError, Global};
-use totem_evs::{Entry, Pending, Run, Waiting};
-use totem_ids::{MsgId, Proc, RingId};
+use totem_evs::{Pending, Run, Waiting};
+use totem_ids::RingId;
 use totem_run_rules::{has_failed, in_order};
 
 /// Returns whether the process of this stay is open in it.
-fn is_open(stays: &RingStays, stay: &Stay) -> bool
-    requires { IsAmong stays.now.list.items stay.now }
+fn is_open(stays: &Stays, stay: &Stay) -> bool
+    requires known { AreKnown stays.now }
+    requires among { IsAmong stays.now.list.items stay.now }
     ensures { IsTrue result ↔ OpenIn stays.now.run.now.logs stay.now.proc stays.now.ring }
 {
     stay.is_excused() && !has_failed(stay.log)
 }
 
-/// Returns the message that this entry sends, if the process of the stay has not delivered it.
-fn missing_at(
-    stays: &RingStays,
-    deliveries: &Indexes,
-    stay: &Stay,
-    sender: &[Entry],
-    at: usize,
-) -> Option<MsgId>
+/// Adds what is pending for the process of this stay.
+fn add_missing(list: &mut Vec<Pending>, stays: &Stays, stay: &Stay) -> Result<(), AllocError>
+    requires known { AreKnown stays.now }
     requires among { IsAmong stays.now.list.items stay.now }
-    requires tells { Tells (index_told ⟦<MsgId as Ord>⟧.cmp deliveries.now) stay.now Act.Deliver stay.now.end }
-    requires within { at < length sender.now }
-    ensures found { IfSome result (MissesAt stays.now.ring stay.now sender.now at) }
-    ensures none { IfNone result (MissesNothingAt stays.now.ring stay.now sender.now at) }
+    ensures { OnOk result (Adds (IsPendingFor stays.now.run.now.logs stays.now.ring stay.now.proc) list.old.items list.new.items) }
 {
-    let Entry::Send(message, _, _) = &sender[at] else {
-        return None;
-    };
-    match stays.delivery_of(deliveries, stay, message) {
-        Some(_) => None,
-        None => Some(*message),
+    if !is_open(stays, stay) {
+        return Ok(());
     }
-}
-
-/// Adds the messages of this sender that the process of the stay has not delivered.
-fn add_missing_from(
-    list: &mut Vec<Pending>,
-    stays: &RingStays,
-    deliveries: &Indexes,
-    stay: &Stay,
-    sender: &Stay,
-) -> Result<(), AllocError>
-    requires among { IsAmong stays.now.list.items stay.now }
-    requires tells { Tells (index_told ⟦<MsgId as Ord>⟧.cmp deliveries.now) stay.now Act.Deliver stay.now.end }
-    requires sender { IsAmong stays.now.list.items sender.now }
-    ensures { OnOk result (Adds (MissesFrom stays.now.ring stay.now sender.now) list.old.items list.new.items) }
-{
     let proc = stay.proc;
-    for at in sender.from + 1..sender.turn {
-        if let Some(msg) = missing_at(stays, deliveries, stay, sender.log, at) {
+    for message in stays.sends.keys() {
+        if stays.delivery_of(stay, message).is_none() {
+            let msg = *message;
             list.push(Pending { proc, msg })?;
         }
     }
     Ok(())
 }
 
-/// Adds the messages that the process of the stay has not delivered. `deliveries` has the indices at which it delivers.
-fn add_missing_by(
-    list: &mut Vec<Pending>,
-    stays: &RingStays,
-    deliveries: &Indexes,
-    stay: &Stay,
-) -> Result<(), AllocError>
-    requires among { IsAmong stays.now.list.items stay.now }
-    requires tells { Tells (index_told ⟦<MsgId as Ord>⟧.cmp deliveries.now) stay.now Act.Deliver stay.now.end }
-    ensures { OnOk result (Adds (Misses stays.now.run.now.logs stays.now.ring stay.now) list.old.items list.new.items) }
-{
-    for sender in &stays.list {
-        add_missing_from(list, stays, deliveries, stay, sender)?;
-    }
-    Ok(())
-}
-
-/// Adds the messages that the process of the stay has not delivered.
-fn add_missing(
-    alloc: Global,
-    list: &mut Vec<Pending>,
-    stays: &RingStays,
-    stay: &Stay,
-) -> Result<(), AllocError>
-    requires { IsAmong stays.now.list.items stay.now }
-    ensures { OnOk result (Adds (Misses stays.now.run.now.logs stays.now.ring stay.now) list.old.items list.new.items) }
-{
-    let deliveries = Indexes::of(alloc, stay, Act::Deliver)?;
-    add_missing_by(list, stays, &deliveries, stay)
-}
-
-/// Adds what is pending for the process of this stay.
-fn add_open(
-    alloc: Global,
-    list: &mut Vec<Pending>,
-    stays: &RingStays,
-    stay: &Stay,
-) -> Result<(), AllocError>
-    requires { IsAmong stays.now.list.items stay.now }
-    ensures { OnOk result (Adds (IsPendingFor stays.now.run.now.logs stays.now.ring stay.now.proc) list.old.items list.new.items) }
-{
-    if !is_open(stays, stay) {
-        return Ok(());
-    }
-    add_missing(alloc, list, stays, stay)
-}
-
 /// Adds what is pending in one configuration.
-fn add_pending(alloc: Global, list: &mut Vec<Pending>, stays: &RingStays) -> Result<(), AllocError>
+fn add_pending(list: &mut Vec<Pending>, stays: &Stays) -> Result<(), AllocError>
+    requires { AreKnown stays.now }
     ensures { OnOk result (Adds (IsPendingIn stays.now.run.now.logs stays.now.ring) list.old.items list.new.items) }
 {
     for stay in &stays.list {
-        add_open(alloc, list, stays, stay)?;
+        add_missing(list, stays, stay)?;
     }
     Ok(())
 }
@@ -138,9 +65,9 @@ fn add_ring(
     requires { AreJobs jobs.now.run.now.logs jobs.now }
     ensures { OnOk result (Adds (IsPendingIn jobs.now.run.now.logs ring) list.old.items list.new.items) }
 {
-    let found = jobs.comings.stays(alloc, jobs.run, &jobs.changes, ring)?;
-    let stays = RingStays::of(jobs.run, ring, found);
-    add_pending(alloc, list, &stays)
+    let found = jobs.comings.stays(alloc, jobs.run, ring)?;
+    let stays = Stays::build(alloc, jobs.run, ring, found)?;
+    add_pending(list, &stays)
 }
 
 /// Returns all that is pending in the run of these jobs, by process and then by message.

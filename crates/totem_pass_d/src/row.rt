@@ -1,10 +1,10 @@
 //! A row of numbers, one for each number that a message may have.
-use crate::act::Act;
-use crate::stay::Stay;
+use crate::indexes::delivered_at;
 use std::alloc::{AllocError, Global};
+use totem_evs::Entry;
 use totem_ids::MsgId;
 
-/// How many places a row may have at most for each entry of a stay.
+/// How many places a row may have at most for each entry.
 const SPARSEST: usize = 4;
 
 /// A note for each message by its number, from `first` on. 0 means that nothing is noted.
@@ -22,18 +22,14 @@ struct Span {
 }
 
 impl Span {
-    fn empty() -> Span {
-        Span {
+    /// Returns the span of the numbers of the messages that are delivered in this part of the log.
+    fn of(log: &[Entry], from: usize, end: usize) -> Span {
+        let mut span = Span {
             least: u32::MAX,
             greatest: 0,
-        }
-    }
-
-    /// Returns the span of these numbers and of the messages with which the stay does this.
-    fn with(self, stay: &Stay, act: Act) -> Span {
-        let mut span = self;
-        for at in stay.from..stay.end {
-            if let Some(message) = stay.message_at(act, at) {
+        };
+        for at in from..end {
+            if let Some(message) = delivered_at(log, at) {
                 span.least = span.least.min(message.number);
                 span.greatest = span.greatest.max(message.number);
             }
@@ -68,32 +64,13 @@ impl Row {
         }
     }
 
-    /// Returns the index at which the stay does this, for each message. Nothing is claimed about it: a reader has to check the entry there.
-    pub fn of(alloc: Global, stay: &Stay, act: Act) -> Result<Row, AllocError> {
-        let entries = stay.end.saturating_sub(stay.from);
-        let mut row = Span::empty().with(stay, act).row(alloc, entries)?;
-        for at in stay.from..stay.end {
-            if let Some(message) = stay.message_at(act, at) {
+    /// Returns the index at which each message is delivered in this part of the log. Nothing is claimed about it: a reader has to check
+    /// the entry there.
+    pub fn of(alloc: Global, log: &[Entry], from: usize, end: usize) -> Result<Row, AllocError> {
+        let mut row = Span::of(log, from, end).row(alloc, end.saturating_sub(from))?;
+        for at in from..end {
+            if let Some(message) = delivered_at(log, at) {
                 row.note(&message, u32::try_from(at).unwrap_or(0));
-            }
-        }
-        Ok(row)
-    }
-
-    /// Returns the number of the stay that sends each message. Nothing is claimed about it: a reader has to check that stay.
-    pub fn of_senders(alloc: Global, stays: &[Stay]) -> Result<Row, AllocError> {
-        let mut span = Span::empty();
-        let mut entries = 0usize;
-        for stay in stays {
-            span = span.with(stay, Act::Send);
-            entries = entries.saturating_add(stay.end.saturating_sub(stay.from));
-        }
-        let mut row = span.row(alloc, entries)?;
-        for (number, stay) in stays.iter().enumerate() {
-            for at in stay.from..stay.end {
-                if let Some(message) = stay.message_at(Act::Send, at) {
-                    row.note(&message, u32::try_from(number).unwrap_or(0));
-                }
             }
         }
         Ok(row)

@@ -7,6 +7,7 @@ ghost use Rattle.totem_evs.specs.Answers.{FindsIn};
 ghost use Rattle.totem_evs.specs.AgreementFaults.{IsNotReached};
 ghost use Rattle.totem_evs.specs.Following.{DeliversOrEnds};
 ghost use Rattle.totem_pass_d.specs.Reached.{HoldsNotOfAll};
+ghost use Rattle.totem_pass_d.specs.KnownStays.{AreKnown};
 
 use crate::events::{EventTest, least_event};
 use crate::stay::Stay;
@@ -24,6 +25,7 @@ struct Unreached<'s, 'r> {
 impl Unreached<'_, '_> {
     /// Returns whether this process delivers the message, or is excused from delivering it.
     fn is_reached(&self, proc: Proc, message: &MsgId) -> bool
+        requires { AreKnown self.now.stays.now }
         ensures { IsTrue result ↔ DeliversOrEnds self.now.stays.now.run.now.logs proc self.now.stays.now.ring message.now }
     {
         let Some(stay) = self.stays.stay_of(proc) else {
@@ -40,6 +42,7 @@ impl Unreached<'_, '_> {
 
     /// Returns whether each of these members delivers the message, or is excused from delivering it.
     fn are_reached(&self, members: &[Proc], message: &MsgId) -> bool
+        requires { AreKnown self.now.stays.now }
         ensures all { OnTrue result (All (λ q. DeliversOrEnds self.now.stays.now.run.now.logs q self.now.stays.now.ring message.now) members.now) }
         ensures not_all { OnFalse result (HoldsNotOfAll (λ q. DeliversOrEnds self.now.stays.now.run.now.logs q self.now.stays.now.ring message.now) members.now) }
     {
@@ -50,7 +53,7 @@ impl Unreached<'_, '_> {
 }
 
 impl EventTest for Unreached<'_, '_> {
-    ghost among = { λ s. s.stays.now.list.items };
+    ghost among = { λ s. s.stays.now };
 
     ghost breaks = { λ s. IsNotReached s.stays.now.run.now.logs s.stays.now.ring };
 
@@ -67,7 +70,8 @@ impl EventTest for Unreached<'_, '_> {
 
 /// Returns the least event that breaks 7.1 in this configuration. None is searched for where it is known to be met.
 pub fn find(alloc: Global, stays: &Stays, is_met: bool) -> Result<Option<Places>, AllocError>
-    requires { OnTrue is_met (MeetsIn stays.now.run.now.logs stays.now.ring SpecNo.Safety) }
+    requires known { AreKnown stays.now }
+    requires met { OnTrue is_met (MeetsIn stays.now.run.now.logs stays.now.ring SpecNo.Safety) }
     ensures { IfOk result (FindsIn stays.now.run.now.logs stays.now.ring SpecNo.Safety) }
 {
     if is_met {

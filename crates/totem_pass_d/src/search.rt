@@ -4,8 +4,10 @@ ghost use Rattle.totem_ids.specs.declared.place.Place.{Place};
 ghost use Rattle.totem_table.specs.Search.{place, NoneFrom, IsLeastFrom, HoldsOfNone};
 ghost use Rattle.totem_evs.specs.Answers.{IsLeast};
 ghost use Rattle.totem_pass_d.specs.declared.stay.Stay.{Stay};
+ghost use Rattle.totem_pass_d.specs.declared.stays.Stays.{Stays};
+ghost use Rattle.totem_pass_d.specs.KnownStays.{AreKnown};
 ghost use Rattle.totem_pass_d.specs.Acts.{IsAmong};
-ghost use Rattle.totem_pass_d.specs.Search.{IsInside, EachBeginsWithin, NoneWithin, IsLeastWithin, IsShort};
+ghost use Rattle.totem_pass_d.specs.Search.{IsInside, EachBeginsWithin, NoneWithin, IsLeastWithin};
 
 use crate::stay::Stay;
 use crate::stays::Stays;
@@ -17,14 +19,15 @@ use totem_table::{begin_at, places_of};
 /// A relation on lists of events that start in one of the stays.
 pub trait Relation {
     /// The stays.
-    ghost among: { Self → List Stay };
+    ghost among: { Self → Stays };
 
     /// What the relation means for a list of places.
     ghost holds: { Self → List Place → Type 0 };
 
     /// Returns the rest of the least list that starts at this index of a stay.
     fn rest(&self, alloc: Global, stay: &Stay, at: usize) -> Result<Option<Vec<Place>>, AllocError>
-        requires among { IsAmong (among self.now) stay.now }
+        requires known { AreKnown (among self.now) }
+        requires among { IsAmong (among self.now).list.items stay.now }
         requires inside { IsInside stay.now at }
         ensures { IfOk result (λ found. MatchOption found (NoneFrom (holds self.now) stay.now.proc at) (λ rest. IsLeastFrom (holds self.now) stay.now.proc at rest.items)) };
 }
@@ -32,7 +35,7 @@ pub trait Relation {
 /// A relation on lists of events for which the least list that starts in a stay can be found.
 pub trait Finder {
     /// The stays.
-    ghost among: { Self → List Stay };
+    ghost among: { Self → Stays };
 
     /// The indices of a stay at which a list may start.
     ghost reaches: { Self → Stay → ℕ → Type 0 };
@@ -42,8 +45,8 @@ pub trait Finder {
 
     /// Returns the least list that starts in this stay.
     fn find_in(&self, alloc: Global, stay: &Stay) -> Result<Option<Vec<Place>>, AllocError>
-        requires among { IsAmong (among self.now) stay.now }
-        requires short { IsShort stay.now }
+        requires known { AreKnown (among self.now) }
+        requires among { IsAmong (among self.now).list.items stay.now }
         ensures { IfOk result (λ found. MatchOption found (NoneWithin (reaches self.now) (holds self.now) stay.now) (λ list. IsLeastWithin (reaches self.now) (holds self.now) stay.now list.items)) };
 }
 
@@ -84,8 +87,8 @@ pub fn least_in<R: Relation>(
     alloc: Global,
     stay: &Stay,
 ) -> Result<Option<Vec<Place>>, AllocError>
-    requires among { IsAmong (R.among relation.now) stay.now }
-    requires short { IsShort stay.now }
+    requires known { AreKnown (R.among relation.now) }
+    requires among { IsAmong (R.among relation.now).list.items stay.now }
     ensures { IfOk result (λ found. MatchOption found (NoneWithin IsInside (R.holds relation.now) stay.now) (λ list. IsLeastWithin IsInside (R.holds relation.now) stay.now list.items)) }
 {
     EachIndex { relation }.find_in(alloc, stay)
@@ -97,7 +100,8 @@ pub fn first_found<F: Finder>(
     alloc: Global,
     stays: &Stays,
 ) -> Result<Option<Vec<Place>>, AllocError>
-    requires among { F.among finder.now ≡ stays.now.list.items }
+    requires known { AreKnown stays.now }
+    requires among { F.among finder.now ≡ stays.now }
     requires begins { EachBeginsWithin stays.now.list.items (F.reaches finder.now) (F.holds finder.now) }
     ensures { IfOk result (λ found. MatchOption found (HoldsOfNone (F.holds finder.now)) (λ list. IsLeast (F.holds finder.now) list.items)) }
 {
@@ -115,7 +119,8 @@ pub fn least_list<R: Relation>(
     alloc: Global,
     stays: &Stays,
 ) -> Result<Option<Vec<Place>>, AllocError>
-    requires among { R.among relation.now ≡ stays.now.list.items }
+    requires known { AreKnown stays.now }
+    requires among { R.among relation.now ≡ stays.now }
     requires begins { EachBeginsWithin stays.now.list.items IsInside (R.holds relation.now) }
     ensures { IfOk result (λ found. MatchOption found (HoldsOfNone (R.holds relation.now)) (λ list. IsLeast (R.holds relation.now) list.items)) }
 {
@@ -128,7 +133,8 @@ pub fn least<R: Relation>(
     alloc: Global,
     stays: &Stays,
 ) -> Result<Option<Places>, AllocError>
-    requires among { R.among relation.now ≡ stays.now.list.items }
+    requires known { AreKnown stays.now }
+    requires among { R.among relation.now ≡ stays.now }
     requires begins { EachBeginsWithin stays.now.list.items IsInside (R.holds relation.now) }
     ensures { IfOk result (λ found. MatchOption found (HoldsOfNone (R.holds relation.now)) (IsLeast (R.holds relation.now))) }
 {
@@ -141,7 +147,8 @@ pub fn least_found<F: Finder>(
     alloc: Global,
     stays: &Stays,
 ) -> Result<Option<Places>, AllocError>
-    requires among { F.among finder.now ≡ stays.now.list.items }
+    requires known { AreKnown stays.now }
+    requires among { F.among finder.now ≡ stays.now }
     requires begins { EachBeginsWithin stays.now.list.items (F.reaches finder.now) (F.holds finder.now) }
     ensures { IfOk result (λ found. MatchOption found (HoldsOfNone (F.holds finder.now)) (IsLeast (F.holds finder.now))) }
 {

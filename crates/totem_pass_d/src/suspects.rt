@@ -2,6 +2,7 @@
 //! (docs/SPECIFICATIONS.md, "5 Causal delivery"). Other messages need not be searched as causes.
 ghost use Rattle.std.specs.Prelude.{◌≡◌, IfSome, IfNone, IfOk, OnOk, length};
 ghost use Rattle.std.specs.Bool.{OnTrue};
+ghost use Rattle.totem_pass_d.specs.KnownStays.{AreKnown};
 ghost use Rattle.totem_pass_d.specs.Acts.{IsAmong};
 ghost use Rattle.totem_pass_d.specs.Suspects.{Handles, HandlesNothing, ComesBefore, IsEarlier, IsNoted, HasAllOf, AreNoted, AllNoted, AreSuspects};
 
@@ -25,7 +26,8 @@ fn handled(entry: &Entry) -> Option<MsgId>
 
 /// Returns whether the receiver delivers the message before this index of its log.
 fn comes_before(stays: &Stays, receiver: &Stay, message: &MsgId, index: usize) -> bool
-    requires { IsAmong stays.now.list.items receiver.now }
+    requires known { AreKnown stays.now }
+    requires among { IsAmong stays.now.list.items receiver.now }
     ensures { OnTrue result (ComesBefore stays.now.run.now.logs stays.now.ring receiver.now.proc message.now index) }
 {
     match stays.delivery_of(receiver, message) {
@@ -36,7 +38,8 @@ fn comes_before(stays: &Stays, receiver: &Stay, message: &MsgId, index: usize) -
 
 /// Returns the earlier of this index and the index at which the receiver delivers what the entry sends.
 fn earlier(stays: &Stays, receiver: &Stay, entry: &Entry, early: usize) -> usize
-    requires { IsAmong stays.now.list.items receiver.now }
+    requires known { AreKnown stays.now }
+    requires among { IsAmong stays.now.list.items receiver.now }
     ensures { IsEarlier stays.now.run.now.logs stays.now.ring receiver.now.proc entry.now early result }
 {
     let Entry::Send(message, _, _) = entry else {
@@ -57,7 +60,8 @@ fn note(
     entry: &Entry,
     early: usize,
 ) -> Result<(), AllocError>
-    requires { IsAmong stays.now.list.items receiver.now }
+    requires known { AreKnown stays.now }
+    requires among { IsAmong stays.now.list.items receiver.now }
     ensures noted { OnOk result (IsNoted ⟦<MsgId as Ord>⟧.cmp suspects.new stays.now.run.now.logs stays.now.ring receiver.now entry.now early) }
     ensures kept { OnOk result (HasAllOf ⟦<MsgId as Ord>⟧.cmp suspects.new suspects.old) }
 {
@@ -81,6 +85,7 @@ fn note_pair(
     sender: &Stay,
     receiver: &Stay,
 ) -> Result<(), AllocError>
+    requires known { AreKnown stays.now }
     requires sender { IsAmong stays.now.list.items sender.now }
     requires receiver { IsAmong stays.now.list.items receiver.now }
     ensures noted { OnOk result (AreNoted ⟦<MsgId as Ord>⟧.cmp suspects.new stays.now.run.now.logs stays.now.ring sender.now receiver.now) }
@@ -104,7 +109,8 @@ fn note_sender(
     stays: &Stays,
     sender: &Stay,
 ) -> Result<(), AllocError>
-    requires { IsAmong stays.now.list.items sender.now }
+    requires known { AreKnown stays.now }
+    requires among { IsAmong stays.now.list.items sender.now }
     ensures noted { OnOk result (AllNoted ⟦<MsgId as Ord>⟧.cmp suspects.new stays.now.run.now.logs stays.now.ring stays.now.list.items sender.now (length stays.now.list.items)) }
     ensures kept { OnOk result (HasAllOf ⟦<MsgId as Ord>⟧.cmp suspects.new suspects.old) }
 {
@@ -117,6 +123,7 @@ fn note_sender(
 /// Returns the messages that some process sent or delivered before it sent another one, and for which some process delivers the other
 /// one alone or first. Walks each pair of stays once.
 pub fn suspects_of(alloc: Global, stays: &Stays) -> Result<BTreeSet<MsgId>, AllocError>
+    requires { AreKnown stays.now }
     ensures { IfOk result (λ suspects. AreSuspects ⟦<MsgId as Ord>⟧.cmp suspects stays.now.run.now.logs stays.now.ring stays.now.list.items (length stays.now.list.items)) }
 {
     let mut suspects = BTreeSet::new(alloc);

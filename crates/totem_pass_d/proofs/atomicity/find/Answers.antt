@@ -5,7 +5,7 @@ use Rattle.totem_pass_d.proofs.AtomicityFaults.{deliveries_begin, atomic}
 use Rattle.totem_pass_d.proofs.atomicity.find.Goals as goal
 
 pub least-requires-clause-begins : goal.least-requires-clause-begins
-least-requires-clause-begins c = deliveries_begin _ _ _ (facts_of c.args.stays.now)
+least-requires-clause-begins c = deliveries_begin _ _ _ (facts_of c.args.stays.now c.requires.known)
 
 pub returns : goal.returns
 returns c = answered c.least.result c.args.stays.now.run.now.logs c.args.stays.now.ring spec.Atomicity (atomic _ _) c.least.ensures

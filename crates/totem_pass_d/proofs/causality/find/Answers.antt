@@ -5,7 +5,7 @@ use Rattle.totem_pass_d.proofs.CausalityFaults.{causes_begin, causal}
 use Rattle.totem_pass_d.proofs.causality.find.Goals as goal
 
 pub least-requires-clause-begins : goal.least-requires-clause-begins
-least-requires-clause-begins c = causes_begin _ _ _ (facts_of c.args.stays.now)
+least-requires-clause-begins c = causes_begin _ _ _ (facts_of c.args.stays.now c.requires.known)
 
 pub returns : goal.returns
 returns c = answered c.least.result c.args.stays.now.run.now.logs c.args.stays.now.ring spec.Causality (causal _ _) c.least.ensures

@@ -6,13 +6,13 @@ use Rattle.totem_pass_d.proofs.gap.last_common.Goals as goal
 pub back-init : goal.back-init
 back-init c =
     let s = c.args.stays.now in
-    let of = facts_of s in
+    let of = facts_of s c.requires.known in
     record { apart = apart_at_end s.run.now.logs s.ring s.list.items c.args.leader.now c.args.follower.now.proc of c.requires.leader; until = omega arith }
 
 pub overflow_add-leader : goal.overflow_add-leader
 overflow_add-leader c =
     let s = c.args.stays.now in
-    let of = (facts_of s).each c.args.leader.now c.requires.leader in
+    let of = (facts_of s c.requires.known).each c.args.leader.now c.requires.leader in
     omega (arith, of.before, of.until, of.few)
 
 pub back-preserved : goal.back-preserved

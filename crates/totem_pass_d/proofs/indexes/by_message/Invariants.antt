@@ -4,4 +4,4 @@ use Rattle.totem_pass_d.specs.Indexes.{Tells}
 use Rattle.totem_pass_d.proofs.indexes.by_message.Given as goal
 
 abbrev pub invariant-loop-at : goal.invariant-loop-at
-invariant-loop-at l = Tells (tree.get message.cmp-value.it l.map) l.stay l.act l.at
+invariant-loop-at l = Tells (tree.get message.cmp-value.it l.map) l.log l.from l.end l.at

@@ -1,7 +1,7 @@
 use Rattle.totem_pass_d.specs.Pendings.{Adds}
-use Rattle.totem_pass_d.proofs.Adding.{Between}
-use Rattle.totem_pass_d.proofs.WhatIsPending.{PendingOf}
+use Rattle.totem_pass_d.proofs.Adding.{AtSome}
+use Rattle.totem_pass_d.proofs.WhatIsPending.{IsPendingThere}
 use Rattle.totem_pass_d.proofs.pendings.add_pending.Given as goal
 
 abbrev pub invariant-loop-stay : goal.invariant-loop-stay
-invariant-loop-stay l = Adds (Between (PendingOf l.stays.run.now.logs l.stays.ring l.stays.list.items) 0 l.stay-index) l.fn.list.items l.list.items
+invariant-loop-stay l = Adds (AtSome (IsPendingThere l.stays.run.now.logs l.stays.ring) l.stays.list.items l.stay-index) l.fn.list.items l.list.items

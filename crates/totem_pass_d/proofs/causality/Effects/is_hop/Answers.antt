@@ -7,17 +7,16 @@ use Rattle.totem_pass_d.proofs.causality.Effects.is_hop.Goals.{else-eq-via-then-
 
 pub returns-in-None : goal.returns-in-None
 returns-in-None c =
-    let of = facts_of c.args.self.now.stays.now in
     no_hop _ _ c.args.stay.now _ c.args.self.now.proc c.args.self.now.at c.args.at
     (λ (same, lt). elim c.else-eq.branch [
       | else-eq-via-then-eq+else-self-at w ↦ (let le = w.if-self-at.false in omega arith)
       | else-eq-via-else-eq w ↦ absurd (other_parts c.args.stay.now.proc c.args.self.now.proc same (rw w.if-eq.false at c.eq.ensures))
     ])
-    (of.each c.args.stay.now c.requires.among) c.in-None.ensures.none
+    c.in-None.ensures.none
 
 pub returns-in-Some : goal.returns-in-Some
 returns-in-Some c =
-    let of = facts_of c.args.self.now.stays.now in
+    let of = facts_of c.args.self.now.stays.now c.requires.known in
     hop_by_delivery _ _ _ c.args.stay.now _ c.args.self.now.proc c.args.self.now.at c.args.at c.in-Some.before _
     (λ (same, lt). elim c.else-eq.branch [
       | else-eq-via-then-eq+else-self-at w ↦ (let le = w.if-self-at.false in omega arith)

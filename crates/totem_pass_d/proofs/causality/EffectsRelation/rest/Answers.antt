@@ -6,15 +6,15 @@ use Rattle.totem_pass_d.proofs.causality.EffectsRelation.rest.Goals as goal
 
 pub is_hop-requires-clause-before : goal.is_hop-requires-clause-before
 is_hop-requires-clause-before c =
-    let of = facts_of c.args.self.now.stays.now in
+    let of = facts_of c.args.self.now.stays.now c.requires.known in
     (send_here _ _ _ c.args.stay.now _ _ _ _ of c.requires.among c.requires.inside (rw c.in-Send.is at c.entry_in.ensures)).1
 
 pub first_found-requires-clause-begins : goal.first_found-requires-clause-begins
-first_found-requires-clause-begins c = surprises_begin _ _ _ _ _ (facts_of c.args.self.now.stays.now)
+first_found-requires-clause-begins c = surprises_begin _ _ _ _ _ (facts_of c.args.self.now.stays.now c.requires.known)
 
 pub returns : goal.returns
 returns c =
-    let of = facts_of c.args.self.now.stays.now in
+    let of = facts_of c.args.self.now.stays.now c.requires.known in
     let at = rw c.in-Send.is at c.entry_in.ensures in
     reworded c.first_found.result _ _ _ _
     (λ none. none_surprised _ _ c.args.self.now.cause.now _ _ _ (_) _ _ at none)

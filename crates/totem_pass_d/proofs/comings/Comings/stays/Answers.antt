@@ -1,41 +1,42 @@
-use Rattle.std.proofs.Common.{◌≡◌, ◌<◌, [], length, refl, ap, ◌∙◌, get_or, arith}
-use Rattle.std.proofs.lemmas.List.{get_or_default}
-use Rattle.std.proofs.lemmas.Option.{slice_get_read, slice_get-get_or, slice_get_within}
+use Rattle.std.proofs.Common.{refl, sym, ap, ◌∙◌}
+use Rattle.std.proofs.lemmas.Option.{slice_get_read}
+use Rattle.totem_evs.specs.LogRecord.{LogRecord}
 use Rattle.totem_evs.specs.RunRecord.{RunRecord}
-use Rattle.totem_pass_d.specs.Arrivals.{AreArrivals}
-use Rattle.totem_pass_d.proofs.Building.{stay_at, one_more_stay, all_stays}
+use Rattle.totem_pass_d.proofs.Building.{few_entries, no_more, one_more, stay_at, from_within, all_stays}
+use Rattle.totem_pass_d.proofs.comings.Comings.stays.Goals.{in-Some+in_ok-stay_from+in_ok-push, in_default}
 use Rattle.totem_pass_d.proofs.comings.Comings.stays.Goals as goal
 
-pub stay_from-stay-requires-clause-lists : goal.stay_from-stay-requires-clause-lists
-stay_from-stay-requires-clause-lists c =
+pub stay_from-requires-clause-within : goal.stay_from-requires-clause-within
+stay_from-requires-clause-within c =
     let runs = ap (λ (r : RunRecord). r.logs) c.run.view_is in
-    let run = c.args.run.now.logs in
-    let arrivals = c.deref-arrival-items.result.now in
-    let are : AreArrivals run c.args.ring arrivals = rw (← c.deref-arrival-items.ensures.value) at c.in_ok-arrivals.ensures in
-    let arrival = get_or arrivals c.loop-arrival.arrival-index (record { log = 0; at = 0 }) in
-    let there = slice_get_within run arrival.log _ (are.each c.loop-arrival.arrival-index (record { log = 0; at = 0 }) c.loop-arrival-test.true).stands in
-    let stands = slice_get_read run _ arrival.log c.index-logs-arrival.result refl there (rw (c.as_slice-logs.ensures.value ∙ runs) at c.index-logs-arrival.is) in
-    let rows = c.args.changes.now.rows.items in
-    let within : arrival.log < length rows = omega (arith, c.requires.changes.long, there) in
-    let row : c.as_slice-row.result.now ≡ get_or rows arrival.log [] = (c.as_slice-row.ensures ∙ c.index.ensures) ∙ get_or_default rows arrival.log _ [] within in
-    rw row (c.requires.changes.each arrival.log _ _ stands (slice_get-get_or rows arrival.log [] within))
+    let at = slice_get_read c.as_slice-log-items.result.now _ c.loop-log.log-index c.log-item.result refl c.loop-log-test.true c.log-item.is in
+    let procs = ap (λ (l : LogRecord). l.proc) c.log.view_is in
+    let value = rw procs at c.get.ensures.value in
+    let found = sym (rw c.in-Some.is at value) in
+    from_within c.args.run.now.logs c.args.ring c.loop-log.log-index c.log-item.result (rw runs at c.as_slice-log-items.ensures.run) (rw (c.as_slice-log-items.ensures.value ∙ runs) at at) _ _ _ _ _ c.requires.comings found
 
-pub loop-arrival-preserved : goal.loop-arrival-preserved
-loop-arrival-preserved c =
+pub stay_from-requires-clause-few : goal.stay_from-requires-clause-few
+stay_from-requires-clause-few c =
     let runs = ap (λ (r : RunRecord). r.logs) c.run.view_is in
-    let run = c.args.run.now.logs in
-    let arrivals = c.deref-arrival-items.result.now in
-    let are : AreArrivals run c.args.ring arrivals = rw (← c.deref-arrival-items.ensures.value) at c.in_ok-arrivals.ensures in
-    let arrival = get_or arrivals c.loop-arrival.arrival-index (record { log = 0; at = 0 }) in
-    let listed = slice_get-get_or arrivals c.loop-arrival.arrival-index (record { log = 0; at = 0 }) c.loop-arrival-test.true in
-    let stands = slice_get_read run _ arrival.log c.index-logs-arrival.result refl (slice_get_within run arrival.log _ (are.each c.loop-arrival.arrival-index (record { log = 0; at = 0 }) c.loop-arrival-test.true).stands) (rw (c.as_slice-logs.ensures.value ∙ runs) at c.index-logs-arrival.is) in
-    let h = c.stay_from-stay.ensures in
-    rw c.in_ok-extend_from_slice.ensures.items
-    (one_more_stay run c.args.ring arrivals _ _ arrival c.stay_from-stay.result listed
-    (stay_at run c.args.ring arrivals _ arrival _ c.stay_from-stay.result c.requires.meets (rw runs at c.as_slice-logs.ensures.run) are listed stands h.proc h.log h.quiet h.from h.next)
-    c.loop-arrival.invariant)
+    let at = slice_get_read c.as_slice-log-items.result.now _ c.loop-log.log-index c.log-item.result refl c.loop-log-test.true c.log-item.is in
+    few_entries c.args.run.now.logs c.args.ring c.loop-log.log-index c.log-item.result (rw runs at c.as_slice-log-items.ensures.run) (rw (c.as_slice-log-items.ensures.value ∙ runs) at at)
+
+pub loop-log-preserved : goal.loop-log-preserved
+loop-log-preserved c =
+    let runs = ap (λ (r : RunRecord). r.logs) c.run.view_is in
+    let at = slice_get_read c.as_slice-log-items.result.now _ c.loop-log.log-index c.log-item.result refl c.loop-log-test.true c.log-item.is in
+    let there = rw (c.as_slice-log-items.ensures.value ∙ runs) at at in
+    let is_run = rw runs at c.as_slice-log-items.ensures.run in
+    let procs = ap (λ (l : LogRecord). l.proc) c.log.view_is in
+    let value = rw procs at c.get.ensures.value in
+    elim c.match-get.branch [
+      | in-Some+in_ok-stay_from+in_ok-push w ↦ (let h = w.in_ok-stay_from.ensures in rw (w.list-is, w.in_ok-push.ensures.items)
+          (one_more _ _ _ _ is_run there _ w.in_ok-stay_from.field-0 h.proc
+          (stay_at _ _ _ _ is_run there _ _ _ _ _ w.in_ok-stay_from.field-0 c.requires.comings (sym (rw w.in-Some.is at value)) c.requires.meets h) c.loop-log.invariant))
+      | in_default w ↦ rw w.list-is (no_more _ _ _ _ is_run there _ _ _ _ _ c.requires.comings (sym (rw w.in_default.is at value)) c.loop-log.invariant)
+    ]
 
 pub returns : goal.returns
 returns c =
     let runs = ap (λ (r : RunRecord). r.logs) c.run.view_is in
-    all_stays c.args.run.now.logs c.args.ring c.deref-arrival-items.result.now c.loop-arrival.list.items _ (rw runs at c.as_slice-logs.ensures.run) (rw (← c.deref-arrival-items.ensures.value) at c.in_ok-arrivals.ensures) c.loop-arrival-test.false c.loop-arrival.invariant
+    all_stays _ _ _ _ (rw (← (c.as_slice-log-items.ensures.value ∙ runs)) c.loop-log-test.false) c.loop-log.invariant

@@ -1,5 +1,5 @@
-use Rattle.totem_pass_d.proofs.Building.{Gathered}
+use Rattle.totem_pass_d.proofs.Building.{AreOfFirst}
 use Rattle.totem_pass_d.proofs.comings.Comings.stays.Given as goal
 
-abbrev pub invariant-loop-arrival : goal.invariant-loop-arrival
-invariant-loop-arrival l = Gathered l.run.logs l.fn.ring l.arrival-items l.list.items l.arrival-index
+abbrev pub invariant-loop-log : goal.invariant-loop-log
+invariant-loop-log l = AreOfFirst l.run.logs l.fn.ring l.log-index l.list.items

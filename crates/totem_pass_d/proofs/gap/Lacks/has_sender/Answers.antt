@@ -4,5 +4,5 @@ use Rattle.totem_pass_d.proofs.gap.Lacks.has_sender.Goals as goal
 
 pub returns : goal.returns
 returns c =
-    let of = facts_of c.args.self.now.stays.now in
-    tells_member _ _ _ _ c.args.stay.now.log.now _ _ of.meets (of.each c.args.stay.now c.requires.among).log c.members_at.ensures c.is_among.ensures
+    let of = facts_of c.args.self.now.stays.now c.requires.known in
+    tells_member _ _ _ _ _ _ of.meets c.members_at.ensures c.is_among.ensures

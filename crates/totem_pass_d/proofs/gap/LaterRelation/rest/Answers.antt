@@ -4,11 +4,11 @@ use Rattle.totem_pass_d.proofs.GapFaults.{lacks_begin, none_without_lack, least_
 use Rattle.totem_pass_d.proofs.gap.LaterRelation.rest.Goals as goal
 
 pub first_found-requires-clause-begins : goal.first_found-requires-clause-begins
-first_found-requires-clause-begins c = lacks_begin _ _ _ _ _ _ (facts_of c.args.self.now.stays.now)
+first_found-requires-clause-begins c = lacks_begin _ _ _ _ _ _ (facts_of c.args.self.now.stays.now c.requires.known)
 
 pub returns : goal.returns
 returns c =
-    let of = facts_of c.args.self.now.stays.now in
+    let of = facts_of c.args.self.now.stays.now c.requires.known in
     let at = rw c.in-Deliver.is at c.entry_in.ensures in
     reworded c.first_found.result _ _ _ _
     (λ none. none_without_lack _ _ _ _ _ _ _ _ _ at none)

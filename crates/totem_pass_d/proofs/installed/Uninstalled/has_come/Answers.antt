@@ -5,7 +5,7 @@ use Rattle.totem_pass_d.proofs.installed.Uninstalled.has_come.Goals as goal
 pub returns-in-Some : goal.returns-in-Some
 returns-in-Some c =
     let s = c.args.self.now.stays.now in
-    let is = (facts_of s).each c.in-Some.field-0.now c.in-Some.ensures.found in
+    let is = (facts_of s c.requires).each c.in-Some.field-0.now c.in-Some.ensures.found in
     (λ t. rw (← c.in-Some.ensures.proc) (c.in-Some.field-0.now.from, is.is.change), λ h. refl)
 
 pub returns-in-None : goal.returns-in-None

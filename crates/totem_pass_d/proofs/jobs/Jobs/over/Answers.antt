@@ -7,7 +7,6 @@ returns c = record {
   logs = refl;
   meets = c.requires.meets;
   rings = rw (c.in_ok-rings.ensures.keys) (are_rings _ c.in_ok-comings.comings.rings c.in_ok-comings.comings.indices _ c.in_ok-comings.ensures c.in_ok-rings.ensures.ordered);
-  changes = c.requires.changes;
   observed = c.requires.observed;
   comings = c.in_ok-comings.ensures;
 }

@@ -9,17 +9,16 @@ returns-in_default-clause-never c = let s = c.args.self.now.stays.now in owned_n
 pub returns-then-is_excused-clause-never : goal.returns-then-is_excused-clause-never
 returns-then-is_excused-clause-never c =
     let s = c.args.self.now.stays.now in
-    let is = (facts_of s).each c.args.stay.now c.requires.among in
+    let is = (facts_of s c.requires.known).each c.args.stay.now c.requires.among in
     owned_excused s.run.now.logs s.ring c.args.stay.now c.args.at is (c.if-is_excused.ensures.0 refl)
 
 pub returns-in-Some-clause-never : goal.returns-in-Some-clause-never
 returns-in-Some-clause-never c =
     let s = c.args.self.now.stays.now in
-    let is = (facts_of s).each c.args.stay.now c.requires.among in
-    owned_delivered s.run.now.logs s.ring c.args.stay.now c.args.at _ _ _ _ is (rw c.in-Send.is at c.entry_in.ensures) c.in-Some.ensures.found
+    owned_delivered s.run.now.logs s.ring c.args.stay.now c.args.at _ _ _ _ (rw c.in-Send.is at c.entry_in.ensures) c.in-Some.ensures.found
 
 pub returns-in-None-clause-there : goal.returns-in-None-clause-there
 returns-in-None-clause-there c =
     let s = c.args.self.now.stays.now in
-    let is = (facts_of s).each c.args.stay.now c.requires.among in
+    let is = (facts_of s c.requires.known).each c.args.stay.now c.requires.among in
     owned_never s.run.now.logs s.ring c.args.stay.now c.args.at _ _ _ is c.requires.inside (rw c.in-Send.is at c.entry_in.ensures) (λ e. let t = c.if-is_excused.ensures.1 e in cc) c.in-None.ensures.none

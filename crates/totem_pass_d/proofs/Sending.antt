@@ -1,0 +1,156 @@
+-- The sends of the stays, noted entry by entry and stay by stay.
+use Rattle.std.proofs.Common.{◌≡◌, ℕ, ◌+◌, ◌<◌, ◌≤◌, inl, inr, List, length, slice_get, Some, None, true, refl, sym, ◌∙◌, ap, arith}
+use Rattle.std.specs.Prelude.{All}
+use Rattle.std.specs.BTreeMap.{BTreeMap}
+use Rattle.std.specs.BTreeMap as tree
+use Rattle.std.proofs.lemmas.Option.{slice_get_within}
+use Rattle.totem_ids.specs.declared.ring.RingId.{RingId}
+use Rattle.totem_ids.specs.declared.conf.ConfId.{ConfId}
+use Rattle.totem_ids.specs.declared.conf.ConfId.TheVariants.{Regular}
+use Rattle.totem_ids.specs.declared.message.MsgId.{MsgId}
+use Rattle.totem_ids.specs.declared.message.Service.{Service}
+use Rattle.totem_ids.specs.contracts.message.MsgIdOrd.TheImpl as message
+use Rattle.totem_evs.specs.declared.entry.Entry.{Entry}
+use Rattle.totem_evs.specs.declared.entry.Entry.TheVariants.{Send}
+use Rattle.totem_evs.specs.declared.log.Log.{Log}
+use Rattle.totem_evs.specs.Events.{Sends, log_of}
+use Rattle.totem_evs.specs.Answers.{MeetsPasses}
+use Rattle.totem_evs.proofs.LogOf.{less_or_not}
+use Rattle.totem_ids.proofs.Exact.{equal_at, apart_or_at, exact_message}
+use Rattle.totem_run_rules.specs.Stays.{IsStay}
+use Rattle.totem_run_rules.proofs.Staying.{names_no_change}
+use Rattle.totem_pass_d.specs.declared.stay.Stay.{Stay}
+use Rattle.totem_pass_d.specs.declared.stays.Sending.{Sending}
+use Rattle.totem_pass_d.specs.Stays.{IsShortStay, HasStay, AreStays}
+use Rattle.totem_pass_d.specs.Acts.{IsSendingOf}
+use Rattle.totem_pass_d.specs.Sends.{IsSendOf, NotesSends, IsSendOfOne, HasSends, AreSends}
+use Rattle.totem_pass_d.proofs.Searching.{stay_of}
+
+-- the stays of a run are short
+pub are_short : (run : List Log) (c : RingId) (stays : List Stay) → AreStays run c stays → All IsShortStay stays
+are_short run c stays are = λ k d lt. (let is = are.each k d lt in record { before = is.is.before; within = omega (arith, is.is.until, is.is.within); few = is.few })
+
+-- ---- entry by entry
+
+pub notes_yet : (stay : Stay) (sends : BTreeMap MsgId Sending) → NotesSends stay (stay.from + 1) sends sends
+notes_yet stay sends = record {
+  only = λ m sending at. inl at;
+  kept = λ m none. none;
+  whole = record { each = λ i m x v after until at none. omega arith };
+}
+
+-- the entry at n is no send
+pub notes_nothing : (stay : Stay) (n : ℕ) (old now : BTreeMap MsgId Sending) (e : Entry) → slice_get stay.log.now n ≡ Some e → ((m : MsgId) (x : ConfId) (v : Service) → e ≡ Send m x v → ⊥) → NotesSends stay n old now → NotesSends stay (n + 1) old now
+notes_nothing stay n old now e at_n other before = record {
+  only = before.only;
+  kept = before.kept;
+  whole = record {
+    each = λ i m x v after until at none. elim (less_or_not i n) [
+      | inl under ↦ before.whole.each i m x v after under at none
+      | inr rest ↦ elim rest [ inl over ↦ omega arith | inr same ↦ (let there : slice_get stay.log.now n ≡ Some (Send m x v) = rw same at at in other m x v cc) ]
+    ];
+  };
+}
+
+-- the send at n is noted
+pub notes_one : (stay : Stay) (n : ℕ) (old now new : BTreeMap MsgId Sending) (e : Entry) (m : MsgId) (x : ConfId) (v : Service) (sending : Sending) → slice_get stay.log.now n ≡ Some e → e ≡ Send m x v → stay.from < n → n < stay.turn
+    → sending.proc ≡ stay.proc → sending.at ≡ n → sending.service ≡ v → tree.Updates message.cmp-value.it now new m (Some sending) → NotesSends stay n old now → NotesSends stay (n + 1) old new
+notes_one stay n old now new e m x v sending at_e sends after until proc index service h before = record {
+  only = λ k s at. elim (apart_or_at message.cmp-value.it m k) [
+    | inl here ↦ (let same = exact_message m k (equal_at (message.cmp-value.it m k) here) in let found : tree.get message.cmp-value.it new m ≡ Some s = rw (← same) at at in let noted = h.1 in let one : sending ≡ s = cc in inr (rw (← one, ← same) is))
+    | inr apart ↦ before.only k s (sym (h.2 k apart) ∙ at)
+  ];
+  kept = λ k none. elim (apart_or_at message.cmp-value.it m k) [
+    | inl here ↦ absurd (not_none k here none)
+    | inr apart ↦ before.kept k (sym (h.2 k apart) ∙ none)
+  ];
+  whole = record {
+    each = λ i k y w over below at none. elim (apart_or_at message.cmp-value.it m k) [
+      | inl here ↦ not_none k here none
+      | inr apart ↦ elim (less_or_not i n) [
+        | inl under ↦ before.whole.each i k y w over under at (sym (h.2 k apart) ∙ none)
+        | inr rest ↦ elim rest [ inl past ↦ omega arith | inr same ↦ not_none_here i k y w same at none ]
+      ]
+    ];
+  };
+}
+  where
+    at_n : slice_get stay.log.now n ≡ Some (Send m x v)
+    at_n = rw sends at at_e
+
+    is : IsSendOf stay m sending
+    is = record { conf = x; proc = proc; after = rw index after; until = rw index until; sends = rw (index, service) at_n }
+
+    not_none : (k : MsgId) → tree.is_at (message.cmp-value.it m) k ≡ true → tree.get message.cmp-value.it new k ≡ None → ⊥
+    not_none k here none = (let same = exact_message m k (equal_at (message.cmp-value.it m k) here) in let found : tree.get message.cmp-value.it new m ≡ None = rw (← same) at none in let noted = h.1 in cc)
+
+    not_none_here : (i : ℕ) (k : MsgId) (y : ConfId) (w : Service) → i ≡ n → slice_get stay.log.now i ≡ Some (Send k y w) → tree.get message.cmp-value.it new k ≡ None → ⊥
+    not_none_here i k y w same at none =
+        let there : slice_get stay.log.now n ≡ Some (Send k y w) = rw same at at in
+        let one : k ≡ m = cc in
+        let found : tree.get message.cmp-value.it new m ≡ None = rw one at none in
+        let noted = h.1 in cc
+
+pub notes_whole : (stay : Stay) (n : ℕ) (old now : BTreeMap MsgId Sending) → stay.turn ≤ n → NotesSends stay n old now → NotesSends stay stay.turn old now
+notes_whole stay n old now end before = record {
+  only = before.only;
+  kept = before.kept;
+  whole = record { each = λ i m x v after until at none. before.whole.each i m x v after (omega arith) at none };
+}
+
+-- ---- stay by stay
+
+pub sends_yet : (stays : List Stay) (sends : BTreeMap MsgId Sending) → tree.IsEmpty sends → HasSends stays 0 sends
+sends_yet stays sends empty = record {
+  only = λ m sending at. absurd (let none : tree.get message.cmp-value.it sends m ≡ None = rw empty refl in cc);
+  whole = λ k stay lt at. absurd (omega arith);
+}
+
+pub sends_more : (stays : List Stay) (n : ℕ) (old new : BTreeMap MsgId Sending) (stay : Stay) → slice_get stays n ≡ Some stay → NotesSends stay stay.turn old new → HasSends stays n old → HasSends stays (n + 1) new
+sends_more stays n old new stay at_n notes before = record {
+  only = λ m sending at. elim (notes.only m sending at) [ inl known ↦ before.only m sending known | inr is ↦ record { at = n; stay = stay; stands = at_n; is = is } ];
+  whole = λ k other lt at. elim (less_or_not k n) [
+    | inl under ↦ (let has = before.whole k other under at in record { each = λ i m x v after until sent none. has.each i m x v after until sent (notes.kept m none) })
+    | inr rest ↦ elim rest [
+      | inl over ↦ absurd (omega arith)
+      | inr same ↦ (let one : stay ≡ other = (let there : slice_get stays n ≡ Some other = rw same at at in cc) in rw one at notes.whole)
+    ]
+  ];
+}
+
+pub sends_whole : (stays : List Stay) (n : ℕ) (sends : BTreeMap MsgId Sending) → length stays ≤ n → HasSends stays n sends → HasSends stays (length stays) sends
+sends_whole stays n sends end before = record { only = before.only; whole = λ k stay lt at. before.whole k stay (omega arith) at }
+
+-- a send in c is before the turn
+send_before_turn : (log : List Entry) (c : RingId) (from turn end i : ℕ) (m : MsgId) → IsStay log c from turn end → Sends log i m (Regular c) → (from < i) × (i < turn)
+send_before_turn log c from turn end i m is (v, at) = let here = is.here i (Regular c) (Send m (Regular c) v, at, refl) (inl refl) in (here.0, go here.1)
+  where
+    go : i < end → i < turn
+    go below = elim (less_or_not i turn) [
+      | inl lt ↦ lt
+      | inr rest ↦ elim rest [
+        | inl over ↦ absurd (is.following i (Regular c) over below (Send m (Regular c) v, at, refl)).transitional
+        | inr same ↦ absurd (names_no_change log i (Regular c) (Send m (Regular c) v, at, refl) (rw same (is.next (omega (arith, is.within))).1.change))
+      ]
+    ]
+
+-- what is noted of all stays are the sends in c
+pub are_sends : (run : List Log) (c : RingId) (stays : List Stay) (sends : BTreeMap MsgId Sending) → MeetsPasses run → AreStays run c stays → HasSends stays (length stays) sends → AreSends run c sends
+are_sends run c stays sends meets are has = record {
+  found = λ m sending at. found m sending (has.only m sending at);
+  none = λ m none. record { never = λ (p, i, sent). (let stands = (meets.placed p).named i (Regular c) (Send m (Regular c) sent.0, sent.1, refl) in not_sent m none p i sent (are.whole p stands.from stands.change)) };
+}
+  where
+    found : (m : MsgId) (sending : Sending) → IsSendOfOne stays m sending → IsSendingOf run c m sending
+    found m sending one =
+        let of = stay_of run c stays one.stay are (record { at = one.at; stands = one.stands }) in
+        let conf = of.is.regular sending.at one.is.conf one.is.after one.is.until (Send m one.is.conf sending.service, one.is.sends, refl) in
+        record { sends = rw (one.is.proc, ← of.log, ← conf) one.is.sends }
+
+    not_sent : (m : MsgId) → tree.get message.cmp-value.it sends m ≡ None → (p i : ℕ) → Sends (log_of run p) i m (Regular c) → HasStay stays p → ⊥
+    not_sent m none p i sent h =
+        let of = stay_of run c stays h.stay are (record { at = h.at; stands = h.stands }) in
+        let log : h.stay.log.now ≡ log_of run p = of.log ∙ ap (λ q. log_of run q) h.proc in
+        let here : Sends h.stay.log.now i m (Regular c) = rw log sent in
+        let inside = send_before_turn h.stay.log.now c h.stay.from h.stay.turn h.stay.end i m of.is here in
+        (has.whole h.at h.stay (slice_get_within stays h.at h.stay h.stands) h.stands).each i m (Regular c) here.0 inside.0 inside.1 here.1 none
