@@ -1,10 +1,13 @@
 -- Entering sends and deliveries, and what it shows.
-use Rattle.std.proofs.Common.{◌≡◌, ◌≢◌, ◌⊎◌, ℕ, ◌+◌, inl, inr, List, [], ◌∷◌, slice_get, Option, Some, Bool, true, false, refl, sym, ap, subst, arith}
+use Rattle.std.proofs.Common.{◌≡◌, ◌≢◌, ◌⊎◌, ℕ, ◌+◌, ◌-◌, ◌<◌, ◌≤◌, inl, inr, List, [], ◌∷◌, ◌++◌, length, slice_get, slice_range, Option, Some, true, refl, sym, ap, subst, arith, rules}
+use Rattle.std.specs.Prelude.{◌==◌, Contains}
 use Rattle.std.specs.declared.cmp.Ordering.{Ordering}
 use Rattle.std.specs.Cmp.{IsTotalOrder}
 use Rattle.std.specs.BTreeMap.{BTreeMap}
 use Rattle.std.specs.BTreeMap as tree
-use Rattle.std.proofs.lemmas.Option.{slice_get_within}
+use Rattle.std.proofs.Math.Seq.{drop-cons}
+use Rattle.std.proofs.lemmas.List.Elements.{Contains-append_left, Contains-append_right}
+use Rattle.std.proofs.lemmas.Option.{slice_get_within, get_or_from_slice_get}
 use Rattle.totem_ids.specs.declared.message.MsgId.{MsgId}
 use Rattle.totem_ids.specs.declared.message.Service.{Service}
 use Rattle.totem_ids.specs.declared.conf.ConfId.{ConfId}
@@ -18,45 +21,96 @@ use Rattle.totem_pass_ab.specs.declared.keys.Delivery.{Delivery}
 use Rattle.totem_pass_ab.specs.Met.{IsMet, Knows}
 use Rattle.totem_run_rules.specs.Orderly.{DeliveriesAreOnce, SendsAreOnce}
 use Rattle.totem_table.specs.Registers.{Keeps, KnowsRun}
-use Rattle.totem_pass_ab.specs.Repeats.{KnowsAct}
+use Rattle.totem_pass_ab.specs.Repeats.{DeliverOnceBut, DeliversEachOnce, KnowsAct}
 use Rattle.totem_table.specs.Search.{place, HoldsOfNone}
 use Rattle.totem_pass_ab.specs.Pairs.{IsOne}
 use Rattle.totem_pass_ab.specs.Bad.{AreTwice}
+use Rattle.totem_evs.proofs.LogOf.{log_of_cases, less_or_not}
 use Rattle.totem_pass_ab.proofs.Knowing.{meets_knows, meets_keeps}
 
 abbrev delivery : ℕ → MsgId → Delivery
 delivery p m = record { proc = p; message = m }
 
-pub once_each : (run : List Log) → SendsAreOnce run → DeliveriesAreOnce run → DeliversOnce run
-once_each run sends deliveries = record { one_send = sends.one; regular = sends.regular; one_delivery = deliveries.one }
+one_of : (run : List Log) (k : ℕ) (log : Log) → slice_get run k ≡ Some log → slice_range run k (k + 1) ≡ log ∷ []
+one_of run k log at =
+    let one : (k + 1) - k ≡ 1 = omega arith in
+    rw (one, drop-cons run k log (slice_get_within run k log at), get_or_from_slice_get run k log log at) refl
 
--- where no log delivers a message twice
-pub once_delivery : (run : List Log) (p i : ℕ) (m : MsgId) (x : ConfId) → slice_get (log_of run p) i ≡ Some (Deliver m x) → DeliveriesAreOnce run → HoldsOfNone (IsOne run (AreTwice p i (Deliver m x)))
-once_delivery run p i m x here once = record { none = λ places h. go places h }
+pub once_each : (run : List Log) (doubtful : List ℕ) → length doubtful ≡ 0 → SendsAreOnce run → DeliverOnceBut doubtful run → DeliversOnce run
+once_each run doubtful none sends deliveries = record { one_send = sends.one; regular = sends.regular; one_delivery = λ p. deliveries.each p (λ (k, lt, is). omega arith) }
+
+-- a process that is not doubtful delivers no message twice
+pub once_delivery : (run : List Log) (doubtful : List ℕ) (p i : ℕ) (m : MsgId) (x : ConfId) → slice_get (log_of run p) i ≡ Some (Deliver m x) → (Contains doubtful p → ⊥) → DeliverOnceBut doubtful run → HoldsOfNone (IsOne run (AreTwice p i (Deliver m x)))
+once_delivery run doubtful p i m x here sure once = record { none = λ places h. go places h }
   where
     go : (places : List Place) → IsOne run (AreTwice p i (Deliver m x)) places → ⊥
     go [] h = h
-    go (f ∷ []) (j, js, (Deliver n y, at, (same, procs, other))) = other (once.one p i j m x y here (rw (procs, same) at))
+    go (f ∷ []) (j, js, (Deliver n y, at, (same, procs, other))) = other (once.each p sure i j m x y here (rw (procs, same) at))
     go (f ∷ []) (j, js, (Conf y ns, at, h)) = h
     go (f ∷ []) (j, js, (Send n y t, at, h)) = h
     go (f ∷ []) (j, js, (Fail y, at, h)) = h
     go (f ∷ g ∷ more) h = h
 
-module _ (by_message : MsgId → MsgId → Ordering) (by_delivery : Delivery → Delivery → Ordering) (only : Bool) where
+-- ---- which processes are doubtful
+
+-- the logs before the one at k deliver each message once, but for those of doubtful processes
+pub record OnceBefore (doubtful : List ℕ) (run : List Log) (k : ℕ) : Type 0 where
+  pub each : (j : ℕ) (log : Log) → j < k → slice_get run j ≡ Some log → (Contains doubtful log.proc → ⊥) → DeliversEachOnce log.entries
+
+next_log : (doubtful : List ℕ) (run : List Log) (k : ℕ) (log : Log) → slice_get run k ≡ Some log → ((Contains doubtful log.proc → ⊥) → DeliversEachOnce log.entries) → OnceBefore doubtful run k → OnceBefore doubtful run (k + 1)
+next_log doubtful run k log at here before = record {
+  each = λ j l lt at_j sure. elim (less_or_not j k) [
+    | inl under ↦ before.each j l under at_j sure
+    | inr (inl over) ↦ absurd (omega arith)
+    | inr (inr same) ↦ let one : log ≡ l = (let h : slice_get run k ≡ Some l = rw same at at_j in cc) in (rw one at here) sure
+  ];
+}
+
+-- a log that is once
+pub sure_log : (doubtful : List ℕ) (run : List Log) (k : ℕ) (log : Log) → slice_get run k ≡ Some log → DeliveriesAreOnce (slice_range run k (k + 1)) → OnceBefore doubtful run k → OnceBefore doubtful run (k + 1)
+sure_log doubtful run k log at once before = next_log doubtful run k log at (λ sure i j m x y here there. one.one log.proc i j m x y (moved i m x here) (moved j m y there)) before
+  where
+    part : slice_range run k (k + 1) ≡ log ∷ []
+    part = one_of run k log at
+
+    one : DeliveriesAreOnce (log ∷ [])
+    one = rw part at once
+
+    is : log_of (log ∷ []) log.proc ≡ log.entries
+    is = (let test : (log.proc == log.proc) ≡ true = search rules in rw test refl)
+
+    moved : (i : ℕ) (m : MsgId) (x : ConfId) → slice_get log.entries i ≡ Some (Deliver m x) → slice_get (log_of (log ∷ []) log.proc) i ≡ Some (Deliver m x)
+    moved i m x here = subst (λ (es : List Entry). slice_get es i ≡ Some (Deliver m x)) (sym is) here
+
+-- a log that may not be
+pub doubtful_log : (doubtful : List ℕ) (run : List Log) (k : ℕ) (log : Log) (new : List ℕ) → slice_get run k ≡ Some log → new ≡ doubtful ++ log.proc ∷ [] → OnceBefore doubtful run k → OnceBefore new run (k + 1)
+doubtful_log doubtful run k log new at is before =
+    next_log new run k log at (λ sure. absurd (sure (rw is (Contains-append_right doubtful (log.proc ∷ []) log.proc (0, omega arith, refl)))))
+    (record { each = λ j l lt at_j sure. before.each j l lt at_j (λ has. sure (rw is (Contains-append_left doubtful (log.proc ∷ []) l.proc has))) })
+
+pub once_but : (doubtful : List ℕ) (run : List Log) (k : ℕ) → length run ≤ k → OnceBefore doubtful run k → DeliverOnceBut doubtful run
+once_but doubtful run k end before = record {
+  each = λ p sure. elim (log_of_cases run p) [
+    | inl none ↦ λ i j m x y here there. absurd (let h : slice_get {X = Entry} [] i ≡ Some (Deliver m x) = rw none at here in cc)
+    | inr (j, log, at, same, is) ↦ rw is (before.each j log (omega (arith, slice_get_within run j log at)) at (λ has. sure (rw same at has)))
+  ];
+}
+
+module _ (by_message : MsgId → MsgId → Ordering) (by_delivery : Delivery → Delivery → Ordering) (doubtful : List ℕ) where
   pub keeps_sends : IsTotalOrder by_message → (s t : BTreeMap MsgId (Option Place)) (d : BTreeMap Delivery (Option Place)) (m : MsgId) (e : Place) → IsMet by_message s t m e
-      → Keeps (KnowsAct by_message by_delivery s d only) (KnowsAct by_message by_delivery t d only)
+      → Keeps (KnowsAct by_message by_delivery s d doubtful) (KnowsAct by_message by_delivery t d doubtful)
   keeps_sends total s t d m e met = record {
     each = λ p log i h. record { sent = λ n x at. meets_keeps by_message total s t m e met n (place p i) (h.sent n x at); delivered = h.delivered };
   }
 
   pub keeps_deliveries : IsTotalOrder by_delivery → (s : BTreeMap MsgId (Option Place)) (d f : BTreeMap Delivery (Option Place)) (k : Delivery) (e : Place) → IsMet by_delivery d f k e
-      → Keeps (KnowsAct by_message by_delivery s d only) (KnowsAct by_message by_delivery s f only)
+      → Keeps (KnowsAct by_message by_delivery s d doubtful) (KnowsAct by_message by_delivery s f doubtful)
   keeps_deliveries total s d f k e met = record {
     each = λ p log i h. record { sent = h.sent; delivered = λ entered n x at. meets_keeps by_delivery total d f k e met (record { proc = p; message = n }) (place p i) (h.delivered entered n x at) };
   }
 
   pub enters_delivery : IsTotalOrder by_delivery → (s : BTreeMap MsgId (Option Place)) (d f : BTreeMap Delivery (Option Place)) (p : ℕ) (log : List Entry) (i : ℕ) (m : MsgId) (x : ConfId) → slice_get log i ≡ Some (Deliver m x)
-      → IsMet by_delivery d f (record { proc = p; message = m }) (place p i) → KnowsAct by_message by_delivery s f only p log i
+      → IsMet by_delivery d f (record { proc = p; message = m }) (place p i) → KnowsAct by_message by_delivery s f doubtful p log i
   enters_delivery total s d f p log i m x at met = record {
     sent = λ n y (v, at'). absurd cc;
     delivered = λ entered n y at'. (let same : m ≡ n = (let one : Deliver m x ≡ Deliver n y = cc in cc) in
@@ -64,7 +118,7 @@ module _ (by_message : MsgId → MsgId → Ordering) (by_delivery : Delivery →
   }
 
   pub enters_nothing : (s : BTreeMap MsgId (Option Place)) (d : BTreeMap Delivery (Option Place)) (p : ℕ) (log : List Entry) (i : ℕ) (e : Entry) → slice_get log i ≡ Some e
-      → ((m : MsgId) (x : ConfId) (v : Service) → e ≡ Send m x v → ⊥) → ((m : MsgId) (x : ConfId) → e ≡ Deliver m x → ⊥) → KnowsAct by_message by_delivery s d only p log i
+      → ((m : MsgId) (x : ConfId) (v : Service) → e ≡ Send m x v → ⊥) → ((m : MsgId) (x : ConfId) → e ≡ Deliver m x → ⊥) → KnowsAct by_message by_delivery s d doubtful p log i
   enters_nothing s d p log i e at no_send no_delivery = record {
     sent = λ n y (v, at'). absurd (no_send n y v cc);
     delivered = λ entered n y at'. absurd (no_delivery n y cc);
@@ -72,11 +126,11 @@ module _ (by_message : MsgId → MsgId → Ordering) (by_delivery : Delivery →
 
   -- a delivery that is left out
   pub leaves_out : (s : BTreeMap MsgId (Option Place)) (d : BTreeMap Delivery (Option Place)) (p : ℕ) (log : List Entry) (i : ℕ) (m : MsgId) (x : ConfId) → slice_get log i ≡ Some (Deliver m x)
-      → only ≡ true → KnowsAct by_message by_delivery s d only p log i
-  leaves_out s d p log i m x at left_out = record { sent = λ n y (v, at'). absurd cc; delivered = λ entered n y at'. absurd cc }
+      → (Contains doubtful p → ⊥) → KnowsAct by_message by_delivery s d doubtful p log i
+  leaves_out s d p log i m x at left_out = record { sent = λ n y (v, at'). absurd cc; delivered = λ entered n y at'. absurd (left_out entered) }
 
   -- a message that was sent at one place only was not sent twice
-  pub only_send : (run : List Log) (s : BTreeMap MsgId (Option Place)) (d : BTreeMap Delivery (Option Place)) (p i : ℕ) (m : MsgId) (x : ConfId) (v : Service) → KnowsRun (KnowsAct by_message by_delivery s d only) run
+  pub only_send : (run : List Log) (s : BTreeMap MsgId (Option Place)) (d : BTreeMap Delivery (Option Place)) (p i : ℕ) (m : MsgId) (x : ConfId) (v : Service) → KnowsRun (KnowsAct by_message by_delivery s d doubtful) run
       → tree.get by_message s m ≡ Some (Some (place p i)) → HoldsOfNone (IsOne run (AreTwice p i (Send m x v)))
   only_send run s d p i m x v known once = record { none = λ places h. go places h }
     where
@@ -95,7 +149,7 @@ module _ (by_message : MsgId → MsgId → Ordering) (by_delivery : Delivery →
       go (f ∷ g ∷ more) h = h
 
   -- a message that a process delivered at one place only was not delivered twice
-  pub only_delivery : (run : List Log) (s : BTreeMap MsgId (Option Place)) (d : BTreeMap Delivery (Option Place)) (p i : ℕ) (m : MsgId) (x : ConfId) → only ≡ false → KnowsRun (KnowsAct by_message by_delivery s d only) run
+  pub only_delivery : (run : List Log) (s : BTreeMap MsgId (Option Place)) (d : BTreeMap Delivery (Option Place)) (p i : ℕ) (m : MsgId) (x : ConfId) → Contains doubtful p → KnowsRun (KnowsAct by_message by_delivery s d doubtful) run
       → tree.get by_delivery d (record { proc = p; message = m }) ≡ Some (Some (place p i)) → HoldsOfNone (IsOne run (AreTwice p i (Deliver m x)))
   only_delivery run s d p i m x entered known once = record { none = λ places h. go places h }
     where
@@ -103,7 +157,7 @@ module _ (by_message : MsgId → MsgId → Ordering) (by_delivery : Delivery →
       go [] h = h
       go (f ∷ []) (j, js, (Deliver n y, at, (same, procs, other))) =
           let key : delivery p m ≡ delivery f.proc n = rw (procs, same) refl in
-          let met = ((known.each f.proc j (slice_get_within (log_of run f.proc) j (Deliver n y) at)).delivered entered n y at).only (place p i)
+          let met = ((known.each f.proc j (slice_get_within (log_of run f.proc) j (Deliver n y) at)).delivered (rw procs at entered) n y at).only (place p i)
           (subst (λ (k : Delivery). tree.get by_delivery d k ≡ Some (Some (place p i))) key once) in
           other (let ats : i + 1 ≡ j + 1 = ap (λ (e : Place). e.at) met in omega arith)
       go (f ∷ []) (j, js, (Conf y ns, at, h)) = h

@@ -1,8 +1,6 @@
 //! Where each message was sent, and where each process delivered it.
-ghost use Rattle.std.specs.Prelude.{◌≡◌, ℕ, ◌<◌, List};
-ghost use Rattle.std.specs.Bool.{OnTrue};
-ghost use Rattle.totem_run_rules.specs.Orderly.{DeliveriesAreOnce};
-ghost use Rattle.totem_pass_ab.specs.Repeats.{KnowsAct};
+ghost use Rattle.std.specs.Prelude.{◌≡◌, ◌↔◌, ℕ, ◌<◌, List, Contains, IsTrue};
+ghost use Rattle.totem_pass_ab.specs.Repeats.{DeliverOnceBut, KnowsAct};
 
 use crate::keys::Delivery;
 use crate::met::{Met, Same};
@@ -23,30 +21,36 @@ impl Same for Place {
 pub struct Repeats {
     pub sends: Met<MsgId, Place>,
     pub deliveries: Met<Delivery, Place>,
-    /// Whether deliveries are left out, since no log delivers a message twice.
-    pub sends_only: bool,
+    /// The processes that may deliver a message twice. The deliveries of the others are left out.
+    pub doubtful: Vec<Proc>,
 }
 
 impl Repeats {
     ghost use Rattle.std.specs.BTreeMap.{IsEmpty};
 
-    pub fn new(alloc: Global, sends_only: bool) -> Repeats
+    pub fn new(alloc: Global, doubtful: Vec<Proc>) -> Repeats
         ensures sends { IsEmpty result.sends.values }
         ensures deliveries { IsEmpty result.deliveries.values }
-        ensures only { result.sends_only ≡ sends_only }
+        ensures doubtful { result.doubtful.items ≡ doubtful.items }
     {
         Repeats {
             sends: Met::new(alloc),
             deliveries: Met::new(alloc),
-            sends_only,
+            doubtful,
         }
+    }
+
+    pub fn is_doubtful(&self, proc: Proc) -> bool
+        ensures { IsTrue result ↔ Contains self.now.doubtful.items proc }
+    {
+        self.doubtful.contains(&proc)
     }
 }
 
 impl Register for Repeats {
-    ghost sound = { λ s run. OnTrue s.sends_only (DeliveriesAreOnce run) };
+    ghost sound = { λ s. DeliverOnceBut s.doubtful.items };
 
-    ghost knows = { λ s. KnowsAct ⟦<MsgId as Ord>⟧.cmp ⟦<Delivery as Ord>⟧.cmp s.sends.values s.deliveries.values s.sends_only };
+    ghost knows = { λ s. KnowsAct ⟦<MsgId as Ord>⟧.cmp ⟦<Delivery as Ord>⟧.cmp s.sends.values s.deliveries.values s.doubtful.items };
 
     fn enter(
         &mut self,
@@ -62,7 +66,7 @@ impl Register for Repeats {
         match &log[at] {
             Entry::Send(message, _, _) => self.sends.meet(*message, place),
             Entry::Deliver(message, _) => {
-                if self.sends_only {
+                if !self.is_doubtful(proc) {
                     return Ok(());
                 }
                 let message = *message;

@@ -5,8 +5,7 @@ ghost use Rattle.std.specs.Bool.{OnTrue};
 ghost use Rattle.totem_evs.specs.Answers.{Finds};
 ghost use Rattle.totem_pass_ab.specs.Bad.{IsSendBetween, AreTwice};
 ghost use Rattle.totem_table.specs.Registers.{KnowsRun};
-ghost use Rattle.totem_pass_ab.specs.Repeats.{KnowsAct};
-ghost use Rattle.totem_run_rules.specs.Orderly.{DeliveriesAreOnce};
+ghost use Rattle.totem_pass_ab.specs.Repeats.{DeliverOnceBut, KnowsAct};
 
 use crate::keys::Delivery;
 use crate::kinds::is_transitional;
@@ -14,7 +13,7 @@ use crate::pairs::{Standing, Test, least_bad};
 use crate::repeats::Repeats;
 use std::alloc::{AllocError, Global};
 use totem_evs::{Entry, Places, Run, SpecNo};
-use totem_ids::{MsgId, Place};
+use totem_ids::{MsgId, Place, Proc};
 use totem_run_rules::{deliveries_are_once, sends_are_once};
 use totem_table::enter_run;
 
@@ -23,8 +22,8 @@ use totem_table::enter_run;
 struct Twice<'r> {
     run: &'r Run,
     repeats: Repeats,
-    ghost known: { ∥ KnowsRun (KnowsAct ⟦<MsgId as Ord>⟧.cmp ⟦<Delivery as Ord>⟧.cmp repeats.sends.values repeats.deliveries.values repeats.sends_only) run.now.logs ∥₁ },
-    ghost once: { ∥ OnTrue repeats.sends_only (DeliveriesAreOnce run.now.logs) ∥₁ },
+    ghost known: { ∥ KnowsRun (KnowsAct ⟦<MsgId as Ord>⟧.cmp ⟦<Delivery as Ord>⟧.cmp repeats.sends.values repeats.deliveries.values repeats.doubtful.items) run.now.logs ∥₁ },
+    ghost once: { ∥ DeliverOnceBut repeats.doubtful.items run.now.logs ∥₁ },
 }
 
 impl Test for Twice<'_> {
@@ -68,23 +67,39 @@ impl Test for Twice<'_> {
             Entry::Deliver(message, _) => {
                 let message = *message;
                 let delivery = Delivery { proc, message };
-                !self.repeats.sends_only && !self.repeats.deliveries.is_only(&delivery, &place)
+                self.repeats.is_doubtful(proc)
+                    && !self.repeats.deliveries.is_only(&delivery, &place)
             }
             _ => false,
         }
     }
 }
 
+/// Returns the processes that may deliver a message twice: the others don't.
+fn doubtful(alloc: Global, run: &Run) -> Result<Vec<Proc>, AllocError>
+    ensures { IfOk result (λ list. DeliverOnceBut list.items run.now.logs) }
+{
+    let logs = run.logs.as_slice();
+    let mut list = Vec::new(alloc);
+    for k in 0..logs.len() {
+        let log = &logs[k];
+        let proc = log.proc;
+        if !deliveries_are_once(alloc, &logs[k..k + 1])? {
+            list.push(proc)?;
+        }
+    }
+    Ok(list)
+}
+
 /// Finds the least events that break 1.4.
 pub fn find(alloc: Global, run: &Run) -> Result<Option<Places>, AllocError>
     ensures { IfOk result (Finds run.now.logs SpecNo.Twice) }
 {
-    let logs = run.logs.as_slice();
-    let sends_only = deliveries_are_once(alloc, logs)?;
-    if sends_only && sends_are_once(alloc, logs)? {
+    let doubtful = doubtful(alloc, run)?;
+    if doubtful.is_empty() && sends_are_once(alloc, run.logs.as_slice())? {
         return Ok(None);
     }
-    let mut repeats = Repeats::new(alloc, sends_only);
+    let mut repeats = Repeats::new(alloc, doubtful);
     enter_run(&mut repeats, alloc, run)?;
     let twice = Twice { run, repeats };
     least_bad(&twice, alloc)
