@@ -29,6 +29,7 @@ abbrev pub IsWanted : Wanted → ℕ → KeyedEntry → Type 0
 IsWanted Sends given m = (m.shares ≡ false) × (given ≤ m.at)
 IsWanted (Mates waits) given m = IsTrue m.shares × (IsTrue waits ⊎ (given < m.at))
 
+-- the entry has the key, and is wanted
 abbrev pub Wants : List Numbering → Key → Wanted → KeyedEntry → Type 0
 Wants lines key wanted m = (m.key ≡ key) × IsWanted wanted (given_at lines m.log) m
 
@@ -47,6 +48,7 @@ pub record IsFirstWantedFrom (lines : List Numbering) (keyed : List KeyedEntry) 
   pub wants : Wants lines key wanted m
   pub first : (t : ℕ) (n : KeyedEntry) → s ≤ t → slice_get keyed t ≡ Some n → Wants lines key wanted n → IsNoLater m n
 
+-- the wanted entry with the least place from s on, or that none is wanted
 abbrev pub IsBestFrom : List Numbering → List KeyedEntry → Key → Wanted → ℕ → Option KeyedEntry → Type 0
 IsBestFrom lines keyed key wanted s None = NoneWantedFrom lines keyed key wanted s
 IsBestFrom lines keyed key wanted s (Some m) = IsFirstWantedFrom lines keyed key wanted s m
