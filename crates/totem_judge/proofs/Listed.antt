@@ -30,7 +30,7 @@ use Rattle.totem_judge.specs.Ends.{HasSuch, IsAny}
 use Rattle.totem_judge.specs.Lists.{ComesBefore, IsLinked, IsThere, IsGotAt, IsSentAt, AreAsListed}
 use Rattle.totem_judge.specs.Seen.{IsReplayed, IsSeen}
 use Rattle.totem_run_rules.specs.Orderly.{IsOrderly}
-use Rattle.totem_judge.proofs.Numbers.{one_at, entry_of, one_event, one_number, same_index, entries_of}
+use Rattle.totem_judge.proofs.Numbers.{below_or_not, one_at, entry_of, one_event, one_number, same_index, entries_of}
 use Rattle.totem_judge.specs.StaysIn.{IsBounded}
 
 -- a stay that is bounded by changes, and has no other but where it turns
@@ -124,10 +124,9 @@ module _ {run : List Log} {lines : List Numbering} {g : Gathered} {traffic : Tra
   ]
 
   pub behind_turn : (l p i : ℕ) (d : ConfId) (s : StayOf l p) → s.stay.from < i → Names (log_of run p) i d → Follows (log_of run p) g.ring d → s.stay.turn ≤ i
-  behind_turn l p i d s after names follows = elim (less_or_not i s.stay.turn) [
+  behind_turn l p i d s after names follows = elim (below_or_not i s.stay.turn) [
     | inl under ↦ absurd (let regular = s.is.regular i d after under names in let f : Follows (log_of run p) g.ring (Regular g.ring) = rw regular at follows in f.transitional)
-    | inr (inl over) ↦ omega arith
-    | inr (inr same) ↦ omega arith
+    | inr behind ↦ behind
   ]
 
   pub follows_here : (l p i : ℕ) (d : ConfId) (s : StayOf l p) → s.stay.turn ≤ i → i < s.stay.end → Names (log_of run p) i d → Follows (log_of run p) g.ring d

@@ -6,7 +6,6 @@ use Rattle.totem_ids.specs.declared.ring.RingId.{RingId}
 use Rattle.totem_ids.specs.declared.conf.ConfId.{ConfId}
 use Rattle.totem_evs.specs.declared.log.Log.{Log}
 use Rattle.totem_evs.specs.declared.pending.Pending.{Pending}
-use Rattle.totem_evs.proofs.LogOf.{less_or_not}
 use Rattle.totem_configuration_rules.specs.declared.log_set.LogSet.{LogSet}
 use Rattle.totem_configuration_rules.specs.declared.traffic.Following.{Following}
 use Rattle.totem_configuration_rules.specs.declared.traffic.Traffic.{Traffic}
@@ -15,11 +14,12 @@ use Rattle.totem_configuration_rules.specs.Traffics.{IsLogAt, IsTrafficOf}
 use Rattle.totem_configuration_rules.specs.Pending.{AddsPending}
 use Rattle.totem_configuration_rules.proofs.Rowing.{before_or_at, one_at}
 use Rattle.totem_judge.specs.declared.gathered.Gathered.{Gathered}
+use Rattle.totem_judge.proofs.Numbers.{below_or_not}
 use Rattle.totem_judge.specs.declared.gathered.Stay.{Stay}
 use Rattle.totem_judge.specs.Ends.{HasSuch, Selects}
 use Rattle.totem_judge.specs.Members.{IsLogOfMember, AreLogsOfMembers}
 use Rattle.totem_judge.specs.Turns.{TurnsTo, IsFollowing, HasFollowingOf, HasFollowings}
-use Rattle.totem_judge.specs.Covered.{IsCovered, IsCoveredTo}
+use Rattle.totem_judge.specs.Covered.{IsCoveredTo}
 use Rattle.totem_judge.specs.Pending.{IsPendingTo, AddsAll}
 use Rattle.totem_ids.specs.declared.message.MsgId.{MsgId}
 use Rattle.totem_evs.specs.declared.entry.Entry.{Entry}
@@ -200,15 +200,11 @@ module _ (run : List Log) (stays : List Stay) (n : ℕ) (stay : Stay) (at : slic
 
 pub covered_more : (list : List Gathered) (l n k j : ℕ) (g : Gathered) (stay : Stay) → slice_get list k ≡ Some g → slice_get g.stays.items j ≡ Some stay → stay.log ≡ l → stay.from ≡ n → IsCoveredTo list l n → IsCoveredTo list l stay.end
 covered_more list l n k j g stay at stands log from so_far = record {
-  each = λ i lt. elim (less_or_not i n) [
+  each = λ i lt. elim (below_or_not i n) [
     | inl under ↦ so_far.each i under
-    | inr (inl over) ↦ here i (omega (arith, from)) lt
-    | inr (inr same) ↦ here i (omega (arith, from, same)) lt
+    | inr behind ↦ record { at = k; gathered = g; stands = at; place = j; stay = stay; stay_is = stands; log_is = log; from = omega (arith, from, behind); until = lt }
   ];
 }
-  where
-    here : (i : ℕ) → stay.from ≤ i → i < stay.end → IsCovered list l i
-    here i le lt = record { at = k; gathered = g; stands = at; place = j; stay = stay; stay_is = stands; log_is = log; from = le; until = lt }
 
 -- ---- what is pending
 
@@ -269,11 +265,7 @@ module _ (entries : List Entry) (numbers : List ℕ) (g : Gathered) (stay : Stay
   delivered_more at n k m message conf stands after until skipped here le so_far = record {
     listed = (listed_more at n (Deliver message conf) stands (k, here) so_far).listed;
     delivered = λ j got lt there by. elim (before_or_at j k (omega arith)) [
-      | inl under ↦ elim (less_or_not j n) [
-        | inl before ↦ so_far.delivered j got before there by
-        | inr (inl over) ↦ absurd (skipped.none j got (omega arith) under there by)
-        | inr (inr same) ↦ absurd (skipped.none j got (omega (arith, same)) under there by)
-      ]
+      | inl under ↦ elim (below_or_not j n) [ inl before ↦ so_far.delivered j got before there by | inr behind ↦ absurd (skipped.none j got behind under there by) ]
       | inr level ↦ rw level (record { at = at; message = message; conf = conf; after = after; until = until; entry = stands; is = here })
     ];
   }
@@ -282,9 +274,5 @@ module _ (entries : List Entry) (numbers : List ℕ) (g : Gathered) (stay : Stay
   pub listed_all : (at n k : ℕ) → stay.end ≤ at → AreSkipped g.got.items stay.log n k → length g.got.items ≤ k → AreAsListed entries numbers g stay at n → AreAsListed entries numbers g stay stay.end (length g.got.items)
   listed_all at n k le skipped all so_far = record {
     listed = λ i x above below stands. so_far.listed i x above (omega arith) stands;
-    delivered = λ j got lt there by. elim (less_or_not j n) [
-      | inl under ↦ so_far.delivered j got under there by
-      | inr (inl over) ↦ absurd (skipped.none j got (omega arith) (omega arith) there by)
-      | inr (inr same) ↦ absurd (skipped.none j got (omega (arith, same)) (omega arith) there by)
-    ];
+    delivered = λ j got lt there by. elim (below_or_not j n) [ inl under ↦ so_far.delivered j got under there by | inr behind ↦ absurd (skipped.none j got behind (omega arith) there by) ];
   }
