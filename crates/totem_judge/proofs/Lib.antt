@@ -1,14 +1,9 @@
 pub mod Numbers
-pub mod Replayed
 pub mod Listed
 pub mod Told
-pub mod Endings
 pub mod Placed
-pub mod Viewed
 pub mod Whole
 pub mod Unsent
-pub mod Asked
 pub mod Steps
-pub mod Replaying
 pub mod OneByOne
 pub mod Settled

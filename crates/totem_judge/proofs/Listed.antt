@@ -6,10 +6,10 @@ use Rattle.totem_ids.specs.declared.conf.ConfId.TheVariants.{Regular}
 use Rattle.totem_ids.specs.declared.message.MsgId.{MsgId}
 use Rattle.totem_ids.specs.declared.message.Service.{Service}
 use Rattle.totem_evs.specs.declared.entry.Entry.{Entry}
-use Rattle.totem_evs.specs.declared.entry.Entry.TheVariants.{Send, Deliver}
+use Rattle.totem_evs.specs.declared.entry.Entry.TheVariants.{Send, Deliver, Conf}
 use Rattle.totem_evs.specs.declared.log.Log.{Log}
 use Rattle.totem_evs.specs.Runs.{IsRun}
-use Rattle.totem_evs.specs.Events.{ChangesTo, Sends, Delivers, log_of}
+use Rattle.totem_evs.specs.Events.{ChangesTo, Sends, Delivers, log_of, IsChange}
 use Rattle.totem_evs.specs.Changes.{Names}
 use Rattle.totem_evs.specs.Following.{Follows, Com, DeliversIn}
 use Rattle.totem_evs.specs.Certificates.{Numbering, Certified}
@@ -19,19 +19,52 @@ use Rattle.totem_configuration_rules.specs.declared.traffic.Got.{Got}
 use Rattle.totem_configuration_rules.specs.declared.traffic.Traffic.{Traffic}
 use Rattle.totem_configuration_rules.specs.Clean.{IsBy}
 use Rattle.totem_configuration_rules.specs.Traffics.{IsLogAt}
-use Rattle.totem_run_rules.specs.Stays.{IsStay}
+use Rattle.totem_run_rules.specs.Stays.{IsStay, Bounds}
 use Rattle.totem_configuration_rules.proofs.Facts.{one_log}
-use Rattle.totem_run_rules.proofs.Staying.{names_no_change}
+use Rattle.totem_run_rules.proofs.Staying.{names_no_change, is_stay}
 use Rattle.totem_judge.specs.declared.gathered.Origin.{Origin}
 use Rattle.totem_judge.specs.declared.gathered.Gathered.{Gathered}
 use Rattle.totem_judge.specs.declared.gathered.Stay.{Stay}
 use Rattle.totem_judge.specs.Events.{IsEventAt}
 use Rattle.totem_judge.specs.Ends.{HasSuch, IsAny}
-use Rattle.totem_judge.specs.Lists.{ComesBefore, IsLinked, IsThere, IsGotAt, IsSentAt}
+use Rattle.totem_judge.specs.Lists.{ComesBefore, IsLinked, IsThere, IsGotAt, IsSentAt, AreAsListed}
 use Rattle.totem_judge.specs.Seen.{IsReplayed, IsSeen}
 use Rattle.totem_run_rules.specs.Orderly.{IsOrderly}
-use Rattle.totem_judge.proofs.Numbers.{one_at, entry_of, one_event, one_number, same_index}
-use Rattle.totem_judge.proofs.Replayed.{entries_in, stay_in}
+use Rattle.totem_judge.proofs.Numbers.{below_or_not, one_at, entry_of, one_event, one_number, same_index, entries_of}
+use Rattle.totem_judge.specs.StaysIn.{IsBounded}
+
+-- a stay that is bounded by changes, and has no other but where it turns
+bounds : (entries : List Entry) (numbers : List ℕ) (g : Gathered) (stay : Stay) (n : ℕ) → IsBounded entries g.ring stay → AreAsListed entries numbers g stay stay.end n → Bounds entries g.ring stay.from stay.turn stay.end
+bounds entries numbers g stay n is are = record {
+  change = is.change;
+  two = record {
+    first = record {
+      later = is.before;
+      within = is.turns.within;
+      change = is.turns.change;
+      none_between = λ k above below change. (let same = at_turn k above (omega (arith, below, is.until)) change in omega (arith, same, below));
+    };
+    second = λ lt. record {
+      later = is.further lt;
+      within = is.ends.within;
+      change = is.ends.change;
+      none_between = λ k above below change. (let same = at_turn k (omega (arith, above, is.before)) below change in omega (arith, same, above));
+    };
+    whole = λ le. omega (arith, le, is.until, is.ends.within);
+  };
+}
+  where
+    at_turn : (k : ℕ) → stay.from < k → k < stay.end → IsChange entries k → k ≡ stay.turn
+    at_turn k above below (x, (ms, at)) = are.listed k (Conf x ms) above below at
+
+module _ (run : List Log) (lines : List Numbering) (g : Gathered) (stay : Stay) (p : ℕ) (is_run : IsRun run) where
+  -- the entries that were replayed are those of the log
+  pub entries_in : IsLogAt run stay.log p → (r : IsReplayed run lines g stay) → r.log.entries ≡ log_of run p
+  entries_in log r = ap (λ (x : Log). x.entries) (one_at run stay.log r.log log.log r.log_is log.stands) ∙ sym (entries_of run stay.log p is_run.rising log)
+
+  pub stay_in : IsOrderly run → IsLogAt run stay.log p → IsReplayed run lines g stay → IsStay (log_of run p) g.ring stay.from stay.turn stay.end
+  stay_in orderly log r = is_stay (log_of run p) g.ring stay.from stay.turn stay.end (record { placed = orderly.placed p; once = orderly.one.once p; turns = orderly.turns.each p })
+      (subst (λ (es : List Entry). Bounds es g.ring stay.from stay.turn stay.end) (entries_in log r) (bounds r.log.entries r.line.numbers g stay _ r.bounded r.are))
 
 -- what was gathered about a configuration of an orderly run was verified, and each log that changes to it has a stay
 pub record Verified (run : List Log) (lines : List Numbering) (g : Gathered) (traffic : Traffic) : Type 0 where
@@ -91,10 +124,9 @@ module _ {run : List Log} {lines : List Numbering} {g : Gathered} {traffic : Tra
   ]
 
   pub behind_turn : (l p i : ℕ) (d : ConfId) (s : StayOf l p) → s.stay.from < i → Names (log_of run p) i d → Follows (log_of run p) g.ring d → s.stay.turn ≤ i
-  behind_turn l p i d s after names follows = elim (less_or_not i s.stay.turn) [
+  behind_turn l p i d s after names follows = elim (below_or_not i s.stay.turn) [
     | inl under ↦ absurd (let regular = s.is.regular i d after under names in let f : Follows (log_of run p) g.ring (Regular g.ring) = rw regular at follows in f.transitional)
-    | inr (inl over) ↦ omega arith
-    | inr (inr same) ↦ omega arith
+    | inr behind ↦ behind
   ]
 
   pub follows_here : (l p i : ℕ) (d : ConfId) (s : StayOf l p) → s.stay.turn ≤ i → i < s.stay.end → Names (log_of run p) i d → Follows (log_of run p) g.ring d

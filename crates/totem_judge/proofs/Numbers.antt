@@ -1,5 +1,5 @@
 -- Events by the index of their log, and the order of their numbers.
-use Rattle.std.proofs.Common.{◌≡◌, inl, inr, ℕ, ◌<◌, List, length, slice_get, Some, refl, sym, ◌∙◌, ap, subst, arith}
+use Rattle.std.proofs.Common.{◌≡◌, inl, inr, ℕ, ◌<◌, List, length, slice_get, Some, refl, sym, ◌∙◌, ap, subst, arith, ◌⊎◌, ◌≤◌}
 use Rattle.std.specs.Prelude.{◌↔◌}
 use Rattle.std.proofs.lemmas.Option.{slice_get_within}
 use Rattle.totem_ids.specs.declared.conf.ConfId.{ConfId}
@@ -17,6 +17,9 @@ use Rattle.totem_certificate_check.proofs.Walking.{at_index}
 use Rattle.totem_certificate_check.proofs.Standing.{stands_at}
 use Rattle.totem_configuration_rules.specs.Traffics.{IsLogAt}
 use Rattle.totem_judge.specs.Events.{IsEventAt}
+
+pub below_or_not : (a b : ℕ) → (a < b) ⊎ (b ≤ a)
+below_or_not a b = grind arith
 
 -- a list has one element at an index
 pub one_at : {X : Type 0} (xs : List X) (i : ℕ) (x y : X) → slice_get xs i ≡ Some x → slice_get xs i ≡ Some y → x ≡ y

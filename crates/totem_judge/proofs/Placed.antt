@@ -9,12 +9,12 @@ use Rattle.totem_evs.specs.declared.entry.Entry.TheVariants.{Conf, Send, Deliver
 use Rattle.totem_evs.specs.declared.ending.Ending.TheVariants.{Failed, Quiet}
 use Rattle.totem_evs.specs.declared.log.Log.{Log}
 use Rattle.totem_evs.specs.Runs.{IsLog, IsFailure, EndsInFail}
-use Rattle.totem_evs.specs.Events.{ChangesTo, ChangesWith, IsMember, IsQuiet, log_of}
+use Rattle.totem_evs.specs.Events.{ChangesTo, ChangesWith, IsMember, IsQuiet, log_of, ending_of}
 use Rattle.totem_evs.specs.Following.{IsNextChange, Follows, NeverFails, FailedIn, StaysIn, OpenIn}
 use Rattle.totem_evs.specs.Agreement.{Goes}
 use Rattle.totem_evs.specs.Answers.{MeetsPasses}
 use Rattle.totem_evs.specs.Certificates.{Numbering}
-use Rattle.totem_evs.proofs.LogOf.{less_or_not}
+use Rattle.totem_evs.proofs.LogOf.{less_or_not, Rising}
 use Rattle.totem_configuration_rules.specs.declared.traffic.MemberLogs.{MemberLogs}
 use Rattle.totem_configuration_rules.specs.declared.traffic.Traffic.{Traffic}
 use Rattle.totem_configuration_rules.specs.LogSets.{Has}
@@ -29,8 +29,11 @@ use Rattle.totem_judge.specs.Ends.{HasSuch, IsAny, IsExcusedIn, IsOpenAt}
 use Rattle.totem_judge.specs.Members.{AreMemberLogs}
 use Rattle.totem_judge.specs.Turns.{TurnsToConf, LeavesFrom, HasFollowingOf}
 use Rattle.totem_judge.proofs.Numbers.{one_at, entries_of}
-use Rattle.totem_judge.proofs.Endings.{ending_at}
 use Rattle.totem_judge.proofs.Listed.{Verified, StayOf, such_stay_of, come, stay_around}
+use Rattle.totem_run_rules.proofs.LogEnds.{ending_of_at}
+
+ending_at : (run : List Log) (l p : ℕ) → Rising run → (log : IsLogAt run l p) → ending_of run p ≡ log.log.ending
+ending_at run l p rising log = subst (λ (q : ℕ). ending_of run q ≡ log.log.ending) log.proc (ending_of_at run l log.log rising log.stands)
 
 module _ {run : List Log} {lines : List Numbering} {g : Gathered} {traffic : Traffic} (v : Verified run lines g traffic) (meets : MeetsPasses run) where
   open v use {is_run, orderly, seen, whole}

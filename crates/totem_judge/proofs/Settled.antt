@@ -19,7 +19,7 @@ use Rattle.totem_certificate_check.proofs.Walking.{at_index}
 use Rattle.totem_configuration_rules.specs.declared.observed.Observed.{Observed}
 use Rattle.totem_configuration_rules.specs.Clean.{AgreesIn}
 use Rattle.totem_configuration_rules.specs.Pending.{IsPendingIn}
-use Rattle.totem_configuration_rules.specs.Traffics.{IsTrafficOf, AreTraffic}
+use Rattle.totem_configuration_rules.specs.Traffics.{IsTrafficOf, AreTraffic, IsGotIn, HasSent}
 use Rattle.totem_configuration_rules.proofs.Facts.{has_log}
 use Rattle.totem_judge.specs.declared.gathered.Gathered.{Gathered}
 use Rattle.totem_judge.specs.Covered.{AreCovered, AreRisingTo}
@@ -28,9 +28,33 @@ use Rattle.totem_run_rules.specs.Endings.{IsInOrder, HoldsPending}
 use Rattle.totem_run_rules.specs.Orderly.{IsOrderly}
 use Rattle.totem_judge.specs.Judged.{IsVerified, AllAreTraffic, AreObserved, Covers, IsView, Agree}
 use Rattle.totem_judge.proofs.Whole.{AllSeen, Gathers, gathers, verified}
-use Rattle.totem_judge.proofs.Viewed.{traffic_is}
 use Rattle.totem_judge.proofs.Unsent.{unsent_met}
 use Rattle.totem_run_rules.proofs.PendingOrder.{are_pending}
+use Rattle.totem_configuration_rules.specs.declared.traffic.Sent.{Sent}
+use Rattle.totem_configuration_rules.specs.declared.traffic.Got.{Got}
+use Rattle.totem_configuration_rules.specs.declared.traffic.Traffic.{Traffic}
+use Rattle.totem_judge.proofs.Listed.{Verified}
+use Rattle.totem_judge.proofs.Told.{sent_in, got_in, all_sent, all_got, sent_order, got_order, heard, behind}
+use Rattle.totem_judge.proofs.Placed.{logs_are, members_are, ended_are, open_are, following_are}
+
+-- what was gathered about a configuration and verified is its traffic
+pub traffic_is : (run : List Log) (lines : List Numbering) (g : Gathered) (traffic : Traffic) → Verified run lines g traffic → MeetsPasses run → IsTrafficOf run g.ring traffic
+traffic_is run lines g traffic v meets = record {
+  of_run = v.is_run;
+  sent = λ k s at. sent_in v k s (subst (λ (xs : List Sent). slice_get xs k ≡ Some s) v.seen.sent at);
+  got = λ k a at. subst (λ (xs : List Sent). IsGotIn run g.ring xs a) (sym v.seen.sent) (got_in v k a (subst (λ (xs : List Got). slice_get xs k ≡ Some a) v.seen.got at));
+  all_sent = λ p i m sends. subst (λ (xs : List Sent). HasSent run xs p m) (sym v.seen.sent) (all_sent v p i m sends);
+  all_got = λ p i m delivers. rw (v.seen.sent, v.seen.got) (all_got v p i m delivers);
+  sent_order = rw v.seen.sent (sent_order v);
+  got_order = rw (v.seen.sent, v.seen.got) (got_order v);
+  heard = rw (v.seen.sent, v.seen.got) (heard v);
+  behind = rw (v.seen.sent, v.seen.got) (behind v);
+  logs = logs_are v meets;
+  members = members_are v meets;
+  ended = ended_are v meets;
+  still_open = open_are v meets;
+  following = following_are v meets;
+}
 
 module _ (run : List Log) (lines : List Numbering) (list : List Gathered) (observed : List Observed) (pending : List Pending) (is_run : IsRun run) (orderly : IsOrderly run) (together : EndsTogether run) (certified : Certified run lines)
     (covered : AreCovered run list (length run)) (rise : AreRisingTo list (length list)) (are : AreObserved run lines list observed pending) where

@@ -11,7 +11,6 @@ use Rattle.totem_evs.specs.declared.log.Log.{Log}
 use Rattle.totem_evs.specs.Events.{Sends, Delivers, IsSafe, log_of}
 use Rattle.totem_evs.specs.Following.{DeliversIn, HasDelivered}
 use Rattle.totem_evs.specs.Certificates.{Numbering}
-use Rattle.totem_evs.proofs.LogOf.{less_or_not}
 use Rattle.totem_configuration_rules.specs.declared.traffic.Sent.{Sent}
 use Rattle.totem_configuration_rules.specs.declared.traffic.Got.{Got}
 use Rattle.totem_configuration_rules.specs.declared.traffic.Traffic.{Traffic}
@@ -23,7 +22,7 @@ use Rattle.totem_judge.specs.declared.gathered.Origin.{Origin}
 use Rattle.totem_judge.specs.declared.gathered.Gathered.{Gathered}
 use Rattle.totem_judge.specs.Events.{IsEventAt}
 use Rattle.totem_judge.specs.Lists.{is_safe, ComesBefore, IsThere, IsOriginAt, IsGotAt}
-use Rattle.totem_judge.proofs.Numbers.{one_at, event_of, one_event, in_order, by_number}
+use Rattle.totem_judge.proofs.Numbers.{below_or_not, one_at, event_of, one_event, in_order, by_number}
 use Rattle.totem_judge.proofs.Listed.{Verified, Listed, SentAt, before_turn, behind_turn, follows_here, own_entry, stay_around, got_at, listed, found, sent_at, number_of_send, one_got, one_sent}
 
 module _ {run : List Log} {lines : List Numbering} {g : Gathered} {traffic : Traffic} (v : Verified run lines g traffic) where
@@ -46,10 +45,9 @@ module _ {run : List Log} {lines : List Numbering} {g : Gathered} {traffic : Tra
       from : (l p : ℕ) → IsLogAt run l p → Has got.regular l → (i : ℕ) × Delivers (log_of run p) i sent.message (Regular g.ring)
       from l p log has =
           let f = found v k l p got sent at of log (inl has) in
-          elim (less_or_not f.at f.s.stay.turn) [
+          elim (below_or_not f.at f.s.stay.turn) [
             | inl under ↦ (f.at, (let same = f.s.is.regular f.at f.conf f.after under (Deliver sent.message f.conf, f.delivers, refl) in rw same at f.delivers))
-            | inr (inl over) ↦ absurd ((f.there.transitional (omega arith)).1 (subst (λ (j : ℕ). Has got.regular j) (sym f.s.log) has))
-            | inr (inr same) ↦ absurd ((f.there.transitional (omega (arith, same))).1 (subst (λ (j : ℕ). Has got.regular j) (sym f.s.log) has))
+            | inr behind ↦ absurd ((f.there.transitional behind).1 (subst (λ (j : ℕ). Has got.regular j) (sym f.s.log) has))
           ]
 
       to : (l p : ℕ) → IsLogAt run l p → (i : ℕ) × Delivers (log_of run p) i sent.message (Regular g.ring) → Has got.regular l
@@ -65,10 +63,9 @@ module _ {run : List Log} {lines : List Numbering} {g : Gathered} {traffic : Tra
       from l p log has =
           let f = found v k l p got sent at of log (inr has) in
           let here : Has got.transitional f.s.stay.log = subst (λ (j : ℕ). Has got.transitional j) (sym f.s.log) has in
-          let le : f.s.stay.turn ≤ f.at = elim (less_or_not f.at f.s.stay.turn) [
+          let le : f.s.stay.turn ≤ f.at = elim (below_or_not f.at f.s.stay.turn) [
             | inl under ↦ absurd ((f.there.regular under).1 here)
-            | inr (inl over) ↦ omega arith
-            | inr (inr same) ↦ omega (arith, same)
+            | inr behind ↦ behind
           ] in
           (f.at, f.conf, f.delivers, follows_here v l p f.at f.conf f.s le f.until (Deliver sent.message f.conf, f.delivers, refl))
 
@@ -82,10 +79,9 @@ module _ {run : List Log} {lines : List Numbering} {g : Gathered} {traffic : Tra
   is_by : (k l p i : ℕ) (m : MsgId) (got : Got) (sent : Sent) → slice_get g.got.items k ≡ Some got → slice_get g.sent.items got.sent ≡ Some sent → sent.message ≡ m → Listed v l p i m → IsBy got l
   is_by k l p i m got sent at of is f =
       let there = there_of k l p i m got sent at of is f in
-      elim (less_or_not i f.s.stay.turn) [
+      elim (below_or_not i f.s.stay.turn) [
         | inl under ↦ inl (subst (λ (j : ℕ). Has got.regular j) f.s.log ((there.regular under).0))
-        | inr (inl over) ↦ inr (subst (λ (j : ℕ). Has got.transitional j) f.s.log ((there.transitional (omega arith)).0))
-        | inr (inr same) ↦ inr (subst (λ (j : ℕ). Has got.transitional j) f.s.log ((there.transitional (omega (arith, same))).0))
+        | inr behind ↦ inr (subst (λ (j : ℕ). Has got.transitional j) f.s.log ((there.transitional behind).0))
       ]
 
   by_of : (k : ℕ) (sent : Sent) → slice_get g.sent.items k ≡ Some sent → AreLogsOf run sent.by (λ p. HasDelivered (log_of run p) g.ring sent.message)
@@ -96,10 +92,9 @@ module _ {run : List Log} {lines : List Numbering} {g : Gathered} {traffic : Tra
           let link = (sent_at v k sent at).linked.each l has in
           let of : slice_get g.sent.items link.got.sent ≡ Some sent = subst (λ (j : ℕ). slice_get g.sent.items j ≡ Some sent) (sym link.of) at in
           let f = found v link.at l p link.got sent link.stands of log link.by in
-          elim (less_or_not f.at f.s.stay.turn) [
+          elim (below_or_not f.at f.s.stay.turn) [
             | inl under ↦ (f.at, (f.conf, f.delivers, inl (f.s.is.regular f.at f.conf f.after under (Deliver sent.message f.conf, f.delivers, refl))))
-            | inr (inl over) ↦ (f.at, (f.conf, f.delivers, inr (follows_here v l p f.at f.conf f.s (omega arith) f.until (Deliver sent.message f.conf, f.delivers, refl))))
-            | inr (inr same) ↦ (f.at, (f.conf, f.delivers, inr (follows_here v l p f.at f.conf f.s (omega (arith, same)) f.until (Deliver sent.message f.conf, f.delivers, refl))))
+            | inr behind ↦ (f.at, (f.conf, f.delivers, inr (follows_here v l p f.at f.conf f.s behind f.until (Deliver sent.message f.conf, f.delivers, refl))))
           ]
 
       to : (l p : ℕ) → IsLogAt run l p → HasDelivered (log_of run p) g.ring sent.message → Has sent.by l

@@ -23,7 +23,7 @@ use Rattle.totem_judge.specs.Ends.{HasSuch, IsAny}
 use Rattle.totem_judge.specs.Covered.{AreCovered, AreRisingTo}
 use Rattle.totem_judge.specs.Seen.{IsReplayed, IsSeen}
 use Rattle.totem_judge.proofs.Numbers.{one_at, entries_of, one_change_number}
-use Rattle.totem_judge.proofs.Replayed.{stay_in}
+use Rattle.totem_judge.proofs.Listed.{stay_in}
 use Rattle.totem_judge.proofs.Listed.{Verified}
 
 -- a change to a regular configuration in a stay is that with which the stay begins

@@ -112,6 +112,7 @@ fn is_sent(logs: &[Log], lines: &[Line], gathered: &Gathered, index: usize) -> b
 }
 
 /// Returns whether each message of the list was sent as the lists say.
+#[tactic(auto, using(crate::proofs::Steps::each_more))]
 pub fn all_are_sent(logs: &[Log], lines: &[Line], gathered: &Gathered) -> bool
     ensures { OnTrue result (EachBelow (IsSentAt logs.now lines.now gathered.now) (length gathered.now.sent.items)) }
 {
@@ -157,6 +158,7 @@ fn is_got(gathered: &Gathered, logs: LogSet, index: usize) -> bool
 }
 
 /// Returns whether each message of the list of what is delivered was sent, and is delivered by at least one log and by these logs only.
+#[tactic(auto, using(crate::proofs::Steps::each_more))]
 pub fn all_are_got(gathered: &Gathered, logs: LogSet) -> bool
     ensures { OnTrue result (EachBelow (IsGotAt gathered.now logs) (length gathered.now.got.items)) }
 {

@@ -1,6 +1,6 @@
 use Rattle.std.proofs.Common.{refl}
 use Rattle.std.proofs.lemmas.Option.{slice_get_read}
-use Rattle.totem_judge.proofs.Replaying.{skipped_more}
+use Rattle.totem_judge.proofs.Steps.{skipped_more}
 use Rattle.totem_judge.proofs.deliveries.next_got.Goals as goal
 
 pub loop-index-preserved : goal.loop-index-preserved
