@@ -20,11 +20,12 @@ use Rattle.totem_evs.proofs.LogOf.{less_or_not}
 use Rattle.totem_table.specs.Search.{place, NoneFrom, IsLeastFrom, HoldsOfNone}
 use Rattle.totem_run_rules.proofs.Staying.{same_change, change_within}
 use Rattle.totem_evs.proofs.NextChanges.{one_next}
+use Rattle.totem_pass_d.proofs.OneEvent.{event_at}
 use Rattle.totem_pass_d.specs.declared.stay.Stay.{Stay}
 use Rattle.totem_run_rules.specs.Stays.{IsStay}
 use Rattle.totem_pass_d.specs.Acts.{IsAmong, DeliversNot}
-use Rattle.totem_pass_d.specs.Search.{IsInside, EachBeginsWithin, BeginsWithin, NoneWithin, IsLeastWithin}
-use Rattle.totem_pass_d.specs.Partings.{IsAnywhere, IsSpan, IsNoChange, NeverDelivers, IsPartner, IsOnePartner}
+use Rattle.totem_pass_d.specs.Search.{IsInside, EachBeginsWithin, BeginsWithin, NoneWithin, IsLeastWithin, IsOneEvent}
+use Rattle.totem_pass_d.specs.Partings.{IsAnywhere, IsSpan, IsNoChange, NeverDelivers, IsPartner}
 use Rattle.totem_configuration_rules.proofs.Together.{follows_too}
 use Rattle.totem_run_rules.proofs.SentOrNot.{same_conf_or_not}
 use Rattle.totem_pass_d.proofs.Deciding.{below_or_not, delivery_or_not}
@@ -119,19 +120,15 @@ belongs run c stays stay (Transitional n l) ch nx facts among (is_ch, is_nx) cha
     inr (rw same at turn.follows)
 
 -- a process that goes along without the message
-partner_at : (run : List Log) (c : RingId) (m : MsgId) (x d : ConfId) (q k : ℕ) (rest : List Place) → IsOnePartner run c m x d (place q k ∷ rest) → IsPartner run c m x d q k
-partner_at run c m x d q k [] (j, is, h) = let same : j ≡ k = omega arith in rw same at h
-partner_at run c m x d q k (f ∷ more) h = absurd h
-
 pub none_elsewhere : (run : List Log) (c : RingId) (stays : List Stay) (stay : Stay) (m : MsgId) (x d : ConfId) (ch nx : ℕ) → Facts run c stays → IsAmong stays stay → IsSpan x stay ch nx → (ChangesTo stay.log.now ch x → ⊥)
-    → NoneWithin IsAnywhere (IsOnePartner run c m x d) stay
+    → NoneWithin IsAnywhere (IsOneEvent (IsPartner run c m x d)) stay
 none_elsewhere run c stays stay m x d ch nx facts among span never = record {
-  none = λ i rest reached h. never (rw (facts.each stay among).log (changes_there run c stays stay x ch nx facts among span (partner_at run c m x d stay.proc i rest h).0));
+  none = λ i rest reached h. never (rw (facts.each stay among).log (changes_there run c stays stay x ch nx facts among span (event_at (IsPartner run c m x d) stay.proc i rest h).0));
 }
 
 pub none_next : (run : List Log) (c : RingId) (stays : List Stay) (stay : Stay) (m : MsgId) (x d : ConfId) (ch nx : ℕ) → Facts run c stays → IsAmong stays stay → IsSpan x stay ch nx → (ChangesTo stay.log.now nx d → ⊥)
-    → NoneWithin IsAnywhere (IsOnePartner run c m x d) stay
-none_next run c stays stay m x d ch nx facts among span never = record { none = λ i rest reached h. go i (partner_at run c m x d stay.proc i rest h) }
+    → NoneWithin IsAnywhere (IsOneEvent (IsPartner run c m x d)) stay
+none_next run c stays stay m x d ch nx facts among span never = record { none = λ i rest reached h. go i (event_at (IsPartner run c m x d) stay.proc i rest h) }
   where
     go : (i : ℕ) → IsPartner run c m x d stay.proc i → ⊥
     go i (com', goes, lacks) =
@@ -139,13 +136,13 @@ none_next run c stays stay m x d ch nx facts among span never = record { none = 
         never (rw ((facts.each stay among).log, ← same) goes.3)
 
 pub partner_here : (run : List Log) (c : RingId) (stays : List Stay) (stay : Stay) (m : MsgId) (x d : ConfId) (ch nx : ℕ) (places : List Place) → Facts run c stays → IsAmong stays stay → IsSpan x stay ch nx
-    → ChangesTo stay.log.now ch x → ChangesTo stay.log.now nx d → NeverDelivers (log_of run stay.proc) c m x → places ≡ place stay.proc nx ∷ [] → IsLeastWithin IsAnywhere (IsOnePartner run c m x d) stay places
+    → ChangesTo stay.log.now ch x → ChangesTo stay.log.now nx d → NeverDelivers (log_of run stay.proc) c m x → places ≡ place stay.proc nx ∷ [] → IsLeastWithin IsAnywhere (IsOneEvent (IsPartner run c m x d)) stay places
 partner_here run c stays stay m x d ch nx places facts among span at to lacks is =
     let log = (facts.each stay among).log in
     let inside = belongs run c stays stay x ch nx facts among span (rw log at at) in
-    only_here IsAnywhere (IsOnePartner run c m x d) stay nx places
+    only_here IsAnywhere (IsOneEvent (IsPartner run c m x d)) stay nx places
     (nx, refl, (inside, goes_here run c stays stay x d ch nx facts among span inside (rw log at to), lacks.never inside))
-    (λ i rest h. goes_next run c stays stay x d ch nx i facts among span inside (partner_at run c m x d stay.proc i rest h).1) is
+    (λ i rest h. goes_next run c stays stay x d ch nx i facts among span inside (event_at (IsPartner run c m x d) stay.proc i rest h).1) is
 
 pub next_is_short : (run : List Log) (c : RingId) (stays : List Stay) (stay : Stay) (d : ConfId) (nx : ℕ) → Facts run c stays → IsAmong stays stay → ChangesTo stay.log.now nx d → nx < 1000000
 next_is_short run c stays stay d nx facts among to =
@@ -184,7 +181,7 @@ pub goes_along : (run : List Log) (c : RingId) (stays : List Stay) (p q k : ℕ)
 goes_along run c stays p q k x d facts (inl same) goes = inl same
 goes_along run c stays p q k x d facts (inr f) (i, change, next, to) = inr (follows_too run c facts.meets p q i x f change)
 
-pub partings_begin : (run : List Log) (c : RingId) (stays : List Stay) (m : MsgId) (x d : ConfId) → Facts run c stays → EachBeginsWithin stays IsAnywhere (IsOnePartner run c m x d)
+pub partings_begin : (run : List Log) (c : RingId) (stays : List Stay) (m : MsgId) (x d : ConfId) → Facts run c stays → EachBeginsWithin stays IsAnywhere (IsOneEvent (IsPartner run c m x d))
 partings_begin run c stays m x d facts = record { each = λ places h. go places h }
   where
     of_change : (g : Place) (k i : ℕ) → g.at ≡ k + 1 → ChangesTo (log_of run g.proc) i (Regular c) → BeginsWithin stays IsAnywhere (g ∷ [])
@@ -192,7 +189,7 @@ partings_begin run c stays m x d facts = record { each = λ places h. go places 
         let has = facts.whole g.proc i change in
         record { stay = has.stay; among = record { at = has.at; stands = has.stands }; index = k; reached = tt; rest = []; is = rw (has.proc, ← is) refl }
 
-    go : (places : List Place) → IsOnePartner run c m x d places → BeginsWithin stays IsAnywhere places
+    go : (places : List Place) → IsOneEvent (IsPartner run c m x d) places → BeginsWithin stays IsAnywhere places
     go [] h = absurd h
     go (g ∷ []) (k, is, (inl same, (i, change, next, to), lacks)) = of_change g k i is (rw same at change)
     go (g ∷ []) (k, is, (inr f, goes, lacks)) = of_change g k f.from is f.first.change
@@ -270,14 +267,14 @@ none_at_end run c stays stay m x ch nx i facts among span at no_change = nothing
     read d change = rw (facts.each stay among).log change
 
 pub none_along : (run : List Log) (c : RingId) (stays : List Stay) (stay : Stay) (m : MsgId) (x d : ConfId) (ch nx i : ℕ) → Facts run c stays → IsAmong stays stay → IsSpan x stay ch nx → slice_get (log_of run stay.proc) i ≡ Some (Deliver m x)
-    → ChangesTo stay.log.now nx d → HoldsOfNone (IsOnePartner run c m x d) → NoneFrom (BreaksAtomicityIn run c) stay.proc i
+    → ChangesTo stay.log.now nx d → HoldsOfNone (IsOneEvent (IsPartner run c m x d)) → NoneFrom (BreaksAtomicityIn run c) stay.proc i
 none_along run c stays stay m x d ch nx i facts among span at to none = nothing_here (BreaksAtomicityIn run c) stay.proc i (λ rest h.
     let by = parted_by run c stays stay m x ch nx i rest facts among span at (parted_at run c stay.proc i rest h) in
     let same = same_change (log_of run stay.proc) nx nx by.to d refl by.change (rw (facts.each stay among).log at to) in
     none.none (place by.other by.along ∷ []) (by.along, refl, rw same at by.partner))
 
 pub least_along : (run : List Log) (c : RingId) (stays : List Stay) (stay : Stay) (m : MsgId) (x d : ConfId) (ch nx i : ℕ) (list : List Place) → Facts run c stays → IsAmong stays stay → IsSpan x stay ch nx → IsInside stay i
-    → slice_get (log_of run stay.proc) i ≡ Some (Deliver m x) → ChangesTo stay.log.now nx d → IsLeast (IsOnePartner run c m x d) list → IsLeastFrom (BreaksAtomicityIn run c) stay.proc i (place stay.proc nx ∷ list)
+    → slice_get (log_of run stay.proc) i ≡ Some (Deliver m x) → ChangesTo stay.log.now nx d → IsLeast (IsOneEvent (IsPartner run c m x d)) list → IsLeastFrom (BreaksAtomicityIn run c) stay.proc i (place stay.proc nx ∷ list)
 least_along run c stays stay m x d ch nx i list facts among span inside at to least = record {
   least = record {
     holds = holds list least.holds;
@@ -291,7 +288,7 @@ least_along run c stays stay m x d ch nx i list facts among span inside at to le
     stands : Com (log_of run stay.proc) c x
     stands = (facts.each stay among).stands i x inside (Deliver m x, at, refl)
 
-    holds : (others : List Place) → IsOnePartner run c m x d others → BreaksAtomicityIn run c (place stay.proc i ∷ place stay.proc nx ∷ others)
+    holds : (others : List Place) → IsOneEvent (IsPartner run c m x d) others → BreaksAtomicityIn run c (place stay.proc i ∷ place stay.proc nx ∷ others)
     holds [] h = absurd h
     holds (g ∷ []) (k, is, (along, goes, lacks)) =
         (i, refl, (nx, refl, (k, is, (refl, (x, stands, (m, d, at, goes_here run c stays stay x d ch nx facts among span stands there, goes, lacks))))))

@@ -17,10 +17,11 @@ use Rattle.totem_evs.specs.RingAgreement.{IsHop, CausalityIn}
 use Rattle.totem_evs.specs.RingFaults.{BreaksCausalityIn}
 use Rattle.totem_evs.specs.Answers.{IsLeast}
 use Rattle.totem_table.specs.Search.{place, NoneFrom, IsLeastFrom, HoldsOfNone}
+use Rattle.totem_pass_d.proofs.OneEvent.{event_at, begins_inside}
 use Rattle.totem_pass_d.specs.declared.stay.Stay.{Stay}
 use Rattle.totem_pass_d.specs.Acts.{IsAmong, DeliversNot}
-use Rattle.totem_pass_d.specs.Search.{IsInside, EachBeginsWithin, NoneWithin, IsLeastWithin, BeginsWithin}
-use Rattle.totem_pass_d.specs.Causality.{IsSurprise, IsOneSurprise, IsEffect}
+use Rattle.totem_pass_d.specs.Search.{IsInside, EachBeginsWithin, NoneWithin, IsLeastWithin, BeginsWithin, IsOneEvent}
+use Rattle.totem_pass_d.specs.Causality.{IsSurprise, IsEffect}
 use Rattle.totem_pass_d.proofs.Deciding.{both_or_not, below_or_not, delivery_or_not}
 use Rattle.totem_run_rules.proofs.SentOrNot.{in_or_not}
 use Rattle.totem_pass_d.proofs.Facts.{Facts}
@@ -30,38 +31,28 @@ use Rattle.totem_pass_d.proofs.Rests.{none_rest, least_rest, nothing_here, only_
 pub one_delivery_in : (run : List Log) (c : RingId) (stays : List Stay) (p i j : ℕ) (m : MsgId) → Facts run c stays → DeliversIn (log_of run p) c m i → DeliversIn (log_of run p) c m j → i ≡ j
 one_delivery_in run c stays p i j m facts (x, at_i, _) (y, at_j, _) = facts.meets.once.one_delivery p i j m x y at_i at_j
 
--- the surprises of one stay
-surprise_at : (run : List Log) (c : RingId) (m n : MsgId) (p i : ℕ) (rest : List Place) → IsOneSurprise run c m n (place p i ∷ rest) → IsSurprise run c m n p i
-surprise_at run c m n p i [] (j, is, h) = let same : j ≡ i = omega arith in rw same at h
-surprise_at run c m n p i (f ∷ more) h = absurd h
-
-pub none_undelivered : (run : List Log) (c : RingId) (stay : Stay) (m n : MsgId) → DeliversNot (log_of run stay.proc) c n → NoneWithin IsInside (IsOneSurprise run c m n) stay
-none_undelivered run c stay m n never = record { none = λ i rest inside h. never.never (i, (surprise_at run c m n stay.proc i rest h).0) }
+pub none_undelivered : (run : List Log) (c : RingId) (stay : Stay) (m n : MsgId) → DeliversNot (log_of run stay.proc) c n → NoneWithin IsInside (IsOneEvent (IsSurprise run c m n)) stay
+none_undelivered run c stay m n never = record { none = λ i rest inside h. never.never (i, (event_at (IsSurprise run c m n) stay.proc i rest h).0) }
 
 pub none_caused : (run : List Log) (c : RingId) (stays : List Stay) (stay : Stay) (m n : MsgId) (k l : ℕ) → Facts run c stays → DeliversIn (log_of run stay.proc) c n k → DeliversIn (log_of run stay.proc) c m l → l < k
-    → NoneWithin IsInside (IsOneSurprise run c m n) stay
-none_caused run c stays stay m n k l facts effect cause lt = record { none = λ i rest inside h. never i (surprise_at run c m n stay.proc i rest h) }
+    → NoneWithin IsInside (IsOneEvent (IsSurprise run c m n)) stay
+none_caused run c stays stay m n k l facts effect cause lt = record { none = λ i rest inside h. never i (event_at (IsSurprise run c m n) stay.proc i rest h) }
   where
     never : (i : ℕ) → IsSurprise run c m n stay.proc i → ⊥
     never i (delivers, none) = none l (rw (one_delivery_in run c stays stay.proc i k n facts delivers effect) lt) cause
 
 pub surprise_here : (run : List Log) (c : RingId) (stays : List Stay) (stay : Stay) (m n : MsgId) (k : ℕ) (places : List Place) → Facts run c stays → DeliversIn (log_of run stay.proc) c n k
-    → ((l : ℕ) → l < k → DeliversIn (log_of run stay.proc) c m l → ⊥) → places ≡ place stay.proc k ∷ [] → IsLeastWithin IsInside (IsOneSurprise run c m n) stay places
+    → ((l : ℕ) → l < k → DeliversIn (log_of run stay.proc) c m l → ⊥) → places ≡ place stay.proc k ∷ [] → IsLeastWithin IsInside (IsOneEvent (IsSurprise run c m n)) stay places
 surprise_here run c stays stay m n k places facts delivers none is =
-    only_here IsInside (IsOneSurprise run c m n) stay k places (k, refl, (delivers, none))
-    (λ i rest h. one_delivery_in run c stays stay.proc i k n facts (surprise_at run c m n stay.proc i rest h).0 delivers) is
+    only_here IsInside (IsOneEvent (IsSurprise run c m n)) stay k places (k, refl, (delivers, none))
+    (λ i rest h. one_delivery_in run c stays stay.proc i k n facts (event_at (IsSurprise run c m n) stay.proc i rest h).0 delivers) is
 
 pub not_before : (run : List Log) (c : RingId) (stays : List Stay) (stay : Stay) (m : MsgId) (k l : ℕ) → Facts run c stays → DeliversIn (log_of run stay.proc) c m l → k ≤ l
     → (i : ℕ) → i < k → DeliversIn (log_of run stay.proc) c m i → ⊥
 not_before run c stays stay m k l facts cause le i lt delivers = let same = one_delivery_in run c stays stay.proc i l m facts delivers cause in omega arith
 
-pub surprises_begin : (run : List Log) (c : RingId) (stays : List Stay) (m n : MsgId) → Facts run c stays → EachBeginsWithin stays IsInside (IsOneSurprise run c m n)
-surprises_begin run c stays m n facts = record { each = λ places h. go places h }
-  where
-    go : (places : List Place) → IsOneSurprise run c m n places → BeginsWithin stays IsInside places
-    go [] h = absurd h
-    go (g ∷ []) (k, is, ((x, at, belongs), none)) = begins_at run c stays g k x [] facts (rw (← is) refl) (Deliver n x, at, refl) belongs
-    go (g ∷ h ∷ rest) b = absurd b
+pub surprises_begin : (run : List Log) (c : RingId) (stays : List Stay) (m n : MsgId) → Facts run c stays → EachBeginsWithin stays IsInside (IsOneEvent (IsSurprise run c m n))
+surprises_begin run c stays m n facts = begins_inside (IsSurprise run c m n) stays (record { each = λ p k ((x, at, belongs), none). facts.inside p k x (Deliver n x, at, refl) belongs })
 
 -- one hop from a cause to its effect
 same_proc : (run : List Log) (c : RingId) (m : MsgId) (p i q j : ℕ) → (q ≡ p) → i < j → IsHop run c m (place p i) (place q j)
@@ -100,7 +91,7 @@ pub send_here : (run : List Log) (c : RingId) (stays : List Stay) (stay : Stay) 
 send_here run c stays stay i m x s facts among inside at = (facts.each stay among).sends i m x inside (s, at)
 
 -- the effects of what is sent at a place
-effect_at : (run : List Log) (c : RingId) (m n : MsgId) (x : ConfId) (s : Service) (e : Place) (q j : ℕ) (rest : List Place) → slice_get (log_of run q) j ≡ Some (Send n x s) → IsEffect run c m e (place q j ∷ rest) → IsHop run c m e (place q j) × IsOneSurprise run c m n rest
+effect_at : (run : List Log) (c : RingId) (m n : MsgId) (x : ConfId) (s : Service) (e : Place) (q j : ℕ) (rest : List Place) → slice_get (log_of run q) j ≡ Some (Send n x s) → IsEffect run c m e (place q j ∷ rest) → IsHop run c m e (place q j) × IsOneEvent (IsSurprise run c m n) rest
 effect_at run c m n x s e q j rest at (o, send, hop, one) =
     let sends = sends_there run q j o (Regular c) send in
     let there : slice_get (log_of run q) j ≡ Some (Send o (Regular c) sends.0) = sends.1 in
@@ -113,13 +104,13 @@ none_unsent run c m e q j entry at other = nothing_here (IsEffect run c m e) q j
 pub none_apart : (run : List Log) (c : RingId) (m n : MsgId) (x : ConfId) (s : Service) (e : Place) (q j : ℕ) → slice_get (log_of run q) j ≡ Some (Send n x s) → (IsHop run c m e (place q j) → ⊥) → NoneFrom (IsEffect run c m e) q j
 none_apart run c m n x s e q j at never = nothing_here (IsEffect run c m e) q j (λ rest h. never (effect_at run c m n x s e q j rest at h).0)
 
-pub none_surprised : (run : List Log) (c : RingId) (m n : MsgId) (x : ConfId) (s : Service) (e : Place) (q j : ℕ) → slice_get (log_of run q) j ≡ Some (Send n x s) → HoldsOfNone (IsOneSurprise run c m n) → NoneFrom (IsEffect run c m e) q j
-none_surprised run c m n x s e q j at none = none_rest (IsOneSurprise run c m n) (IsEffect run c m e) q j (λ rest h. (effect_at run c m n x s e q j rest at h).1) none
+pub none_surprised : (run : List Log) (c : RingId) (m n : MsgId) (x : ConfId) (s : Service) (e : Place) (q j : ℕ) → slice_get (log_of run q) j ≡ Some (Send n x s) → HoldsOfNone (IsOneEvent (IsSurprise run c m n)) → NoneFrom (IsEffect run c m e) q j
+none_surprised run c m n x s e q j at none = none_rest (IsOneEvent (IsSurprise run c m n)) (IsEffect run c m e) q j (λ rest h. (effect_at run c m n x s e q j rest at h).1) none
 
 pub least_surprised : (run : List Log) (c : RingId) (m n : MsgId) (x : ConfId) (s : Service) (e : Place) (q j : ℕ) (rest : List Place) → slice_get (log_of run q) j ≡ Some (Send n x s) → x ≡ Regular c → IsHop run c m e (place q j)
-    → IsLeast (IsOneSurprise run c m n) rest → IsLeastFrom (IsEffect run c m e) q j rest
+    → IsLeast (IsOneEvent (IsSurprise run c m n)) rest → IsLeastFrom (IsEffect run c m e) q j rest
 least_surprised run c m n x s e q j rest at is hop least =
-    least_rest (IsOneSurprise run c m n) (IsEffect run c m e) q j rest
+    least_rest (IsOneEvent (IsSurprise run c m n)) (IsEffect run c m e) q j rest
     (λ others h. (n, there_sends run q j n (Regular c) (s, rw is at at), hop, h))
     (λ others h. (effect_at run c m n x s e q j others at h).1) least
 

@@ -18,12 +18,13 @@ use Rattle.totem_evs.specs.AgreementFaults.{IsGap}
 use Rattle.totem_evs.specs.Answers.{ComesFirst, IsLeast, MeetsPasses}
 use Rattle.totem_evs.proofs.LogOf.{less_or_not}
 use Rattle.totem_table.specs.Search.{place, NoneFrom, IsLeastFrom, HoldsOfNone}
+use Rattle.totem_pass_d.proofs.OneEvent.{event_at, begins_inside}
 use Rattle.totem_pass_d.specs.declared.stay.Stay.{Stay}
 use Rattle.totem_pass_d.specs.declared.stays.Sending.{Sending}
 use Rattle.totem_pass_d.specs.Acts.{IsAmong, DeliversNot, IsSendingOf, NobodySent}
-use Rattle.totem_pass_d.specs.Search.{IsInside, EachBeginsWithin, NoneWithin, IsLeastWithin, BeginsWithin}
+use Rattle.totem_pass_d.specs.Search.{IsInside, EachBeginsWithin, NoneWithin, IsLeastWithin, BeginsWithin, IsOneEvent}
 use Rattle.totem_pass_d.specs.Reached.{AreMembersAt}
-use Rattle.totem_pass_d.specs.Gaps.{IsLack, IsOneLack, IsLater, TellsMember}
+use Rattle.totem_pass_d.specs.Gaps.{IsLack, IsLater, TellsMember}
 use Rattle.totem_pass_d.proofs.Deciding.{has_delivered_or_not}
 use Rattle.totem_pass_d.proofs.Reaching.{is_among_members, is_member, one_origin}
 use Rattle.totem_pass_d.proofs.Facts.{Facts, delivery_inside}
@@ -40,25 +41,21 @@ tells_member run p i q members b meets are decides = record {
 }
 
 -- a process that lacks the earlier message
-lack_at : (run : List Log) (c : RingId) (s : ℕ) (m n : MsgId) (q k : ℕ) (rest : List Place) → IsOneLack run c s m n (place q k ∷ rest) → IsLack run c s m n q k
-lack_at run c s m n q k [] (j, is, h) = let same : j ≡ k = omega arith in rw same at h
-lack_at run c s m n q k (f ∷ more) h = absurd h
-
-pub none_later : (run : List Log) (c : RingId) (stay : Stay) (s : ℕ) (m n : MsgId) → DeliversNot (log_of run stay.proc) c n → NoneWithin IsInside (IsOneLack run c s m n) stay
-none_later run c stay s m n never = record { none = λ i rest inside h. go i (lack_at run c s m n stay.proc i rest h) }
+pub none_later : (run : List Log) (c : RingId) (stay : Stay) (s : ℕ) (m n : MsgId) → DeliversNot (log_of run stay.proc) c n → NoneWithin IsInside (IsOneEvent (IsLack run c s m n)) stay
+none_later run c stay s m n never = record { none = λ i rest inside h. go i (event_at (IsLack run c s m n) stay.proc i rest h) }
   where
     go : (i : ℕ) → IsLack run c s m n stay.proc i → ⊥
     go i (d, at, belongs, member, lacks) = never.never (i, (d, at, belongs))
 
-pub none_lacks : (run : List Log) (c : RingId) (stay : Stay) (s k : ℕ) (m n : MsgId) → DeliversIn (log_of run stay.proc) c m k → NoneWithin IsInside (IsOneLack run c s m n) stay
-none_lacks run c stay s k m n here = record { none = λ i rest inside h. go i (lack_at run c s m n stay.proc i rest h) }
+pub none_lacks : (run : List Log) (c : RingId) (stay : Stay) (s k : ℕ) (m n : MsgId) → DeliversIn (log_of run stay.proc) c m k → NoneWithin IsInside (IsOneEvent (IsLack run c s m n)) stay
+none_lacks run c stay s k m n here = record { none = λ i rest inside h. go i (event_at (IsLack run c s m n) stay.proc i rest h) }
   where
     go : (i : ℕ) → IsLack run c s m n stay.proc i → ⊥
     go i (d, at, belongs, member, lacks) = lacks (k, here)
 
 pub none_member : (run : List Log) (c : RingId) (stays : List Stay) (stay : Stay) (s k : ℕ) (m n : MsgId) (b : Bool) → Facts run c stays → DeliversIn (log_of run stay.proc) c n k → TellsMember run (log_of run stay.proc) k s b → b ≡ false
-    → NoneWithin IsInside (IsOneLack run c s m n) stay
-none_member run c stays stay s k m n b facts here tells no_member = record { none = λ i rest inside h. go i (lack_at run c s m n stay.proc i rest h) }
+    → NoneWithin IsInside (IsOneEvent (IsLack run c s m n)) stay
+none_member run c stays stay s k m n b facts here tells no_member = record { none = λ i rest inside h. go i (event_at (IsLack run c s m n) stay.proc i rest h) }
   where
     go : (i : ℕ) → IsLack run c s m n stay.proc i → ⊥
     go i (d, at, belongs, member, lacks) =
@@ -66,27 +63,22 @@ none_member run c stays stay s k m n b facts here tells no_member = record { non
         let t : b ≡ true = (tells.each d (Deliver n d, rw same at at, refl)).1 member in cc
 
 pub lack_here : (run : List Log) (c : RingId) (stays : List Stay) (stay : Stay) (s k : ℕ) (m n : MsgId) (b : Bool) (places : List Place) → Facts run c stays → DeliversIn (log_of run stay.proc) c n k → DeliversNot (log_of run stay.proc) c m
-    → TellsMember run (log_of run stay.proc) k s b → b ≡ true → places ≡ place stay.proc k ∷ [] → IsLeastWithin IsInside (IsOneLack run c s m n) stay places
+    → TellsMember run (log_of run stay.proc) k s b → b ≡ true → places ≡ place stay.proc k ∷ [] → IsLeastWithin IsInside (IsOneEvent (IsLack run c s m n)) stay places
 lack_here run c stays stay s k m n b places facts here never tells is_member is = go here
   where
     one : DeliversIn (log_of run stay.proc) c n k → (i : ℕ) → IsLack run c s m n stay.proc i → i ≡ k
     one there i (d, at, belongs, member, lacks) = one_delivery_in run c stays stay.proc i k n facts (d, at, belongs) there
 
-    go : DeliversIn (log_of run stay.proc) c n k → IsLeastWithin IsInside (IsOneLack run c s m n) stay places
-    go (d, at, belongs) = only_here IsInside (IsOneLack run c s m n) stay k places
+    go : DeliversIn (log_of run stay.proc) c n k → IsLeastWithin IsInside (IsOneEvent (IsLack run c s m n)) stay places
+    go (d, at, belongs) = only_here IsInside (IsOneEvent (IsLack run c s m n)) stay k places
         (k, refl, (d, at, belongs, (tells.each d (Deliver n d, at, refl)).0 is_member, never.never))
-        (λ i rest h. one (d, at, belongs) i (lack_at run c s m n stay.proc i rest h)) is
+        (λ i rest h. one (d, at, belongs) i (event_at (IsLack run c s m n) stay.proc i rest h)) is
 
-pub lacks_begin : (run : List Log) (c : RingId) (stays : List Stay) (s : ℕ) (m n : MsgId) → Facts run c stays → EachBeginsWithin stays IsInside (IsOneLack run c s m n)
-lacks_begin run c stays s m n facts = record { each = λ places h. go places h }
-  where
-    go : (places : List Place) → IsOneLack run c s m n places → BeginsWithin stays IsInside places
-    go [] h = absurd h
-    go (g ∷ []) (k, is, (d, at, belongs, member, lacks)) = begins_at run c stays g k d [] facts (rw (← is) refl) (Deliver n d, at, refl) belongs
-    go (g ∷ h ∷ rest) b = absurd b
+pub lacks_begin : (run : List Log) (c : RingId) (stays : List Stay) (s : ℕ) (m n : MsgId) → Facts run c stays → EachBeginsWithin stays IsInside (IsOneEvent (IsLack run c s m n))
+lacks_begin run c stays s m n facts = begins_inside (IsLack run c s m n) stays (record { each = λ p k (d, at, belongs, member, lacks). facts.inside p k d (Deliver n d, at, refl) belongs })
 
 -- later messages of one log
-later_at : (run : List Log) (c : RingId) (s : ℕ) (m n : MsgId) (i p j : ℕ) (d : ConfId) (rest : List Place) → Delivers (log_of run p) j n d → IsLater run c s m i (place p j ∷ rest) → IsOneLack run c s m n rest
+later_at : (run : List Log) (c : RingId) (s : ℕ) (m n : MsgId) (i p j : ℕ) (d : ConfId) (rest : List Place) → Delivers (log_of run p) j n d → IsLater run c s m i (place p j ∷ rest) → IsOneEvent (IsLack run c s m n) rest
 later_at run c s m n i p j d rest at (k, is, (lt, (o, (y, at', belongs), one))) =
     let there : slice_get (log_of run p) j ≡ Some (Deliver o y) = (let same : k ≡ j = omega arith in rw same at at') in
     let same : o ≡ n = (let h : slice_get (log_of run p) j ≡ Some (Deliver n d) = at in cc) in rw same at one
@@ -100,13 +92,13 @@ none_undelivered run c s m i p j e at other = nothing_here (IsLater run c s m i)
     go : (rest : List Place) → IsLater run c s m i (place p j ∷ rest) → ⊥
     go rest (k, is, (lt, (n, (d, at', belongs), one))) = let same : k ≡ j = omega arith in let there : slice_get (log_of run p) j ≡ Some (Deliver n d) = rw same at at' in other n d cc
 
-pub none_without_lack : (run : List Log) (c : RingId) (s : ℕ) (m n : MsgId) (i p j : ℕ) (d : ConfId) → slice_get (log_of run p) j ≡ Some (Deliver n d) → HoldsOfNone (IsOneLack run c s m n) → NoneFrom (IsLater run c s m i) p j
-none_without_lack run c s m n i p j d at none = none_rest (IsOneLack run c s m n) (IsLater run c s m i) p j (λ rest h. later_at run c s m n i p j d rest at h) none
+pub none_without_lack : (run : List Log) (c : RingId) (s : ℕ) (m n : MsgId) (i p j : ℕ) (d : ConfId) → slice_get (log_of run p) j ≡ Some (Deliver n d) → HoldsOfNone (IsOneEvent (IsLack run c s m n)) → NoneFrom (IsLater run c s m i) p j
+none_without_lack run c s m n i p j d at none = none_rest (IsOneEvent (IsLack run c s m n)) (IsLater run c s m i) p j (λ rest h. later_at run c s m n i p j d rest at h) none
 
 pub least_lack : (run : List Log) (c : RingId) (stays : List Stay) (stay : Stay) (s : ℕ) (m n : MsgId) (i j : ℕ) (d : ConfId) (rest : List Place) → Facts run c stays → IsAmong stays stay → IsInside stay j → slice_get (log_of run stay.proc) j ≡ Some (Deliver n d) → i < j
-    → IsLeast (IsOneLack run c s m n) rest → IsLeastFrom (IsLater run c s m i) stay.proc j rest
+    → IsLeast (IsOneEvent (IsLack run c s m n)) rest → IsLeastFrom (IsLater run c s m i) stay.proc j rest
 least_lack run c stays stay s m n i j d rest facts among inside at lt least =
-    least_rest (IsOneLack run c s m n) (IsLater run c s m i) stay.proc j rest
+    least_rest (IsOneEvent (IsLack run c s m n)) (IsLater run c s m i) stay.proc j rest
     (λ others h. (j, refl, (lt, (n, (d, at, (facts.each stay among).stands j d inside (Deliver n d, at, refl)), h))))
     (λ others h. later_at run c s m n i stay.proc j d others at h) least
 

@@ -11,12 +11,12 @@ use Rattle.totem_table.specs.Search.{place, NoneFrom, IsLeastFrom, HoldsOfNone}
 use Rattle.totem_pass_d.specs.declared.stay.Stay.{Stay}
 use Rattle.totem_pass_d.specs.Search.{IsOneEvent, EachStandsInside, IsInside, BeginsWithin, EachBeginsWithin}
 
+pub event_at : (Fact : ℕ → ℕ → Type 0) (p i : ℕ) (rest : List Place) → IsOneEvent Fact (place p i ∷ rest) → Fact p i
+event_at Fact p i [] at = let same : at.0 ≡ i = omega (arith, at.1) in rw same at at.2
+event_at Fact p i (f ∷ more) h = absurd h
+
 pub none_here : (Fact : ℕ → ℕ → Type 0) (p i : ℕ) → (Fact p i → ⊥) → NoneFrom (IsOneEvent Fact) p i
-none_here Fact p i never = record { none = λ rest h. go rest h }
-  where
-    go : (rest : List Place) → IsOneEvent Fact (place p i ∷ rest) → ⊥
-    go [] at = let same : at.0 ≡ i = omega (arith, at.1) in never (rw same at at.2)
-    go (f ∷ more) h = h
+none_here Fact p i never = record { none = λ rest h. never (event_at Fact p i rest h) }
 
 pub is_here : (Fact : ℕ → ℕ → Type 0) (p i : ℕ) → Fact p i → IsLeastFrom (IsOneEvent Fact) p i []
 is_here Fact p i fact = record { least = record { holds = (i, refl, fact); first = λ others h. tt } }

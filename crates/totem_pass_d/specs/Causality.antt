@@ -11,18 +11,13 @@ use Rattle.totem_evs.specs.Steps.{SendsAt}
 use Rattle.totem_evs.specs.Following.{DeliversIn}
 use Rattle.totem_evs.specs.Places.{At}
 use Rattle.totem_evs.specs.RingAgreement.{IsHop}
+use Rattle.totem_pass_d.specs.Search.{IsOneEvent}
 
 -- the entry delivers the effect, and no entry before it delivers the cause
 abbrev pub IsSurprise : List Log → RingId → MsgId → MsgId → ℕ → ℕ → Type 0
 IsSurprise run c cause effect r k = DeliversIn (log_of run r) c effect k × ((l : ℕ) → l < k → DeliversIn (log_of run r) c cause l → ⊥)
 
--- one such entry
-abbrev pub IsOneSurprise : List Log → RingId → MsgId → MsgId → List Place → Type 0
-IsOneSurprise run c cause effect [] = ⊥
-IsOneSurprise run c cause effect (g ∷ []) = At g (IsSurprise run c cause effect)
-IsOneSurprise run c cause effect (g ∷ h ∷ rest) = ⊥
-
 -- the send of an effect of what e sends, and such an entry
 abbrev pub IsEffect : List Log → RingId → MsgId → Place → List Place → Type 0
 IsEffect run c cause e [] = ⊥
-IsEffect run c cause e (f ∷ rest) = (effect : MsgId) × SendsAt run f effect (Regular c) × IsHop run c cause e f × IsOneSurprise run c cause effect rest
+IsEffect run c cause e (f ∷ rest) = (effect : MsgId) × SendsAt run f effect (Regular c) × IsHop run c cause e f × IsOneEvent (IsSurprise run c cause effect) rest

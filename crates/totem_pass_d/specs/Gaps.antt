@@ -11,6 +11,7 @@ use Rattle.totem_evs.specs.Events.{Delivers, IsMember, log_of}
 use Rattle.totem_evs.specs.Changes.{Names}
 use Rattle.totem_evs.specs.Following.{Com, DeliversIn, HasDelivered}
 use Rattle.totem_evs.specs.Places.{At}
+use Rattle.totem_pass_d.specs.Search.{IsOneEvent}
 use Rattle.totem_pass_d.specs.declared.stay.Stay.{Stay}
 use Rattle.totem_pass_d.specs.Acts.{IsAmong}
 
@@ -19,16 +20,10 @@ abbrev pub IsLack : List Log → RingId → ℕ → MsgId → MsgId → ℕ → 
 IsLack run c sender earlier later q k = (d : ConfId) × Delivers (log_of run q) k later d × Com (log_of run q) c d × IsMember run d sender
     × (HasDelivered (log_of run q) c earlier → ⊥)
 
--- one such entry
-abbrev pub IsOneLack : List Log → RingId → ℕ → MsgId → MsgId → List Place → Type 0
-IsOneLack run c sender earlier later [] = ⊥
-IsOneLack run c sender earlier later (g ∷ []) = At g (IsLack run c sender earlier later)
-IsOneLack run c sender earlier later (g ∷ h ∷ rest) = ⊥
-
 -- a delivery of a later message after i, and such an entry
 abbrev pub IsLater : List Log → RingId → ℕ → MsgId → ℕ → List Place → Type 0
 IsLater run c sender earlier i [] = ⊥
-IsLater run c sender earlier i (f ∷ rest) = At f (λ p j. (i < j) × ((later : MsgId) × DeliversIn (log_of run p) c later j × IsOneLack run c sender earlier later rest))
+IsLater run c sender earlier i (f ∷ rest) = At f (λ p j. (i < j) × ((later : MsgId) × DeliversIn (log_of run p) c later j × IsOneEvent (IsLack run c sender earlier later) rest))
 
 -- the test says whether q is a member of the configuration that the entry at i names
 pub record TellsMember (run : List Log) (log : List Entry) (i q : ℕ) (test : Bool) : Type 0 where

@@ -34,9 +34,3 @@ pub record NeverDelivers (log : List Entry) (c : RingId) (m : MsgId) (x : ConfId
 -- the change at k, from x to d, is by a process that does not deliver m in x
 abbrev pub IsPartner : List Log → RingId → MsgId → ConfId → ConfId → ℕ → ℕ → Type 0
 IsPartner run c m x d q k = Com (log_of run q) c x × GoesAt (log_of run q) x d k × ((l : ℕ) → Delivers (log_of run q) l m x → ⊥)
-
--- one such change
-abbrev pub IsOnePartner : List Log → RingId → MsgId → ConfId → ConfId → List Place → Type 0
-IsOnePartner run c m x d [] = ⊥
-IsOnePartner run c m x d (g ∷ []) = At g (IsPartner run c m x d)
-IsOnePartner run c m x d (g ∷ h ∷ rest) = ⊥

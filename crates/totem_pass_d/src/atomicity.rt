@@ -5,11 +5,12 @@ ghost use Rattle.std.specs.Bool.{OnTrue, OnFalse};
 ghost use Rattle.totem_evs.specs.Events.{log_of, ChangesTo, Delivers};
 ghost use Rattle.totem_evs.specs.RingFaults.{BreaksAtomicityIn, MeetsIn};
 ghost use Rattle.totem_evs.specs.Answers.{FindsIn};
+ghost use Rattle.totem_pass_d.specs.Search.{IsOneEvent};
 ghost use Rattle.totem_pass_d.specs.KnownStays.{AreKnown};
 ghost use Rattle.totem_pass_d.specs.Acts.{IsAmong};
-ghost use Rattle.totem_pass_d.specs.Partings.{IsAnywhere, IsSpan, IsNoChange, NeverDelivers, IsOnePartner};
+ghost use Rattle.totem_pass_d.specs.Partings.{IsAnywhere, IsSpan, IsNoChange, NeverDelivers, IsPartner};
 
-use crate::search::{Finder, Relation, first_found, least, only};
+use crate::search::{EachIndex, Finder, Relation, first_found, least_found, only};
 use crate::stay::Stay;
 use crate::stays::Stays;
 use std::alloc::{AllocError, Global};
@@ -92,7 +93,7 @@ impl Finder for Partings<'_, '_, '_> {
 
     ghost reaches = { λ p. IsAnywhere };
 
-    ghost holds = { λ p. IsOnePartner p.stays.now.run.now.logs p.stays.now.ring p.message.now p.conf.now p.next.now };
+    ghost holds = { λ p. IsOneEvent (IsPartner p.stays.now.run.now.logs p.stays.now.ring p.message.now p.conf.now p.next.now) };
 
     fn find_in(&self, alloc: Global, stay: &Stay) -> Result<Option<Vec<Place>>, AllocError> {
         let span = span_of(stay, self.conf);
@@ -155,5 +156,9 @@ pub fn find(alloc: Global, stays: &Stays, is_met: bool) -> Result<Option<Places>
     if is_met {
         return Ok(None);
     }
-    least(&Deliveries { stays }, alloc, stays)
+    let relation = Deliveries { stays };
+    let finder = EachIndex {
+        relation: &relation,
+    };
+    least_found(&finder, alloc, stays)
 }

@@ -8,11 +8,11 @@ ghost use Rattle.std.specs.Bool.{OnTrue};
 ghost use Rattle.totem_evs.specs.Answers.{FindsIn};
 ghost use Rattle.totem_pass_d.specs.KnownStays.{AreKnown};
 ghost use Rattle.totem_pass_d.specs.Acts.{IsAmong};
-ghost use Rattle.totem_pass_d.specs.Search.{IsInside};
-ghost use Rattle.totem_pass_d.specs.Causality.{IsOneSurprise, IsEffect};
+ghost use Rattle.totem_pass_d.specs.Search.{IsInside, IsOneEvent};
+ghost use Rattle.totem_pass_d.specs.Causality.{IsEffect, IsSurprise};
 ghost use Rattle.totem_pass_d.specs.Suspects.{AreSuspects};
 
-use crate::search::{Finder, Relation, first_found, least, least_list, only};
+use crate::search::{EachIndex, Finder, Relation, first_found, least_found, only};
 use crate::stay::Stay;
 use crate::stays::Stays;
 use crate::suspects::suspects_of;
@@ -34,7 +34,7 @@ impl Finder for Surprises<'_, '_, '_> {
 
     ghost reaches = { λ s. IsInside };
 
-    ghost holds = { λ s. IsOneSurprise s.stays.now.run.now.logs s.stays.now.ring s.cause.now s.effect.now };
+    ghost holds = { λ s. IsOneEvent (IsSurprise s.stays.now.run.now.logs s.stays.now.ring s.cause.now s.effect.now) };
 
     fn find_in(&self, alloc: Global, stay: &Stay) -> Result<Option<Vec<Place>>, AllocError> {
         let Some(at) = self.stays.delivery_of(stay, self.effect) else {
@@ -133,7 +133,8 @@ impl Relation for Causes<'_, '_> {
             proc: stay.proc,
             at,
         };
-        least_list(&effects, alloc, self.stays)
+        let finder = EachIndex { relation: &effects };
+        first_found(&finder, alloc, self.stays)
     }
 }
 
@@ -147,5 +148,9 @@ pub fn find(alloc: Global, stays: &Stays, is_met: bool) -> Result<Option<Places>
         return Ok(None);
     }
     let suspects = suspects_of(alloc, stays)?;
-    least(&Causes { stays, suspects }, alloc, stays)
+    let relation = Causes { stays, suspects };
+    let finder = EachIndex {
+        relation: &relation,
+    };
+    least_found(&finder, alloc, stays)
 }

@@ -8,7 +8,7 @@ ghost use Rattle.totem_pass_d.specs.KnownStays.{AreKnown};
 ghost use Rattle.totem_pass_d.specs.Acts.{IsAmong};
 ghost use Rattle.totem_pass_d.specs.Search.{IsInside, EachStandsInside, IsOneEvent};
 
-use crate::search::{Relation, least};
+use crate::search::{EachIndex, Relation, least_found};
 use crate::stay::Stay;
 use crate::stays::Stays;
 use std::alloc::{AllocError, Global};
@@ -68,5 +68,9 @@ pub fn least_event<T: EventTest>(
     requires inside { EachStandsInside stays.now.list.items (T.breaks test.now) }
     ensures { IfOk result (λ found. MatchOption found (HoldsOfNone (IsOneEvent (T.breaks test.now))) (IsLeast (IsOneEvent (T.breaks test.now)))) }
 {
-    least(&OneEvent { test }, alloc, stays)
+    let relation = OneEvent { test };
+    let finder = EachIndex {
+        relation: &relation,
+    };
+    least_found(&finder, alloc, stays)
 }

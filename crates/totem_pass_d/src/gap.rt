@@ -9,10 +9,10 @@ ghost use Rattle.totem_evs.specs.RingFaults.{BreaksGapIn, MeetsIn};
 ghost use Rattle.totem_evs.specs.Answers.{FindsIn};
 ghost use Rattle.totem_pass_d.specs.KnownStays.{AreKnown};
 ghost use Rattle.totem_pass_d.specs.Acts.{IsAmong};
-ghost use Rattle.totem_pass_d.specs.Search.{IsInside};
-ghost use Rattle.totem_pass_d.specs.Gaps.{IsOneLack, IsLater, TellsMember, IsApart, IsBeyond, AreLasts, IsSettled};
+ghost use Rattle.totem_pass_d.specs.Search.{IsInside, IsOneEvent};
+ghost use Rattle.totem_pass_d.specs.Gaps.{IsLater, TellsMember, IsApart, IsBeyond, AreLasts, IsSettled, IsLack};
 
-use crate::search::{Finder, Relation, first_found, least_found, least_in, only};
+use crate::search::{EachIndex, Finder, Relation, first_found, least_found, only};
 use crate::stay::Stay;
 use crate::stays::Stays;
 use std::alloc::{AllocError, Global};
@@ -52,7 +52,7 @@ impl Finder for Lacks<'_, '_, '_> {
 
     ghost reaches = { λ l. IsInside };
 
-    ghost holds = { λ l. IsOneLack l.stays.now.run.now.logs l.stays.now.ring l.sender l.earlier.now l.later.now };
+    ghost holds = { λ l. IsOneEvent (IsLack l.stays.now.run.now.logs l.stays.now.ring l.sender l.earlier.now l.later.now) };
 
     fn find_in(&self, alloc: Global, stay: &Stay) -> Result<Option<Vec<Place>>, AllocError> {
         let Some(at) = self.stays.delivery_of(stay, self.later) else {
@@ -220,7 +220,8 @@ impl Gaps<'_, '_> {
             earlier,
             at,
         };
-        least_in(&later, alloc, leader)
+        let finder = EachIndex { relation: &later };
+        finder.find_in(alloc, leader)
     }
 }
 

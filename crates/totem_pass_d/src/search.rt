@@ -60,8 +60,8 @@ pub fn only(alloc: Global, proc: Proc, at: usize) -> Result<Vec<Place>, AllocErr
 
 /// Tries a relation at each index of a stay.
 #[derive(Clone, Copy)]
-struct EachIndex<'r, R> {
-    relation: &'r R,
+pub struct EachIndex<'r, R> {
+    pub relation: &'r R,
 }
 
 impl<R: Relation> Finder for EachIndex<'_, R> {
@@ -81,19 +81,6 @@ impl<R: Relation> Finder for EachIndex<'_, R> {
     }
 }
 
-/// Returns the least list of events in a relation that starts in this stay.
-pub fn least_in<R: Relation>(
-    relation: &R,
-    alloc: Global,
-    stay: &Stay,
-) -> Result<Option<Vec<Place>>, AllocError>
-    requires known { AreKnown (R.among relation.now) }
-    requires among { IsAmong (R.among relation.now).list.items stay.now }
-    ensures { IfOk result (λ found. MatchOption found (NoneWithin IsInside (R.holds relation.now) stay.now) (λ list. IsLeastWithin IsInside (R.holds relation.now) stay.now list.items)) }
-{
-    EachIndex { relation }.find_in(alloc, stay)
-}
-
 /// Returns the least list that a finder finds.
 pub fn first_found<F: Finder>(
     finder: &F,
@@ -111,34 +98,6 @@ pub fn first_found<F: Finder>(
         }
     }
     Ok(None)
-}
-
-/// Returns the least list of events in a relation.
-pub fn least_list<R: Relation>(
-    relation: &R,
-    alloc: Global,
-    stays: &Stays,
-) -> Result<Option<Vec<Place>>, AllocError>
-    requires known { AreKnown stays.now }
-    requires among { R.among relation.now ≡ stays.now }
-    requires begins { EachBeginsWithin stays.now.list.items IsInside (R.holds relation.now) }
-    ensures { IfOk result (λ found. MatchOption found (HoldsOfNone (R.holds relation.now)) (λ list. IsLeast (R.holds relation.now) list.items)) }
-{
-    first_found(&EachIndex { relation }, alloc, stays)
-}
-
-/// Returns the least list of events in a relation, as places.
-pub fn least<R: Relation>(
-    relation: &R,
-    alloc: Global,
-    stays: &Stays,
-) -> Result<Option<Places>, AllocError>
-    requires known { AreKnown stays.now }
-    requires among { R.among relation.now ≡ stays.now }
-    requires begins { EachBeginsWithin stays.now.list.items IsInside (R.holds relation.now) }
-    ensures { IfOk result (λ found. MatchOption found (HoldsOfNone (R.holds relation.now)) (IsLeast (R.holds relation.now))) }
-{
-    least_found(&EachIndex { relation }, alloc, stays)
 }
 
 /// Returns the least list that a finder finds, as places.

@@ -4,8 +4,8 @@ use Rattle.totem_pass_d.proofs.Rests.{answered}
 use Rattle.totem_pass_d.proofs.AtomicityFaults.{deliveries_begin, atomic}
 use Rattle.totem_pass_d.proofs.atomicity.find.Goals as goal
 
-pub least-requires-clause-begins : goal.least-requires-clause-begins
-least-requires-clause-begins c = deliveries_begin _ _ _ (facts_of c.args.stays.now c.requires.known)
+pub least_found-requires-clause-begins : goal.least_found-requires-clause-begins
+least_found-requires-clause-begins c = deliveries_begin _ _ _ (facts_of c.args.stays.now c.requires.known)
 
 pub returns : goal.returns
-returns c = answered c.least.result c.args.stays.now.run.now.logs c.args.stays.now.ring spec.Atomicity (atomic _ _) c.least.ensures
+returns c = answered c.least_found.result c.args.stays.now.run.now.logs c.args.stays.now.ring spec.Atomicity (atomic _ _) c.least_found.ensures

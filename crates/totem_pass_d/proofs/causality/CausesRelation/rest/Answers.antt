@@ -10,14 +10,14 @@ returns-then-not-contains c =
     let s = c.args.self.now.stays.now in
     none_unsuspected _ c.args.self.now.suspects s.run.now.logs s.ring s.list.items _ _ _ _ _ (facts_of s c.requires.known) c.args.self.now.are (sym c.contains.ensures ∙ c.if-not-contains.true) (rw c.in-Send.is at c.entry_in.ensures)
 
-pub least_list-requires-clause-begins : goal.least_list-requires-clause-begins
-least_list-requires-clause-begins c = effects_begin _ _ _ _ _ (facts_of c.args.self.now.stays.now c.requires.known)
+pub first_found-requires-clause-begins : goal.first_found-requires-clause-begins
+first_found-requires-clause-begins c = effects_begin _ _ _ _ _ (facts_of c.args.self.now.stays.now c.requires.known)
 
 pub returns : goal.returns
 returns c =
     let of = facts_of c.args.self.now.stays.now c.requires.known in
     let at = rw c.in-Send.is at c.entry_in.ensures in
-    reworded c.least_list.result _ _ _ _
+    reworded c.first_found.result _ _ _ _
     (λ none. none_without_effect _ _ _ _ _ _ _ at none)
     (λ list least. least_effect _ _ _ _ _ _ _ list.items at (send_here _ _ _ c.args.stay.now _ _ _ _ of c.requires.among c.requires.inside at).0 least)
-    c.least_list.ensures
+    c.first_found.ensures

@@ -17,7 +17,7 @@ pub returns : goal.returns
 returns c =
     let of = facts_of c.args.self.now.stays.now c.requires.known in
     let at = rw c.in-Deliver.is at c.entry_in.ensures in
-    reworded c.least_in.result _ _ _ _
+    reworded c.find_in.result _ _ _ _
     (λ none. none_after _ _ _ c.args.leader.now _ _ _ c.in-Some.sending of c.requires.among at c.in-Some.ensures.found none)
     (λ list least. least_after _ _ _ c.args.leader.now _ _ _ c.in-Some.sending list.items of c.requires.among c.requires.inside at c.in-Some.ensures.found least)
-    c.least_in.ensures
+    c.find_in.ensures
