@@ -14,7 +14,7 @@ use Rattle.totem_evs.specs.Following.{IsNextChange, Follows, NeverFails, FailedI
 use Rattle.totem_evs.specs.Agreement.{Goes}
 use Rattle.totem_evs.specs.Answers.{MeetsPasses}
 use Rattle.totem_evs.specs.Certificates.{Numbering}
-use Rattle.totem_evs.proofs.LogOf.{less_or_not, Rising}
+use Rattle.totem_evs.proofs.LogOf.{Rising}
 use Rattle.totem_configuration_rules.specs.declared.traffic.MemberLogs.{MemberLogs}
 use Rattle.totem_configuration_rules.specs.declared.traffic.Traffic.{Traffic}
 use Rattle.totem_configuration_rules.specs.LogSets.{Has}
@@ -28,7 +28,7 @@ use Rattle.totem_judge.specs.declared.gathered.Stay.{Stay}
 use Rattle.totem_judge.specs.Ends.{HasSuch, IsAny, IsExcusedIn, IsOpenAt}
 use Rattle.totem_judge.specs.Members.{AreMemberLogs}
 use Rattle.totem_judge.specs.Turns.{TurnsToConf, LeavesFrom, HasFollowingOf}
-use Rattle.totem_judge.proofs.Numbers.{one_at, entries_of}
+use Rattle.totem_judge.proofs.Numbers.{below_or_not, one_at, entries_of}
 use Rattle.totem_judge.proofs.Listed.{Verified, StayOf, such_stay_of, come, stay_around}
 use Rattle.totem_run_rules.proofs.LogEnds.{ending_of_at}
 
@@ -41,6 +41,10 @@ module _ {run : List Log} {lines : List Numbering} {g : Gathered} {traffic : Tra
   -- the log at an index is p's
   entries_at : (l p : ℕ) (log : Log) → IsLogAt run l p → slice_get run l ≡ Some log → log.entries ≡ log_of run p
   entries_at l p log at stands = ap (λ (x : Log). x.entries) (one_at run l log at.log stands at.stands) ∙ sym (entries_of run l p is_run.rising at)
+
+  -- a stay that keeps the condition is one of its log
+  such_stay : (l p : ℕ) (s : StayOf v l p) (Such : Stay → Type 0) → Such s.stay → HasSuch Such g.stays.items (length g.stays.items) l
+  such_stay l p s Such such = record { at = s.at; stay = s.stay; before = slice_get_within g.stays.items s.at s.stay s.stands; stands = s.stands; of = s.log; such = such }
 
   -- ---- which processes come
 
@@ -58,11 +62,7 @@ module _ {run : List Log} {lines : List Numbering} {g : Gathered} {traffic : Tra
   -- ---- how they end
 
   ends_here : (l p : ℕ) (s : StayOf v l p) → FailedIn (log_of run p) g.ring ⊎ StaysIn (log_of run p) g.ring → s.stay.end ≡ length (log_of run p)
-  ends_here l p s h = elim (less_or_not s.stay.end (length (log_of run p))) [
-    | inl under ↦ absurd (s.is.goes_on under h)
-    | inr (inl over) ↦ absurd (omega (arith, over, s.is.within))
-    | inr (inr same) ↦ same
-  ]
+  ends_here l p s h = elim (below_or_not s.stay.end (length (log_of run p))) [ inl under ↦ absurd (s.is.goes_on under h) | inr behind ↦ omega (arith, behind, s.is.within) ]
 
   -- a process that fails or is open in the configuration has a stay there
   stay_of_end : (l p : ℕ) → IsLogAt run l p → FailedIn (log_of run p) g.ring ⊎ StaysIn (log_of run p) g.ring → StayOf v l p
@@ -85,10 +85,9 @@ module _ {run : List Log} {lines : List Numbering} {g : Gathered} {traffic : Tra
       entries = entries_of run l p is_run.rising log
 
       last : length (log_of run p) ≡ i + 1
-      last = elim (less_or_not (i + 1) (length (log_of run p))) [
+      last = elim (below_or_not (i + 1) (length (log_of run p))) [
         | inl under ↦ absurd ((orderly.placed p).final i (i + 1) x fails (omega arith) under)
-        | inr (inl over) ↦ absurd (omega (arith, over, slice_get_within (log_of run p) i (Fail x) fails))
-        | inr (inr is) ↦ sym is
+        | inr behind ↦ omega (arith, behind, slice_get_within (log_of run p) i (Fail x) fails)
       ]
 
   never_failed : (l p : ℕ) (log : IsLogAt run l p) → NeverFails (log_of run p) → log.log.ending ≡ Failed → ⊥
@@ -137,7 +136,7 @@ module _ {run : List Log} {lines : List Numbering} {g : Gathered} {traffic : Tra
       to : (l p : ℕ) → IsLogAt run l p → FailedIn (log_of run p) g.ring ⊎ OpenIn run p g.ring → Has traffic.ended l
       to l p log h =
           let s = stay_of_end l p log (stays_or_fails p h) in
-          (seen.ends.ending.exact l).1 (record { at = s.at; stay = s.stay; before = slice_get_within g.stays.items s.at s.stay s.stands; stands = s.stands; of = s.log; such = excused l p log h s })
+          (seen.ends.ending.exact l).1 (such_stay l p s (IsExcusedIn run) (excused l p log h s))
 
   pub open_are : AreLogsOf run traffic.open (λ p. OpenIn run p g.ring)
   open_are = record { exact = λ l p log. (from l p log, to l p log) }
@@ -155,21 +154,14 @@ module _ {run : List Log} {lines : List Numbering} {g : Gathered} {traffic : Tra
       to : (l p : ℕ) → IsLogAt run l p → OpenIn run p g.ring → Has traffic.open l
       to l p log (not_quiet, (d, never, last, belongs)) =
           let s = stay_of_end l p log (inr (d, never, last, belongs)) in
-          (seen.ends.opened.exact l).1 (record {
-            at = s.at;
-            stay = s.stay;
-            before = slice_get_within g.stays.items s.at s.stay s.stands;
-            stands = s.stands;
-            of = s.log;
-            such = (
-              excused l p log (inr (not_quiet, (d, never, last, belongs))) s,
-              record {
-                log = log.log;
-                stands = subst (λ (j : ℕ). slice_get run j ≡ Some log.log) (sym s.log) log.stands;
-                goes_on = never_failed l p log never;
-              },
-            );
-          })
+          (seen.ends.opened.exact l).1 (such_stay l p s (IsOpenAt run) (
+            excused l p log (inr (not_quiet, (d, never, last, belongs))) s,
+            record {
+              log = log.log;
+              stands = subst (λ (j : ℕ). slice_get run j ≡ Some log.log) (sym s.log) log.stands;
+              goes_on = never_failed l p log never;
+            },
+          ))
 
   -- ---- members
 
@@ -218,10 +210,9 @@ module _ {run : List Log} {lines : List Numbering} {g : Gathered} {traffic : Tra
 
   -- and the stay turns to the one that follows there
   turns_at : (l p : ℕ) (x : ConfId) (s : StayOf v l p) → (f : Follows (log_of run p) g.ring x) → f.to ≡ s.stay.turn
-  turns_at l p x s f = elim (less_or_not s.stay.turn (length (log_of run p))) [
+  turns_at l p x s f = elim (below_or_not s.stay.turn (length (log_of run p))) [
     | inl under ↦ one_next (log_of run p) s.stay.from f.to s.stay.turn (rw from at f.next) (s.is.next under).1
-    | inr (inl over) ↦ absurd (omega (arith, over, s.is.within, s.is.until))
-    | inr (inr same) ↦ s.is.changes f.to (rw (sym from) f.next.later) (omega (arith, same, s.is.until, s.is.within, change_within (log_of run p) f.to x f.change)) f.next.change
+    | inr behind ↦ s.is.changes f.to (rw (sym from) f.next.later) (omega (arith, behind, s.is.until, s.is.within, change_within (log_of run p) f.to x f.change)) f.next.change
   ]
     where
       from : f.from ≡ s.stay.from
@@ -240,9 +231,6 @@ module _ {run : List Log} {lines : List Numbering} {g : Gathered} {traffic : Tra
           change = rw (sym (entries_of run l p is_run.rising log)) change.1;
         },
       )
-
-  such_stay : (l p : ℕ) (s : StayOf v l p) (Such : Stay → Type 0) → Such s.stay → HasSuch Such g.stays.items (length g.stays.items) l
-  such_stay l p s Such such = record { at = s.at; stay = s.stay; before = slice_get_within g.stays.items s.at s.stay s.stands; stands = s.stands; of = s.log; such = such }
 
   -- the configuration that follows in these stays, as it follows in the run
   follows_as : (p l : ℕ) (x : ConfId) → IsLogAt run l p → Follows (log_of run p) g.ring x → (h : HasFollowingOf run g.stays.items traffic.following.items l) → h.conf ≡ x → IsFollowingAs run g.ring x h.following
@@ -294,12 +282,11 @@ module _ {run : List Log} {lines : List Numbering} {g : Gathered} {traffic : Tra
           ))
         where
           ends_before : (k q : ℕ) (s : StayOf v k q) (i j : ℕ) → s.stay.turn ≡ i → IsNextChange (log_of run q) i j → s.stay.end < length (log_of run q)
-          ends_before k q s i j turn next = elim (less_or_not s.stay.end (length (log_of run q))) [
+          ends_before k q s i j turn next = elim (below_or_not s.stay.end (length (log_of run q))) [
             | inl under ↦ under
-            | inr (inl over) ↦ absurd (omega (arith, over, s.is.within))
-            | inr (inr is) ↦ absurd (
+            | inr behind ↦ absurd (
                 let below : j < length (log_of run q) = change_within (log_of run q) j next.change.0 next.change.1 in
-                let again : j ≡ s.stay.turn = s.is.changes j (omega (arith, turn, s.is.before, next.later)) (omega (arith, is, below)) next.change in
+                let again : j ≡ s.stay.turn = s.is.changes j (omega (arith, turn, s.is.before, next.later)) (omega (arith, behind, below)) next.change in
                 omega (arith, again, turn, next.later)
                 )
           ]

@@ -1,5 +1,5 @@
 -- Steps of the loops over stays, logs and members.
-use Rattle.std.proofs.Common.{◌≡◌, ◌≢◌, ◌⊎◌, inl, inr, ℕ, zero, suc, ◌+◌, ◌<◌, ◌≤◌, List, [], ◌∷◌, ◌++◌, length, slice_get, Some, refl, sym, ◌∙◌, ap, subst, arith}
+use Rattle.std.proofs.Common.{◌≡◌, ◌≢◌, ◌⊎◌, inl, inr, ℕ, zero, suc, ◌+◌, ◌<◌, ◌≤◌, List, [], ◌∷◌, ◌++◌, length, slice_get, Some, refl, sym, ◌∙◌, ap, subst, arith, append-nil}
 use Rattle.std.specs.Prelude.{◌↔◌, Contains}
 use Rattle.std.proofs.lemmas.Option.{slice_get_within}
 use Rattle.totem_ids.specs.declared.ring.RingId.{RingId}
@@ -173,15 +173,8 @@ module _ (run : List Log) (stays : List Stay) (n : ℕ) (stay : Stay) (at : slic
   }
 
   pub followings_same : ((x : ConfId) (ms : List ℕ) → TurnsTo run stay x ms → HasFollowingOf run stays list stay.log) → HasFollowings run stays n list → HasFollowings run stays (n + 1) list
-  followings_same here so_far = record {
-    each = λ k other x ms lt stands turns. elim (before_or_at k n lt) [
-      | inl under ↦ so_far.each k other x ms under stands turns
-      | inr level ↦ (
-          let same : other ≡ stay = same_stay k other level stands in
-          subst (λ (y : Stay). HasFollowingOf run stays list y.log) (sym same) (here x ms (subst (λ (y : Stay). TurnsTo run y x ms) same turns))
-          )
-    ];
-  }
+  followings_same here so_far = subst (λ (l : List Following). HasFollowings run stays (n + 1) l) (append-nil list)
+      (followings_more [] (λ x ms turns. subst (λ (l : List Following). HasFollowingOf run stays l stay.log) (sym (append-nil list)) (here x ms turns)) so_far)
 
   module _ (conf : ConfId) (members : List ℕ) (following : Following) (turns : TurnsTo run stay conf members) (is : IsFollowing run stays (length stays) conf members following) where
     -- what follows in this log is the new one
