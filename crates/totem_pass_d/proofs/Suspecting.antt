@@ -25,7 +25,7 @@ use Rattle.totem_table.specs.Search.{place, NoneFrom}
 use Rattle.totem_ids.proofs.Exact.{equal_at, apart_or_at}
 use Rattle.totem_pass_d.specs.declared.stay.Stay.{Stay}
 use Rattle.totem_pass_d.specs.Acts.{IsAmong, DeliversNot}
-use Rattle.totem_pass_d.specs.Suspects.{Handles, HandlesNothing, ComesBefore, ComesNotBefore, IsEarlier, IsSuspect, HasAllOf, IsNoted, AreNotedFrom, AreNoted, AllNoted, AreSuspects}
+use Rattle.totem_pass_d.specs.Suspects.{Handles, HandlesNothing, ComesBefore, ComesNotBefore, IsEarlier, IsSuspect, HasAllOf, IsNoted, AreNotedFrom, AreNoted, AreSuspects}
 use Rattle.totem_pass_d.proofs.Facts.{Facts, delivery_inside}
 use Rattle.totem_pass_d.proofs.Rests.{nothing_here, sends_there}
 use Rattle.totem_pass_d.proofs.CausalityFaults.{one_delivery_in}
@@ -162,46 +162,43 @@ noted_still cmp now then run c sender receiver has noted = record {
   from = λ i above. record { each = λ h j k e m n x v from lt until at_h handles at_j d never. has.each m ((noted.from i above).each h j k e m n x v from lt until at_h handles at_j d never) };
 }
 
--- after the first n receivers
-pub record ReceiversSoFar (cmp : MsgId → MsgId → Ordering) (old now : BTreeSet MsgId) (run : List Log) (c : RingId) (stays : List Stay) (sender : Stay) (n : ℕ) : Type 0 where
-  pub noted : AllNoted cmp now run c stays sender n
-  pub kept : HasAllOf cmp now old
+pub pairs_yet : (cmp : MsgId → MsgId → Ordering) (s : BTreeSet MsgId) (run : List Log) (c : RingId) (stays : List Stay) → AreSuspects cmp s run c stays 0 0
+pairs_yet cmp s run c stays = record { each = λ i sender j receiver before at_i at_j. elim before [ inl lt ↦ absurd (omega arith) | inr (same, lt) ↦ absurd (omega arith) ] }
 
-pub receivers_yet : (cmp : MsgId → MsgId → Ordering) (s : BTreeSet MsgId) (run : List Log) (c : RingId) (stays : List Stay) (sender : Stay) → ReceiversSoFar cmp s s run c stays sender 0
-receivers_yet cmp s run c stays sender = record { noted = record { each = λ k r lt at. absurd (omega arith) }; kept = has_itself cmp s }
-
-pub receivers_more : (cmp : MsgId → MsgId → Ordering) (old now then : BTreeSet MsgId) (run : List Log) (c : RingId) (stays : List Stay) (sender receiver : Stay) (n : ℕ) → slice_get stays n ≡ Some receiver → AreNoted cmp then run c sender receiver → HasAllOf cmp then now
-    → ReceiversSoFar cmp old now run c stays sender n → ReceiversSoFar cmp old then run c stays sender (n + 1)
-receivers_more cmp old now then run c stays sender receiver n at here has before = record {
-  noted = record {
-    each = λ k r lt at_k. elim (less_or_not k n) [
-      | inl under ↦ noted_still cmp now then run c sender r has (before.noted.each k r under at_k)
-      | inr rest ↦ elim rest [ inl over ↦ absurd (omega arith) | inr same ↦ (let is : r ≡ receiver = (let there : slice_get stays n ≡ Some r = rw same at at_k in cc) in rw is here) ]
-    ];
-  };
-  kept = has_through cmp old now then before.kept has;
+pub pairs_more : (cmp : MsgId → MsgId → Ordering) (now then : BTreeSet MsgId) (run : List Log) (c : RingId) (stays : List Stay) (n k : ℕ) (sender receiver : Stay) → slice_get stays n ≡ Some sender → slice_get stays k ≡ Some receiver
+    → AreNoted cmp then run c sender receiver → HasAllOf cmp then now → AreSuspects cmp now run c stays n k → AreSuspects cmp then run c stays n (k + 1)
+pairs_more cmp now then run c stays n k sender receiver at_n at_k here has are = record {
+  each = λ i s j r before at_i at_j. elim before [
+    | inl lt ↦ noted_still cmp now then run c s r has (are.each i s j r (inl lt) at_i at_j)
+    | inr (same, lt) ↦ elim (less_or_not j k) [
+      | inl under ↦ noted_still cmp now then run c s r has (are.each i s j r (inr (same, under)) at_i at_j)
+      | inr rest ↦ elim rest [ inl over ↦ absurd (omega arith) | inr at ↦ this i s j r same at at_i at_j ]
+    ]
+  ];
 }
+  where
+    this : (i : ℕ) (s : Stay) (j : ℕ) (r : Stay) → i ≡ n → j ≡ k → slice_get stays i ≡ Some s → slice_get stays j ≡ Some r → AreNoted cmp then run c s r
+    this i s j r same at at_i at_j =
+        let s_is : s ≡ sender = (let there : slice_get stays n ≡ Some s = rw same at at_i in cc) in
+        let r_is : r ≡ receiver = (let there : slice_get stays k ≡ Some r = rw at at at_j in cc) in
+        rw (s_is, r_is) here
 
-pub all_receivers : (cmp : MsgId → MsgId → Ordering) (old now : BTreeSet MsgId) (run : List Log) (c : RingId) (stays : List Stay) (sender : Stay) (n : ℕ) → length stays ≤ n → ReceiversSoFar cmp old now run c stays sender n → AllNoted cmp now run c stays sender (length stays)
-all_receivers cmp old now run c stays sender n end so_far = record { each = λ k r lt at. so_far.noted.each k r (omega arith) at }
-
-pub senders_yet : (cmp : MsgId → MsgId → Ordering) (s : BTreeSet MsgId) (run : List Log) (c : RingId) (stays : List Stay) → AreSuspects cmp s run c stays 0
-senders_yet cmp s run c stays = record { each = λ k sender l receiver lt at_k at_l. absurd (omega arith) }
-
-pub senders_more : (cmp : MsgId → MsgId → Ordering) (now then : BTreeSet MsgId) (run : List Log) (c : RingId) (stays : List Stay) (sender : Stay) (n : ℕ) → slice_get stays n ≡ Some sender → AllNoted cmp then run c stays sender (length stays) → HasAllOf cmp then now
-    → AreSuspects cmp now run c stays n → AreSuspects cmp then run c stays (n + 1)
-senders_more cmp now then run c stays sender n at here has before = record {
-  each = λ k s l r lt at_k at_l. elim (less_or_not k n) [
-    | inl under ↦ noted_still cmp now then run c s r has (before.each k s l r under at_k at_l)
-    | inr rest ↦ elim rest [
-      | inl over ↦ absurd (omega arith)
-      | inr same ↦ (let is : s ≡ sender = (let there : slice_get stays n ≡ Some s = rw same at at_k in cc) in rw is (here.each l r (slice_get_within stays l r at_l) at_l))
+-- the next sender
+pub pairs_next : (cmp : MsgId → MsgId → Ordering) (s : BTreeSet MsgId) (run : List Log) (c : RingId) (stays : List Stay) (n k : ℕ) → length stays ≤ k → AreSuspects cmp s run c stays n k → AreSuspects cmp s run c stays (n + 1) 0
+pairs_next cmp s run c stays n k end are = record {
+  each = λ i sender j receiver before at_i at_j. elim before [
+    | inr (same, lt) ↦ absurd (omega arith)
+    | inl lt ↦ elim (less_or_not i n) [
+      | inl under ↦ are.each i sender j receiver (inl under) at_i at_j
+      | inr rest ↦ elim rest [ inl over ↦ absurd (omega arith) | inr same ↦ are.each i sender j receiver (inr (same, omega (arith, slice_get_within stays j receiver at_j))) at_i at_j ]
     ]
   ];
 }
 
-pub all_senders : (cmp : MsgId → MsgId → Ordering) (s : BTreeSet MsgId) (run : List Log) (c : RingId) (stays : List Stay) (n : ℕ) → length stays ≤ n → AreSuspects cmp s run c stays n → AreSuspects cmp s run c stays (length stays)
-all_senders cmp s run c stays n end are = record { each = λ k sender l receiver lt at_k at_l. are.each k sender l receiver (omega arith) at_k at_l }
+pub pairs_all : (cmp : MsgId → MsgId → Ordering) (s : BTreeSet MsgId) (run : List Log) (c : RingId) (stays : List Stay) (n : ℕ) → length stays ≤ n → AreSuspects cmp s run c stays n 0 → AreSuspects cmp s run c stays (length stays) 0
+pairs_all cmp s run c stays n end are = record {
+  each = λ i sender j receiver before at_i at_j. are.each i sender j receiver (inl (omega (arith, slice_get_within stays i sender at_i))) at_i at_j;
+}
 
 -- ---- what breaks 5 starts with a suspect
 
@@ -213,7 +210,7 @@ record SentInside (stays : List Stay) (p j : ℕ) : Type 0 where
   after : stay.from < j
   until : j < stay.turn
 
-module _ (cmp : MsgId → MsgId → Ordering) (s : BTreeSet MsgId) (run : List Log) (c : RingId) (stays : List Stay) (of : Facts run c stays) (are : AreSuspects cmp s run c stays (length stays)) where
+module _ (cmp : MsgId → MsgId → Ordering) (s : BTreeSet MsgId) (run : List Log) (c : RingId) (stays : List Stay) (of : Facts run c stays) (are : AreSuspects cmp s run c stays (length stays) 0) where
   sent_inside : (p j : ℕ) (m : MsgId) (v : Service) → slice_get (log_of run p) j ≡ Some (Send m (Regular c) v) → SentInside stays p j
   sent_inside p j m v at =
       let found = of.inside p j (Regular c) (Send m (Regular c) v, at, refl) (inl refl) in
@@ -227,7 +224,7 @@ module _ (cmp : MsgId → MsgId → Ordering) (s : BTreeSet MsgId) (run : List L
       let sent = sent_inside p j n v at_j in
       let receiver = of.inside r k d (Deliver n d, delivers, refl) belongs in
       let above = ((of.each sent.stay sent.among).is.here i (Regular c) (rw (← sent.proc) at names) (inl refl)).0 in
-      let noted = are.each sent.among.at sent.stay receiver.among.at receiver.stay (slice_get_within stays sent.among.at sent.stay sent.among.stands) sent.among.stands receiver.among.stands in
+      let noted = are.each sent.among.at sent.stay receiver.among.at receiver.stay (inl (slice_get_within stays sent.among.at sent.stay sent.among.stands)) sent.among.stands receiver.among.stands in
       let never_there : ComesNotBefore run c receiver.stay.proc m k = rw receiver.proc never in
       (noted.from i above).each i j k e m n (Regular c) v (omega arith) lt sent.until (rw (← sent.proc) at at_i) handles (rw (← sent.proc) at at_j) (d, rw (← receiver.proc) at delivers, rw (← receiver.proc) at belongs) never_there
 
@@ -260,6 +257,6 @@ module _ (cmp : MsgId → MsgId → Ordering) (s : BTreeSet MsgId) (run : List L
       rw same at (suspected o n (place p i) f.proc f.at send.0 effect.0 send.1 effect.1 hop g.proc k delivers none)
   broken m x v p i (f ∷ g ∷ h ∷ more) at b = absurd b
 
-pub none_unsuspected : (cmp : MsgId → MsgId → Ordering) (s : BTreeSet MsgId) (run : List Log) (c : RingId) (stays : List Stay) (m : MsgId) (x : ConfId) (v : Service) (p i : ℕ) → Facts run c stays → ∥ AreSuspects cmp s run c stays (length stays) ∥₁
+pub none_unsuspected : (cmp : MsgId → MsgId → Ordering) (s : BTreeSet MsgId) (run : List Log) (c : RingId) (stays : List Stay) (m : MsgId) (x : ConfId) (v : Service) (p i : ℕ) → Facts run c stays → ∥ AreSuspects cmp s run c stays (length stays) 0 ∥₁
     → sorted.contains cmp s m ≡ false → slice_get (log_of run p) i ≡ Some (Send m x v) → NoneFrom (BreaksCausalityIn run c) p i
 none_unsuspected cmp s run c stays m x v p i of are not at = nothing_here (BreaksCausalityIn run c) p i (λ rest h. not_there are (λ known. (let has = broken cmp s run c stays of known m x v p i rest at h in absurd cc)))

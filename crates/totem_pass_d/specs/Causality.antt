@@ -9,7 +9,6 @@ use Rattle.totem_evs.specs.declared.log.Log.{Log}
 use Rattle.totem_evs.specs.Events.{log_of}
 use Rattle.totem_evs.specs.Steps.{SendsAt}
 use Rattle.totem_evs.specs.Following.{DeliversIn}
-use Rattle.totem_evs.specs.Places.{At}
 use Rattle.totem_evs.specs.RingAgreement.{IsHop}
 use Rattle.totem_pass_d.specs.Search.{IsOneEvent}
 

@@ -1,17 +1,15 @@
 -- 4, in the form in which it is searched: the processes that go with a process to its next configuration without a message
 -- (docs/SPECIFICATIONS.md, "4 Failure atomicity", "Passes").
-use Rattle.std.specs.Prelude.{◌≡◌, ℕ, List, [], ◌∷◌}
+use Rattle.std.specs.Prelude.{◌≡◌, ℕ, List}
 use Rattle.totem_ids.specs.declared.ring.RingId.{RingId}
 use Rattle.totem_ids.specs.declared.conf.ConfId.{ConfId}
 use Rattle.totem_ids.specs.declared.conf.ConfId.TheVariants.{Regular, Transitional}
 use Rattle.totem_ids.specs.declared.message.MsgId.{MsgId}
-use Rattle.totem_ids.specs.declared.place.Place.{Place}
 use Rattle.totem_evs.specs.declared.entry.Entry.{Entry}
 use Rattle.totem_evs.specs.declared.log.Log.{Log}
 use Rattle.totem_evs.specs.Events.{IsChange, Delivers, log_of}
 use Rattle.totem_evs.specs.Following.{Com}
 use Rattle.totem_evs.specs.AgreementFaults.{GoesAt}
-use Rattle.totem_evs.specs.Places.{At}
 use Rattle.totem_pass_d.specs.declared.stay.Stay.{Stay}
 
 -- at any index of a stay

@@ -1,5 +1,5 @@
 -- The messages for which 5 may be broken (docs/SPECIFICATIONS.md, "5 Causal delivery").
-use Rattle.std.specs.Prelude.{◌≡◌, ℕ, ◌<◌, ◌≤◌, IsTrue, List, slice_get, Some}
+use Rattle.std.specs.Prelude.{◌≡◌, ℕ, ◌⊎◌, ◌<◌, ◌≤◌, IsTrue, List, slice_get, Some}
 use Rattle.std.specs.declared.cmp.Ordering.{Ordering}
 use Rattle.std.specs.BTreeSet.{BTreeSet}
 use Rattle.std.specs.BTreeSet as sorted
@@ -64,10 +64,6 @@ module _ (by_message : MsgId → MsgId → Ordering) (suspects : BTreeSet MsgId)
   pub record AreNoted (run : List Log) (c : RingId) (sender receiver : Stay) : Type 0 where
     pub from : (i : ℕ) → sender.from < i → AreNotedFrom run c sender receiver i
 
-  -- the same for each of the first n receivers
-  pub record AllNoted (run : List Log) (c : RingId) (stays : List Stay) (sender : Stay) (n : ℕ) : Type 0 where
-    pub each : (k : ℕ) (receiver : Stay) → k < n → slice_get stays k ≡ Some receiver → AreNoted run c sender receiver
-
-  -- the same for each of the first n senders
-  pub record AreSuspects (run : List Log) (c : RingId) (stays : List Stay) (n : ℕ) : Type 0 where
-    pub each : (k : ℕ) (sender : Stay) (l : ℕ) (receiver : Stay) → k < n → slice_get stays k ≡ Some sender → slice_get stays l ≡ Some receiver → AreNoted run c sender receiver
+  -- the same for the first n senders and each receiver, and for the next sender and the first k receivers
+  pub record AreSuspects (run : List Log) (c : RingId) (stays : List Stay) (n k : ℕ) : Type 0 where
+    pub each : (i : ℕ) (sender : Stay) (j : ℕ) (receiver : Stay) → (i < n) ⊎ ((i ≡ n) × (j < k)) → slice_get stays i ≡ Some sender → slice_get stays j ≡ Some receiver → AreNoted run c sender receiver

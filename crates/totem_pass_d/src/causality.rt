@@ -107,7 +107,7 @@ impl Relation for Effects<'_, '_, '_> {
 struct Causes<'s, 'r> {
     stays: &'s Stays<'r>,
     suspects: BTreeSet<MsgId>,
-    ghost are: { ∥ AreSuspects ⟦<MsgId as Ord>⟧.cmp suspects stays.now.run.now.logs stays.now.ring stays.now.list.items (length stays.now.list.items) ∥₁ },
+    ghost are: { ∥ AreSuspects ⟦<MsgId as Ord>⟧.cmp suspects stays.now.run.now.logs stays.now.ring stays.now.list.items (length stays.now.list.items) 0 ∥₁ },
 }
 
 impl Relation for Causes<'_, '_> {

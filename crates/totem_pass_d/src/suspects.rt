@@ -4,7 +4,7 @@ ghost use Rattle.std.specs.Prelude.{◌≡◌, IfSome, IfNone, IfOk, OnOk, lengt
 ghost use Rattle.std.specs.Bool.{OnTrue};
 ghost use Rattle.totem_pass_d.specs.KnownStays.{AreKnown};
 ghost use Rattle.totem_pass_d.specs.Acts.{IsAmong};
-ghost use Rattle.totem_pass_d.specs.Suspects.{Handles, HandlesNothing, ComesBefore, IsEarlier, IsNoted, HasAllOf, AreNoted, AllNoted, AreSuspects};
+ghost use Rattle.totem_pass_d.specs.Suspects.{Handles, HandlesNothing, ComesBefore, IsEarlier, IsNoted, HasAllOf, AreNoted, AreSuspects};
 
 use crate::stay::Stay;
 use crate::stays::Stays;
@@ -103,32 +103,17 @@ fn note_pair(
     Ok(())
 }
 
-/// Notes the messages that a sender sent or delivered and that some receiver may deliver too late.
-fn note_sender(
-    suspects: &mut BTreeSet<MsgId>,
-    stays: &Stays,
-    sender: &Stay,
-) -> Result<(), AllocError>
-    requires known { AreKnown stays.now }
-    requires among { IsAmong stays.now.list.items sender.now }
-    ensures noted { OnOk result (AllNoted ⟦<MsgId as Ord>⟧.cmp suspects.new stays.now.run.now.logs stays.now.ring stays.now.list.items sender.now (length stays.now.list.items)) }
-    ensures kept { OnOk result (HasAllOf ⟦<MsgId as Ord>⟧.cmp suspects.new suspects.old) }
-{
-    for receiver in &stays.list {
-        note_pair(suspects, stays, sender, receiver)?;
-    }
-    Ok(())
-}
-
 /// Returns the messages that some process sent or delivered before it sent another one, and for which some process delivers the other
 /// one alone or first. Walks each pair of stays once.
 pub fn suspects_of(alloc: Global, stays: &Stays) -> Result<BTreeSet<MsgId>, AllocError>
     requires { AreKnown stays.now }
-    ensures { IfOk result (λ suspects. AreSuspects ⟦<MsgId as Ord>⟧.cmp suspects stays.now.run.now.logs stays.now.ring stays.now.list.items (length stays.now.list.items)) }
+    ensures { IfOk result (λ suspects. AreSuspects ⟦<MsgId as Ord>⟧.cmp suspects stays.now.run.now.logs stays.now.ring stays.now.list.items (length stays.now.list.items) 0) }
 {
     let mut suspects = BTreeSet::new(alloc);
     for sender in &stays.list {
-        note_sender(&mut suspects, stays, sender)?;
+        for receiver in &stays.list {
+            note_pair(&mut suspects, stays, sender, receiver)?;
+        }
     }
     Ok(suspects)
 }
