@@ -12,7 +12,7 @@ fn wanted(kind: ScriptFaultKind) -> &'static str {
             "A script begins with the line `totem-script 1` or `totem-script 2`."
         }
         ScriptFaultKind::Word => {
-            "A line is `ring 4.1 1 2 3`, `submit 1 a word`, `run 7`, `drop 2`, `repeat 2`, `cut 1 2 / 3`, `join`, `timer 1`, `crash 1`, from version 2 on `return 1`, or `end`, with one space between its words."
+            "Lines look like these: `ring 4.1 1 2 3`, `submit 1 a hello` (a for agreed, s for safe), `run 7`, `drop 2`, `repeat 2`, `cut 1 2 / 3`, `join`, `timer 1`, `crash 1`, from version 2 on `return 1`, or `end`, with one space between its words."
         }
         ScriptFaultKind::Number => {
             "Numbers have no leading zeros. Processes are 1 to 65535, counts and places 1 to 100000."
@@ -24,7 +24,7 @@ fn wanted(kind: ScriptFaultKind) -> &'static str {
             "The members of a ring are in ascending order and in no other ring, and the least is its representative. Other commands name processes of the script, and a cut names each of them once."
         }
         ScriptFaultKind::Place => {
-            "There are fewer packets on their way; or the process that is to return has not crashed, or has no life or ring number left."
+            "Fewer packets are on their way than this number; or the process that is to return has not crashed, or no further life or ring number is left for it."
         }
         ScriptFaultKind::End => "Nothing follows the line `end`.",
         ScriptFaultKind::Truncated =>

@@ -8,7 +8,7 @@
 //!   to 7 (`settled`, proofs/Settled; `totem_check::check` says so).
 //! - What `None` or `false` means is left open.
 //!
-//! The walk that gathers promises nothing. The checker's yes rests on this crate and those below it, and no search does.
+//! The walk that gathers promises nothing. No table, search or pass of the audit stands under what is observed.
 #![tactic(auto)]
 
 mod covered;

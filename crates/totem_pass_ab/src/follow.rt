@@ -4,7 +4,7 @@ ghost use Rattle.totem_evs.specs.Following.{IsFirstChange, Follows, Com};
 ghost use Rattle.totem_run_rules.specs.Ends.{IsChangeTo, NeverChangesTo};
 
 use crate::kinds::is_transitional;
-use crate::succession::succession_at;
+use crate::neighbours::succession_at;
 use totem_evs::Entry;
 use totem_ids::{ConfId, RingId};
 

@@ -3,7 +3,7 @@ ghost use Rattle.std.specs.Prelude.{◌≡◌, ◌↔◌, IsTrue};
 ghost use Rattle.totem_pass_ab.specs.Followed.{KnowsRegularChange, AreFollowed};
 
 use crate::kinds::is_transitional;
-use crate::succession::succession_between;
+use crate::neighbours::succession_between;
 use std::alloc::{AllocError, Global};
 use std::collections::{BTreeMap, BTreeSet};
 use totem_evs::Entry;

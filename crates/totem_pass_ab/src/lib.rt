@@ -20,13 +20,13 @@ mod keys;
 mod kinds;
 mod met;
 mod misplaced;
+mod neighbours;
 mod origins;
 mod pairs;
 mod pass;
 mod repeats;
 mod sendings;
 mod succession;
-mod turns;
 mod twice;
 mod unsent;
 

@@ -2,7 +2,7 @@
 ghost use Rattle.totem_pass_ab.specs.Origins.{KnowsOrigin};
 
 use crate::met::{Met, Same};
-use crate::succession::succession_between;
+use crate::neighbours::succession_between;
 use std::alloc::{AllocError, Global};
 use totem_evs::Entry;
 use totem_ids::{ConfId, Proc, RingId};

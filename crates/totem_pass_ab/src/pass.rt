@@ -4,7 +4,7 @@ ghost use Rattle.totem_evs.specs.Answers.{Lists, pass_a, pass_b};
 ghost use Rattle.totem_table.specs.Changes.{AreChanges};
 ghost use Rattle.totem_pass_ab.specs.Listed.{ListsFirst};
 
-use crate::{configuration, ends, misplaced, turns, twice, unsent};
+use crate::{configuration, ends, misplaced, succession, twice, unsent};
 use std::alloc::{AllocError, Global};
 use totem_evs::{Fault, Run, SpecNo};
 use totem_table::{Changes, with_found};
@@ -23,7 +23,7 @@ fn pass_a_over(alloc: Global, run: &Run, changes: &Changes) -> Result<Vec<Fault>
         SpecNo::Configuration,
         configuration::find(alloc, run, changes)?,
     )?;
-    with_found(forms, SpecNo::Turns, turns::find(alloc, run, changes)?)
+    with_found(forms, SpecNo::Turns, succession::find(alloc, run, changes)?)
 }
 
 /// Pass B, given the changes of the run.

@@ -1,68 +1,147 @@
-//! A change and the next one of its log.
-ghost use Rattle.std.specs.Prelude.{◌≡◌, ◌<◌, IfSome, IfNone, length};
-ghost use Rattle.totem_evs.specs.Events.{IsChange};
-ghost use Rattle.totem_evs.specs.Changes.{ChangesNext};
-ghost use Rattle.totem_evs.specs.Following.{IsNextOrEnd};
-ghost use Rattle.totem_pass_ab.specs.Turns.{HasNoSuccession};
+//! 2.4: regular and transitional configurations alternate (docs/SPECIFICATIONS.md, "2 Changes of configuration").
+ghost use Rattle.std.specs.Prelude.{◌≡◌, ◌↔◌, ℕ, ◌<◌, IsTrue, IfOk, MatchOption, length};
+ghost use Rattle.totem_evs.specs.Events.{log_of, IsChange, IsTransitional};
+ghost use Rattle.totem_evs.specs.ChangeFaults.{BeginsTransitional};
+ghost use Rattle.totem_evs.specs.Answers.{Finds};
+ghost use Rattle.totem_table.specs.Changes.{AreChanges};
+ghost use Rattle.totem_table.specs.Registers.{KnowsRun};
+ghost use Rattle.totem_pass_ab.specs.Origins.{KnowsOrigin};
+ghost use Rattle.totem_pass_ab.specs.Turns.{IsTurnFault, IsOtherOrigin, IsOfOtherRing};
 
-use totem_evs::{Entry, Members};
-use totem_ids::ConfId;
+use crate::change_search::{ChangeRelation, least_change};
+use crate::kinds::is_transitional;
+use crate::neighbours::{succession_at, succession_between};
+use crate::origins::Origins;
+use std::alloc::{AllocError, Global};
+use totem_evs::{Entry, Places, Run, SpecNo};
+use totem_ids::{ConfId, Place, Proc, RingId};
+use totem_run_rules::is_wrong;
+use totem_table::{Changes, Relation, begin_at, enter_changes, least, places_of};
 
-/// A change, and the next change of the same log.
-#[derive(Clone, Copy)]
-pub struct Succession<'a> {
-    pub conf: &'a ConfId,
-    pub members: &'a Members,
-    pub next_at: usize,
-    pub next: &'a ConfId,
-    pub next_members: &'a Members,
+/// Returns whether the change at this index is the first of its log, and to a transitional configuration. `is_later` says
+/// whether there is a change before it.
+fn begins_transitional(log: &[Entry], at: usize, is_later: bool) -> bool
+    requires within { at < length log.now }
+    requires later { IsTrue is_later ↔ ((k : ℕ) × (k < at) × IsChange log.now k) }
+    ensures { IsTrue result ↔ BeginsTransitional log.now at }
+{
+    match &log[at] {
+        Entry::Conf(conf, _) => is_transitional(conf) && !is_later,
+        _ => false,
+    }
 }
 
-/// Returns the change at this index and the next one, or `None` unless both exist.
-pub fn succession_at(log: &[Entry], at: usize) -> Option<Succession<'_>>
-    requires { at < length log.now }
-    ensures found { IfSome result (λ succession. ChangesNext log.now at succession.next_at succession.conf.now succession.next.now succession.members.now succession.next_members.now) }
-    ensures within { IfSome result (λ succession. succession.next_at < length log.now) }
-    ensures none { IfNone result (HasNoSuccession log.now at) }
+/// Returns whether `conf` is the regular configuration of another ring.
+fn is_of_other_ring(conf: &ConfId, ring: &RingId) -> bool
+    ensures { IsTrue result ↔ IsOfOtherRing ring.now conf.now }
 {
-    let Entry::Conf(conf, members) = &log[at] else {
-        return None;
-    };
-    for next_at in at + 1..log.len() {
-        if let Entry::Conf(next, next_members) = &log[next_at] {
-            return Some(Succession {
-                conf,
-                members,
-                next_at,
-                next,
-                next_members,
-            });
+    match conf {
+        ConfId::Regular(other) => *ring != *other,
+        ConfId::Transitional { .. } => false,
+    }
+}
+
+/// Looks for the changes by which logs above `proc` come to a configuration from another ring.
+#[derive(Clone, Copy)]
+struct OtherOrigins<'r, 'c> {
+    run: &'r Run,
+    proc: Proc,
+    ring: RingId,
+    conf: &'c ConfId,
+}
+
+impl Relation for OtherOrigins<'_, '_> {
+    ghost of = { λ s. s.run.now.logs };
+
+    ghost holds = { λ s. IsOtherOrigin s.run.now.logs s.proc s.ring s.conf.now };
+
+    fn rest(
+        &self,
+        alloc: Global,
+        proc: Proc,
+        log: &[Entry],
+        at: usize,
+    ) -> Result<Option<Vec<Place>>, AllocError> {
+        if proc.rank() <= self.proc.rank() {
+            return Ok(None);
+        }
+        let Some(succession) = succession_at(log, at) else {
+            return Ok(None);
+        };
+        if !is_of_other_ring(succession.conf, &self.ring) {
+            return Ok(None);
+        }
+        if !succession.next.is(self.conf) {
+            return Ok(None);
+        }
+        Ok(Some(begin_at(proc, succession.next_at, Vec::new(alloc))?))
+    }
+}
+
+/// Looks for what breaks 2.4, with the places of neighbours in their order.
+#[derive(Drop)]
+struct Turns<'r> {
+    run: &'r Run,
+    origins: Origins,
+    ghost known: { ∥ KnowsRun (KnowsOrigin ⟦<ConfId as Ord>⟧.cmp origins.rings.values) run.now.logs ∥₁ },
+}
+
+impl ChangeRelation for Turns<'_> {
+    ghost of = { λ s. s.run.now.logs };
+
+    ghost holds = { λ s. IsTurnFault s.run.now.logs };
+
+    fn spares(&self) {}
+
+    fn rest(
+        &self,
+        alloc: Global,
+        proc: Proc,
+        log: &[Entry],
+        at: usize,
+        next: usize,
+        is_later: bool,
+    ) -> Result<Option<Vec<Place>>, AllocError> {
+        if begins_transitional(log, at, is_later) {
+            return Ok(Some(Vec::new(alloc)));
+        }
+        let Some(succession) = succession_between(log, at, next) else {
+            return Ok(None);
+        };
+        if is_wrong(
+            succession.conf,
+            succession.members,
+            succession.next,
+            succession.next_members,
+        ) {
+            return Ok(Some(begin_at(proc, succession.next_at, Vec::new(alloc))?));
+        }
+        let ConfId::Regular(ring) = succession.conf else {
+            return Ok(None);
+        };
+        if self.origins.rings.is_only(succession.next, ring) {
+            return Ok(None);
+        }
+        let others = OtherOrigins {
+            run: self.run,
+            proc,
+            ring: *ring,
+            conf: succession.next,
+        };
+        match least(&others, alloc, self.run)? {
+            None => Ok(None),
+            Some(rest) => Ok(Some(begin_at(proc, succession.next_at, rest)?)),
         }
     }
-    None
 }
 
-/// Returns the change at this index and the one at `next_at`, or `None` unless both exist. No change may be between them.
-pub fn succession_between(log: &[Entry], at: usize, next_at: usize) -> Option<Succession<'_>>
-    requires { IsNextOrEnd log.now at next_at }
-    ensures found { IfSome result (λ succession. ChangesNext log.now at succession.next_at succession.conf.now succession.next.now succession.members.now succession.next_members.now) }
-    ensures within { IfSome result (λ succession. succession.next_at < length log.now) }
-    ensures none { IfNone result (HasNoSuccession log.now at) }
+/// Finds the least events that break 2.4.
+pub fn find(alloc: Global, run: &Run, changes: &Changes) -> Result<Option<Places>, AllocError>
+    requires { AreChanges run.now.logs changes.now.rows.items }
+    ensures { IfOk result (Finds run.now.logs SpecNo.Turns) }
 {
-    let Entry::Conf(conf, members) = &log[at] else {
-        return None;
-    };
-    if next_at >= log.len() {
-        return None;
-    }
-    let Entry::Conf(next, next_members) = &log[next_at] else {
-        return None;
-    };
-    Some(Succession {
-        conf,
-        members,
-        next_at,
-        next,
-        next_members,
-    })
+    let mut origins = Origins::new(alloc);
+    enter_changes(&mut origins, alloc, run, changes)?;
+    let turns = Turns { run, origins };
+    Ok(places_of(least_change(&turns, alloc, run, changes)?))
 }

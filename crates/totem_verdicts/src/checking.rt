@@ -8,7 +8,7 @@ use crate::outcome::Outcome;
 use crate::report::{write_accepted, write_no};
 use crate::verdict_fault::VerdictFault;
 use std::alloc::Global;
-use totem_cert::{CertFault, Certificate, read_cert};
+use totem_certificate::{CertFault, Certificate, read_cert};
 use totem_check::{CheckFault, check};
 use totem_evs::read_run;
 use totem_ids::{Sink, Source};

@@ -40,7 +40,7 @@ const OPTIONS: [NumberOption; 6] = [
         least: 1,
         most: 1_000_000,
         default: "4000",
-        help: "Length of the run in ticks, from 1 to 1000000; at every eighth one node's timer expires and its client sends. Takes 4 KB of memory for each tick and node",
+        help: "Length of the run in ticks, from 1 to 1000000. At every eighth tick the timer of one node, each in turn, expires and its client sends. Needs 4 KB of memory for each tick and node",
     },
     NumberOption {
         name: "seed",
@@ -72,7 +72,7 @@ const OPTIONS: [NumberOption; 6] = [
         least: 0,
         most: 255,
         default: "0",
-        help: "How many later packets may overtake one, from 0 to 255; from 2 on tokens are held up so long that nodes mostly form new rings",
+        help: "How many later packets may overtake a packet, from 0 to 255. With 2 or more, tokens are held up so long that nodes mostly form new rings",
     },
 ];
 
@@ -92,7 +92,7 @@ fn weave_option<'a>(alloc: Global) -> Arg<'a> {
         .long("weave")
         .action(ArgAction::SetTrue)
         .help(
-            "Write what the threads did on ring 4.1 as one schedule instead of the run: its number of steps, and the messages that each member handed to its node; or the call that fits no schedule",
+            "Instead of the run, write whether what the threads did on ring 4.1 fits one schedule: if so, its number of steps and the messages that each member delivered to its node; if not, the call that fits no schedule",
         )
 }
 

@@ -33,11 +33,12 @@ pub enum Words {
 }
 
 const ENDINGS: &str = "\
-Status: 0 yes, or a run was made; 1 no, or a call that fits no schedule; 2 the input was refused; 3 out of memory; 4 a stream failed;
-64 usage error.";
+Status: 0 yes, or a run was made or a ring woven; 1 no, or (run --weave) a call fits no schedule; 2 the input was refused, or
+(run) a book is full; 3 out of memory; 4 a stream failed; 64 usage error.";
 
 const AUDIT_EXAMPLE: &str = "\
-A log ends with the line `open`; with `failed` if its last entry is a failure; or from version 3 on with `quiet`, if it is complete.
+A log ends with the line `failed` if its last entry is a failure, and otherwise with `open`; or, from version 3 of the run text on,
+with `quiet`, if nothing more was to come.
 Example: totem audit < examples/first-yes.run";
 
 const EXPLAIN_EXAMPLE: &str = "Example: totem explain < examples/first-no.run";
@@ -75,7 +76,9 @@ fn script_option<'a>(alloc: Global) -> Arg<'a> {
     Arg::new(alloc, "script")
         .long("script")
         .action(ArgAction::SetTrue)
-        .help("Follow a script as sim does, and show the line at which it is refused")
+        .help(
+            "Take a script in place of a run: do what sim does, or show the line at which the script is refused",
+        )
 }
 
 fn explain_command<'a>(alloc: Global) -> Result<Command<'a>, AllocError> {
@@ -108,7 +111,7 @@ fn workers_of(matches: &ArgMatches<'_>) -> u32 {
 
 fn check_command<'a>(alloc: Global) -> Command<'a> {
     Command::new(alloc, "check")
-        .about("Judges a run and its certificate, one after the other on standard input")
+        .about("Reads a run and then its certificate from standard input, and judges both")
         .after_help(CHECK_EXAMPLE)
 }
 

@@ -1,7 +1,7 @@
 use Rattle.std.proofs.Common.{◌<◌, length, refl, arith}
 use Rattle.std.proofs.lemmas.Option.{slice_get_read}
 use Rattle.totem_pass_ab.proofs.Turning.{succession_to_next, no_succession_to_end, next_is_change}
-use Rattle.totem_pass_ab.proofs.succession.succession_between.Goals as goal
+use Rattle.totem_pass_ab.proofs.neighbours.succession_between.Goals as goal
 
 pub returns-then-next_at-log-clause-none : goal.returns-then-next_at-log-clause-none
 returns-then-next_at-log-clause-none c = no_succession_to_end c.args.log.now c.args.at c.args.next_at c.requires c.if-next_at-log.true

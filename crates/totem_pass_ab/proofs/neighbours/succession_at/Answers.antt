@@ -2,7 +2,7 @@ use Rattle.std.proofs.Common.{refl}
 use Rattle.std.proofs.lemmas.Option.{slice_get_read}
 use Rattle.totem_evs.proofs.NextChanges.{none_between_more}
 use Rattle.totem_pass_ab.proofs.Turning.{no_succession_at_end}
-use Rattle.totem_pass_ab.proofs.succession.succession_at.Goals as goal
+use Rattle.totem_pass_ab.proofs.neighbours.succession_at.Goals as goal
 
 pub loop-next_at-preserved : goal.loop-next_at-preserved
 loop-next_at-preserved c =

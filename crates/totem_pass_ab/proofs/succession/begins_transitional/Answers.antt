@@ -1,7 +1,7 @@
 use Rattle.std.proofs.Common.{refl}
 use Rattle.std.proofs.lemmas.Option.{slice_get_read}
 use Rattle.totem_pass_ab.proofs.Turning.{begins_decided, begins_regular, begins_no_change}
-use Rattle.totem_pass_ab.proofs.turns.begins_transitional.Goals as goal
+use Rattle.totem_pass_ab.proofs.succession.begins_transitional.Goals as goal
 
 pub returns-then-is_transitional : goal.returns-then-is_transitional
 returns-then-is_transitional c =

@@ -2,7 +2,7 @@ use Rattle.totem_evs.specs.Answers.{Finds}
 use Rattle.totem_evs.specs.declared.spec.SpecNo.TheVariants as spec
 use Rattle.totem_pass_ab.proofs.Starting.{none_of_all, least_of_all, told_as_places}
 use Rattle.totem_pass_ab.proofs.TurnFaults.{least_of_more, turn_faults_break, breaks_have_turn_faults, turn_faults_begin, no_turn_faults}
-use Rattle.totem_pass_ab.proofs.turns.find.Goals as goal
+use Rattle.totem_pass_ab.proofs.succession.find.Goals as goal
 
 pub returns : goal.returns
 returns c =

@@ -1,6 +1,6 @@
 use Rattle.std.proofs.Common.{arith, refl}
 use Rattle.totem_pass_ab.proofs.Turning.{no_other_to_there, other_here}
-use Rattle.totem_pass_ab.proofs.turns.OtherOriginsRelation.rest.Goals as goal
+use Rattle.totem_pass_ab.proofs.succession.OtherOriginsRelation.rest.Goals as goal
 
 pub returns-then-not-is : goal.returns-then-not-is
 returns-then-not-is c =

@@ -1,0 +1,68 @@
+//! A change and the next one of its log.
+ghost use Rattle.std.specs.Prelude.{◌≡◌, ◌<◌, IfSome, IfNone, length};
+ghost use Rattle.totem_evs.specs.Events.{IsChange};
+ghost use Rattle.totem_evs.specs.Changes.{ChangesNext};
+ghost use Rattle.totem_evs.specs.Following.{IsNextOrEnd};
+ghost use Rattle.totem_pass_ab.specs.Turns.{HasNoSuccession};
+
+use totem_evs::{Entry, Members};
+use totem_ids::ConfId;
+
+/// A change, and the next change of the same log.
+#[derive(Clone, Copy)]
+pub struct Succession<'a> {
+    pub conf: &'a ConfId,
+    pub members: &'a Members,
+    pub next_at: usize,
+    pub next: &'a ConfId,
+    pub next_members: &'a Members,
+}
+
+/// Returns the change at this index and the next one, or `None` unless both exist.
+pub fn succession_at(log: &[Entry], at: usize) -> Option<Succession<'_>>
+    requires { at < length log.now }
+    ensures found { IfSome result (λ succession. ChangesNext log.now at succession.next_at succession.conf.now succession.next.now succession.members.now succession.next_members.now) }
+    ensures within { IfSome result (λ succession. succession.next_at < length log.now) }
+    ensures none { IfNone result (HasNoSuccession log.now at) }
+{
+    let Entry::Conf(conf, members) = &log[at] else {
+        return None;
+    };
+    for next_at in at + 1..log.len() {
+        if let Entry::Conf(next, next_members) = &log[next_at] {
+            return Some(Succession {
+                conf,
+                members,
+                next_at,
+                next,
+                next_members,
+            });
+        }
+    }
+    None
+}
+
+/// Returns the change at this index and the one at `next_at`, or `None` unless both exist. No change may be between them.
+pub fn succession_between(log: &[Entry], at: usize, next_at: usize) -> Option<Succession<'_>>
+    requires { IsNextOrEnd log.now at next_at }
+    ensures found { IfSome result (λ succession. ChangesNext log.now at succession.next_at succession.conf.now succession.next.now succession.members.now succession.next_members.now) }
+    ensures within { IfSome result (λ succession. succession.next_at < length log.now) }
+    ensures none { IfNone result (HasNoSuccession log.now at) }
+{
+    let Entry::Conf(conf, members) = &log[at] else {
+        return None;
+    };
+    if next_at >= log.len() {
+        return None;
+    }
+    let Entry::Conf(next, next_members) = &log[next_at] else {
+        return None;
+    };
+    Some(Succession {
+        conf,
+        members,
+        next_at,
+        next,
+        next_members,
+    })
+}
