@@ -17,6 +17,8 @@ SCRIPT = b'totem-script 1\nring 4.1 1 2 3\n'
 ALL = b' '.join(b'%d' % number for number in range(1, 33))
 CHANGE = b'conf r4.1 ' + ALL + b'\n'
 CLOSED = b'open\nend\n'
+# A run in threads, longer than there is memory for: it is refused before a node begins.
+NO_ROOM = 'run --nodes 32 --ticks 1000000', [], Answer(3, b'', b'totem: out of memory\n')
 
 
 def endless(block):
@@ -191,12 +193,12 @@ def flaw(verb, wanted, answer, usage):
 
 def large(asked, tally):
     """Each answer is known, or at least its status, and comes within some seconds and some megabytes."""
-    cases = [*without_an_end(), *at_the_limits(), *long_scripts()]
+    cases = [*without_an_end(), *at_the_limits(), *long_scripts(), ('a run for which there is no room', *NO_ROOM)]
     limited = ['/bin/sh', '-c', 'ulimit -v %d; exec "$0" "$@"' % (MEGABYTES_GIVEN << 10), asked.program]
 
     def one(case):
         what, verb, pieces, wanted = case
-        return (what, verb, wanted, *run(limited + [verb], pieces))
+        return (what, verb, wanted, *run(limited + verb.split(), pieces))
 
     tally.begin()
     with ThreadPoolExecutor(asked.jobs) as pool:
