@@ -220,7 +220,7 @@ def try_nothing_made(_program):
 
 # Folders of the examples that are refused as they are: the arguments, and the messages (docs/OWN-LOGS.md).
 ASKED = {
-    'first-callback': ('', 'logs: 1.log, line 1: a change has members: conf t5.1/1 (a first callback that names none is left out)\n'),
+    'first-callback': ('', 'logs: 1.log, line 1: a change must name its members: conf t5.1/1 (only a first callback that names none is left out)\n'),
     'lives': ('--lives', 'logs: 1.1.log, line 3: which life of 2 is a member of r8.1? No log of it changes there: 2:1 or 2:2 or 2:3\n'
               '  Say each by --member CONFIGURATION=P:L, or give the times of the lives by --clock FILE\n'),
     'large-numbers': ('', 'logs: 167772161.log: process 167772161 is past 65535; --renumber renumbers processes\n'),
