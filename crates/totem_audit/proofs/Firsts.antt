@@ -9,12 +9,7 @@ use Rattle.totem_evs.specs.ClosedLists.{IsCycle}
 use Rattle.totem_evs.specs.Certificates.{Numbering}
 use Rattle.totem_evs.proofs.Synchronous.{meets_passes}
 use Rattle.totem_pass_ab.specs.Listed.{ListsFirst}
-use Rattle.std.specs.Prelude.{IfSome}
-use Rattle.totem_evs.specs.declared.pending.Pending.{Pending}
 use Rattle.totem_evs.specs.Positions.{IsPositions}
-use Rattle.totem_evs.specs.Unsettled.{ArePending}
-use Rattle.totem_certificate.specs.Keeping.{certificate_version}
-use Rattle.totem_judge.specs.Judged.{IsView}
 use Rattle.totem_audit.specs.declared.first_passes.Passed.{Passed}
 use Rattle.totem_audit.specs.Early.{IsOrdered, HasPassed, BreaksEarly, ListsEarly}
 
@@ -57,11 +52,6 @@ met_ordered run lines meets c = record {
   b = inl (meets.sent, refl);
   c = c;
 }
-
--- a run that was observed has passed
-pub observed_passes : (run : RunRecord) (passed : Passed) (pending : List Pending) → IsPositions run.logs passed.certificate.lines → passed.certificate.version ≡ certificate_version run.version
-    → IsView run.logs passed.observed.items pending → IfSome passed.pending (λ list. ArePending run.logs list.items) → HasPassed run passed
-observed_passes run passed pending c version view known = record { ordered = met_ordered run.logs passed.certificate.lines view.meets c; version = version; traffic = view.traffic; known = known }
 
 -- and their order is the answer
 pub broken_answer : (run : List Log) (faults : List Fault) → BreaksEarly run faults → IsAnswered run (No faults)

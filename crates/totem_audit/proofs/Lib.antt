@@ -1,3 +1,5 @@
+pub mod AllRings
+pub mod Agreed
 pub mod Cutting
 pub mod Firsts
 pub mod KnownJobs

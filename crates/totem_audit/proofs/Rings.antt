@@ -13,21 +13,21 @@ one_way a b (inl lt) (inr gt) = omega (arith, gt.0)
 one_way a b (inr lt) (inl gt) = omega (arith, lt.0)
 one_way a b (inr lt) (inr gt) = omega (arith, lt.1, gt.1)
 
-first_or_rest : (a : RingId) (xs : List RingId) (c : RingId) → Contains (a ∷ xs) c → (a ≡ c) ⊎ Contains xs c
+pub first_or_rest : (a : RingId) (xs : List RingId) (c : RingId) → Contains (a ∷ xs) c → (a ≡ c) ⊎ Contains xs c
 first_or_rest a xs c (zero, lt, is) = inl is
 first_or_rest a xs c (suc i, lt, is) = inr (i, omega (arith, lt), is)
 
-in_rest : (a : RingId) (xs : List RingId) (c : RingId) → Contains xs c → Contains (a ∷ xs) c
+pub in_rest : (a : RingId) (xs : List RingId) (c : RingId) → Contains xs c → Contains (a ∷ xs) c
 in_rest a xs c (i, lt, is) = (suc i, omega (arith, lt), is)
 
-is_first : (a : RingId) (xs : List RingId) → Contains (a ∷ xs) a
+pub is_first : (a : RingId) (xs : List RingId) → Contains (a ∷ xs) a
 is_first a xs = (zero, omega arith, refl)
 
 -- the first is below the rest
-first_below : (a : RingId) (xs : List RingId) (c : RingId) → AllPairs RingBelow (a ∷ xs) → Contains xs c → RingBelow a c
+pub first_below : (a : RingId) (xs : List RingId) (c : RingId) → AllPairs RingBelow (a ∷ xs) → Contains xs c → RingBelow a c
 first_below a xs c rising (i, lt, is) = let P : RingId → Type 0 = λ x. RingBelow a x in subst P is (rising 0 (suc i) c (omega arith) (omega (arith, lt)))
 
-rest_rises : (a : RingId) (xs : List RingId) → AllPairs RingBelow (a ∷ xs) → AllPairs RingBelow xs
+pub rest_rises : (a : RingId) (xs : List RingId) → AllPairs RingBelow (a ∷ xs) → AllPairs RingBelow xs
 rest_rises a xs rising = λ i j d lt within. rising (suc i) (suc j) d (omega (arith, lt)) (omega (arith, within))
 
 -- lists with the same elements

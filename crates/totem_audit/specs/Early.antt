@@ -7,8 +7,8 @@ use Rattle.totem_evs.specs.RunRecord.{RunRecord}
 use Rattle.totem_evs.specs.Certificates.{Numbering}
 use Rattle.totem_evs.specs.Positions.{IsPositions}
 use Rattle.totem_certificate.specs.Keeping.{certificate_version}
-use Rattle.totem_evs.specs.Unsettled.{ArePending}
-use Rattle.totem_configuration_rules.specs.Traffics.{AreTraffic}
+use Rattle.totem_judge.specs.declared.judging.View.{View}
+use Rattle.totem_judge.specs.Judged.{IsView}
 use Rattle.totem_audit.specs.declared.first_passes.Passed.{Passed}
 use Rattle.totem_audit.specs.declared.first_passes.FirstPasses.{FirstPasses}
 use Rattle.totem_audit.specs.declared.first_passes.FirstPasses.TheVariants.{Broken, Ordered}
@@ -19,18 +19,21 @@ pub record IsOrdered (run : List Log) (lines : List Numbering) : Type 0 where
   pub b : Lists run pass_b []
   pub c : IsPositions run lines
 
+-- the view is one of this run
+abbrev pub IsViewOf : List Log → View → Type 0
+IsViewOf run view = IsView run view.observed.items view.pending.items
+
 -- these are the faults of the first of the three passes that has one
 pub record BreaksEarly (run : List Log) (faults : List Fault) : Type 0 where
   pub some : faults ≢ []
   pub first : Lists run pass_a faults ⊎ (Lists run pass_a [] × Lists run pass_b faults) ⊎ (Lists run pass_a [] × Lists run pass_b [] × ListsCycle run faults)
 
--- the run has passed the first three passes: the order of its events, in the certificate version that belongs to the run's; of all
--- configurations that are listed the traffic; and what is pending, if it is known
+-- the run has passed the first three passes: the order of its events, in the certificate version that belongs to the run's; and what
+-- is observed of the run, if anything is
 pub record HasPassed (run : RunRecord) (passed : Passed) : Type 0 where
   pub ordered : IsOrdered run.logs passed.certificate.lines
   pub version : passed.certificate.version ≡ certificate_version run.version
-  pub traffic : AreTraffic run.logs passed.observed.items
-  pub known : IfSome passed.pending (λ list. ArePending run.logs list.items)
+  pub seen : IfSome passed.view (IsViewOf run.logs)
 
 -- their result: the faults of the first that has one, or what is known of a run that has passed them
 abbrev pub IsEarly : RunRecord → FirstPasses → Type 0

@@ -1,14 +1,15 @@
 //! The audit: pass after pass, up to the first with a fault.
 ghost use Rattle.std.specs.Prelude.{IfOk, IfSome};
-ghost use Rattle.totem_evs.specs.Answers.{ListsConfigurations, IsAnswered};
+ghost use Rattle.totem_evs.specs.Answers.{ListsConfigurations, MeetsPasses, IsAnswered};
 ghost use Rattle.totem_evs.specs.Meanings.{IsSound};
 ghost use Rattle.totem_evs.specs.Unsettled.{ArePending};
 ghost use Rattle.totem_pass_d.specs.Jobs.{AreJobs};
 ghost use Rattle.totem_certificate.specs.Keeping.{certificate_version};
+ghost use Rattle.totem_audit.specs.LastPasses.{IsLastPass};
 ghost use Rattle.totem_audit.specs.Verdicts.{answer_of, HasVersion};
-ghost use Rattle.totem_audit.specs.Early.{IsOrdered};
+ghost use Rattle.totem_audit.specs.Early.{IsViewOf, IsOrdered, HasPassed};
 
-use crate::first_passes::{FirstPasses, first_passes};
+use crate::first_passes::{FirstPasses, Passed, first_passes};
 use crate::gate::Gate;
 use crate::last_pass::pass_d_with;
 use crate::verdict::Verdict;
@@ -18,8 +19,41 @@ use std::sync::Wait;
 use std::thread::Threads;
 use totem_cert::Certificate;
 use totem_evs::{Fault, Pending, Run};
+use totem_judge::View;
 use totem_pass_d::{Jobs, pass_d_of, pending_of, waiting};
 use totem_table::Changes;
+
+/// The jobs of the last pass, and what is pending, if that is seen.
+#[derive(Drop)]
+struct LastPass<'r> {
+    jobs: Jobs<'r>,
+    pending: Option<Vec<Pending>>,
+}
+
+/// Lists the jobs of a run that has passed the first two passes, and keeps what is seen of it.
+fn last_pass_of<'r>(
+    alloc: Global,
+    run: &'r Run,
+    view: Option<View>,
+) -> Result<LastPass<'r>, AllocError>
+    requires meets { MeetsPasses run.now.logs }
+    requires seen { IfSome view (IsViewOf run.now.logs) }
+    ensures { IfOk result (IsLastPass run.now.logs) }
+{
+    match view {
+        Some(View { observed, pending }) => {
+            let changes = Changes::of(alloc, run)?;
+            Ok(LastPass {
+                jobs: Jobs::over(alloc, run, changes, observed)?,
+                pending: Some(pending),
+            })
+        }
+        None => Ok(LastPass {
+            jobs: Jobs::build(alloc, run)?,
+            pending: None,
+        }),
+    }
+}
 
 /// Returns all that is pending in the run of these jobs, where it is not known yet.
 fn all_pending(
@@ -63,6 +97,45 @@ fn settle(
     })
 }
 
+/// Does the last pass, on the calling thread.
+fn search(
+    alloc: Global,
+    run: &Run,
+    certificate: Certificate,
+    view: Option<View>,
+) -> Result<Verdict, AllocError>
+    requires passed { IsOrdered run.now.logs certificate.lines }
+    requires seen { IfSome view (IsViewOf run.now.logs) }
+    ensures answer { IfOk result (λ verdict. IsAnswered run.now.logs (answer_of verdict)) }
+    ensures version { IfOk result (HasVersion certificate.version) }
+{
+    let LastPass { jobs, pending } = last_pass_of(alloc, run, view)?;
+    let faults = pass_d_of(alloc, &jobs)?;
+    settle(alloc, &jobs, certificate, pending, faults)
+}
+
+/// Returns the verdict of a run that has passed the first three passes. If all rules of the last are seen to be met, there is nothing to
+/// search.
+fn judge(alloc: Global, run: &Run, passed: Passed) -> Result<Verdict, AllocError>
+    requires { HasPassed run.now passed }
+    ensures answer { IfOk result (λ verdict. IsAnswered run.now.logs (answer_of verdict)) }
+    ensures version { IfOk result (λ verdict. HasVersion (certificate_version run.now.version) verdict) }
+{
+    let _ = run.logs.as_slice();
+    let Passed { certificate, view } = passed;
+    let Some(view) = view else {
+        return search(alloc, run, certificate, None);
+    };
+    if !view.agrees() {
+        return search(alloc, run, certificate, Some(view));
+    }
+    Ok(Verdict::Yes {
+        certificate,
+        pending: view.pending,
+        waiting: waiting(alloc, run)?,
+    })
+}
+
 /// Does the passes in order, on the calling thread.
 #[tactic(auto, using(crate::proofs::Firsts::broken_answer))]
 fn pass_all(alloc: Global, run: &Run) -> Result<Verdict, AllocError>
@@ -71,12 +144,7 @@ fn pass_all(alloc: Global, run: &Run) -> Result<Verdict, AllocError>
 {
     match first_passes(alloc, run)? {
         FirstPasses::Broken(faults) => Ok(Verdict::No { faults }),
-        FirstPasses::Ordered(passed) => {
-            let changes = Changes::of(alloc, run)?;
-            let jobs = Jobs::over(alloc, run, changes, passed.observed)?;
-            let faults = pass_d_of(alloc, &jobs)?;
-            settle(alloc, &jobs, passed.certificate, passed.pending, faults)
-        }
+        FirstPasses::Ordered(passed) => judge(alloc, run, passed),
     }
 }
 
@@ -95,10 +163,9 @@ fn pass_all_with<T: Threads + Wait + Sync, G: Gate>(
     match first_passes(alloc, run)? {
         FirstPasses::Broken(faults) => Ok(Verdict::No { faults }),
         FirstPasses::Ordered(passed) => {
-            let changes = Changes::of(alloc, run)?;
-            let jobs = Jobs::over(alloc, run, changes, passed.observed)?;
+            let LastPass { jobs, pending } = last_pass_of(alloc, run, passed.view)?;
             let faults = pass_d_with(rt, alloc, &jobs, workers, gate)?;
-            settle(alloc, &jobs, passed.certificate, passed.pending, faults)
+            settle(alloc, &jobs, passed.certificate, pending, faults)
         }
     }
 }

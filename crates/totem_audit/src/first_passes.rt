@@ -9,8 +9,7 @@ ghost use Rattle.totem_audit.specs.Early.{IsEarly, ListsEarly};
 
 use std::alloc::{AllocError, Global};
 use totem_cert::{Certificate, Order, positions};
-use totem_configuration_rules::Observed;
-use totem_evs::{Fault, Pending, Run};
+use totem_evs::{Fault, Run};
 use totem_judge::{View, observe};
 use totem_pass_ab::pass_a_and_b;
 use totem_table::Changes;
@@ -20,10 +19,8 @@ use totem_table::Changes;
 pub struct Passed {
     /// The order of the events.
     pub certificate: Certificate,
-    /// The traffic of all regular configurations, or nothing.
-    pub observed: Vec<Observed>,
-    /// What is pending, if the traffic was observed.
-    pub pending: Option<Vec<Pending>>,
+    /// What is observed along that order. `None` if it does not show that the run has passed; then the searches have.
+    pub view: Option<View>,
 }
 
 /// How the first three passes end.
@@ -75,11 +72,10 @@ fn pass_ordered(
     requires version { certificate.version ≡ certificate_version run.now.version }
     ensures { IfOk result (IsEarly run.now) }
 {
-    if let Some(View { observed, pending }) = observe(alloc, run, &certificate)? {
+    if let Some(view) = observe(alloc, run, &certificate)? {
         return Ok(FirstPasses::Ordered(Passed {
             certificate,
-            observed,
-            pending: Some(pending),
+            view: Some(view),
         }));
     }
     let faults = search(alloc, run)?;
@@ -88,8 +84,7 @@ fn pass_ordered(
     }
     Ok(FirstPasses::Ordered(Passed {
         certificate,
-        observed: Vec::new(alloc),
-        pending: None,
+        view: None,
     }))
 }
 

@@ -132,7 +132,7 @@ module _ (run : List Log) (lines : List Numbering) (observed : List Observed) (p
       let shows = agree.each here.at (slice_get_within observed here.at one here.stands) one here.stands in
       subst (λ (d : RingId). AgreesIn run d) here.ring (shows.met run one.ring is.meets (is.traffic.each here.at one here.stands))
 
-  configurations : MeetsConfigurations run
+  pub configurations : MeetsConfigurations run
   configurations = record {
     own = record { each = λ c ring. (agrees c ring).own };
     atomicity = record { each = λ c ring. (agrees c ring).atomicity };

@@ -4,6 +4,7 @@ use Rattle.std.specs.Prelude.{All, Contains}
 use Rattle.std.proofs.lemmas.Bool.{cases_eq}
 use Rattle.std.proofs.lemmas.List.Elements.{All-nil, All-cons, All-head, All-tail, All-push}
 use Rattle.std.proofs.lemmas.List.{take_more, take_all}
+use Rattle.std.proofs.lemmas.Option.{get_or_from_slice_get, slice_get-get_or}
 use Rattle.totem_ids.specs.declared.ring.RingId.{RingId}
 use Rattle.totem_ids.specs.declared.conf.ConfId.{ConfId}
 use Rattle.totem_ids.specs.declared.conf.ConfId.TheVariants.{Regular, Transitional}
@@ -64,6 +65,9 @@ regular_or_transitional (Regular c) = inl tt
 regular_or_transitional (Transitional next least) = inr tt
 
 -- loops over a list of processes
+pub all_in_itself : (ms ns : List ℕ) → ms ≡ ns → All (Contains ms) ns
+all_in_itself ms ns same = rw same (λ k d lt. (k, lt, get_or_from_slice_get ns k (get_or ns k d) (get_or ns k d) (slice_get-get_or ns k d lt)))
+
 pub all_more : (ms ns : List ℕ) (i n : ℕ) → i < length ns → n ≡ get_or ns i n → Contains ms n → All (Contains ms) (take i ns) → All (Contains ms) (take (i + 1) ns)
 all_more ms ns i n lt is here so_far = rw (take_more ns i n lt, ← is) (All-push (Contains ms) (take i ns) n so_far here)
 

@@ -1,5 +1,5 @@
 -- The messages that logs send and deliver (docs/SPECIFICATIONS.md, "1 Basic delivery").
-use Rattle.std.specs.Prelude.{◌≡◌, ℕ, ◌+◌, ◌<◌, List, length, slice_index_or, Option, None, Some}
+use Rattle.std.specs.Prelude.{◌≡◌, ℕ, ◌+◌, ◌<◌, List, ◌++◌, All, length, slice_index_or, Option, None, Some}
 use Rattle.std.specs.List.{filter_map, flat_map}
 use Rattle.std.specs.declared.cmp.Ordering.{Ordering}
 use Rattle.std.specs.declared.cmp.Ordering.TheVariants.{Less}
@@ -38,3 +38,8 @@ IsNoSendBetween (Conf x members) = Unit {0}
 IsNoSendBetween (Send m x service) = IsRegular x
 IsNoSendBetween (Deliver m x) = Unit {0}
 IsNoSendBetween (Fail x) = Unit {0}
+
+-- the messages that the entries send were appended, and none of them is sent in a transitional configuration
+pub record AddsSends (old new : List MsgId) (entries : List Entry) : Type 0 where
+  pub adds : new ≡ old ++ messages_in once.Send entries
+  pub regular : All IsNoSendBetween entries

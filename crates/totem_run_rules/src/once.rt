@@ -1,11 +1,11 @@
 //! 1.4: each message is sent once, in a regular configuration, and each log delivers it once (docs/SPECIFICATIONS.md, "1 Basic
 //! delivery").
-ghost use Rattle.std.specs.Prelude.{◌≡◌, ◌≢◌, ◌++◌, ◌+◌, ◌<◌, ℕ, All, IfOk, OnOk, length, slice_index_or};
+ghost use Rattle.std.specs.Prelude.{◌≡◌, ◌≢◌, ◌++◌, ◌+◌, ◌<◌, ℕ, IfOk, OnOk, length, slice_index_or};
 ghost use Rattle.std.specs.Bool.{OnTrue};
 ghost use Rattle.std.specs.Ordering.{is_lt};
 ghost use Rattle.std.specs.List.{AllPairs};
 ghost use Rattle.totem_run_rules.specs.Orderly.{DeliveriesAreOnce, SendsAreOnce};
-ghost use Rattle.totem_run_rules.specs.Once.{IsNoSendBetween, RisesByOrder, message_in, messages_in, message_order};
+ghost use Rattle.totem_run_rules.specs.Once.{AddsSends, IsNoSendBetween, RisesByOrder, message_in, messages_in, message_order};
 
 use std::alloc::{AllocError, Global};
 use totem_evs::{Entry, Log};
@@ -29,16 +29,17 @@ fn message_in(act: Once, entry: &Entry) -> Option<MsgId>
     }
 }
 
-/// Appends the messages that the entries send or deliver.
-fn add_messages(list: &mut Vec<MsgId>, act: Once, entries: &[Entry]) -> Result<(), AllocError>
-    ensures { OnOk result (list.new.items ≡ list.old.items ++ messages_in act entries.now) }
+/// Returns the messages that the entries deliver.
+fn deliveries_in(alloc: Global, entries: &[Entry]) -> Result<Vec<MsgId>, AllocError>
+    ensures { IfOk result (λ list. list.items ≡ messages_in Once.Deliver entries.now) }
 {
+    let mut list = Vec::new(alloc);
     for entry in entries {
-        if let Some(message) = message_in(act, entry) {
+        if let Some(message) = message_in(Once::Deliver, entry) {
             list.push(message)?;
         }
     }
-    Ok(())
+    Ok(list)
 }
 
 fn is_below(message: &MsgId, other: &MsgId) -> bool
@@ -77,16 +78,19 @@ fn is_regular(entry: &Entry) -> bool
     !matches!(entry, Entry::Send(_, ConfId::Transitional { .. }, _))
 }
 
-/// Returns whether these entries send nothing in transitional configurations.
-fn are_regular(entries: &[Entry]) -> bool
-    ensures { OnTrue result (All IsNoSendBetween entries.now) }
+/// Appends the messages that the entries send. Returns whether none is sent in a transitional configuration.
+fn add_sends(list: &mut Vec<MsgId>, entries: &[Entry]) -> Result<bool, AllocError>
+    ensures { IfOk result (λ ok. OnTrue ok (AddsSends list.old.items list.new.items entries.now)) }
 {
     for entry in entries {
         if !is_regular(entry) {
-            return false;
+            return Ok(false);
+        }
+        if let Some(message) = message_in(Once::Send, entry) {
+            list.push(message)?;
         }
     }
-    true
+    Ok(true)
 }
 
 /// Returns `true` only if the sends of a run meet the specification.
@@ -95,11 +99,9 @@ pub fn sends_are_once(alloc: Global, logs: &[Log]) -> Result<bool, AllocError>
 {
     let mut sent = Vec::new(alloc);
     for log in logs {
-        let entries = log.entries.as_slice();
-        if !are_regular(entries) {
+        if !add_sends(&mut sent, log.entries.as_slice())? {
             return Ok(false);
         }
-        add_messages(&mut sent, Once::Send, entries)?;
     }
     are_distinct(sent)
 }
@@ -108,9 +110,7 @@ pub fn sends_are_once(alloc: Global, logs: &[Log]) -> Result<bool, AllocError>
 fn delivers_once(alloc: Global, entries: &[Entry]) -> Result<bool, AllocError>
     ensures { IfOk result (λ ok. OnTrue ok (AllPairs (λ x y. x ≢ y) (messages_in Once.Deliver entries.now))) }
 {
-    let mut delivered = Vec::new(alloc);
-    add_messages(&mut delivered, Once::Deliver, entries)?;
-    are_distinct(delivered)
+    are_distinct(deliveries_in(alloc, entries)?)
 }
 
 /// Returns `true` only if each log delivers each message once.

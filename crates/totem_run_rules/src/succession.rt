@@ -9,6 +9,9 @@ use totem_ids::ConfId;
 fn contains_all(members: &Members, others: &Members) -> bool
     ensures { IsTrue result ↔ All (Contains members.now) others.now }
 {
+    if members.is(others) {
+        return true;
+    }
     for proc in others.as_slice() {
         if !members.contains(*proc) {
             return false;

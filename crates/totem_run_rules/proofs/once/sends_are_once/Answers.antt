@@ -8,9 +8,10 @@ use Rattle.totem_run_rules.proofs.once.sends_are_once.Goals as goal
 pub loop-log-preserved : goal.loop-log-preserved
 loop-log-preserved c =
     let at = slice_get_read c.args.logs.now _ c.loop-log.log-index c.log-item.result refl c.loop-log-test.true c.log-item.is in
-    let entries = c.as_slice-entries.ensures.value ∙ ap (λ (l : LogRecord). l.entries) c.log.view_is in (
-      sent_more c.args.logs.now c.loop-log.log-index _ _ _ at (rw entries at c.in_ok-add_messages.ensures) c.loop-log.invariant.0,
-      one_more _ _ _ _ at (rw entries at (rw c.if-not-are_regular.false at c.are_regular.ensures)) c.loop-log.invariant.1,
+    let entries = c.as_slice.ensures.value ∙ ap (λ (l : LogRecord). l.entries) c.log.view_is in
+    let h = rw c.if-not-branch.false at c.in_ok-add_sends.ensures in (
+      sent_more c.args.logs.now c.loop-log.log-index _ _ _ at (rw entries at h.adds) c.loop-log.invariant.0,
+      one_more _ _ _ _ at (rw entries at h.regular) c.loop-log.invariant.1,
     )
 
 pub returns : goal.returns

@@ -1,6 +1,9 @@
 use Rattle.std.proofs.Common.{refl}
-use Rattle.totem_run_rules.proofs.Decisions.{all_more, all_whole, all_not}
+use Rattle.totem_run_rules.proofs.Decisions.{all_in_itself, all_more, all_whole, all_not}
 use Rattle.totem_run_rules.proofs.succession.contains_all.Goals as goal
+
+pub returns-then-is : goal.returns-then-is
+returns-then-is c = (λ _. all_in_itself c.args.members.now c.args.others.now (c.if-is.ensures.0 refl), λ _. refl)
 
 pub returns-then-not-contains : goal.returns-then-not-contains
 returns-then-not-contains c =
