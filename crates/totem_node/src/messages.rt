@@ -13,10 +13,10 @@ use crate::node_core::NodeCore;
 use crate::outcome::StepOut;
 use crate::recovering::message_on_new;
 use crate::state::State;
-use crate::told::{deliveries_on, message_steps};
+use crate::told::{deliveries_on, one_step};
 use std::alloc::{AllocError, Global};
 use totem_packets::Message;
-use totem_ring::{RingOut, RingState, is_same_ring};
+use totem_ring::{Act, RingOut, RingState, is_same_ring};
 
 /// Returns what a node reports of a message that a ring took.
 pub fn tell(
@@ -32,7 +32,7 @@ pub fn tell(
     Ok(StepOut {
         packets: out.packets,
         entries: deliveries_on(alloc, ring.ring(), &out.handed)?,
-        ring_steps: message_steps(alloc, ring.ring(), message)?,
+        ring_steps: one_step(alloc, ring.ring(), Act::Message(message))?,
     })
 }
 

@@ -9,8 +9,7 @@ ghost use Rattle.totem_node.specs.Answers.{IsTold, IsStep, IsResent};
 use crate::fault::NodeFault;
 use crate::node_core::NodeCore;
 use crate::outcome::StepOut;
-use crate::ring_step::RingStep;
-use crate::told::{visit_sends, visit_steps, write_deliveries};
+use crate::told::{one_step, visit_sends, visit_steps, write_deliveries};
 use std::alloc::Global;
 use totem_ids::ConfId;
 use totem_packets::{Body, Token};
@@ -50,15 +49,10 @@ pub fn resend(alloc: Global, ring: &RingState) -> Result<StepOut, NodeFault>
     ensures { IsResent result ring.now }
 {
     let out = ring.on_resend(alloc)?;
-    let mut ring_steps = Vec::with_capacity(alloc, 1)?;
-    ring_steps.push(RingStep {
-        ring: ring.ring(),
-        act: Act::Resend,
-    })?;
     Ok(StepOut {
         packets: out.packets,
         entries: Vec::new(alloc),
-        ring_steps,
+        ring_steps: one_step(alloc, ring.ring(), Act::Resend)?,
     })
 }
 
