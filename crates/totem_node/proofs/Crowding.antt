@@ -2,15 +2,16 @@
 use Rattle.std.proofs.Common.{◌≡◌, ℕ, ◌+◌, ◌<◌, ◌≤◌, ◌==◌, ◌&&◌, ◌||◌, ◌⊎◌, suc, not, Bool, true, false, List, [], ◌∷◌, length, take, drop, get_or, nat_lt, Some, None, refl, sym, ap, ◌∙◌, arith, ⊎_elim}
 use Rattle.std.specs.Prelude.{fold}
 use Rattle.std.proofs.lemmas.Bool.{cases_order, cases_Bool, eqb-true, eqb-false, lt-ltb, true≢false, false≢true, or_parts, or_cases}
-use Rattle.std.proofs.lemmas.List.{take_more, take-append-drop}
+use Rattle.std.proofs.lemmas.List.{take_more, drop_more, take-append-drop}
 use Rattle.std.proofs.lemmas.List.Elements.{filter-append}
 use Rattle.std.proofs.lemmas.List.Sums.{fold-append}
+use Rattle.totem_packets.specs.Rising.{IsProcesses}
 use Rattle.totem_packets.specs.Sets.{has, with_process, union, without}
 use Rattle.totem_packets.proofs.SetFacts.{with_same, with_before, with_behind, has_with, length_with_had, length_with_new}
 use Rattle.totem_member.proofs.Within.{above, has_filter}
 use Rattle.totem_node.specs.declared.crowd.Part.{Part}
 use Rattle.totem_node.specs.Crowds.{procs_of, is_in_one, crowd_of, Counts}
-use Rattle.totem_node.proofs.Growing.{Rises, rises_with, rises_union, longer_union}
+use Rattle.totem_node.proofs.Growing.{Rises, rises_set, rises_with, rises_union, longer_union}
 
 by_cases : {A B C : Type 0} → A ⊎ B → (A → C) → (B → C) → C
 by_cases either left right = ⊎_elim left right either
@@ -208,3 +209,51 @@ many_with_more parts more many = omega (arith, many, longer_union (crowd_of part
 
 pub more_than_most : (set : List ℕ) → Counts None set → true ≡ nat_lt 32 (length set)
 more_than_most set many = sym (lt-ltb 32 (length set) many)
+
+-- ---- the crowd as a set
+
+-- one that is left out is not added
+pub left_out : (set procs but : List ℕ) (k p d : ℕ) → p ≡ get_or procs k d → k < length procs → has but p ≡ true
+    → union set (without (drop k procs) but) ≡ union set (without (drop (k + 1) procs) but)
+left_out set procs but k p d at lt out =
+    ap (λ xs. union set (without xs but)) (drop_more procs k d lt ∙ ap (λ q. q ∷ drop (k + 1) procs) (sym at)) ∙ ap (union set) (skipped p (drop (k + 1) procs) out)
+  where
+    skipped : (x : ℕ) (xs : List ℕ) → has but x ≡ true → without (x ∷ xs) but ≡ without xs but
+    skipped x xs e = rw e refl
+
+-- any other is
+pub taken_in : (set procs but : List ℕ) (k p d : ℕ) → p ≡ get_or procs k d → k < length procs → has but p ≡ false
+    → union set (without (drop k procs) but) ≡ union (with_process set p) (without (drop (k + 1) procs) but)
+taken_in set procs but k p d at lt stays =
+    ap (λ xs. union set (without xs but)) (drop_more procs k d lt ∙ ap (λ q. q ∷ drop (k + 1) procs) (sym at)) ∙ ap (union set) (kept p (drop (k + 1) procs) stays)
+  where
+    kept : (x : ℕ) (xs : List ℕ) → has but x ≡ false → without (x ∷ xs) but ≡ x ∷ without xs but
+    kept x xs e = rw e refl
+
+-- a part of a crowd that fits has room for each of its processes
+pub has_room : (whole set procs but : List ℕ) (k p d : ℕ) → union set (without (drop k procs) but) ≡ whole → IsProcesses set → length whole ≤ 32
+    → p ≡ get_or procs k d → k < length procs → has but p ≡ false → length (with_process set p) ≤ 32
+has_room whole set procs but k p d far is few at lt stays =
+    omega (
+      arith,
+      few,
+      ap length far,
+      ap length (taken_in set procs but k p d at lt stays),
+      longer_union (with_process set p) (without (drop (k + 1) procs) but) (rises_with p set (rises_set set is)),
+    )
+
+pub part_added : (parts : List Part) (set : List ℕ) (k : ℕ) (part d : Part) → fold more_of set (drop k parts) ≡ crowd_of parts → k < length parts → part ≡ get_or parts k d
+    → fold more_of (union set (procs_of part)) (drop (k + 1) parts) ≡ crowd_of parts
+part_added parts set k part d far lt at =
+    ap (λ q. fold more_of (more_of set q) (drop (k + 1) parts)) at ∙ sym (ap (fold more_of set) (drop_more parts k d lt)) ∙ far
+
+-- a crowd that fits has room for each of its parts
+pub part_fits : (parts : List Part) (set : List ℕ) (k : ℕ) (part d : Part) → fold more_of set (drop k parts) ≡ crowd_of parts → k < length parts → part ≡ get_or parts k d
+    → IsProcesses set → length (crowd_of parts) ≤ 32 → length (union set (procs_of part)) ≤ 32
+part_fits parts set k part d far lt at is few =
+    omega (
+      arith,
+      few,
+      ap length (part_added parts set k part d far lt at),
+      longer_parts (more_of set part) (drop (k + 1) parts) (rises_union set (procs_of part) (rises_set set is)),
+    )

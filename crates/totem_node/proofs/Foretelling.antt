@@ -1,5 +1,5 @@
 -- The refusal that is known before a step is taken is the result of the step.
-use Rattle.std.proofs.Common.{◌≡◌, ℕ, ◌+◌, ◌^◌, ◌&&◌, not, Bool, true, false, List, [], ◌∷◌, length, Option, None, Some, Result, Ok, Err, refl, sym, ap, subst, ⊎_elim, nat_le, nat_lt, max}
+use Rattle.std.proofs.Common.{◌≡◌, ◌≢◌, ℕ, ◌+◌, ◌^◌, ◌&&◌, not, Bool, true, false, List, [], ◌∷◌, length, Option, None, Some, Result, Ok, Err, refl, ap, sym, subst, ⊎_elim, nat_le, nat_lt, max}
 use Rattle.std.specs.Prelude.{if◌then◌else◌, is_some}
 use Rattle.std.specs.Result.{is_ok}
 use Rattle.std.proofs.lemmas.Bool.{cases_Bool, false≢true}
@@ -7,8 +7,7 @@ use Rattle.totem_packets.specs.declared.message.Message.{Message}
 use Rattle.totem_packets.specs.declared.token.Token.{Token}
 use Rattle.totem_packets.specs.declared.join.Join.{Join}
 use Rattle.totem_packets.specs.declared.commit.CommitToken.{CommitToken}
-use Rattle.totem_packets.specs.declared.packet.Packet.{Packet}
-use Rattle.totem_packets.specs.declared.packet.Packet.TheVariants as packet
+use Rattle.totem_packets.specs.declared.commit_member.Report.{Report}
 use Rattle.totem_packets.specs.Sets.{has, with_process, is_least}
 use Rattle.totem_ring.specs.declared.fault.RingFault.{RingFault}
 use Rattle.totem_ring.specs.declared.fault.RingFault.TheVariants as ring_fault
@@ -21,10 +20,8 @@ use Rattle.totem_member.specs.declared.views.Act.TheVariants.{Filled, Entered, S
 use Rattle.totem_member.specs.declared.views.CommitOut.{CommitOut}
 use Rattle.totem_member.specs.declared.views.CommitView.{CommitView}
 use Rattle.totem_member.specs.declared.views.Phase.{Phase}
-use Rattle.totem_member.specs.declared.views.Phase.TheVariants as phase
 use Rattle.totem_member.specs.declared.fault.MemberFault.{MemberFault}
 use Rattle.totem_member.specs.declared.fault.MemberFault.TheVariants as member_fault
-use Rattle.totem_packets.specs.declared.commit_member.Report.{Report}
 use Rattle.totem_member.specs.Gathers.{Gather, gathered, consensus, is_stranger, new_gather, after_join, after_timeout, same_sets}
 use Rattle.totem_member.specs.Commits.{on_commit}
 use Rattle.totem_member.specs.Shown.{act_of}
@@ -32,31 +29,16 @@ use Rattle.totem_member.proofs.Ways.{chooses}
 use Rattle.totem_recover.specs.Exchange.{next_bodies}
 use Rattle.totem_node.specs.declared.crowd.Part.{Part}
 use Rattle.totem_node.specs.declared.fault.NodeFault.{NodeFault}
-use Rattle.totem_node.specs.declared.fault.NodeFault.TheVariants.{Stopped, OtherRing}
-use Rattle.totem_node.specs.declared.input.Input.{Input}
-use Rattle.totem_node.specs.declared.input.Input.TheVariants as input
 use Rattle.totem_node.specs.Crowds.{procs_of, crowd_of}
-use Rattle.totem_node.specs.Nodes.{Node, State, Operational, Gathering, Committing, InRecovery, Recovering, Stepped, Told, on_its_ring, committed_to, commit_view, report, is_sealed}
+use Rattle.totem_node.specs.Nodes.{Node, State, Operational, Gathering, Committing, InRecovery, Recovering, Told, on_its_ring, committed_to, commit_view, report}
 use Rattle.totem_node.specs.Outcomes.{Outcome, ◌>>=◌, by_ring, by_member}
-use Rattle.totem_node.specs.Gathering.{gather_base, to_gather, look_at_consensus, join_broadcast, for_a_foreign_message}
-use Rattle.totem_node.specs.Visiting.{visit_new, message_told}
-use Rattle.totem_node.specs.Table.{on_message, on_token, on_join_in, join_in_commit, is_late, says_nothing_new, starting, acted, commit_taken, on_commit_in, is_quiet, on_timer, on_packet, taken, step}
-use Rattle.totem_node.specs.Refusals.{of_its_ring, refused_by, refused_by_new, gather_refusal, message_refused, token_refused, refused_as_known, join_refused_in, start_refused, act_refused, commit_refused_by, commit_refused, packet_refused, quiet_refused, timer_refused, refused_by_input, has_no_number, begins_at_the_end, message_at_the_end, join_at_the_end, packet_at_the_end, timer_at_the_end, is_at_the_end, IsTaken, Tells}
+use Rattle.totem_node.specs.Gathering.{gather_base, to_gather, look_at_consensus, join_broadcast}
+use Rattle.totem_node.specs.Visiting.{visit_installed, visit_new, message_told}
+use Rattle.totem_node.specs.Table.{starting, acted, commit_taken, join_in_gather, on_timer}
+use Rattle.totem_node.specs.Refusals.{of_its_ring, refused_by, refused_by_new, cause_refusal, gather_refusal, start_refused, act_refused, commit_refused_by, has_no_number, begins_at_the_end, timer_at_the_end, IsTaken, Tells}
 
 by_test : {C : Type 0} (b : Bool) → (b ≡ true → C) → (b ≡ false → C) → C
 by_test b then_so else_so = ⊎_elim then_so else_so (cases_Bool b)
-
--- the same test chooses the refusal and the step
-if_tells : {A : Type 0} (b : Bool) (o p : Option NodeFault) (v w : Outcome A) → (b ≡ true → Tells o false v) → (b ≡ false → Tells p false w)
-    → Tells (if b then o else p) false (if b then v else w)
-if_tells true o p v w then_so else_so = then_so refl
-if_tells false o p v w then_so else_so = else_so refl
-
--- and also the result at the end of the ring numbers, which only the second of the two may reach
-other_tells : {A : Type 0} (b : Bool) (o p : Option NodeFault) (at_the_end : Bool) (v w : Outcome A) → (b ≡ true → Tells o false v) → (b ≡ false → Tells p at_the_end w)
-    → Tells (if b then o else p) (not b && at_the_end) (if b then v else w)
-other_tells true o p at_the_end v w then_so else_so = then_so refl
-other_tells false o p at_the_end v w then_so else_so = else_so refl
 
 -- ---- at consensus
 
@@ -69,7 +51,7 @@ looked n g (Some members) packets = by_test (is_least (gathered g) n.me)
     (λ some. rw (least, some) refl))
     (λ other. rw other refl)
 
-pub consensus_taken : (n : Node) (g : Gather) (packets : List Sending) → IsTaken (has_no_number n g) (look_at_consensus n g (consensus g) packets)
+consensus_taken : (n : Node) (g : Gather) (packets : List Sending) → IsTaken (has_no_number n g) (look_at_consensus n g (consensus g) packets)
 consensus_taken n g packets = looked n g (consensus g) packets
 
 -- ---- to gather
@@ -88,9 +70,23 @@ gather_tells n extra (Some j) = by_test (nat_lt 32 (length (with_process (gather
     let g = after_join (new_gather n.me (gather_base n extra) n.seq) j in
     rw (few, known) (consensus_taken (record n { quiet = 0 }) g (join_broadcast g ∷ []))))
 
+-- a gathering takes a Join, or refuses it
+pub gathering_tells : (n : Node) (g : Gather) (j : Join) → Tells (cause_refusal g (Some j)) (has_no_number n (after_join g j)) (join_in_gather n g j)
+gathering_tells n g j = by_test (is_stranger g j)
+    (λ stranger. rw stranger ((λ e. cc), refl))
+    (λ known.
+    let next = after_join g j in
+    rw known (consensus_taken n next (if not (same_sets next.sets g.sets) then join_broadcast next ∷ [] else [])))
+
+-- a timer is counted in Gather, or the gathering gives up those who didn't agree in time
+pub gathers_on : (n : Node) (g : Gather) → IsTaken (timer_at_the_end n (Gathering g)) (on_timer n (Gathering g))
+gathers_on n g = by_test (nat_le 2 (n.quiet + 1))
+    (λ late. rw late (consensus_taken (record n { quiet = 0 }) (after_timeout g) _))
+    (λ counted. rw counted refl)
+
 -- ---- on a ring
 
-pub ring_tells : {A : Type 0} (o : Option RingFault) (done : Done) (f : Done → A) → (o ≡ Some ring_fault.Memory → ⊥)
+ring_tells : {A : Type 0} (o : Option RingFault) (done : Done) (f : Done → A) → o ≢ Some ring_fault.Memory
     → Tells (of_its_ring o) false (by_ring (unless_refused o done) >>= (λ d. Ok (f d)))
 ring_tells None done f known = refl
 ring_tells (Some ring_fault.OtherRing) done f known = ((λ e. cc), refl)
@@ -117,54 +113,15 @@ message_known s m e = three (not (same_ring m.ring s.ring)) (holds s.held m.numb
 token_known : (s : Ring) (t : Token) → token_refusal s t ≡ Some ring_fault.Memory → ⊥
 token_known s t e = three (not (same_ring t.ring s.ring)) (nat_le t.token_seq s.last) (not (is_token_in_range s t)) e
 
-on_ring_tells : (ring : Ring) (m : Message) (node : Ring → Node) → Tells (refused_by ring m) false (on_its_ring (message_told ring m) node)
+pub on_ring_tells : (ring : Ring) (m : Message) (node : Ring → Node) → Tells (refused_by ring m) false (on_its_ring (message_told ring m) node)
 on_ring_tells ring m node = its_ring_tells (refused_by ring m) (message_told ring m) node (ring_tells (message_refusal ring m) _ _ (message_known ring m))
 
-foreign_tells : (n : Node) (m : Message) (member : Bool)
-    → Tells (if member then Some OtherRing else gather_refusal n (m.sender ∷ []) None) (begins_at_the_end n (m.sender ∷ []) None) (if member then Err OtherRing else for_a_foreign_message n m)
-foreign_tells n m true = ((λ e. cc), refl)
-foreign_tells n m false = gather_tells n (m.sender ∷ []) None
-
-message_tells : (n : Node) (m : Message) (s : State) → Tells (message_refused n m s) (message_at_the_end n m s) (on_message n m s)
-message_tells n m Operational = other_tells (same_ring m.ring n.installed.ring) _ _ _ _ _
-    (λ same. on_ring_tells n.installed m _)
-    (λ other. foreign_tells n m (has n.installed.members m.sender))
-message_tells n m (Gathering g) = if_tells (same_ring m.ring n.installed.ring && not (is_sealed n)) _ _ _ _
-    (λ same. on_ring_tells n.installed m _)
-    (λ other. ((λ e. cc), refl))
-message_tells n m (Committing g) = ((λ e. cc), refl)
-message_tells n m (InRecovery x) = if_tells (same_ring m.ring n.installed.ring) _ _ _ _
-    (λ same. ((λ e. cc), refl))
-    (λ other. if_tells (same_ring m.ring x.ring.ring) _ _ _ _
-    (λ new. on_ring_tells x.ring m _)
-    (λ foreign. ((λ e. cc), refl)))
-
-visit_tells : (n : Node) (x : Recovering) (t : Token) → Tells (refused_by_new x t) false (visit_new n x t)
-visit_tells n x t = ring_tells (token_refusal (given x.ring (next_bodies x.recovery)) t) _ _ (token_known (given x.ring (next_bodies x.recovery)) t)
-
-token_tells : (n : Node) (t : Token) (s : State) → Tells (token_refused n t s) false (on_token n t s)
-token_tells n t Operational =
+pub installed_tells : (n : Node) (t : Token) → Tells (of_its_ring (token_refusal (given n.installed n.waiting) t)) false (visit_installed n t)
+installed_tells n t =
     its_ring_tells _ _ _ (ring_tells (token_refusal (given n.installed n.waiting) t) _ _ (token_known (given n.installed n.waiting) t))
-token_tells n t (Gathering g) = ((λ e. cc), refl)
-token_tells n t (Committing g) = ((λ e. cc), refl)
-token_tells n t (InRecovery x) = visit_tells n x t
 
--- ---- Joins
-
-known_tells : (n : Node) (g : Gather) (j : Join) → Tells (refused_as_known n g j) (begins_at_the_end n [] (Some j)) (join_in_commit n g j)
-known_tells n g j = by_test (says_nothing_new g j)
-    (λ known. rw known ((λ e. cc), refl))
-    (λ new. rw new (gather_tells n [] (Some j)))
-
-join_tells_in : (n : Node) (j : Join) (s : State) → Tells (join_refused_in n j s) (join_at_the_end n j s) (on_join_in n j s)
-join_tells_in n j Operational = gather_tells n [] (Some j)
-join_tells_in n j (Gathering g) = by_test (is_stranger g j)
-    (λ stranger. rw stranger ((λ e. cc), refl))
-    (λ known.
-    let next = after_join g j in
-    rw known (consensus_taken n next (if not (same_sets next.sets g.sets) then join_broadcast next ∷ [] else [])))
-join_tells_in n j (Committing g) = known_tells n g j
-join_tells_in n j (InRecovery x) = known_tells n x.gather j
+pub visit_tells : (n : Node) (x : Recovering) (t : Token) → Tells (refused_by_new x t) false (visit_new n x t)
+visit_tells n x t = ring_tells (token_refusal (given x.ring (next_bodies x.recovery)) t) _ _ (token_known (given x.ring (next_bodies x.recovery)) t)
 
 -- ---- commit tokens
 
@@ -190,58 +147,18 @@ acted_tells n g (Err member_fault.Memory) known = absurd (known refl)
 commit_known : (t : CommitToken) (v : CommitView) (r : Report) → on_commit t v r ≡ Err member_fault.Memory → ⊥
 commit_known t v r e = absurd (false≢true (subst (λ w. is_ok w ≡ true) e ((chooses t v r).refused member_fault.Memory (sym (ap act_of e)))))
 
-taken_tells : (n : Node) (g : Gather) (ph : Phase) (started : Bool) (token : CommitToken)
+pub taken_tells : (n : Node) (g : Gather) (ph : Phase) (started : Bool) (token : CommitToken)
     → Tells (commit_refused_by n g ph started token) false (commit_taken n g ph started token)
 taken_tells n g ph started token =
     let v = commit_view n ph g started in
     acted_tells n g (on_commit token v (report n)) (commit_known token v (report n))
 
-commit_tells : (n : Node) (token : CommitToken) (s : State) → Tells (commit_refused n token s) false (on_commit_in n token s)
-commit_tells n token Operational = ((λ e. cc), refl)
-commit_tells n token (Gathering g) = taken_tells n g phase.Gather false token
-commit_tells n token (Committing g) = taken_tells n g phase.Commit false token
-commit_tells n token (InRecovery x) = taken_tells n x.gather phase.Recovery x.started token
-
--- ---- timers
-
-quiet_tells : (n : Node) (counts : Stepped) → Tells (quiet_refused n) (is_quiet n && begins_at_the_end n [] None) (if is_quiet n then to_gather n [] None else Ok counts)
-quiet_tells n counts = by_test (is_quiet n)
-    (λ quiet. rw quiet (gather_tells n [] None))
-    (λ counted. rw counted refl)
-
-timer_tells : (n : Node) (s : State) → Tells (timer_refused n s) (timer_at_the_end n s) (on_timer n s)
-timer_tells n Operational = quiet_tells n _
-timer_tells n (Gathering g) = by_test (nat_le 2 (n.quiet + 1))
-    (λ late. rw late (consensus_taken (record n { quiet = 0 }) (after_timeout g) _))
-    (λ counted. rw counted refl)
-timer_tells n (Committing g) = quiet_tells n _
-timer_tells n (InRecovery x) = quiet_tells n _
-
--- ---- the step
-
-packet_tells : (n : Node) (p : Packet) → Tells (packet_refused n p) (packet_at_the_end n p) (on_packet n p)
-packet_tells n (packet.Message m) = message_tells n m n.state
-packet_tells n (packet.Token t) = token_tells n t n.state
-packet_tells n (packet.Join j) = by_test (is_late n j)
-    (λ late. rw late ((λ e. cc), refl))
-    (λ early. rw early (join_tells_in n j n.state))
-packet_tells n (packet.Commit token) = commit_tells n token n.state
-
-input_tells : (n : Node) (i : Input) → Tells (refused_by_input n i) (is_at_the_end n i) (taken n i)
-input_tells n (input.Submit service payload) = by_test (nat_lt 1024 (length payload))
-    (λ long. rw long ((λ e. cc), refl))
-    (λ fits. by_test (nat_le 16 (length n.waiting))
-    (λ full. rw (fits, full) ((λ e. cc), refl))
-    (λ room. rw (fits, room) refl))
-input_tells n (input.Packet p) = packet_tells n p
-input_tells n input.Timer = timer_tells n n.state
-input_tells n input.Crash = refl
-
-pub told : (n : Node) (i : Input) → n.crashed ≡ false → Tells (refused_by_input n i) (is_at_the_end n i) (step n i)
-told n i runs = subst (λ b. Tells (refused_by_input n i) (is_at_the_end n i) (if b then Err Stopped else taken n i)) (sym runs) (input_tells n i)
-
 -- ---- crowds
 
-pub base_is : (n : Node) (extra : List ℕ) (a b c d : Part) → procs_of a ≡ n.installed.members → procs_of b ≡ extra → procs_of c ≡ committed_to n.state → procs_of d ≡ n.me ∷ []
+pub base_is : (n : Node) (extra : List ℕ) (a b c : Part) → procs_of a ≡ n.installed.members → procs_of b ≡ extra → procs_of c ≡ committed_to n.state
+    → crowd_of (a ∷ b ∷ c ∷ []) ≡ gather_base n extra
+base_is n extra a b c first second third = rw (first, second, third) refl
+
+pub base_with_me : (n : Node) (extra : List ℕ) (a b c d : Part) → procs_of a ≡ n.installed.members → procs_of b ≡ extra → procs_of c ≡ committed_to n.state → procs_of d ≡ n.me ∷ []
     → crowd_of (a ∷ b ∷ c ∷ d ∷ []) ≡ with_process (gather_base n extra) n.me
-base_is n extra a b c d first second third last = rw (first, second, third, last) refl
+base_with_me n extra a b c d first second third last = rw (first, second, third, last) refl

@@ -1,7 +1,5 @@
 -- The faults of a node's step, by number and name, and a part's refusal as the node gives it (docs/PROTOCOL.md, "The node").
 use Rattle.std.specs.Prelude.{ℕ, List, codes}
-use Rattle.totem_packets.specs.declared.set_fault.SetFault.{SetFault}
-use Rattle.totem_packets.specs.declared.set_fault.SetFault.TheVariants as set_fault
 use Rattle.totem_ring.specs.declared.fault.RingFault.{RingFault}
 use Rattle.totem_ring.specs.declared.fault.RingFault.TheVariants as ring_fault
 use Rattle.totem_member.specs.declared.fault.MemberFault.{MemberFault}
@@ -41,8 +39,3 @@ of_member member_fault.Stranger = Stranger
 of_member member_fault.Stale = Stale
 of_member member_fault.Range = Range
 of_member member_fault.Memory = Memory
-
--- a set of more processes than a ring can have is refused as Stranger
-abbrev pub of_set : SetFault → NodeFault
-of_set set_fault.TooMany = Stranger
-of_set set_fault.Memory = Memory

@@ -3,13 +3,11 @@ pub mod Outcomes
 pub mod Nodes
 pub mod Gathering
 pub mod Visiting
-pub mod Visits
 pub mod Table
 pub mod Answers
 pub mod Transitions
 pub mod Refusals
 pub mod NewVisits
-pub mod Sizes
 pub mod Replay
 pub mod Crowds
 pub mod FirstLives

@@ -5,7 +5,6 @@ use Rattle.totem_ring.specs.Rings.{Ring, first_token}
 use Rattle.totem_ring.specs.Steps.{given, on_token}
 use Rattle.totem_recover.specs.Exchange.{Leaving, next_bodies, on_ring, obligation_after}
 use Rattle.totem_node.specs.declared.leaving.NewVisit.{NewVisit}
-use Rattle.totem_node.specs.declared.visiting.Visited.{Visited}
 use Rattle.totem_node.specs.Outcomes.{Outcome, by_ring, IsRefused}
 use Rattle.totem_node.specs.Visiting.{visit_entries, visit_steps, after_visit}
 use Rattle.totem_node.specs.Nodes.{Node, State, Recovering, Operational, Gathering, Committing, InRecovery}
@@ -28,14 +27,6 @@ IsFirstVisit (Ok v) installed old new =
     × IsNewlyVisited v old.recovery installed old.ring new.ring (first_token old.ring.ring)
 IsFirstVisit (Err fault) installed old new =
     IsRefused fault old new (by_ring (on_token (given old.ring (next_bodies old.recovery)) (first_token old.ring.ring)))
-
--- what is reported of a visit after which the new ring is `ring`
-pub record TellsNewVisit (r : Leaving) (installed ring : Ring) (visited : Visited) (v : NewVisit) : Type 0 where
-  pub packets : v.out.packets.items ≡ visited.out.packets.items
-  pub handed : v.out.handed.items ≡ visited.out.handed.items
-  pub entries : v.entries.items ≡ visit_entries r installed ring visited.out.handed.items
-  pub steps : v.ring_steps.items ≡ visited.ring_steps.items
-  pub obligation : v.obligation ≡ obligation_after r ring
 
 -- the visit's obligation set is the one after the visit, if the node is in this state
 abbrev pub OwesAfter : NewVisit → State → Type 0

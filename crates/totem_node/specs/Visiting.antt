@@ -12,12 +12,11 @@ use Rattle.totem_evs.specs.declared.entry.Entry.{Entry}
 use Rattle.totem_evs.specs.declared.entry.Entry.TheVariants.{Send}
 use Rattle.totem_ring.specs.declared.fault.RingFault.{RingFault}
 use Rattle.totem_ring.specs.declared.moves.Act.TheVariants.{Submit as DoesSubmit, Message as GetsMessage, Token as GetsToken, Resend as DoesResend}
-use Rattle.totem_ring.specs.Rings.{Ring, same_ring}
+use Rattle.totem_ring.specs.Rings.{Ring}
 use Rattle.totem_ring.specs.Visits.{numbered}
 use Rattle.totem_ring.specs.Steps.{Done, given, on_message, on_token, on_resend, adopt}
 use Rattle.totem_recover.specs.Exchange.{Leaving, next_bodies, on_ring, is_done, last_mark}
 use Rattle.totem_recover.specs.Finish.{deliveries, finish}
-use Rattle.totem_node.specs.declared.fault.NodeFault.TheVariants.{OtherRing}
 use Rattle.totem_node.specs.declared.ring_step.RingStep.{RingStep}
 use Rattle.totem_node.specs.Nodes.{Node, Operational, InRecovery, Recovering, Stepped, Told, on_its_ring}
 use Rattle.totem_node.specs.Outcomes.{Outcome, ◌>>=◌, by_ring}
@@ -105,13 +104,6 @@ having_adopted n x m ring = record n { state = InRecovery (record x { ring = rin
 -- A message of the new ring: if it carries an Old of the node's installed ring, that ring may adopt it.
 abbrev pub message_on_new : Node → Recovering → Message → Outcome Stepped
 message_on_new n x m = on_its_ring (message_told x.ring m) (having_adopted n x m)
-
--- A message in Recovery, where the first ring is installed and the second is new: it has to be the new ring's.
-abbrev pub told_in_recovery : Ring → Ring → Message → Outcome Told
-told_in_recovery installed ring m =
-    if same_ring m.ring installed.ring then Err OtherRing
-    else if same_ring m.ring ring.ring then message_told ring m
-    else Err OtherRing
 
 -- the new ring is installed
 abbrev pub installing : Node → Ring → Node

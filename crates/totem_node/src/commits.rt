@@ -1,9 +1,12 @@
 //! How a node takes commit tokens.
-ghost use Rattle.std.specs.Prelude.{◌≡◌, ◌<◌, length, Err, IfOk, IfSome};
+ghost use Rattle.std.specs.Prelude.{◌≡◌, ◌<◌, length, Err, IfOk, IfSome, MatchOption, false};
+ghost use Rattle.totem_packets.specs.declared.commit.CommitToken.{CommitToken};
 ghost use Rattle.totem_packets.specs.declared.packet.Packet.TheVariants as packet;
 ghost use Rattle.totem_recover.specs.Exchange.{IsReady};
+ghost use Rattle.totem_node.specs.Nodes.{Operational};
 ghost use Rattle.totem_node.specs.Outcomes.{Fails};
-ghost use Rattle.totem_node.specs.Table.{filling, recovering, entering, commit_taken, on_packet};
+ghost use Rattle.totem_node.specs.Table.{filling, recovering, entering, commit_taken, on_commit_in, on_packet};
+ghost use Rattle.totem_node.specs.Refusals.{IsTaken};
 ghost use Rattle.totem_node.specs.Transitions.{IsTransition, IsCommitTransition, Makes};
 
 use crate::fault::NodeFault;
@@ -103,26 +106,32 @@ impl NodeCore {
         }
     }
 
-    /// Returns the transition that this commit token causes, or `None` if the first token of the new ring is to be
-    /// taken.
+    /// Returns the gathering of the ring that the node is to form, the phase of that, and whether the ring's first token was taken
+    /// here. `None` in Operational.
+    pub(crate) fn forming(&self) -> Option<(&Gather, Phase, bool)>
+        ensures { MatchOption result (self.now.state ≡ Operational) (λ f. (token : CommitToken) → on_commit_in self.now token self.now.state ≡ commit_taken self.now f.0.now f.1 f.2 token) }
+    {
+        match &self.state {
+            State::Operational => None,
+            State::Gathering(gather) => Some((gather, Phase::Gather, false)),
+            State::Committing(gather) => Some((gather, Phase::Commit, false)),
+            State::InRecovery(x) => Some((&x.gather, Phase::Recovery, x.started)),
+        }
+    }
+
+    /// Returns the transition that this commit token causes, which is not refused, or `None` if the first token of the new ring is to
+    /// be taken.
     pub(crate) fn commit_transition(
         &self,
         alloc: Global,
         token: &CommitToken,
     ) -> Result<Option<Transition>, NodeFault>
+        requires { IsTaken false (on_packet self.now (packet.Commit token.now)) }
         ensures { IsCommitTransition result self.now (on_packet self.now (packet.Commit token.now)) }
     {
-        match &self.state {
-            State::Operational => Err(NodeFault::Stale),
-            State::Gathering(gather) => {
-                self.commit_taken(alloc, gather, Phase::Gather, false, token)
-            }
-            State::Committing(gather) => {
-                self.commit_taken(alloc, gather, Phase::Commit, false, token)
-            }
-            State::InRecovery(x) => {
-                self.commit_taken(alloc, &x.gather, Phase::Recovery, x.started, token)
-            }
-        }
+        let Some((gather, phase, started)) = self.forming() else {
+            unreachable!();
+        };
+        self.commit_taken(alloc, gather, phase, started, token)
     }
 }

@@ -1,10 +1,14 @@
 //! Several lists of processes counted as one set, without allocating.
-ghost use Rattle.std.specs.Prelude.{◌≡◌, ◌≤◌, ◌||◌, length, take, nat_lt};
+ghost use Rattle.std.specs.Prelude.{◌≡◌, ◌≤◌, ◌||◌, IfOk, length, take, nat_lt};
 ghost use Rattle.totem_packets.specs.Sets.{has, union};
 ghost use Rattle.totem_node.specs.Crowds.{procs_of, crowd_of, Counts};
+ghost use Rattle.totem_node.specs.Nodes.{committed_to};
 
+use crate::node_core::NodeCore;
+use crate::state::State;
+use std::alloc::{AllocError, Global};
 use totem_ids::ProcId;
-use totem_packets::is_among;
+use totem_packets::{Processes, SetFault, is_among};
 
 /// The greatest number of processes that may gather.
 const MOST: usize = 32;
@@ -112,5 +116,57 @@ pub fn is_crowded_with(parts: &[Part<'_>], more: &Part<'_>) -> bool
             None => true,
             Some(_) => false,
         },
+    }
+}
+
+/// Adds a part of a crowd of at most 32 processes to a set.
+#[tactic(auto, using(crate::proofs::Crowding::left_out, crate::proofs::Crowding::taken_in, crate::proofs::Crowding::has_room))]
+fn with_part(alloc: Global, set: Processes, part: &Part<'_>) -> Result<Processes, AllocError>
+    requires { length (union set (procs_of part.now)) ≤ 32 }
+    ensures { IfOk result (λ more. more ≡ union set (procs_of part.now)) }
+{
+    let mut set = set;
+    for proc in part.procs {
+        if is_among(part.but, *proc) {
+            continue;
+        }
+        match set.with(alloc, *proc) {
+            Ok(more) => set = more,
+            Err(SetFault::TooMany) => unreachable!(),
+            Err(SetFault::Memory) => return Err(AllocError),
+        }
+    }
+    Ok(set)
+}
+
+/// Returns a crowd of at most 32 processes as a set.
+#[tactic(auto, using(crate::proofs::Crowding::part_added))]
+pub fn set_of(alloc: Global, parts: &[Part<'_>]) -> Result<Processes, AllocError>
+    requires { length (crowd_of parts.now) ≤ 32 }
+    ensures { IfOk result (λ set. set ≡ crowd_of parts.now) }
+{
+    let mut set = Processes::none(alloc);
+    for part in parts {
+        let _rule = set.as_slice();
+        set = with_part(alloc, set, part)?;
+    }
+    Ok(set)
+}
+
+impl NodeCore {
+    /// Returns M, in Commit and Recovery, as a part of a crowd; no processes in other states.
+    pub(crate) fn committed(&self) -> Part<'_>
+        ensures { procs_of result ≡ committed_to self.now.state }
+    {
+        let gather = match &self.state {
+            State::Operational => return Part::all(&[]),
+            State::Gathering(_) => return Part::all(&[]),
+            State::Committing(gather) => gather,
+            State::InRecovery(x) => &x.gather,
+        };
+        Part {
+            procs: gather.processes().as_slice(),
+            but: gather.failed().as_slice(),
+        }
     }
 }

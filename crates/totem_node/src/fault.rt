@@ -1,12 +1,11 @@
 //! Why a node refused a step.
 ghost use Rattle.std.specs.Prelude.{◌≡◌};
 ghost use Rattle.totem_node.specs.declared.fault.NodeFault.TheVariants.{Memory};
-ghost use Rattle.totem_node.specs.Faults.{fault_number, fault_name, of_ring, of_member, of_set};
+ghost use Rattle.totem_node.specs.Faults.{fault_number, fault_name, of_ring, of_member};
 
 use std::alloc::{AllocError, AllocFailed};
 use thiserror::Error;
 use totem_member::MemberFault;
-use totem_packets::SetFault;
 use totem_ring::RingFault;
 
 /// Why a node refused a step (docs/PROTOCOL.md, "The node").
@@ -103,17 +102,6 @@ impl From<MemberFault> for NodeFault {
             MemberFault::Stale => NodeFault::Stale,
             MemberFault::Range => NodeFault::Range,
             MemberFault::Memory => NodeFault::Memory,
-        }
-    }
-}
-
-impl From<SetFault> for NodeFault {
-    ghost from_gives = { λ f e. e ≡ of_set f };
-
-    fn from(fault: SetFault) -> NodeFault {
-        match fault {
-            SetFault::TooMany => NodeFault::Stranger,
-            SetFault::Memory => NodeFault::Memory,
         }
     }
 }

@@ -1,13 +1,14 @@
 //! How a node begins to gather, and what it does at consensus (docs/PROTOCOL.md, "The node").
-ghost use Rattle.std.specs.Prelude.{◌≡◌, ◌∷◌, [], IfOk, IsTrue};
-ghost use Rattle.std.specs.Option.{option_copied, option_to_list};
-ghost use Rattle.totem_packets.specs.Sets.{is_least, union};
-ghost use Rattle.totem_member.specs.Gathers.{gathered};
-ghost use Rattle.totem_node.specs.Gathering.{join_broadcast, commit_passed_on, commit_begun, at_consensus, look_at_consensus, taking, set_of, gather_base, gather_begun, gathering_anew, to_gather};
+ghost use Rattle.std.specs.Prelude.{◌≡◌, ◌≤◌, length, IfOk, IsTrue};
+ghost use Rattle.std.specs.Option.{option_copied};
+ghost use Rattle.totem_packets.specs.Sets.{is_least, with_process};
+ghost use Rattle.totem_member.specs.Gathers.{gathered, new_gather};
+ghost use Rattle.totem_node.specs.Gathering.{join_broadcast, commit_passed_on, commit_begun, at_consensus, look_at_consensus, taking, gather_base, gathering_anew, to_gather};
 ghost use Rattle.totem_node.specs.Outcomes.{Gives};
+ghost use Rattle.totem_node.specs.Refusals.{IsTaken, begins_at_the_end};
 ghost use Rattle.totem_node.specs.Transitions.{IsTransition};
-ghost use Rattle.totem_node.specs.Sizes.{MakesBase};
 
+use crate::crowd::{Part, set_of};
 use crate::fault::NodeFault;
 use crate::node_core::NodeCore;
 use crate::state::State;
@@ -45,41 +46,6 @@ fn taking(alloc: Global, mut gather: Gather, cause: Option<&Join>) -> Result<Gat
         gather.on_join(alloc, join)?;
     }
     Ok(gather)
-}
-
-/// Returns these processes as a set. `TooMany` if they are more than 32.
-fn set_of(alloc: Global, procs: &[ProcId]) -> Result<Processes, SetFault>
-    ensures { MakesBase result (set_of procs.now) }
-{
-    let mut set = Processes::none(alloc);
-    for proc in procs {
-        match set.with(alloc, *proc) {
-            Ok(more) => set = more,
-            Err(fault) => return Err(fault),
-        }
-    }
-    Ok(set)
-}
-
-/// Returns the set with this process added.
-fn with_one(alloc: Global, set: Processes, proc: ProcId) -> Result<Processes, SetFault>
-    ensures { MakesBase result (union set (proc ∷ [])) }
-{
-    match set.with(alloc, proc) {
-        Ok(more) => Ok(more),
-        Err(fault) => Err(fault),
-    }
-}
-
-/// Returns the set together with the processes of which the gathering would form a ring.
-fn union(alloc: Global, set: Processes, gather: &Gather) -> Result<Processes, SetFault>
-    ensures { MakesBase result (union set (gathered gather.now)) }
-{
-    let members = gather.gathered(alloc)?;
-    match set.union(alloc, &members) {
-        Ok(all) => Ok(all),
-        Err(fault) => Err(fault),
-    }
 }
 
 impl NodeCore {
@@ -152,37 +118,6 @@ impl NodeCore {
         })
     }
 
-    /// Returns the members of the installed ring, together with `extra`.
-    fn known_with(&self, alloc: Global, extra: Option<ProcId>) -> Result<Processes, SetFault>
-        ensures { MakesBase result (union (set_of self.now.installed.members) (option_to_list extra)) }
-    {
-        let members = match set_of(alloc, self.installed.members()) {
-            Ok(members) => members,
-            Err(fault) => return Err(fault),
-        };
-        match extra {
-            None => Ok(members),
-            Some(proc) => with_one(alloc, members, proc),
-        }
-    }
-
-    /// Returns the processes with which a new gathering begins: the members of the installed ring, `extra`, and in
-    /// Commit and Recovery also M.
-    fn gather_base(&self, alloc: Global, extra: Option<ProcId>) -> Result<Processes, SetFault>
-        ensures { MakesBase result (gather_base self.now (option_to_list extra)) }
-    {
-        let base = match self.known_with(alloc, extra) {
-            Ok(base) => base,
-            Err(fault) => return Err(fault),
-        };
-        match &self.state {
-            State::Operational => Ok(base),
-            State::Gathering(_) => Ok(base),
-            State::Committing(gather) => union(alloc, base, gather),
-            State::InRecovery(x) => union(alloc, base, &x.gather),
-        }
-    }
-
     /// Returns the transition with a new gathering: it takes the Join that caused it, its own Join is broadcast once,
     /// and consensus is checked.
     fn gathering_anew(
@@ -200,28 +135,35 @@ impl NodeCore {
         self.look_at_consensus(alloc, 0, gather, members, packets)
     }
 
-    /// Returns a new gathering, with `extra` if it is given.
-    fn new_gather(&self, alloc: Global, extra: Option<ProcId>) -> Result<Gather, NodeFault>
-        ensures { Gives result (gather_begun self.now (option_to_list extra)) }
+    /// Returns a new gathering, of at most 32 processes, with `extra` among them.
+    #[tactic(auto, using(crate::proofs::Growing::base_fits, crate::proofs::Foretelling::base_is))]
+    fn new_gather(&self, alloc: Global, extra: &[ProcId]) -> Result<Gather, AllocError>
+        requires { length (with_process (gather_base self.now extra.now) self.now.me) ≤ 32 }
+        ensures { IfOk result (λ gather. gather ≡ new_gather self.now.me (gather_base self.now extra.now) self.now.seq) }
     {
-        let base = match self.gather_base(alloc, extra) {
-            Ok(base) => base,
-            Err(fault) => return Err(fault.into()),
-        };
+        let crowd = [
+            Part::all(self.installed.members()),
+            Part::all(extra),
+            self.committed(),
+        ];
+        let base = set_of(alloc, &crowd)?;
         match Gather::new(alloc, self.me, &base, self.seq) {
             Ok(gather) => Ok(gather),
-            Err(fault) => Err(fault.into()),
+            Err(SetFault::TooMany) => unreachable!(),
+            Err(SetFault::Memory) => Err(AllocError),
         }
     }
 
-    /// Returns the transition *to gather*, with the process `extra` and because of the Join `cause`, if they are given.
+    /// Returns the transition *to gather*, with the processes `extra` and because of the Join `cause`, if it is given.
+    #[tactic(auto, using(crate::proofs::Passing::may_gather, crate::proofs::Passing::gathers))]
     pub(crate) fn to_gather(
         &self,
         alloc: Global,
-        extra: Option<ProcId>,
+        extra: &[ProcId],
         cause: Option<&Join>,
     ) -> Result<Transition, NodeFault>
-        ensures { IsTransition result self.now (to_gather self.now (option_to_list extra) (option_copied cause.entry)) }
+        requires { IsTaken (begins_at_the_end self.now extra.now (option_copied cause)) (to_gather self.now extra.now (option_copied cause)) }
+        ensures { IsTransition result self.now (to_gather self.now extra.now (option_copied cause.entry)) }
     {
         let new = self.new_gather(alloc, extra)?;
         self.gathering_anew(alloc, new, cause)

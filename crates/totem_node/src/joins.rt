@@ -3,7 +3,8 @@ ghost use Rattle.std.specs.Prelude.{◌≡◌, ◌&&◌, Err, IfSome};
 ghost use Rattle.totem_packets.specs.declared.packet.Packet.TheVariants as packet;
 ghost use Rattle.totem_packets.specs.Sets.{has, is_within};
 ghost use Rattle.totem_member.specs.Gathers.{gathered};
-ghost use Rattle.totem_node.specs.Table.{is_late, says_nothing_new, join_in_gather, join_in_commit, on_join_in, on_packet};
+ghost use Rattle.totem_node.specs.Table.{is_late, says_nothing_new, join_in_gather, on_packet};
+ghost use Rattle.totem_node.specs.Refusals.{IsTaken, join_at_the_end};
 ghost use Rattle.totem_node.specs.Transitions.{IsTransition};
 
 use crate::fault::NodeFault;
@@ -17,7 +18,7 @@ use totem_member::Gather;
 use totem_packets::{Join, is_among};
 
 /// Returns whether the process is in M: known to the gathering, and not failed.
-#[tactic(auto, using(crate::proofs::Gathered::has_without))]
+#[tactic(auto, using(totem_member::proofs::Within::has_filter))]
 fn is_gathered(gather: &Gather, proc: ProcId) -> bool
     ensures { result ≡ has (gathered gather.now) proc }
 {
@@ -69,37 +70,21 @@ impl NodeCore {
         self.look_at_consensus(alloc, self.quiet, next, out.members, packets)
     }
 
-    /// Takes a Join in Commit or Recovery.
-    fn join_in_commit(
-        &self,
-        alloc: Global,
-        gather: &Gather,
-        join: &Join,
-    ) -> Result<Transition, NodeFault>
-        ensures { IsTransition result self.now (join_in_commit self.now gather.now join.now) }
-    {
-        if says_nothing_new(gather, join) {
-            return Err(NodeFault::Stale);
-        }
-        self.to_gather(alloc, None, Some(join))
-    }
-
-    /// Returns the transition that this Join causes.
+    /// Returns the transition that this Join causes, which is not refused.
+    #[tactic(auto, using(crate::proofs::Passing::early_join, crate::proofs::Passing::new_join))]
     pub(crate) fn join_transition(
         &self,
         alloc: Global,
         join: &Join,
     ) -> Result<Transition, NodeFault>
+        requires { IsTaken (join_at_the_end self.now join.now self.now.state) (on_packet self.now (packet.Join join.now)) }
         ensures { IsTransition result self.now (on_packet self.now (packet.Join join.now)) }
     {
-        if self.is_late(join) {
-            return Err(NodeFault::Stale);
-        }
         match &self.state {
-            State::Operational => self.to_gather(alloc, None, Some(join)),
+            State::Operational => self.to_gather(alloc, &[], Some(join)),
             State::Gathering(gather) => self.join_in_gather(alloc, gather, join),
-            State::Committing(gather) => self.join_in_commit(alloc, gather, join),
-            State::InRecovery(x) => self.join_in_commit(alloc, &x.gather, join),
+            State::Committing(_) => self.to_gather(alloc, &[], Some(join)),
+            State::InRecovery(_) => self.to_gather(alloc, &[], Some(join)),
         }
     }
 }

@@ -1,18 +1,16 @@
 //! Visits of a new ring, and the finish, which leaves the old ring and installs the new one.
 ghost use Rattle.std.specs.Prelude.{◌≡◌, ◌++◌, Err, IfOk, IfSome, OnOk, filter, nat_le, nat_lt};
+ghost use Rattle.totem_recover.specs.Exchange.{obligation_after};
 ghost use Rattle.totem_recover.specs.Finish.{deliveries};
-ghost use Rattle.totem_ring.specs.Refusals.{refusal_at_once};
-ghost use Rattle.totem_node.specs.Faults.{of_ring};
 ghost use Rattle.totem_node.specs.Visiting.{finishing_entries, visit_entries};
-ghost use Rattle.totem_node.specs.NewVisits.{IsFirstVisit, IsNewVisit, OwesAfter, visit_noted, TellsNewVisit};
+ghost use Rattle.totem_node.specs.NewVisits.{IsFirstVisit, IsNewVisit, OwesAfter, visit_noted};
 
 use crate::fault::NodeFault;
 use crate::node_core::NodeCore;
 use crate::outcome::StepOut;
 use crate::ring_step::RingStep;
 use crate::state::{Recovering, State};
-use crate::told::write_deliveries;
-use crate::visiting::{Visited, visit_with};
+use crate::told::{visit_steps, write_deliveries};
 use std::alloc::{AllocError, Global};
 use std::mem;
 use totem_evs::Entry;
@@ -102,6 +100,22 @@ fn visit_entries(
     Ok(entries)
 }
 
+/// Returns the entries of a visit that left the new ring in this state, and to whom the node owes messages after it.
+fn written_and_owed(
+    alloc: Global,
+    recovery: &Recovery,
+    installed: &RingState,
+    ring: &RingState,
+    handed: &[Message],
+) -> Result<(Vec<Entry>, Processes), AllocError>
+    ensures entries { IfOk result (λ noted. noted.0.items ≡ visit_entries recovery.now installed.now ring.now handed.now) }
+    ensures obligation { IfOk result (λ noted. noted.1 ≡ obligation_after recovery.now ring.now) }
+{
+    let entries = visit_entries(alloc, recovery, installed, ring, handed)?;
+    let obligation = recovery.obligation_after(ring).try_clone(alloc)?;
+    Ok((entries, obligation))
+}
+
 /// A visit of the new ring: its result, which entries are written of it, and to whom the node owes messages after it.
 #[derive(Drop)]
 pub struct NewVisit {
@@ -111,29 +125,8 @@ pub struct NewVisit {
     obligation: Processes,
 }
 
-impl NewVisit {
-    /// Makes the value from the ring's result, with what is written of it.
-    fn of(
-        alloc: Global,
-        recovery: &Recovery,
-        installed: &RingState,
-        ring: &RingState,
-        visited: Visited,
-    ) -> Result<NewVisit, AllocError>
-        ensures { IfOk result (TellsNewVisit recovery.now installed.now ring.now visited) }
-    {
-        Ok(NewVisit {
-            entries: visit_entries(alloc, recovery, installed, ring, &visited.out.handed)?,
-            obligation: recovery.obligation_after(ring).try_clone(alloc)?,
-            out: visited.out,
-            ring_steps: visited.ring_steps,
-        })
-    }
-}
-
 /// Gives the new ring the next bodies of the list to send, lets it take a token, and returns what is written of the
 /// visit.
-#[tactic(auto, using(crate::proofs::Refusing::token_refused))]
 pub(crate) fn visit_with_next(
     alloc: Global,
     recovery: &Recovery,
@@ -143,13 +136,16 @@ pub(crate) fn visit_with_next(
 ) -> Result<NewVisit, NodeFault>
     ensures { IsNewVisit result recovery.now installed.now ring.old ring.new token.now }
 {
-    if let Some(fault) = ring.token_refusal_at_once(token) {
-        return Err(fault.into());
-    }
-    let bodies = recovery.next_bodies(alloc)?;
-    let (visited, undo) = visit_with(alloc, ring, &bodies, token)?;
-    match NewVisit::of(alloc, recovery, installed, ring, visited) {
-        Ok(visit) => Ok(visit),
+    let bodies = recovery.coming_bodies();
+    let ring_steps = visit_steps(alloc, ring.ring(), bodies, token)?;
+    let (out, undo) = ring.on_token_with(alloc, bodies, token)?;
+    match written_and_owed(alloc, recovery, installed, ring, &out.handed) {
+        Ok((entries, obligation)) => Ok(NewVisit {
+            out,
+            entries,
+            ring_steps,
+            obligation,
+        }),
         Err(e) => {
             ring.undo_visit(undo);
             Err(e.into())

@@ -37,7 +37,6 @@ mod timers;
 mod tokens;
 mod told;
 mod transition;
-mod visiting;
 
 pub use fault::NodeFault;
 pub use input::Input;

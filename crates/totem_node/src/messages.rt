@@ -2,19 +2,21 @@
 ghost use Rattle.std.specs.Prelude.{◌≡◌, Err, IfOk, IfSome};
 ghost use Rattle.totem_ids.specs.declared.conf.ConfId.TheVariants.{Regular};
 ghost use Rattle.totem_recover.specs.Finish.{deliveries};
-ghost use Rattle.totem_node.specs.Visiting.{message_steps, message_told, message_on_installed, told_in_recovery};
-ghost use Rattle.totem_node.specs.Table.{message_in_operational, message_in_gather, on_message};
-ghost use Rattle.totem_node.specs.Answers.{IsTold, IsStep, IsToldAdopting};
+ghost use Rattle.totem_node.specs.Nodes.{Operational};
+ghost use Rattle.totem_node.specs.Visiting.{message_steps, message_told, message_on_installed};
+ghost use Rattle.totem_node.specs.Table.{message_in_operational, on_message};
+ghost use Rattle.totem_node.specs.Refusals.{IsTaken, message_at_the_end};
+ghost use Rattle.totem_node.specs.Answers.{IsTold, IsStep};
 
 use crate::fault::NodeFault;
 use crate::node_core::NodeCore;
 use crate::outcome::StepOut;
 use crate::recovering::message_on_new;
 use crate::state::State;
-use crate::told::{deliveries_on, message_steps};
+use crate::told::{deliveries_on, one_step};
 use std::alloc::{AllocError, Global};
-use totem_packets::{Message, is_among};
-use totem_ring::{RingOut, RingState, is_same_ring};
+use totem_packets::Message;
+use totem_ring::{Act, RingOut, RingState, is_same_ring};
 
 /// Returns what a node reports of a message that a ring took.
 pub fn tell(
@@ -30,7 +32,7 @@ pub fn tell(
     Ok(StepOut {
         packets: out.packets,
         entries: deliveries_on(alloc, ring.ring(), &out.handed)?,
-        ring_steps: message_steps(alloc, ring.ring(), message)?,
+        ring_steps: one_step(alloc, ring.ring(), Act::Message(message))?,
     })
 }
 
@@ -48,24 +50,9 @@ fn message_told(alloc: Global, ring: &mut RingState, message: Message) -> Result
     }
 }
 
-/// Takes a message in Recovery, which has to be one of the new ring.
-fn message_in_recovery(
-    alloc: Global,
-    installed: &mut RingState,
-    ring: &mut RingState,
-    message: Message,
-) -> Result<StepOut, NodeFault>
-    ensures { IsToldAdopting result installed.old installed.new ring.old ring.new message (told_in_recovery installed.old ring.old message) }
-{
-    if is_same_ring(message.ring, installed.ring()) || !is_same_ring(message.ring, ring.ring()) {
-        return Err(NodeFault::OtherRing);
-    }
-    message_on_new(alloc, installed, ring, message)
-}
-
 impl NodeCore {
     /// Takes a message of the installed ring.
-    pub(crate) fn message_on_installed(
+    fn message_on_installed(
         &mut self,
         alloc: Global,
         message: Message,
@@ -75,49 +62,40 @@ impl NodeCore {
         message_told(alloc, &mut self.installed, message)
     }
 
-    /// Takes a message in Operational. One of a foreign ring makes the node gather, together with the message's sender.
+    /// Takes a message in Operational that is not refused. One of a foreign ring makes the node gather, together with the
+    /// message's sender.
+    #[tactic(auto, using(crate::proofs::Passing::foreign_message))]
     fn message_in_operational(
         &mut self,
         alloc: Global,
         message: Message,
     ) -> Result<StepOut, NodeFault>
+        requires { IsTaken (message_at_the_end self.old message Operational) (message_in_operational self.old message) }
         ensures { IsStep self.old self.new result (message_in_operational self.old message) }
     {
         if is_same_ring(message.ring, self.installed.ring()) {
             return self.message_on_installed(alloc, message);
         }
-        if is_among(self.installed.members(), message.sender) {
-            return Err(NodeFault::OtherRing);
-        }
-        let transition = self.to_gather(alloc, Some(message.sender), None)?;
+        let transition = self.to_gather(alloc, &[message.sender], None)?;
         Ok(self.apply(alloc, transition))
     }
 
-    /// Takes a message in Gather: one of the installed ring, if the node has not made or filled a commit token.
-    fn message_in_gather(&mut self, alloc: Global, message: Message) -> Result<StepOut, NodeFault>
-        ensures { IsStep self.old self.new result (message_in_gather self.old message) }
-    {
-        let is_own = is_same_ring(message.ring, self.installed.ring());
-        if !is_own || self.filled.is_some() {
-            return Err(NodeFault::OtherRing);
-        }
-        self.message_on_installed(alloc, message)
-    }
-
-    /// Takes a message.
+    /// Takes a message that is not refused.
+    #[tactic(auto, using(crate::proofs::Passing::message_of_installed, crate::proofs::Passing::message_of_new))]
     pub(crate) fn on_message(
         &mut self,
         alloc: Global,
         message: Message,
     ) -> Result<StepOut, NodeFault>
+        requires { IsTaken (message_at_the_end self.old message self.old.state) (on_message self.old message self.old.state) }
         ensures { IsStep self.old self.new result (on_message self.old message self.old.state) }
     {
         match &mut self.state {
             State::Operational => self.message_in_operational(alloc, message),
-            State::Gathering(_) => self.message_in_gather(alloc, message),
-            State::Committing(_) => Err(NodeFault::OtherRing),
+            State::Gathering(_) => self.message_on_installed(alloc, message),
+            State::Committing(_) => unreachable!(),
             State::InRecovery(x) => {
-                message_in_recovery(alloc, &mut self.installed, &mut x.ring, message)
+                message_on_new(alloc, &mut self.installed, &mut x.ring, message)
             }
         }
     }

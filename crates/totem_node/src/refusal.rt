@@ -1,12 +1,15 @@
 //! Why a node would refuse a step (docs/PROTOCOL.md, "The node"). Nothing here allocates.
-ghost use Rattle.std.specs.Prelude.{◌≡◌, Some};
+ghost use Rattle.std.specs.Prelude.{◌≡◌, [], Some, false};
 ghost use Rattle.std.specs.Option.{option_copied};
+ghost use Rattle.totem_ids.specs.declared.message.Service.{Service};
+ghost use Rattle.totem_packets.specs.declared.packet.Packet.TheVariants as packet;
 ghost use Rattle.totem_member.specs.Gathers.{is_stranger};
 ghost use Rattle.totem_member.specs.Shown.{view_of, own_report};
-ghost use Rattle.totem_node.specs.Crowds.{procs_of, crowd_of};
-ghost use Rattle.totem_node.specs.Nodes.{committed_to, commit_view, report};
-ghost use Rattle.totem_node.specs.Table.{step};
-ghost use Rattle.totem_node.specs.Refusals.{of_its_ring, begun_by, cause_refusal, gather_refusal, refused_in_operational, refused_in_gather, refused_in_recovery, message_refused, refused_by_new, token_refused, join_refused_in, refused_as_known, join_refused, start_refused, act_refused, commit_refused_by, commit_refused, packet_refused, quiet_refused, timer_refused, refused_by_input, is_at_the_end, Tells};
+ghost use Rattle.totem_node.specs.Crowds.{crowd_of};
+ghost use Rattle.totem_node.specs.Gathering.{to_gather};
+ghost use Rattle.totem_node.specs.Nodes.{Operational, commit_view, report};
+ghost use Rattle.totem_node.specs.Table.{message_in_operational, message_in_gather, message_in_recovery, on_message, on_token, join_in_commit, on_commit_in, on_timer, on_submit, on_packet, step};
+ghost use Rattle.totem_node.specs.Refusals.{of_its_ring, begun_by, cause_refusal, refused_by, refused_by_new, start_refused, act_refused, begins_at_the_end, message_at_the_end, join_at_the_end, packet_at_the_end, timer_at_the_end, is_at_the_end, Tells};
 
 use crate::crowd::{Part, is_crowded, is_crowded_with};
 use crate::fault::NodeFault;
@@ -15,12 +18,15 @@ use crate::joins::says_nothing_new;
 use crate::node_core::NodeCore;
 use crate::reporting::greater;
 use crate::state::{Recovering, State};
-use crate::timers::QUIET;
+use bytes::Bytes;
 use std::alloc::Global;
 use totem_ids::ProcId;
 use totem_member::{Act, Gather, MemberFault, Phase, Shown, commit_act};
 use totem_packets::{CommitToken, Join, Message, Packet, Token, is_among};
-use totem_ring::{RingFault, RingState, first_token, is_same_ring};
+use totem_ring::{MOST_WAITING, RingFault, RingState, first_token, is_same_ring};
+
+/// The greatest length of a payload in bytes.
+const LONGEST: usize = 1024;
 
 /// Returns a ring's refusal as the node's.
 fn of_its_ring(refusal: Option<RingFault>) -> Option<NodeFault>
@@ -53,6 +59,13 @@ fn gathering_refusal(gather: &Gather, join: &Join) -> Option<NodeFault>
     None
 }
 
+/// Returns why the ring would refuse this message.
+fn refused_by(ring: &RingState, message: &Message) -> Option<NodeFault>
+    ensures { result ≡ refused_by ring.now message.now }
+{
+    of_its_ring(ring.message_refusal(message))
+}
+
 /// Returns why the new ring would refuse this token.
 fn refused_by_new(x: &Recovering, token: &Token) -> Option<NodeFault>
     ensures { result ≡ refused_by_new x.now token.now }
@@ -61,26 +74,10 @@ fn refused_by_new(x: &Recovering, token: &Token) -> Option<NodeFault>
 }
 
 impl NodeCore {
-    /// Returns M, in Commit and Recovery, as a part of a crowd; no processes in other states.
-    fn committed(&self) -> Part<'_>
-        ensures { procs_of result ≡ committed_to self.now.state }
-    {
-        let gather = match &self.state {
-            State::Operational => return Part::all(&[]),
-            State::Gathering(_) => return Part::all(&[]),
-            State::Committing(gather) => gather,
-            State::InRecovery(x) => &x.gather,
-        };
-        Part {
-            procs: gather.processes().as_slice(),
-            but: gather.failed().as_slice(),
-        }
-    }
-
     /// Returns why the node would not begin to gather, with the processes `extra` and because of the Join `cause`.
-    #[tactic(auto, using(crate::proofs::Foretelling::base_is))]
+    #[tactic(auto, using(crate::proofs::Foretelling::base_with_me, crate::proofs::Foretelling::gather_tells))]
     fn gather_refusal(&self, extra: &[ProcId], cause: Option<&Join>) -> Option<NodeFault>
-        ensures { result ≡ gather_refusal self.now extra.now (option_copied cause.entry) }
+        ensures { Tells result (begins_at_the_end self.now extra.now (option_copied cause.entry)) (to_gather self.now extra.now (option_copied cause.entry)) }
     {
         let me = [self.me];
         let crowd = [
@@ -101,11 +98,25 @@ impl NodeCore {
         None
     }
 
-    fn refused_in_operational(&self, message: &Message) -> Option<NodeFault>
-        ensures { result ≡ refused_in_operational self.now message.now }
+    /// Returns why the node would refuse a client's message: its payload is too long, or 16 messages wait.
+    fn submit_refusal(&self, payload: &Bytes) -> Option<NodeFault>
+        ensures { (service : Service) → Tells result false (on_submit self.now service payload.now) }
+    {
+        if payload.len() > LONGEST {
+            return Some(NodeFault::Range);
+        }
+        if self.waiting.len() >= MOST_WAITING {
+            return Some(NodeFault::Full);
+        }
+        None
+    }
+
+    #[tactic(auto, using(crate::proofs::Foretelling::on_ring_tells))]
+    fn refusal_in_operational(&self, message: &Message) -> Option<NodeFault>
+        ensures { Tells result (message_at_the_end self.now message.now Operational) (message_in_operational self.now message.now) }
     {
         if is_same_ring(message.ring, self.installed.ring()) {
-            return of_its_ring(self.installed.message_refusal(message));
+            return refused_by(&self.installed, message);
         }
         if is_among(self.installed.members(), message.sender) {
             return Some(NodeFault::OtherRing);
@@ -113,39 +124,44 @@ impl NodeCore {
         self.gather_refusal(&[message.sender], None)
     }
 
-    fn refused_in_gather(&self, message: &Message) -> Option<NodeFault>
-        ensures { result ≡ refused_in_gather self.now message.now }
+    #[tactic(auto, using(crate::proofs::Foretelling::on_ring_tells))]
+    fn refusal_in_gather(&self, message: &Message) -> Option<NodeFault>
+        ensures { Tells result false (message_in_gather self.now message.now) }
     {
         if is_same_ring(message.ring, self.installed.ring()) && self.filled.is_none() {
-            return of_its_ring(self.installed.message_refusal(message));
+            return refused_by(&self.installed, message);
         }
         Some(NodeFault::OtherRing)
     }
 
-    fn refused_in_recovery(&self, x: &Recovering, message: &Message) -> Option<NodeFault>
-        ensures { result ≡ refused_in_recovery self.now x.now message.now }
+    #[tactic(auto, using(crate::proofs::Foretelling::on_ring_tells))]
+    fn refusal_in_recovery(&self, x: &Recovering, message: &Message) -> Option<NodeFault>
+        ensures { Tells result false (message_in_recovery self.now x.now message.now) }
     {
         if is_same_ring(message.ring, self.installed.ring())
             || !is_same_ring(message.ring, x.ring.ring())
         {
             return Some(NodeFault::OtherRing);
         }
-        of_its_ring(x.ring.message_refusal(message))
+        refused_by(&x.ring, message)
     }
 
-    fn message_refused(&self, message: &Message) -> Option<NodeFault>
-        ensures { result ≡ message_refused self.now message.now self.now.state }
+    /// Returns why the node would refuse a message.
+    fn message_refusal(&self, message: &Message) -> Option<NodeFault>
+        ensures { Tells result (message_at_the_end self.now message.now self.now.state) (on_message self.now message.now self.now.state) }
     {
         match &self.state {
-            State::Operational => self.refused_in_operational(message),
-            State::Gathering(_) => self.refused_in_gather(message),
+            State::Operational => self.refusal_in_operational(message),
+            State::Gathering(_) => self.refusal_in_gather(message),
             State::Committing(_) => Some(NodeFault::OtherRing),
-            State::InRecovery(x) => self.refused_in_recovery(x, message),
+            State::InRecovery(x) => self.refusal_in_recovery(x, message),
         }
     }
 
-    fn token_refused(&self, token: &Token) -> Option<NodeFault>
-        ensures { result ≡ token_refused self.now token.now self.now.state }
+    /// Returns why the node would refuse a token.
+    #[tactic(auto, using(crate::proofs::Foretelling::installed_tells, crate::proofs::Foretelling::visit_tells))]
+    fn token_refusal(&self, token: &Token) -> Option<NodeFault>
+        ensures { Tells result false (on_token self.now token.now self.now.state) }
     {
         match &self.state {
             State::Operational => of_its_ring(
@@ -157,8 +173,8 @@ impl NodeCore {
         }
     }
 
-    fn refused_as_known(&self, gather: &Gather, join: &Join) -> Option<NodeFault>
-        ensures { result ≡ refused_as_known self.now gather.now join.now }
+    fn refusal_in_commit(&self, gather: &Gather, join: &Join) -> Option<NodeFault>
+        ensures { Tells result (begins_at_the_end self.now [] (Some join.now)) (join_in_commit self.now gather.now join.now) }
     {
         if says_nothing_new(gather, join) {
             return Some(NodeFault::Stale);
@@ -166,8 +182,10 @@ impl NodeCore {
         self.gather_refusal(&[], Some(join))
     }
 
-    fn join_refused(&self, join: &Join) -> Option<NodeFault>
-        ensures { result ≡ join_refused self.now join.now }
+    /// Returns why the node would refuse a Join.
+    #[tactic(auto, using(crate::proofs::Foretelling::gathering_tells))]
+    fn join_refusal(&self, join: &Join) -> Option<NodeFault>
+        ensures { Tells result (join_at_the_end self.now join.now self.now.state) (on_packet self.now (packet.Join join.now)) }
     {
         if self.is_late(join) {
             return Some(NodeFault::Stale);
@@ -175,8 +193,8 @@ impl NodeCore {
         match &self.state {
             State::Operational => self.gather_refusal(&[], Some(join)),
             State::Gathering(gather) => gathering_refusal(gather, join),
-            State::Committing(gather) => self.refused_as_known(gather, join),
-            State::InRecovery(x) => self.refused_as_known(&x.gather, join),
+            State::Committing(gather) => self.refusal_in_commit(gather, join),
+            State::InRecovery(x) => self.refusal_in_commit(&x.gather, join),
         }
     }
 
@@ -224,103 +242,57 @@ impl NodeCore {
         }
     }
 
-    fn commit_refused_by(
-        &self,
-        alloc: Global,
-        gather: &Gather,
-        phase: Phase,
-        started: bool,
-        token: &CommitToken,
-    ) -> Option<NodeFault>
-        ensures { result ≡ commit_refused_by self.now gather.now phase started token.now }
+    /// Returns why the node would refuse a commit token.
+    #[tactic(auto, using(crate::proofs::Foretelling::taken_tells))]
+    fn commit_refusal(&self, alloc: Global, token: &CommitToken) -> Option<NodeFault>
+        ensures { Tells result false (on_commit_in self.now token.now self.now.state) }
     {
-        self.act_refused(
-            alloc,
-            commit_act(token, &self.shown(phase, gather, started)),
-        )
+        let Some((gather, phase, started)) = self.forming() else {
+            return Some(NodeFault::Stale);
+        };
+        let act = commit_act(token, &self.shown(phase, gather, started));
+        self.act_refused(alloc, act)
     }
 
-    fn commit_refused(&self, alloc: Global, token: &CommitToken) -> Option<NodeFault>
-        ensures { result ≡ commit_refused self.now token.now self.now.state }
-    {
-        match &self.state {
-            State::Operational => Some(NodeFault::Stale),
-            State::Gathering(gather) => self.commit_refused_by(
-                alloc,
-                gather,
-                Phase::Gather,
-                false,
-                token,
-            ),
-            State::Committing(gather) => self.commit_refused_by(
-                alloc,
-                gather,
-                Phase::Commit,
-                false,
-                token,
-            ),
-            State::InRecovery(x) => self.commit_refused_by(
-                alloc,
-                &x.gather,
-                Phase::Recovery,
-                x.started,
-                token,
-            ),
-        }
-    }
-
-    fn packet_refused(&self, alloc: Global, packet: &Packet) -> Option<NodeFault>
-        ensures { result ≡ packet_refused self.now packet.now }
+    fn packet_refusal(&self, alloc: Global, packet: &Packet) -> Option<NodeFault>
+        ensures { Tells result (packet_at_the_end self.now packet.now) (on_packet self.now packet.now) }
     {
         match packet {
-            Packet::Message(message) => self.message_refused(message),
-            Packet::Token(token) => self.token_refused(token),
-            Packet::Join(join) => self.join_refused(join),
-            Packet::Commit(token) => self.commit_refused(alloc, token),
+            Packet::Message(message) => self.message_refusal(message),
+            Packet::Token(token) => self.token_refusal(token),
+            Packet::Join(join) => self.join_refusal(join),
+            Packet::Commit(token) => self.commit_refusal(alloc, token),
         }
     }
 
-    fn quiet_refused(&self) -> Option<NodeFault>
-        ensures { result ≡ quiet_refused self.now }
+    /// Returns why the node would refuse a timer, of which only one that makes it gather may be refused.
+    #[tactic(auto, using(crate::proofs::Foretelling::gathers_on))]
+    fn timer_refusal(&self) -> Option<NodeFault>
+        ensures { Tells result (timer_at_the_end self.now self.now.state) (on_timer self.now self.now.state) }
     {
-        if self.quiet < QUIET {
+        if let State::Gathering(_) = &self.state {
+            return None;
+        }
+        if !self.is_quiet() {
             return None;
         }
         self.gather_refusal(&[], None)
     }
 
-    fn timer_refused(&self) -> Option<NodeFault>
-        ensures { result ≡ timer_refused self.now self.now.state }
-    {
-        match &self.state {
-            State::Operational => self.quiet_refused(),
-            State::Gathering(_) => None,
-            State::Committing(_) => self.quiet_refused(),
-            State::InRecovery(_) => self.quiet_refused(),
-        }
-    }
-
-    fn refused_by_input(&self, alloc: Global, input: &Input) -> Option<NodeFault>
-        ensures { result ≡ refused_by_input self.now input.now }
-    {
-        match input {
-            Input::Submit { payload, .. } => self.submit_refused(payload),
-            Input::Packet(packet) => self.packet_refused(alloc, packet),
-            Input::Timer => self.timer_refused(),
-            Input::Crash => None,
-        }
-    }
-
     /// Returns why `step` would refuse this input, or `None` if it would take it. Doesn't allocate. Whether a gathering
     /// reaches consensus is not known before its sets are made. So if one does, and is refused as `Range` because no
     /// number is left for its ring, the answer is `None` too. Only a foreign message, a Join or a timer can lead there.
-    #[tactic(auto, using(crate::proofs::Foretelling::told))]
     pub fn refusal(&self, alloc: Global, input: &Input) -> Option<NodeFault>
         ensures { Tells result (is_at_the_end self.now input.now) (step self.now input.now) }
     {
         if self.crashed {
             return Some(NodeFault::Stopped);
         }
-        self.refused_by_input(alloc, input)
+        match input {
+            Input::Submit { payload, .. } => self.submit_refusal(payload),
+            Input::Packet(packet) => self.packet_refusal(alloc, packet),
+            Input::Timer => self.timer_refusal(),
+            Input::Crash => None,
+        }
     }
 }

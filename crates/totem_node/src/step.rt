@@ -1,9 +1,9 @@
 //! The step of a node, which forwards each input to its module.
-ghost use Rattle.std.specs.Prelude.{◌≡◌, Err, IfSome};
+ghost use Rattle.std.specs.Prelude.{◌≡◌, Err, IfSome, false};
 ghost use Rattle.totem_packets.specs.declared.packet.Packet.TheVariants as packet;
 ghost use Rattle.totem_node.specs.Table.{starting, on_token, on_packet, step};
 ghost use Rattle.totem_node.specs.declared.fault.NodeFault.TheVariants.{Memory};
-ghost use Rattle.totem_node.specs.Refusals.{is_at_the_end, IsTaken};
+ghost use Rattle.totem_node.specs.Refusals.{join_at_the_end, packet_at_the_end, is_at_the_end, IsTaken};
 ghost use Rattle.totem_node.specs.Answers.{IsStep};
 
 use crate::fault::NodeFault;
@@ -16,14 +16,15 @@ use std::alloc::Global;
 use totem_packets::{CommitToken, Join, Packet, Token};
 
 impl NodeCore {
-    /// Takes a token.
+    /// Takes a token that is not refused.
     fn on_token(&mut self, alloc: Global, token: &Token) -> Result<StepOut, NodeFault>
+        requires { IsTaken false (on_token self.old token.now self.old.state) }
         ensures { IsStep self.old self.new result (on_token self.old token.now self.old.state) }
     {
         match &mut self.state {
             State::Operational => self.visit_installed(alloc, token),
-            State::Gathering(_) => Err(NodeFault::Stale),
-            State::Committing(_) => Err(NodeFault::Stale),
+            State::Gathering(_) => unreachable!(),
+            State::Committing(_) => unreachable!(),
             State::InRecovery(x) => {
                 let visit = visit_with_next(
                     alloc,
@@ -39,12 +40,13 @@ impl NodeCore {
 
     /// Takes the first token of the new ring at once, because the commit token has come back.
     fn start_ring(&mut self, alloc: Global) -> Result<StepOut, NodeFault>
+        requires { IsTaken false (starting self.old self.old.state) }
         ensures { IsStep self.old self.new result (starting self.old self.old.state) }
     {
         match &mut self.state {
-            State::Operational => Err(NodeFault::Stale),
-            State::Gathering(_) => Err(NodeFault::Stale),
-            State::Committing(_) => Err(NodeFault::Stale),
+            State::Operational => unreachable!(),
+            State::Gathering(_) => unreachable!(),
+            State::Committing(_) => unreachable!(),
             State::InRecovery(x) => {
                 let visit = visit_first(alloc, &self.installed, x)?;
                 Ok(self.note_visit(alloc, visit))
@@ -52,8 +54,9 @@ impl NodeCore {
         }
     }
 
-    /// Takes a Join.
+    /// Takes a Join that is not refused.
     fn on_join(&mut self, alloc: Global, join: &Join) -> Result<StepOut, NodeFault>
+        requires { IsTaken (join_at_the_end self.old join.now self.old.state) (on_packet self.old (packet.Join join.now)) }
         ensures { IsStep self.old self.new result (on_packet self.old (packet.Join join.now)) }
     {
         match self.join_transition(alloc, join) {
@@ -62,8 +65,9 @@ impl NodeCore {
         }
     }
 
-    /// Takes a commit token.
+    /// Takes a commit token that is not refused.
     fn on_commit(&mut self, alloc: Global, token: &CommitToken) -> Result<StepOut, NodeFault>
+        requires { IsTaken false (on_packet self.old (packet.Commit token.now)) }
         ensures { IsStep self.old self.new result (on_packet self.old (packet.Commit token.now)) }
     {
         if let Some(transition) = self.commit_transition(alloc, token)? {
@@ -72,8 +76,9 @@ impl NodeCore {
         self.start_ring(alloc)
     }
 
-    /// Takes a packet.
+    /// Takes a packet that is not refused.
     fn on_packet(&mut self, alloc: Global, packet: Packet) -> Result<StepOut, NodeFault>
+        requires { IsTaken (packet_at_the_end self.old packet) (on_packet self.old packet) }
         ensures { IsStep self.old self.new result (on_packet self.old packet) }
     {
         match packet {

@@ -1,6 +1,7 @@
 //! How a node takes timers.
 ghost use Rattle.std.specs.Prelude.{◌≡◌, IfOk};
-ghost use Rattle.totem_node.specs.Table.{late, on_timer};
+ghost use Rattle.totem_node.specs.Table.{late, is_quiet, on_timer};
+ghost use Rattle.totem_node.specs.Refusals.{IsTaken, timer_at_the_end};
 ghost use Rattle.totem_node.specs.Transitions.{IsTransition, IsTimerTransition, IsCounting};
 ghost use Rattle.totem_node.specs.Answers.{IsStep};
 
@@ -15,7 +16,7 @@ use std::alloc::Global;
 use totem_member::Gather;
 
 /// The number of timers that are only counted before the next one makes the node gather.
-pub(crate) const QUIET: u8 = 2;
+const QUIET: u8 = 2;
 
 /// The number of timers that are only counted before a gathering gives up those that don't agree.
 const PATIENCE: u8 = 1;
@@ -32,8 +33,16 @@ impl NodeCore {
         self.look_at_consensus(alloc, 0, next, out.members, packets)
     }
 
-    /// Returns the transition that this timer causes, or `None` if it is only counted.
+    /// Returns whether so many timers were counted that the next one makes the node gather, unless it gathers already.
+    pub(crate) fn is_quiet(&self) -> bool
+        ensures { result ≡ is_quiet self.now }
+    {
+        self.quiet >= QUIET
+    }
+
+    /// Returns the transition that this timer causes, which is not refused, or `None` if it is only counted.
     fn timer_transition(&self, alloc: Global) -> Result<Option<Transition>, NodeFault>
+        requires { IsTaken (timer_at_the_end self.now self.now.state) (on_timer self.now self.now.state) }
         ensures { IsTimerTransition result self.now }
     {
         if let State::Gathering(gather) = &self.state {
@@ -42,10 +51,10 @@ impl NodeCore {
             }
             return Ok(Some(self.late(alloc, gather)?));
         }
-        if self.quiet < QUIET {
+        if !self.is_quiet() {
             return Ok(None);
         }
-        Ok(Some(self.to_gather(alloc, None, None)?))
+        Ok(Some(self.to_gather(alloc, &[], None)?))
     }
 
     /// Returns what is sent when a timer is only counted.
@@ -64,8 +73,9 @@ impl NodeCore {
         }
     }
 
-    /// Takes a timer that has run out.
+    /// Takes a timer that has run out and is not refused.
     pub(crate) fn on_timer(&mut self, alloc: Global) -> Result<StepOut, NodeFault>
+        requires { IsTaken (timer_at_the_end self.old self.old.state) (on_timer self.old self.old.state) }
         ensures { IsStep self.old self.new result (on_timer self.old self.old.state) }
     {
         if let Some(transition) = self.timer_transition(alloc)? {

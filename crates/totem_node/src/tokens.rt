@@ -1,52 +1,42 @@
 //! Tokens of the installed ring, and tokens that are sent again.
-ghost use Rattle.std.specs.Prelude.{◌≡◌, ◌++◌, Err, IfOk, IfSome};
-ghost use Rattle.totem_recover.specs.Finish.{deliveries};
+ghost use Rattle.std.specs.Prelude.{◌≡◌, None, Err, IfOk, IfSome, false};
+ghost use Rattle.totem_ring.specs.Refusals.{token_refusal};
+ghost use Rattle.totem_ring.specs.Steps.{given};
+ghost use Rattle.totem_node.specs.Refusals.{IsTaken};
 ghost use Rattle.totem_node.specs.Visiting.{visit_told, visit_installed};
 ghost use Rattle.totem_node.specs.Answers.{IsTold, IsStep, IsResent};
 
 use crate::fault::NodeFault;
 use crate::node_core::NodeCore;
 use crate::outcome::StepOut;
-use crate::ring_step::RingStep;
-use crate::told::write_deliveries;
-use crate::visiting::{Visited, visit_with};
-use std::alloc::{AllocError, Global};
+use crate::told::{one_step, visit_sends, visit_steps, write_deliveries};
+use std::alloc::Global;
 use totem_ids::ConfId;
 use totem_packets::{Body, Token};
 use totem_ring::{Act, RingState};
 
-/// Returns what a node reports of a visit: the sends are written first, then the deliveries.
-fn tell_visit(conf: &ConfId, visited: Visited) -> Result<StepOut, AllocError>
-    ensures { IfOk result (λ told. (told.packets.items ≡ visited.out.packets.items)
-        × (told.entries.items ≡ visited.sends.items ++ deliveries conf.now visited.out.handed.items)
-        × (told.ring_steps.items ≡ visited.ring_steps.items)) }
-{
-    let Visited {
-        out,
-        mut sends,
-        ring_steps,
-    } = visited;
-    write_deliveries(&mut sends, conf, &out.handed)?;
-    Ok(StepOut {
-        packets: out.packets,
-        entries: sends,
-        ring_steps,
-    })
-}
-
-/// Gives these bodies to a ring, lets it take a token, and returns what a node reports of it.
+/// Gives these bodies to a ring, lets it take a token, and returns what a node reports of it: the sends are written first, then the
+/// deliveries.
+#[tactic(auto, using(crate::proofs::Visits::room_with))]
 fn visit_told(
     alloc: Global,
     ring: &mut RingState,
     bodies: &[Body],
     token: &Token,
 ) -> Result<StepOut, NodeFault>
+    requires { token_refusal (given ring.old bodies.now) token.now ≡ None }
     ensures { IsTold ring.old ring.new result (visit_told ring.old bodies.now token.now) }
 {
     let conf = ConfId::Regular(ring.ring());
-    let (visited, undo) = visit_with(alloc, ring, bodies, token)?;
-    match tell_visit(&conf, visited) {
-        Ok(told) => Ok(told),
+    let mut entries = visit_sends(alloc, ring, bodies, token)?;
+    let ring_steps = visit_steps(alloc, ring.ring(), bodies, token)?;
+    let (out, undo) = ring.on_token_with(alloc, bodies, token)?;
+    match write_deliveries(&mut entries, &conf, &out.handed) {
+        Ok(()) => Ok(StepOut {
+            packets: out.packets,
+            entries,
+            ring_steps,
+        }),
         Err(e) => {
             ring.undo_visit(undo);
             Err(e.into())
@@ -59,25 +49,22 @@ pub fn resend(alloc: Global, ring: &RingState) -> Result<StepOut, NodeFault>
     ensures { IsResent result ring.now }
 {
     let out = ring.on_resend(alloc)?;
-    let mut ring_steps = Vec::with_capacity(alloc, 1)?;
-    ring_steps.push(RingStep {
-        ring: ring.ring(),
-        act: Act::Resend,
-    })?;
     Ok(StepOut {
         packets: out.packets,
         entries: Vec::new(alloc),
-        ring_steps,
+        ring_steps: one_step(alloc, ring.ring(), Act::Resend)?,
     })
 }
 
 impl NodeCore {
-    /// Takes the installed ring's token.
+    /// Takes the installed ring's token, which the ring would not refuse.
+    #[tactic(auto, using(crate::proofs::Visits::installed_takes))]
     pub(crate) fn visit_installed(
         &mut self,
         alloc: Global,
         token: &Token,
     ) -> Result<StepOut, NodeFault>
+        requires { IsTaken false (visit_installed self.old token.now) }
         ensures { IsStep self.old self.new result (visit_installed self.old token.now) }
     {
         let told = visit_told(alloc, &mut self.installed, &self.waiting, token)?;

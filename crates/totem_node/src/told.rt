@@ -1,10 +1,10 @@
 //! The entries and the ring steps that a node reports of a ring's step.
-ghost use Rattle.std.specs.Prelude.{◌≡◌, ◌+◌, ◌++◌, ◌<◌, ◌^◌, length, IfOk, OnOk};
+ghost use Rattle.std.specs.Prelude.{◌≡◌, ◌+◌, ◌++◌, ◌∷◌, [], ◌<◌, ◌^◌, length, IfOk, OnOk};
 ghost use Rattle.totem_ids.specs.declared.conf.ConfId.TheVariants.{Regular};
 ghost use Rattle.totem_ring.specs.Visits.{numbered};
 ghost use Rattle.totem_ring.specs.Steps.{given};
 ghost use Rattle.totem_recover.specs.Finish.{deliveries};
-ghost use Rattle.totem_node.specs.Visiting.{message_steps, send_of, sends, submits, visit_steps, visit_sends};
+ghost use Rattle.totem_node.specs.Visiting.{send_of, sends, submits, visit_steps, visit_sends};
 
 use crate::ring_step::RingStep;
 use std::alloc::{AllocError, Global};
@@ -95,19 +95,12 @@ pub fn visit_sends(
     Ok(entries)
 }
 
-/// Returns the ring's steps for taking this message.
-pub fn message_steps(
-    alloc: Global,
-    ring: RingId,
-    message: Message,
-) -> Result<Vec<RingStep>, AllocError>
-    ensures { IfOk result (λ steps. steps.items ≡ message_steps ring message) }
+/// Returns one step on this ring.
+pub fn one_step(alloc: Global, ring: RingId, act: Act) -> Result<Vec<RingStep>, AllocError>
+    ensures { IfOk result (λ steps. steps.items ≡ record { ring = ring; act = act } ∷ []) }
 {
     let mut steps = Vec::with_capacity(alloc, 1)?;
-    steps.push(RingStep {
-        ring,
-        act: Act::Message(message),
-    })?;
+    steps.push(RingStep { ring, act })?;
     Ok(steps)
 }
 
