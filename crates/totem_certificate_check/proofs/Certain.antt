@@ -84,12 +84,7 @@ late run lines e f (Send m c service) (Deliver k d) i j at_e at_f same never = r
   delivers = (d, rw same at_f.entry);
   not_below = not_below run lines e f (Send m c service) (Deliver k d) i j at_e at_f never;
 }
-late run lines e f (Send m c service) (Conf x ms) i j at_e at_f same never = absurd same
-late run lines e f (Send m c service) (Send k d other) i j at_e at_f same never = absurd same
-late run lines e f (Send m c service) (Fail x) i j at_e at_f same never = absurd same
-late run lines e f (Conf x ms) y i j at_e at_f same never = absurd same
-late run lines e f (Deliver m x) y i j at_e at_f same never = absurd same
-late run lines e f (Fail x) y i j at_e at_f same never = absurd same
+late run lines e f x y i j at_e at_f same never = absurd same
 
 pub send_late : (run : List Log) (lines : List Numbering) → SomePair SendIsNotBelow run lines → SendIsLate run lines
 send_late run lines h = late run lines h.event h.holds.event h.entry h.holds.entry h.number h.holds.number h.stands h.holds.stands h.holds.holds.0 h.holds.holds.1
@@ -99,14 +94,7 @@ send_late run lines h = late run lines h.event h.holds.event h.entry h.holds.ent
 pub one_class : (run : List Log) (e f : Place) (x y : Entry) → entry_at run e ≡ Some x → entry_at run f ≡ Some y → AreOfOneClass x y → SameClass run e f
 one_class run e f (Conf c ms) (Conf d ns) at_e at_f same = inl (c, (ms, at_e), (ns, rw same at_f))
 one_class run e f (Deliver m x) (Deliver n y) at_e at_f same = inr (m, (x, at_e), (y, rw same at_f))
-one_class run e f (Conf c ms) (Send m x s) at_e at_f same = absurd same
-one_class run e f (Conf c ms) (Deliver m x) at_e at_f same = absurd same
-one_class run e f (Conf c ms) (Fail x) at_e at_f same = absurd same
-one_class run e f (Deliver m x) (Conf c ms) at_e at_f same = absurd same
-one_class run e f (Deliver m x) (Send n y s) at_e at_f same = absurd same
-one_class run e f (Deliver m x) (Fail y) at_e at_f same = absurd same
-one_class run e f (Send m x s) y at_e at_f same = absurd same
-one_class run e f (Fail x) y at_e at_f same = absurd same
+one_class run e f x y at_e at_f same = absurd same
 
 pub is_class : (run : List Log) (e f : Place) (x y : Entry) → entry_at run e ≡ Some x → entry_at run f ≡ Some y → SameClass run e f → AreOfOneClass x y
 is_class run e f x y at_e at_f (inl (c, (ms, is_e), (ns, is_f))) =

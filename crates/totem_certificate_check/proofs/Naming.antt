@@ -54,26 +54,12 @@ inserted_only old new c d h has_it = elim (is_or_not (is_at (class_order c) d)) 
 pub class_shared : (x y : Entry) → AreOfOneClass x y → (c : Class) × (class_of x ≡ Some c) × (class_of y ≡ Some c)
 class_shared (Conf a ms) (Conf b ns) same = (Change a, refl, rw same refl)
 class_shared (Deliver m a) (Deliver n b) same = (Delivery m, refl, rw same refl)
-class_shared (Conf a ms) (Send m x s) same = absurd same
-class_shared (Conf a ms) (Deliver m x) same = absurd same
-class_shared (Conf a ms) (Fail x) same = absurd same
-class_shared (Deliver m a) (Conf x ms) same = absurd same
-class_shared (Deliver m a) (Send n x s) same = absurd same
-class_shared (Deliver m a) (Fail x) same = absurd same
-class_shared (Send m x s) y same = absurd same
-class_shared (Fail x) y same = absurd same
+class_shared x y same = absurd same
 
 pub shares_class : (x y : Entry) (c : Class) → class_of x ≡ Some c → class_of y ≡ Some c → AreOfOneClass x y
 shares_class (Conf a ms) (Conf b ns) c e f = (let h : Change a ≡ Change b = (let both : Some (Change a) ≡ Some (Change b) = e ∙ sym f in cc) in cc)
 shares_class (Deliver m a) (Deliver n b) c e f = (let h : Delivery m ≡ Delivery n = (let both : Some (Delivery m) ≡ Some (Delivery n) = e ∙ sym f in cc) in cc)
-shares_class (Conf a ms) (Send m x s) c e f = absurd cc
-shares_class (Conf a ms) (Deliver m x) c e f = absurd (let both : Some (Change a) ≡ Some (Delivery m) = e ∙ sym f in cc)
-shares_class (Conf a ms) (Fail x) c e f = absurd cc
-shares_class (Deliver m a) (Conf x ms) c e f = absurd (let both : Some (Delivery m) ≡ Some (Change x) = e ∙ sym f in cc)
-shares_class (Deliver m a) (Send n x s) c e f = absurd cc
-shares_class (Deliver m a) (Fail x) c e f = absurd cc
-shares_class (Send m x s) y c e f = absurd cc
-shares_class (Fail x) y c e f = absurd cc
+shares_class x y c e f = absurd cc
 
 -- two entries of the class of a third one are of one class
 pub through : (x y z : Entry) → AreOfOneClass x z → AreOfOneClass y z → AreOfOneClass x y
@@ -89,6 +75,5 @@ back x y same = let a = class_shared x y same in shares_class y x a.0 a.2 a.1
 -- an entry of a class is barred by that class
 pub own_class_bars : (x : Entry) (c : Class) → class_of x ≡ Some c → class_barred_by x ≡ Some c
 own_class_bars (Conf a ms) c e = e
-own_class_bars (Send m a s) c e = absurd cc
 own_class_bars (Deliver m a) c e = e
-own_class_bars (Fail a) c e = absurd cc
+own_class_bars x c e = absurd cc

@@ -234,9 +234,7 @@ is_below run lines spread so e x n m c s is below = record { each = λ f y k sta
         let lt = below known.least known.is in
         let le = known.at_most in
         omega arith
-    go f (Conf d ms) k stands pair = absurd pair
-    go f (Send o d t) k stands pair = absurd pair
-    go f (Fail d) k stands pair = absurd pair
+    go f y k stands pair = absurd pair
 
 pub no_send : (run : List Log) (lines : List Numbering) (e : Place) (x : Entry) (n : ℕ) → ((y : Entry) → AreSendAndDelivery x y → ⊥) → EachEvent (SendIsBelow e x n) run lines
 no_send run lines e x n never = record { each = λ f y k stands pair. absurd (never y pair) }
@@ -246,9 +244,7 @@ is_not_below run lines spread so e x n l m c s is at never = go (so.true_of.ther
   where
     pair : (y : Entry) → class_of y ≡ Some (Delivery m) → AreSendAndDelivery x y
     pair (Deliver o d) of = rw is (let h : Delivery o ≡ Delivery m = (let both : Some (Delivery o) ≡ Some (Delivery m) = of in cc) in cc)
-    pair (Conf d ms) of = absurd (let both : Some (Change d) ≡ Some (Delivery m) = of in cc)
-    pair (Send o d t) of = absurd cc
-    pair (Fail d) of = absurd cc
+    pair y of = absurd cc
 
     go : SomeEvent (λ f y k. (k ≡ l) × (class_of y ≡ Some (Delivery m))) run lines → SomeEvent (SendIsNotBelow e x n) run lines
     go h = record { event = h.event; entry = h.entry; number = h.number; stands = h.stands; holds = (pair h.entry h.holds.1, λ lt. never (rw h.holds.0 at lt)) }
