@@ -8,15 +8,15 @@ use Rattle.totem_evs.specs.Events.{log_of}
 use Rattle.totem_evs.specs.Certificates.{Numbering, numbers_of}
 use Rattle.totem_evs.proofs.LogOf.{Rising, in_order, less_or_not}
 use Rattle.totem_cert.specs.Search.{place}
-use Rattle.totem_cert.specs.Keys.{class_key}
+use Rattle.totem_evs.specs.Classes.{AreOfOneClass}
 use Rattle.totem_cert.specs.Progress.{IsNext, IsSound, HeadIsMate, LineGiven, GivenUpTo}
 use Rattle.totem_cert.specs.Counts.{Pushes, HasHead}
 use Rattle.totem_cert.proofs.LineFacts.{stands_at}
 use Rattle.totem_cert.proofs.LogHeads.{ready_head}
-use Rattle.totem_cert.proofs.Kept.{alone_alike}
+use Rattle.totem_cert.proofs.Classes.{alike_twice}
 
 module _ (run : List Log) (old : List Numbering) (k j : ℕ) (log : Log) (x : Entry) (rising : Rising run) (sound : IsSound run old) (log_at : slice_get run k ≡ Some log)
-    (at : slice_get (log_of run log.proc) j ≡ Some x) (next : IsNext run old (place log.proc j)) (alone : class_key x ≡ None) where
+    (at : slice_get (log_of run log.proc) j ≡ Some x) (next : IsNext run old (place log.proc j)) (alone : AreOfOneClass x x → ⊥) where
   -- it is the first entry of its log without a number
   head_of : (line : Numbering) → slice_get old k ≡ Some line → (j ≡ length line.numbers) × (length line.numbers < length log.entries) × (slice_get log.entries (length line.numbers) ≡ Some x)
   head_of line line_at =
@@ -45,7 +45,7 @@ module _ (run : List Log) (old : List Numbering) (k j : ℕ) (log : Log) (x : En
 
   not_mate : (i : ℕ) (l : Log) (was : Numbering) → i ≢ k → slice_get run i ≡ Some l → HeadIsMate log.proc j x l was → ⊥
   not_mate i l was other at_l (y, at_y, inl (same, also)) = other_log i l other at_l same
-  not_mate i l was other at_l (y, at_y, inr alike) = alone_alike x y alone alike
+  not_mate i l was other at_l (y, at_y, inr alike) = alone (alike_twice x y alike)
 
   here : (new : List Numbering) (n : ℕ) (was now : Numbering) → Pushes old new k n → slice_get old k ≡ Some was → slice_get new k ≡ Some now → LineGiven log.proc j x n log was now
   here new n was now pushes at_was at_now =

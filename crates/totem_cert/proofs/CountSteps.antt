@@ -14,9 +14,8 @@ use Rattle.totem_evs.specs.Runs.{IsRun, IsLog}
 use Rattle.totem_table.specs.Tables.{IsTable}
 use Rattle.totem_table.specs.declared.table.Table.{Table}
 use Rattle.totem_evs.proofs.LogOf.{less_or_not}
-use Rattle.totem_cert.specs.Wanted.{count_of, given_at}
 use Rattle.totem_cert.specs.Progress.{empty_line, HeadIsMate}
-use Rattle.totem_cert.specs.Counts.{sum_to, class_in, class_fed, one, from, keeping, keeping_at, kept_in, kept_at, kept_by, Counts, CountsTo, fed_by, shared_by, passed, Adds, Takes, AtMost, IsKept, Pushes, HasHead}
+use Rattle.totem_cert.specs.Counts.{count_of, given_at, sum_to, class_in, class_fed, one, from, keeping, keeping_at, kept_in, kept_at, kept_by, Counts, CountsTo, fed_by, shared_by, passed, Adds, Takes, AtMost, IsKept, Pushes, HasHead}
 use Rattle.totem_cert.proofs.GiveSteps.{Changes, set_changes}
 use Rattle.totem_cert.proofs.Sums.{sum_same, sum_change, sum_ones, sum_millions}
 

@@ -14,14 +14,12 @@ use Rattle.totem_evs.proofs.LogOf.{Rising, less_or_not}
 use Rattle.totem_table.specs.declared.table.Table.{Table}
 use Rattle.totem_table.specs.Tables.{IsTable, IsEntryAt, NamedBy, number_at}
 use Rattle.totem_cert.specs.Search.{place, NoneOf}
-use Rattle.totem_cert.specs.Wanted.{given_at}
 use Rattle.totem_evs.specs.Classes.{AreOfOneClass, AreSendAndDelivery}
 use Rattle.totem_cert.specs.Progress.{Fits, IsReady, IsMate, KeepsBack}
-use Rattle.totem_cert.specs.Counts.{class_in, class_fed, one, from, keeping_at, kept_in, kept_at, kept_by, Counts, Tells}
-use Rattle.totem_cert.proofs.LineFacts.{Stands, where_is, stands_at}
+use Rattle.totem_cert.specs.Counts.{given_at, class_in, class_fed, one, from, keeping_at, kept_in, kept_at, kept_by, Counts, Tells}
+use Rattle.totem_cert.proofs.LineFacts.{Stands, where_is, stands_in, given_is}
 use Rattle.totem_cert.proofs.LogHeads.{nothing_keeps, something_keeps}
-use Rattle.totem_cert.specs.Keys.{class_key}
-use Rattle.totem_cert.proofs.Kept.{given_is, alone_alike, alone_fed}
+use Rattle.totem_cert.proofs.Classes.{alone_alike, alone_fed, same_in, in_same, feeds_in, in_feeds}
 use Rattle.totem_cert.proofs.Sums.{sum_zero, sum_some, zero_or}
 use Rattle.totem_cert.proofs.CountSteps.{from_yes, from_no}
 
@@ -46,91 +44,6 @@ either : (a b : ℕ) → 0 < a + b → (0 < a) ⊎ (0 < b)
 either a b some = grind arith
 
 module _ (run : List Log) (table : Table) (is : IsTable run table) (tells : Tells run table) where
-  below_messages : (k i : ℕ) (m : MsgId) (x : ConfId) → IsEntryAt run k i (Deliver m x) → number_at table k i < length table.messages.items
-  below_messages k i m x a =
-      let named : NamedBy table.messages.items table.confs.items (Deliver m x) (number_at table k i) = (is.rows.each k a.log a.is_log).each i (Deliver m x) a.is_entry in
-      slice_get_within table.messages.items (number_at table k i) m named
-
-  sent_messages : (k i : ℕ) (m : MsgId) (x : ConfId) (s : Service) → IsEntryAt run k i (Send m x s) → number_at table k i < length table.messages.items
-  sent_messages k i m x s a =
-      let named : NamedBy table.messages.items table.confs.items (Send m x s) (number_at table k i) = (is.rows.each k a.log a.is_log).each i (Send m x s) a.is_entry in
-      slice_get_within table.messages.items (number_at table k i) m named
-
-  below_confs : (k i : ℕ) (x : ConfId) (ms : List ℕ) → IsEntryAt run k i (Conf x ms) → number_at table k i < length table.confs.items
-  below_confs k i x ms a =
-      let named : NamedBy table.messages.items table.confs.items (Conf x ms) (number_at table k i) = (is.rows.each k a.log a.is_log).each i (Conf x ms) a.is_entry in
-      slice_get_within table.confs.items (number_at table k i) x named
-
-  alike_same : (k i l j : ℕ) (x y : Entry) → IsEntryAt run k i x → IsEntryAt run l j y → AreOfOneClass x y → class_in (length table.messages.items) x (number_at table k i) ≡ class_in (length table.messages.items) y (number_at table l j)
-  alike_same k i l j (Conf x ms) (Conf y ns) a b same = ap (λ (n : ℕ). Some (length table.messages.items + n)) ((tells.confs k i l j (Conf x ms) (Conf y ns) x y a b refl refl).1 same)
-  alike_same k i l j (Conf x ms) (Send m y t) a b same = absurd same
-  alike_same k i l j (Conf x ms) (Deliver m y) a b same = absurd same
-  alike_same k i l j (Conf x ms) (Fail y) a b same = absurd same
-  alike_same k i l j (Deliver m x) (Deliver n y) a b same = ap Some ((tells.messages k i l j (Deliver m x) (Deliver n y) m n a b refl refl).1 same)
-  alike_same k i l j (Deliver m x) (Conf y ns) a b same = absurd same
-  alike_same k i l j (Deliver m x) (Send n y t) a b same = absurd same
-  alike_same k i l j (Deliver m x) (Fail y) a b same = absurd same
-  alike_same k i l j (Send m x t) y a b same = absurd same
-  alike_same k i l j (Fail x) y a b same = absurd same
-
-  class_alike : (k i l j c : ℕ) (x y : Entry) → IsEntryAt run k i x → IsEntryAt run l j y → class_in (length table.messages.items) x (number_at table k i) ≡ Some c → class_in (length table.messages.items) y (number_at table l j) ≡ Some c → AreOfOneClass x y
-  class_alike k i l j c (Conf x ms) (Conf y ns) a b h g =
-      let p : length table.messages.items + number_at table k i ≡ c = cc in
-      let q : length table.messages.items + number_at table l j ≡ c = cc in
-      (tells.confs k i l j (Conf x ms) (Conf y ns) x y a b refl refl).0 (omega arith)
-  class_alike k i l j c (Deliver m x) (Deliver n y) a b h g =
-      let p : number_at table k i ≡ c = cc in
-      let q : number_at table l j ≡ c = cc in
-      (tells.messages k i l j (Deliver m x) (Deliver n y) m n a b refl refl).0 (omega arith)
-  class_alike k i l j c (Conf x ms) (Deliver n y) a b h g =
-      let p : length table.messages.items + number_at table k i ≡ c = cc in
-      let q : number_at table l j ≡ c = cc in
-      absurd (let lt = below_messages l j n y b in omega arith)
-  class_alike k i l j c (Deliver m x) (Conf y ns) a b h g =
-      let p : number_at table k i ≡ c = cc in
-      let q : length table.messages.items + number_at table l j ≡ c = cc in
-      absurd (let lt = below_messages k i m x a in omega arith)
-  class_alike k i l j c (Conf x ms) (Send n y t) a b h g = absurd cc
-  class_alike k i l j c (Conf x ms) (Fail y) a b h g = absurd cc
-  class_alike k i l j c (Deliver m x) (Send n y t) a b h g = absurd cc
-  class_alike k i l j c (Deliver m x) (Fail y) a b h g = absurd cc
-  class_alike k i l j c (Send m x t) y a b h g = absurd cc
-  class_alike k i l j c (Fail x) y a b h g = absurd cc
-
-  fed_same : (k i l j c : ℕ) (x y : Entry) → IsEntryAt run k i x → IsEntryAt run l j y → class_in (length table.messages.items) x (number_at table k i) ≡ Some c → AreSendAndDelivery y x → class_fed y (number_at table l j) ≡ Some c
-  fed_same k i l j c (Deliver n d) (Send m e s) a b h same = ap Some ((tells.messages l j k i (Send m e s) (Deliver n d) m n b a refl refl).1 same) ∙ h
-  fed_same k i l j c (Conf d ms) (Send m e s) a b h same = absurd same
-  fed_same k i l j c (Send n d t) (Send m e s) a b h same = absurd same
-  fed_same k i l j c (Fail d) (Send m e s) a b h same = absurd same
-  fed_same k i l j c x (Conf e ms) a b h same = absurd same
-  fed_same k i l j c x (Deliver m e) a b h same = absurd same
-  fed_same k i l j c x (Fail e) a b h same = absurd same
-
-  fed_feeds : (k i l j c : ℕ) (x y : Entry) → IsEntryAt run k i x → IsEntryAt run l j y → class_in (length table.messages.items) x (number_at table k i) ≡ Some c → class_fed y (number_at table l j) ≡ Some c → AreSendAndDelivery y x
-  fed_feeds k i l j c (Deliver n d) (Send m e s) a b h g =
-      let p : number_at table k i ≡ c = cc in
-      let q : number_at table l j ≡ c = cc in
-      (tells.messages l j k i (Send m e s) (Deliver n d) m n b a refl refl).0 (omega arith)
-  fed_feeds k i l j c (Conf d ms) (Send m e s) a b h g =
-      let p : length table.messages.items + number_at table k i ≡ c = cc in
-      let q : number_at table l j ≡ c = cc in
-      absurd (let lt = sent_messages l j m e s b in omega arith)
-  fed_feeds k i l j c (Send n d t) (Send m e s) a b h g = absurd cc
-  fed_feeds k i l j c (Fail d) (Send m e s) a b h g = absurd cc
-  fed_feeds k i l j c x (Conf e ms) a b h g = absurd cc
-  fed_feeds k i l j c x (Deliver m e) a b h g = absurd cc
-  fed_feeds k i l j c x (Fail e) a b h g = absurd cc
-
-  pub class_within : (k i c : ℕ) (x : Entry) → IsEntryAt run k i x → class_in (length table.messages.items) x (number_at table k i) ≡ Some c → c < length table.messages.items + length table.confs.items
-  class_within k i c (Conf x ms) a h =
-      let p : length table.messages.items + number_at table k i ≡ c = cc in
-      let lt = below_confs k i x ms a in omega arith
-  class_within k i c (Deliver m x) a h =
-      let p : number_at table k i ≡ c = cc in
-      let lt = below_messages k i m x a in omega arith
-  class_within k i c (Send m x s) a h = absurd cc
-  class_within k i c (Fail x) a h = absurd cc
-
   module _ (lines : List Numbering) (rising : Rising run) (fits : Fits run lines) (p j kp : ℕ) (x : Entry) (here : IsEntryAt run kp j x)
       (at : slice_get (log_of run p) j ≡ Some x) (head : length (numbers_of lines p) ≡ j) (c : ℕ) (has : class_in (length table.messages.items) x (number_at table kp j) ≡ Some c) where
     term : (k i : ℕ) (log : Log) (y : Entry) → slice_get run k ≡ Some log → slice_get log.entries i ≡ Some y → kept_by run table lines c ≡ 0
@@ -145,20 +58,13 @@ module _ (run : List Log) (table : Table) (is : IsTable run table) (tells : Tell
     not_itself : (q i : ℕ) → p ≡ q → j ≡ i → length (numbers_of lines q) < i → ⊥
     not_itself q i same also lt = let h : length (numbers_of lines p) ≡ length (numbers_of lines q) = ap (λ (r : ℕ). length (numbers_of lines r)) same in omega arith
 
-    stands_in : (k : ℕ) (log : Log) → slice_get run k ≡ Some log → (line : Numbering) × Stands run lines log.proc k log line
-    stands_in k log log_at = go (slice_get_cases lines k).1
-      where
-        go : ((line : Numbering) × (k < length lines) × (slice_get lines k ≡ Some line) × (get_or lines k line ≡ line)) ⊎ ((length lines ≤ k) × (slice_get lines k ≡ None)) → (line : Numbering) × Stands run lines log.proc k log line
-        go (inl (line, within, line_at, _)) = (line, stands_at run lines k log line rising fits log_at line_at)
-        go (inr (le, _)) = absurd (let lt = slice_get_within run k log log_at in let n = fits.count in omega arith)
-
     none_back : kept_by run table lines c ≡ 0 → NoneOf run (KeepsBack run lines p j x)
     none_back none = record { none = λ q i within (y, at_y, k). go q i y at_y k (where_is run lines q fits) }
       where
         mate : (q i k : ℕ) (log : Log) (line : Numbering) (y : Entry) → Stands run lines q k log line → slice_get (log_of run q) i ≡ Some y → AreOfOneClass x y → length (numbers_of lines q) < i → ⊥
         mate q i k log line y s at_y alike lt =
             let y_at : slice_get log.entries i ≡ Some y = rw s.log_is at at_y in
-            let is_c : class_in (length table.messages.items) y (number_at table k i) ≡ Some c = sym (alike_same kp j k i x y here (record { log = log; is_log = s.log_at; is_entry = y_at }) alike) ∙ has in
+            let is_c : class_in (length table.messages.items) y (number_at table k i) ≡ Some c = same_in run table is tells kp j k i c x y here (record { log = log; is_log = s.log_at; is_entry = y_at }) has alike in
             let t = term k i log y s.log_at y_at none in
             let g = given_is run lines k q log line s in
             let counted : one (class_in (length table.messages.items) y (number_at table k i)) c ≡ 1 = rw is_c (one_self c) in
@@ -168,7 +74,7 @@ module _ (run : List Log) (table : Table) (is : IsTable run table) (tells : Tell
         send : (q i k : ℕ) (log : Log) (line : Numbering) (y : Entry) → Stands run lines q k log line → slice_get (log_of run q) i ≡ Some y → AreSendAndDelivery y x → length (numbers_of lines q) ≤ i → ⊥
         send q i k log line y s at_y feeds le =
             let y_at : slice_get log.entries i ≡ Some y = rw s.log_is at at_y in
-            let is_c : class_fed y (number_at table k i) ≡ Some c = fed_same kp j k i c x y here (record { log = log; is_log = s.log_at; is_entry = y_at }) has feeds in
+            let is_c : class_fed y (number_at table k i) ≡ Some c = feeds_in run table is tells kp j k i c y x here (record { log = log; is_log = s.log_at; is_entry = y_at }) has feeds in
             let t = term k i log y s.log_at y_at none in
             let g = given_is run lines k q log line s in
             let counted : one (class_fed y (number_at table k i)) c ≡ 1 = rw is_c (one_self c) in
@@ -190,16 +96,16 @@ module _ (run : List Log) (table : Table) (is : IsTable run table) (tells : Tell
             → (q : ℕ) × (i : ℕ) × KeepsBack run lines p j x q i
         entry k i log y log_at y_at (inl feeds) =
             let f = from_some (given_at lines k) i (one (class_fed y (number_at table k i)) c) feeds in
-            let s = stands_in k log log_at in
+            let s = stands_in run lines k log rising fits log_at in
             let is_c = one_some (class_fed y (number_at table k i)) c f.1 in
             let g = given_is run lines k log.proc log s.0 s.1 in
-            (log.proc, i, (y, rw s.1.log_is y_at, inr (fed_feeds kp j k i c x y here (record { log = log; is_log = log_at; is_entry = y_at }) has is_c, (let le = f.0 in omega arith))))
+            (log.proc, i, (y, rw s.1.log_is y_at, inr (in_feeds run table is tells kp j k i c x y here (record { log = log; is_log = log_at; is_entry = y_at }) has is_c, (let le = f.0 in omega arith))))
         entry k i log y log_at y_at (inr shares) =
             let f = from_some (suc (given_at lines k)) i (one (class_in (length table.messages.items) y (number_at table k i)) c) shares in
-            let s = stands_in k log log_at in
+            let s = stands_in run lines k log rising fits log_at in
             let is_c = one_some (class_in (length table.messages.items) y (number_at table k i)) c f.1 in
             let g = given_is run lines k log.proc log s.0 s.1 in
-            (log.proc, i, (y, rw s.1.log_is y_at, inl (inr (class_alike kp j k i c x y here (record { log = log; is_log = log_at; is_entry = y_at }) has is_c), (let le = f.0 in omega arith))))
+            (log.proc, i, (y, rw s.1.log_is y_at, inl (inr (in_same run table is tells kp j k i c x y here (record { log = log; is_log = log_at; is_entry = y_at }) has is_c), (let le = f.0 in omega arith))))
 
         in_log : (k : ℕ) (log : Log) → slice_get run k ≡ Some log → (i : ℕ) × (i < length log.entries) × (0 < keeping_at (length table.messages.items) log.entries (get_or table.rows.items k []) (given_at lines k) (suc (given_at lines k)) c i)
             → (q : ℕ) × (i : ℕ) × KeepsBack run lines p j x q i
@@ -225,12 +131,6 @@ module _ (run : List Log) (table : Table) (is : IsTable run table) (tells : Tell
       ]),
     )
 
-no_key : (m n : ℕ) (x : Entry) → class_in m x n ≡ None → class_key x ≡ None
-no_key m n (Conf x ms) h = absurd cc
-no_key m n (Send o x s) h = refl
-no_key m n (Deliver o x) h = absurd cc
-no_key m n (Fail x) h = refl
-
 -- a head that is alone in its class is ready
 pub alone_counted : (run : List Log) (lines : List Numbering) (p j m n : ℕ) (x : Entry) → slice_get (log_of run p) j ≡ Some x → length (numbers_of lines p) ≡ j → class_in m x n ≡ None
     → IsTrue true ↔ IsReady run lines (place p j)
@@ -241,5 +141,5 @@ alone_counted run lines p j m n x at head alone = (λ _. nothing_keeps run lines
 
     go : (q i : ℕ) (y : Entry) → (IsMate p j x q i y × (length (numbers_of lines q) < i)) ⊎ (AreSendAndDelivery y x × (length (numbers_of lines q) ≤ i)) → ⊥
     go q i y (inl (inl (same, also), lt)) = itself q i same also lt
-    go q i y (inl (inr alike, lt)) = alone_alike x y (no_key m n x alone) alike
-    go q i y (inr (feeds, le)) = alone_fed y x (no_key m n x alone) feeds
+    go q i y (inl (inr alike, lt)) = alone_alike m n x y alone alike
+    go q i y (inr (feeds, le)) = alone_fed m n y x alone feeds

@@ -12,8 +12,9 @@ use Rattle.totem_evs.proofs.LogOf.{less_or_not}
 use Rattle.totem_cert.specs.Search.{place}
 use Rattle.totem_evs.specs.Classes.{InClass}
 use Rattle.totem_cert.specs.Progress.{Fits, IsNext, IsSound, Gives, HeadIsMate, IsMate, LineGiven, GivenUpTo, entries_left}
-use Rattle.totem_cert.proofs.LineFacts.{Stands, where_is, stands_at}
-use Rattle.totem_cert.proofs.LogHeads.{ready_head, ready_same, mate_class, class_mate, same_place_of}
+use Rattle.totem_cert.proofs.Lists.{set_here, set_other, push_here, push_other}
+use Rattle.totem_cert.proofs.LineFacts.{same_parts, Stands, where_is, stands_at}
+use Rattle.totem_cert.proofs.LogHeads.{ready_head, ready_same, mate_class, class_mate}
 
 pub mate_decided : (p j : ℕ) (x : Entry) (log : Log) (line : Numbering) (entries : List Entry) (numbers : List ℕ) (y : Entry) (r : Bool) → entries ≡ log.entries → numbers ≡ line.numbers → length numbers < length entries
     → y ≡ get_or entries (length numbers) y → (IsTrue r ↔ IsMate p j x log.proc (length numbers) y) → IsTrue r ↔ HeadIsMate p j x log line
@@ -26,18 +27,6 @@ pub no_head : (p j : ℕ) (x : Entry) (log : Log) (line : Numbering) (entries : 
 no_head p j x log line entries numbers same also le =
     (λ h. absurd cc, λ (y, at, mate). absurd (let lt = slice_get_within log.entries (length line.numbers) y at in let le' : length log.entries ≤ length line.numbers = rw (same, also) at le in omega arith))
 
-set_same : {A : Type 0} (xs : List A) (k : ℕ) (v : A) → k < length xs → slice_get (set xs k v) k ≡ Some v
-set_same [] k v lt = absurd (omega arith)
-set_same (x ∷ xs) zero v lt = refl
-set_same (x ∷ xs) (suc k) v lt = set_same xs k v (omega arith)
-
-set_other : {A : Type 0} (xs : List A) (k i : ℕ) (v : A) → i ≢ k → slice_get (set xs k v) i ≡ slice_get xs i
-set_other [] k i v other = refl
-set_other (x ∷ xs) zero zero v other = absurd (other refl)
-set_other (x ∷ xs) zero (suc i) v other = refl
-set_other (x ∷ xs) (suc k) zero v other = refl
-set_other (x ∷ xs) (suc k) (suc i) v other = set_other xs k i v (λ h. other (omega (arith, h)))
-
 -- only the line at k changed
 pub record Changes (old new : List Numbering) (k : ℕ) (line : Numbering) : Type 0 where
   pub count : length new ≡ length old
@@ -47,7 +36,7 @@ pub record Changes (old new : List Numbering) (k : ℕ) (line : Numbering) : Typ
 pub set_changes : (old new : List Numbering) (k : ℕ) (line : Numbering) → k < length old → new ≡ set old k line → Changes old new k line
 set_changes old new k line lt is = record {
   count = rw is (length-set old k line);
-  here = rw is (set_same old k line lt);
+  here = rw is (set_here old k line lt);
   others = λ i other. rw is (set_other old k i line other);
 }
 
@@ -74,16 +63,6 @@ given_more run old new next p j x n k log was now up log_at lt was_is changes gi
         let two : a ≡ was = (let h : slice_get old k ≡ Some a = rw same at at_a in cc) in
         let three : b ≡ now = (let h : slice_get next k ≡ Some b = rw same at at_b in let e = changes.here in cc) in
         rw (one, two, three) given
-
-push_same : (xs : List ℕ) (y : ℕ) → slice_get (xs ++ y ∷ []) (length xs) ≡ Some y
-push_same [] y = refl
-push_same (x ∷ xs) y = push_same xs y
-
-push_other : (xs : List ℕ) (y i : ℕ) → i ≢ length xs → slice_get (xs ++ y ∷ []) i ≡ slice_get xs i
-push_other [] y zero other = absurd (other refl)
-push_other [] y (suc i) other = refl
-push_other (x ∷ xs) y zero other = refl
-push_other (x ∷ xs) y (suc i) other = push_other xs y i (λ h. other (omega (arith, h)))
 
 -- the line next to another one
 line_at : (xs ys : List Numbering) (k : ℕ) (x : Numbering) → length xs ≡ length ys → slice_get xs k ≡ Some x → (y : Numbering) × (slice_get ys k ≡ Some y)
@@ -188,8 +167,8 @@ module _ (run : List Log) (old new : List Numbering) (p j : ℕ) (x : Entry) (n 
         | inr rest ↦ elim rest [
           | inl gt ↦ inr (out i at_i (λ h. omega (arith, h)), kept i at_i new_is (λ h. omega (arith, h)))
           | inr eq ↦ inl (
-            rw (same_place_of e q i same at_i, eq) (mate_class run p j q (length was.numbers) x y at y_at (rw proc at mate)),
-            rw (same, at_i, new_is, eq) (push_same was.numbers n),
+            rw (same_parts e q (suc i) same at_i, eq) (mate_class run p j q (length was.numbers) x y at y_at (rw proc at mate)),
+            rw (same, at_i, new_is, eq) (push_here was.numbers n),
           )
         ]
       ]

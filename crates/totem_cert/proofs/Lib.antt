@@ -1,9 +1,10 @@
+pub mod Lists
 pub mod Classmates
+pub mod Classes
+pub mod FirstPlaces
 pub mod Sound
 pub mod LineFacts
 pub mod LogHeads
-pub mod Given
-pub mod Kept
 pub mod Next
 pub mod GiveSteps
 pub mod Started
@@ -17,10 +18,6 @@ pub mod Least
 pub mod One
 pub mod Closable
 pub mod Excluded
-pub mod KeyOrder
-pub mod Indexed
-pub mod Wanting
-pub mod Picking
 pub mod Noting
 pub mod Turning
 pub mod ClosedOne

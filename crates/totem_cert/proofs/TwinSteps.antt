@@ -14,7 +14,7 @@ use Rattle.totem_evs.proofs.LogOf.{less_or_not}
 use Rattle.totem_cert.specs.Search.{place}
 use Rattle.totem_evs.specs.ClosedLists.{AreTwinDeliveries, HasTwinDeliveries}
 use Rattle.totem_cert.specs.Progress.{NeverDelivers, StandsNext, NoTwinsBefore, BothAre, message_of}
-use Rattle.totem_cert.proofs.LogHeads.{same_place_of}
+use Rattle.totem_cert.proofs.LineFacts.{same_parts}
 use Rattle.totem_cert.proofs.Classmates.{one_message}
 
 somewhere_at : (Step : Place → Place → Type 0) (e : Place) (es : List Place) (z : Place) (i : ℕ) (a b : Place) → slice_get (e ∷ es) i ≡ Some a → (slice_get es i ≡ Some b) ⊎ ((length es ≡ i) × (z ≡ b)) → Step a b → Somewhere Step e es z
@@ -77,7 +77,7 @@ found_message run e (Send m y s) i r is at at_e = rw is tt
 found_message run e (Fail y) i r is at at_e = rw is tt
 found_message run e (Deliver m y) i r is at at_e =
     let here : DeliversAt run (place e.proc i) m = (y, at) in
-    let there : DeliversAt run e m = rw (same_place_of e e.proc i refl at_e) here in
+    let there : DeliversAt run e m = rw (same_parts e e.proc (suc i) refl at_e) here in
     rw is there
 
 pub twins_decided : (run : List Log) (e f : Place) (m n : Option MsgId) (same one r : Bool) → IfSome m (λ k. DeliversAt run e k) → IfNone m (NeverDelivers run e) → IfSome n (λ k. DeliversAt run f k) → IfNone n (NeverDelivers run f)

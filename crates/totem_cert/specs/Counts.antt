@@ -8,7 +8,15 @@ use Rattle.totem_evs.specs.declared.log.Log.{Log}
 use Rattle.totem_evs.specs.Certificates.{Numbering}
 use Rattle.totem_table.specs.declared.table.Table.{Table}
 use Rattle.totem_table.specs.Tables.{IsEntryAt, NamesMessage, NamesConf, number_at}
-use Rattle.totem_cert.specs.Wanted.{given_at}
+
+-- how many numbers the line has, if there is one
+abbrev pub count_of : Option Numbering → ℕ
+count_of (Some line) = length line.numbers
+count_of None = 0
+
+-- how many entries of the k-th log have a number
+abbrev pub given_at : List Numbering → ℕ → ℕ
+given_at lines k = count_of (slice_get lines k)
 
 -- f 0 + .. + f (n - 1)
 abbrev pub sum_to : ℕ → (ℕ → ℕ) → ℕ
@@ -21,6 +29,10 @@ class_in messages (Conf x ms) n = Some (messages + n)
 class_in messages (Send m x s) n = None
 class_in messages (Deliver m x) n = Some n
 class_in messages (Fail x) n = None
+
+-- the class of the entry at i of the log at k
+abbrev pub class_at : Table → ℕ → ℕ → Entry → Option ℕ
+class_at table k i entry = class_in (length table.messages.items) entry (number_at table k i)
 
 -- the class that a send feeds
 abbrev pub class_fed : Entry → ℕ → Option ℕ

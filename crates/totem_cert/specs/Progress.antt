@@ -9,6 +9,9 @@ use Rattle.totem_ids.specs.declared.message.MsgId.{MsgId}
 use Rattle.totem_evs.specs.Steps.{DeliversAt}
 use Rattle.totem_evs.specs.Certificates.{Numbering, number_at, numbers_of}
 use Rattle.totem_cert.specs.Search.{place}
+use Rattle.totem_table.specs.declared.table.Table.{Table}
+use Rattle.totem_table.specs.Tables.{IsEntryAt}
+use Rattle.totem_cert.specs.Counts.{class_at}
 use Rattle.totem_evs.specs.Classes.{IsAtMost, InClass, WaitsFor, ClassAtMost, AreOfOneClass, AreSendAndDelivery}
 use Rattle.totem_evs.specs.Positions.{IsReadyAt}
 use Rattle.totem_evs.specs.ClosedLists.{Placed, Step, IsStepOf, IsWalk, ComesBack, forward, AreTwinDeliveries}
@@ -135,13 +138,14 @@ pub record IsFirstLeft (run : List Log) (lines : List Numbering) (k : ℕ) : Typ
   pub more : length line.numbers < length log.entries
   pub before : IsFullBefore run lines k
 
--- the event at i of q's log sends the message that the entry x delivers, and has no number
-abbrev pub IsOpenSend : List Log → List Numbering → Entry → ℕ → ℕ → Type 0
-IsOpenSend run lines x q i = (y : Entry) × (slice_get (log_of run q) i ≡ Some y) × AreSendAndDelivery y x × (length (numbers_of lines q) ≤ i)
+-- the log of p is at this index, or p has no log
+abbrev pub IsLogOf : List Log → ℕ → Option ℕ → Type 0
+IsLogOf run p (Some k) = (log : Log) × (slice_get run k ≡ Some log) × (log.proc ≡ p)
+IsLogOf run p None = (k : ℕ) (log : Log) → slice_get run k ≡ Some log → log.proc ≡ p → ⊥
 
--- the event at i of q's log is in the class of the entry x at j of p's log; the class waits for a send or the entry before has no number
-abbrev pub IsHeldMate : List Log → List Numbering → ℕ → ℕ → Entry → Bool → ℕ → ℕ → Type 0
-IsHeldMate run lines p j x waits q i = (y : Entry) × (slice_get (log_of run q) i ≡ Some y) × IsMate p j x q i y × (IsTrue waits ⊎ (length (numbers_of lines q) < i))
+-- if e is an event, this is its class
+pub record IsClassOf (run : List Log) (table : Table) (e : Place) (class : Option ℕ) : Type 0 where
+  pub each : (k i : ℕ) (entry : Entry) (at : IsEntryAt run k i entry) → e ≡ place at.log.proc i → class ≡ class_at table k i entry
 
 -- from holds `to` up: it is the entry before, if that has no number, otherwise the send
 abbrev pub IsHeldBy : List Numbering → Option Place → Place → Place → Type 0

@@ -9,14 +9,13 @@ ghost use Rattle.totem_cert.specs.Counts.{Counts, Tells};
 ghost use Rattle.totem_cert.specs.Progress.{Fits, IsNext, IsNextHead, IsReady, IsSound, NoneReady, Gives, Sound, entries_left};
 
 use crate::counts::{class_in, count_all, none_keeps, number_head};
-use crate::key::Key;
 use crate::mates::is_head_mate;
 use crate::numbering::started;
 use std::alloc::{AllocError, Global};
 use totem_certificate::OpenLine;
 use totem_evs::{Entry, Log, Run};
 use totem_ids::Proc;
-use totem_table::{Table, numbers_tell_confs, numbers_tell_messages};
+use totem_table::Table;
 
 /// Returns whether a log has a head, which is its first entry without a number, and the head's class is ready.
 fn is_head_ready(
@@ -120,9 +119,10 @@ fn give_class(
     ensures left { OnOk result (entries_left run.now.logs lines.new.items < entries_left run.now.logs lines.old.items) }
     ensures counts { OnOk result (Counts run.now.logs table.now lines.new.items counts.new) }
 {
-    match Key::of_class(entry) {
-        None => number_head(run, table, lines, counts, k, log, number),
-        Some(_) => give_mates(run, table, lines, counts, log.proc, at, entry, number),
+    if entry.is_of_class_of(entry) {
+        give_mates(run, table, lines, counts, log.proc, at, entry, number)
+    } else {
+        number_head(run, table, lines, counts, k, log, number)
     }
 }
 
@@ -159,12 +159,11 @@ pub fn number_by_counts(
     run: &Run,
     table: &Table,
 ) -> Result<Vec<OpenLine>, AllocError>
-    requires { IsTable run.now.logs table.now }
+    requires table { IsTable run.now.logs table.now }
+    requires tells { Tells run.now.logs table.now }
     ensures sound { IfOk result (λ lines. IsSound run.now.logs lines.items) }
     ensures none { IfOk result (λ lines. NoneReady run.now.logs lines.items) }
 {
-    numbers_tell_messages(run, table);
-    numbers_tell_confs(run, table);
     let mut lines = started(alloc, run.logs.as_slice())?;
     let mut counts = count_all(alloc, run, table)?;
     let mut number = 0;

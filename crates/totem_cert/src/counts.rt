@@ -11,7 +11,7 @@ use totem_evs::{Entry, Log, Run};
 use totem_table::Table;
 
 /// Returns the class that a send feeds, or `None` for any other entry.
-fn class_fed(entry: &Entry, number: u32) -> Option<usize>
+pub fn class_fed(entry: &Entry, number: u32) -> Option<usize>
     ensures { result ≡ class_fed entry.now number }
 {
     match entry {

@@ -1,9 +1,10 @@
 use Rattle.std.proofs.Common.{length, ap, sym, ◌∙◌, arith}
 use Rattle.totem_evs.specs.LogRecord.{LogRecord}
 use Rattle.totem_table.specs.Tables.{IsEntryAt}
-use Rattle.totem_cert.proofs.Kept.{head_entry}
+use Rattle.totem_cert.proofs.LineFacts.{head_entry}
 use Rattle.totem_cert.proofs.CountSteps.{table_row, class_as}
-use Rattle.totem_cert.proofs.Countable.{class_within, ready_counted, alone_counted}
+use Rattle.totem_cert.proofs.Classes.{class_within}
+use Rattle.totem_cert.proofs.Countable.{ready_counted, alone_counted}
 use Rattle.totem_cert.proofs.counted.is_head_ready.Goals as goal
 
 pub bounds-row-head : goal.bounds-row-head
@@ -21,7 +22,7 @@ none_keeps-requires c =
     let at = head_entry c.args.run.now.logs c.args.log.now c.args.line.now _ _ _ c.requires.log entries c.numbers-head.ensures c.if-entries-head.false c.index-entries-head.is in
     let here : IsEntryAt c.args.run.now.logs c.args.k (length c.args.line.now.numbers) c.index-entries-head.result = record { log = c.args.log.now; is_log = c.requires.stands; is_entry = rw c.requires.log at at } in
     let is = class_as _ _ _ _ _ _ _ _ (c.len.ensures ∙ c.args.table.now.messages.ok.0) row.0 (ap length c.numbers-head.ensures) c.class_in.ensures in
-    let within = class_within c.args.run.now.logs c.args.table.now c.requires.table c.requires.tells c.args.k _ c.in-Some.class c.index-entries-head.result here (sym is ∙ c.in-Some.is) in
+    let within = class_within c.args.run.now.logs c.args.table.now c.requires.table c.args.k _ c.in-Some.class c.index-entries-head.result here (sym is ∙ c.in-Some.is) in
     let long = c.requires.counts.long in
     omega arith
 
@@ -38,6 +39,6 @@ returns-in-Some c =
     let at = head_entry c.args.run.now.logs c.args.log.now c.args.line.now _ _ _ c.requires.log entries c.numbers-head.ensures c.if-entries-head.false c.index-entries-head.is in
     let here : IsEntryAt c.args.run.now.logs c.args.k (length c.args.line.now.numbers) c.index-entries-head.result = record { log = c.args.log.now; is_log = c.requires.stands; is_entry = rw c.requires.log at at } in
     let is = class_as _ _ _ _ _ _ _ _ (c.len.ensures ∙ c.args.table.now.messages.ok.0) row.0 (ap length c.numbers-head.ensures) c.class_in.ensures in
-    let within = class_within c.args.run.now.logs c.args.table.now c.requires.table c.requires.tells c.args.k _ c.in-Some.class c.index-entries-head.result here (sym is ∙ c.in-Some.is) in
+    let within = class_within c.args.run.now.logs c.args.table.now c.requires.table c.args.k _ c.in-Some.class c.index-entries-head.result here (sym is ∙ c.in-Some.is) in
     ready_counted c.args.run.now.logs c.args.table.now c.requires.table c.requires.tells c.args.lines.now c.requires.run.rising c.requires.fits _ _ c.args.k c.index-entries-head.result here at (ap length c.requires.line)
     c.in-Some.class (sym is ∙ c.in-Some.is) c.args.counts.now c.none_keeps.result c.requires.counts (let long = c.requires.counts.long in omega arith) c.none_keeps.ensures
