@@ -12,6 +12,7 @@ use Rattle.totem_evs.specs.ClosedLists.{Step}
 use Rattle.totem_evs.specs.Classes.{InClass}
 use Rattle.totem_evs.specs.ClosedLists.{HoldsUp, same_place, unless, forward, AreTwinDeliveries, IsBrokenBy, IsClosedList}
 use Rattle.totem_cert.proofs.Classmates.{class_sym, event_of}
+use Rattle.totem_cert.proofs.LineFacts.{same_parts}
 use Rattle.totem_cert.proofs.Walking.{step_in}
 
 -- steps along a list, and from its last event to z
@@ -43,7 +44,7 @@ some_right : (Leads : Place → Place → Type 0) (x : Place) (xs ys : List Plac
 some_right Leads x [] ys y z h = inr h
 some_right Leads x (w ∷ xs) ys y z h = inr (some_right Leads w xs ys y z h)
 
-append_nil : (xs : List Place) → xs ++ [] ≡ xs
+pub append_nil : (xs : List Place) → xs ++ [] ≡ xs
 append_nil [] = refl
 append_nil (x ∷ xs) = ap (λ (ys : List Place). x ∷ ys) (append_nil xs)
 
@@ -77,7 +78,7 @@ pub same_is : (e f : Place) → same_place e f ≡ true → e ≡ f
 same_is e f h =
     let p : e.proc ≡ f.proc = grind arith in
     let a : e.at ≡ f.at = grind arith in
-    ap (λ (r : ℕ). let g : Place = record { proc = r; at = e.at } in g) p ∙ ap (λ (i : ℕ). let g : Place = record { proc = f.proc; at = i } in g) a
+    same_parts e f.proc f.at p a
 
 pub not_same : (e f : Place) → same_place e f ≡ false → e ≢ f
 not_same e f h same =

@@ -3,8 +3,8 @@ use Rattle.std.proofs.Common.{◌≡◌, ◌≢◌, ℕ, ◌+◌, ◌<◌, ◌�
 use Rattle.std.specs.Prelude.{if◌then◌else◌, nat_le, nat_lt}
 use Rattle.std.proofs.Math.Dec.{leb, ltb}
 use Rattle.std.proofs.lemmas.Bool.{leb-true, ltb-true}
-use Rattle.std.proofs.lemmas.Option.{slice_get_within, slice_get-get_or, slice_get_past, get_or_from_slice_get}
-use Rattle.std.proofs.lemmas.List.{length-set, length-replicate, get_or-replicate, replicate-append-replicate}
+use Rattle.std.proofs.lemmas.Option.{slice_get_within, slice_get-get_or, get_or_from_slice_get}
+use Rattle.std.proofs.lemmas.List.{length-set, get_or-replicate, replicate-append-replicate}
 use Rattle.totem_ids.specs.declared.place.Place.{Place}
 use Rattle.totem_evs.specs.declared.entry.Entry.{Entry}
 use Rattle.totem_evs.specs.declared.log.Log.{Log}
@@ -14,7 +14,7 @@ use Rattle.totem_table.specs.Tables.{IsEntryAt, number_at}
 use Rattle.totem_cert.specs.declared.firsts.Wanted.{Wanted}
 use Rattle.totem_cert.specs.Search.{place}
 use Rattle.totem_cert.specs.Counts.{given_at}
-use Rattle.totem_cert.specs.Firsts.{class_wanted, IsWanted, IsFirst, IsPast, AreFirsts, AreFirstsTo, Notes}
+use Rattle.totem_cert.specs.Firsts.{class_wanted, IsWanted, IsPast, AreFirsts, AreFirstsTo, Notes}
 use Rattle.totem_cert.proofs.Lists.{set_here, set_other, same_or_not}
 
 pub notes_first : (old : List (Option Place)) (class : ℕ) (e : Place) → class < length old → get_or old class None ≡ None → Notes old (set old class (Some e)) (Some class) e

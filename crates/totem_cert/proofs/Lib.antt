@@ -6,7 +6,6 @@ pub mod Sound
 pub mod LineFacts
 pub mod LogHeads
 pub mod Next
-pub mod GiveSteps
 pub mod Started
 pub mod Full
 pub mod Stepping
@@ -25,4 +24,5 @@ pub mod Sums
 pub mod CountSteps
 pub mod Countable
 pub mod CountingOne
-pub mod Alone
+pub mod ClassHeads
+pub mod Giving

@@ -99,11 +99,6 @@ read_both run items lines k log line fits same lt log_is line_is = (
   slice_get_read lines _ k line refl (let h : k < length run = rw same at lt in let c = fits.count in omega arith) line_is,
 )
 
--- the head of a log, as the code reads it
-pub head_entry : (run : List Log) (log : Log) (line : Numbering) (entries : List Entry) (numbers : List ℕ) (x : Entry) → log_of run log.proc ≡ log.entries → entries ≡ log.entries → numbers ≡ line.numbers
-    → length numbers < length entries → x ≡ get_or entries (length numbers) x → slice_get (log_of run log.proc) (length line.numbers) ≡ Some x
-head_entry run log line entries numbers x log_is entries_is numbers_is lt is = rw (log_is, ← entries_is, ← numbers_is) (slice_get_read entries (length entries) (length numbers) x refl lt is)
-
 -- the numbers of a log, by its index in the run
 pub given_is : (run : List Log) (lines : List Numbering) (k q : ℕ) (log : Log) (line : Numbering) → Stands run lines q k log line → given_at lines k ≡ length (numbers_of lines q)
 given_is run lines k q log line s = ap count_of s.line_at ∙ ap length (sym s.line_is)
@@ -158,10 +153,14 @@ no_entry run p i none = elim (log_of_cases run p) [ inl is ↦ rw is refl | inr 
 pub no_numbers : (run : List Log) (lines : List Numbering) (p : ℕ) → Fits run lines → IsLogOf run p None → 0 ≡ length (numbers_of lines p)
 no_numbers run lines p fits none = elim (where_is run lines p fits) [ inl (_, nothing) ↦ sym (ap length nothing) | inr (k, log, line, s) ↦ absurd (none k log s.log_at s.proc) ]
 
+-- what the code reads at the index of a log
+pub read_at : (run items : List Log) (k : ℕ) (found log : Log) → items ≡ run → slice_get run k ≡ Some found → log ≡ get_or items k log → slice_get run k ≡ Some log
+read_at run items k found log same at is = rw same at (slice_get_read items _ k log refl (rw same (slice_get_within run k found at)) is)
+
 -- what the code reads at the index of p's log
 pub read_log : (run items : List Log) (p k : ℕ) (log : Log) → IsLogOf run p (Some k) → items ≡ run → log ≡ get_or items k log → (slice_get run k ≡ Some log) × (log.proc ≡ p)
 read_log run items p k log (found, at, proc) same is =
-    let h : slice_get run k ≡ Some log = rw same at (slice_get_read items _ k log refl (rw same (slice_get_within run k found at)) is) in
+    let h : slice_get run k ≡ Some log = read_at run items k found log same at is in
     let one : found ≡ log = cc in
     (h, rw one at proc)
 

@@ -1,5 +1,5 @@
 -- Lists by index.
-use Rattle.std.proofs.Common.{◌≡◌, ◌≢◌, ℕ, zero, suc, ◌+◌, ◌<◌, ◌⊎◌, inl, inr, List, [], ◌∷◌, ◌++◌, length, set, slice_get, Some, refl, arith}
+use Rattle.std.proofs.Common.{◌≡◌, ◌≢◌, ℕ, zero, suc, ◌<◌, ◌⊎◌, inl, inr, List, [], ◌∷◌, ◌++◌, length, set, slice_get, Some, refl, arith}
 use Rattle.totem_evs.proofs.LogOf.{less_or_not}
 
 pub same_or_not : (a b : ℕ) → (a ≡ b) ⊎ (a ≢ b)
@@ -41,3 +41,13 @@ push_other [] y zero other = absurd (other refl)
 push_other [] y (suc i) other = refl
 push_other (x ∷ xs) y zero other = refl
 push_other (x ∷ xs) y (suc i) other = push_other xs y i (λ h. other (omega (arith, h)))
+
+pub push_cases : {A : Type 0} (xs : List A) (y z : A) (i : ℕ) → slice_get (xs ++ y ∷ []) i ≡ Some z → ((i < length xs) × (slice_get xs i ≡ Some z)) ⊎ ((i ≡ length xs) × (y ≡ z))
+push_cases [] y z zero h = inr (refl, cc)
+push_cases [] y z (suc i) h = absurd cc
+push_cases (x ∷ xs) y z zero h = inl (omega arith, h)
+push_cases (x ∷ xs) y z (suc i) h = elim (push_cases xs y z i h) [ inl (lt, at) ↦ inl (omega arith, at) | inr (e, same) ↦ inr (omega arith, same) ]
+
+pub last_at : {A : Type 0} (x : A) (xs : List A) → (v : A) × (slice_get (x ∷ xs) (length xs) ≡ Some v)
+last_at x [] = (x, refl)
+last_at x (y ∷ ys) = last_at y ys

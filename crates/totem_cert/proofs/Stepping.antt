@@ -26,11 +26,12 @@ use Rattle.totem_cert.specs.Firsts.{IsWanted, AreFirsts, AreFirstsOf}
 use Rattle.totem_cert.specs.Progress.{IsNumbered, IsSound, NoneReady, IsMate, IsClassOf, IsHeldBy}
 use Rattle.totem_cert.proofs.Lists.{previous}
 use Rattle.totem_cert.proofs.Classmates.{class_sym, event_of}
-use Rattle.totem_cert.proofs.Classes.{class_within, alone_alike, alike_itself, same_in, in_same, feeds_in, in_feeds}
+use Rattle.totem_cert.proofs.ClassHeads.{alone_itself, in_class, class_in}
+use Rattle.totem_cert.proofs.Classes.{class_within, feeds_in, in_feeds}
 use Rattle.totem_cert.proofs.Countable.{alone_counted}
 use Rattle.totem_cert.proofs.FirstPlaces.{le_parts, lt_parts, unwanted}
 use Rattle.totem_cert.proofs.LineFacts.{same_parts, unnumbered_past, past_unnumbered, given_of, log_index, event_at, entry_event, at_most}
-use Rattle.totem_cert.proofs.LogHeads.{mate_class, class_mate, class_alike, feeds_send, send_feeds, class_delivers, nothing_keeps, option_cases}
+use Rattle.totem_cert.proofs.LogHeads.{mate_class, feeds_send, send_feeds, class_delivers, nothing_keeps, option_cases}
 
 strict_event : (run : List Log) (e f : Place) → Strict run e f → IsEvent run e
 strict_event run e f (inl (is_e, is_f, before)) = is_e
@@ -85,9 +86,6 @@ module _ (run : List Log) (table : Table) (lines : List Numbering) (rising : Ris
 
   -- an event that is left, with its class c
   module _ (k i : ℕ) (x : Entry) (a : IsEntryAt run k i x) (left : IsLeft run (place a.log.proc i)) (c : ℕ) (in_c : class_at table k i x ≡ Some c) where
-    in_class : (l j : ℕ) (y : Entry) (b : IsEntryAt run l j y) → class_at table l j y ≡ Some c → InClass run (place a.log.proc i) (place b.log.proc j)
-    in_class l j y b is = mate_class run a.log.proc i b.log.proc j x y (entry_event run k i x rising a) (entry_event run l j y rising b) (inr (in_same run table is_table tells k i l j c x y a b in_c is))
-
     mate_left : (e : Place) → InClass run (place a.log.proc i) e → IsLeft run e
     mate_left e shares = unnumbered_left run lines sound none e (event_of run (place a.log.proc i) e shares) (elim (option_cases (number_at lines e)) [
       | inl is ↦ is
@@ -112,16 +110,10 @@ module _ (run : List Log) (table : Table) (lines : List Numbering) (rising : Ris
             entry = mate.event.0;
             at = b;
             is = is;
-            class = alike l j mate.event.0 b (class_mate run a.log.proc i b.log.proc j x mate.event.0 (entry_event run k i x rising a) (entry_event run l j mate.event.0 rising b) (rw is at shares));
+            class = class_in run table rising is_table k i x a tells c in_c l j mate.event.0 b (rw is at shares);
             past = left_given l j mate.event.0 b (rw is at mate);
           },
         )
-      where
-        alike : (l j : ℕ) (y : Entry) (b : IsEntryAt run l j y) → IsMate a.log.proc i x b.log.proc j y → class_at table l j y ≡ Some c
-        alike l j y b (inr same) = same_in run table is_table tells k i l j c x y a b in_c same
-        alike l j y b (inl (same, also)) =
-            let one : y ≡ x = (let p : slice_get (log_of run a.log.proc) i ≡ Some y = rw (same, also) (entry_event run l j y rising b) in let q = entry_event run k i x rising a in cc) in
-            same_in run table is_table tells k i l j c x y a b in_c (rw one (alike_itself (length table.messages.items) (tables.number_at table k i) c x in_c))
 
     member_wanted : (l j : ℕ) (y : Entry) → IsEntryAt run l j y → class_at table l j y ≡ Some c → given_at lines l ≤ j → IsWanted run table lines Members c l j
     member_wanted l j y b is le = record { entry = y; at = b; class = rw (le-leb (given_at lines l) j le) is }
@@ -192,7 +184,7 @@ module _ (run : List Log) (table : Table) (lines : List Numbering) (rising : Ris
           step : (l j : ℕ) (y : Entry) (b : IsEntryAt run l j y) → class_at table l j y ≡ Some c → given_at lines l ≤ j → to ≡ place b.log.proc j → (send ≡ None → given_at lines l < j)
               → ((m n : ℕ) (e : Place) → IsMateAt e m n → (send ≡ None → given_at lines m < n) → (l < m) ⊎ ((l ≡ m) × (j ≤ n))) → IsStepOf run (place a.log.proc i) v
           step l j y b class past at follows least = rw same_step (record {
-            shares = in_class l j y b class;
+            shares = in_class run table rising is_table k i x a tells c in_c l j y b class;
             holds = holds (rw at at by);
             least = λ f e shares h. (let (m, n, mate, others) = held_at f e shares h in rw mate.is (at_most run l j m n y mate.entry rising b mate.at (least m n e mate others)));
           })
@@ -218,7 +210,7 @@ module _ (run : List Log) (table : Table) (lines : List Numbering) (rising : Ris
                       let from_is : v.from ≡ place first.is_wanted.at.log.proc first.i = from ∙ ap (λ (o : Option Place). unwrap_or o (place b.log.proc j)) some ∙ first.is in
                       rw from_is (record {
                         message = m;
-                        delivers = class_delivers run (place b.log.proc j) (place a.log.proc i) m (class_sym run (place a.log.proc i) (place b.log.proc j) (in_class l j y b class)) delivers;
+                        delivers = class_delivers run (place b.log.proc j) (place a.log.proc i) m (class_sym run (place a.log.proc i) (place b.log.proc j) (in_class run table rising is_table k i x a tells c in_c l j y b class)) delivers;
                         send = sends_m;
                         least = λ g is_send. (let (p, q, w, g_is) = left_send g m is_send delivers in
                             rw g_is (at_most run first.k first.i p q first.is_wanted.entry w.entry rising first.is_wanted.at w.at (first.first p q w)));
@@ -244,26 +236,17 @@ module _ (run : List Log) (table : Table) (lines : List Numbering) (rising : Ris
   alone_step k i x a left alone v to_is by = rw same_step (record {
     shares = inl (left.event, refl);
     holds = inl (holds by);
-    least = λ f e shares h. (let same = itself e shares in inr (ap (λ (e : Place). e.proc) same, (let h' : suc i ≡ e.at = ap (λ (e : Place). e.at) same in omega arith)));
+    least = λ f e shares h. (let same = alone_itself run table rising is_table k i x a e alone shares in inr (ap (λ (e : Place). e.proc) same, (let h' : suc i ≡ e.at = ap (λ (e : Place). e.at) same in omega arith)));
   })
     where
       given : given_at lines k ≡ length (numbers_of lines a.log.proc)
       given = given_of run lines k a.log rising sound.fits a.is_log
 
-      at : slice_get (log_of run a.log.proc) i ≡ Some x
-      at = entry_event run k i x rising a
-
       same_step : v ≡ record { from = v.from; to = place a.log.proc i }
       same_step = ap (λ (t : Place). let u : Step = record { from = v.from; to = t } in u) to_is
 
-      itself : (e : Place) → InClass run (place a.log.proc i) e → place a.log.proc i ≡ e
-      itself e (inl (_, same)) = same
-      itself e (inr same) =
-          let (f, at_f) = event_of run (place a.log.proc i) e (inr same) in
-          absurd (alone_alike (length table.messages.items) (tables.number_at table k i) x f alone (class_alike run (place a.log.proc i) e x f same at at_f))
-
       not_head : length (numbers_of lines a.log.proc) ≡ i → ⊥
-      not_head head = none.none (place a.log.proc i) ((alone_counted run lines a.log.proc i (length table.messages.items) (tables.number_at table k i) x at head alone).0 refl)
+      not_head head = none.none (place a.log.proc i) ((alone_counted run lines a.log.proc i (length table.messages.items) (tables.number_at table k i) x (entry_event run k i x rising a) head alone).0 refl)
 
       holds : IsHeldBy lines None (place a.log.proc i) v.from → IsPrevious run v.from (place a.log.proc i)
       holds (inl (lt, proc, before)) =

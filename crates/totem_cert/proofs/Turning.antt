@@ -12,7 +12,7 @@ use Rattle.totem_cert.specs.Progress.{StandsBefore}
 use Rattle.totem_evs.proofs.LogOf.{less_or_not}
 use Rattle.totem_cert.proofs.Classmates.{class_sym, class_trans, event_of}
 use Rattle.totem_cert.proofs.Walking.{antisym, step_in}
-use Rattle.totem_cert.proofs.Closing.{same_is, not_same}
+use Rattle.totem_cert.proofs.Closing.{append_nil, same_is, not_same}
 use Rattle.totem_cert.proofs.Written.{one_before}
 
 -- e is not in the list
@@ -62,10 +62,6 @@ one_split (y ∷ f) (z ∷ g) b c x d e =
     let rest : f ++ (x ∷ b) ≡ g ++ (x ∷ c) = cc in
     let r = one_split f g b c x d.1 rest in
     (ap (λ w. w ∷ f) one ∙ ap (λ ws. z ∷ ws) r.0, r.1)
-
-append_nil : (xs : List Place) → xs ++ [] ≡ xs
-append_nil [] = refl
-append_nil (x ∷ xs) = ap (λ ys. x ∷ ys) (append_nil xs)
 
 -- a turned list, given its first place
 record Turned (whole turned : List Place) : Type 0 where

@@ -1,49 +1,21 @@
 -- Walks from class to class.
-use Rattle.std.proofs.Common.{◌≡◌, ℕ, zero, suc, ◌+◌, ◌-◌, ◌*◌, ◌<◌, ◌≤◌, ◌⊎◌, inl, inr, List, [], ◌∷◌, ◌++◌, length, map, slice_get, Some, Bool, true, false, refl, sym, ◌∙◌, ap, arith, length-append}
-use Rattle.std.specs.List.{IsDistinct, AllByRecursion, list_any}
-use Rattle.std.proofs.Math.Dec.{eqb}
-use Rattle.std.proofs.lemmas.Option.{slice_get_within, get_or_from_slice_get}
-use Rattle.std.proofs.lemmas.Map.Steps.{length-le_from_distinct_below}
+use Rattle.std.proofs.Common.{◌≡◌, ℕ, zero, suc, ◌+◌, ◌-◌, ◌<◌, ◌⊎◌, inl, inr, List, [], ◌∷◌, ◌++◌, length, slice_get, Some, refl, sym, arith, length-append}
 use Rattle.totem_ids.specs.declared.place.Place.{Place}
-use Rattle.totem_evs.specs.declared.entry.Entry.{Entry}
 use Rattle.totem_evs.specs.declared.log.Log.{Log}
-use Rattle.totem_evs.specs.Runs.{IsRun, IsLog}
-use Rattle.totem_evs.specs.Events.{log_of, IsEvent}
 use Rattle.totem_evs.specs.Classes.{IsAtMost}
-use Rattle.totem_evs.proofs.LogOf.{log_of_cases}
 use Rattle.totem_evs.specs.ClosedLists.{Step}
-use Rattle.totem_cert.specs.Search.{place}
 use Rattle.totem_evs.specs.Classes.{InClass}
 use Rattle.totem_evs.specs.ClosedLists.{IsLeft, HoldsUp, IsStepOf, IsWalk}
 use Rattle.totem_cert.specs.Progress.{IsVisitedAt, IsNotVisited, IsWalking, IsRound}
-use Rattle.totem_cert.proofs.Classmates.{class_sym, class_trans, event_of}
-use Rattle.totem_cert.proofs.LineFacts.{index_of}
-
-pub push_at : {A : Type 0} (xs : List A) (y : A) (i : ℕ) → i ≡ length xs → slice_get (xs ++ y ∷ []) i ≡ Some y
-push_at [] y zero h = refl
-push_at [] y (suc i) h = absurd (omega arith)
-push_at (x ∷ xs) y zero h = absurd (omega arith)
-push_at (x ∷ xs) y (suc i) h = push_at xs y i (omega arith)
-
-pub push_below : {A : Type 0} (xs : List A) (y : A) (i : ℕ) → i < length xs → slice_get (xs ++ y ∷ []) i ≡ slice_get xs i
-push_below [] y i lt = absurd (omega arith)
-push_below (x ∷ xs) y zero lt = refl
-push_below (x ∷ xs) y (suc i) lt = push_below xs y i (omega arith)
-
--- the elements of a list with one more at the end
-pub push_cases : {A : Type 0} (xs : List A) (y z : A) (i : ℕ) → slice_get (xs ++ y ∷ []) i ≡ Some z → ((i < length xs) × (slice_get xs i ≡ Some z)) ⊎ ((i ≡ length xs) × (y ≡ z))
-push_cases [] y z zero h = inr (refl, cc)
-push_cases [] y z (suc i) h = absurd cc
-push_cases (x ∷ xs) y z zero h = inl (omega arith, h)
-push_cases (x ∷ xs) y z (suc i) h = elim (push_cases xs y z i h) [ inl (lt, at) ↦ inl (omega arith, at) | inr (e, same) ↦ inr (omega arith, same) ]
+use Rattle.totem_cert.proofs.Classmates.{class_sym, class_trans}
+use Rattle.totem_cert.proofs.LineFacts.{same_parts}
+use Rattle.totem_cert.proofs.Lists.{previous, last_at, push_cases}
 
 pub antisym : (e f : Place) → IsAtMost e f → IsAtMost f e → e ≡ f
 antisym e f (inl a) (inl b) = absurd (omega arith)
 antisym e f (inl a) (inr (p, b)) = absurd (omega arith)
 antisym e f (inr (p, a)) (inl b) = absurd (omega arith)
-antisym e f (inr (p, a)) (inr (q, b)) =
-    let at : e.at ≡ f.at = omega arith in
-    ap (λ (r : ℕ). let g : Place = record { proc = r; at = e.at } in g) p ∙ ap (λ (i : ℕ). let g : Place = record { proc = f.proc; at = i } in g) at
+antisym e f (inr (p, a)) (inr (q, b)) = same_parts e f.proc f.at p (omega arith)
 
 pub left_from : (run : List Log) (k : Place) (v : Step) → IsStepOf run k v → IsLeft run v.from
 left_from run k v step = go step.holds
@@ -63,20 +35,11 @@ one_step run k l v w a b same =
 pub step_in : (run : List Log) (start : Place) (steps : List Step) (i : ℕ) (v : Step) → IsWalk run start steps → slice_get steps i ≡ Some v → (k : Place) × IsStepOf run k v
 step_in run start steps zero v walk at = (start, walk.first v at)
 step_in run start steps (suc i) v walk at =
-    let u = before steps i v at in (u.0.from, walk.next i u.0 v u.1 (let h : i + 1 ≡ suc i = omega arith in rw h at))
-  where
-    before : (xs : List Step) (i : ℕ) (y : Step) → slice_get xs (suc i) ≡ Some y → (x : Step) × (slice_get xs i ≡ Some x)
-    before [] i y h = absurd cc
-    before (x ∷ xs) zero y h = (x, refl)
-    before (x ∷ xs) (suc i) y h = before xs i y h
+    let u = previous steps i v at in (u.0.from, walk.next i u.0 v u.1 (let h : i + 1 ≡ suc i = omega arith in rw h at))
 
 next_step : (run : List Log) (start : Place) (steps : List Step) (next : Step) → IsWalking run start steps next → (k : Place) × IsStepOf run k next
 next_step run start [] next walking = (start, walking.first refl)
-next_step run start (x ∷ xs) next walking = let l = last x xs in (l.0.from, walking.later (length xs) l.0 l.1 (omega arith))
-  where
-    last : (x : Step) (xs : List Step) → (v : Step) × (slice_get (x ∷ xs) (length xs) ≡ Some v)
-    last x [] = (x, refl)
-    last x (y ∷ ys) = last y ys
+next_step run start (x ∷ xs) next walking = let l = last_at x xs in (l.0.from, walking.later (length xs) l.0 l.1 (omega arith))
 
 pub walking_yet : (run : List Log) (start : Place) (steps : List Step) (next : Step) → steps ≡ [] → IsStepOf run start next → IsWalking run start steps next
 walking_yet run start steps next is step = rw is (record {
@@ -134,7 +97,7 @@ module _ (run : List Log) (start : Place) (steps : List Step) (next : Step) (wal
 pub round : (run : List Log) (start : Place) (steps : List Step) (next : Step) (again : ℕ) → IsWalking run start steps next → IsVisitedAt steps next.to again → IsRound run start steps again
 round run start [] next again walking at = absurd (let h = at.at in cc)
 round run start (x ∷ xs) next again walking at =
-    let l = last x xs in
+    let l = last_at x xs in
     let step = walking.later (length xs) l.0 l.1 (omega arith) in
     let e : length (x ∷ xs) - 1 ≡ length xs = omega arith in
     record {
@@ -147,7 +110,3 @@ round run start (x ∷ xs) next again walking at =
         comes_back = rw at.same (class_sym run l.0.from next.to step.shares);
       };
     }
-  where
-    last : (x : Step) (xs : List Step) → (v : Step) × (slice_get (x ∷ xs) (length xs) ≡ Some v)
-    last x [] = (x, refl)
-    last x (y ∷ ys) = last y ys

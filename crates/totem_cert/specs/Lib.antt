@@ -5,3 +5,4 @@ pub mod Visited
 pub mod Laws
 pub mod Counts
 pub mod Firsts
+pub mod Heads

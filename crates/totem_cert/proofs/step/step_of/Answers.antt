@@ -1,4 +1,4 @@
-use Rattle.std.proofs.Common.{vec_len, length, ◌≡◌, ◌<◌, ◌∙◌, sym, arith}
+use Rattle.std.proofs.Common.{sym, arith}
 use Rattle.totem_cert.proofs.Stepping.{class_small, step_alone, step_none, step_held}
 use Rattle.totem_cert.proofs.step.step_of.Goals as goal
 

@@ -1,4 +1,4 @@
-use Rattle.std.proofs.Common.{◌≡◌, ◌+◌, ◌<◌, ◌-◌, length, arith, length-append, ap, sym, ◌∙◌}
+use Rattle.std.proofs.Common.{ap, sym, ◌∙◌}
 use Rattle.totem_evs.specs.ClosedLists.{Step}
 use Rattle.totem_cert.proofs.Walking.{round, left_next, walking_more, walking_yet}
 use Rattle.totem_cert.proofs.Noting.{noted_yet, not_visited, noted_more}
