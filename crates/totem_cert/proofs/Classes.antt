@@ -21,11 +21,6 @@ pub alone_fed : (m n : ℕ) (y x : Entry) → class_in m x n ≡ None → AreSen
 alone_fed m n (Send o c s) (Deliver p d) none same = cc
 alone_fed m n y x none same = same
 
-pub alike_twice : (x y : Entry) → AreOfOneClass x y → AreOfOneClass x x
-alike_twice (Conf x ms) y same = refl
-alike_twice (Deliver m x) y same = refl
-alike_twice x y same = same
-
 pub alike_itself : (m n c : ℕ) (x : Entry) → class_in m x n ≡ Some c → AreOfOneClass x x
 alike_itself m n c (Conf x ms) is = refl
 alike_itself m n c (Deliver o x) is = refl

@@ -8,9 +8,8 @@ use Rattle.totem_evs.specs.Events.{IsEvent}
 use Rattle.totem_evs.specs.Steps.{Strict}
 use Rattle.totem_evs.specs.Places.{Chain, Somewhere, IsClosed, IsStep, IsOrderStep}
 use Rattle.totem_evs.specs.Faults.{Breaks}
-use Rattle.totem_evs.specs.ClosedLists.{Step}
+use Rattle.totem_evs.specs.ClosedLists.{Step, HoldsUp, same_place, unless, forward, AreTwinDeliveries, IsBrokenBy, IsClosedList}
 use Rattle.totem_evs.specs.Classes.{InClass}
-use Rattle.totem_evs.specs.ClosedLists.{HoldsUp, same_place, unless, forward, AreTwinDeliveries, IsBrokenBy, IsClosedList}
 use Rattle.totem_cert.proofs.Classmates.{class_sym, event_of}
 use Rattle.totem_cert.proofs.LineFacts.{same_parts}
 use Rattle.totem_cert.proofs.Walking.{step_in}

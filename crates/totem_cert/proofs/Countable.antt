@@ -2,6 +2,7 @@
 use Rattle.std.proofs.Common.{◌≡◌, ℕ, zero, suc, ◌+◌, ◌<◌, ◌≤◌, ◌⊎◌, inl, inr, List, [], ◌∷◌, length, get_or, slice_get, Option, Some, None, Bool, true, false, IsTrue, ◌↔◌, refl, sym, ◌∙◌, ap, arith, rules}
 use Rattle.std.specs.Prelude.{◌==◌}
 use Rattle.std.proofs.lemmas.Option.{slice_get_within, slice_get_cases}
+use Rattle.totem_ids.specs.declared.place.Place.{Place}
 use Rattle.totem_evs.specs.declared.entry.Entry.{Entry}
 use Rattle.totem_evs.specs.declared.entry.Entry.TheVariants.{Conf, Send, Deliver, Fail}
 use Rattle.totem_evs.specs.declared.log.Log.{Log}
@@ -14,7 +15,7 @@ use Rattle.totem_cert.specs.Search.{place, NoneOf}
 use Rattle.totem_evs.specs.Classes.{AreOfOneClass, AreSendAndDelivery}
 use Rattle.totem_cert.specs.Progress.{Fits, IsReady, IsMate, KeepsBack}
 use Rattle.totem_cert.specs.Counts.{given_at, class_in, class_fed, class_named, one, kept_behind, kept_in, kept_at, kept_by, Counts, Tells}
-use Rattle.totem_cert.proofs.LineFacts.{Stands, where_is, stands_in, given_is}
+use Rattle.totem_cert.proofs.LineFacts.{stands_in, given_is, given_of, event_at}
 use Rattle.totem_cert.proofs.LogHeads.{nothing_keeps, something_keeps}
 use Rattle.totem_cert.proofs.Classes.{alone_alike, alone_fed, same_in, in_same, feeds_in, in_feeds}
 use Rattle.totem_cert.proofs.Sums.{sum_zero, sum_some, zero_or}
@@ -107,28 +108,20 @@ module _ (run : List Log) (table : Table) (is : IsTable run table) (tells : Tell
     not_itself q i same also lt = let h : length (numbers_of lines p) ≡ length (numbers_of lines q) = ap (λ (r : ℕ). length (numbers_of lines r)) same in omega arith
 
     none_back : kept_by run table lines c ≡ 0 → NoneOf run (KeepsBack run lines p j x)
-    none_back none = record { none = λ q i within (y, at_y, k). go q i y at_y k (where_is run lines q fits) }
+    none_back none = record { none = λ q i within (y, at_y, keeps). keeps_not q i y at_y keeps }
       where
-        mate : (q i k : ℕ) (log : Log) (line : Numbering) (y : Entry) → Stands run lines q k log line → slice_get (log_of run q) i ≡ Some y → AreOfOneClass x y → length (numbers_of lines q) < i → ⊥
-        mate q i k log line y s at_y alike lt =
-            let y_at : slice_get log.entries i ≡ Some y = rw s.log_is at at_y in
-            let is_c : class_in (length table.messages.items) y (number_at table k i) ≡ Some c = same_in run table is tells kp j k i c x y here (record { log = log; is_log = s.log_at; is_entry = y_at }) has alike in
-            let g = given_is run lines k q log line s in
-            never k i log y s.log_at y_at none (inr (is_c, omega arith))
-
-        send : (q i k : ℕ) (log : Log) (line : Numbering) (y : Entry) → Stands run lines q k log line → slice_get (log_of run q) i ≡ Some y → AreSendAndDelivery y x → length (numbers_of lines q) ≤ i → ⊥
-        send q i k log line y s at_y feeds le =
-            let y_at : slice_get log.entries i ≡ Some y = rw s.log_is at at_y in
-            let is_c : class_fed y (number_at table k i) ≡ Some c = feeds_in run table is tells kp j k i c y x here (record { log = log; is_log = s.log_at; is_entry = y_at }) has feeds in
-            let g = given_is run lines k q log line s in
-            never k i log y s.log_at y_at none (inl (is_c, omega arith))
-
-        go : (q i : ℕ) (y : Entry) → slice_get (log_of run q) i ≡ Some y → (IsMate p j x q i y × (length (numbers_of lines q) < i)) ⊎ (AreSendAndDelivery y x × (length (numbers_of lines q) ≤ i))
-            → ((log_of run q ≡ []) × (numbers_of lines q ≡ [])) ⊎ ((k : ℕ) × (log : Log) × (line : Numbering) × Stands run lines q k log line) → ⊥
-        go q i y at_y k (inl (nothing, _)) = (let h : slice_get {X = Entry} [] i ≡ Some y = rw nothing at at_y in cc)
-        go q i y at_y (inl (inl (same, also), lt)) (inr (k, log, line, s)) = not_itself q i same also lt
-        go q i y at_y (inl (inr alike, lt)) (inr (k, log, line, s)) = mate q i k log line y s at_y alike lt
-        go q i y at_y (inr (feeds, le)) (inr (k, log, line, s)) = send q i k log line y s at_y feeds le
+        keeps_not : (q i : ℕ) (y : Entry) → slice_get (log_of run q) i ≡ Some y → (IsMate p j x q i y × (length (numbers_of lines q) < i)) ⊎ (AreSendAndDelivery y x × (length (numbers_of lines q) ≤ i)) → ⊥
+        keeps_not q i y at_y keeps =
+            let (k, t, b, is_b) = event_at run (place q i) y at_y in
+            let at : i ≡ t = (let h : suc i ≡ suc t = ap (λ (e : Place). e.at) is_b in omega arith) in
+            let given : given_at lines k ≡ length (numbers_of lines q) = given_of run lines k b.log rising fits b.is_log ∙ ap (λ (e : Place). length (numbers_of lines e.proc)) (sym is_b) in
+            elim keeps [
+              | inl (mate, lt) ↦ elim mate [
+                | inl (same, also) ↦ not_itself q i same also lt
+                | inr alike ↦ never k t b.log y b.is_log b.is_entry none (inr (same_in run table is tells kp j k t c x y here b has alike, omega arith))
+              ]
+              | inr (feeds, le) ↦ never k t b.log y b.is_log b.is_entry none (inl (feeds_in run table is tells kp j k t c y x here b has feeds, omega arith))
+            ]
 
     some_back : 0 < kept_by run table lines c → (q : ℕ) × (i : ℕ) × KeepsBack run lines p j x q i
     some_back some = in_run (sum_some (length run) (λ k. kept_at run table (given_at lines k) c k) some)

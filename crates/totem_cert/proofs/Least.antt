@@ -10,11 +10,9 @@ use Rattle.totem_evs.specs.Events.{log_of, IsEvent}
 use Rattle.totem_evs.specs.Classes.{IsAtMost}
 use Rattle.totem_table.specs.Tables.{IsEntryAt}
 use Rattle.totem_evs.specs.Certificates.{Numbering, numbers_of}
-use Rattle.totem_evs.proofs.LogOf.{Rising}
-use Rattle.totem_evs.proofs.LogOf.{less_or_not}
-use Rattle.totem_evs.specs.ClosedLists.{Step}
+use Rattle.totem_evs.proofs.LogOf.{Rising, less_or_not}
+use Rattle.totem_evs.specs.ClosedLists.{Step, IsLeft, IsLeastLeft, IsTurned, BeginsLeast, IsBrokenBy, IsClosedList, forward, unless}
 use Rattle.totem_cert.specs.Search.{place}
-use Rattle.totem_evs.specs.ClosedLists.{IsLeft, IsLeastLeft, IsTurned, BeginsLeast, IsBrokenBy, IsClosedList, forward, unless}
 use Rattle.totem_cert.specs.Progress.{IsSound, NoneReady, IsFirstLeft, IsRound, IsForwardFrom}
 use Rattle.totem_cert.proofs.LineFacts.{stands_at, stands_in, event_at, entry_event, at_most, unnumbered_past, past_unnumbered, read_both}
 use Rattle.totem_cert.proofs.Lists.{at_index}

@@ -32,7 +32,7 @@ fits_tail log logs line lines fits = record {
 }
 
 -- a process has both a log and a line, or neither
-pub where_is : (run : List Log) (lines : List Numbering) (p : ℕ) → Fits run lines
+where_is : (run : List Log) (lines : List Numbering) (p : ℕ) → Fits run lines
     → ((log_of run p ≡ []) × (numbers_of lines p ≡ [])) ⊎ ((k : ℕ) × (log : Log) × (line : Numbering) × Stands run lines p k log line)
 where_is [] [] p fits = inl (refl, refl)
 where_is [] (line ∷ lines) p fits = absurd (let h = fits.count in omega arith)

@@ -10,9 +10,8 @@ use Rattle.totem_evs.specs.declared.log.Log.{Log}
 use Rattle.totem_evs.specs.Events.{log_of, entry_at}
 use Rattle.totem_evs.specs.Steps.{Strict, SameClass, SendsAt, DeliversAt}
 use Rattle.totem_evs.specs.Certificates.{Numbering, numbers_of, number_at}
-use Rattle.totem_cert.specs.Search.{NoneOf}
+use Rattle.totem_cert.specs.Search.{NoneOf, place}
 use Rattle.totem_evs.proofs.LogOf.{less_or_not}
-use Rattle.totem_cert.specs.Search.{place}
 use Rattle.totem_evs.specs.Classes.{InClass, WaitsFor, AreOfOneClass, AreSendAndDelivery}
 use Rattle.totem_cert.specs.Progress.{IsNumbered, Sound, IsReady, IsMate, KeepsBack}
 use Rattle.totem_cert.proofs.Classmates.{class_sym, event_of, one_message, waits_same}

@@ -2,10 +2,8 @@
 use Rattle.std.proofs.Common.{◌≡◌, ℕ, zero, suc, ◌+◌, ◌-◌, ◌<◌, ◌⊎◌, inl, inr, List, [], ◌∷◌, ◌++◌, length, slice_get, Some, refl, sym, arith, length-append}
 use Rattle.totem_ids.specs.declared.place.Place.{Place}
 use Rattle.totem_evs.specs.declared.log.Log.{Log}
-use Rattle.totem_evs.specs.Classes.{IsAtMost}
-use Rattle.totem_evs.specs.ClosedLists.{Step}
-use Rattle.totem_evs.specs.Classes.{InClass}
-use Rattle.totem_evs.specs.ClosedLists.{IsLeft, HoldsUp, IsStepOf, IsWalk}
+use Rattle.totem_evs.specs.Classes.{IsAtMost, InClass}
+use Rattle.totem_evs.specs.ClosedLists.{Step, IsLeft, HoldsUp, IsStepOf, IsWalk}
 use Rattle.totem_cert.specs.Progress.{IsVisitedAt, IsNotVisited, IsWalking, IsRound}
 use Rattle.totem_cert.proofs.Classmates.{class_sym, class_trans}
 use Rattle.totem_cert.proofs.LineFacts.{same_parts}

@@ -3,8 +3,7 @@ use Rattle.std.proofs.Common.{◌≡◌, ℕ, zero, suc, ◌+◌, ◌-◌, ◌<�
 use Rattle.std.proofs.lemmas.Option.{slice_get_within, slice_get_read}
 use Rattle.totem_ids.specs.declared.place.Place.{Place}
 use Rattle.totem_evs.specs.Classes.{IsAtMost}
-use Rattle.totem_evs.specs.ClosedLists.{Step}
-use Rattle.totem_evs.specs.ClosedLists.{unless, forward, BeginsLeast}
+use Rattle.totem_evs.specs.ClosedLists.{Step, unless, forward, BeginsLeast}
 use Rattle.totem_cert.specs.Progress.{StandsBefore, IsForwardFrom, IsLeastUpTo}
 use Rattle.totem_cert.proofs.Closing.{get_drop}
 
