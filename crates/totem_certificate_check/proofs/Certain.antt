@@ -18,6 +18,7 @@ use Rattle.totem_certificate_check.specs.Certifying.{Rise, DoesNotRise, SendsAre
 use Rattle.totem_evs.proofs.LogOf.{Rising}
 use Rattle.totem_certificate_check.proofs.Matching.{log_at, matches_at}
 use Rattle.totem_certificate_check.proofs.Standing.{stands_at, locate, has_number}
+use Rattle.totem_certificate_check.proofs.Walking.{at_index}
 
 -- ---- numbers of events
 
@@ -43,18 +44,13 @@ all_rise run lines rising matches h e f (x, at_e) (y, at_f) (same, lt) =
     let under : a.at < b.at = omega (arith, a.at_is, b.at_is) in
     below_is run lines e f x y n.0 m.0 n.1 m.1 (h.each a.index a.line a.at b.at n.0 m.0 (slice_get_within lines a.index a.line a.line_is) a.line_is under a.number_is here)
 
-entry_in : (entries : List Entry) (i : ℕ) → i < length entries → (x : Entry) × (slice_get entries i ≡ Some x)
-entry_in [] i lt = absurd (omega arith)
-entry_in (x ∷ xs) zero lt = (x, refl)
-entry_in (x ∷ xs) (suc i) lt = entry_in xs i (omega arith)
-
 pub one_falls : (run : List Log) (lines : List Numbering) → Rising run → Matches run lines → LineFalls lines → DoesNotRise run lines
 one_falls run lines rising matches h =
     let found = log_at run lines h.index h.line matches h.line_is in
     let both = matches_at run lines h.index found.0 h.line matches found.1 h.line_is in
     let last = slice_get_within h.line.numbers (h.falls.at + 1) h.falls.next h.falls.next_is in
-    let x = entry_in found.0.entries h.falls.at (omega (arith, both.1)) in
-    let y = entry_in found.0.entries (h.falls.at + 1) (omega (arith, both.1)) in
+    let x = at_index found.0.entries h.falls.at (omega (arith, both.1)) in
+    let y = at_index found.0.entries (h.falls.at + 1) (omega (arith, both.1)) in
     let at_x = stands_at run lines h.index h.falls.at found.0 h.line x.0 h.falls.number rising matches found.1 h.line_is x.1 h.falls.number_is in
     let at_y = stands_at run lines h.index (h.falls.at + 1) found.0 h.line y.0 h.falls.next rising matches found.1 h.line_is y.1 h.falls.next_is in
     record {
