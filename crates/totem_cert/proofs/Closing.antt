@@ -1,5 +1,6 @@
 -- The closed list breaks the specification that it names.
 use Rattle.std.proofs.Common.{◌≡◌, ◌≢◌, ℕ, zero, suc, ◌+◌, ◌-◌, ◌⊎◌, inl, inr, List, [], ◌∷◌, ◌++◌, length, drop, slice_get, Some, Bool, true, false, refl, sym, ◌∙◌, ap, arith, length-drop}
+use Rattle.std.proofs.lemmas.List.{append-nil}
 use Rattle.totem_ids.specs.declared.place.Place.{Place}
 use Rattle.totem_evs.specs.declared.log.Log.{Log}
 use Rattle.totem_evs.specs.declared.spec.SpecNo.{SpecNo}
@@ -43,17 +44,13 @@ some_right : (Leads : Place → Place → Type 0) (x : Place) (xs ys : List Plac
 some_right Leads x [] ys y z h = inr h
 some_right Leads x (w ∷ xs) ys y z h = inr (some_right Leads w xs ys y z h)
 
-pub append_nil : (xs : List Place) → xs ++ [] ≡ xs
-append_nil [] = refl
-append_nil (x ∷ xs) = ap (λ (ys : List Place). x ∷ ys) (append_nil xs)
-
 closed_same : (run : List Log) (Leads : Place → Place → Type 0) (xs ys : List Place) → xs ≡ ys → IsClosed run Leads xs → IsClosed run Leads ys
 closed_same run Leads xs ys same h = rw same at h
 
 -- a closed list can start at any of its events
 turn : (run : List Log) (Leads : Place → Place → Type 0) (front back : List Place) → IsClosed run Leads (front ++ back) → IsClosed run Leads (back ++ front)
-turn run Leads [] back h = rw append_nil h
-turn run Leads (a ∷ as') [] h = closed_same run Leads ((a ∷ as') ++ []) (a ∷ as') (append_nil (a ∷ as')) h
+turn run Leads [] back h = rw append-nil h
+turn run Leads (a ∷ as') [] h = closed_same run Leads ((a ∷ as') ++ []) (a ∷ as') (append-nil (a ∷ as')) h
 turn run Leads (a ∷ as') (b ∷ bs) (chain, strict) =
     let parts = chain_split Leads a as' bs b a chain in (
       path_append Leads (b ∷ bs) as' a b parts.1 parts.0,

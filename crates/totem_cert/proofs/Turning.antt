@@ -2,6 +2,7 @@
 use Rattle.std.proofs.Common.{◌≡◌, ℕ, zero, suc, ◌+◌, ◌-◌, ◌<◌, ◌≤◌, ◌⊎◌, inl, inr, List, [], ◌∷◌, ◌++◌, length, drop, get_or, slice_get, Some, Bool, true, false, refl, sym, ◌∙◌, ap, subst, arith, length-drop}
 use Rattle.std.specs.Prelude.{Contains}
 use Rattle.std.proofs.lemmas.Option.{slice_get_within, slice_get-get_or}
+use Rattle.std.proofs.lemmas.List.{append-nil}
 use Rattle.std.proofs.lemmas.List.Elements.{Contains-append_right, Contains-append_cases}
 use Rattle.totem_ids.specs.declared.place.Place.{Place}
 use Rattle.totem_evs.specs.declared.log.Log.{Log}
@@ -11,7 +12,7 @@ use Rattle.totem_evs.specs.ClosedLists.{Step, ComesBack, same_place, unless, for
 use Rattle.totem_evs.proofs.LogOf.{less_or_not}
 use Rattle.totem_cert.proofs.Classmates.{class_self, class_sym, class_trans, event_of}
 use Rattle.totem_cert.proofs.Walking.{antisym, step_in}
-use Rattle.totem_cert.proofs.Closing.{append_nil, same_is, not_same}
+use Rattle.totem_cert.proofs.Closing.{same_is, not_same}
 use Rattle.totem_cert.proofs.Written.{drop_here}
 
 -- e is not in the list
@@ -75,7 +76,7 @@ turned_at whole turned t least = go t.front t.back t.was t.is
   where
     go : (front back : List Place) → whole ≡ front ++ back → turned ≡ back ++ front → Turned whole turned
     go [] [] was is = absurd (let h : BeginsLeast [] = rw is at least in h)
-    go (x ∷ front) [] was is = record { first = x; front = []; back = front; was = was ∙ append_nil (x ∷ front); is = is ∙ ap (λ ys. x ∷ ys) (sym (append_nil front)) }
+    go (x ∷ front) [] was is = record { first = x; front = []; back = front; was = was ∙ append-nil (x ∷ front); is = is ∙ ap (λ ys. x ∷ ys) (sym (append-nil front)) }
     go front (x ∷ back) was is = record { first = x; front = front; back = back; was = was; is = is }
 
 at_most_all : (x : Place) (xs : List Place) (f : Place) → BeginsLeast (x ∷ xs) → Contains xs f → IsAtMost x f
