@@ -6,7 +6,7 @@ use Rattle.std.specs.BTreeSet as sorted
 use Rattle.std.proofs.lemmas.Map.Lookups.{CmpEqualImpliesEq}
 use Rattle.totem_ids.specs.declared.conf.ConfId.{ConfId}
 use Rattle.totem_ids.specs.declared.message.MsgId.{MsgId}
-use Rattle.totem_ids.proofs.Exact.{exact_conf, exact_message, equal_at}
+use Rattle.totem_ids.proofs.Exact.{exact_conf, exact_message, equal_at, apart_or_at}
 use Rattle.totem_evs.specs.declared.entry.Entry.{Entry}
 use Rattle.totem_evs.specs.declared.entry.Entry.TheVariants.{Conf, Send, Deliver, Fail}
 use Rattle.totem_evs.specs.Classes.{AreOfOneClass}
@@ -23,10 +23,6 @@ exact_class (Change x) (Delivery m) e = absurd cc
 exact_class (Delivery m) (Change x) e = absurd cc
 exact_class (Delivery m) (Delivery n) e = ap (λ (z : MsgId). Delivery z) (exact_message m n e)
 
-pub is_or_not : (b : Bool) → (b ≡ true) ⊎ (b ≡ false)
-is_or_not true = inl refl
-is_or_not false = inr refl
-
 -- a class that is at a class is that one
 pub same_class : (c d : Class) → is_at (class_order c) d ≡ true → c ≡ d
 same_class c d at = exact_class c d (equal_at (class_order c d) at)
@@ -37,13 +33,13 @@ pub inserted_has : (old new : BTreeSet Class) (c : Class) → sorted.Updates cla
 inserted_has old new c h = h.1
 
 pub inserted_keeps : (old new : BTreeSet Class) (c d : Class) → sorted.Updates class_order old new c true → has old d ≡ true → has new d ≡ true
-inserted_keeps old new c d h had = elim (is_or_not (is_at (class_order c) d)) [
+inserted_keeps old new c d h had = elim (apart_or_at class_order c d) [
   | inl at ↦ h.0 d ∙ rw at refl
   | inr apart ↦ h.2 d apart ∙ had
 ]
 
 pub inserted_only : (old new : BTreeSet Class) (c d : Class) → sorted.Updates class_order old new c true → has new d ≡ true → (has old d ≡ true) ⊎ (c ≡ d)
-inserted_only old new c d h has_it = elim (is_or_not (is_at (class_order c) d)) [
+inserted_only old new c d h has_it = elim (apart_or_at class_order c d) [
   | inl at ↦ inr (same_class c d at)
   | inr apart ↦ inl (sym (h.2 d apart) ∙ has_it)
 ]

@@ -6,6 +6,7 @@ use Rattle.std.proofs.lemmas.Bool.{ltb-true, lt-ltb}
 use Rattle.std.specs.BTreeMap.{BTreeMap, is_at}
 use Rattle.std.specs.BTreeMap as tree
 use Rattle.totem_ids.specs.declared.place.Place.{Place}
+use Rattle.totem_ids.proofs.Exact.{apart_or_at}
 use Rattle.totem_evs.specs.declared.entry.Entry.{Entry}
 use Rattle.totem_evs.specs.declared.entry.Entry.TheVariants.{Conf, Send, Deliver, Fail}
 use Rattle.totem_evs.specs.declared.log.Log.{Log}
@@ -22,7 +23,7 @@ use Rattle.totem_certificate_check.specs.Kinds.{SendIsBelow, SendIsNotBelow}
 use Rattle.totem_certificate_check.specs.Certifying.{ClassesAreOne, TwinsAreApart}
 use Rattle.totem_certificate_check.specs.Spreads.{least_of, Differs, IsLeastOf, IsEntered, IsKnown, IsIn, IsTrueOf, KnowsTo, Knows}
 use Rattle.totem_certificate_check.proofs.Certain.{class_split, classes_one}
-use Rattle.totem_certificate_check.proofs.Naming.{is_or_not, same_class, class_shared, shares_class}
+use Rattle.totem_certificate_check.proofs.Naming.{same_class, class_shared, shares_class}
 use Rattle.totem_certificate_check.proofs.Standing.{stands_at, locate, place_is}
 
 -- ---- one number
@@ -35,7 +36,7 @@ entered old least flag c n l updates of stays apart only = record {
   least = l;
   is = updates.1;
   of = of;
-  others = λ d. elim (is_or_not (is_at (class_order c) d)) [
+  others = λ d. elim (apart_or_at class_order c d) [
     | inl at ↦ inl (same_class c d at)
     | inr off ↦ inr (updates.2 d off)
   ];
