@@ -37,7 +37,7 @@ is_next run lines passed last head e x rising matches rise many h least stands o
   above = head_is_above lines passed last rise h head least;
   each = λ f y n at le. elim (passed_or_next lines passed last rise h head least run rising matches many f y n at le) [
     | inl before ↦ inl before
-    | inr (same, i, within, ahead) ↦ inr (same, one.each i n f y within ahead same)
+    | inr (same, i, within, ahead) ↦ inr (same, one.each i within n f y ahead same)
   ];
 }
 

@@ -1,5 +1,5 @@
 -- Where a walk is, and what a step of it passes.
-use Rattle.std.proofs.Common.{◌≡◌, ◌≢◌, ℕ, zero, suc, ◌+◌, ◌^◌, ◌<◌, ◌≤◌, ◌⊎◌, inl, inr, List, [], ◌∷◌, length, get_or, slice_get, slice_set, replicate, true, false, nat_eq, eq-eqb, Option, Some, None, refl, sym, ◌∙◌, ap, subst, arith}
+use Rattle.std.proofs.Common.{below_more, ◌≡◌, ◌≢◌, ℕ, zero, suc, ◌+◌, ◌^◌, ◌<◌, ◌≤◌, ◌⊎◌, inl, inr, List, [], ◌∷◌, length, get_or, slice_get, slice_set, replicate, true, false, nat_eq, eq-eqb, Option, Some, None, refl, sym, ◌∙◌, ap, subst, arith}
 use Rattle.std.proofs.lemmas.Option.{slice_get_within, slice_get_read, slice_get-get_or, get_or_from_slice_get}
 use Rattle.std.proofs.lemmas.List.{length-set}
 use Rattle.std.proofs.lemmas.Bool.{eqb-true}
@@ -297,18 +297,13 @@ one_step lines k old now new at a b line at_line at_now at_new is many others h 
 -- ---- what shares a number
 
 pub one_yet : (run : List Log) (lines : List Numbering) (passed : List ℕ) (e : Place) (x : Entry) (n : ℕ) → AreOneBefore run lines passed 0 e x n
-one_yet run lines passed e x n = record { each = λ i m f y lt a. absurd (omega arith) }
+one_yet run lines passed e x n = record { each = λ i lt m f y a. absurd (omega arith) }
 
 pub ones_more : (run : List Log) (lines : List Numbering) (passed : List ℕ) (k : ℕ) (e : Place) (x : Entry) (n : ℕ) → ((f : Place) (y : Entry) (m : ℕ) → IsAhead run lines passed k f y m → NumberIsOwn f y m e x n) → AreOneBefore run lines passed k e x n → AreOneBefore run lines passed (k + 1) e x n
-ones_more run lines passed k e x n own h = record {
-  each = λ i m f y lt a. elim (less_or_not i k) [
-    | inl under ↦ h.each i m f y under a
-    | inr rest ↦ elim rest [ inl over ↦ absurd (omega arith) | inr same ↦ own f y m (rw (← same) a) ]
-  ];
-}
+ones_more run lines passed k e x n own h = record { each = below_more (λ i. (m : ℕ) (f : Place) (y : Entry) → IsAhead run lines passed i f y m → NumberIsOwn f y m e x n) k h.each (λ m f y a. own f y m a) }
 
 pub ones_all : (run : List Log) (lines : List Numbering) (passed : List ℕ) (k : ℕ) (e : Place) (x : Entry) (n : ℕ) → length lines ≤ k → AreOneBefore run lines passed k e x n → AreOneBefore run lines passed (length lines) e x n
-ones_all run lines passed k e x n end h = record { each = λ i m f y lt a. h.each i m f y (omega arith) a }
+ones_all run lines passed k e x n end h = record { each = λ i lt m f y a. h.each i (omega arith) m f y a }
 
 -- the next event of a log shares e's number only if the two are one event
 pub own_ahead : (run : List Log) (lines : List Numbering) (passed : List ℕ) (k : ℕ) (e g : Place) (x z : Entry) (n o : ℕ) → IsAhead run lines passed k g z o → NumberIsOwn g z o e x n → (f : Place) (y : Entry) (m : ℕ) → IsAhead run lines passed k f y m → NumberIsOwn f y m e x n
