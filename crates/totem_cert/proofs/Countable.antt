@@ -12,7 +12,7 @@ use Rattle.totem_evs.proofs.LogOf.{Rising}
 use Rattle.totem_table.specs.declared.table.Table.{Table}
 use Rattle.totem_table.specs.Tables.{IsTable, IsEntryAt, number_at}
 use Rattle.totem_cert.specs.Search.{place, NoneOf}
-use Rattle.totem_evs.specs.Classes.{AreOfOneClass, AreSendAndDelivery}
+use Rattle.totem_evs.specs.Classes.{AreSendAndDelivery}
 use Rattle.totem_cert.specs.Progress.{Fits, IsReady, IsMate, KeepsBack}
 use Rattle.totem_cert.specs.Counts.{given_at, class_in, class_fed, class_named, one, kept_behind, kept_in, kept_at, kept_by, Counts, Tells}
 use Rattle.totem_cert.proofs.LineFacts.{stands_in, given_is, given_of, event_at}

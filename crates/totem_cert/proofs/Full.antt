@@ -3,12 +3,11 @@ use Rattle.std.proofs.Common.{◌≡◌, ℕ, suc, ◌<◌, ◌≤◌, ◌⊎◌
 use Rattle.std.specs.Prelude.{All}
 use Rattle.std.proofs.lemmas.Option.{slice_get_within, slice_get-get_or, slice_get_cases}
 use Rattle.totem_ids.specs.declared.place.Place.{Place}
-use Rattle.totem_evs.specs.declared.entry.Entry.{Entry}
 use Rattle.totem_evs.specs.declared.entry.Entry.TheVariants.{Deliver}
 use Rattle.totem_evs.specs.declared.log.Log.{Log}
-use Rattle.totem_evs.specs.Events.{IsEvent, log_of}
+use Rattle.totem_evs.specs.Events.{IsEvent}
 use Rattle.totem_evs.specs.Steps.{SameClass}
-use Rattle.totem_evs.specs.Certificates.{Numbering, number_at, numbers_of, IsBelow, Matches}
+use Rattle.totem_evs.specs.Certificates.{Numbering, number_at, IsBelow, Matches}
 use Rattle.totem_evs.proofs.LogOf.{Rising}
 use Rattle.totem_cert.specs.Search.{place}
 use Rattle.totem_evs.specs.Classes.{WaitsFor}

@@ -1,12 +1,11 @@
 -- The least event that is left, and the closed list as it is written.
-use Rattle.std.proofs.Common.{◌≡◌, ℕ, suc, ◌+◌, ◌<◌, ◌≤◌, ◌⊎◌, inl, inr, List, [], ◌∷◌, ◌++◌, length, drop, get_or, slice_get, Some, refl, sym, ◌∙◌, ap, arith, length-append}
-use Rattle.std.proofs.lemmas.Option.{slice_get_within, slice_get-get_or}
+use Rattle.std.proofs.Common.{◌≡◌, ℕ, suc, ◌+◌, ◌<◌, ◌≤◌, inl, inr, List, ◌∷◌, ◌++◌, length, drop, get_or, slice_get, Some, refl, ◌∙◌, ap, arith, length-append}
+use Rattle.std.proofs.lemmas.Option.{slice_get_within}
 use Rattle.totem_ids.specs.declared.place.Place.{Place}
 use Rattle.totem_evs.specs.declared.entry.Entry.{Entry}
 use Rattle.totem_evs.specs.declared.log.Log.{Log}
 use Rattle.totem_evs.specs.declared.spec.SpecNo.{SpecNo}
 use Rattle.totem_evs.specs.Runs.{IsRun}
-use Rattle.totem_evs.specs.Events.{log_of, IsEvent}
 use Rattle.totem_evs.specs.Classes.{IsAtMost}
 use Rattle.totem_table.specs.Tables.{IsEntryAt}
 use Rattle.totem_evs.specs.Certificates.{Numbering, numbers_of}

@@ -1,10 +1,9 @@
 -- The lines before any entry has a number.
 use Rattle.std.proofs.Common.{◌≡◌, ℕ, zero, suc, ◌*◌, ◌≤◌, List, [], ◌∷◌, length, map, slice_get, Some, None, refl, sym, ap, arith, Bool, true, false}
 use Rattle.std.specs.Prelude.{◌==◌}
-use Rattle.std.proofs.lemmas.Option.{get_or_from_slice_get, slice_get_within}
 use Rattle.totem_ids.specs.declared.place.Place.{Place}
 use Rattle.totem_evs.specs.declared.log.Log.{Log}
-use Rattle.totem_evs.specs.Runs.{IsRun, IsLog}
+use Rattle.totem_evs.specs.Runs.{IsRun}
 use Rattle.totem_evs.specs.Certificates.{Numbering, numbers_of, number_in, number_at}
 use Rattle.totem_cert.specs.Progress.{IsNumberedSoFar, entries_left, empty_line}
 use Rattle.totem_cert.proofs.CountSteps.{logs_short}

@@ -1,5 +1,5 @@
 -- From one class to the next: what a walk shows about the events that it has passed.
-use Rattle.std.proofs.Common.{◌≡◌, ◌≢◌, ℕ, ◌+◌, ◌<◌, ◌≤◌, ◌⊎◌, inl, inr, List, length, Some, false, refl, sym, ◌∙◌, subst, arith}
+use Rattle.std.proofs.Common.{◌≡◌, ℕ, ◌<◌, ◌≤◌, ◌⊎◌, inl, inr, List, length, Some, false, refl, sym, ◌∙◌, subst, arith}
 use Rattle.std.specs.BTreeSet.{BTreeSet}
 use Rattle.std.specs.BTreeSet as sorted
 use Rattle.totem_certificate.specs.Keeping.{IsCertificate}
@@ -12,7 +12,7 @@ use Rattle.totem_evs.specs.Classes.{AreOfOneClass, AreSendAndDelivery}
 use Rattle.totem_evs.specs.Certificates.{Numbering, Matches}
 use Rattle.totem_evs.proofs.LogOf.{Rising}
 use Rattle.totem_certificate_check.specs.declared.class.Class.{Class}
-use Rattle.totem_certificate_check.specs.declared.class.Class.TheVariants.{Change, Delivery}
+use Rattle.totem_certificate_check.specs.declared.class.Class.TheVariants.{Delivery}
 use Rattle.totem_certificate_check.specs.declared.walk.Head.{Head}
 use Rattle.totem_certificate_check.specs.ClassOf.{class_of, has}
 use Rattle.totem_certificate_check.specs.Numbered.{Stands}

@@ -3,18 +3,18 @@ use Rattle.std.proofs.Common.{◌≡◌, ◌≢◌, ℕ, ◌+◌, ◌<◌, ◌�
 use Rattle.std.proofs.lemmas.Option.{slice_get_within}
 use Rattle.std.specs.Bool.{MatchBool}
 use Rattle.std.proofs.lemmas.Bool.{ltb-true, lt-ltb}
-use Rattle.std.specs.BTreeMap.{BTreeMap, is_at}
+use Rattle.std.specs.BTreeMap.{BTreeMap}
 use Rattle.std.specs.BTreeMap as tree
 use Rattle.totem_ids.specs.declared.place.Place.{Place}
 use Rattle.totem_ids.proofs.Exact.{apart_or_at}
 use Rattle.totem_evs.specs.declared.entry.Entry.{Entry}
-use Rattle.totem_evs.specs.declared.entry.Entry.TheVariants.{Conf, Send, Deliver, Fail}
+use Rattle.totem_evs.specs.declared.entry.Entry.TheVariants.{Send, Deliver}
 use Rattle.totem_evs.specs.declared.log.Log.{Log}
 use Rattle.totem_evs.specs.Classes.{AreSendAndDelivery}
 use Rattle.totem_evs.specs.Certificates.{Numbering, Matches}
 use Rattle.totem_evs.proofs.LogOf.{Rising, less_or_not}
 use Rattle.totem_certificate_check.specs.declared.class.Class.{Class}
-use Rattle.totem_certificate_check.specs.declared.class.Class.TheVariants.{Change, Delivery}
+use Rattle.totem_certificate_check.specs.declared.class.Class.TheVariants.{Delivery}
 use Rattle.totem_certificate_check.specs.declared.spread.Spread.{Spread}
 use Rattle.totem_certificate_check.specs.ClassOf.{class_of, class_order}
 use Rattle.totem_certificate_check.specs.Numbered.{Stands, place}
