@@ -1,4 +1,4 @@
-ghost use Rattle.std.specs.Prelude.{IfOk, ◌≡◌};
+ghost use Rattle.std.specs.Prelude.{IfOk};
 ghost use Rattle.totem_evs.specs.ClosedLists.{IsLeastLeft, IsBrokenBy};
 ghost use Rattle.totem_evs.specs.ClosedLists.{IsCycle};
 ghost use Rattle.totem_table.specs.Tables.{IsTable};

@@ -1,8 +1,8 @@
 //! Numbers the classes of a run over its table, by counting the entries that keep each class from being ready.
-ghost use Rattle.std.specs.Prelude.{◌≡◌, ◌+◌, ◌<◌, ◌≤◌, IfOk, IfSome, IfNone, OnOk, length};
+ghost use Rattle.std.specs.Prelude.{IfOk, IfSome, IfNone, OnOk};
 ghost use Rattle.totem_table.specs.Tables.{IsTable};
 ghost use Rattle.totem_cert.specs.Counts.{Counts, Tells};
-ghost use Rattle.totem_cert.specs.Progress.{IsGiven, IsNextHead, IsNextIn, IsNumberedSoFar, IsSound, NoneReady, entries_left};
+ghost use Rattle.totem_cert.specs.Progress.{IsGiven, IsNextHead, IsNextIn, IsSound, NoneReady};
 
 use crate::counts::{count_all, number_head};
 use crate::heads::{Head, head_of, is_in_class, is_unkept};

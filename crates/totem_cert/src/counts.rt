@@ -1,6 +1,6 @@
 //! Counts the entries that keep each class of a run from being ready: entries of the class after the first entry of their log without a
 //! number, and sends without a number. The classes are numbered as in a table, those of messages before those of configurations.
-ghost use Rattle.std.specs.Prelude.{◌≡◌, ◌↔◌, ◌+◌, ◌<◌, ◌≤◌, ◌^◌, IfOk, IsTrue, OnOk, Some, length, map, slice_get, slice_index_or};
+ghost use Rattle.std.specs.Prelude.{◌≡◌, ◌+◌, ◌<◌, ◌≤◌, ◌^◌, IfOk, OnOk, Some, length, map, slice_get, slice_index_or};
 ghost use Rattle.totem_table.specs.Tables.{IsTable};
 ghost use Rattle.totem_cert.specs.Progress.{empty_line};
 ghost use Rattle.totem_cert.specs.Counts.{Adds, AtMost, Counts, CountsTo, HasHead, Pushes, Takes, class_fed, class_in, class_named, kept_in, one, passed, shared_by};

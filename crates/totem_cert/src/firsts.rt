@@ -1,5 +1,5 @@
 //! Finds the first entries and sends of each class that have no number, in one pass over the run.
-ghost use Rattle.std.specs.Prelude.{◌≡◌, ◌+◌, ◌<◌, ◌≤◌, ◌^◌, IfOk, None, Some, length, replicate, slice_get, slice_index_or};
+ghost use Rattle.std.specs.Prelude.{◌≡◌, ◌+◌, ◌<◌, ◌^◌, IfOk, None, Some, replicate, slice_get};
 ghost use Rattle.totem_table.specs.Tables.{IsTable};
 ghost use Rattle.totem_cert.specs.Counts.{given_at};
 ghost use Rattle.totem_cert.specs.Firsts.{AreFirsts, AreFirstsOf, AreFirstsTo, Notes, class_wanted};
