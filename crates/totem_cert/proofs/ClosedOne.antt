@@ -8,15 +8,14 @@ use Rattle.totem_evs.specs.ClosedLists.{Step, HoldsUp, IsStepOf, IsWalk, ComesBa
 use Rattle.totem_cert.specs.Laws.{ClosedListsAreOne}
 use Rattle.totem_evs.proofs.LogOf.{less_or_not}
 use Rattle.totem_cert.proofs.Classmates.{class_sym, class_trans, one_message}
+use Rattle.totem_cert.proofs.LineFacts.{same_parts}
+use Rattle.totem_cert.proofs.Lists.{previous}
 use Rattle.totem_cert.proofs.Walking.{antisym}
 use Rattle.totem_cert.proofs.Turning.{one_turn, round_distinct}
 
-place_same : (e f : Place) → e.proc ≡ f.proc → e.at ≡ f.at → e ≡ f
-place_same e f p a = ap (λ (r : ℕ). let g : Place = record { proc = r; at = e.at } in g) p ∙ ap (λ (i : ℕ). let g : Place = record { proc = f.proc; at = i } in g) a
-
 -- one entry holds another one up
 one_holder : (run : List Log) (f g e : Place) → HoldsUp run f e → HoldsUp run g e → f ≡ g
-one_holder run f g e (inl a) (inl b) = place_same f g (a.proc ∙ sym b.proc) (let x = a.before in let y = b.before in omega arith)
+one_holder run f g e (inl a) (inl b) = same_parts f g.proc g.at (a.proc ∙ sym b.proc) (let x = a.before in let y = b.before in omega arith)
 one_holder run f g e (inl a) (inr (none, b)) = absurd (none f a)
 one_holder run f g e (inr (none, a)) (inl b) = absurd (none g b)
 one_holder run f g e (inr (_, a)) (inr (_, b)) =
@@ -37,16 +36,11 @@ same_head xs v w i a b = cc
 
 -- two walks from one event take the same steps
 module _ (run : List Log) (start : Place) (xs ys : List Step) (a : IsWalk run start xs) (b : IsWalk run start ys) where
-  before : (zs : List Step) (i : ℕ) (y : Step) → slice_get zs (suc i) ≡ Some y → (x : Step) × (slice_get zs i ≡ Some x)
-  before [] i y h = absurd cc
-  before (x ∷ zs) zero y h = (x, refl)
-  before (x ∷ zs) (suc i) y h = before zs i y h
-
   pub same_steps : (i : ℕ) (v w : Step) → slice_get xs i ≡ Some v → slice_get ys i ≡ Some w → v ≡ w
   same_steps zero v w at_v at_w = one_step_of run start v w (a.first v at_v) (b.first w at_w)
   same_steps (suc i) v w at_v at_w =
-      let u = before xs i v at_v in
-      let t = before ys i w at_w in
+      let u = previous xs i v at_v in
+      let t = previous ys i w at_w in
       let same : u.0 ≡ t.0 = same_steps i u.0 t.0 u.1 t.1 in
       let e : i + 1 ≡ suc i = omega arith in
       one_step_of run u.0.from v w (a.next i u.0 v u.1 (rw e at_v)) (rw same (b.next i t.0 w t.1 (rw e at_w)))

@@ -1,5 +1,6 @@
 -- The closed list breaks the specification that it names.
 use Rattle.std.proofs.Common.{◌≡◌, ◌≢◌, ℕ, zero, suc, ◌+◌, ◌-◌, ◌⊎◌, inl, inr, List, [], ◌∷◌, ◌++◌, length, drop, slice_get, Some, Bool, true, false, refl, sym, ◌∙◌, ap, arith, length-drop}
+use Rattle.std.proofs.lemmas.List.{append-nil}
 use Rattle.totem_ids.specs.declared.place.Place.{Place}
 use Rattle.totem_evs.specs.declared.log.Log.{Log}
 use Rattle.totem_evs.specs.declared.spec.SpecNo.{SpecNo}
@@ -8,10 +9,10 @@ use Rattle.totem_evs.specs.Events.{IsEvent}
 use Rattle.totem_evs.specs.Steps.{Strict}
 use Rattle.totem_evs.specs.Places.{Chain, Somewhere, IsClosed, IsStep, IsOrderStep}
 use Rattle.totem_evs.specs.Faults.{Breaks}
-use Rattle.totem_evs.specs.ClosedLists.{Step}
+use Rattle.totem_evs.specs.ClosedLists.{Step, HoldsUp, same_place, unless, forward, AreTwinDeliveries, IsBrokenBy, IsClosedList}
 use Rattle.totem_evs.specs.Classes.{InClass}
-use Rattle.totem_evs.specs.ClosedLists.{HoldsUp, same_place, unless, forward, AreTwinDeliveries, IsBrokenBy, IsClosedList}
 use Rattle.totem_cert.proofs.Classmates.{class_sym, event_of}
+use Rattle.totem_cert.proofs.LineFacts.{same_parts}
 use Rattle.totem_cert.proofs.Walking.{step_in}
 
 -- steps along a list, and from its last event to z
@@ -43,17 +44,13 @@ some_right : (Leads : Place → Place → Type 0) (x : Place) (xs ys : List Plac
 some_right Leads x [] ys y z h = inr h
 some_right Leads x (w ∷ xs) ys y z h = inr (some_right Leads w xs ys y z h)
 
-append_nil : (xs : List Place) → xs ++ [] ≡ xs
-append_nil [] = refl
-append_nil (x ∷ xs) = ap (λ (ys : List Place). x ∷ ys) (append_nil xs)
-
 closed_same : (run : List Log) (Leads : Place → Place → Type 0) (xs ys : List Place) → xs ≡ ys → IsClosed run Leads xs → IsClosed run Leads ys
 closed_same run Leads xs ys same h = rw same at h
 
 -- a closed list can start at any of its events
 turn : (run : List Log) (Leads : Place → Place → Type 0) (front back : List Place) → IsClosed run Leads (front ++ back) → IsClosed run Leads (back ++ front)
-turn run Leads [] back h = rw append_nil h
-turn run Leads (a ∷ as') [] h = closed_same run Leads ((a ∷ as') ++ []) (a ∷ as') (append_nil (a ∷ as')) h
+turn run Leads [] back h = rw append-nil h
+turn run Leads (a ∷ as') [] h = closed_same run Leads ((a ∷ as') ++ []) (a ∷ as') (append-nil (a ∷ as')) h
 turn run Leads (a ∷ as') (b ∷ bs) (chain, strict) =
     let parts = chain_split Leads a as' bs b a chain in (
       path_append Leads (b ∷ bs) as' a b parts.1 parts.0,
@@ -77,7 +74,7 @@ pub same_is : (e f : Place) → same_place e f ≡ true → e ≡ f
 same_is e f h =
     let p : e.proc ≡ f.proc = grind arith in
     let a : e.at ≡ f.at = grind arith in
-    ap (λ (r : ℕ). let g : Place = record { proc = r; at = e.at } in g) p ∙ ap (λ (i : ℕ). let g : Place = record { proc = f.proc; at = i } in g) a
+    same_parts e f.proc f.at p a
 
 pub not_same : (e f : Place) → same_place e f ≡ false → e ≢ f
 not_same e f h same =

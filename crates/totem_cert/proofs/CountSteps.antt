@@ -1,10 +1,8 @@
 -- How the counts change when one more entry gets a number.
-use Rattle.std.proofs.Common.{◌≡◌, ◌≢◌, ℕ, zero, suc, ◌+◌, ◌-◌, ◌*◌, ◌<◌, ◌≤◌, ◌⊎◌, inl, inr, List, [], ◌∷◌, ◌++◌, length, map, get_or, slice_get, Option, Some, None, Bool, true, false, refl, sym, ◌∙◌, ap, arith, length-append}
+use Rattle.std.proofs.Common.{◌≡◌, ◌≢◌, ℕ, zero, suc, ◌+◌, ◌-◌, ◌*◌, ◌<◌, ◌≤◌, ◌⊎◌, inl, inr, List, [], ◌∷◌, ◌++◌, length, map, drop, get_or, slice_get, Option, Some, None, Bool, true, false, refl, sym, ◌∙◌, ap, arith, length-append}
 use Rattle.std.specs.Prelude.{◌==◌}
-use Rattle.std.proofs.Math.Dec.{leb}
-use Rattle.std.proofs.Math.ListN.{set}
-use Rattle.std.proofs.lemmas.Bool.{le-leb, lt-leb}
-use Rattle.std.proofs.lemmas.Option.{slice_get_within, slice_get_past, slice_get_read, get_or_from_slice_get}
+use Rattle.std.proofs.Math.ListN.{set, drop_of_length-le}
+use Rattle.std.proofs.lemmas.Option.{slice_get_within, slice_get_read, get_or_from_slice_get}
 use Rattle.std.proofs.lemmas.List.{get_or_past}
 use Rattle.totem_evs.specs.declared.entry.Entry.{Entry}
 use Rattle.totem_evs.specs.declared.entry.Entry.TheVariants.{Conf, Send, Deliver, Fail}
@@ -14,127 +12,10 @@ use Rattle.totem_evs.specs.Runs.{IsRun, IsLog}
 use Rattle.totem_table.specs.Tables.{IsTable}
 use Rattle.totem_table.specs.declared.table.Table.{Table}
 use Rattle.totem_evs.proofs.LogOf.{less_or_not}
-use Rattle.totem_cert.specs.Wanted.{count_of, given_at}
-use Rattle.totem_cert.specs.Progress.{empty_line, HeadIsMate}
-use Rattle.totem_cert.specs.Counts.{sum_to, class_in, class_fed, one, from, keeping, keeping_at, kept_in, kept_at, kept_by, Counts, CountsTo, fed_by, shared_by, passed, Adds, Takes, AtMost, IsKept, Pushes, HasHead}
-use Rattle.totem_cert.proofs.GiveSteps.{Changes, set_changes}
-use Rattle.totem_cert.proofs.Sums.{sum_same, sum_change, sum_ones, sum_millions}
-
-pub from_yes : (b i n : ℕ) → b ≤ i → from b i n ≡ n
-from_yes b i n le = rw (le-leb b i le) refl
-
-pub from_no : (b i n : ℕ) → i < b → from b i n ≡ 0
-from_no b i n lt = rw (lt-leb b i lt) refl
-
-from_other : (a i n : ℕ) → i ≢ a → from a i n ≡ from (suc a) i n
-from_other a i n other = elim (less_or_not i a) [
-  | inl under ↦ from_no a i n under ∙ sym (from_no (suc a) i n (omega arith))
-  | inr more ↦ elim more [
-    | inl over ↦ from_yes a i n (omega arith) ∙ sym (from_yes (suc a) i n (omega arith))
-    | inr same ↦ absurd (other same)
-  ]
-]
-
-from_here : (a n : ℕ) → from a a n ≡ from (suc a) a n + n
-from_here a n =
-    let here : from a a n ≡ n = from_yes a a n (omega arith) in
-    let next : from (suc a) a n ≡ 0 = from_no (suc a) a n (omega arith) in
-    omega arith
-
-sends_other : (messages : ℕ) (e : Option Entry) (n a b c i : ℕ) → i ≢ a → keeping messages e n a b c i ≡ keeping messages e n (suc a) b c i
-sends_other messages None n a b c i other = refl
-sends_other messages (Some x) n a b c i other = ap (λ (s : ℕ). s + from b i (one (class_in messages x n) c)) (from_other a i (one (class_fed x n) c) other)
-
-sends_here : (messages : ℕ) (e : Option Entry) (n a b c : ℕ) → keeping messages e n a b c a ≡ keeping messages e n (suc a) b c a + one (fed_by e n) c
-sends_here messages None n a b c = refl
-sends_here messages (Some x) n a b c =
-    let h : from a a (one (class_fed x n) c) ≡ from (suc a) a (one (class_fed x n) c) + one (class_fed x n) c = from_here a (one (class_fed x n) c) in
-    moved (from a a (one (class_fed x n) c)) (from (suc a) a (one (class_fed x n) c)) (one (class_fed x n) c) (from b a (one (class_in messages x n) c)) h
-  where
-    moved : (p q r s : ℕ) → p ≡ q + r → p + s ≡ (q + s) + r
-    moved p q r s h = omega arith
-
-others_other : (messages : ℕ) (e : Option Entry) (n a b c i : ℕ) → i ≢ b → keeping messages e n a b c i ≡ keeping messages e n a (suc b) c i
-others_other messages None n a b c i other = refl
-others_other messages (Some x) n a b c i other = ap (λ (s : ℕ). from a i (one (class_fed x n) c) + s) (from_other b i (one (class_in messages x n) c) other)
-
-others_here : (messages : ℕ) (e : Option Entry) (n a b c : ℕ) → keeping messages e n a b c b ≡ keeping messages e n a (suc b) c b + one (shared_by messages e n) c
-others_here messages None n a b c = refl
-others_here messages (Some x) n a b c =
-    let h : from b b (one (class_in messages x n) c) ≡ from (suc b) b (one (class_in messages x n) c) + one (class_in messages x n) c = from_here b (one (class_in messages x n) c) in
-    moved (from b b (one (class_in messages x n) c)) (from (suc b) b (one (class_in messages x n) c)) (one (class_in messages x n) c) (from a b (one (class_fed x n) c)) h
-  where
-    moved : (p q r s : ℕ) → p ≡ q + r → s + p ≡ (s + q) + r
-    moved p q r s h = omega arith
-
--- a log whose head gets its number
-pub kept_step : (messages : ℕ) (entries : List Entry) (row : List ℕ) (head c : ℕ) → head < length entries
-    → kept_in messages entries row head (suc head) c ≡ kept_in messages entries row (suc head) (suc (suc head)) c + passed messages entries row head c
-kept_step messages entries row head c lt =
-    let first : sum_to (length entries) (keeping_at messages entries row head (suc head) c) ≡ sum_to (length entries) (keeping_at messages entries row (suc head) (suc head) c) + one (fed_by (slice_get entries head) (get_or row head 0)) c =
-    sum_change (length entries) head _ (keeping_at messages entries row head (suc head) c) (keeping_at messages entries row (suc head) (suc head) c) lt (sends_here messages (slice_get entries head) (get_or row head 0) head (suc head) c)
-    (λ j le other. sends_other messages (slice_get entries j) (get_or row j 0) head (suc head) c j other) in
-    add_up _ _ _ _ _ first second
-  where
-    add_up : (p q r s t : ℕ) → p ≡ q + s → q ≡ r + t → p ≡ r + (s + t)
-    add_up p q r s t h k = omega arith
-
-    second : sum_to (length entries) (keeping_at messages entries row (suc head) (suc head) c) ≡ sum_to (length entries) (keeping_at messages entries row (suc head) (suc (suc head)) c) + one (shared_by messages (slice_get entries (suc head)) (get_or row (suc head) 0)) c
-    second = elim (less_or_not (suc head) (length entries)) [
-      | inl under ↦ sum_change (length entries) (suc head) _ (keeping_at messages entries row (suc head) (suc head) c) (keeping_at messages entries row (suc head) (suc (suc head)) c) under (others_here messages (slice_get entries (suc head)) (get_or row (suc head) 0) (suc head) (suc head) c)
-          (λ j le other. others_other messages (slice_get entries j) (get_or row j 0) (suc head) (suc head) c j other)
-      | inr more ↦ (let past : slice_get entries (suc head) ≡ None = slice_get_past entries (suc head) (grind arith) in
-          let same : sum_to (length entries) (keeping_at messages entries row (suc head) (suc head) c) ≡ sum_to (length entries) (keeping_at messages entries row (suc head) (suc (suc head)) c) =
-          sum_same (length entries) (keeping_at messages entries row (suc head) (suc head) c) (keeping_at messages entries row (suc head) (suc (suc head)) c) (λ j le. others_other messages (slice_get entries j) (get_or row j 0) (suc head) (suc head) c j (λ h. omega (arith, h))) in
-          rw past (let h = same in omega arith))
-    ]
-
--- the counts of a run in which the head of a log gets its number
-pub counts_step : (run : List Log) (table : Table) (old new : List Numbering) (k n : ℕ) (log : Log) (was : Numbering) (counts next : List ℕ)
-    → Counts run table old counts → Pushes old new k n → slice_get run k ≡ Some log → slice_get old k ≡ Some was → length was.numbers < length log.entries
-    → Takes counts next (passed (length table.messages.items) log.entries (get_or table.rows.items k []) (length was.numbers)) → Counts run table new next
-counts_step run table old new k n log was counts next counted pushes log_at was_at lt takes = record {
-  long = takes.long ∙ counted.long;
-  each = λ c within. each c within;
-}
-  where
-    old_given : given_at old k ≡ length was.numbers
-    old_given = ap count_of was_at
-
-    new_given : given_at new k ≡ suc (length was.numbers)
-    new_given = ap count_of (pushes.here was was_at) ∙ (simp length-append (omega arith))
-
-    here : (c : ℕ) → kept_at run table (given_at old k) c k ≡ kept_at run table (given_at new k) c k + passed (length table.messages.items) log.entries (get_or table.rows.items k []) (length was.numbers) c
-    here c = rw (old_given, new_given, log_at) (kept_step (length table.messages.items) log.entries (get_or table.rows.items k []) (length was.numbers) c lt)
-
-    others : (c j : ℕ) → j ≢ k → kept_at run table (given_at old j) c j ≡ kept_at run table (given_at new j) c j
-    others c j other = ap (λ (g : ℕ). kept_at run table g c j) (ap count_of (sym (pushes.others j other)))
-
-    less : (p q r s t : ℕ) → p ≡ q - t → q ≡ r → r ≡ s + t → p ≡ s
-    less p q r s t h k m = omega arith
-
-    each : (c : ℕ) → c < length next → get_or next c 0 ≡ kept_by run table new c
-    each c within = less _ _ _ _ (passed (length table.messages.items) log.entries (get_or table.rows.items k []) (length was.numbers) c) (takes.each c within) (counted.each c (rw (takes.long) at within))
-        (sum_change (length run) k (passed (length table.messages.items) log.entries (get_or table.rows.items k []) (length was.numbers) c) (λ j. kept_at run table (given_at old j) c j) (λ j. kept_at run table (given_at new j) c j) (slice_get_within run k log log_at) (here c) (λ j le other. others c j other))
-
--- a count that shrinks in two steps
-pub takes_both : (old mid new : List ℕ) (f g h : ℕ → ℕ) → Takes old mid f → Takes mid new g → ((c : ℕ) → h c ≡ f c + g c) → Takes old new h
-takes_both old mid new f g h one_step other both = record {
-  long = other.long ∙ one_step.long;
-  each = λ c within. less _ _ _ _ _ _ (other.each c within) (one_step.each c (rw other.long at within)) (both c);
-}
-  where
-    less : (p q r f g h : ℕ) → p ≡ q - g → q ≡ r - f → h ≡ f + g → p ≡ r - h
-    less p q r f g h a b c = omega arith
-
--- the last entry of a log frees no other
-pub takes_last : (old new : List ℕ) (messages : ℕ) (entries : List Entry) (row : List ℕ) (head : ℕ) → length entries ≤ suc head
-    → Takes old new (one (fed_by (slice_get entries head) (get_or row head 0))) → Takes old new (passed messages entries row head)
-takes_last old new messages entries row head le takes = record {
-  long = takes.long;
-  each = λ c within. (let past : slice_get entries (suc head) ≡ None = slice_get_past entries (suc head) le in
-      rw past (let h = takes.each c within in omega arith));
-}
+use Rattle.totem_cert.specs.Progress.{empty_line}
+use Rattle.totem_cert.specs.Counts.{count_of, given_at, sum_to, class_in, class_fed, class_named, one, kept_behind, kept_in, kept_at, kept_by, Counts, CountsTo, fed_by, shared_by, passed, Adds, Takes, AtMost, Pushes}
+use Rattle.totem_cert.proofs.Lists.{set_here, set_other}
+use Rattle.totem_cert.proofs.Sums.{sum_same, sum_change, sum_millions}
 
 one_most : (o : Option ℕ) (c : ℕ) → one o c ≤ 1
 one_most None c = omega arith
@@ -144,95 +25,136 @@ one_most (Some n) c = go (n == c) refl
     go true e = rw e (omega arith)
     go false e = rw e (omega arith)
 
--- what an entry keeps from the start
-pub is_kept : (messages : ℕ) (entry : Entry) (n at : ℕ) (class : Option ℕ) → IsKept messages entry n at class → (c : ℕ) → keeping messages (Some entry) n 0 1 c at ≤ 1
-is_kept messages entry n at class kept c = let h = kept.each c in let m = one_most class c in omega arith
+-- an entry keeps a class as a send, or as an entry of the class
+named_parts : (messages : ℕ) (x : Entry) (n c : ℕ) → one (class_named messages x n) c ≡ one (class_fed x n) c + one (class_in messages x n) c
+named_parts messages (Conf x ms) n c = omega arith
+named_parts messages (Send m x s) n c = omega arith
+named_parts messages (Deliver m x) n c = omega arith
+named_parts messages (Fail x) n c = omega arith
 
-pub kept_send : (messages : ℕ) (entry : Entry) (n at : ℕ) → class_in messages entry n ≡ None → IsKept messages entry n at (class_fed entry n)
-kept_send messages entry n at alone = record {
-  each = λ c. (let a : from 0 at (one (class_fed entry n) c) ≡ one (class_fed entry n) c = from_yes 0 at (one (class_fed entry n) c) (omega arith) in
-      let b : from 1 at 0 ≡ 0 = nothing 1 at in
-      rw alone (let z = a in let w = b in omega arith));
+-- a log whose head gets its number
+kept_step : (messages head : ℕ) (entries : List Entry) (row : List ℕ) (c : ℕ) → head < length entries → length entries ≡ length row → kept_in messages head entries row c ≡ kept_in messages (suc head) entries row c + passed messages entries row head c
+kept_step messages head [] row c lt long = absurd (omega arith)
+kept_step messages head (x ∷ xs) [] c lt long = absurd (omega arith)
+kept_step messages zero (x ∷ []) (n ∷ ns) c lt long = omega arith
+kept_step messages zero (x ∷ y ∷ ys) (n ∷ []) c lt long = absurd (omega arith)
+kept_step messages zero (x ∷ y ∷ ys) (n ∷ m ∷ ms) c lt long = let parts = named_parts messages y m c in omega arith
+kept_step messages (suc head) (x ∷ xs) (n ∷ ns) c lt long = kept_step messages head xs ns c (omega arith) (omega arith)
+
+-- the counts after the two classes that the entry at `head` kept
+pub takes_passed : (old mid new : List ℕ) (messages : ℕ) (entries : List Entry) (row : List ℕ) (head : ℕ) (x : Entry) (fed next : Option ℕ) → slice_get entries head ≡ Some x → fed ≡ class_fed x (get_or row head 0)
+    → next ≡ shared_by messages (slice_get entries (head + 1)) (get_or row (head + 1) 0) → Takes old mid (one fed) → Takes mid new (one next) → Takes old new (passed messages entries row head)
+takes_passed old mid new messages entries row head x fed next at fed_is next_is first second = record {
+  long = second.long ∙ first.long;
+  each = λ c within.
+      let s : head + 1 ≡ suc head = omega arith in
+      let f : one (fed_by (slice_get entries head) (get_or row head 0)) c ≡ one fed c = ap (λ (o : Option ℕ). one o c) (rw at (sym fed_is)) in
+      let g : one (shared_by messages (slice_get entries (suc head)) (get_or row (suc head) 0)) c ≡ one next c = ap (λ (o : Option ℕ). one o c) (sym (rw s at next_is)) in
+      less _ _ _ _ _ _ _ (second.each c within) (first.each c (rw second.long at within)) f g;
 }
   where
-    nothing : (b i : ℕ) → from b i 0 ≡ 0
-    nothing b i = go (leb b i) refl
-      where
-        go : (t : Bool) → leb b i ≡ t → from b i 0 ≡ 0
-        go true e = rw e refl
-        go false e = rw e refl
+    less : (p q r f g h k : ℕ) → p ≡ q - k → q ≡ r - h → f ≡ h → g ≡ k → p ≡ r - (f + g)
+    less p q r f g h k a b c d = omega arith
 
-kept_in_class : (messages : ℕ) (entry : Entry) (n at : ℕ) → class_fed entry n ≡ None → 0 < at → IsKept messages entry n at (class_in messages entry n)
-kept_in_class messages entry n at feeds some = record {
-  each = λ c. (let a : from 1 at (one (class_in messages entry n) c) ≡ one (class_in messages entry n) c = from_yes 1 at (one (class_in messages entry n) c) (omega arith) in
-      let b : from 0 at 0 ≡ 0 = from_yes 0 at 0 (omega arith) in
-      rw feeds (let z = a in let w = b in omega arith));
+-- the counts of a run in which the head of a log gets its number
+pub counts_step : (run : List Log) (table : Table) (old new : List Numbering) (k n : ℕ) (log : Log) (was : Numbering) (counts next : List ℕ)
+    → IsTable run table → Counts run table old counts → Pushes old new k n → slice_get run k ≡ Some log → slice_get old k ≡ Some was → length was.numbers < length log.entries
+    → Takes counts next (passed (length table.messages.items) log.entries (get_or table.rows.items k []) (length was.numbers)) → Counts run table new next
+counts_step run table old new k n log was counts next is_table counted pushes log_at was_at lt takes = record {
+  long = takes.long ∙ counted.long;
+  each = λ c within. each c within;
 }
+  where
+    old_given : given_at old k ≡ length was.numbers
+    old_given = ap count_of was_at
 
-pub kept_shared : (messages : ℕ) (entry : Entry) (n at : ℕ) (class : Option ℕ) → class_fed entry n ≡ None → 0 < at → class ≡ class_in messages entry n → IsKept messages entry n at class
-kept_shared messages entry n at class feeds some is = rw is (kept_in_class messages entry n at feeds some)
+    new_given : given_at new k ≡ suc (length was.numbers)
+    new_given = rw pushes.is (ap count_of (set_here old k (record pushes.line { numbers = pushes.line.numbers ++ n ∷ [] }) (slice_get_within old k was was_at)) ∙ (simp length-append (let one : pushes.line ≡ was = (let h = pushes.line_at in cc) in rw one (omega arith))))
 
-fed_alone : (messages : ℕ) (entry : Entry) (n k : ℕ) → class_fed entry n ≡ Some k → class_in messages entry n ≡ None
-fed_alone messages (Conf x ms) n k h = absurd cc
-fed_alone messages (Send m x s) n k h = refl
-fed_alone messages (Deliver m x) n k h = absurd cc
-fed_alone messages (Fail x) n k h = absurd cc
+    here : (c : ℕ) → kept_at run table (given_at old k) c k ≡ kept_at run table (given_at new k) c k + passed (length table.messages.items) log.entries (get_or table.rows.items k []) (length was.numbers) c
+    here c = rw (old_given, new_given, log_at) (kept_step (length table.messages.items) (length was.numbers) log.entries (get_or table.rows.items k []) c lt (is_table.rows.each k log log_at).long)
 
-pub kept_fed : (messages : ℕ) (entry : Entry) (n at k : ℕ) → class_fed entry n ≡ Some k → IsKept messages entry n at (Some k)
-kept_fed messages entry n at k h = rw h at (kept_send messages entry n at (fed_alone messages entry n k h))
+    others : (c j : ℕ) → j ≢ k → kept_at run table (given_at old j) c j ≡ kept_at run table (given_at new j) c j
+    others c j other = ap (λ (g : ℕ). kept_at run table g c j) (ap count_of (rw pushes.is (sym (set_other old k j (record pushes.line { numbers = pushes.line.numbers ++ n ∷ [] }) other))))
 
-pub kept_first : (messages : ℕ) (entry : Entry) (n at : ℕ) → class_fed entry n ≡ None → at ≤ 0 → IsKept messages entry n at None
-kept_first messages entry n at feeds none = record {
-  each = λ c. (let a : from 1 at (one (class_in messages entry n) c) ≡ 0 = from_no 1 at (one (class_in messages entry n) c) (omega arith) in
-      let b : from 0 at 0 ≡ 0 = from_yes 0 at 0 (omega arith) in
-      rw feeds (let z = a in let w = b in omega arith));
-}
+    less : (p q r s t : ℕ) → p ≡ q - t → q ≡ r → r ≡ s + t → p ≡ s
+    less p q r s t h k m = omega arith
+
+    each : (c : ℕ) → c < length next → get_or next c 0 ≡ kept_by run table new c
+    each c within = less _ _ _ _ (passed (length table.messages.items) log.entries (get_or table.rows.items k []) (length was.numbers) c) (takes.each c within) (counted.each c (rw (takes.long) at within))
+        (sum_change (length run) k (passed (length table.messages.items) log.entries (get_or table.rows.items k []) (length was.numbers) c) (λ j. kept_at run table (given_at old j) c j) (λ j. kept_at run table (given_at new j) c j) (slice_get_within run k log log_at) (here c) (λ j le other. others c j other))
+
+-- ---- the entries of a log
+
+-- the entries before the one at i are counted
+pub record CountsBehind (messages : ℕ) (entries : List Entry) (row old new : List ℕ) (i : ℕ) : Type 0 where
+  pub long : length new ≡ length old
+  pub each : (c : ℕ) → c < length new → get_or new c 0 + kept_behind messages (drop i entries) (drop i row) c ≡ get_or old c 0 + kept_behind messages entries row c
+
+behind_step : (messages i : ℕ) (entries : List Entry) (row : List ℕ) (x : Entry) (c : ℕ) → slice_get entries i ≡ Some x → length entries ≡ length row
+    → kept_behind messages (drop i entries) (drop i row) c ≡ one (class_named messages x (get_or row i 0)) c + kept_behind messages (drop (suc i) entries) (drop (suc i) row) c
+behind_step messages i [] row x c at long = absurd cc
+behind_step messages i (y ∷ ys) [] x c at long = absurd (omega arith)
+behind_step messages zero (y ∷ ys) (n ∷ ns) x c at long = let same : y ≡ x = cc in rw same refl
+behind_step messages (suc i) (y ∷ ys) (n ∷ ns) x c at long = behind_step messages i ys ns x c at (omega arith)
+
+behind_most : (messages : ℕ) (entries : List Entry) (row : List ℕ) (c : ℕ) → kept_behind messages entries row c ≤ length entries
+behind_most messages [] row c = omega arith
+behind_most messages (x ∷ xs) [] c = omega arith
+behind_most messages (x ∷ xs) (n ∷ ns) c = let rest = behind_most messages xs ns c in let here = one_most (class_named messages x n) c in omega arith
+
+kept_most : (messages given : ℕ) (entries : List Entry) (row : List ℕ) (c : ℕ) → kept_in messages given entries row c ≤ length entries
+kept_most messages given [] row c = omega arith
+kept_most messages given (x ∷ xs) [] c = omega arith
+kept_most messages zero (x ∷ xs) (n ∷ ns) c = let rest = behind_most messages xs ns c in let here = one_most (class_fed x n) c in omega arith
+kept_most messages (suc given) (x ∷ xs) (n ∷ ns) c = let rest = kept_most messages given xs ns c in omega arith
+
+pub behind_none : (messages : ℕ) (entries : List Entry) (row counts : List ℕ) → CountsBehind messages entries row counts counts 0
+behind_none messages [] row counts = record { long = refl; each = λ c lt. refl }
+behind_none messages (x ∷ xs) [] counts = record { long = refl; each = λ c lt. refl }
+behind_none messages (x ∷ xs) (n ∷ ns) counts = record { long = refl; each = λ c lt. refl }
 
 -- one more entry is counted
-pub adds_more : (old mid new : List ℕ) (messages : ℕ) (entries : List Entry) (row : List ℕ) (i : ℕ) (entry : Entry) (n : ℕ) (class : Option ℕ)
-    → Adds old mid (λ c. sum_to i (keeping_at messages entries row 0 1 c)) → Adds mid new (one class) → IsKept messages entry n i class → slice_get entries i ≡ Some entry → get_or row i 0 ≡ n
-    → Adds old new (λ c. sum_to (i + 1) (keeping_at messages entries row 0 1 c))
-adds_more old mid new messages entries row i entry n class before more kept at number = record {
-  long = more.long ∙ before.long;
-  each = λ c within. (let m = more.each c within in
-      let b : get_or mid c 0 ≡ get_or old c 0 + sum_to i (keeping_at messages entries row 0 1 c) = before.each c (rw more.long at within) in
-      let k : keeping_at messages entries row 0 1 c i ≡ one class c = rw (at, number) (kept.each c) in
+pub behind_more : (messages : ℕ) (entries : List Entry) (row old mid new : List ℕ) (i : ℕ) (x : Entry) (class : Option ℕ) → slice_get entries i ≡ Some x → length entries ≡ length row → class ≡ class_named messages x (get_or row i 0)
+    → CountsBehind messages entries row old mid i → Adds mid new (one class) → CountsBehind messages entries row old new (i + 1)
+behind_more messages entries row old mid new i x class at long is so_far adds = record {
+  long = adds.long ∙ so_far.long;
+  each = λ c lt.
       let s : i + 1 ≡ suc i = omega arith in
-      rw s (let s' : sum_to (suc i) (keeping_at messages entries row 0 1 c) ≡ sum_to i (keeping_at messages entries row 0 1 c) + keeping_at messages entries row 0 1 c i = refl in
-      let m' = m in omega arith));
+      rw s (add_up _ _ _ _ _ _ (adds.each c lt) (so_far.each c (rw adds.long at lt)) (rw is (behind_step messages i entries row x c at long)));
 }
-
-pub adds_none : (counts : List ℕ) (messages : ℕ) (entries : List Entry) (row : List ℕ) → Adds counts counts (λ c. sum_to 0 (keeping_at messages entries row 0 1 c))
-adds_none counts messages entries row = record { long = refl; each = λ c within. omega arith }
-
-pub adds_whole : (old new : List ℕ) (messages : ℕ) (entries : List Entry) (row : List ℕ) (i : ℕ) → i ≤ length entries → length entries ≤ i → Adds old new (λ c. sum_to i (keeping_at messages entries row 0 1 c)) → Adds old new (kept_in messages entries row 0 1)
-adds_whole old new messages entries row i le ge adds = let same : i ≡ length entries = omega arith in rw same at adds
-
-is_kept_any : (messages : ℕ) (entry : Entry) (n c i : ℕ) → (class_fed entry n ≡ None) ⊎ (class_in messages entry n ≡ None) → keeping messages (Some entry) n 0 1 c i ≤ 1
-is_kept_any messages entry n c i (inr alone) = is_kept messages entry n i _ (kept_send messages entry n i alone) c
-is_kept_any messages entry n c i (inl feeds) = elim (less_or_not 0 i) [
-  | inl some ↦ is_kept messages entry n i _ (kept_shared messages entry n i _ feeds some refl) c
-  | inr first ↦ is_kept messages entry n i _ (kept_first messages entry n i feeds (grind arith)) c
-]
-
-keeping_most : (messages : ℕ) (e : Option Entry) (n c i : ℕ) → keeping messages e n 0 1 c i ≤ 1
-keeping_most messages None n c i = omega arith
-keeping_most messages (Some (Conf x ms)) n c i = is_kept_any messages (Conf x ms) n c i (inl refl)
-keeping_most messages (Some (Send m x s)) n c i = is_kept_any messages (Send m x s) n c i (inr refl)
-keeping_most messages (Some (Deliver m x)) n c i = is_kept_any messages (Deliver m x) n c i (inl refl)
-keeping_most messages (Some (Fail x)) n c i = is_kept_any messages (Fail x) n c i (inl refl)
+  where
+    add_up : (p q f r s t : ℕ) → p ≡ q + f → q + r ≡ s → r ≡ f + t → p + t ≡ s
+    add_up p q f r s t a b c = omega arith
 
 -- no count is greater than the number of entries before
-pub counted_few : (old new : List ℕ) (messages : ℕ) (entries : List Entry) (row : List ℕ) (i : ℕ) → AtMost old 31000000 → i ≤ 1000000 → Adds old new (λ c. sum_to i (keeping_at messages entries row 0 1 c)) → AtMost new 100000000
-counted_few old new messages entries row i few le adds = record { each = λ c. each c (less_or_not c (length new)) }
+pub behind_few : (messages : ℕ) (entries : List Entry) (row old new : List ℕ) (i : ℕ) → AtMost old 31000000 → length entries ≤ 1000000 → CountsBehind messages entries row old new i → AtMost new 100000000
+behind_few messages entries row old new i few short so_far = record { each = λ c. each c (less_or_not c (length new)) }
   where
     each : (c : ℕ) → (c < length new) ⊎ ((length new < c) ⊎ (c ≡ length new)) → get_or new c 0 ≤ 100000000
-    each c (inl within) =
-        let a : get_or new c 0 ≡ get_or old c 0 + sum_to i (keeping_at messages entries row 0 1 c) = adds.each c within in
-        let b = few.each c in
-        let m : sum_to i (keeping_at messages entries row 0 1 c) ≤ i = sum_ones i (keeping_at messages entries row 0 1 c) (λ j. keeping_most messages (slice_get entries j) (get_or row j 0) c j) in
-        omega arith
+    each c (inl within) = let a = so_far.each c within in let b = few.each c in let m = behind_most messages entries row c in omega arith
     each c (inr past) = (let p : get_or new c 0 ≡ 0 = get_or_past new c 0 (grind arith) in omega arith)
+
+-- the head keeps no class of which it is an entry
+pub behind_all : (messages : ℕ) (entries : List Entry) (row old mid new : List ℕ) (i : ℕ) → length entries ≤ i → length entries ≡ length row → CountsBehind messages entries row old mid i
+    → Takes mid new (one (shared_by messages (slice_get entries 0) (get_or row 0 0))) → Adds old new (kept_in messages 0 entries row)
+behind_all messages entries row old mid new i end long so_far takes = record {
+  long = takes.long ∙ so_far.long;
+  each = λ c lt.
+      let none : drop i entries ≡ [] = drop_of_length-le entries end in
+      let all : get_or mid c 0 + 0 ≡ get_or old c 0 + kept_behind messages entries row c = rw none at (so_far.each c (rw takes.long at lt)) in
+      less _ _ _ _ _ _ (takes.each c lt) all (head c entries row long);
+}
+  where
+    less : (p q r s t u : ℕ) → p ≡ q - s → q + 0 ≡ r + t → t ≡ u + s → p ≡ r + u
+    less p q r s t u a b c = omega arith
+
+    head : (c : ℕ) (es : List Entry) (ns : List ℕ) → length es ≡ length ns → kept_behind messages es ns c ≡ kept_in messages 0 es ns c + one (shared_by messages (slice_get es 0) (get_or ns 0 0)) c
+    head c [] ns long = refl
+    head c (x ∷ xs) [] long = absurd (omega arith)
+    head c (x ∷ xs) (n ∷ ns) long = let parts = named_parts messages x n c in omega arith
+
+-- ---- all logs
 
 -- the counts so far are small enough
 pub counts_few : (run : List Log) (table : Table) (counts : List ℕ) (k : ℕ) → ((j : ℕ) (log : Log) → slice_get run j ≡ Some log → length log.entries ≤ 1000000) → k ≤ 31 → CountsTo run table counts k → AtMost counts 31000000
@@ -243,12 +165,7 @@ counts_few run table counts k short le to = record { each = λ c. each c (less_o
       where
         go : (o : Option Log) → slice_get run j ≡ o → kept_at run table 0 c j ≤ 1000000
         go None is = rw is (omega arith)
-        go (Some log) is =
-            let s = short j log is in
-            let m : kept_in (length table.messages.items) log.entries (get_or table.rows.items j []) 0 1 c ≤ length log.entries =
-            sum_ones (length log.entries) (keeping_at (length table.messages.items) log.entries (get_or table.rows.items j []) 0 1 c)
-            (λ i. keeping_most (length table.messages.items) (slice_get log.entries i) (get_or (get_or table.rows.items j []) i 0) c i) in
-            rw is (let m' = m in let s' = s in omega arith)
+        go (Some log) is = let s = short j log is in let m = kept_most (length table.messages.items) 0 log.entries (get_or table.rows.items j []) c in rw is (let m' = m in let s' = s in omega arith)
 
     each : (c : ℕ) → (c < length counts) ⊎ ((length counts < c) ⊎ (c ≡ length counts)) → get_or counts c 0 ≤ 31000000
     each c (inl within) =
@@ -259,7 +176,7 @@ counts_few run table counts k short le to = record { each = λ c. each c (less_o
 
 -- one more log is counted
 pub counts_more : (run : List Log) (table : Table) (old new : List ℕ) (k messages : ℕ) (log : Log) (entries : List Entry) (row : List ℕ) → CountsTo run table old k → slice_get run k ≡ Some log
-    → messages ≡ length table.messages.items → entries ≡ log.entries → row ≡ get_or table.rows.items k [] → Adds old new (kept_in messages entries row 0 1) → CountsTo run table new (k + 1)
+    → messages ≡ length table.messages.items → entries ≡ log.entries → row ≡ get_or table.rows.items k [] → Adds old new (kept_in messages 0 entries row) → CountsTo run table new (k + 1)
 counts_more run table old new k messages log entries row to log_at messages_is entries_is row_is adds = record {
   long = adds.long ∙ to.long;
   each = λ c within. each c within;
@@ -270,9 +187,9 @@ counts_more run table old new k messages log entries row to log_at messages_is e
 
     each : (c : ℕ) → c < length new → get_or new c 0 ≡ sum_to (k + 1) (kept_at run table 0 c)
     each c within =
-        let a : get_or new c 0 ≡ get_or old c 0 + kept_in messages entries row 0 1 c = adds.each c within in
+        let a : get_or new c 0 ≡ get_or old c 0 + kept_in messages 0 entries row c = adds.each c within in
         let b : get_or old c 0 ≡ sum_to k (kept_at run table 0 c) = to.each c (rw adds.long at within) in
-        let h : kept_at run table 0 c k ≡ kept_in messages entries row 0 1 c = rw (log_at, messages_is, entries_is, row_is) refl in
+        let h : kept_at run table 0 c k ≡ kept_in messages 0 entries row c = rw (log_at, messages_is, entries_is, row_is) refl in
         let s : k + 1 ≡ suc k = omega arith in
         rw s (total _ _ _ _ _ a b h)
 
@@ -295,21 +212,7 @@ counts_none run table counts long zeros = record { long = long; each = λ c with
 
 -- a line with one more number
 pub pushes_of : (old new : List Numbering) (k n : ℕ) (read now : Numbering) → k < length old → read ≡ get_or old k read → new ≡ set old k now → now ≡ record read { numbers = read.numbers ++ n ∷ [] } → Pushes old new k n
-pushes_of old new k n read now within is new_is now_is =
-    let changes = set_changes old new k now within new_is in
-    let read_at : slice_get old k ≡ Some read = slice_get_read old _ k read refl within is in
-    record {
-      count = changes.count;
-      here = λ line at. (let same : line ≡ read = cc in changes.here ∙ ap Some (rw same now_is));
-      others = changes.others;
-    }
-
-pub pushes_changes : (old new : List Numbering) (k n : ℕ) (was : Numbering) → Pushes old new k n → slice_get old k ≡ Some was → Changes old new k (record was { numbers = was.numbers ++ n ∷ [] })
-pushes_changes old new k n was pushes at = record { count = pushes.count; here = pushes.here was at; others = pushes.others }
-
--- a log whose head is in some class has a head
-pub mate_has_head : (p j : ℕ) (x : Entry) (log : Log) (lines : List Numbering) (k : ℕ) (line : Numbering) → HeadIsMate p j x log line → slice_get lines k ≡ Some line → HasHead log lines k
-mate_has_head p j x log lines k line (y, at, mate) line_at = record { line = line; line_at = line_at; more = slice_get_within log.entries (length line.numbers) y at }
+pushes_of old new k n read now within is new_is now_is = record { line = read; line_at = slice_get_read old _ k read refl within is; is = rw (← now_is) new_is }
 
 pub takes_as : (old new : List ℕ) (m n : ℕ) (xs ys : List Entry) (row other : List ℕ) (h g : ℕ) → m ≡ n → xs ≡ ys → row ≡ other → h ≡ g → Takes old new (passed m xs row h) → Takes old new (passed n ys other g)
 takes_as old new m n xs ys row other h g a b c d takes = rw (a, b, c, d) at takes

@@ -3,8 +3,8 @@ use Rattle.std.proofs.Common.{◌≡◌, ◌≢◌, ℕ, ◌+◌, ◌-◌, ◌<�
 use Rattle.std.specs.Prelude.{◌==◌}
 use Rattle.std.proofs.Math.ListN.{set, length-set}
 use Rattle.std.proofs.lemmas.List.{get_or-set_same, get_or-set_other}
-use Rattle.totem_evs.proofs.LogOf.{less_or_not}
 use Rattle.totem_cert.specs.Counts.{one, Adds, Takes}
+use Rattle.totem_cert.proofs.Lists.{same_or_not}
 
 one_here : (n c : ℕ) → c ≡ n → one (Some n) c ≡ 1
 one_here n c same = let test : (n == c) ≡ true = rw same (search rules) in rw test refl
@@ -16,30 +16,20 @@ one_other n c other = go (n == c) refl
     go true e = absurd (other (sym (search rules)))
     go false e = rw e refl
 
-same_or_not : (a b : ℕ) → (a ≡ b) ⊎ (a ≢ b)
-same_or_not a b = elim (less_or_not a b) [
-  | inl under ↦ inr (λ h. omega (arith, h))
-  | inr more ↦ elim more [
-    | inl over ↦ inr (λ h. omega (arith, h))
-    | inr same ↦ inl same
-  ]
-]
-
 at_class : (old : List ℕ) (class n c : ℕ) → class < length old → c ≡ class → get_or (set old class n) c 0 ≡ n
 at_class old class n c within same = rw same (get_or-set_same old class n 0 within)
+
+-- what a write at the class leaves of each count
+set_count : (old : List ℕ) (class n c : ℕ) → class < length old → ((get_or (set old class n) c 0 ≡ n) × (get_or old c 0 ≡ get_or old class 0) × (one (Some class) c ≡ 1)) ⊎ ((get_or (set old class n) c 0 ≡ get_or old c 0) × (one (Some class) c ≡ 0))
+set_count old class n c within = elim (same_or_not c class) [
+  | inl same ↦ inl (at_class old class n c within same, ap (λ (i : ℕ). get_or old i 0) same, one_here class c same)
+  | inr other ↦ inr (get_or-set_other old class c n 0 other, one_other class c other)
+]
 
 pub adds_one : (old : List ℕ) (class n : ℕ) → class < length old → n ≡ get_or old class 0 + 1 → Adds old (set old class n) (one (Some class))
 adds_one old class n within is = record {
   long = length-set old class n;
-  each = λ c lt. elim (same_or_not c class) [
-    | inl same ↦ (let a : get_or (set old class n) c 0 ≡ n = at_class old class n c within same in
-        let b : one (Some class) c ≡ 1 = one_here class c same in
-        let d : get_or old c 0 ≡ get_or old class 0 = ap (λ (i : ℕ). get_or old i 0) same in
-        omega arith)
-    | inr other ↦ (let a : get_or (set old class n) c 0 ≡ get_or old c 0 = get_or-set_other old class c n 0 other in
-        let b : one (Some class) c ≡ 0 = one_other class c other in
-        omega arith)
-  ];
+  each = λ c lt. elim (set_count old class n c within) [ inl (now, was, counted) ↦ omega arith | inr (now, counted) ↦ omega arith ];
 }
 
 pub adds_past : (old : List ℕ) (class : ℕ) → length old ≤ class → Adds old old (one (Some class))
@@ -54,15 +44,7 @@ adds_nothing old = record { long = refl; each = λ c lt. omega arith }
 pub takes_one : (old : List ℕ) (class n : ℕ) → class < length old → n ≡ get_or old class 0 - 1 → Takes old (set old class n) (one (Some class))
 takes_one old class n within is = record {
   long = length-set old class n;
-  each = λ c lt. elim (same_or_not c class) [
-    | inl same ↦ (let a : get_or (set old class n) c 0 ≡ n = at_class old class n c within same in
-        let b : one (Some class) c ≡ 1 = one_here class c same in
-        let d : get_or old c 0 ≡ get_or old class 0 = ap (λ (i : ℕ). get_or old i 0) same in
-        omega arith)
-    | inr other ↦ (let a : get_or (set old class n) c 0 ≡ get_or old c 0 = get_or-set_other old class c n 0 other in
-        let b : one (Some class) c ≡ 0 = one_other class c other in
-        omega arith)
-  ];
+  each = λ c lt. elim (set_count old class n c within) [ inl (now, was, counted) ↦ omega arith | inr (now, counted) ↦ omega arith ];
 }
 
 pub takes_past : (old : List ℕ) (class : ℕ) → length old ≤ class → Takes old old (one (Some class))

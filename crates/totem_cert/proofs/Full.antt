@@ -3,18 +3,17 @@ use Rattle.std.proofs.Common.{◌≡◌, ℕ, suc, ◌<◌, ◌≤◌, ◌⊎◌
 use Rattle.std.specs.Prelude.{All}
 use Rattle.std.proofs.lemmas.Option.{slice_get_within, slice_get-get_or, slice_get_cases}
 use Rattle.totem_ids.specs.declared.place.Place.{Place}
-use Rattle.totem_evs.specs.declared.entry.Entry.{Entry}
 use Rattle.totem_evs.specs.declared.entry.Entry.TheVariants.{Deliver}
 use Rattle.totem_evs.specs.declared.log.Log.{Log}
-use Rattle.totem_evs.specs.Events.{IsEvent, log_of}
+use Rattle.totem_evs.specs.Events.{IsEvent}
 use Rattle.totem_evs.specs.Steps.{SameClass}
-use Rattle.totem_evs.specs.Certificates.{Numbering, number_at, numbers_of, IsBelow, Matches}
+use Rattle.totem_evs.specs.Certificates.{Numbering, number_at, IsBelow, Matches}
 use Rattle.totem_evs.proofs.LogOf.{Rising}
 use Rattle.totem_cert.specs.Search.{place}
 use Rattle.totem_evs.specs.Classes.{WaitsFor}
 use Rattle.totem_evs.specs.Positions.{IsPositions}
 use Rattle.totem_cert.specs.Progress.{Fits, IsSound, IsFull, IsNumbered}
-use Rattle.totem_cert.proofs.LineFacts.{Stands, where_is, stands_at, index_of, within_numbered, fits_tail}
+use Rattle.totem_cert.proofs.LineFacts.{stands_at, stands_in, event_at, within_numbered, fits_tail}
 
 full_tail : (log : Log) (logs : List Log) (line : Numbering) (lines : List Numbering) → IsFull (log ∷ logs) (line ∷ lines) → IsFull logs lines
 full_tail log logs line lines full = record { full = λ j l n at_l at_n. full.full (suc j) l n at_l at_n }
@@ -33,17 +32,12 @@ matches (log ∷ logs) (line ∷ lines) fits full =
 
 module _ (run : List Log) (lines : List Numbering) (rising : Rising run) (sound : IsSound run lines) (full : IsFull run lines) where
   numbered : (e : Place) → IsEvent run e → IsNumbered lines e
-  numbered e (x, at) = go (index_of run e x at) (where_is run lines e.proc sound.fits)
-    where
-      go : (i : ℕ) × (e ≡ place e.proc i) × (slice_get (log_of run e.proc) i ≡ Some x)
-          → ((log_of run e.proc ≡ []) × (numbers_of lines e.proc ≡ [])) ⊎ ((k : ℕ) × (log : Log) × (line : Numbering) × Stands run lines e.proc k log line) → IsNumbered lines e
-      go (i, is, at_i) (inl (none, nothing)) = absurd (let h : slice_get {X = Entry} [] i ≡ Some x = rw none at at_i in cc)
-      go (i, is, at_i) (inr (k, log, line, s)) =
-          let ge = full.full k log line s.log_at s.line_at in
-          let at_l : slice_get log.entries i ≡ Some x = rw s.log_is at at_i in
-          let lt = slice_get_within log.entries i x at_l in
-          let lt' : i < length (numbers_of lines e.proc) = rw s.line_is (omega arith) in
-          rw is (within_numbered lines e.proc i lt')
+  numbered e (x, at) =
+      let (k, i, a, is) = event_at run e x at in
+      let s = stands_in run lines k a.log rising sound.fits a.is_log in
+      let all = full.full k a.log s.0 a.is_log s.1.line_at in
+      let lt = slice_get_within a.log.entries i x a.is_entry in
+      rw is (within_numbered lines a.log.proc i (rw s.1.line_is (omega arith)))
 
   below : (e f : Place) → IsEvent run f → WaitsFor run f e → IsBelow lines e f
   below e f event waits =

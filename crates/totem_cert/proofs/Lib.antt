@@ -1,11 +1,11 @@
+pub mod Lists
 pub mod Classmates
+pub mod Classes
+pub mod FirstPlaces
 pub mod Sound
 pub mod LineFacts
 pub mod LogHeads
-pub mod Given
-pub mod Kept
 pub mod Next
-pub mod GiveSteps
 pub mod Started
 pub mod Full
 pub mod Stepping
@@ -17,10 +17,6 @@ pub mod Least
 pub mod One
 pub mod Closable
 pub mod Excluded
-pub mod KeyOrder
-pub mod Indexed
-pub mod Wanting
-pub mod Picking
 pub mod Noting
 pub mod Turning
 pub mod ClosedOne
@@ -28,4 +24,5 @@ pub mod Sums
 pub mod CountSteps
 pub mod Countable
 pub mod CountingOne
-pub mod Alone
+pub mod ClassHeads
+pub mod Giving

@@ -1,5 +1,5 @@
 -- Lines and logs, by index, by process and by place.
-use Rattle.std.proofs.Common.{◌≡◌, ℕ, zero, suc, ◌<◌, ◌≤◌, ◌⊎◌, inl, inr, List, [], ◌∷◌, length, get_or, slice_get, Some, None, Bool, true, false, refl, ap, arith, rules}
+use Rattle.std.proofs.Common.{below_more, ◌≡◌, ℕ, zero, suc, ◌<◌, ◌≤◌, ◌⊎◌, inl, inr, Option, List, [], ◌∷◌, ◌+◌, length, get_or, slice_get, Some, None, Bool, true, false, refl, sym, ◌∙◌, ap, arith, rules}
 use Rattle.std.specs.Prelude.{◌==◌}
 use Rattle.std.proofs.lemmas.Option.{slice_get_within, slice_get-get_or, slice_get_past, slice_get_cases, slice_get_read}
 use Rattle.totem_ids.specs.declared.place.Place.{Place}
@@ -7,9 +7,14 @@ use Rattle.totem_evs.specs.declared.entry.Entry.{Entry}
 use Rattle.totem_evs.specs.declared.log.Log.{Log}
 use Rattle.totem_evs.specs.Events.{log_of, at_place, entry_at}
 use Rattle.totem_evs.specs.Certificates.{Numbering, numbers_of, number_at}
-use Rattle.totem_evs.proofs.LogOf.{Rising, in_order}
+use Rattle.totem_evs.specs.Classes.{IsAtMost}
+use Rattle.totem_evs.proofs.LogOf.{Rising, Rising-tail, in_order, less_or_not, log_of_cases, log_of_at}
+use Rattle.totem_table.specs.declared.table.Table.{Table}
+use Rattle.totem_table.specs.Tables.{IsEntryAt}
 use Rattle.totem_cert.specs.Search.{place}
-use Rattle.totem_cert.specs.Progress.{Fits, IsNumbered}
+use Rattle.totem_cert.specs.Counts.{class_at, count_of, given_at}
+use Rattle.totem_cert.specs.Progress.{Fits, IsClassOf, IsLogOf, IsNumbered}
+use Rattle.totem_cert.proofs.Lists.{at_index}
 
 -- the log and the line of process p, which are at index k
 pub record Stands (run : List Log) (lines : List Numbering) (p k : ℕ) (log : Log) (line : Numbering) : Type 0 where
@@ -27,7 +32,7 @@ fits_tail log logs line lines fits = record {
 }
 
 -- a process has both a log and a line, or neither
-pub where_is : (run : List Log) (lines : List Numbering) (p : ℕ) → Fits run lines
+where_is : (run : List Log) (lines : List Numbering) (p : ℕ) → Fits run lines
     → ((log_of run p ≡ []) × (numbers_of lines p ≡ [])) ⊎ ((k : ℕ) × (log : Log) × (line : Numbering) × Stands run lines p k log line)
 where_is [] [] p fits = inl (refl, refl)
 where_is [] (line ∷ lines) p fits = absurd (let h = fits.count in omega arith)
@@ -39,9 +44,6 @@ where_is (log ∷ logs) (line ∷ lines) p fits = go (log.proc == p) refl (fits.
     go true e same rest = inr (0, log, line, record { log_at = refl; line_at = refl; proc = search rules; log_is = rw e refl; line_is = rw (same, e) refl })
     go false e same (inl (none, nothing)) = inl (rw e none, rw (same, e) nothing)
     go false e same (inr (k, l, n, at)) = inr (suc k, l, n, record { log_at = at.log_at; line_at = at.line_at; proc = at.proc; log_is = rw e at.log_is; line_is = rw (same, e) at.line_is })
-
-Rising-tail : (log : Log) (logs : List Log) → Rising (log ∷ logs) → Rising logs
-Rising-tail log logs rising = λ i j d lt below. rising (suc i) (suc j) d (omega arith) (omega arith)
 
 -- if the processes are ascending, each log and line is found by its process
 pub stands_at : (run : List Log) (lines : List Numbering) (k : ℕ) (log : Log) (line : Numbering) → Rising run → Fits run lines → slice_get run k ≡ Some log → slice_get lines k ≡ Some line
@@ -60,6 +62,10 @@ stands_at (x ∷ xs) (y ∷ ys) (suc k) log line rising fits at_l at_n =
     let proc : y.proc ≡ x.proc = fits.proc 0 x y refl refl in
     let test : (x.proc == log.proc) ≡ false = search rules in
     record { log_at = at_l; line_at = at_n; proc = refl; log_is = rw test rest.log_is; line_is = rw (proc, test) rest.line_is }
+
+-- a place is given by its parts
+pub same_parts : (g : Place) (p a : ℕ) → g.proc ≡ p → g.at ≡ a → g ≡ record { proc = p; at = a }
+same_parts g p a procs ats = rw (← procs, ← ats) refl
 
 -- an event has an index in its log
 pub index_of : (run : List Log) (e : Place) (x : Entry) → entry_at run e ≡ Some x → (i : ℕ) × (e ≡ place e.proc i) × (slice_get (log_of run e.proc) i ≡ Some x)
@@ -92,3 +98,89 @@ read_both run items lines k log line fits same lt log_is line_is = (
   rw same at (slice_get_read items _ k log refl lt log_is),
   slice_get_read lines _ k line refl (let h : k < length run = rw same at lt in let c = fits.count in omega arith) line_is,
 )
+
+-- the numbers of a log, by its index in the run
+pub given_is : (run : List Log) (lines : List Numbering) (k q : ℕ) (log : Log) (line : Numbering) → Stands run lines q k log line → given_at lines k ≡ length (numbers_of lines q)
+given_is run lines k q log line s = ap count_of s.line_at ∙ ap length (sym s.line_is)
+
+-- each log has its line
+pub stands_in : (run : List Log) (lines : List Numbering) (k : ℕ) (log : Log) → Rising run → Fits run lines → slice_get run k ≡ Some log → (line : Numbering) × Stands run lines log.proc k log line
+stands_in run lines k log rising fits log_at =
+    let line = at_index lines k (let lt = slice_get_within run k log log_at in let c = fits.count in omega arith) in
+    (line.0, stands_at run lines k log line.0 rising fits log_at line.1)
+
+pub given_of : (run : List Log) (lines : List Numbering) (k : ℕ) (log : Log) → Rising run → Fits run lines → slice_get run k ≡ Some log → given_at lines k ≡ length (numbers_of lines log.proc)
+given_of run lines k log rising fits log_at = let s = stands_in run lines k log rising fits log_at in given_is run lines k log.proc log s.0 s.1
+
+-- a process has one log
+pub log_index : (run : List Log) (k l : ℕ) (a b : Log) → Rising run → slice_get run k ≡ Some a → slice_get run l ≡ Some b → a.proc ≡ b.proc → k ≡ l
+log_index run k l a b rising at_k at_l same = elim (less_or_not k l) [
+  | inl under ↦ absurd (let lt = in_order run k l a b rising at_k at_l under in omega arith)
+  | inr rest ↦ elim rest [ inl over ↦ absurd (let lt = in_order run l k b a rising at_l at_k over in omega arith) | inr eq ↦ eq ]
+]
+
+-- the entry of an event, by the index of its log
+pub event_at : (run : List Log) (e : Place) (x : Entry) → entry_at run e ≡ Some x → (k i : ℕ) × (a : IsEntryAt run k i x) × (e ≡ place a.log.proc i)
+event_at run e x at = go (index_of run e x at) (log_of_cases run e.proc)
+  where
+    go : (i : ℕ) × (e ≡ place e.proc i) × (slice_get (log_of run e.proc) i ≡ Some x)
+        → (log_of run e.proc ≡ []) ⊎ ((k : ℕ) × (log : Log) × (slice_get run k ≡ Some log) × (log.proc ≡ e.proc) × (log_of run e.proc ≡ log.entries)) → (k i : ℕ) × (a : IsEntryAt run k i x) × (e ≡ place a.log.proc i)
+    go (i, is, at_i) (inl none) = absurd (let h : slice_get {X = Entry} [] i ≡ Some x = rw none at at_i in cc)
+    go (i, is, at_i) (inr (k, log, log_at, same, entries)) = (k, i, record { log = log; is_log = log_at; is_entry = rw entries at at_i }, is ∙ ap (λ (p : ℕ). place p i) (sym same))
+
+pub entry_event : (run : List Log) (k i : ℕ) (x : Entry) → Rising run → (a : IsEntryAt run k i x) → slice_get (log_of run a.log.proc) i ≡ Some x
+entry_event run k i x rising a = rw (log_of_at run k a.log rising a.is_log) a.is_entry
+
+-- places in the order of the logs, and in each log of its entries
+pub at_most : (run : List Log) (k i l j : ℕ) (x y : Entry) → Rising run → (a : IsEntryAt run k i x) (b : IsEntryAt run l j y) → (k < l) ⊎ ((k ≡ l) × (i ≤ j)) → IsAtMost (place a.log.proc i) (place b.log.proc j)
+at_most run k i l j x y rising a b (inl lt) = inl (in_order run k l a.log b.log rising a.is_log b.is_log lt)
+at_most run k i l j x y rising a b (inr (same, le)) =
+    let one : a.log ≡ b.log = (let h : slice_get run l ≡ Some a.log = rw same at a.is_log in let g = b.is_log in cc) in
+    inr (ap (λ (log : Log). log.proc) one, omega arith)
+
+-- no log before the k-th is p's
+pub record NoLogBefore (run : List Log) (p k : ℕ) : Type 0 where
+  pub none : (j : ℕ) → j < k → (log : Log) → slice_get run j ≡ Some log → log.proc ≡ p → ⊥
+
+pub no_log_more : (run : List Log) (p k : ℕ) (log : Log) → slice_get run k ≡ Some log → (log.proc ≡ p → ⊥) → NoLogBefore run p k → NoLogBefore run p (k + 1)
+no_log_more run p k log at other before = record {
+  none = below_more (λ j. (l : Log) → slice_get run j ≡ Some l → l.proc ≡ p → ⊥) k before.none (λ l at_l same. (let one : l ≡ log = cc in other (rw one at same)));
+}
+
+pub no_entry : (run : List Log) (p i : ℕ) → IsLogOf run p None → None ≡ slice_get (log_of run p) i
+no_entry run p i none = elim (log_of_cases run p) [ inl is ↦ rw is refl | inr (k, log, at, same, _) ↦ absurd (none k log at same) ]
+
+pub no_numbers : (run : List Log) (lines : List Numbering) (p : ℕ) → Fits run lines → IsLogOf run p None → 0 ≡ length (numbers_of lines p)
+no_numbers run lines p fits none = elim (where_is run lines p fits) [ inl (_, nothing) ↦ sym (ap length nothing) | inr (k, log, line, s) ↦ absurd (none k log s.log_at s.proc) ]
+
+-- what the code reads at the index of a log
+pub read_at : (run items : List Log) (k : ℕ) (found log : Log) → items ≡ run → slice_get run k ≡ Some found → log ≡ get_or items k log → slice_get run k ≡ Some log
+read_at run items k found log same at is = rw same at (slice_get_read items _ k log refl (rw same (slice_get_within run k found at)) is)
+
+-- what the code reads at the index of p's log
+pub read_log : (run items : List Log) (p k : ℕ) (log : Log) → IsLogOf run p (Some k) → items ≡ run → log ≡ get_or items k log → (slice_get run k ≡ Some log) × (log.proc ≡ p)
+read_log run items p k log (found, at, proc) same is =
+    let h : slice_get run k ≡ Some log = read_at run items k found log same at is in
+    let one : found ≡ log = cc in
+    (h, rw one at proc)
+
+pub class_past : (run : List Log) (table : Table) (e : Place) (k at : ℕ) (log : Log) → Rising run → slice_get run k ≡ Some log → log.proc ≡ e.proc → e.at ≡ suc at → length log.entries ≤ at → IsClassOf run table e None
+class_past run table e k at log rising log_at proc at_e past = record {
+  each = λ l i x a is. absurd (
+      let same = log_index run l k a.log log rising a.is_log log_at (sym (ap (λ (f : Place). f.proc) is) ∙ sym proc) in
+      let one : a.log ≡ log = (let h : slice_get run k ≡ Some a.log = rw same at a.is_log in cc) in
+      let lt : i < length log.entries = rw one at (slice_get_within a.log.entries i x a.is_entry) in
+      let i_is : e.at ≡ suc i = ap (λ (f : Place). f.at) is in
+      omega arith);
+}
+
+pub class_here : (run : List Log) (table : Table) (e : Place) (k at : ℕ) (log : Log) (x : Entry) (class : Option ℕ) → Rising run → slice_get run k ≡ Some log → log.proc ≡ e.proc → e.at ≡ suc at → slice_get log.entries at ≡ Some x
+    → class ≡ class_at table k at x → IsClassOf run table e class
+class_here run table e k at log x class rising log_at proc at_e entry_at class_is = record {
+  each = λ l i y a is. (
+      let same = log_index run l k a.log log rising a.is_log log_at (sym (ap (λ (f : Place). f.proc) is) ∙ sym proc) in
+      let one : a.log ≡ log = (let h : slice_get run k ≡ Some a.log = rw same at a.is_log in cc) in
+      let i_is : i ≡ at = (let h : e.at ≡ suc i = ap (λ (f : Place). f.at) is in omega arith) in
+      let entry : y ≡ x = (let h : slice_get log.entries at ≡ Some y = rw (one, i_is) at a.is_entry in cc) in
+      rw (same, i_is, entry) class_is);
+}

@@ -1,37 +1,30 @@
 -- Which classes are ready, found from the heads of the logs.
-use Rattle.std.proofs.Common.{◌≡◌, ℕ, zero, suc, ◌<◌, ◌≤◌, ◌⊎◌, inl, inr, List, [], ◌∷◌, length, slice_get, Option, Some, None, refl, ◌∙◌, ap, arith}
+use Rattle.std.proofs.Common.{◌≡◌, ℕ, zero, suc, ◌<◌, ◌≤◌, ◌⊎◌, inl, inr, List, length, slice_get, Option, Some, None, refl, ap, arith}
 use Rattle.std.proofs.lemmas.Option.{slice_get_within}
 use Rattle.totem_ids.specs.declared.conf.ConfId.{ConfId}
 use Rattle.totem_ids.specs.declared.message.MsgId.{MsgId}
 use Rattle.totem_ids.specs.declared.place.Place.{Place}
 use Rattle.totem_evs.specs.declared.entry.Entry.{Entry}
-use Rattle.totem_evs.specs.declared.entry.Entry.TheVariants.{Conf, Send, Deliver, Fail}
+use Rattle.totem_evs.specs.declared.entry.Entry.TheVariants.{Conf, Send, Deliver}
 use Rattle.totem_evs.specs.declared.log.Log.{Log}
 use Rattle.totem_evs.specs.Events.{log_of, entry_at}
 use Rattle.totem_evs.specs.Steps.{Strict, SameClass, SendsAt, DeliversAt}
 use Rattle.totem_evs.specs.Certificates.{Numbering, numbers_of, number_at}
-use Rattle.totem_cert.specs.Search.{NoneOf}
+use Rattle.totem_cert.specs.Search.{NoneOf, place}
 use Rattle.totem_evs.proofs.LogOf.{less_or_not}
-use Rattle.totem_cert.specs.Search.{place}
 use Rattle.totem_evs.specs.Classes.{InClass, WaitsFor, AreOfOneClass, AreSendAndDelivery}
 use Rattle.totem_cert.specs.Progress.{IsNumbered, Sound, IsReady, IsMate, KeepsBack}
 use Rattle.totem_cert.proofs.Classmates.{class_sym, event_of, one_message, waits_same}
-use Rattle.totem_cert.proofs.LineFacts.{index_of, numbered_within, within_numbered, unnumbered_past, past_unnumbered}
+use Rattle.totem_cert.proofs.Lists.{previous}
+use Rattle.totem_cert.proofs.LineFacts.{same_parts, index_of, numbered_within, within_numbered, unnumbered_past, past_unnumbered}
 
 -- places whose entries are of one class are in the same class
-alike_class : (x y : Entry) (run : List Log) (e f : Place) → AreOfOneClass x y → entry_at run e ≡ Some x → entry_at run f ≡ Some y → SameClass run e f
+pub alike_class : (x y : Entry) (run : List Log) (e f : Place) → AreOfOneClass x y → entry_at run e ≡ Some x → entry_at run f ≡ Some y → SameClass run e f
 alike_class (Conf x ms) (Conf y ns) run e f h at_e at_f = inl (x, (ms, at_e), (ns, rw h at_f))
-alike_class (Conf x ms) (Send m y s) run e f h at_e at_f = absurd h
-alike_class (Conf x ms) (Deliver m y) run e f h at_e at_f = absurd h
-alike_class (Conf x ms) (Fail y) run e f h at_e at_f = absurd h
 alike_class (Deliver m x) (Deliver n y) run e f h at_e at_f = inr (m, (x, at_e), (y, rw h at_f))
-alike_class (Deliver m x) (Conf y ns) run e f h at_e at_f = absurd h
-alike_class (Deliver m x) (Send n y s) run e f h at_e at_f = absurd h
-alike_class (Deliver m x) (Fail y) run e f h at_e at_f = absurd h
-alike_class (Send m x s) y run e f h at_e at_f = absurd h
-alike_class (Fail x) y run e f h at_e at_f = absurd h
+alike_class x y run e f h at_e at_f = absurd h
 
-class_alike : (run : List Log) (e f : Place) (x y : Entry) → SameClass run e f → entry_at run e ≡ Some x → entry_at run f ≡ Some y → AreOfOneClass x y
+pub class_alike : (run : List Log) (e f : Place) (x y : Entry) → SameClass run e f → entry_at run e ≡ Some x → entry_at run f ≡ Some y → AreOfOneClass x y
 class_alike run e f x y (inl (c, (ms, a), (ns, b))) at_e at_f =
     let x_is : x ≡ Conf c ms = cc in let y_is : y ≡ Conf c ns = cc in rw (x_is, y_is) refl
 class_alike run e f x y (inr (m, (c, a), (d, b))) at_e at_f =
@@ -49,12 +42,7 @@ class_mate run p j q i x y at_x at_y (inr same) = inr (class_alike run (place p 
 -- a send of the message that an event delivers
 pub feeds_send : (y x : Entry) (run : List Log) (g e : Place) → AreSendAndDelivery y x → entry_at run g ≡ Some y → entry_at run e ≡ Some x → (m : MsgId) × (c : ConfId) × SendsAt run g m c × DeliversAt run e m
 feeds_send (Send m c s) (Deliver n d) run g e h at_g at_e = (m, c, (s, at_g), (d, rw h at_e))
-feeds_send (Send m c s) (Conf d ms) run g e h at_g at_e = absurd h
-feeds_send (Send m c s) (Send n d t) run g e h at_g at_e = absurd h
-feeds_send (Send m c s) (Fail d) run g e h at_g at_e = absurd h
-feeds_send (Conf c ms) x run g e h at_g at_e = absurd h
-feeds_send (Deliver m c) x run g e h at_g at_e = absurd h
-feeds_send (Fail c) x run g e h at_g at_e = absurd h
+feeds_send y x run g e h at_g at_e = absurd h
 
 pub send_feeds : (y x : Entry) (run : List Log) (g e : Place) (m : MsgId) (c : ConfId) → SendsAt run g m c → DeliversAt run e m → entry_at run g ≡ Some y → entry_at run e ≡ Some x → AreSendAndDelivery y x
 send_feeds y x run g e m c (s, a) (d, b) at_g at_e = let y_is : y ≡ Send m c s = cc in let x_is : x ≡ Deliver m d = cc in rw (y_is, x_is) refl
@@ -64,19 +52,6 @@ pub class_delivers : (run : List Log) (e f : Place) (m : MsgId) → InClass run 
 class_delivers run e f m (inl (_, same)) d = rw same d
 class_delivers run e f m (inr (inl (x, (ms, a), (ns, b)))) (c, d) = absurd cc
 class_delivers run e f m (inr (inr (n, a, b))) d = let same : m ≡ n = one_message run f m n d b in rw same a
-
--- a place is given by its parts
-pub same_place_of : (g : Place) (q a : ℕ) → g.proc ≡ q → g.at ≡ suc a → g ≡ place q a
-same_place_of g q a h k =
-    ap (λ (p : ℕ). let e : Place = record { proc = p; at = g.at } in e) h ∙ ap (λ (i : ℕ). let e : Place = record { proc = q; at = i } in e) k
-
-pub previous : (run : List Log) (p i : ℕ) (y : Entry) → slice_get (log_of run p) (suc i) ≡ Some y → (x : Entry) × (slice_get (log_of run p) i ≡ Some x)
-previous run p i y at = before (log_of run p) i y at
-  where
-    before : (log : List Entry) (i : ℕ) (y : Entry) → slice_get log (suc i) ≡ Some y → (x : Entry) × (slice_get log i ≡ Some x)
-    before [] i y h = absurd cc
-    before (x ∷ xs) zero y h = (x, refl)
-    before (x ∷ xs) (suc i) y h = before xs i y h
 
 module _ (run : List Log) (lines : List Numbering) (p j : ℕ) (x : Entry) (at : slice_get (log_of run p) j ≡ Some x) where
   -- if nothing keeps a class back, it is ready
@@ -102,7 +77,7 @@ module _ (run : List Log) (lines : List Numbering) (p j : ℕ) (x : Entry) (at :
           let procs : g.proc ≡ f.proc = same in
           let lt : a.0 < i.0 = (let u : g.at ≡ suc a.0 = ap (λ (e : Place). e.at) a.1 in let v : f.at ≡ suc i.0 = ap (λ (e : Place). e.at) i.1 in omega arith) in
           let h : IsNumbered lines (place f.proc a.0) = by_order f.proc i.0 a.0 y (rw i.1 at shares) i.2 lt in
-          rw (same_place_of g f.proc a.0 same (ap (λ (e : Place). e.at) a.1)) h
+          rw (same_parts g f.proc (suc a.0) same (ap (λ (e : Place). e.at) a.1)) h
       strict g f shares (inr (m, c, (s, sends), delivers)) =
           let a = index_of run g (Send m c s) sends in
           let here = class_delivers run (place p j) f m shares delivers in
@@ -115,7 +90,7 @@ module _ (run : List Log) (lines : List Numbering) (p j : ℕ) (x : Entry) (at :
   pub something_keeps : (q i : ℕ) → KeepsBack run lines p j x q i → IsReady run lines (place p j) → ⊥
   something_keeps q zero (y, at_y, inl (mate, past)) ready = omega arith
   something_keeps q (suc i) (y, at_y, inl (mate, past)) ready =
-      let z = previous run q i y at_y in
+      let z = previous (log_of run q) i y at_y in
       let waits : WaitsFor run (place p j) (place q i) = record {
         member = place q (suc i);
         shares = mate_class run p j q (suc i) x y at at_y mate;
@@ -140,7 +115,7 @@ ready_head run lines e ready =
     below : (i : ℕ) → e ≡ place e.proc i → slice_get (log_of run e.proc) i ≡ Some ready.event.0 → i ≤ length (numbers_of lines e.proc)
     below zero is at = omega arith
     below (suc i) is at =
-        let z = previous run e.proc i ready.event.0 at in
+        let z = previous (log_of run e.proc) i ready.event.0 at in
         let waits : WaitsFor run e (place e.proc i) = record {
           member = e;
           shares = inl (ready.event, refl);

@@ -1,44 +1,31 @@
 -- The steps of a walk, noted by the events to which they led.
-use Rattle.std.proofs.Common.{◌≡◌, ℕ, ◌<◌, ◌⊎◌, inl, inr, List, [], ◌∷◌, ◌++◌, length, slice_get, Some, None, Bool, true, false, refl, sym, ◌∙◌, ap, nat_cmp}
-use Rattle.std.specs.Ordering.{is_eq, ordering_then}
-use Rattle.std.specs.declared.cmp.Ordering.{Ordering}
-use Rattle.std.specs.declared.cmp.Ordering.TheVariants.{Less, Equal, Greater}
+use Rattle.std.proofs.Common.{◌≡◌, ℕ, ◌<◌, ◌⊎◌, inl, inr, List, [], ◌∷◌, ◌++◌, length, slice_get, Some, None, false, refl, sym, ◌∙◌, nat_cmp, arith}
+use Rattle.std.specs.Ordering.{is_eq}
+use Rattle.std.specs.declared.cmp.Ordering.TheVariants.{Equal}
 use Rattle.std.specs.BTreeMap.{BTreeMap, get, Updates}
 use Rattle.std.proofs.lemmas.Cmp.{ranked}
 use Rattle.std.proofs.lemmas.Option.{slice_get_within}
 use Rattle.totem_ids.specs.declared.place.Place.{Place}
 use Rattle.totem_ids.specs.contracts.life.ProcOrd.TheImpl as processes
+use Rattle.totem_ids.proofs.Exact.{both_equal, equal_at, apart_or_at}
 use Rattle.totem_evs.specs.ClosedLists.{Step}
 use Rattle.totem_evs.proofs.ProcOrder.{exact_proc}
 use Rattle.totem_cert.specs.Progress.{IsVisitedAt, IsNotVisited}
 use Rattle.totem_cert.specs.Visited.{place_order, IsNoted}
-use Rattle.totem_cert.proofs.Walking.{push_at, push_below, push_cases}
+use Rattle.totem_cert.proofs.LineFacts.{same_parts}
+use Rattle.totem_cert.proofs.Lists.{push_here, push_other, push_cases}
 
 same_number : (a b : ℕ) → nat_cmp a b ≡ Equal → a ≡ b
 same_number a b e = rw e at (ranked a b (nat_cmp a b) refl)
 
-both : (a b : Ordering) → ordering_then a b ≡ Equal → (a ≡ Equal) × (b ≡ Equal)
-both Less b h = absurd cc
-both Equal b h = (refl, h)
-both Greater b h = absurd cc
-
 same_place : (e f : Place) → place_order e f ≡ Equal → e ≡ f
 same_place e f h =
-    let parts = both (processes.cmp-value.it e.proc f.proc) (nat_cmp e.at f.at) h in
-    ap (λ (r : ℕ). let g : Place = record { proc = r; at = e.at } in g) (exact_proc e.proc f.proc parts.0) ∙ ap (λ (i : ℕ). let g : Place = record { proc = f.proc; at = i } in g) (same_number e.at f.at parts.1)
-
-equal_if : (o : Ordering) → is_eq o ≡ true → o ≡ Equal
-equal_if Less h = absurd cc
-equal_if Equal h = refl
-equal_if Greater h = absurd cc
-
-bool_cases : (b : Bool) → (b ≡ true) ⊎ (b ≡ false)
-bool_cases true = inl refl
-bool_cases false = inr refl
+    let parts = both_equal (processes.cmp-value.it e.proc f.proc) (nat_cmp e.at f.at) h in
+    same_parts e f.proc f.at (exact_proc e.proc f.proc parts.0) (same_number e.at f.at parts.1)
 
 -- the two places are equal, or the order tells them apart
 apart_or_same : (e f : Place) → (e ≡ f) ⊎ (is_eq (place_order e f) ≡ false)
-apart_or_same e f = elim (bool_cases (is_eq (place_order e f))) [ inl h ↦ inl (same_place e f (equal_if (place_order e f) h)) | inr h ↦ inr h ]
+apart_or_same e f = elim (apart_or_at place_order e f) [ inl h ↦ inl (same_place e f (equal_at (place_order e f) h)) | inr h ↦ inr h ]
 
 pub noted_yet : (seen : BTreeMap Place ℕ) (steps : List Step) → seen.entries ≡ [] → steps ≡ [] → IsNoted seen steps
 noted_yet seen steps empty is = record {
@@ -66,7 +53,7 @@ noted_more seen new steps next noted fresh updates = record {
     found e i at (inl same) =
         let there : get place_order new e ≡ Some (length steps) = rw same at updates.1 in
         let is : i ≡ length steps = cc in
-        record { step = next; at = push_at steps next i is; same = same }
+        record { step = next; at = rw is (push_here steps next); same = same }
     found e i at (inr apart) =
         let h = noted.only e i (sym (updates.2 e apart) ∙ at) in
-        record { step = h.step; at = push_below steps next i (slice_get_within steps i h.step h.at) ∙ h.at; same = h.same }
+        record { step = h.step; at = push_other steps next i (λ e. (let lt = slice_get_within steps i h.step h.at in omega (arith, e))) ∙ h.at; same = h.same }

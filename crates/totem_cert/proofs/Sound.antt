@@ -1,5 +1,5 @@
 -- What holds of the numbers given so far, and after one more class.
-use Rattle.std.proofs.Common.{◌≡◌, ℕ, ◌+◌, ◌<◌, ◌≤◌, ◌⊎◌, inl, inr, List, Option, Some, None, refl, sym, ◌∙◌, arith}
+use Rattle.std.proofs.Common.{◌≡◌, ℕ, ◌+◌, ◌<◌, ◌≤◌, ◌⊎◌, inl, inr, List, Some, sym, ◌∙◌, arith}
 use Rattle.totem_ids.specs.declared.place.Place.{Place}
 use Rattle.totem_evs.specs.declared.log.Log.{Log}
 use Rattle.totem_evs.specs.Events.{IsEvent}
@@ -7,25 +7,19 @@ use Rattle.totem_evs.specs.Certificates.{Numbering, number_at}
 use Rattle.totem_evs.specs.Classes.{InClass}
 use Rattle.totem_evs.specs.Positions.{IsNumberedBelow, IsReadyAt}
 use Rattle.totem_evs.specs.ClosedLists.{Placed, placed}
-use Rattle.totem_cert.specs.Progress.{IsNumbered, NotBelow, Sound, IsReady, IsNext, Gives}
+use Rattle.totem_cert.specs.Progress.{IsNumbered, NotBelow, Sound, IsReady, IsGiven, IsNumberedSoFar}
+use Rattle.totem_cert.proofs.LogHeads.{option_cases}
 use Rattle.totem_cert.proofs.Classmates.{class_sym, class_trans, class_self, event_of, waits_same, at_most_same}
 
-option_cases : (o : Option ℕ) → (o ≡ None) ⊎ ((k : ℕ) × (o ≡ Some k))
-option_cases None = inl refl
-option_cases (Some k) = inr (k, refl)
-
-module _ (run : List Log) (old new : List Numbering) (e : Place) (n : ℕ) (sound : Sound run old n) (next : IsNext run old e) (gives : Gives run old new e (n + 1)) where
-  unnumbered : (x : Place) (k : ℕ) → InClass run e x → number_at old x ≡ Some k → ⊥
-  unnumbered x k in_class at = let there = sound.shared x e k at (class_sym run e x in_class) in let none = next.ready.unnumbered in cc
+module _ (run : List Log) (old new : List Numbering) (n : ℕ) (sound : Sound run old n) (given : IsGiven run old new (n + 1)) where
+  unnumbered : (x : Place) (k : ℕ) → InClass run given.event x → number_at old x ≡ Some k → ⊥
+  unnumbered x k in_class at = let there = sound.shared x given.event k at (class_sym run given.event x in_class) in let none = given.next.ready.unnumbered in cc
 
   kept : (x : Place) (k : ℕ) → number_at old x ≡ Some k → number_at new x ≡ Some k
-  kept x k at = elim (gives.each x) [ inl (in_class, is) ↦ absurd (unnumbered x k in_class at) | inr (out, is) ↦ is ∙ at ]
+  kept x k at = elim (given.each x) [ inl (in_class, is) ↦ absurd (unnumbered x k in_class at) | inr is ↦ is ∙ at ]
 
-  was : (x : Place) (k : ℕ) → number_at new x ≡ Some k → (InClass run e x × (k ≡ n + 1)) ⊎ ((InClass run e x → ⊥) × (number_at old x ≡ Some k))
-  was x k at = elim (gives.each x) [ inl (in_class, is) ↦ inl (in_class, (let same : Some k ≡ Some (n + 1) = sym at ∙ is in cc)) | inr (out, is) ↦ inr (out, sym is ∙ at) ]
-
-  fresh : (x : Place) → InClass run e x → number_at new x ≡ Some (n + 1)
-  fresh x in_class = elim (gives.each x) [ inl (_, is) ↦ is | inr (out, is) ↦ absurd (out in_class) ]
+  was : (x : Place) (k : ℕ) → number_at new x ≡ Some k → (InClass run given.event x × (k ≡ n + 1)) ⊎ (number_at old x ≡ Some k)
+  was x k at = elim (given.each x) [ inl (in_class, is) ↦ inl (in_class, (let same : Some k ≡ Some (n + 1) = sym at ∙ is in cc)) | inr is ↦ inr (sym is ∙ at) ]
 
   below_kept : (x : Place) (k : ℕ) → IsNumberedBelow old x k → IsNumberedBelow new x k
   below_kept x k h = record { number = h.number; given = kept x h.number h.given; below = h.below }
@@ -34,7 +28,7 @@ module _ (run : List Log) (old new : List Numbering) (e : Place) (n : ℕ) (soun
   below_was : (x : Place) (k : ℕ) → k ≤ n + 1 → IsNumberedBelow new x k → IsNumberedBelow old x k
   below_was x k le h = elim (was x h.number h.given) [
     | inl (in_class, is) ↦ absurd (let lt = h.below in omega arith)
-    | inr (out, is) ↦ record { number = h.number; given = is; below = h.below }
+    | inr is ↦ record { number = h.number; given = is; below = h.below }
   ]
 
   waits_kept : (x : Place) (k : ℕ) → IsReadyAt run old x k → IsReadyAt run new x k
@@ -44,14 +38,14 @@ module _ (run : List Log) (old new : List Numbering) (e : Place) (n : ℕ) (soun
   waits_was x k le h = record { each = λ g waits. below_was g k le (h.each g waits) }
 
   -- what the new class waits for has a number already
-  new_waits : (x : Place) → InClass run e x → IsReadyAt run new x (n + 1)
-  new_waits x in_class = record { each = λ g waits. go g (next.ready.waits g (waits_same run e x g in_class waits)) }
+  new_waits : (x : Place) → InClass run given.event x → IsReadyAt run new x (n + 1)
+  new_waits x in_class = record { each = λ g waits. go g (given.next.ready.waits g (waits_same run given.event x g in_class waits)) }
     where
       go : (g : Place) → IsNumbered old g → IsNumberedBelow new g (n + 1)
       go g h = record { number = h.number; given = kept g h.number h.given; below = (let le = sound.few g h.number h.given in omega arith) }
 
-  new_placed : (x : Place) → InClass run e x → Placed run x
-  new_placed x in_class = placed (λ g waits. (let h = next.ready.waits g (waits_same run e x g in_class waits) in sound.placed g h.number h.given))
+  new_placed : (x : Place) → InClass run given.event x → Placed run x
+  new_placed x in_class = placed (λ g waits. (let h = given.next.ready.waits g (waits_same run given.event x g in_class waits) in sound.placed g h.number h.given))
 
   -- a class that could have got the new number was ready
   was_ready : (f : Place) → IsEvent run f → IsReadyAt run new f (n + 1) → NotBelow new f (n + 1) → IsReady run old f
@@ -69,38 +63,40 @@ module _ (run : List Log) (old new : List Numbering) (e : Place) (n : ℕ) (soun
 
   pub numbered_more : Sound run new (n + 1)
   numbered_more = record {
-    only = λ x k at. elim (was x k at) [ inl (in_class, _) ↦ event_of run e x in_class | inr (_, is) ↦ sound.only x k is ];
-    positive = λ x k at. elim (was x k at) [ inl (_, is) ↦ omega arith | inr (_, is) ↦ sound.positive x k is ];
-    few = λ x k at. elim (was x k at) [ inl (_, is) ↦ omega arith | inr (_, is) ↦ (let le = sound.few x k is in omega arith) ];
+    only = λ x k at. elim (was x k at) [ inl (in_class, _) ↦ event_of run given.event x in_class | inr is ↦ sound.only x k is ];
+    positive = λ x k at. elim (was x k at) [ inl (_, is) ↦ omega arith | inr is ↦ sound.positive x k is ];
+    few = λ x k at. elim (was x k at) [ inl (_, is) ↦ omega arith | inr is ↦ (let le = sound.few x k is in omega arith) ];
     dense = λ j pos le. dense j pos le;
     waits = λ x k at. elim (was x k at) [
       | inl (in_class, is) ↦ rw is (new_waits x in_class)
-      | inr (_, is) ↦ waits_kept x k (sound.waits x k is)
+      | inr is ↦ waits_kept x k (sound.waits x k is)
     ];
     shared = λ x y k at same. elim (was x k at) [
-      | inl (in_class, is) ↦ rw is (fresh y (class_trans run e x y in_class same))
-      | inr (_, is) ↦ kept y k (sound.shared x y k is same)
+      | inl (in_class, is) ↦ rw is (given.fresh y (class_trans run given.event x y in_class same))
+      | inr is ↦ kept y k (sound.shared x y k is same)
     ];
     apart = λ x y k at_x at_y. apart x y k (was x k at_x) (was y k at_y);
     least = λ x f k at event waits none. elim (was x k at) [
-      | inl (in_class, is) ↦ at_most_same run x e f (class_sym run e x in_class) (next.least f (was_ready f event (rw is at waits) (rw is at none)))
-      | inr (_, is) ↦ (let le = sound.few x k is in sound.least x f k is event (waits_was f k (omega arith) waits) (not_below_was f k none))
+      | inl (in_class, is) ↦ at_most_same run x given.event f (class_sym run given.event x in_class) (given.next.least f (was_ready f event (rw is at waits) (rw is at none)))
+      | inr is ↦ (let le = sound.few x k is in sound.least x f k is event (waits_was f k (omega arith) waits) (not_below_was f k none))
     ];
-    placed = λ x k at. elim (was x k at) [ inl (in_class, _) ↦ new_placed x in_class | inr (_, is) ↦ sound.placed x k is ];
+    placed = λ x k at. elim (was x k at) [ inl (in_class, _) ↦ new_placed x in_class | inr is ↦ sound.placed x k is ];
   }
     where
       dense : (j : ℕ) → 0 < j → j ≤ n + 1 → (f : Place) × (number_at new f ≡ Some j)
       dense j pos le = elim (split j le) [
         | inl lt ↦ (let f = sound.dense j pos lt in (f.0, kept f.0 j f.1))
-        | inr is ↦ (e, rw is (fresh e (class_self run e next.ready.event)))
+        | inr is ↦ (given.event, rw is (given.fresh given.event (class_self run given.event given.next.ready.event)))
       ]
         where
           split : (j : ℕ) → j ≤ n + 1 → (j ≤ n) ⊎ (j ≡ n + 1)
           split j le = grind arith
 
-      apart : (x y : Place) (k : ℕ) → (InClass run e x × (k ≡ n + 1)) ⊎ ((InClass run e x → ⊥) × (number_at old x ≡ Some k))
-          → (InClass run e y × (k ≡ n + 1)) ⊎ ((InClass run e y → ⊥) × (number_at old y ≡ Some k)) → InClass run x y
-      apart x y k (inl (a, is)) (inl (b, same)) = class_trans run x e y (class_sym run e x a) b
-      apart x y k (inl (a, is)) (inr (b, at)) = absurd (let le = sound.few y k at in omega arith)
-      apart x y k (inr (a, at)) (inl (b, is)) = absurd (let le = sound.few x k at in omega arith)
-      apart x y k (inr (a, at)) (inr (b, too)) = sound.apart x y k at too
+      apart : (x y : Place) (k : ℕ) → (InClass run given.event x × (k ≡ n + 1)) ⊎ (number_at old x ≡ Some k) → (InClass run given.event y × (k ≡ n + 1)) ⊎ (number_at old y ≡ Some k) → InClass run x y
+      apart x y k (inl (a, is)) (inl (b, same)) = class_trans run x given.event y (class_sym run given.event x a) b
+      apart x y k (inl (a, is)) (inr at) = absurd (let le = sound.few y k at in omega arith)
+      apart x y k (inr at) (inl (b, is)) = absurd (let le = sound.few x k at in omega arith)
+      apart x y k (inr at) (inr too) = sound.apart x y k at too
+
+pub so_far_more : (run : List Log) (old new : List Numbering) (n : ℕ) → IsNumberedSoFar run old n → IsGiven run old new (n + 1) → IsNumberedSoFar run new (n + 1)
+so_far_more run old new n so_far given = record { fits = given.fits; sound = numbered_more run old new n so_far.sound given; room = (let less = given.left in let room = so_far.room in omega arith) }

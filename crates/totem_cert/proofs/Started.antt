@@ -1,12 +1,12 @@
 -- The lines before any entry has a number.
 use Rattle.std.proofs.Common.{◌≡◌, ℕ, zero, suc, ◌*◌, ◌≤◌, List, [], ◌∷◌, length, map, slice_get, Some, None, refl, sym, ap, arith, Bool, true, false}
 use Rattle.std.specs.Prelude.{◌==◌}
-use Rattle.std.proofs.lemmas.Option.{get_or_from_slice_get, slice_get_within}
 use Rattle.totem_ids.specs.declared.place.Place.{Place}
 use Rattle.totem_evs.specs.declared.log.Log.{Log}
-use Rattle.totem_evs.specs.Runs.{IsRun, IsLog}
+use Rattle.totem_evs.specs.Runs.{IsRun}
 use Rattle.totem_evs.specs.Certificates.{Numbering, numbers_of, number_in, number_at}
 use Rattle.totem_cert.specs.Progress.{IsNumberedSoFar, entries_left, empty_line}
+use Rattle.totem_cert.proofs.CountSteps.{logs_short}
 
 same_length : (run : List Log) → length (map empty_line run) ≡ length run
 same_length [] = refl
@@ -58,7 +58,7 @@ started run lines is_run is = rw is (record {
     least = λ e f k at event waits none. absurd (never e k at);
     placed = λ e k at. absurd (never e k at);
   };
-  room = (let a = few run (map empty_line run) (λ k log at. (let h = is_run.each k log (slice_get_within run k log at) in let i : IsLog log = rw (get_or_from_slice_get run k log log at) at h in i.entries.few)) in let b = is_run.few in omega arith);
+  room = (let a = few run (map empty_line run) (logs_short run is_run) in let b = is_run.few in omega arith);
 })
   where
     never : (e : Place) (k : ℕ) → number_at (map empty_line run) e ≡ Some k → ⊥

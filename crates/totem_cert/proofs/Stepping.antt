@@ -1,35 +1,37 @@
 -- Steps to classes without a number.
-use Rattle.std.proofs.Common.{◌≡◌, ℕ, zero, suc, ◌+◌, ◌<◌, ◌≤◌, ◌⊎◌, inl, inr, List, length, get_or, slice_get, Option, Some, None, Bool, IsTrue, refl, sym, ap, arith}
-use Rattle.std.specs.Prelude.{unwrap_or, is_some, IfSome, IfNone}
-use Rattle.std.proofs.lemmas.Option.{slice_get_within, slice_get_read, slice_get_past}
-use Rattle.totem_ids.specs.declared.conf.ConfId.{ConfId}
+use Rattle.std.proofs.Common.{◌≡◌, ℕ, zero, suc, ◌+◌, ◌<◌, ◌≤◌, ◌⊎◌, inl, inr, List, length, get_or, slice_get, Option, Some, None, cond, refl, sym, ◌∙◌, ap, arith}
+use Rattle.std.specs.Prelude.{unwrap_or, is_some}
+use Rattle.std.proofs.lemmas.Bool.{le-leb, lt-ltb}
+use Rattle.std.proofs.lemmas.Option.{slice_get_read}
 use Rattle.totem_ids.specs.declared.message.MsgId.{MsgId}
 use Rattle.totem_ids.specs.declared.place.Place.{Place}
 use Rattle.totem_evs.specs.declared.entry.Entry.{Entry}
 use Rattle.totem_evs.specs.declared.entry.Entry.TheVariants.{Send}
 use Rattle.totem_evs.specs.declared.log.Log.{Log}
 use Rattle.totem_evs.specs.Events.{log_of, IsEvent}
-use Rattle.totem_evs.specs.Steps.{Strict, SendsAt, DeliversAt}
-use Rattle.totem_evs.specs.Places.{At}
-use Rattle.totem_cert.specs.Search.{IsLeast, NoneOf}
+use Rattle.totem_evs.specs.Steps.{Strict, DeliversAt}
 use Rattle.totem_evs.specs.Certificates.{Numbering, numbers_of, number_at}
-use Rattle.totem_evs.proofs.LogOf.{Rising, log_of_cases, log_of_at}
-use Rattle.totem_evs.proofs.LogOf.{less_or_not}
-use Rattle.totem_evs.specs.ClosedLists.{Step}
+use Rattle.totem_evs.specs.Classes.{InClass, AreSendAndDelivery}
+use Rattle.totem_evs.specs.ClosedLists.{Step, Placed, placed, IsLeft, IsPrevious, IsLeftSend, IsLeastSend, HoldsUp, IsStepOf}
+use Rattle.totem_evs.proofs.LogOf.{Rising}
+use Rattle.totem_table.specs.declared.table.Table.{Table}
+use Rattle.totem_table.specs.Tables.{IsTable, IsEntryAt}
+use Rattle.totem_table.specs.Tables as tables
+use Rattle.totem_cert.specs.declared.firsts.Firsts.{Firsts}
+use Rattle.totem_cert.specs.declared.firsts.Wanted.{Wanted}
+use Rattle.totem_cert.specs.declared.firsts.Wanted.TheVariants.{Sends, Members, Followers}
 use Rattle.totem_cert.specs.Search.{place}
-use Rattle.totem_evs.specs.Classes.{InClass}
-use Rattle.totem_evs.specs.ClosedLists.{Placed, placed, IsLeft, IsPrevious, IsLeftSend, IsLeastSend, HoldsUp, IsStepOf}
-use Rattle.totem_cert.specs.Progress.{IsNumbered, IsSound, NoneReady, IsOpenSend, IsHeldMate, IsHeldBy}
+use Rattle.totem_cert.specs.Counts.{class_at, class_fed, given_at, Tells}
+use Rattle.totem_cert.specs.Firsts.{IsWanted, AreFirsts, AreFirstsOf}
+use Rattle.totem_cert.specs.Progress.{IsNumbered, IsSound, NoneReady, IsMate, IsClassOf, IsHeldBy}
+use Rattle.totem_cert.proofs.Lists.{previous}
 use Rattle.totem_cert.proofs.Classmates.{class_sym, event_of}
-use Rattle.totem_cert.proofs.LineFacts.{index_of, unnumbered_past, past_unnumbered}
-use Rattle.totem_cert.proofs.LogHeads.{previous, mate_class, class_mate, feeds_send, send_feeds, class_delivers, same_place_of, nothing_keeps, option_cases}
-
--- no log before the k-th is p's
-pub record NoneOfBefore (run : List Log) (p k : ℕ) : Type 0 where
-  pub none : (j : ℕ) (log : Log) → j < k → slice_get run j ≡ Some log → log.proc ≡ p → ⊥
-
-send_of : (run : List Log) (g h : Place) (m : MsgId) (c : ConfId) → g ≡ h → SendsAt run h m c → IsLeft run h → IsLeftSend run g m
-send_of run g h m c same sends left = rw same (record { conf = c; sends = sends; left = left })
+use Rattle.totem_cert.proofs.ClassHeads.{alone_itself, in_class, class_in}
+use Rattle.totem_cert.proofs.Classes.{class_within, feeds_in, in_feeds}
+use Rattle.totem_cert.proofs.Countable.{alone_counted}
+use Rattle.totem_cert.proofs.FirstPlaces.{le_parts, lt_parts, unwanted}
+use Rattle.totem_cert.proofs.LineFacts.{same_parts, unnumbered_past, past_unnumbered, given_of, log_index, event_at, entry_event, at_most}
+use Rattle.totem_cert.proofs.LogHeads.{mate_class, feeds_send, send_feeds, class_delivers, nothing_keeps, option_cases}
 
 strict_event : (run : List Log) (e f : Place) → Strict run e f → IsEvent run e
 strict_event run e f (inl (is_e, is_f, before)) = is_e
@@ -58,168 +60,228 @@ module _ (run : List Log) (lines : List Numbering) (sound : IsSound run lines) (
   past_left : (q i : ℕ) (y : Entry) → slice_get (log_of run q) i ≡ Some y → length (numbers_of lines q) ≤ i → IsLeft run (place q i)
   past_left q i y at le = unnumbered_left (place q i) (y, at) (past_unnumbered lines q i le)
 
-  module _ (p j : ℕ) (x : Entry) (at : slice_get (log_of run p) j ≡ Some x) (left : IsLeft run (place p j)) (waits : Bool) (send : Option Place) (waits_is : waits ≡ is_some send)
-      (found : IfSome send (λ e. IsLeast run (IsOpenSend run lines x) e)) (nothing : IfNone send (NoneOf run (IsOpenSend run lines x))) where
-    -- a send of the class's message that is left has no number
-    open_of : (m : MsgId) (g : Place) → IsLeftSend run g m → DeliversAt run (place p j) m → At g (λ q i. (i < length (log_of run q)) × IsOpenSend run lines x q i)
-    open_of m g h delivers =
-        let y : Entry = Send m h.conf h.sends.0 in
-        let i = index_of run g y h.sends.1 in
-        let here : SendsAt run (place g.proc i.0) m h.conf = (h.sends.0, i.2) in
-        let past = left_past g.proc i.0 (rw i.1 at h.left) in
-        (i.0, (let e : g.at ≡ suc i.0 = ap (λ (f : Place). f.at) i.1 in omega arith), (slice_get_within _ i.0 y i.2, (y, i.2, send_feeds y x run (place g.proc i.0) (place p j) m h.conf here delivers i.2 at, past)))
+module _ (run : List Log) (table : Table) (lines : List Numbering) (rising : Rising run) (is_table : IsTable run table) (tells : Tells run table) (sound : IsSound run lines) (none : NoneReady run lines) where
+  given_left : (k i : ℕ) (x : Entry) (a : IsEntryAt run k i x) → given_at lines k ≤ i → IsLeft run (place a.log.proc i)
+  given_left k i x a le = past_left run lines sound none a.log.proc i x (entry_event run k i x rising a) (let g = given_of run lines k a.log rising sound.fits a.is_log in omega arith)
 
-    -- if there is such a send, the class waits
-    waits_for : (q i : ℕ) → i < length (log_of run q) → IsOpenSend run lines x q i → IsTrue waits
-    waits_for q i within h = rw waits_is (go send nothing)
-      where
-        go : (o : Option Place) → IfNone o (NoneOf run (IsOpenSend run lines x)) → IsTrue (is_some o)
-        go (Some s) none_of = refl
-        go None none_of = absurd (none_of.none q i within h)
+  left_given : (k i : ℕ) (x : Entry) (a : IsEntryAt run k i x) → IsLeft run (place a.log.proc i) → given_at lines k ≤ i
+  left_given k i x a left = let g = given_of run lines k a.log rising sound.fits a.is_log in let past = left_past run lines sound none a.log.proc i left in omega arith
 
-    mate_left : (e : Place) → InClass run (place p j) e → IsLeft run e
-    mate_left e shares = unnumbered_left e (event_of run (place p j) e shares) (elim (option_cases (number_at lines e)) [
+  -- an entry has a previous one that is left exactly if it comes after the first entry without a number
+  before_given : (k i : ℕ) (x : Entry) (a : IsEntryAt run k i x) (f : Place) → IsPrevious run f (place a.log.proc i) → given_at lines k < i
+  before_given k i x a f prev =
+      let (l, j, b, is) = event_at run f prev.left.event.0 prev.left.event.1 in
+      let same : l ≡ k = log_index run l k b.log a.log rising b.is_log a.is_log (ap (λ (e : Place). e.proc) (sym is) ∙ prev.proc) in
+      let le : given_at lines l ≤ j = left_given l j prev.left.event.0 b (rw is at prev.left) in
+      let le' : given_at lines k ≤ j = rw same at le in
+      let at : f.at ≡ suc j = ap (λ (e : Place). e.at) is in
+      let before = prev.before in
+      omega arith
+
+  previous_left : (k i : ℕ) (x : Entry) (a : IsEntryAt run k i x) → given_at lines k < i → IsPrevious run (record { proc = a.log.proc; at = i }) (place a.log.proc i)
+  previous_left k zero x a lt = absurd (omega arith)
+  previous_left k (suc i) x a lt =
+      let z = previous a.log.entries i x a.is_entry in
+      record { proc = refl; before = omega arith; left = given_left k i z.0 (record { log = a.log; is_log = a.is_log; is_entry = z.1 }) (omega arith) }
+
+  -- an event that is left, with its class c
+  module _ (k i : ℕ) (x : Entry) (a : IsEntryAt run k i x) (left : IsLeft run (place a.log.proc i)) (c : ℕ) (in_c : class_at table k i x ≡ Some c) where
+    mate_left : (e : Place) → InClass run (place a.log.proc i) e → IsLeft run e
+    mate_left e shares = unnumbered_left run lines sound none e (event_of run (place a.log.proc i) e shares) (elim (option_cases (number_at lines e)) [
       | inl is ↦ is
-      | inr (k, is) ↦ absurd (let there = sound.sound.shared e (place p j) k is (class_sym run (place p j) e shares) in let none_here = left_unnumbered (place p j) left in cc)
+      | inr (n, is) ↦ absurd (let there = sound.sound.shared e (place a.log.proc i) n is (class_sym run (place a.log.proc i) e shares) in let none_here = left_unnumbered run lines sound none (place a.log.proc i) left in cc)
     ])
 
-    -- an event before another one of its log
-    before_of : (f e : Place) (i : ℕ) → e.at ≡ suc i → IsPrevious run f e → (length (numbers_of lines e.proc) < i)
-    before_of f e i at_e prev =
-        let k = index_of run f prev.left.event.0 prev.left.event.1 in
-        let past = left_past f.proc k.0 (rw k.1 at prev.left) in
-        let same : length (numbers_of lines f.proc) ≡ length (numbers_of lines e.proc) = ap (λ (q : ℕ). length (numbers_of lines q)) prev.proc in
-        let at_f : f.at ≡ suc k.0 = ap (λ (g : Place). g.at) k.1 in
-        let b = prev.before in
-        omega arith
+    -- the other entries of the class
+    record IsMateAt (e : Place) (l j : ℕ) : Type 0 where
+      entry : Entry
+      at : IsEntryAt run l j entry
+      is : e ≡ place at.log.proc j
+      class : class_at table l j entry ≡ Some c
+      past : given_at lines l ≤ j
 
-    held_of : (f e : Place) → InClass run (place p j) e → HoldsUp run f e → At e (λ q i. (i < length (log_of run q)) × IsHeldMate run lines p j x waits q i)
-    held_of f e shares holds =
-        let event = event_of run (place p j) e shares in
-        let i = index_of run e event.0 event.1 in
-        let at_e : e.at ≡ suc i.0 = ap (λ (g : Place). g.at) i.1 in
-        let mate = class_mate run p j e.proc i.0 x event.0 at i.2 (rw i.1 at shares) in
-        (i.0, omega arith, (slice_get_within _ i.0 event.0 i.2, (event.0, i.2, mate, why i.0 at_e holds)))
-      where
-        why : (i : ℕ) → e.at ≡ suc i → HoldsUp run f e → IsTrue waits ⊎ (length (numbers_of lines e.proc) < i)
-        why i at_e (inl prev) = inr (before_of f e i at_e prev)
-        why i at_e (inr (_, least)) =
-            let o = open_of least.message f least.send (class_delivers run (place p j) e least.message shares least.delivers) in
-            inl (waits_for f.proc o.0 o.2.0 o.2.1)
-
-    -- a class that is left is held up
-    pub nothing_held : NoneOf run (IsHeldMate run lines p j x waits) → ⊥
-    nothing_held never = none.none (place p j) (nothing_keeps run lines p j x at (left_past p j left) (record {
-      none = λ q i within (y, at_y, k). elim k [
-        | inl (mate, lt) ↦ never.none q i within (y, at_y, mate, inr lt)
-        | inr (feeds, le) ↦ never.none p j (slice_get_within _ j x at) (x, at, inl (refl, refl), inl (waits_for q i within (y, at_y, feeds, le)))
-      ];
-    }))
-
-    pub held_step : (v : Step) (to : Place) → IsLeast run (IsHeldMate run lines p j x waits) to → v.to ≡ to → IsHeldBy lines send to v.from → IsStepOf run (place p j) v
-    held_step v to least to_is by = rw (same_visit v to to_is) (record {
-      shares = shares;
-      holds = holds by;
-      least = λ f e sh h. least.least e (held_of f e sh h);
-    })
-      where
-        same_visit : (v : Step) (to : Place) → v.to ≡ to → v ≡ record { from = v.from; to = to }
-        same_visit v to h = ap (λ (t : Place). let u : Step = record { from = v.from; to = t } in u) h
-
-        i : ℕ
-        i = least.holds.0
-
-        at_to : to.at ≡ suc i
-        at_to = let h = least.holds.1 in omega arith
-
-        is : to ≡ place to.proc i
-        is = same_place_of to to.proc i refl at_to
-
-        shares : InClass run (place p j) to
-        shares = let h = least.holds.2 in rw is (mate_class run p j to.proc i x h.0 at h.1 h.2)
-
-        past : length (numbers_of lines to.proc) ≤ i
-        past = let l : IsLeft run (place to.proc i) = rw is at (mate_left to shares) in left_past to.proc i l
-
-        holds : IsHeldBy lines send to v.from → HoldsUp run v.from to
-        holds (inl (lt, proc, before)) = inl (record { proc = proc; before = before; left = go i at_to least.holds.2.0 least.holds.2.1 })
-          where
-            go : (n : ℕ) → to.at ≡ suc n → (y : Entry) → slice_get (log_of run to.proc) n ≡ Some y → IsLeft run v.from
-            go zero at_n y at_y = absurd (omega arith)
-            go (suc k) at_n y at_y =
-                let z = previous run to.proc k y at_y in
-                let from_is : v.from ≡ place to.proc k = same_place_of v.from to.proc k proc (omega arith) in
-                rw from_is (past_left to.proc k z.0 z.1 (omega arith))
-        holds (inr (le, from_is)) = inr (
-          λ g prev. (let lt = before_of g to i at_to prev in let h = at_to in omega arith),
-          go send found from_is (why least.holds.2.3),
+    mate_at : (e : Place) → InClass run (place a.log.proc i) e → (l j : ℕ) × IsMateAt e l j
+    mate_at e shares =
+        let mate = mate_left e shares in
+        let (l, j, b, is) = event_at run e mate.event.0 mate.event.1 in (
+          l,
+          j,
+          record {
+            entry = mate.event.0;
+            at = b;
+            is = is;
+            class = class_in run table rising is_table k i x a tells c in_c l j mate.event.0 b (rw is at shares);
+            past = left_given l j mate.event.0 b (rw is at mate);
+          },
         )
-          where
-            why : IsTrue waits ⊎ (length (numbers_of lines to.proc) < i) → IsTrue (is_some send)
-            why (inl h) = rw waits_is at h
-            why (inr lt) = absurd (let h = at_to in omega arith)
 
-            go : (o : Option Place) → IfSome o (λ e. IsLeast run (IsOpenSend run lines x) e) → v.from ≡ unwrap_or o to → IsTrue (is_some o) → IsLeastSend run v.from to
-            go None some from_is h = absurd cc
-            go (Some s) some from_is h =
-                let a = some.holds.0 in
-                let s_is : s ≡ place s.proc a = same_place_of s s.proc a refl (let e = some.holds.1 in omega arith) in
-                let sends = feeds_send some.holds.2.0 x run (place s.proc a) (place p j) some.holds.2.2 some.holds.2.1 at in
-                let left_s : IsLeft run (place s.proc a) = past_left s.proc a some.holds.2.0 some.holds.2.1 some.holds.2.3 in
-                rw from_is (record {
-                  message = sends.0;
-                  delivers = class_delivers run to (place p j) sends.0 (class_sym run (place p j) to shares) sends.3;
-                  send = send_of run s (place s.proc a) sends.0 sends.1 s_is sends.2 left_s;
-                  least = λ g is_send. some.least g (open_of sends.0 g is_send sends.3);
-                })
+    member_wanted : (l j : ℕ) (y : Entry) → IsEntryAt run l j y → class_at table l j y ≡ Some c → given_at lines l ≤ j → IsWanted run table lines Members c l j
+    member_wanted l j y b is le = record { entry = y; at = b; class = rw (le-leb (given_at lines l) j le) is }
 
-pub step_found : (run : List Log) (lines : List Numbering) → IsSound run lines → NoneReady run lines → (left : Place) (j : ℕ) (x : Entry) (waits : Bool) (send : Option Place) (v : Step) (to : Place)
-    → IsLeft run left → left.at ≡ j + 1 → slice_get (log_of run left.proc) j ≡ Some x → waits ≡ is_some send
-    → IfSome send (λ e. IsLeast run (IsOpenSend run lines x) e) → IfNone send (NoneOf run (IsOpenSend run lines x))
-    → IsLeast run (IsHeldMate run lines left.proc j x waits) to → v.to ≡ to → IsHeldBy lines send to v.from → IsStepOf run left v
-step_found run lines sound none left j x waits send v to is_left index at waits_is found nothing least to_is by =
-    let is : left ≡ place left.proc j = same_place_of left left.proc j refl (omega arith) in
-    let l : IsLeft run (place left.proc j) = rw is at is_left in
-    let s : IsStepOf run (place left.proc j) v = held_step run lines sound none left.proc j x at l waits send waits_is found nothing v to least to_is by in
-    rw is s
+    follower_wanted : (l j : ℕ) (y : Entry) → IsEntryAt run l j y → class_at table l j y ≡ Some c → given_at lines l < j → IsWanted run table lines Followers c l j
+    follower_wanted l j y b is lt = record { entry = y; at = b; class = rw (lt-ltb (given_at lines l) j lt) is }
 
-pub step_not : (run : List Log) (lines : List Numbering) → IsSound run lines → NoneReady run lines → (left : Place) (j : ℕ) (x : Entry) (waits : Bool) (send : Option Place)
-    → IsLeft run left → left.at ≡ j + 1 → slice_get (log_of run left.proc) j ≡ Some x → waits ≡ is_some send
-    → IfSome send (λ e. IsLeast run (IsOpenSend run lines x) e) → IfNone send (NoneOf run (IsOpenSend run lines x))
-    → NoneOf run (IsHeldMate run lines left.proc j x waits) → ⊥
-step_not run lines sound none left j x waits send is_left index at waits_is found nothing never =
-    let is : left ≡ place left.proc j = same_place_of left left.proc j refl (omega arith) in
-    let l : IsLeft run (place left.proc j) = rw is at is_left in
-    nothing_held run lines sound none left.proc j x at l waits send waits_is found nothing never
+    -- the sends that the class waits for
+    send_wanted : (l j : ℕ) (y : Entry) → IsEntryAt run l j y → AreSendAndDelivery y x → given_at lines l ≤ j → IsWanted run table lines Sends c l j
+    send_wanted l j y b feeds le = record { entry = y; at = b; class = rw (le-leb (given_at lines l) j le) (feeds_in run table is_table tells k i l j c y x a b in_c feeds) }
 
-pub none_of_more : (run : List Log) (p k : ℕ) (log : Log) → slice_get run k ≡ Some log → (log.proc ≡ p → ⊥) → NoneOfBefore run p k → NoneOfBefore run p (k + 1)
-none_of_more run p k log at other before = record {
-  none = λ j l lt at_l same. elim (less_or_not j k) [
-    | inl under ↦ before.none j l under at_l same
-    | inr rest ↦ elim rest [
-      | inl over ↦ omega arith
-      | inr eq ↦ (let one : l ≡ log = (let h : slice_get run k ≡ Some l = rw eq at at_l in cc) in other (rw one at same))
-    ]
-  ];
-}
+    left_send : (g : Place) (m : MsgId) → IsLeftSend run g m → DeliversAt run (place a.log.proc i) m → (l j : ℕ) × (w : IsWanted run table lines Sends c l j) × (g ≡ place w.at.log.proc j)
+    left_send g m h delivers =
+        let y : Entry = Send m h.conf h.sends.0 in
+        let (l, j, b, is) = event_at run g y h.sends.1 in
+        let feeds = send_feeds y x run g (place a.log.proc i) m h.conf h.sends delivers h.sends.1 (entry_event run k i x rising a) in
+        let le = left_given l j y b (rw is at h.left) in
+        (l, j, record { entry = y; at = b; class = rw (le-leb (given_at lines l) j le) (feeds_in run table is_table tells k i l j c y x a b in_c feeds) }, is)
 
-pub none_of_end : (run : List Log) (p k i : ℕ) → length run ≤ k → NoneOfBefore run p k → None ≡ slice_get (log_of run p) i
-none_of_end run p k i end before = elim (log_of_cases run p) [
-  | inl is ↦ rw is refl
-  | inr (j, log, at, same, is) ↦ absurd (before.none j log (let lt = slice_get_within run j log at in omega arith) at same)
-]
+    wanted_send : (l j : ℕ) (w : IsWanted run table lines Sends c l j) → (m : MsgId) × IsLeftSend run (place w.at.log.proc j) m × DeliversAt run (place a.log.proc i) m
+    wanted_send l j w =
+        let parts = le_parts (given_at lines l) j c (class_fed w.entry (tables.number_at table l j)) w.class in
+        let feeds = in_feeds run table is_table tells k i l j c x w.entry a w.at in_c parts.1 in
+        let (m, conf, sends, delivers) = feeds_send w.entry x run (place w.at.log.proc j) (place a.log.proc i) feeds (entry_event run l j w.entry rising w.at) (entry_event run k i x rising a) in
+        (m, record { conf = conf; sends = sends; left = given_left l j w.entry w.at parts.0 }, delivers)
 
-pub entry_read : (run items : List Log) (p k i : ℕ) (log : Log) (entries : List Entry) (x : Entry) → Rising run → items ≡ run → k < length items → log ≡ get_or items k log → log.proc ≡ p → entries ≡ log.entries
-    → i < length entries → x ≡ get_or entries i x → Some x ≡ slice_get (log_of run p) i
-entry_read run items p k i log entries x rising same lt log_is proc is within read =
-    let at : slice_get run k ≡ Some log = rw same at (slice_get_read items _ k log refl lt log_is) in
-    let here = log_of_at run k log rising at in
-    let x_at = slice_get_read entries _ i x refl within read in
-    rw (← proc, here, ← is) (sym x_at)
+    module _ (sends members followers : List (Option Place)) (send member follower : Option Place) (are_sends : AreFirsts run table lines Sends sends) (are_members : AreFirsts run table lines Members members)
+        (are_followers : AreFirsts run table lines Followers followers) (at_send : slice_get sends c ≡ Some send) (at_member : slice_get members c ≡ Some member) (at_follower : slice_get followers c ≡ Some follower) where
+      -- an entry of the class that is held up is a member, and if there is no send, a follower
+      held_at : (f e : Place) → InClass run (place a.log.proc i) e → HoldsUp run f e → (l j : ℕ) × (mate : IsMateAt e l j) × (send ≡ None → given_at lines l < j)
+      held_at f e shares holds = let (l, j, mate) = mate_at e shares in (l, j, mate, λ no_send. follows l j mate no_send holds)
+        where
+          follows : (l j : ℕ) (mate : IsMateAt e l j) → send ≡ None → HoldsUp run f e → given_at lines l < j
+          follows l j mate no_send (inl prev) = before_given l j mate.entry mate.at f (rw mate.is at prev)
+          follows l j mate no_send (inr (_, least)) =
+              let (s, t, w, is) = left_send f least.message least.send (class_delivers run (place a.log.proc i) e least.message shares least.delivers) in
+              absurd (unwanted run table lines Sends sends c s t are_sends (at_send ∙ ap Some no_send) w)
 
-pub entry_past : (run items : List Log) (p k i : ℕ) (log : Log) (entries : List Entry) → Rising run → items ≡ run → k < length items → log ≡ get_or items k log → log.proc ≡ p → entries ≡ log.entries
-    → length entries ≤ i → None ≡ slice_get (log_of run p) i
-entry_past run items p k i log entries rising same lt log_is proc is past =
-    let at : slice_get run k ≡ Some log = rw same at (slice_get_read items _ k log refl lt log_is) in
-    let here = log_of_at run k log rising at in
-    rw (← proc, here, ← is) (sym (slice_get_past entries i past))
+      -- something holds the class up
+      pub none_held : cond (is_some send) member follower ≡ None → ⊥
+      none_held is = go send refl is
+        where
+          go : (o : Option Place) → send ≡ o → cond (is_some o) member follower ≡ None → ⊥
+          go (Some s) some no_member = unwanted run table lines Members members c k i are_members (at_member ∙ ap Some no_member) (member_wanted k i x a in_c (left_given k i x a left))
+          go None no_send no_follower = none.none (place a.log.proc i) (nothing_keeps run lines a.log.proc i x (entry_event run k i x rising a) (left_past run lines sound none a.log.proc i left) (record {
+            none = λ q t within (y, at_y, keeps). keeps_not q t y at_y keeps;
+          }))
+            where
+              keeps_not : (q t : ℕ) (y : Entry) → slice_get (log_of run q) t ≡ Some y → (IsMate a.log.proc i x q t y × (length (numbers_of lines q) < t)) ⊎ (AreSendAndDelivery y x × (length (numbers_of lines q) ≤ t)) → ⊥
+              keeps_not q t y at_y keeps =
+                  let (l, j, b, is) = event_at run (place q t) y at_y in
+                  let proc : q ≡ b.log.proc = ap (λ (e : Place). e.proc) is in
+                  let at : t ≡ j = (let h : suc t ≡ suc j = ap (λ (e : Place). e.at) is in omega arith) in
+                  let given : given_at lines l ≡ length (numbers_of lines q) = given_of run lines l b.log rising sound.fits b.is_log ∙ ap (λ (p : ℕ). length (numbers_of lines p)) (sym proc) in
+                  elim keeps [
+                    | inl (mate, lt) ↦ (let shares = mate_class run a.log.proc i q t x y (entry_event run k i x rising a) at_y mate in
+                        let (m, n, other) = mate_at (place q t) shares in
+                        let same : m ≡ l = log_index run m l other.at.log b.log rising other.at.is_log b.is_log (sym (ap (λ (e : Place). e.proc) other.is) ∙ proc) in
+                        let at' : suc t ≡ suc n = ap (λ (e : Place). e.at) other.is in
+                        unwanted run table lines Followers followers c m n are_followers (at_follower ∙ ap Some no_follower) (follower_wanted m n other.entry other.at other.class (rw same (omega arith))))
+                    | inr (feeds, le) ↦ unwanted run table lines Sends sends c l j are_sends (at_send ∙ ap Some no_send) (send_wanted l j y b feeds (omega arith))
+                  ]
+
+      -- the step to the first entry that is held up
+      pub held_step : (v : Step) (to : Place) → cond (is_some send) member follower ≡ Some to → v.to ≡ to → IsHeldBy lines send to v.from → IsStepOf run (place a.log.proc i) v
+      held_step v to is to_is by = go send refl is
+        where
+          step : (l j : ℕ) (y : Entry) (b : IsEntryAt run l j y) → class_at table l j y ≡ Some c → given_at lines l ≤ j → to ≡ place b.log.proc j → (send ≡ None → given_at lines l < j)
+              → ((m n : ℕ) (e : Place) → IsMateAt e m n → (send ≡ None → given_at lines m < n) → (l < m) ⊎ ((l ≡ m) × (j ≤ n))) → IsStepOf run (place a.log.proc i) v
+          step l j y b class past at follows least = rw same_step (record {
+            shares = in_class run table rising is_table k i x a tells c in_c l j y b class;
+            holds = holds (rw at at by);
+            least = λ f e shares h. (let (m, n, mate, others) = held_at f e shares h in rw mate.is (at_most run l j m n y mate.entry rising b mate.at (least m n e mate others)));
+          })
+            where
+              same_step : v ≡ record { from = v.from; to = place b.log.proc j }
+              same_step = ap (λ (t : Place). let u : Step = record { from = v.from; to = t } in u) (to_is ∙ at)
+
+              holds : IsHeldBy lines send (place b.log.proc j) v.from → HoldsUp run v.from (place b.log.proc j)
+              holds (inl (lt, proc, before)) =
+                  let given = given_of run lines l b.log rising sound.fits b.is_log in
+                  let from : v.from ≡ record { proc = b.log.proc; at = j } = same_parts v.from b.log.proc j proc (omega arith) in
+                  inl (rw from (previous_left l j y b (omega arith)))
+              holds (inr (le, from)) = inr (
+                λ g prev. (let lt = before_given l j y b g prev in let given = given_of run lines l b.log rising sound.fits b.is_log in omega arith),
+                by_send send refl from,
+              )
+                where
+                  by_send : (o : Option Place) → send ≡ o → v.from ≡ unwrap_or send (place b.log.proc j) → IsLeastSend run v.from (place b.log.proc j)
+                  by_send None no_send from = absurd (let lt = follows no_send in let given = given_of run lines l b.log rising sound.fits b.is_log in omega arith)
+                  by_send (Some s) some from =
+                      let first = are_sends.found c s (at_send ∙ ap Some some) in
+                      let (m, sends_m, delivers) = wanted_send first.k first.i first.is_wanted in
+                      let from_is : v.from ≡ place first.is_wanted.at.log.proc first.i = from ∙ ap (λ (o : Option Place). unwrap_or o (place b.log.proc j)) some ∙ first.is in
+                      rw from_is (record {
+                        message = m;
+                        delivers = class_delivers run (place b.log.proc j) (place a.log.proc i) m (class_sym run (place a.log.proc i) (place b.log.proc j) (in_class run table rising is_table k i x a tells c in_c l j y b class)) delivers;
+                        send = sends_m;
+                        least = λ g is_send. (let (p, q, w, g_is) = left_send g m is_send delivers in
+                            rw g_is (at_most run first.k first.i p q first.is_wanted.entry w.entry rising first.is_wanted.at w.at (first.first p q w)));
+                      })
+
+          go : (o : Option Place) → send ≡ o → cond (is_some o) member follower ≡ Some to → IsStepOf run (place a.log.proc i) v
+          go None no_send is =
+              let first = are_followers.found c to (at_follower ∙ ap Some is) in
+              let w = first.is_wanted in
+              let parts = lt_parts (given_at lines first.k) first.i c (class_at table first.k first.i w.entry) w.class in
+              step first.k first.i w.entry w.at parts.1 (let lt = parts.0 in omega arith) first.is (λ _. parts.0)
+              (λ m n e mate others. first.first m n (follower_wanted m n mate.entry mate.at mate.class (others no_send)))
+          go (Some s) some is =
+              let first = are_members.found c to (at_member ∙ ap Some is) in
+              let w = first.is_wanted in
+              let parts = le_parts (given_at lines first.k) first.i c (class_at table first.k first.i w.entry) w.class in
+              step first.k first.i w.entry w.at parts.1 parts.0 first.is (λ no_send. absurd cc)
+              (λ m n e mate others. first.first m n (member_wanted m n mate.entry mate.at mate.class mate.past))
+
+  -- an event that is alone in its class is held up by the entry before it
+  pub alone_step : (k i : ℕ) (x : Entry) (a : IsEntryAt run k i x) → IsLeft run (place a.log.proc i) → class_at table k i x ≡ None → (v : Step) → v.to ≡ place a.log.proc i → IsHeldBy lines None (place a.log.proc i) v.from
+      → IsStepOf run (place a.log.proc i) v
+  alone_step k i x a left alone v to_is by = rw same_step (record {
+    shares = inl (left.event, refl);
+    holds = inl (holds by);
+    least = λ f e shares h. (let same = alone_itself run table rising is_table k i x a e alone shares in inr (ap (λ (e : Place). e.proc) same, (let h' : suc i ≡ e.at = ap (λ (e : Place). e.at) same in omega arith)));
+  })
+    where
+      given : given_at lines k ≡ length (numbers_of lines a.log.proc)
+      given = given_of run lines k a.log rising sound.fits a.is_log
+
+      same_step : v ≡ record { from = v.from; to = place a.log.proc i }
+      same_step = ap (λ (t : Place). let u : Step = record { from = v.from; to = t } in u) to_is
+
+      not_head : length (numbers_of lines a.log.proc) ≡ i → ⊥
+      not_head head = none.none (place a.log.proc i) ((alone_counted run lines a.log.proc i (length table.messages.items) (tables.number_at table k i) x (entry_event run k i x rising a) head alone).0 refl)
+
+      holds : IsHeldBy lines None (place a.log.proc i) v.from → IsPrevious run v.from (place a.log.proc i)
+      holds (inl (lt, proc, before)) =
+          let from : v.from ≡ record { proc = a.log.proc; at = i } = same_parts v.from a.log.proc i proc (omega arith) in
+          rw from (previous_left k i x a (omega (arith, given)))
+      holds (inr (le, _)) = absurd (not_head (let past = left_past run lines sound none a.log.proc i left in omega arith))
+
+  -- ---- what the code reads
+
+  pub class_small : (left : Place) (c : ℕ) → IsClassOf run table left (Some c) → IsLeft run left → c < length table.messages.items + length table.confs.items
+  class_small left c class is_left =
+      let (k, i, a, is) = event_at run left is_left.event.0 is_left.event.1 in
+      class_within run table is_table k i c is_left.event.0 a (sym (class.each k i is_left.event.0 a is))
+
+  pub step_alone : (left : Place) (v : Step) → IsClassOf run table left None → IsLeft run left → v.to ≡ left → IsHeldBy lines None left v.from → IsStepOf run left v
+  step_alone left v class is_left to by =
+      let (k, i, a, is) = event_at run left is_left.event.0 is_left.event.1 in
+      let step : IsStepOf run (place a.log.proc i) v = alone_step k i is_left.event.0 a (rw is at is_left) (sym (class.each k i is_left.event.0 a is)) v (to ∙ is) (rw is at by) in
+      rw is step
+
+  module _ (left : Place) (c : ℕ) (class : IsClassOf run table left (Some c)) (is_left : IsLeft run left) (firsts : Firsts) (are : AreFirstsOf run table lines firsts) (send member follower : Option Place)
+      (send_is : send ≡ get_or firsts.sends.items c send) (member_is : member ≡ get_or firsts.members.items c member) (follower_is : follower ≡ get_or firsts.followers.items c follower) where
+    read : (wanted : Wanted) (places : List (Option Place)) (o : Option Place) → AreFirsts run table lines wanted places → o ≡ get_or places c o → slice_get places c ≡ Some o
+    read wanted places o are_wanted is = slice_get_read places _ c o refl (let lt = class_small left c class is_left in let long = are_wanted.long in omega arith) is
+
+    pub step_none : cond (is_some send) member follower ≡ None → ⊥
+    step_none nothing =
+        let (k, i, a, is) = event_at run left is_left.event.0 is_left.event.1 in
+        none_held k i is_left.event.0 a (rw is at is_left) c (sym (class.each k i is_left.event.0 a is)) firsts.sends.items firsts.members.items firsts.followers.items send member follower are.sends are.members are.followers
+        (read Sends firsts.sends.items send are.sends send_is) (read Members firsts.members.items member are.members member_is) (read Followers firsts.followers.items follower are.followers follower_is) nothing
+
+    pub step_held : (v : Step) (to : Place) → cond (is_some send) member follower ≡ Some to → v.to ≡ to → IsHeldBy lines send to v.from → IsStepOf run left v
+    step_held v to found to_is by =
+        let (k, i, a, is) = event_at run left is_left.event.0 is_left.event.1 in
+        let step : IsStepOf run (place a.log.proc i) v =
+        held_step k i is_left.event.0 a (rw is at is_left) c (sym (class.each k i is_left.event.0 a is)) firsts.sends.items firsts.members.items firsts.followers.items send member follower are.sends are.members are.followers
+        (read Sends firsts.sends.items send are.sends send_is) (read Members firsts.members.items member are.members member_is) (read Followers firsts.followers.items follower are.followers follower_is) v to found to_is by in
+        rw is step

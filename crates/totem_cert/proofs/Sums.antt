@@ -50,10 +50,6 @@ sum_some (suc n) f some =
       | inr here ↦ (n, omega arith, here)
     ]
 
-pub sum_ones : (n : ℕ) (f : ℕ → ℕ) → ((i : ℕ) → f i ≤ 1) → sum_to n f ≤ n
-sum_ones zero f each = omega arith
-sum_ones (suc n) f each = let rest = sum_ones n f each in let here = each n in omega arith
-
 pub sum_millions : (n : ℕ) (f : ℕ → ℕ) → ((i : ℕ) → f i ≤ 1000000) → sum_to n f ≤ n * 1000000
 sum_millions zero f each = omega arith
 sum_millions (suc n) f each = let rest = sum_millions n f each in let here = each n in omega arith

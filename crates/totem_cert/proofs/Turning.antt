@@ -1,19 +1,18 @@
 -- A closed list has each of its places once, so there is one way to start it at its least place.
-use Rattle.std.proofs.Common.{◌≡◌, ℕ, zero, suc, ◌+◌, ◌-◌, ◌<◌, ◌≤◌, ◌⊎◌, inl, inr, List, [], ◌∷◌, ◌++◌, length, drop, get_or, slice_get, Some, Bool, true, false, refl, sym, ◌∙◌, ap, subst, arith}
+use Rattle.std.proofs.Common.{◌≡◌, ℕ, zero, suc, ◌+◌, ◌-◌, ◌<◌, ◌≤◌, ◌⊎◌, inl, inr, List, [], ◌∷◌, ◌++◌, length, drop, slice_get, Some, Bool, true, false, refl, sym, ◌∙◌, ap, subst, arith, length-drop}
 use Rattle.std.specs.Prelude.{Contains}
 use Rattle.std.proofs.lemmas.Option.{slice_get_within, slice_get-get_or}
+use Rattle.std.proofs.lemmas.List.{append-nil}
 use Rattle.std.proofs.lemmas.List.Elements.{Contains-append_right, Contains-append_cases}
 use Rattle.totem_ids.specs.declared.place.Place.{Place}
 use Rattle.totem_evs.specs.declared.log.Log.{Log}
-use Rattle.totem_evs.specs.Events.{IsEvent}
 use Rattle.totem_evs.specs.Classes.{IsAtMost, InClass}
 use Rattle.totem_evs.specs.ClosedLists.{Step, ComesBack, same_place, unless, forward, IsTurned, BeginsLeast}
-use Rattle.totem_cert.specs.Progress.{StandsBefore}
 use Rattle.totem_evs.proofs.LogOf.{less_or_not}
-use Rattle.totem_cert.proofs.Classmates.{class_sym, class_trans, event_of}
+use Rattle.totem_cert.proofs.Classmates.{class_self, class_sym, class_trans, event_of}
 use Rattle.totem_cert.proofs.Walking.{antisym, step_in}
 use Rattle.totem_cert.proofs.Closing.{same_is, not_same}
-use Rattle.totem_cert.proofs.Written.{one_before}
+use Rattle.totem_cert.proofs.Written.{drop_here}
 
 -- e is not in the list
 abbrev Fresh : Place → List Place → Type 0
@@ -63,10 +62,6 @@ one_split (y ∷ f) (z ∷ g) b c x d e =
     let r = one_split f g b c x d.1 rest in
     (ap (λ w. w ∷ f) one ∙ ap (λ ws. z ∷ ws) r.0, r.1)
 
-append_nil : (xs : List Place) → xs ++ [] ≡ xs
-append_nil [] = refl
-append_nil (x ∷ xs) = ap (λ ys. x ∷ ys) (append_nil xs)
-
 -- a turned list, given its first place
 record Turned (whole turned : List Place) : Type 0 where
   first : Place
@@ -80,7 +75,7 @@ turned_at whole turned t least = go t.front t.back t.was t.is
   where
     go : (front back : List Place) → whole ≡ front ++ back → turned ≡ back ++ front → Turned whole turned
     go [] [] was is = absurd (let h : BeginsLeast [] = rw is at least in h)
-    go (x ∷ front) [] was is = record { first = x; front = []; back = front; was = was ∙ append_nil (x ∷ front); is = is ∙ ap (λ ys. x ∷ ys) (sym (append_nil front)) }
+    go (x ∷ front) [] was is = record { first = x; front = []; back = front; was = was ∙ append-nil (x ∷ front); is = is ∙ ap (λ ys. x ∷ ys) (sym (append-nil front)) }
     go front (x ∷ back) was is = record { first = x; front = front; back = back; was = was; is = is }
 
 at_most_all : (x : Place) (xs : List Place) (f : Place) → BeginsLeast (x ∷ xs) → Contains xs f → IsAtMost x f
@@ -114,25 +109,38 @@ one_turn whole a b distinct turned_a turned_b least_a least_b =
     let r = one_split s.front t.front s.back t.back s.first d e in
     s.is ∙ ap (λ (x : Place). x ∷ (s.back ++ s.front)) one ∙ ap (λ (xs : List Place). t.first ∷ (xs ++ s.front)) r.1 ∙ ap (λ (xs : List Place). t.first ∷ (t.back ++ xs)) r.0 ∙ sym t.is
 
+split : (ys : List Step) (t : ℕ) (v : Step) (vs : List Step) → v ∷ vs ≡ drop t ys → (slice_get ys t ≡ Some v) × (vs ≡ drop (suc t) ys)
+split [] zero v vs h = absurd cc
+split [] (suc t) v vs h = absurd cc
+split (y ∷ ys) zero v vs h = (let e : v ≡ y = cc in ap Some (sym e), cc)
+split (y ∷ ys) (suc t) v vs h = split ys t v vs h
+
+append_move : (xs ys : List Place) (x : Place) → xs ++ (x ∷ ys) ≡ (xs ++ x ∷ []) ++ ys
+append_move [] ys x = refl
+append_move (y ∷ xs) ys x = ap (λ zs. y ∷ zs) (append_move xs ys x)
+
+regroup : (xs ys : List Place) (x y : Place) → (xs ++ (x ∷ ys)) ++ y ∷ [] ≡ (xs ++ x ∷ []) ++ (ys ++ y ∷ [])
+regroup [] ys x y = refl
+regroup (z ∷ xs) ys x y = ap (λ zs. z ∷ zs) (regroup xs ys x y)
+
+-- an event, left out if the other one equals it
+unless_cases : (e p : Place) → ((e ≡ p) × (unless e p ≡ [])) ⊎ ((e ≡ p → ⊥) × (unless e p ≡ e ∷ []))
+unless_cases e p = go (same_place e p) refl
+  where
+    go : (b : Bool) → same_place e p ≡ b → ((e ≡ p) × (unless e p ≡ [])) ⊎ ((e ≡ p → ⊥) × (unless e p ≡ e ∷ []))
+    go true h = inl (same_is e p h, rw h refl)
+    go false h = inr (not_same e p h, rw h refl)
+
+in_unless : (e p f : Place) → Contains (unless e p) f → (e ≡ f) × (e ≡ p → ⊥)
+in_unless e p f h = elim (unless_cases e p) [
+  | inl (_, none) ↦ absurd (in_none f (rw none at h))
+  | inr (other, one) ↦ elim (in_cases e f [] (rw one at h)) [ inl same ↦ (same, other) | inr none ↦ absurd (in_none f none) ]
+]
+
+unless_distinct : (e p : Place) → IsDistinct (unless e p)
+unless_distinct e p = elim (unless_cases e p) [ inl (_, none) ↦ rw none tt | inr (_, one) ↦ rw one ((λ h. in_none e h), tt) ]
+
 module _ (run : List Log) (start : Place) (xs : List Step) (again : ℕ) (last : Step) (back : ComesBack run start xs again last) where
-  -- e is the event from which the step at i leads
-  record IsFrom (i : ℕ) (e : Place) : Type 0 where
-    step : Step
-    at : slice_get xs i ≡ Some step
-    is : e ≡ step.from
-
-  -- e is the event to which the step at i leads, and is not what follows it
-  record IsTo (i : ℕ) (e : Place) : Type 0 where
-    step : Step
-    at : slice_get xs i ≡ Some step
-    is : e ≡ step.to
-    behind : Place
-    stands : StandsBefore xs again i behind
-    apart : e ≡ behind → ⊥
-
-  is_event : (i : ℕ) (v : Step) → slice_get xs i ≡ Some v → IsEvent run v.to
-  is_event i v at = let s = step_in run start xs i v back.walk at in event_of run s.0 v.to s.1.shares
-
   -- steps into one class are one step
   new : (i j : ℕ) (v w : Step) → slice_get xs i ≡ Some v → slice_get xs j ≡ Some w → InClass run v.to w.to → i ≡ j
   new i j v w at_v at_w shares = elim (less_or_not i j) [
@@ -140,131 +148,85 @@ module _ (run : List Log) (start : Place) (xs : List Step) (again : ℕ) (last :
     | inr rest ↦ elim rest [ inl gt ↦ absurd (back.walk.new j i w v at_w at_v gt (class_sym run v.to w.to shares)) | inr e ↦ e ]
   ]
 
-  -- the class of the event from which a step leads is the class of the next step, or of the step at `again`
-  follows : (i : ℕ) (e : Place) → IsFrom i e → ((w : Step) × (slice_get xs (suc i) ≡ Some w) × InClass run e w.to) ⊎ ((suc i ≡ length xs) × (e ≡ last.from) × InClass run e back.step.to)
-  follows i e from = go (less_or_not (suc i) (length xs))
-    where
-      within : i < length xs
-      within = slice_get_within xs i from.step from.at
+  -- e follows the steps from t on in forward order: it is in the class of the step at t, or is where the last step came from
+  record Follows (t : ℕ) (e : Place) : Type 0 where
+    shares : (w : Step) → slice_get xs t ≡ Some w → InClass run w.to e
+    end : length xs ≤ t → e ≡ last.from
 
-      go : (suc i < length xs) ⊎ ((length xs < suc i) ⊎ (suc i ≡ length xs)) → ((w : Step) × (slice_get xs (suc i) ≡ Some w) × InClass run e w.to) ⊎ ((suc i ≡ length xs) × (e ≡ last.from) × InClass run e back.step.to)
-      go (inl lt) =
-          let w : Step = get_or xs (suc i) from.step in
-          let at_w : slice_get xs (suc i) ≡ Some w = slice_get-get_or xs (suc i) from.step lt in
-          let one : i + 1 ≡ suc i = omega arith in
-          let step = back.walk.next i from.step w from.at (rw one at_w) in
-          inl (w, at_w, rw from.is step.shares)
-      go (inr (inl gt)) = absurd (omega (arith, within))
-      go (inr (inr end)) =
-          let one : length xs - 1 ≡ i = omega arith in
-          let same : from.step ≡ last = (let a = from.at in let b : slice_get xs i ≡ Some last = rw one at back.at_end in cc) in
-          let is : e ≡ last.from = from.is ∙ ap (λ (v : Step). v.from) same in
-          inr (end, is, rw is (class_sym run back.step.to last.from back.comes_back))
+  follows_step : (t : ℕ) (v : Step) → slice_get xs t ≡ Some v → Follows (suc t) v.from
+  follows_step t v at = record {
+    shares = λ w at_w. (let one : t + 1 ≡ suc t = omega arith in class_sym run v.from w.to (back.walk.next t v w at (rw one at_w)).shares);
+    end = λ le. (
+        let lt = slice_get_within xs t v at in
+        let one : length xs - 1 ≡ t = omega arith in
+        let same : v ≡ last = (let h : slice_get xs t ≡ Some last = rw one at back.at_end in cc) in
+        ap (λ (u : Step). u.from) same);
+  }
 
-  from_from : (i j : ℕ) (e : Place) → again ≤ i → i < j → IsFrom i e → IsFrom j e → ⊥
-  from_from i j e le lt a b = go (follows i e a) (follows j e b)
-    where
-      within : j < length xs
-      within = slice_get_within xs j b.step b.at
+  follows_again : Follows again last.from
+  follows_again = record {
+    shares = λ w at. (let same : back.step ≡ w = (let h = back.at_again in cc) in rw same at back.comes_back);
+    end = λ le. refl;
+  }
 
-      go : ((w : Step) × (slice_get xs (suc i) ≡ Some w) × InClass run e w.to) ⊎ ((suc i ≡ length xs) × (e ≡ last.from) × InClass run e back.step.to)
-          → ((w : Step) × (slice_get xs (suc j) ≡ Some w) × InClass run e w.to) ⊎ ((suc j ≡ length xs) × (e ≡ last.from) × InClass run e back.step.to) → ⊥
-      go (inl (v, at_v, in_v)) (inl (w, at_w, in_w)) = let h = new (suc i) (suc j) v w at_v at_w (class_trans run v.to e w.to (class_sym run e v.to in_v) in_w) in omega arith
-      go (inl (v, at_v, in_v)) (inr (end, _, in_w)) = let h = new (suc i) again v back.step at_v back.at_again (class_trans run v.to e back.step.to (class_sym run e v.to in_v) in_w) in omega arith
-      go (inr (end, _, _)) h = omega (arith, within)
+  -- an event that a step from t on writes
+  abbrev Written : ℕ → Place → Type 0
+  Written t e = ((i : ℕ) × (t ≤ i) × (w : Step) × (slice_get xs i ≡ Some w) × InClass run w.to e) ⊎ (e ≡ last.from)
 
-  to_to : (i j : ℕ) (e : Place) → i < j → IsTo i e → IsTo j e → ⊥
-  to_to i j e lt a b =
-      let same : a.step.to ≡ b.step.to = sym a.is ∙ b.is in
-      let h = new i j a.step b.step a.at b.at (inl (is_event i a.step a.at, same)) in
-      omega arith
+  -- what the step at t leads to is not written by later steps
+  clash : (t : ℕ) (v : Step) (e : Place) → slice_get xs t ≡ Some v → InClass run v.to e → (e ≡ last.from → again ≡ t → ⊥) → Written (suc t) e → ⊥
+  clash t v e at shares other (inl (i, le, w, at_w, in_w)) = let h = new t i v w at at_w (class_trans run v.to e w.to shares (class_sym run w.to e in_w)) in omega arith
+  clash t v e at shares other (inr same) = other same (new again t back.step v back.at_again at
+      (class_trans run back.step.to last.from v.to back.comes_back (class_sym run v.to last.from (rw same at shares))))
 
-  from_to : (i j : ℕ) (e : Place) → again ≤ i → again ≤ j → IsFrom i e → IsTo j e → ⊥
-  from_to i j e le le' a b = go (follows i e a)
-    where
-      go : ((w : Step) × (slice_get xs (suc i) ≡ Some w) × InClass run e w.to) ⊎ ((suc i ≡ length xs) × (e ≡ last.from) × InClass run e back.step.to) → ⊥
-      go (inl (w, at_w, in_w)) =
-          let same : suc i ≡ j = new (suc i) j w b.step at_w b.at (class_sym run b.step.to w.to (rw b.is at in_w)) in
-          let one : j - 1 ≡ i = omega arith in
-          let stands : StandsBefore xs again j e = inl (omega arith, a.step, rw one a.at, a.is) in
-          b.apart (one_before xs again j e b.behind stands b.stands)
-      go (inr (end, is, in_v)) =
-          let same : again ≡ j = new again j back.step b.step back.at_again b.at (class_sym run b.step.to back.step.to (rw b.is at in_v)) in
-          let stands : StandsBefore xs again j e = inr (sym same, last, back.at_end, is) in
-          b.apart (one_before xs again j e b.behind stands b.stands)
+  to_itself : (t : ℕ) (v : Step) → slice_get xs t ≡ Some v → InClass run v.to v.to
+  to_itself t v at = let s = step_in run start xs t v back.walk at in class_self run v.to (event_of run s.0 v.to s.1.shares)
 
-  record Tagged (t : ℕ) (e : Place) : Type 0 where
-    index : ℕ
-    from_t : t ≤ index
-    tag : IsFrom index e ⊎ IsTo index e
-
-  apart_tags : (t : ℕ) (e : Place) → again ≤ t → Tagged (suc t) e → IsFrom t e ⊎ IsTo t e → ⊥
-  apart_tags t e le a (inl b) = elim a.tag [
-    | inl c ↦ from_from t a.index e le (let h = a.from_t in omega arith) b c
-    | inr c ↦ from_to t a.index e le (let h = a.from_t in omega arith) b c
+  written : (t : ℕ) (vs : List Step) (p e : Place) → vs ≡ drop t xs → Follows t p → Contains (forward p vs ++ p ∷ []) e → Written t e
+  written t [] p e is follows h = elim (in_cases p e [] h) [
+    | inl same ↦ inr (sym same ∙ follows.end (let l : 0 ≡ length xs - t = ap length is ∙ length-drop t xs in omega arith))
+    | inr none ↦ absurd (in_none e none)
   ]
-  apart_tags t e le a (inr b) = elim a.tag [
-    | inl c ↦ from_to a.index t e (let h = a.from_t in omega arith) le c b
-    | inr c ↦ to_to t a.index e (let h = a.from_t in omega arith) b c
-  ]
-
-  split : (ys : List Step) (t : ℕ) (v : Step) (vs : List Step) → v ∷ vs ≡ drop t ys → (slice_get ys t ≡ Some v) × (vs ≡ drop (suc t) ys)
-  split [] zero v vs h = absurd cc
-  split [] (suc t) v vs h = absurd cc
-  split (y ∷ ys) zero v vs h = (let e : v ≡ y = cc in ap Some (sym e), cc)
-  split (y ∷ ys) (suc t) v vs h = split ys t v vs h
-
-  unless_cases : (e p : Place) → ((e ≡ p) × (unless e p ≡ [])) ⊎ ((e ≡ p → ⊥) × (unless e p ≡ e ∷ []))
-  unless_cases e p = go (same_place e p) refl
-    where
-      go : (b : Bool) → same_place e p ≡ b → ((e ≡ p) × (unless e p ≡ [])) ⊎ ((e ≡ p → ⊥) × (unless e p ≡ e ∷ []))
-      go true h = inl (same_is e p h, rw h refl)
-      go false h = inr (not_same e p h, rw h refl)
-
-  -- the events that a step writes
-  step_tag : (t : ℕ) (v : Step) (p e : Place) → slice_get xs t ≡ Some v → StandsBefore xs again t p → Contains (v.from ∷ unless v.to p) e → IsFrom t e ⊎ IsTo t e
-  step_tag t v p e at stands h = elim (in_cases v.from e (unless v.to p) h) [
-    | inl same ↦ inl (record { step = v; at = at; is = sym same })
-    | inr there ↦ elim (unless_cases v.to p) [
-      | inl (_, none) ↦ absurd (in_none e (rw none at there))
-      | inr (other, one) ↦ second other (in_cases v.to e [] (rw one at there))
-    ]
-  ]
-    where
-      second : (v.to ≡ p → ⊥) → (v.to ≡ e) ⊎ Contains [] e → IsFrom t e ⊎ IsTo t e
-      second other (inl same) = inr (record { step = v; at = at; is = sym same; behind = p; stands = stands; apart = λ h. other (same ∙ h) })
-      second other (inr none) = absurd (in_none e none)
-
-  tagged : (t : ℕ) (vs : List Step) (p e : Place) → vs ≡ drop t xs → again ≤ t → StandsBefore xs again t p → Contains (forward p vs) e → Tagged t e
-  tagged t [] p e is le stands h = absurd (in_none e h)
-  tagged t (v ∷ vs) p e is le stands h =
+  written t (v ∷ vs) p e is follows h =
       let s = split xs t v vs is in
-      let behind : StandsBefore xs again (suc t) v.from = inl (omega arith, v, (let one : suc t - 1 ≡ t = omega arith in rw one s.0), refl) in
-      elim (Contains-append_cases (forward v.from vs) (v.from ∷ unless v.to p) e h) [
-        | inl there ↦ (let r = tagged (suc t) vs v.from e s.1 (omega arith) behind there in record { index = r.index; from_t = (let x = r.from_t in omega arith); tag = r.tag })
-        | inr here ↦ record { index = t; from_t = omega arith; tag = step_tag t v p e s.0 stands here }
+      elim (Contains-append_cases (forward v.from vs ++ v.from ∷ []) (unless v.to p ++ p ∷ []) e (rw (regroup (forward v.from vs) (unless v.to p) v.from p) at h)) [
+        | inl there ↦ elim (written (suc t) vs v.from e s.1 (follows_step t v s.0) there) [ inl (i, le, w, at_w, in_w) ↦ inl (i, omega arith, w, at_w, in_w) | inr same ↦ inr same ]
+        | inr here ↦ inl (
+          t,
+          omega arith,
+          v,
+          s.0,
+          elim (Contains-append_cases (unless v.to p) (p ∷ []) e here) [
+            | inl led ↦ (let same = (in_unless v.to p e led).0 in rw (← same) (to_itself t v s.0))
+            | inr more ↦ elim (in_cases p e [] more) [ inl same ↦ rw (← same) (follows.shares v s.0) | inr none ↦ absurd (in_none e none) ]
+          ],
+        )
       ]
 
-  two_distinct : (t : ℕ) (v : Step) (p : Place) → slice_get xs t ≡ Some v → again ≤ t → StandsBefore xs again t p → IsDistinct (v.from ∷ unless v.to p)
-  two_distinct t v p at le stands = elim (unless_cases v.to p) [
-    | inl (_, none) ↦ rw none ((λ h. in_none v.from h), tt)
-    | inr (other, one) ↦ rw one (
-      (λ h. elim (in_cases v.to v.from [] h) [
-        | inl same ↦ from_to t t v.from le le (record { step = v; at = at; is = refl }) (record { step = v; at = at; is = sym same; behind = p; stands = stands; apart = λ k. other (same ∙ k) })
-        | inr none ↦ in_none v.from none
-      ]),
-      ((λ h. in_none v.to h), tt),
-    )
-  ]
-
-  distinct : (t : ℕ) (vs : List Step) (p : Place) → vs ≡ drop t xs → again ≤ t → StandsBefore xs again t p → IsDistinct (forward p vs)
-  distinct t [] p is le stands = tt
-  distinct t (v ∷ vs) p is le stands =
+  distinct : (t : ℕ) (vs : List Step) (p : Place) → vs ≡ drop t xs → again < t → Follows t p → IsDistinct (forward p vs ++ p ∷ [])
+  distinct t [] p is lt follows = ((λ h. in_none p h), tt)
+  distinct t (v ∷ vs) p is lt follows =
       let s = split xs t v vs is in
-      let behind : StandsBefore xs again (suc t) v.from = inl (omega arith, v, (let one : suc t - 1 ≡ t = omega arith in rw one s.0), refl) in
-      distinct_append (forward v.from vs) (v.from ∷ unless v.to p) (distinct (suc t) vs v.from s.1 (omega arith) behind) (two_distinct t v p s.0 le stands)
-      (λ e there here. apart_tags t e le (tagged (suc t) vs v.from e s.1 (omega arith) behind there) (step_tag t v p e s.0 stands here))
+      rw (regroup (forward v.from vs) (unless v.to p) v.from p) (distinct_append (forward v.from vs ++ v.from ∷ []) (unless v.to p ++ p ∷ [])
+      (distinct (suc t) vs v.from s.1 (omega arith) (follows_step t v s.0))
+      (distinct_append (unless v.to p) (p ∷ []) (unless_distinct v.to p) ((λ h. in_none p h), tt) (λ f led more. elim (in_cases p f [] more) [
+        | inl same ↦ (let u = in_unless v.to p f led in u.1 (u.0 ∙ sym same))
+        | inr none ↦ in_none f none
+      ]))
+      (λ f there here. clash t v f s.0 (elim (Contains-append_cases (unless v.to p) (p ∷ []) f here) [
+        | inl led ↦ (let same = (in_unless v.to p f led).0 in rw (← same) (to_itself t v s.0))
+        | inr more ↦ elim (in_cases p f [] more) [ inl same ↦ rw (← same) (follows.shares v s.0) | inr none ↦ absurd (in_none f none) ]
+      ]) (λ same at. omega arith) (written (suc t) vs v.from f s.1 (follows_step t v s.0) there)))
 
   -- the steps of the round are written with each place once
   pub round_distinct : IsDistinct (forward last.from (drop again xs))
-  round_distinct = distinct again (drop again xs) last.from refl (omega arith) (inr (refl, last, back.at_end, refl))
+  round_distinct =
+      let v : Step = back.step in
+      let first = follows_step again back.step back.at_again in
+      rw (drop_here xs again back.step back.at_again, append_move (forward back.step.from (drop (suc again) xs)) (unless back.step.to last.from) back.step.from) (
+      distinct_append (forward back.step.from (drop (suc again) xs) ++ back.step.from ∷ []) (unless back.step.to last.from)
+      (distinct (suc again) (drop (suc again) xs) back.step.from refl (omega arith) first)
+      (unless_distinct back.step.to last.from)
+      (λ f there led. (let u = in_unless back.step.to last.from f led in
+      clash again back.step f back.at_again (rw (← u.0) (to_itself again back.step back.at_again)) (λ same at. u.1 (u.0 ∙ same)) (written (suc again) (drop (suc again) xs) back.step.from f refl first there)))
+      )

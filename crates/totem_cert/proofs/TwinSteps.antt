@@ -1,5 +1,5 @@
 -- Different deliveries of one message among the neighbours of a closed list.
-use Rattle.std.proofs.Common.{◌≡◌, ℕ, zero, suc, ◌+◌, ◌<◌, ◌≤◌, ◌⊎◌, inl, inr, List, [], ◌∷◌, length, get_or, slice_get, Option, Some, None, Bool, true, false, IsTrue, ◌↔◌, refl, ◌∙◌, ap, arith}
+use Rattle.std.proofs.Common.{◌≡◌, below_more, ℕ, zero, suc, ◌+◌, ◌<◌, ◌≤◌, ◌⊎◌, inl, inr, List, [], ◌∷◌, length, get_or, slice_get, Option, Some, None, Bool, true, false, IsTrue, ◌↔◌, refl, ◌∙◌, ap, arith}
 use Rattle.std.specs.Prelude.{IfSome, IfNone}
 use Rattle.std.proofs.lemmas.Option.{slice_get_within, slice_get_read}
 use Rattle.totem_ids.specs.declared.message.MsgId.{MsgId}
@@ -10,11 +10,10 @@ use Rattle.totem_evs.specs.declared.log.Log.{Log}
 use Rattle.totem_evs.specs.Events.{log_of}
 use Rattle.totem_evs.specs.Steps.{DeliversAt}
 use Rattle.totem_evs.specs.Places.{Somewhere}
-use Rattle.totem_evs.proofs.LogOf.{less_or_not}
 use Rattle.totem_cert.specs.Search.{place}
 use Rattle.totem_evs.specs.ClosedLists.{AreTwinDeliveries, HasTwinDeliveries}
 use Rattle.totem_cert.specs.Progress.{NeverDelivers, StandsNext, NoTwinsBefore, BothAre, message_of}
-use Rattle.totem_cert.proofs.LogHeads.{same_place_of}
+use Rattle.totem_cert.proofs.LineFacts.{same_parts}
 use Rattle.totem_cert.proofs.Classmates.{one_message}
 
 somewhere_at : (Step : Place → Place → Type 0) (e : Place) (es : List Place) (z : Place) (i : ℕ) (a b : Place) → slice_get (e ∷ es) i ≡ Some a → (slice_get es i ≡ Some b) ⊎ ((length es ≡ i) × (z ≡ b)) → Step a b → Somewhere Step e es z
@@ -43,20 +42,15 @@ twins_none run (x ∷ xs) i le none h =
     let r = somewhere_where (AreTwinDeliveries run) x xs x h in
     let s : r.0 + 1 ≡ suc r.0 = omega arith in
     let lt = slice_get_within (x ∷ xs) r.0 r.1 r.3 in
-    none.none r.0 r.1 r.2 (omega arith) r.3 (elim r.4 [ inl at ↦ inl (rw s at) | inr (l, same) ↦ inr (omega arith, ap Some same) ]) r.5
+    none.none r.0 (omega arith) r.1 r.2 r.3 (elim r.4 [ inl at ↦ inl (rw s at) | inr (l, same) ↦ inr (omega arith, ap Some same) ]) r.5
 
 pub twins_more : (run : List Log) (places : List Place) (i : ℕ) (e f : Place) → i < length places → e ≡ get_or places i e → StandsNext places i f → (IsTrue false ↔ AreTwinDeliveries run e f) → NoTwinsBefore run places i → NoTwinsBefore run places (i + 1)
 twins_more run places i e f within read next not_twins before = record {
-  none = λ j a b lt at_a next_b twins. elim (less_or_not j i) [
-    | inl under ↦ before.none j a b under at_a next_b twins
-    | inr rest ↦ elim rest [
-      | inl over ↦ omega arith
-      | inr same ↦ (let at = slice_get_read places _ i e refl within read in
-          let one : a ≡ e = (let h : slice_get places i ≡ Some a = rw same at at_a in cc) in
-          let two : b ≡ f = one_next places i b f (rw same at next_b) next in
-          let h = not_twins.1 (rw (one, two) at twins) in cc)
-    ]
-  ];
+  none = below_more (λ j. (a b : Place) → slice_get places j ≡ Some a → StandsNext places j b → AreTwinDeliveries run a b → ⊥) i before.none (λ a b at_a next_b twins. (
+      let at = slice_get_read places _ i e refl within read in
+      let one : a ≡ e = cc in
+      let two : b ≡ f = one_next places i b f next_b next in
+      let h = not_twins.1 (rw (one, two) at twins) in cc));
 }
   where
     one_next : (xs : List Place) (i : ℕ) (b f : Place) → StandsNext xs i b → StandsNext xs i f → b ≡ f
@@ -77,7 +71,7 @@ found_message run e (Send m y s) i r is at at_e = rw is tt
 found_message run e (Fail y) i r is at at_e = rw is tt
 found_message run e (Deliver m y) i r is at at_e =
     let here : DeliversAt run (place e.proc i) m = (y, at) in
-    let there : DeliversAt run e m = rw (same_place_of e e.proc i refl at_e) here in
+    let there : DeliversAt run e m = rw (same_parts e e.proc (suc i) refl at_e) here in
     rw is there
 
 pub twins_decided : (run : List Log) (e f : Place) (m n : Option MsgId) (same one r : Bool) → IfSome m (λ k. DeliversAt run e k) → IfNone m (NeverDelivers run e) → IfSome n (λ k. DeliversAt run f k) → IfNone n (NeverDelivers run f)

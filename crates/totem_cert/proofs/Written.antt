@@ -1,10 +1,10 @@
 -- The steps of a round, written in forward order from the least place.
-use Rattle.std.proofs.Common.{◌≡◌, ℕ, zero, suc, ◌+◌, ◌-◌, ◌<◌, ◌≤◌, ◌⊎◌, inl, inr, List, [], ◌∷◌, ◌++◌, length, get_or, take, drop, slice_get, Some, refl, sym, ◌∙◌, ap, arith, length-drop}
+use Rattle.std.proofs.Common.{◌≡◌, ℕ, zero, suc, ◌+◌, ◌-◌, ◌<◌, ◌⊎◌, inl, inr, List, [], ◌∷◌, ◌++◌, length, get_or, take, drop, slice_get, Some, refl, sym, ◌∙◌, ap, arith, length-drop}
+use Rattle.std.proofs.lemmas.List.{take_all}
 use Rattle.std.proofs.lemmas.Option.{slice_get_within, slice_get_read}
 use Rattle.totem_ids.specs.declared.place.Place.{Place}
 use Rattle.totem_evs.specs.Classes.{IsAtMost}
-use Rattle.totem_evs.specs.ClosedLists.{Step}
-use Rattle.totem_evs.specs.ClosedLists.{unless, forward, BeginsLeast}
+use Rattle.totem_evs.specs.ClosedLists.{Step, unless, forward, BeginsLeast}
 use Rattle.totem_cert.specs.Progress.{StandsBefore, IsForwardFrom, IsLeastUpTo}
 use Rattle.totem_cert.proofs.Closing.{get_drop}
 
@@ -66,10 +66,4 @@ begins_least places list k lt least is = go (drop k places) refl is
         rw whole fine
 
 pub rest_all : (xs : List Place) (k : ℕ) → take (length xs - k) (drop k xs) ≡ drop k xs
-rest_all xs k = take_all (drop k xs) (length xs - k) (let h = length-drop k xs in omega arith)
-  where
-    take_all : (ys : List Place) (n : ℕ) → length ys ≤ n → take n ys ≡ ys
-    take_all [] zero le = refl
-    take_all [] (suc n) le = refl
-    take_all (y ∷ ys) zero le = absurd (omega arith)
-    take_all (y ∷ ys) (suc n) le = ap (λ (zs : List Place). y ∷ zs) (take_all ys n (omega arith))
+rest_all xs k = take_all (length xs - k) (drop k xs) (let h = length-drop k xs in omega arith)

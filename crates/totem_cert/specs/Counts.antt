@@ -1,5 +1,5 @@
 -- How many entries keep each class from being ready. The classes are numbered by a table.
-use Rattle.std.specs.Prelude.{◌≡◌, ◌≢◌, ◌↔◌, ℕ, zero, suc, ◌+◌, ◌-◌, ◌<◌, ◌≤◌, ◌==◌, if◌then◌else◌, nat_le, List, [], ◌∷◌, ◌++◌, length, slice_get, slice_index_or, Option, Some, None}
+use Rattle.std.specs.Prelude.{◌≡◌, ◌↔◌, ℕ, zero, suc, ◌+◌, ◌-◌, ◌<◌, ◌≤◌, ◌==◌, if◌then◌else◌, List, [], ◌∷◌, ◌++◌, length, slice_get, slice_set, slice_index_or, Option, Some, None}
 use Rattle.totem_ids.specs.declared.message.MsgId.{MsgId}
 use Rattle.totem_ids.specs.declared.conf.ConfId.{ConfId}
 use Rattle.totem_evs.specs.declared.entry.Entry.{Entry}
@@ -8,7 +8,15 @@ use Rattle.totem_evs.specs.declared.log.Log.{Log}
 use Rattle.totem_evs.specs.Certificates.{Numbering}
 use Rattle.totem_table.specs.declared.table.Table.{Table}
 use Rattle.totem_table.specs.Tables.{IsEntryAt, NamesMessage, NamesConf, number_at}
-use Rattle.totem_cert.specs.Wanted.{given_at}
+
+-- how many numbers the line has, if there is one
+abbrev pub count_of : Option Numbering → ℕ
+count_of (Some line) = length line.numbers
+count_of None = 0
+
+-- how many entries of the k-th log have a number
+abbrev pub given_at : List Numbering → ℕ → ℕ
+given_at lines k = count_of (slice_get lines k)
 
 -- f 0 + .. + f (n - 1)
 abbrev pub sum_to : ℕ → (ℕ → ℕ) → ℕ
@@ -22,6 +30,10 @@ class_in messages (Send m x s) n = None
 class_in messages (Deliver m x) n = Some n
 class_in messages (Fail x) n = None
 
+-- the class of the entry at i of the log at k
+abbrev pub class_at : Table → ℕ → ℕ → Entry → Option ℕ
+class_at table k i entry = class_in (length table.messages.items) entry (number_at table k i)
+
 -- the class that a send feeds
 abbrev pub class_fed : Entry → ℕ → Option ℕ
 class_fed (Conf x ms) n = None
@@ -29,27 +41,30 @@ class_fed (Send m x s) n = Some n
 class_fed (Deliver m x) n = None
 class_fed (Fail x) n = None
 
+-- the class that an entry keeps from being ready if it is not the head of its log: its own, or for a send the one that it feeds
+abbrev pub class_named : ℕ → Entry → ℕ → Option ℕ
+class_named messages (Conf x ms) n = Some (messages + n)
+class_named messages (Send m x s) n = Some n
+class_named messages (Deliver m x) n = Some n
+class_named messages (Fail x) n = None
+
 -- 1 for the given class, 0 for any other
 abbrev pub one : Option ℕ → ℕ → ℕ
 one None c = 0
 one (Some n) c = if n == c then 1 else 0
 
--- n from the bound on, 0 below it
-abbrev pub from : ℕ → ℕ → ℕ → ℕ
-from bound i n = if nat_le bound i then n else 0
+-- how many of these entries keep class c, if none of them is the head of its log
+abbrev pub kept_behind : ℕ → List Entry → List ℕ → ℕ → ℕ
+kept_behind messages [] row c = 0
+kept_behind messages (entry ∷ entries) [] c = 0
+kept_behind messages (entry ∷ entries) (n ∷ row) c = one (class_named messages entry n) c + kept_behind messages entries row c
 
--- how often the entry at i keeps class c: as a send from index `sends` on, as an entry of the class from index `others` on
-abbrev pub keeping : ℕ → Option Entry → ℕ → ℕ → ℕ → ℕ → ℕ → ℕ
-keeping messages None n sends others c i = 0
-keeping messages (Some entry) n sends others c i = from sends i (one (class_fed entry n) c) + from others i (one (class_in messages entry n) c)
-
--- the same for the entry at i of a log
-abbrev pub keeping_at : ℕ → List Entry → List ℕ → ℕ → ℕ → ℕ → ℕ → ℕ
-keeping_at messages entries row sends others c i = keeping messages (slice_get entries i) (slice_index_or row i 0) sends others c i
-
--- how many entries of a log keep class c
-abbrev pub kept_in : ℕ → List Entry → List ℕ → ℕ → ℕ → ℕ → ℕ
-kept_in messages entries row sends others c = sum_to (length entries) (keeping_at messages entries row sends others c)
+-- how many entries of a log keep class c if `given` of them have numbers
+abbrev pub kept_in : ℕ → ℕ → List Entry → List ℕ → ℕ → ℕ
+kept_in messages given [] row c = 0
+kept_in messages given (entry ∷ entries) [] c = 0
+kept_in messages zero (entry ∷ entries) (n ∷ row) c = one (class_fed entry n) c + kept_behind messages entries row c
+kept_in messages (suc given) (entry ∷ entries) (n ∷ row) c = kept_in messages given entries row c
 
 abbrev pub entries_of : Option Log → List Entry
 entries_of None = []
@@ -57,7 +72,7 @@ entries_of (Some log) = log.entries
 
 -- how many entries of the k-th log keep class c if `given` of them have numbers
 abbrev pub kept_at : List Log → Table → ℕ → ℕ → ℕ → ℕ
-kept_at run table given c k = kept_in (length table.messages.items) (entries_of (slice_get run k)) (slice_index_or table.rows.items k []) given (suc given) c
+kept_at run table given c k = kept_in (length table.messages.items) given (entries_of (slice_get run k)) (slice_index_or table.rows.items k []) c
 
 -- how many entries of the run keep class c
 abbrev pub kept_by : List Log → Table → List Numbering → ℕ → ℕ
@@ -93,10 +108,6 @@ pub record Takes (old new : List ℕ) (f : ℕ → ℕ) : Type 0 where
 pub record AtMost (counts : List ℕ) (most : ℕ) : Type 0 where
   pub each : (c : ℕ) → slice_index_or counts c 0 ≤ most
 
--- the entry with number n keeps the given class, or none, if no entry of its log has a number
-pub record IsKept (messages : ℕ) (entry : Entry) (n at : ℕ) (class : Option ℕ) : Type 0 where
-  pub each : (c : ℕ) → keeping messages (Some entry) n 0 1 c at ≡ one class c
-
 -- the numbers of a table are equal exactly for equal messages, and for equal configurations
 pub record Tells (run : List Log) (table : Table) : Type 0 where
   pub messages : (k i l j : ℕ) (e f : Entry) (m n : MsgId) → IsEntryAt run k i e → IsEntryAt run l j f → NamesMessage e m → NamesMessage f n
@@ -106,9 +117,9 @@ pub record Tells (run : List Log) (table : Table) : Type 0 where
 
 -- only the line at k has changed: its next entry got number n
 pub record Pushes (old new : List Numbering) (k n : ℕ) : Type 0 where
-  pub count : length new ≡ length old
-  pub here : (line : Numbering) → slice_get old k ≡ Some line → slice_get new k ≡ Some (record line { numbers = line.numbers ++ n ∷ [] })
-  pub others : (i : ℕ) → i ≢ k → slice_get new i ≡ slice_get old i
+  pub line : Numbering
+  pub line_at : slice_get old k ≡ Some line
+  pub is : new ≡ slice_set old k (record line { numbers = line.numbers ++ n ∷ [] })
 
 -- the k-th log has an entry without a number
 pub record HasHead (log : Log) (lines : List Numbering) (k : ℕ) : Type 0 where

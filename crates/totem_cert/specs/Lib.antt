@@ -3,6 +3,6 @@ pub mod Progress
 pub mod Answer
 pub mod Visited
 pub mod Laws
-pub mod Keys
-pub mod Wanted
 pub mod Counts
+pub mod Firsts
+pub mod Heads

@@ -1,5 +1,5 @@
 -- The numbering so far, and the walk to a closed list.
-use Rattle.std.specs.Prelude.{◌≡◌, ◌⊎◌, ℕ, ◌+◌, ◌-◌, ◌<◌, ◌≤◌, List, [], ◌∷◌, ◌++◌, length, drop, slice_get, unwrap_or, Bool, IsTrue, Option, Some, None}
+use Rattle.std.specs.Prelude.{◌≡◌, ◌⊎◌, ℕ, ◌+◌, ◌-◌, ◌<◌, ◌≤◌, List, [], ◌∷◌, length, drop, slice_get, unwrap_or, Option, Some, None}
 use Rattle.totem_ids.specs.declared.place.Place.{Place}
 use Rattle.totem_evs.specs.declared.entry.Entry.{Entry}
 use Rattle.totem_evs.specs.declared.entry.Entry.TheVariants.{Conf, Send, Deliver, Fail}
@@ -9,6 +9,9 @@ use Rattle.totem_ids.specs.declared.message.MsgId.{MsgId}
 use Rattle.totem_evs.specs.Steps.{DeliversAt}
 use Rattle.totem_evs.specs.Certificates.{Numbering, number_at, numbers_of}
 use Rattle.totem_cert.specs.Search.{place}
+use Rattle.totem_table.specs.declared.table.Table.{Table}
+use Rattle.totem_table.specs.Tables.{IsEntryAt}
+use Rattle.totem_cert.specs.Counts.{class_at, given_at}
 use Rattle.totem_evs.specs.Classes.{IsAtMost, InClass, WaitsFor, ClassAtMost, AreOfOneClass, AreSendAndDelivery}
 use Rattle.totem_evs.specs.Positions.{IsReadyAt}
 use Rattle.totem_evs.specs.ClosedLists.{Placed, Step, IsStepOf, IsWalk, ComesBack, forward, AreTwinDeliveries}
@@ -45,10 +48,6 @@ pub record IsNext (run : List Log) (lines : List Numbering) (e : Place) : Type 0
   pub ready : IsReady run lines e
   pub least : (f : Place) → IsReady run lines f → ClassAtMost run e f
 
--- the new numbers are the old ones, with n for e's class
-pub record Gives (run : List Log) (old new : List Numbering) (e : Place) (n : ℕ) : Type 0 where
-  pub each : (x : Place) → (InClass run e x × (number_at new x ≡ Some n)) ⊎ ((InClass run e x → ⊥) × (number_at new x ≡ number_at old x))
-
 -- each log has a line that is not longer than it
 pub record Fits (run : List Log) (lines : List Numbering) : Type 0 where
   pub count : length lines ≡ length run
@@ -60,6 +59,16 @@ abbrev pub entries_left : List Log → List Numbering → ℕ
 entries_left [] lines = 0
 entries_left (log ∷ logs) [] = 0
 entries_left (log ∷ logs) (line ∷ lines) = (length log.entries - length line.numbers) + entries_left logs lines
+
+-- the next class got the number n
+pub record IsGiven (run : List Log) (old new : List Numbering) (n : ℕ) : Type 0 where
+  pub event : Place
+  pub next : IsNext run old event
+  pub fresh : (e : Place) → InClass run event e → number_at new e ≡ Some n
+  -- no other number has changed
+  pub each : (e : Place) → (InClass run event e × (number_at new e ≡ Some n)) ⊎ (number_at new e ≡ number_at old e)
+  pub fits : Fits run new
+  pub left : entries_left run new < entries_left run old
 
 -- the event at i of q's log is in the class of the entry at j of p's
 abbrev pub IsMate : ℕ → ℕ → Entry → ℕ → ℕ → Entry → Type 0
@@ -73,10 +82,16 @@ KeepsBack run lines p j x q i = (y : Entry) × (slice_get (log_of run q) i ≡ S
 -- the head of the k-th log is the next event to be numbered
 pub record IsNextHead (run : List Log) (lines : List Numbering) (k : ℕ) : Type 0 where
   pub log : Log
-  pub line : Numbering
   pub log_at : slice_get run k ≡ Some log
-  pub line_at : slice_get lines k ≡ Some line
-  pub next : IsNext run lines (place log.proc (length line.numbers))
+  pub next : IsNext run lines (place log.proc (given_at lines k))
+
+-- the next events to be numbered are the heads in class c
+pub record IsNextIn (run : List Log) (table : Table) (lines : List Numbering) (c : ℕ) : Type 0 where
+  pub k : ℕ
+  pub entry : Entry
+  pub at : IsEntryAt run k (given_at lines k) entry
+  pub class : class_at table k (given_at lines k) entry ≡ Some c
+  pub next : IsNext run lines (place at.log.proc (given_at lines k))
 
 -- no class is ready
 pub record NoneReady (run : List Log) (lines : List Numbering) : Type 0 where
@@ -84,7 +99,7 @@ pub record NoneReady (run : List Log) (lines : List Numbering) : Type 0 where
 
 -- no head of a log before the k-th is ready
 pub record NoneReadyBefore (run : List Log) (lines : List Numbering) (k : ℕ) : Type 0 where
-  pub none : (j : ℕ) (log : Log) (line : Numbering) → j < k → slice_get run j ≡ Some log → slice_get lines j ≡ Some line → IsReady run lines (place log.proc (length line.numbers)) → ⊥
+  pub none : (j : ℕ) → j < k → (log : Log) → slice_get run j ≡ Some log → IsReady run lines (place log.proc (given_at lines j)) → ⊥
 
 -- some classes are numbered, all of them correctly
 pub record IsSound (run : List Log) (lines : List Numbering) : Type 0 where
@@ -92,22 +107,6 @@ pub record IsSound (run : List Log) (lines : List Numbering) : Type 0 where
   pub number : ℕ
   pub small : number ≤ 32000000
   pub sound : Sound run lines number
-
--- the first entry of a log without a number is in the class of the entry x at j of p's log
-abbrev pub HeadIsMate : ℕ → ℕ → Entry → Log → Numbering → Type 0
-HeadIsMate p j x log line = (y : Entry) × (slice_get log.entries (length line.numbers) ≡ Some y) × IsMate p j x log.proc (length line.numbers) y
-
--- the line after the class of the entry x at j of p's log got number n
-abbrev pub LineGiven : ℕ → ℕ → Entry → ℕ → Log → Numbering → Numbering → Type 0
-LineGiven p j x n log was now =
-    (HeadIsMate p j x log was × (now ≡ record was { numbers = was.numbers ++ n ∷ [] }))
-    ⊎ ((HeadIsMate p j x log was → ⊥) × (now ≡ was))
-
--- the lines of the first i logs have got it
-pub record GivenUpTo (run : List Log) (old new : List Numbering) (p j : ℕ) (x : Entry) (n i : ℕ) : Type 0 where
-  pub count : length new ≡ length old
-  pub before : (k : ℕ) (log : Log) (was now : Numbering) → k < i → slice_get run k ≡ Some log → slice_get old k ≡ Some was → slice_get new k ≡ Some now → LineGiven p j x n log was now
-  pub after : (k : ℕ) → i ≤ k → slice_get new k ≡ slice_get old k
 
 abbrev pub empty_line : Log → Numbering
 empty_line log = record { proc = log.proc; numbers = [] }
@@ -135,13 +134,14 @@ pub record IsFirstLeft (run : List Log) (lines : List Numbering) (k : ℕ) : Typ
   pub more : length line.numbers < length log.entries
   pub before : IsFullBefore run lines k
 
--- the event at i of q's log sends the message that the entry x delivers, and has no number
-abbrev pub IsOpenSend : List Log → List Numbering → Entry → ℕ → ℕ → Type 0
-IsOpenSend run lines x q i = (y : Entry) × (slice_get (log_of run q) i ≡ Some y) × AreSendAndDelivery y x × (length (numbers_of lines q) ≤ i)
+-- the log of p is at this index, or p has no log
+abbrev pub IsLogOf : List Log → ℕ → Option ℕ → Type 0
+IsLogOf run p (Some k) = (log : Log) × (slice_get run k ≡ Some log) × (log.proc ≡ p)
+IsLogOf run p None = (k : ℕ) (log : Log) → slice_get run k ≡ Some log → log.proc ≡ p → ⊥
 
--- the event at i of q's log is in the class of the entry x at j of p's log; the class waits for a send or the entry before has no number
-abbrev pub IsHeldMate : List Log → List Numbering → ℕ → ℕ → Entry → Bool → ℕ → ℕ → Type 0
-IsHeldMate run lines p j x waits q i = (y : Entry) × (slice_get (log_of run q) i ≡ Some y) × IsMate p j x q i y × (IsTrue waits ⊎ (length (numbers_of lines q) < i))
+-- if e is an event, this is its class
+pub record IsClassOf (run : List Log) (table : Table) (e : Place) (class : Option ℕ) : Type 0 where
+  pub each : (k i : ℕ) (entry : Entry) (at : IsEntryAt run k i entry) → e ≡ place at.log.proc i → class ≡ class_at table k i entry
 
 -- from holds `to` up: it is the entry before, if that has no number, otherwise the send
 abbrev pub IsHeldBy : List Numbering → Option Place → Place → Place → Type 0
@@ -200,7 +200,7 @@ StandsNext places i f = (slice_get places (i + 1) ≡ Some f) ⊎ ((length place
 
 -- no event of a closed list before the i-th delivers the message that the next one delivers too
 pub record NoTwinsBefore (run : List Log) (places : List Place) (i : ℕ) : Type 0 where
-  pub none : (j : ℕ) (e f : Place) → j < i → slice_get places j ≡ Some e → StandsNext places j f → AreTwinDeliveries run e f → ⊥
+  pub none : (j : ℕ) → j < i → (e f : Place) → slice_get places j ≡ Some e → StandsNext places j f → AreTwinDeliveries run e f → ⊥
 
 abbrev pub BothAre : Option MsgId → Option MsgId → Type 0
 BothAre (Some m) (Some n) = m ≡ n

@@ -1,10 +1,8 @@
--- The events of a run that have a property, and the least of them.
+-- Places by index, and the events of a run that have a property.
 use Rattle.std.specs.Prelude.{ℕ, suc, ◌<◌, List, length}
 use Rattle.totem_ids.specs.declared.place.Place.{Place}
 use Rattle.totem_evs.specs.declared.log.Log.{Log}
 use Rattle.totem_evs.specs.Events.{log_of}
-use Rattle.totem_evs.specs.Places.{At}
-use Rattle.totem_evs.specs.Classes.{IsAtMost}
 
 -- the place of the entry at i of p's log, i counting from 0
 abbrev pub place : ℕ → ℕ → Place
@@ -13,8 +11,3 @@ place p i = record { proc = p; at = suc i }
 -- no event of the run has the property
 pub record NoneOf (run : List Log) (P : ℕ → ℕ → Type 0) : Type 0 where
   pub none : (p i : ℕ) → i < length (log_of run p) → P p i → ⊥
-
--- e is the least event that has the property
-pub record IsLeast (run : List Log) (P : ℕ → ℕ → Type 0) (e : Place) : Type 0 where
-  pub holds : At e P
-  pub least : (f : Place) → At f (λ p i. (i < length (log_of run p)) × P p i) → IsAtMost e f

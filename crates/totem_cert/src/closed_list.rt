@@ -1,18 +1,19 @@
-ghost use Rattle.std.specs.Prelude.{IfOk, ◌≡◌};
+ghost use Rattle.std.specs.Prelude.{IfOk};
 ghost use Rattle.totem_evs.specs.ClosedLists.{IsLeastLeft, IsBrokenBy};
-ghost use Rattle.totem_evs.specs.Runs.{IsRun};
 ghost use Rattle.totem_evs.specs.ClosedLists.{IsCycle};
-ghost use Rattle.totem_cert.specs.Keys.{IsIndex};
+ghost use Rattle.totem_table.specs.Tables.{IsTable};
+ghost use Rattle.totem_cert.specs.Counts.{Tells};
 ghost use Rattle.totem_cert.specs.Progress.{IsSound, NoneReady, IsFirstLeft};
 
 use crate::closed::{forward, turned};
-use crate::key::KeyedEntry;
+use crate::firsts::Firsts;
 use crate::twins::has_twins;
 use crate::walk::walk_round;
 use std::alloc::{AllocError, Global};
 use totem_certificate::OpenLine;
 use totem_evs::{Fault, Places, Run, SpecNo};
 use totem_ids::Place;
+use totem_table::Table;
 
 /// Returns the least event that has no number.
 fn least_left(run: &Run, lines: &[OpenLine], k: usize) -> Place
@@ -43,19 +44,20 @@ fn broken_by(run: &Run, places: &[Place]) -> SpecNo
 pub fn closed_list(
     alloc: Global,
     run: &Run,
-    index: &[KeyedEntry],
+    table: &Table,
     lines: &[OpenLine],
     k: usize,
 ) -> Result<Fault, AllocError>
-    requires run { IsRun run.now.logs }
-    requires index { IsIndex run.now.logs index.now }
+    requires table { IsTable run.now.logs table.now }
+    requires tells { Tells run.now.logs table.now }
     requires sound { IsSound run.now.logs lines.now }
     requires none { NoneReady run.now.logs lines.now }
     requires left { IsFirstLeft run.now.logs lines.now k }
     ensures { IfOk result (λ fault. IsCycle run.now.logs fault) }
 {
     let start = least_left(run, lines, k);
-    let round = walk_round(alloc, run, index, lines, &start)?;
+    let firsts = Firsts::of(alloc, run, table, lines)?;
+    let round = walk_round(alloc, run, table, lines, &firsts, &start)?;
     let written = forward(alloc, &round.steps, round.again)?;
     let places = turned(alloc, &written)?;
     Ok(Fault {

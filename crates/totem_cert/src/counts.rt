@@ -1,9 +1,9 @@
 //! Counts the entries that keep each class of a run from being ready: entries of the class after the first entry of their log without a
 //! number, and sends without a number. The classes are numbered as in a table, those of messages before those of configurations.
-ghost use Rattle.std.specs.Prelude.{◌≡◌, ◌↔◌, ◌+◌, ◌<◌, ◌≤◌, ◌^◌, IfOk, IsTrue, OnOk, Some, length, map, slice_get, slice_index_or};
+ghost use Rattle.std.specs.Prelude.{◌≡◌, ◌+◌, ◌<◌, ◌≤◌, ◌^◌, IfOk, OnOk, Some, length, map, slice_get, slice_index_or};
 ghost use Rattle.totem_table.specs.Tables.{IsTable};
 ghost use Rattle.totem_cert.specs.Progress.{empty_line};
-ghost use Rattle.totem_cert.specs.Counts.{Adds, AtMost, Counts, CountsTo, HasHead, IsKept, Pushes, Takes, class_fed, class_in, kept_in, one, passed};
+ghost use Rattle.totem_cert.specs.Counts.{Adds, AtMost, Counts, CountsTo, HasHead, Pushes, Takes, class_fed, class_in, class_named, kept_in, one, passed, shared_by};
 
 use std::alloc::{AllocError, Global};
 use totem_certificate::OpenLine;
@@ -11,7 +11,7 @@ use totem_evs::{Entry, Log, Run};
 use totem_table::Table;
 
 /// Returns the class that a send feeds, or `None` for any other entry.
-fn class_fed(entry: &Entry, number: u32) -> Option<usize>
+pub fn class_fed(entry: &Entry, number: u32) -> Option<usize>
     ensures { result ≡ class_fed entry.now number }
 {
     match entry {
@@ -29,6 +29,18 @@ pub fn class_in(messages: usize, entry: &Entry, number: u32) -> Option<usize>
         Entry::Conf(_, _) => Some(messages + number as usize),
         Entry::Deliver(_, _) => Some(number as usize),
         _ => None,
+    }
+}
+
+/// Returns the class that an entry keeps from being ready if it is not the head of its log.
+fn class_named(messages: usize, entry: &Entry, number: u32) -> Option<usize>
+    requires { messages < 2 ^ 63 }
+    ensures { result ≡ class_named messages entry.now number }
+{
+    match entry {
+        Entry::Conf(_, _) => Some(messages + number as usize),
+        Entry::Send(_, _, _) | Entry::Deliver(_, _) => Some(number as usize),
+        Entry::Fail(_) => None,
     }
 }
 
@@ -59,21 +71,16 @@ fn take(counts: &mut [u32], class: Option<usize>)
     }
 }
 
-/// Returns the class that an entry keeps from being ready, if no entry of its log has a number.
-#[tactic(auto, using(crate::proofs::CountSteps::kept_fed, crate::proofs::CountSteps::kept_shared, crate::proofs::CountSteps::kept_first))]
-fn class_kept(messages: usize, at: usize, entry: &Entry, number: u32) -> Option<usize>
-    requires { messages < 2 ^ 63 }
-    ensures { IsKept messages entry.now number at result }
+/// Returns the class of the entry at an index, or `None` if there is no entry or it is alone in its class.
+fn class_next(messages: usize, entries: &[Entry], row: &[u32], next: usize) -> Option<usize>
+    requires messages { messages < 2 ^ 63 }
+    requires long { length entries.now ≡ length row.now }
+    ensures { result ≡ shared_by messages (slice_get entries.now next) (slice_index_or row.now next 0) }
 {
-    match class_fed(entry, number) {
-        Some(class) => Some(class),
-        None => {
-            if 0 < at {
-                class_in(messages, entry, number)
-            } else {
-                None
-            }
-        }
+    if next < entries.len() {
+        class_in(messages, &entries[next], row[next])
+    } else {
+        None
     }
 }
 
@@ -83,11 +90,12 @@ fn count_log(counts: &mut [u32], messages: usize, entries: &[Entry], row: &[u32]
     requires few { AtMost counts.old 31000000 }
     requires short { length entries.now ≤ 1000000 }
     requires long { length entries.now ≡ length row.now }
-    ensures { Adds counts.old counts.new (kept_in messages entries.now row.now 0 1) }
+    ensures { Adds counts.old counts.new (kept_in messages 0 entries.now row.now) }
 {
     for (at, entry) in entries.iter().enumerate() {
-        add(counts, class_kept(messages, at, entry, row[at]));
+        add(counts, class_named(messages, entry, row[at]));
     }
+    take(counts, class_next(messages, entries, row, 0));
 }
 
 /// Counts the classes that the entries of each log keep from being ready. None of the entries has a number.
@@ -122,10 +130,7 @@ fn advance(counts: &mut [u32], messages: usize, entries: &[Entry], row: &[u32], 
     ensures { Takes counts.old counts.new (passed messages entries.now row.now head) }
 {
     take(counts, class_fed(&entries[head], row[head]));
-    let next = head + 1;
-    if next < entries.len() {
-        take(counts, class_in(messages, &entries[next], row[next]));
-    }
+    take(counts, class_next(messages, entries, row, head + 1));
 }
 
 /// Gives the head of a log its number.
@@ -156,12 +161,4 @@ pub fn number_head(
         head,
     );
     Ok(())
-}
-
-/// Returns whether no entry keeps the class from being ready.
-pub fn none_keeps(counts: &[u32], class: usize) -> bool
-    requires { class < length counts.now }
-    ensures { IsTrue result ↔ (slice_index_or counts.now class 0 ≡ 0) }
-{
-    counts[class] == 0
 }

@@ -14,16 +14,14 @@ mod closed;
 mod closed_list;
 mod counted;
 mod counts;
-mod index;
-mod key;
+mod firsts;
+mod heads;
 mod laws;
-mod mates;
 mod numbering;
 mod order;
 mod step;
 mod twins;
 mod walk;
-mod wanted;
 
 pub use laws::{closed_lists_are_one, closed_lists_exclude_certificates, positions_are_one};
 pub use order::{Order, positions};

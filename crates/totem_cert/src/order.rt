@@ -5,13 +5,12 @@ ghost use Rattle.totem_cert.specs.Progress.{IsSound, IsFull};
 
 use crate::closed_list::closed_list;
 use crate::counted::number_by_counts;
-use crate::index::index_of;
 use crate::numbering::first_left;
 use std::alloc::{AllocError, Global};
 use totem_certificate::{Certificate, Line, Lines, OpenLine};
 use totem_evs::{Fault, Run};
 use totem_ids::Version;
-use totem_table::Table;
+use totem_table::{Table, numbers_tell_confs, numbers_tell_messages};
 
 /// The positions of a run's events, or the closed list that shows that they have none.
 #[derive(Debug, Drop)]
@@ -65,12 +64,11 @@ pub fn positions(alloc: Global, run: &Run) -> Result<Order, AllocError>
     ensures { IfOk result (λ order. IsOrder run.now order) }
 {
     let table = Table::build(alloc, run)?;
+    numbers_tell_messages(run, &table);
+    numbers_tell_confs(run, &table);
     let lines = number_by_counts(alloc, run, &table)?;
     match first_left(run, &lines) {
         None => Ok(Order::Positions(certificate(alloc, run, lines)?)),
-        Some(k) => {
-            let index = index_of(alloc, run)?;
-            Ok(Order::Cycle(closed_list(alloc, run, &index, &lines, k)?))
-        }
+        Some(k) => Ok(Order::Cycle(closed_list(alloc, run, &table, &lines, k)?)),
     }
 }

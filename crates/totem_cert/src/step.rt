@@ -1,19 +1,23 @@
-ghost use Rattle.std.specs.Prelude.{◌≡◌, ◌⊎◌, ◌+◌, ◌<◌, ◌≤◌, ◌↔◌, IsTrue, IfSome, IfNone, Some, slice_get, length};
+//! The step of a class that has no number: from what holds it up to its first entry that is held up.
+ghost use Rattle.std.specs.Prelude.{◌≡◌, if◌then◌else◌, length, slice_get};
 ghost use Rattle.std.specs.Option.{option_copied};
 ghost use Rattle.totem_evs.specs.Events.{log_of};
-ghost use Rattle.totem_cert.specs.Search.{place, IsLeast, NoneOf};
 ghost use Rattle.totem_evs.specs.Certificates.{numbers_of};
-ghost use Rattle.totem_evs.specs.ClosedLists.{IsLeft, IsStepOf};
 ghost use Rattle.totem_evs.specs.Runs.{IsRun};
-ghost use Rattle.totem_cert.specs.Keys.{IsIndex};
-ghost use Rattle.totem_cert.specs.Progress.{Fits, IsSound, NoneReady, IsOpenSend, IsHeldMate, IsHeldBy};
+ghost use Rattle.totem_evs.specs.ClosedLists.{IsLeft, IsStepOf};
+ghost use Rattle.totem_table.specs.Tables.{IsTable};
+ghost use Rattle.totem_cert.specs.Counts.{Tells};
+ghost use Rattle.totem_cert.specs.Firsts.{AreFirstsOf};
+ghost use Rattle.totem_cert.specs.Progress.{Fits, IsClassOf, IsHeldBy, IsLogOf, IsSound, NoneReady};
 
-use crate::key::{Key, KeyedEntry};
-use crate::wanted::{Wanted, first_place};
+use crate::counts::class_in;
+use crate::firsts::{Firsts, given_at};
+use std::alloc::{AllocError, Global};
 use std::marker::Model;
 use totem_certificate::OpenLine;
 use totem_evs::{Entry, Run};
 use totem_ids::{Place, Proc};
+use totem_table::Table;
 
 /// A step to an entry, from the one that holds it up.
 #[derive(Clone, Copy)]
@@ -32,105 +36,73 @@ impl Model for Step {
     ghost inverse = { λ v. record { from = v.from; to = v.to } };
 }
 
-/// An entry with its process and its index.
-#[derive(Clone, Copy)]
-struct Standing<'a> {
-    proc: Proc,
-    at: usize,
-    entry: &'a Entry,
-}
-
-/// Returns how many entries of a process's log have a number.
-#[tactic(auto, using(crate::proofs::Given::numbers_of_here, crate::proofs::Given::numbers_of_more, crate::proofs::Given::numbers_of_end))]
-pub fn given(lines: &[OpenLine], proc: Proc) -> usize
-    ensures { result ≡ length (numbers_of lines.now proc) }
+/// Returns the index of a process's log.
+fn index_of_log(run: &Run, proc: Proc) -> Option<usize>
+    ensures log { IsLogOf run.now.logs proc result }
+    ensures run { IsRun run.now.logs }
 {
-    for line in lines {
-        if line.proc() == proc {
-            return line.numbers().len();
+    for (k, log) in run.logs.as_slice().iter().enumerate() {
+        if log.proc == proc {
+            return Some(k);
         }
     }
-    0
+    None
 }
 
 /// Returns the entry at an index of a process's log.
 pub fn entry_at(run: &Run, proc: Proc, at: usize) -> Option<&Entry>
     ensures { option_copied result ≡ slice_get (log_of run.now.logs proc) at }
 {
-    for log in run.logs.as_slice() {
-        if log.proc == proc {
-            let entries = log.entries.as_slice();
-            return if at < entries.len() {
-                Some(&entries[at])
-            } else {
-                None
-            };
-        }
-    }
-    None
-}
-
-/// Returns the least send without a number of the message that an entry delivers.
-fn open_send(run: &Run, index: &[KeyedEntry], lines: &[OpenLine], entry: &Entry) -> Option<Place>
-    requires run { IsRun run.now.logs }
-    requires index { IsIndex run.now.logs index.now }
-    requires fits { Fits run.now.logs lines.now }
-    ensures found { IfSome result (λ e. IsLeast run.now.logs (IsOpenSend run.now.logs lines.now entry.now) e) }
-    ensures none { IfNone result (NoneOf run.now.logs (IsOpenSend run.now.logs lines.now entry.now)) }
-{
-    match Key::of_class(entry) {
-        None => None,
-        Some(key) => first_place(run, index, lines, &key, Wanted::Sends),
-    }
-}
-
-/// Returns the place of an entry that is alone in its class, if it is held up.
-fn held_alone(lines: &[OpenLine], proc: Proc, at: usize, waits: bool) -> Option<Place>
-    requires { at < 1000000 }
-    ensures found { IfSome result (λ e. (e ≡ place proc at) × (IsTrue waits ⊎ (length (numbers_of lines.now proc) < at))) }
-    ensures none { IfNone result (IsTrue waits ⊎ (length (numbers_of lines.now proc) < at) → ⊥) }
-{
-    if waits || given(lines, proc) < at {
-        Some(Place {
-            proc,
-            at: (at + 1) as u32,
-        })
+    let Some(k) = index_of_log(run, proc) else {
+        return None;
+    };
+    let log = &run.logs.as_slice()[k];
+    let entries = log.entries.as_slice();
+    if at < entries.len() {
+        Some(&entries[at])
     } else {
         None
     }
 }
 
-/// Returns the least event of a class that is held up. `waits` says whether the class waits for a send. `left` is an entry
-/// of the class.
-fn held_mate(
-    run: &Run,
-    index: &[KeyedEntry],
-    lines: &[OpenLine],
-    left: &Standing,
-    waits: bool,
-) -> Option<Place>
-    requires run { IsRun run.now.logs }
-    requires index { IsIndex run.now.logs index.now }
-    requires fits { Fits run.now.logs lines.now }
-    requires entry { slice_get (log_of run.now.logs left.now.proc) left.now.at ≡ Some left.now.entry.now }
-    requires few { left.now.at < 1000000 }
-    ensures found { IfSome result (λ e. IsLeast run.now.logs (IsHeldMate run.now.logs lines.now left.now.proc left.now.at left.now.entry.now waits) e) }
-    ensures none { IfNone result (NoneOf run.now.logs (IsHeldMate run.now.logs lines.now left.now.proc left.now.at left.now.entry.now waits)) }
+/// Returns the class of an event, or `None` if it is alone in its class.
+fn class_of(run: &Run, table: &Table, e: &Place) -> Option<usize>
+    requires { IsTable run.now.logs table.now }
+    ensures class { IsClassOf run.now.logs table.now e.now result }
+    ensures run { IsRun run.now.logs }
 {
-    match Key::of_class(left.entry) {
-        None => held_alone(lines, left.proc, left.at, waits),
-        Some(key) => first_place(run, index, lines, &key, Wanted::Mates { waits }),
+    let at = e.at as usize - 1;
+    let Some(k) = index_of_log(run, e.proc) else {
+        return None;
+    };
+    let log = &run.logs.as_slice()[k];
+    let entries = log.entries.as_slice();
+    if entries.len() <= at {
+        return None;
+    }
+    let row = table.rows[k].as_slice();
+    class_in(table.messages.len(), &entries[at], row[at])
+}
+
+/// Returns how many entries of a process's log have a number.
+fn given(run: &Run, lines: &[OpenLine], proc: Proc) -> usize
+    requires { Fits run.now.logs lines.now }
+    ensures { result ≡ length (numbers_of lines.now proc) }
+{
+    match index_of_log(run, proc) {
+        Some(k) => given_at(lines, k),
+        None => 0,
     }
 }
 
-/// Returns the step to the least event of its class that is held up, from what holds it up: the entry before it, or the send.
-fn step_to(lines: &[OpenLine], send: Option<Place>, to: &Place) -> Step
-    requires { 0 < to.now.at }
+/// Returns the step to an entry from what holds it up: the entry before it, or the send.
+fn step_to(run: &Run, lines: &[OpenLine], send: Option<Place>, to: &Place) -> Step
+    requires { Fits run.now.logs lines.now }
     ensures to { result.to ≡ to.now }
     ensures from { IsHeldBy lines.now send to.now result.from }
 {
     let before = to.at - 1;
-    if given(lines, to.proc) < before as usize {
+    if given(run, lines, to.proc) < before as usize {
         Step {
             from: Place {
                 proc: to.proc,
@@ -146,48 +118,31 @@ fn step_to(lines: &[OpenLine], send: Option<Place>, to: &Place) -> Step
     }
 }
 
-/// Returns the step to the class of an entry that has no number.
-fn step_at(
-    run: &Run,
-    index: &[KeyedEntry],
-    lines: &[OpenLine],
-    left: &Place,
-    standing: &Standing,
-) -> Step
-    requires run { IsRun run.now.logs }
-    requires index { IsIndex run.now.logs index.now }
-    requires sound { IsSound run.now.logs lines.now }
-    requires none { NoneReady run.now.logs lines.now }
-    requires left { IsLeft run.now.logs left.now }
-    requires proc { left.now.proc ≡ standing.now.proc }
-    requires at { left.now.at ≡ standing.now.at + 1 }
-    requires few { standing.now.at < 1000000 }
-    requires entry { slice_get (log_of run.now.logs standing.now.proc) standing.now.at ≡ Some standing.now.entry.now }
-    ensures { IsStepOf run.now.logs left.now result }
+/// Returns the first entry of a class that is held up: its first one if it waits for a send.
+fn first_held(waits: bool, member: Option<Place>, follower: Option<Place>) -> Option<Place>
+    ensures { result ≡ (if waits then member else follower) }
 {
-    let send = open_send(run, index, lines, standing.entry);
-    match held_mate(run, index, lines, standing, send.is_some()) {
-        None => Step {
-            from: *left,
-            to: *left,
-        },
-        Some(to) => step_to(lines, send, &to),
-    }
+    if waits { member } else { follower }
 }
 
 /// Returns the step to the class of an event that has no number.
-pub fn step_of(run: &Run, index: &[KeyedEntry], lines: &[OpenLine], left: &Place) -> Step
-    requires run { IsRun run.now.logs }
-    requires index { IsIndex run.now.logs index.now }
+pub fn step_of(run: &Run, table: &Table, lines: &[OpenLine], firsts: &Firsts, left: &Place) -> Step
+    requires table { IsTable run.now.logs table.now }
+    requires tells { Tells run.now.logs table.now }
+    requires firsts { AreFirstsOf run.now.logs table.now lines.now firsts.now }
     requires sound { IsSound run.now.logs lines.now }
     requires none { NoneReady run.now.logs lines.now }
     requires left { IsLeft run.now.logs left.now }
     ensures { IsStepOf run.now.logs left.now result }
 {
-    let at = left.at as usize - 1;
-    let proc = left.proc;
-    match entry_at(run, proc, at) {
-        Some(entry) => step_at(run, index, lines, left, &Standing { proc, at, entry }),
+    let Some(class) = class_of(run, table, left) else {
+        return step_to(run, lines, None, left);
+    };
+    let send = firsts.sends[class];
+    let member = firsts.members[class];
+    let follower = firsts.followers[class];
+    match first_held(send.is_some(), member, follower) {
+        Some(to) => step_to(run, lines, send, &to),
         None => Step {
             from: *left,
             to: *left,

@@ -1,18 +1,20 @@
 ghost use Rattle.std.specs.Prelude.{◌≡◌, IfOk, OnOk};
 ghost use Rattle.std.specs.BTreeMap.{get, Updates};
-ghost use Rattle.totem_evs.specs.Runs.{IsRun};
 ghost use Rattle.totem_evs.specs.ClosedLists.{IsLeft};
-ghost use Rattle.totem_cert.specs.Keys.{IsIndex};
+ghost use Rattle.totem_table.specs.Tables.{IsTable};
+ghost use Rattle.totem_cert.specs.Counts.{Tells};
+ghost use Rattle.totem_cert.specs.Firsts.{AreFirstsOf};
 ghost use Rattle.totem_cert.specs.Progress.{IsSound, NoneReady, IsRound};
 ghost use Rattle.totem_cert.specs.Visited.{place_order};
 
-use crate::key::KeyedEntry;
+use crate::firsts::Firsts;
 use crate::step::{Step, step_of};
 use std::alloc::{AllocError, Global};
 use std::collections::BTreeMap;
 use totem_certificate::OpenLine;
 use totem_evs::Run;
 use totem_ids::Place;
+use totem_table::Table;
 
 /// Steps from class to class that return to the class of step `again`.
 #[derive(Drop)]
@@ -39,12 +41,14 @@ fn note(seen: &mut BTreeMap<Place, usize>, to: Place, step: usize) -> Result<(),
 pub fn walk_round(
     alloc: Global,
     run: &Run,
-    index: &[KeyedEntry],
+    table: &Table,
     lines: &[OpenLine],
+    firsts: &Firsts,
     start: &Place,
 ) -> Result<Round, AllocError>
-    requires run { IsRun run.now.logs }
-    requires index { IsIndex run.now.logs index.now }
+    requires table { IsTable run.now.logs table.now }
+    requires tells { Tells run.now.logs table.now }
+    requires firsts { AreFirstsOf run.now.logs table.now lines.now firsts.now }
     requires sound { IsSound run.now.logs lines.now }
     requires none { NoneReady run.now.logs lines.now }
     requires left { IsLeft run.now.logs start.now }
@@ -52,13 +56,13 @@ pub fn walk_round(
 {
     let mut steps = Vec::new(alloc);
     let mut seen = BTreeMap::new(alloc);
-    let mut next = step_of(run, index, lines, start);
+    let mut next = step_of(run, table, lines, firsts, start);
     'steps: loop {
         if let Some(again) = visited(&seen, &next.to) {
             return Ok(Round { steps, again });
         }
         note(&mut seen, next.to, steps.len())?;
         steps.push(next)?;
-        next = step_of(run, index, lines, &next.from);
+        next = step_of(run, table, lines, firsts, &next.from);
     }
 }

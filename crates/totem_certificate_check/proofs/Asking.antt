@@ -1,5 +1,5 @@
 -- Loops that ask a question about each event.
-use Rattle.std.proofs.Common.{◌≡◌, ℕ, ◌+◌, ◌<◌, ◌≤◌, inl, inr, List, length, slice_get, Some, subst, arith}
+use Rattle.std.proofs.Common.{below_more, ◌≡◌, ℕ, ◌+◌, ◌<◌, ◌≤◌, List, length, slice_get, Some, subst, arith}
 use Rattle.std.proofs.lemmas.Option.{slice_get_within}
 use Rattle.totem_ids.specs.declared.place.Place.{Place}
 use Rattle.totem_evs.specs.declared.entry.Entry.{Entry}
@@ -7,58 +7,42 @@ use Rattle.totem_evs.specs.declared.log.Log.{Log}
 use Rattle.totem_evs.specs.Certificates.{Numbering, Matches}
 use Rattle.totem_certificate_check.specs.Numbered.{place, EachBefore, SomeIn}
 use Rattle.totem_certificate_check.specs.Each.{EachEvent, SomeEvent}
-use Rattle.totem_evs.proofs.LogOf.{Rising, less_or_not}
+use Rattle.totem_evs.proofs.LogOf.{Rising}
 use Rattle.totem_certificate_check.proofs.Standing.{stands_at, locate, place_is}
 
 -- ---- in one log
 
 pub none_in : (P : Place → Entry → ℕ → Type 0) (p : ℕ) (entries : List Entry) (numbers : List ℕ) → EachBefore P p entries numbers 0
-none_in P p entries numbers = record { each = λ i x n lt at_x at_n. absurd (omega arith) }
+none_in P p entries numbers = record { each = λ i lt x n at_x at_n. absurd (omega arith) }
 
 pub more_in : (P : Place → Entry → ℕ → Type 0) (p : ℕ) (entries : List Entry) (numbers : List ℕ) (k : ℕ) (x : Entry) (n : ℕ) → slice_get entries k ≡ Some x → slice_get numbers k ≡ Some n → P (place p k) x n
     → EachBefore P p entries numbers k → EachBefore P p entries numbers (k + 1)
 more_in P p entries numbers k x n at_x at_n here so_far = record {
-  each = λ i y m lt at_y at_m. elim (less_or_not i k) [
-    | inl under ↦ so_far.each i y m under at_y at_m
-    | inr rest ↦ elim rest [
-      | inl over ↦ absurd (omega arith)
-      | inr same ↦
-          let same_entry : x ≡ y = (let h : slice_get entries k ≡ Some y = rw same at at_y in cc) in
-          let same_number : n ≡ m = (let h : slice_get numbers k ≡ Some m = rw same at at_m in cc) in
-          rw (same, ← same_entry, ← same_number) here
-    ]
-  ];
+  each = below_more (λ i. (y : Entry) (m : ℕ) → slice_get entries i ≡ Some y → slice_get numbers i ≡ Some m → P (place p i) y m) k so_far.each
+      (λ y m at_y at_m. (let same_entry : x ≡ y = cc in let same_number : n ≡ m = cc in rw (← same_entry, ← same_number) here));
 }
 
 -- ---- in the whole run
 
 -- a fact holds for the entries of the first k logs
 pub record EachUpTo (P : Place → Entry → ℕ → Type 0) (run : List Log) (lines : List Numbering) (k : ℕ) : Type 0 where
-  pub each : (j : ℕ) (log : Log) (line : Numbering) → j < k → slice_get run j ≡ Some log → slice_get lines j ≡ Some line → EachBefore P log.proc log.entries line.numbers (length log.entries)
+  pub each : (j : ℕ) → j < k → (log : Log) (line : Numbering) → slice_get run j ≡ Some log → slice_get lines j ≡ Some line → EachBefore P log.proc log.entries line.numbers (length log.entries)
 
 pub none_yet : (P : Place → Entry → ℕ → Type 0) (run : List Log) (lines : List Numbering) → EachUpTo P run lines 0
-none_yet P run lines = record { each = λ j log line lt at_log at_line. absurd (omega arith) }
+none_yet P run lines = record { each = λ j lt log line at_log at_line. absurd (omega arith) }
 
 pub log_more : (P : Place → Entry → ℕ → Type 0) (run : List Log) (lines : List Numbering) (k : ℕ) (log : Log) (line : Numbering) → slice_get run k ≡ Some log → slice_get lines k ≡ Some line
     → EachBefore P log.proc log.entries line.numbers (length log.entries) → EachUpTo P run lines k → EachUpTo P run lines (k + 1)
 log_more P run lines k log line at_log at_line here so_far = record {
-  each = λ j g l lt at_g at_l. elim (less_or_not j k) [
-    | inl under ↦ so_far.each j g l under at_g at_l
-    | inr rest ↦ elim rest [
-      | inl over ↦ absurd (omega arith)
-      | inr same ↦
-          let same_log : log ≡ g = (let h : slice_get run k ≡ Some g = rw same at at_g in cc) in
-          let same_line : line ≡ l = (let h : slice_get lines k ≡ Some l = rw same at at_l in cc) in
-          rw (← same_log, ← same_line) here
-    ]
-  ];
+  each = below_more (λ j. (g : Log) (l : Numbering) → slice_get run j ≡ Some g → slice_get lines j ≡ Some l → EachBefore P g.proc g.entries l.numbers (length g.entries)) k so_far.each
+      (λ g l at_g at_l. (let same_log : log ≡ g = cc in let same_line : line ≡ l = cc in rw (← same_log, ← same_line) here));
 }
 
 pub all_asked : (P : Place → Entry → ℕ → Type 0) (run : List Log) (lines : List Numbering) (k : ℕ) → Rising run → Matches run lines → length run ≤ k → EachUpTo P run lines k → EachEvent P run lines
 all_asked P run lines k rising matches end so_far = record {
   each = λ e x n stands.
       let l = locate run lines e x n rising matches stands in
-      let here = (so_far.each l.index l.log l.line (omega (arith, slice_get_within run l.index l.log l.log_is)) l.log_is l.line_is).each l.at x n (slice_get_within l.log.entries l.at x l.entry_is) l.entry_is l.number_is in
+      let here = (so_far.each l.index (omega (arith, slice_get_within run l.index l.log l.log_is)) l.log l.line l.log_is l.line_is).each l.at (slice_get_within l.log.entries l.at x l.entry_is) x n l.entry_is l.number_is in
       subst (λ (f : Place). P f x n) (place_is run lines e x n l) here;
 }
 

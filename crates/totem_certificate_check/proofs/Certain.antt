@@ -1,9 +1,9 @@
 -- From what the loops found to the result.
-use Rattle.std.proofs.Common.{◌≡◌, ℕ, zero, suc, [], ◌∷◌, ◌+◌, ◌<◌, inl, inr, List, length, slice_get, Some, refl, sym, ◌∙◌, ap, arith}
+use Rattle.std.proofs.Common.{◌≡◌, ℕ, ◌+◌, ◌<◌, inl, inr, List, length, slice_get, Some, refl, sym, ◌∙◌, ap, arith}
 use Rattle.std.proofs.lemmas.Option.{slice_get_within}
 use Rattle.totem_ids.specs.declared.place.Place.{Place}
 use Rattle.totem_evs.specs.declared.entry.Entry.{Entry}
-use Rattle.totem_evs.specs.declared.entry.Entry.TheVariants.{Conf, Send, Deliver, Fail}
+use Rattle.totem_evs.specs.declared.entry.Entry.TheVariants.{Conf, Send, Deliver}
 use Rattle.totem_evs.specs.declared.log.Log.{Log}
 use Rattle.totem_evs.specs.Events.{entry_at, IsEvent}
 use Rattle.totem_evs.specs.Steps.{SameClass}
@@ -18,6 +18,7 @@ use Rattle.totem_certificate_check.specs.Certifying.{Rise, DoesNotRise, SendsAre
 use Rattle.totem_evs.proofs.LogOf.{Rising}
 use Rattle.totem_certificate_check.proofs.Matching.{log_at, matches_at}
 use Rattle.totem_certificate_check.proofs.Standing.{stands_at, locate, has_number}
+use Rattle.totem_certificate_check.proofs.Walking.{at_index}
 
 -- ---- numbers of events
 
@@ -43,18 +44,13 @@ all_rise run lines rising matches h e f (x, at_e) (y, at_f) (same, lt) =
     let under : a.at < b.at = omega (arith, a.at_is, b.at_is) in
     below_is run lines e f x y n.0 m.0 n.1 m.1 (h.each a.index a.line a.at b.at n.0 m.0 (slice_get_within lines a.index a.line a.line_is) a.line_is under a.number_is here)
 
-entry_in : (entries : List Entry) (i : ℕ) → i < length entries → (x : Entry) × (slice_get entries i ≡ Some x)
-entry_in [] i lt = absurd (omega arith)
-entry_in (x ∷ xs) zero lt = (x, refl)
-entry_in (x ∷ xs) (suc i) lt = entry_in xs i (omega arith)
-
 pub one_falls : (run : List Log) (lines : List Numbering) → Rising run → Matches run lines → LineFalls lines → DoesNotRise run lines
 one_falls run lines rising matches h =
     let found = log_at run lines h.index h.line matches h.line_is in
     let both = matches_at run lines h.index found.0 h.line matches found.1 h.line_is in
     let last = slice_get_within h.line.numbers (h.falls.at + 1) h.falls.next h.falls.next_is in
-    let x = entry_in found.0.entries h.falls.at (omega (arith, both.1)) in
-    let y = entry_in found.0.entries (h.falls.at + 1) (omega (arith, both.1)) in
+    let x = at_index found.0.entries h.falls.at (omega (arith, both.1)) in
+    let y = at_index found.0.entries (h.falls.at + 1) (omega (arith, both.1)) in
     let at_x = stands_at run lines h.index h.falls.at found.0 h.line x.0 h.falls.number rising matches found.1 h.line_is x.1 h.falls.number_is in
     let at_y = stands_at run lines h.index (h.falls.at + 1) found.0 h.line y.0 h.falls.next rising matches found.1 h.line_is y.1 h.falls.next_is in
     record {
@@ -84,12 +80,7 @@ late run lines e f (Send m c service) (Deliver k d) i j at_e at_f same never = r
   delivers = (d, rw same at_f.entry);
   not_below = not_below run lines e f (Send m c service) (Deliver k d) i j at_e at_f never;
 }
-late run lines e f (Send m c service) (Conf x ms) i j at_e at_f same never = absurd same
-late run lines e f (Send m c service) (Send k d other) i j at_e at_f same never = absurd same
-late run lines e f (Send m c service) (Fail x) i j at_e at_f same never = absurd same
-late run lines e f (Conf x ms) y i j at_e at_f same never = absurd same
-late run lines e f (Deliver m x) y i j at_e at_f same never = absurd same
-late run lines e f (Fail x) y i j at_e at_f same never = absurd same
+late run lines e f x y i j at_e at_f same never = absurd same
 
 pub send_late : (run : List Log) (lines : List Numbering) → SomePair SendIsNotBelow run lines → SendIsLate run lines
 send_late run lines h = late run lines h.event h.holds.event h.entry h.holds.entry h.number h.holds.number h.stands h.holds.stands h.holds.holds.0 h.holds.holds.1
@@ -99,14 +90,7 @@ send_late run lines h = late run lines h.event h.holds.event h.entry h.holds.ent
 pub one_class : (run : List Log) (e f : Place) (x y : Entry) → entry_at run e ≡ Some x → entry_at run f ≡ Some y → AreOfOneClass x y → SameClass run e f
 one_class run e f (Conf c ms) (Conf d ns) at_e at_f same = inl (c, (ms, at_e), (ns, rw same at_f))
 one_class run e f (Deliver m x) (Deliver n y) at_e at_f same = inr (m, (x, at_e), (y, rw same at_f))
-one_class run e f (Conf c ms) (Send m x s) at_e at_f same = absurd same
-one_class run e f (Conf c ms) (Deliver m x) at_e at_f same = absurd same
-one_class run e f (Conf c ms) (Fail x) at_e at_f same = absurd same
-one_class run e f (Deliver m x) (Conf c ms) at_e at_f same = absurd same
-one_class run e f (Deliver m x) (Send n y s) at_e at_f same = absurd same
-one_class run e f (Deliver m x) (Fail y) at_e at_f same = absurd same
-one_class run e f (Send m x s) y at_e at_f same = absurd same
-one_class run e f (Fail x) y at_e at_f same = absurd same
+one_class run e f x y at_e at_f same = absurd same
 
 pub is_class : (run : List Log) (e f : Place) (x y : Entry) → entry_at run e ≡ Some x → entry_at run f ≡ Some y → SameClass run e f → AreOfOneClass x y
 is_class run e f x y at_e at_f (inl (c, (ms, is_e), (ns, is_f))) =

@@ -1,5 +1,5 @@
 -- The first fault of numbers that do not order a run.
-use Rattle.std.proofs.Common.{◌≡◌, ◌<◌, inl, inr, List, Result, Ok, Err, true, false}
+use Rattle.std.proofs.Common.{◌≡◌, inl, inr, List, Result, Ok, Err, true, false}
 use Rattle.std.specs.Prelude.{OnErr}
 use Rattle.totem_evs.specs.declared.log.Log.{Log}
 use Rattle.totem_evs.specs.Certificates.{Numbering, Matches, Certified}

@@ -1,10 +1,10 @@
 -- Logs and the lines that match them.
-use Rattle.std.proofs.Common.{◌≡◌, ◌≢◌, ℕ, true, false, zero, suc, ◌+◌, ◌<◌, ◌≤◌, List, [], ◌∷◌, length, slice_get, Some, refl, sym, ◌∙◌, ap, arith, rules, inl, inr}
+use Rattle.std.proofs.Common.{below_more, ◌≡◌, ◌≢◌, ℕ, true, false, zero, suc, ◌+◌, ◌<◌, ◌≤◌, List, [], ◌∷◌, length, slice_get, Some, refl, sym, ◌∙◌, ap, arith, rules}
 use Rattle.std.specs.Prelude.{◌==◌}
 use Rattle.totem_evs.specs.declared.log.Log.{Log}
 use Rattle.totem_evs.specs.Certificates.{Numbering, numbers_of, Matches}
 use Rattle.totem_certificate_check.specs.Counts.{IsLineOf}
-use Rattle.totem_evs.proofs.LogOf.{Rising, Rising-tail, in_order, less_or_not}
+use Rattle.totem_evs.proofs.LogOf.{Rising, Rising-tail, in_order}
 
 -- the numbers of lines and logs are equal
 pub as_many : (run : List Log) (lines : List Numbering) → Matches run lines → length run ≡ length lines
@@ -60,35 +60,27 @@ numbers_of_at (g ∷ gs) (l ∷ ls) (suc k) log line rising h at_log at_line =
 
 -- the first `end` logs have their lines
 pub record LinesBefore (run : List Log) (lines : List Numbering) (end : ℕ) : Type 0 where
-  pub each : (k : ℕ) (log : Log) (line : Numbering) → k < end → slice_get run k ≡ Some log → slice_get lines k ≡ Some line → IsLineOf log line
+  pub each : (k : ℕ) → k < end → (log : Log) (line : Numbering) → slice_get run k ≡ Some log → slice_get lines k ≡ Some line → IsLineOf log line
 
 pub none_before : (run : List Log) (lines : List Numbering) → LinesBefore run lines 0
-none_before run lines = record { each = λ k log line lt at_log at_line. absurd (omega arith) }
+none_before run lines = record { each = λ k lt log line at_log at_line. absurd (omega arith) }
 
 pub one_more : (run : List Log) (lines : List Numbering) (k : ℕ) (log : Log) (line : Numbering) → slice_get run k ≡ Some log → slice_get lines k ≡ Some line → IsLineOf log line → LinesBefore run lines k → LinesBefore run lines (k + 1)
 one_more run lines k log line at_log at_line is so_far = record {
-  each = λ j g l lt at_g at_l. elim (less_or_not j k) [
-    | inl under ↦ so_far.each j g l under at_g at_l
-    | inr rest ↦ elim rest [
-      | inl over ↦ absurd (omega arith)
-      | inr same ↦
-          let same_log : log ≡ g = (let h : slice_get run k ≡ Some g = rw same at at_g in cc) in
-          let same_line : line ≡ l = (let h : slice_get lines k ≡ Some l = rw same at at_l in cc) in
-          rw (← same_log, ← same_line) is
-    ]
-  ];
+  each = below_more (λ j. (g : Log) (l : Numbering) → slice_get run j ≡ Some g → slice_get lines j ≡ Some l → IsLineOf g l) k so_far.each
+      (λ g l at_g at_l. (let same_log : log ≡ g = cc in let same_line : line ≡ l = cc in rw (← same_log, ← same_line) is));
 }
 
 pub all_before : (run : List Log) (lines : List Numbering) (k : ℕ) → length run ≤ k → LinesBefore run lines k → LinesBefore run lines (length run)
-all_before run lines k end so_far = record { each = λ j g l lt at_g at_l. so_far.each j g l (omega arith) at_g at_l }
+all_before run lines k end so_far = record { each = λ j lt g l at_g at_l. so_far.each j (omega arith) g l at_g at_l }
 
 pub all_match : (run : List Log) (lines : List Numbering) → length run ≡ length lines → LinesBefore run lines (length run) → Matches run lines
 all_match [] [] e h = refl
 all_match [] (l ∷ ls) e h = absurd (omega arith)
 all_match (g ∷ gs) [] e h = absurd (omega arith)
 all_match (g ∷ gs) (l ∷ ls) e h =
-    let first = h.each 0 g l (omega arith) refl refl in
-    let rest : Matches gs ls = all_match gs ls (omega arith) (record { each = λ k log line lt at_log at_line. h.each (suc k) log line (omega arith) at_log at_line }) in
+    let first = h.each 0 (omega arith) g l refl refl in
+    let rest : Matches gs ls = all_match gs ls (omega arith) (record { each = λ k lt log line at_log at_line. h.each (suc k) (omega arith) log line at_log at_line }) in
     let pair : ◌≡◌ {A = ℕ × ℕ} (g.proc, length g.entries) (l.proc, length l.numbers) = rw (first.0, first.1) refl in
     cc
 

@@ -1,14 +1,14 @@
 -- Classes by name: which entries are in one, and that names which compare as equal are the same.
-use Rattle.std.proofs.Common.{◌≡◌, ◌≢◌, ℕ, ◌⊎◌, inl, inr, Some, Bool, true, false, refl, sym, ap, ◌∙◌}
+use Rattle.std.proofs.Common.{◌≡◌, ◌⊎◌, inl, inr, Some, true, refl, sym, ap, ◌∙◌}
 use Rattle.std.specs.BTreeMap.{is_at}
 use Rattle.std.specs.BTreeSet.{BTreeSet}
 use Rattle.std.specs.BTreeSet as sorted
 use Rattle.std.proofs.lemmas.Map.Lookups.{CmpEqualImpliesEq}
 use Rattle.totem_ids.specs.declared.conf.ConfId.{ConfId}
 use Rattle.totem_ids.specs.declared.message.MsgId.{MsgId}
-use Rattle.totem_ids.proofs.Exact.{exact_conf, exact_message, equal_at}
+use Rattle.totem_ids.proofs.Exact.{exact_conf, exact_message, equal_at, apart_or_at}
 use Rattle.totem_evs.specs.declared.entry.Entry.{Entry}
-use Rattle.totem_evs.specs.declared.entry.Entry.TheVariants.{Conf, Send, Deliver, Fail}
+use Rattle.totem_evs.specs.declared.entry.Entry.TheVariants.{Conf, Deliver}
 use Rattle.totem_evs.specs.Classes.{AreOfOneClass}
 use Rattle.totem_certificate_check.specs.declared.class.Class.{Class}
 use Rattle.totem_certificate_check.specs.declared.class.Class.TheVariants.{Change, Delivery}
@@ -23,10 +23,6 @@ exact_class (Change x) (Delivery m) e = absurd cc
 exact_class (Delivery m) (Change x) e = absurd cc
 exact_class (Delivery m) (Delivery n) e = ap (λ (z : MsgId). Delivery z) (exact_message m n e)
 
-pub is_or_not : (b : Bool) → (b ≡ true) ⊎ (b ≡ false)
-is_or_not true = inl refl
-is_or_not false = inr refl
-
 -- a class that is at a class is that one
 pub same_class : (c d : Class) → is_at (class_order c) d ≡ true → c ≡ d
 same_class c d at = exact_class c d (equal_at (class_order c d) at)
@@ -37,13 +33,13 @@ pub inserted_has : (old new : BTreeSet Class) (c : Class) → sorted.Updates cla
 inserted_has old new c h = h.1
 
 pub inserted_keeps : (old new : BTreeSet Class) (c d : Class) → sorted.Updates class_order old new c true → has old d ≡ true → has new d ≡ true
-inserted_keeps old new c d h had = elim (is_or_not (is_at (class_order c) d)) [
+inserted_keeps old new c d h had = elim (apart_or_at class_order c d) [
   | inl at ↦ h.0 d ∙ rw at refl
   | inr apart ↦ h.2 d apart ∙ had
 ]
 
 pub inserted_only : (old new : BTreeSet Class) (c d : Class) → sorted.Updates class_order old new c true → has new d ≡ true → (has old d ≡ true) ⊎ (c ≡ d)
-inserted_only old new c d h has_it = elim (is_or_not (is_at (class_order c) d)) [
+inserted_only old new c d h has_it = elim (apart_or_at class_order c d) [
   | inl at ↦ inr (same_class c d at)
   | inr apart ↦ inl (sym (h.2 d apart) ∙ has_it)
 ]
@@ -54,26 +50,12 @@ inserted_only old new c d h has_it = elim (is_or_not (is_at (class_order c) d)) 
 pub class_shared : (x y : Entry) → AreOfOneClass x y → (c : Class) × (class_of x ≡ Some c) × (class_of y ≡ Some c)
 class_shared (Conf a ms) (Conf b ns) same = (Change a, refl, rw same refl)
 class_shared (Deliver m a) (Deliver n b) same = (Delivery m, refl, rw same refl)
-class_shared (Conf a ms) (Send m x s) same = absurd same
-class_shared (Conf a ms) (Deliver m x) same = absurd same
-class_shared (Conf a ms) (Fail x) same = absurd same
-class_shared (Deliver m a) (Conf x ms) same = absurd same
-class_shared (Deliver m a) (Send n x s) same = absurd same
-class_shared (Deliver m a) (Fail x) same = absurd same
-class_shared (Send m x s) y same = absurd same
-class_shared (Fail x) y same = absurd same
+class_shared x y same = absurd same
 
 pub shares_class : (x y : Entry) (c : Class) → class_of x ≡ Some c → class_of y ≡ Some c → AreOfOneClass x y
 shares_class (Conf a ms) (Conf b ns) c e f = (let h : Change a ≡ Change b = (let both : Some (Change a) ≡ Some (Change b) = e ∙ sym f in cc) in cc)
 shares_class (Deliver m a) (Deliver n b) c e f = (let h : Delivery m ≡ Delivery n = (let both : Some (Delivery m) ≡ Some (Delivery n) = e ∙ sym f in cc) in cc)
-shares_class (Conf a ms) (Send m x s) c e f = absurd cc
-shares_class (Conf a ms) (Deliver m x) c e f = absurd (let both : Some (Change a) ≡ Some (Delivery m) = e ∙ sym f in cc)
-shares_class (Conf a ms) (Fail x) c e f = absurd cc
-shares_class (Deliver m a) (Conf x ms) c e f = absurd (let both : Some (Delivery m) ≡ Some (Change x) = e ∙ sym f in cc)
-shares_class (Deliver m a) (Send n x s) c e f = absurd cc
-shares_class (Deliver m a) (Fail x) c e f = absurd cc
-shares_class (Send m x s) y c e f = absurd cc
-shares_class (Fail x) y c e f = absurd cc
+shares_class x y c e f = absurd cc
 
 -- two entries of the class of a third one are of one class
 pub through : (x y z : Entry) → AreOfOneClass x z → AreOfOneClass y z → AreOfOneClass x y
@@ -89,6 +71,5 @@ back x y same = let a = class_shared x y same in shares_class y x a.0 a.2 a.1
 -- an entry of a class is barred by that class
 pub own_class_bars : (x : Entry) (c : Class) → class_of x ≡ Some c → class_barred_by x ≡ Some c
 own_class_bars (Conf a ms) c e = e
-own_class_bars (Send m a s) c e = absurd cc
 own_class_bars (Deliver m a) c e = e
-own_class_bars (Fail a) c e = absurd cc
+own_class_bars x c e = absurd cc

@@ -1,5 +1,5 @@
 -- From one class to the next: what a walk shows about the events that it has passed.
-use Rattle.std.proofs.Common.{◌≡◌, ◌≢◌, ℕ, ◌+◌, ◌<◌, ◌≤◌, ◌⊎◌, inl, inr, List, length, Some, false, refl, sym, ◌∙◌, subst, arith}
+use Rattle.std.proofs.Common.{◌≡◌, ℕ, ◌<◌, ◌≤◌, ◌⊎◌, inl, inr, List, length, Some, false, refl, sym, ◌∙◌, subst, arith}
 use Rattle.std.specs.BTreeSet.{BTreeSet}
 use Rattle.std.specs.BTreeSet as sorted
 use Rattle.totem_certificate.specs.Keeping.{IsCertificate}
@@ -12,7 +12,7 @@ use Rattle.totem_evs.specs.Classes.{AreOfOneClass, AreSendAndDelivery}
 use Rattle.totem_evs.specs.Certificates.{Numbering, Matches}
 use Rattle.totem_evs.proofs.LogOf.{Rising}
 use Rattle.totem_certificate_check.specs.declared.class.Class.{Class}
-use Rattle.totem_certificate_check.specs.declared.class.Class.TheVariants.{Change, Delivery}
+use Rattle.totem_certificate_check.specs.declared.class.Class.TheVariants.{Delivery}
 use Rattle.totem_certificate_check.specs.declared.walk.Head.{Head}
 use Rattle.totem_certificate_check.specs.ClassOf.{class_of, has}
 use Rattle.totem_certificate_check.specs.Numbered.{Stands}
@@ -37,7 +37,7 @@ is_next run lines passed last head e x rising matches rise many h least stands o
   above = head_is_above lines passed last rise h head least;
   each = λ f y n at le. elim (passed_or_next lines passed last rise h head least run rising matches many f y n at le) [
     | inl before ↦ inl before
-    | inr (same, i, within, ahead) ↦ inr (same, one.each i n f y within ahead same)
+    | inr (same, i, within, ahead) ↦ inr (same, one.each i within n f y ahead same)
   ];
 }
 
@@ -59,26 +59,17 @@ module _ (run : List Log) (lines : List Numbering) (last k : ℕ) (e : Place) (x
   sends_alone : (f : Place) (y z : Entry) → Stands run lines f y k → AreSendAndDelivery y z → (f ≡ e) ⊎ AreOfOneClass y x → y ≡ x
   sends_alone f y z at pair (inl same) = one_entry run lines e f x y k k next.stands at same
   sends_alone f (Send m c s) z at pair (inr class) = absurd class
-  sends_alone f (Conf c ms) z at pair (inr class) = absurd pair
-  sends_alone f (Deliver m c) z at pair (inr class) = absurd pair
-  sends_alone f (Fail c) z at pair (inr class) = absurd pair
+  sends_alone f y z at pair (inr class) = absurd pair
 
   -- of a send and a delivery of its message, the send bars the class of the other
   pair_bars : (y z : Entry) → AreSendAndDelivery y z → (c : Class) × (class_barred_by y ≡ Some c) × (class_of z ≡ Some c)
   pair_bars (Send m a s) (Deliver n b) pair = (Delivery m, refl, rw pair refl)
-  pair_bars (Send m a s) (Conf b ms) pair = absurd pair
-  pair_bars (Send m a s) (Send n b t) pair = absurd pair
-  pair_bars (Send m a s) (Fail b) pair = absurd pair
-  pair_bars (Conf a ms) z pair = absurd pair
-  pair_bars (Deliver m a) z pair = absurd pair
-  pair_bars (Fail a) z pair = absurd pair
+  pair_bars y z pair = absurd pair
 
   -- a send has no class
   send_has_none : (y z : Entry) (c : Class) → AreSendAndDelivery y z → class_of y ≡ Some c → ⊥
   send_has_none (Send m a s) z c pair is = absurd cc
-  send_has_none (Conf a ms) z c pair is = absurd pair
-  send_has_none (Deliver m a) z c pair is = absurd pair
-  send_has_none (Fail a) z c pair is = absurd pair
+  send_has_none y z c pair is = absurd pair
 
   pub clean_more : IsNew classes x → IsCleanTo run lines last → IsCleanTo run lines k
   clean_more new old = record {
@@ -160,9 +151,7 @@ too_late run lines last k e x classes stands above known old = late x refl old.b
 
     sent : (m : MsgId) (y : Entry) → Some (Delivery m) ≡ Some old.class → class_of y ≡ Some old.class → (d : _) × (y ≡ Deliver m d)
     sent m (Deliver n d) barred is = (d, (let both : Some (Delivery m) ≡ Some (Delivery n) = barred ∙ sym is in cc))
-    sent m (Conf c ms) barred is = absurd (let both : Some (Delivery m) ≡ Some (Change c) = barred ∙ sym is in cc)
-    sent m (Send n c s) barred is = absurd cc
-    sent m (Fail c) barred is = absurd cc
+    sent m y barred is = absurd cc
 
     late : (y : Entry) → x ≡ y → class_barred_by y ≡ Some old.class → IsUnclean run lines
     late (Conf c ms) same barred = split (subst (λ (w : Entry). class_of w ≡ Some old.class) (sym same) barred)

@@ -3,17 +3,18 @@ use Rattle.std.proofs.Common.{◌≡◌, ◌≢◌, ℕ, ◌+◌, ◌<◌, ◌�
 use Rattle.std.proofs.lemmas.Option.{slice_get_within}
 use Rattle.std.specs.Bool.{MatchBool}
 use Rattle.std.proofs.lemmas.Bool.{ltb-true, lt-ltb}
-use Rattle.std.specs.BTreeMap.{BTreeMap, is_at}
+use Rattle.std.specs.BTreeMap.{BTreeMap}
 use Rattle.std.specs.BTreeMap as tree
 use Rattle.totem_ids.specs.declared.place.Place.{Place}
+use Rattle.totem_ids.proofs.Exact.{apart_or_at}
 use Rattle.totem_evs.specs.declared.entry.Entry.{Entry}
-use Rattle.totem_evs.specs.declared.entry.Entry.TheVariants.{Conf, Send, Deliver, Fail}
+use Rattle.totem_evs.specs.declared.entry.Entry.TheVariants.{Send, Deliver}
 use Rattle.totem_evs.specs.declared.log.Log.{Log}
 use Rattle.totem_evs.specs.Classes.{AreSendAndDelivery}
 use Rattle.totem_evs.specs.Certificates.{Numbering, Matches}
 use Rattle.totem_evs.proofs.LogOf.{Rising, less_or_not}
 use Rattle.totem_certificate_check.specs.declared.class.Class.{Class}
-use Rattle.totem_certificate_check.specs.declared.class.Class.TheVariants.{Change, Delivery}
+use Rattle.totem_certificate_check.specs.declared.class.Class.TheVariants.{Delivery}
 use Rattle.totem_certificate_check.specs.declared.spread.Spread.{Spread}
 use Rattle.totem_certificate_check.specs.ClassOf.{class_of, class_order}
 use Rattle.totem_certificate_check.specs.Numbered.{Stands, place}
@@ -22,7 +23,7 @@ use Rattle.totem_certificate_check.specs.Kinds.{SendIsBelow, SendIsNotBelow}
 use Rattle.totem_certificate_check.specs.Certifying.{ClassesAreOne, TwinsAreApart}
 use Rattle.totem_certificate_check.specs.Spreads.{least_of, Differs, IsLeastOf, IsEntered, IsKnown, IsIn, IsTrueOf, KnowsTo, Knows}
 use Rattle.totem_certificate_check.proofs.Certain.{class_split, classes_one}
-use Rattle.totem_certificate_check.proofs.Naming.{is_or_not, same_class, class_shared, shares_class}
+use Rattle.totem_certificate_check.proofs.Naming.{same_class, class_shared, shares_class}
 use Rattle.totem_certificate_check.proofs.Standing.{stands_at, locate, place_is}
 
 -- ---- one number
@@ -35,7 +36,7 @@ entered old least flag c n l updates of stays apart only = record {
   least = l;
   is = updates.1;
   of = of;
-  others = λ d. elim (is_or_not (is_at (class_order c) d)) [
+  others = λ d. elim (apart_or_at class_order c d) [
     | inl at ↦ inl (same_class c d at)
     | inr off ↦ inr (updates.2 d off)
   ];
@@ -234,9 +235,7 @@ is_below run lines spread so e x n m c s is below = record { each = λ f y k sta
         let lt = below known.least known.is in
         let le = known.at_most in
         omega arith
-    go f (Conf d ms) k stands pair = absurd pair
-    go f (Send o d t) k stands pair = absurd pair
-    go f (Fail d) k stands pair = absurd pair
+    go f y k stands pair = absurd pair
 
 pub no_send : (run : List Log) (lines : List Numbering) (e : Place) (x : Entry) (n : ℕ) → ((y : Entry) → AreSendAndDelivery x y → ⊥) → EachEvent (SendIsBelow e x n) run lines
 no_send run lines e x n never = record { each = λ f y k stands pair. absurd (never y pair) }
@@ -246,9 +245,7 @@ is_not_below run lines spread so e x n l m c s is at never = go (so.true_of.ther
   where
     pair : (y : Entry) → class_of y ≡ Some (Delivery m) → AreSendAndDelivery x y
     pair (Deliver o d) of = rw is (let h : Delivery o ≡ Delivery m = (let both : Some (Delivery o) ≡ Some (Delivery m) = of in cc) in cc)
-    pair (Conf d ms) of = absurd (let both : Some (Change d) ≡ Some (Delivery m) = of in cc)
-    pair (Send o d t) of = absurd cc
-    pair (Fail d) of = absurd cc
+    pair y of = absurd cc
 
     go : SomeEvent (λ f y k. (k ≡ l) × (class_of y ≡ Some (Delivery m))) run lines → SomeEvent (SendIsNotBelow e x n) run lines
     go h = record { event = h.event; entry = h.entry; number = h.number; stands = h.stands; holds = (pair h.entry h.holds.1, λ lt. never (rw h.holds.0 at lt)) }

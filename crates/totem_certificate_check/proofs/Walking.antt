@@ -1,6 +1,6 @@
 -- Where a walk is, and what a step of it passes.
-use Rattle.std.proofs.Common.{◌≡◌, ◌≢◌, ℕ, zero, suc, ◌+◌, ◌^◌, ◌<◌, ◌≤◌, ◌⊎◌, inl, inr, List, [], ◌∷◌, length, slice_get, slice_set, replicate, true, false, nat_eq, eq-eqb, Option, Some, None, refl, sym, ◌∙◌, ap, subst, arith}
-use Rattle.std.proofs.lemmas.Option.{slice_get_within, get_or_from_slice_get}
+use Rattle.std.proofs.Common.{below_more, ◌≡◌, ◌≢◌, ℕ, zero, suc, ◌+◌, ◌^◌, ◌<◌, ◌≤◌, ◌⊎◌, inl, inr, List, [], ◌∷◌, length, get_or, slice_get, slice_set, replicate, true, false, nat_eq, eq-eqb, Option, Some, None, refl, sym, ◌∙◌, ap, subst, arith}
+use Rattle.std.proofs.lemmas.Option.{slice_get_within, slice_get_read, slice_get-get_or, get_or_from_slice_get}
 use Rattle.std.proofs.lemmas.List.{length-set}
 use Rattle.std.proofs.lemmas.Bool.{eqb-true}
 use Rattle.std.specs.Option.{option_eq, IfSome}
@@ -297,18 +297,13 @@ one_step lines k old now new at a b line at_line at_now at_new is many others h 
 -- ---- what shares a number
 
 pub one_yet : (run : List Log) (lines : List Numbering) (passed : List ℕ) (e : Place) (x : Entry) (n : ℕ) → AreOneBefore run lines passed 0 e x n
-one_yet run lines passed e x n = record { each = λ i m f y lt a. absurd (omega arith) }
+one_yet run lines passed e x n = record { each = λ i lt m f y a. absurd (omega arith) }
 
 pub ones_more : (run : List Log) (lines : List Numbering) (passed : List ℕ) (k : ℕ) (e : Place) (x : Entry) (n : ℕ) → ((f : Place) (y : Entry) (m : ℕ) → IsAhead run lines passed k f y m → NumberIsOwn f y m e x n) → AreOneBefore run lines passed k e x n → AreOneBefore run lines passed (k + 1) e x n
-ones_more run lines passed k e x n own h = record {
-  each = λ i m f y lt a. elim (less_or_not i k) [
-    | inl under ↦ h.each i m f y under a
-    | inr rest ↦ elim rest [ inl over ↦ absurd (omega arith) | inr same ↦ own f y m (rw (← same) a) ]
-  ];
-}
+ones_more run lines passed k e x n own h = record { each = below_more (λ i. (m : ℕ) (f : Place) (y : Entry) → IsAhead run lines passed i f y m → NumberIsOwn f y m e x n) k h.each (λ m f y a. own f y m a) }
 
 pub ones_all : (run : List Log) (lines : List Numbering) (passed : List ℕ) (k : ℕ) (e : Place) (x : Entry) (n : ℕ) → length lines ≤ k → AreOneBefore run lines passed k e x n → AreOneBefore run lines passed (length lines) e x n
-ones_all run lines passed k e x n end h = record { each = λ i m f y lt a. h.each i m f y (omega arith) a }
+ones_all run lines passed k e x n end h = record { each = λ i lt m f y a. h.each i (omega arith) m f y a }
 
 -- the next event of a log shares e's number only if the two are one event
 pub own_ahead : (run : List Log) (lines : List Numbering) (passed : List ℕ) (k : ℕ) (e g : Place) (x z : Entry) (n o : ℕ) → IsAhead run lines passed k g z o → NumberIsOwn g z o e x n → (f : Place) (y : Entry) (m : ℕ) → IsAhead run lines passed k f y m → NumberIsOwn f y m e x n
@@ -400,6 +395,19 @@ head_within run lines passed i n at log matches h at_log at_passed =
     let here = head_at lines passed i n at h at_passed in
     let within = slice_get_within h.line.numbers h.at n h.number_is in
     omega (arith, both.1)
+
+-- what the code reads at a head
+pub record HeadRead (run : List Log) (passed : List ℕ) (i : ℕ) (log : Log) : Type 0 where
+  pub log_is : slice_get run i ≡ Some log
+  pub at_is : slice_get passed i ≡ Some (get_or passed i 0)
+  pub within : get_or passed i 0 < length log.entries
+  pub few : length log.entries ≤ 1000000
+
+pub head_read : (run : List Log) (lines : List Numbering) (passed : List ℕ) (i n : ℕ) (log : Log) → IsRun run → Matches run lines → IsHead lines passed i n → log ≡ get_or run i log → HeadRead run passed i log
+head_read run lines passed i n log is matches head read =
+    let at_log = slice_get_read run _ i log refl (let lt = slice_get_within lines i head.line head.line_is in let many = as_many run lines matches in omega arith) read in
+    let at_passed = slice_get-get_or passed i 0 (slice_get_within passed i head.at head.at_is) in
+    record { log_is = at_log; at_is = at_passed; within = head_within run lines passed i n (get_or passed i 0) log matches head at_log at_passed; few = few_entries run i log is at_log }
 
 -- each event has a positive number
 pub positive_number : (run : List Log) (lines : List Numbering) (e : Place) (x : Entry) (n : ℕ) → Rising run → Matches run lines → IsCertificate lines → Stands run lines e x n → 0 < n

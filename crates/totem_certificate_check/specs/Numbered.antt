@@ -17,7 +17,7 @@ place p i = record { proc = p; at = i + 1 }
 
 -- a fact holds for the first `end` entries of p's log and their numbers
 pub record EachBefore (P : Place → Entry → ℕ → Type 0) (p : ℕ) (entries : List Entry) (numbers : List ℕ) (end : ℕ) : Type 0 where
-  pub each : (i : ℕ) (x : Entry) (n : ℕ) → i < end → slice_get entries i ≡ Some x → slice_get numbers i ≡ Some n → P (place p i) x n
+  pub each : (i : ℕ) → i < end → (x : Entry) (n : ℕ) → slice_get entries i ≡ Some x → slice_get numbers i ≡ Some n → P (place p i) x n
 
 -- a fact holds for some entry of p's log and its number
 pub record SomeIn (P : Place → Entry → ℕ → Type 0) (p : ℕ) (entries : List Entry) (numbers : List ℕ) : Type 0 where

@@ -82,7 +82,7 @@ pub record IsStepped (lines : List Numbering) (k : ℕ) (old new : List ℕ) (en
 
 -- in the logs at indices below `end`, a next event shares e's number only if the two are one event
 pub record AreOneBefore (run : List Log) (lines : List Numbering) (passed : List ℕ) (end : ℕ) (e : Place) (x : Entry) (n : ℕ) : Type 0 where
-  pub each : (i m : ℕ) (f : Place) (y : Entry) → i < end → IsAhead run lines passed i f y m → NumberIsOwn f y m e x n
+  pub each : (i : ℕ) → i < end → (m : ℕ) (f : Place) (y : Entry) → IsAhead run lines passed i f y m → NumberIsOwn f y m e x n
 
 abbrev pub AreOne : List Log → List Numbering → List ℕ → Place → Entry → ℕ → Type 0
 AreOne run lines passed = AreOneBefore run lines passed (length lines)

@@ -1,16 +1,17 @@
-use Rattle.std.proofs.Common.{refl, arith}
+use Rattle.std.proofs.Common.{refl}
 use Rattle.std.proofs.lemmas.Option.{slice_get_read}
-use Rattle.totem_cert.proofs.CountSteps.{counted_few, adds_more}
+use Rattle.totem_cert.proofs.CountSteps.{behind_none, behind_more, behind_few, behind_all}
 use Rattle.totem_cert.proofs.counts.count_log.Goals as goal
 
+pub loop-at-init : goal.loop-at-init
+loop-at-init c = behind_none _ _ _ _
+
 pub add-requires : goal.add-requires
-add-requires c =
-    counted_few c.args.counts.now c.loop-at.counts c.args.messages c.args.entries.now c.args.row.now c.loop-at.at c.requires.few
-    (let w = c.loop-at.invariant.within in let s = c.requires.short in omega arith) c.loop-at.invariant.adds
+add-requires c = behind_few _ _ _ _ _ _ c.requires.few c.requires.short c.loop-at.invariant
 
 pub loop-at-preserved : goal.loop-at-preserved
-loop-at-preserved c = record {
-  within = (let t = c.loop-at-test.true in omega arith);
-  adds = adds_more c.args.counts.now c.loop-at.counts c.add.new.counts c.args.messages c.args.entries.now c.args.row.now c.loop-at.at c.index-entries-at.result _ c.class_kept.result
-      c.loop-at.invariant.adds c.add.ensures c.class_kept.ensures (slice_get_read c.args.entries.now _ c.loop-at.at c.index-entries-at.result refl c.loop-at-test.true c.index-entries-at.is) refl;
-}
+loop-at-preserved c =
+    behind_more _ _ _ _ _ _ _ c.index-entries-at.result _ (slice_get_read c.args.entries.now _ c.loop-at.at c.index-entries-at.result refl c.loop-at-test.true c.index-entries-at.is) c.requires.long c.class_named.ensures c.loop-at.invariant c.add.ensures
+
+pub returns : goal.returns
+returns c = behind_all _ _ _ _ _ _ _ c.loop-at-test.false c.requires.long c.loop-at.invariant (rw c.class_next.ensures at c.take.ensures)

@@ -23,5 +23,5 @@ returns-clause-counts c =
     let head : length c.numbers-head.result.now ≡ length c.requires.head.line.numbers = ap length (c.numbers-head.ensures ∙ ap (λ (l : Numbering). l.numbers) line) in
     let pushes = pushes_of _ _ c.args.k c.args.number c.index_mut.result.now c.push.new.self (slice_get_within c.args.lines.now.items c.args.k c.requires.head.line c.requires.head.line_at)
     c.index_mut.ensures.value refl c.in_ok-push.ensures.ok in
-    counts_step c.args.run.now.logs c.args.table.now _ _ c.args.k c.args.number c.args.log.now c.requires.head.line _ _ c.requires.counts pushes c.requires.log c.requires.head.line_at c.requires.head.more
+    counts_step c.args.run.now.logs c.args.table.now _ _ c.args.k c.args.number c.args.log.now c.requires.head.line _ _ c.requires.table c.requires.counts pushes c.requires.log c.requires.head.line_at c.requires.head.more
     (takes_as _ _ _ _ _ _ _ _ _ _ (c.len.ensures ∙ c.args.table.now.messages.ok.0) entries row.0 head c.advance.ensures)

@@ -1,6 +1,6 @@
-use Rattle.std.proofs.Common.{◌≡◌, ◌+◌, ◌<◌, ◌-◌, length, arith, length-append, ap, sym, ◌∙◌}
+use Rattle.std.proofs.Common.{ap, sym, ◌∙◌}
 use Rattle.totem_evs.specs.ClosedLists.{Step}
-use Rattle.totem_cert.proofs.Walking.{round, left_next, walk_more, walking_more, walk_short, walking_yet}
+use Rattle.totem_cert.proofs.Walking.{round, left_next, walking_more, walking_yet}
 use Rattle.totem_cert.proofs.Noting.{noted_yet, not_visited, noted_more}
 use Rattle.totem_cert.proofs.walk.walk_round.Goals as goal
 
@@ -21,17 +21,6 @@ step_of-next-requires-in-steps-clause-left c =
     let from = ap (λ (v : Step). v.from) c.next-in-steps.view_is in
     let fresh = not_visited _ _ _ c.steps.invariant.noted (rw to at c.in_default.ensures) in
     rw from (left_next _ _ _ _ c.steps.invariant.walking fresh)
-
-pub steps-smaller : goal.steps-smaller
-steps-smaller c =
-    let to = ap (λ (v : Step). v.to) c.next.view_is in
-    let fresh = not_visited _ _ _ c.steps.invariant.noted (rw to at c.in_default.ensures) in
-    let walk = walk_more _ _ _ _ c.steps.invariant.walking fresh in
-    let short = walk_short _ _ _ c.requires.run walk in
-    let is : length c.push.new.self.items ≡ length c.steps.steps.items + 1 = rw c.in_ok-push.ensures.items (simp length-append (omega arith)) in
-    let short' : length c.steps.steps.items < 4503599627370496 = omega (arith, simp length-append at short) in
-    let less : 4503599627370496 - length c.push.new.self.items < 4503599627370496 - length c.steps.steps.items = omega arith in
-    less
 
 pub steps-preserved : goal.steps-preserved
 steps-preserved c =

@@ -1,4 +1,4 @@
-use Rattle.std.proofs.Common.{◌-◌, length}
+use Rattle.std.proofs.Common.{◌-◌, ◌^◌, length}
 use Rattle.totem_cert.specs.Progress.{IsWalking}
 use Rattle.totem_cert.specs.Visited.{IsNoted}
 use Rattle.totem_cert.proofs.walk.walk_round.Given as goal
@@ -10,4 +10,4 @@ invariant-steps l = record {
 }
 
 abbrev pub decreases-steps : goal.decreases-steps
-decreases-steps l = 4503599627370496 - length l.steps.items
+decreases-steps l = 2 ^ 64 - length l.steps.items

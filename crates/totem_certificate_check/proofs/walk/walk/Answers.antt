@@ -1,4 +1,4 @@
-use Rattle.std.proofs.Common.{◌≡◌, ◌<◌, ℕ, ◌∙◌, inr, arith}
+use Rattle.std.proofs.Common.{inr, arith}
 use Rattle.totem_certificate_check.proofs.Certain.{others_share}
 use Rattle.totem_certificate_check.proofs.Walking.{ahead_stands, head_is_above, step_passed, all_passed}
 use Rattle.totem_certificate_check.proofs.Passing.{is_next, too_late, clean_more, classes_more, all_clean}

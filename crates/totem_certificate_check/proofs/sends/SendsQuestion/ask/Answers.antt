@@ -1,4 +1,4 @@
-use Rattle.std.proofs.Common.{◌≡◌, ◌<◌, ℕ, sym, ◌∙◌}
+use Rattle.std.proofs.Common.{sym, ◌∙◌}
 use Rattle.totem_certificate_check.proofs.Spreading.{below_or_not, is_below}
 use Rattle.totem_certificate_check.proofs.sends.SendsQuestion.ask.Goals as goal
 

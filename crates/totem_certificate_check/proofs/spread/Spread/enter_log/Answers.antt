@@ -1,4 +1,4 @@
-use Rattle.std.proofs.Common.{◌≡◌, ℕ, List, slice_get, refl, sym, ◌∙◌, ap, length, arith}
+use Rattle.std.proofs.Common.{ℕ, List, slice_get, refl, sym, ◌∙◌, ap, length, arith}
 use Rattle.std.proofs.lemmas.Option.{slice_get_read, slice_get-get_or}
 use Rattle.totem_evs.specs.LogRecord.{LogRecord}
 use Rattle.totem_evs.specs.Certificates.{Numbering}
