@@ -23,7 +23,7 @@ pub enum CertFault {
     /// The reader of certificates never returns this. It is for callers that require the input to end after the certificate.
     #[error("bytes after the last line")]
     End,
-    #[error("the source failed")]
+    #[error("reading failed")]
     Read,
     #[error("out of memory")]
     Memory,

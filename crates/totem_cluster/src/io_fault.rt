@@ -25,7 +25,7 @@ pub enum IoFault {
     #[error("the script was refused: {0}")]
     Script(ScriptFault),
     /// A book of a run in threads was full, or its log too long. Always `BookTrouble::Call(BookFault::Long)`.
-    #[error("a book was refused: {0}")]
+    #[error("the run was given up: {0}")]
     Book(BookTrouble),
     /// Memory was refused or, in a run in threads, a thread could not be made.
     #[error("out of memory")]

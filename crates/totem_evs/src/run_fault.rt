@@ -28,7 +28,7 @@ pub enum RunFault {
     TooMany,
     #[error("process {0} has no log")]
     MissingLog(WrittenProc),
-    #[error("the source failed")]
+    #[error("reading failed")]
     Read,
     #[error("out of memory")]
     Memory,

@@ -31,7 +31,7 @@ pub enum TextFault {
 pub enum ReadError {
     #[error("out of memory")]
     Memory,
-    #[error("the source failed")]
+    #[error("reading failed")]
     Read,
     #[error("{0}")]
     Text(TextFault),

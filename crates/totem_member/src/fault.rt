@@ -11,7 +11,7 @@ use thiserror::Error;
 pub enum MemberFault {
     #[error("can't gather with the sender")]
     Stranger,
-    #[error("the packet is of another gathering, or was taken before")]
+    #[error("the packet is of another gathering, or a duplicate")]
     Stale,
     /// The number of the new ring would pass the greatest number, or the obligation union would have more than 32 processes.
     #[error("a value is out of range")]

@@ -15,7 +15,7 @@ pub enum NodeFault {
     Stopped,
     #[error("the packet is of another ring")]
     OtherRing,
-    #[error("the packet was taken before")]
+    #[error("the packet is a duplicate")]
     Repeat,
     #[error("the packet is out of date")]
     Stale,

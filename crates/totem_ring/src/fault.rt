@@ -11,7 +11,7 @@ use thiserror::Error;
 pub enum RingFault {
     #[error("the packet is of another ring")]
     OtherRing,
-    #[error("the packet was taken before")]
+    #[error("the packet is a duplicate")]
     Repeat,
     #[error("a value is out of range")]
     Range,

@@ -11,10 +11,10 @@ use totem_books::{BookFault, CloseFault};
 #[derive(Clone, Copy, Debug, PartialEq, Eq, Error)]
 pub enum BookTrouble {
     /// A call, or its log because that is too long for a run. In a run this is always `BookFault::Long`.
-    #[error("the book takes no more calls: {0}")]
+    #[error("a book takes no more calls: {0}")]
     Call(BookFault),
     /// To be closed. This never ends a run.
-    #[error("the book can't be closed: {0}")]
+    #[error("a book can't be closed: {0}")]
     Close(CloseFault),
 }
 
@@ -43,7 +43,7 @@ impl BookTrouble {
 /// Why a run in threads gave no run.
 #[derive(Clone, Copy, Debug, PartialEq, Eq, Error)]
 pub enum ThreadsFault {
-    #[error("a book was refused: {0}")]
+    #[error("{0}")]
     Book(BookTrouble),
     /// Memory was refused, or a thread could not be made.
     #[error("out of memory")]
