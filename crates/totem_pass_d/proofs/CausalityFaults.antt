@@ -54,13 +54,6 @@ not_before run c stays stay m k l facts cause le i lt delivers = let same = one_
 pub surprises_begin : (run : List Log) (c : RingId) (stays : List Stay) (m n : MsgId) → Facts run c stays → EachBeginsWithin stays IsInside (IsOneEvent (IsSurprise run c m n))
 surprises_begin run c stays m n facts = begins_inside (IsSurprise run c m n) stays (record { each = λ p k ((x, at, belongs), none). facts.inside p k x (Deliver n x, at, refl) belongs })
 
--- one hop from a cause to its effect
-same_proc : (run : List Log) (c : RingId) (m : MsgId) (p i q j : ℕ) → (q ≡ p) → i < j → IsHop run c m (place p i) (place q j)
-same_proc run c m p i q j same lt = inl (sym same, omega arith)
-
-pub hop_in_log : (run : List Log) (c : RingId) (m : MsgId) (p i q j : ℕ) → (q ≡ p) → i < j → IsTrue true ↔ IsHop run c m (place p i) (place q j)
-hop_in_log run c m p i q j same lt = (λ t. same_proc run c m p i q j same lt, λ h. refl)
-
 pub no_hop : (run : List Log) (c : RingId) (stay : Stay) (m : MsgId) (p i j : ℕ) → ((stay.proc ≡ p) × (i < j) → ⊥) → DeliversNot (log_of run stay.proc) c m → IsTrue false ↔ IsHop run c m (place p i) (place stay.proc j)
 no_hop run c stay m p i j apart never = (λ t. absurd cc, λ h. absurd (go h))
   where
@@ -101,9 +94,6 @@ pub none_unsent : (run : List Log) (c : RingId) (m : MsgId) (e : Place) (q j : �
 none_unsent run c m e q j entry at other = nothing_here (IsEffect run c m e) q j (λ rest (n, send, hop, one). let sends = sends_there run q j n (Regular c) send in
     let there : slice_get (log_of run q) j ≡ Some (Send n (Regular c) sends.0) = sends.1 in other n (Regular c) sends.0 cc)
 
-pub none_apart : (run : List Log) (c : RingId) (m n : MsgId) (x : ConfId) (s : Service) (e : Place) (q j : ℕ) → slice_get (log_of run q) j ≡ Some (Send n x s) → (IsHop run c m e (place q j) → ⊥) → NoneFrom (IsEffect run c m e) q j
-none_apart run c m n x s e q j at never = nothing_here (IsEffect run c m e) q j (λ rest h. never (effect_at run c m n x s e q j rest at h).0)
-
 pub none_surprised : (run : List Log) (c : RingId) (m n : MsgId) (x : ConfId) (s : Service) (e : Place) (q j : ℕ) → slice_get (log_of run q) j ≡ Some (Send n x s) → HoldsOfNone (IsOneEvent (IsSurprise run c m n)) → NoneFrom (IsEffect run c m e) q j
 none_surprised run c m n x s e q j at none = none_rest (IsOneEvent (IsSurprise run c m n)) (IsEffect run c m e) q j (λ rest h. (effect_at run c m n x s e q j rest at h).1) none
 
@@ -143,11 +133,6 @@ sent_first run c e [] h = absurd h
 sent_first run c e (f ∷ []) h = absurd h
 sent_first run c e (f ∷ g ∷ []) (k, is, (m, n, send, effect, hop, delivers, none)) = (m, send)
 sent_first run c e (f ∷ g ∷ h ∷ more) b = absurd b
-
-pub none_without_cause : (run : List Log) (c : RingId) (p i : ℕ) (entry : Entry) → slice_get (log_of run p) i ≡ Some entry → ((m : MsgId) (x : ConfId) (s : Service) → entry ≡ Send m x s → ⊥) → NoneFrom (BreaksCausalityIn run c) p i
-none_without_cause run c p i entry at other = nothing_here (BreaksCausalityIn run c) p i (λ rest h. let first = sent_first run c (place p i) rest h in
-    let sends = sends_there run p i first.0 (Regular c) first.1 in
-    let there : slice_get (log_of run p) i ≡ Some (Send first.0 (Regular c) sends.0) = sends.1 in other first.0 (Regular c) sends.0 cc)
 
 pub none_without_effect : (run : List Log) (c : RingId) (m : MsgId) (x : ConfId) (s : Service) (p i : ℕ) → slice_get (log_of run p) i ≡ Some (Send m x s) → HoldsOfNone (IsEffect run c m (place p i)) → NoneFrom (BreaksCausalityIn run c) p i
 none_without_effect run c m x s p i at none = none_rest (IsEffect run c m (place p i)) (BreaksCausalityIn run c) p i (λ rest h. cause_at run c m x s p i rest at h) none

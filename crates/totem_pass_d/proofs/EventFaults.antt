@@ -21,7 +21,7 @@ use Rattle.totem_evs.specs.AgreementFaults.{IsNotOwned, IsNotReached, IsNotInsta
 use Rattle.totem_evs.specs.RingAgreement.{OwnDeliveryIn, SafetyIn, InstalledIn}
 use Rattle.totem_evs.specs.RingFaults.{BreaksOwnDeliveryIn, BreaksSafetyIn, BreaksInstalledIn}
 use Rattle.totem_evs.specs.Answers.{MeetsPasses}
-use Rattle.totem_evs.proofs.LogOf.{less_or_not}
+use Rattle.totem_configuration_rules.proofs.Rowing.{before_or_at}
 use Rattle.totem_pass_d.specs.declared.stay.Stay.{Stay}
 use Rattle.totem_pass_d.specs.Stays.{IsExcused, IsStayOf}
 use Rattle.totem_pass_d.specs.Acts.{HasCome, NeverComes, DeliversNot}
@@ -141,12 +141,9 @@ pub installed_no_delivery : (run : List Log) (c : RingId) (p i : ℕ) (e : Entry
 installed_no_delivery run c p i e at other (m, q, safe, delivers, member, never) = other m (Regular c) cc
 
 pub installed_late : (run : List Log) (c : RingId) (stay : Stay) (i : ℕ) → StayFacts run c stay → stay.turn ≤ i → i < stay.end → IsNotInstalled run c stay.proc i → ⊥
-installed_late run c stay i is late below (m, q, safe, delivers, member, never) = elim (less_or_not stay.turn i) [
+installed_late run c stay i is late below (m, q, safe, delivers, member, never) = elim (before_or_at stay.turn i (omega arith)) [
   | inl over ↦ (is.is.following i (Regular c) over below (Deliver m (Regular c), delivers, refl)).transitional
-  | inr rest ↦ elim rest [
-    | inl under ↦ omega arith
-    | inr same ↦ at_turn_no_name (log_of run stay.proc) c stay.from stay.turn stay.end i (Regular c) is.is (omega arith) (sym same) (Deliver m (Regular c), delivers, refl)
-  ]
+  | inr same ↦ at_turn_no_name (log_of run stay.proc) c stay.from stay.turn stay.end i (Regular c) is.is (omega arith) (sym same) (Deliver m (Regular c), delivers, refl)
 ]
 
 pub installed_unsafe : (run : List Log) (c : RingId) (p i : ℕ) (m : MsgId) (x : ConfId) → MeetsPasses run → slice_get (log_of run p) i ≡ Some (Deliver m x) → (IsSafeIn run c m → ⊥) → IsNotInstalled run c p i → ⊥

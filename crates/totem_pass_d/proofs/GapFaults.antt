@@ -83,9 +83,6 @@ later_at run c s m n i p j d rest at (k, is, (lt, (o, (y, at', belongs), one))) 
     let there : slice_get (log_of run p) j ≡ Some (Deliver o y) = (let same : k ≡ j = omega arith in rw same at at') in
     let same : o ≡ n = (let h : slice_get (log_of run p) j ≡ Some (Deliver n d) = at in cc) in rw same at one
 
-pub none_earlier : (run : List Log) (c : RingId) (s : ℕ) (m : MsgId) (i p j : ℕ) → j ≤ i → NoneFrom (IsLater run c s m i) p j
-none_earlier run c s m i p j le = nothing_here (IsLater run c s m i) p j (λ rest (k, is, (lt, later)). omega arith)
-
 pub none_undelivered : (run : List Log) (c : RingId) (s : ℕ) (m : MsgId) (i p j : ℕ) (e : Entry) → slice_get (log_of run p) j ≡ Some e → ((n : MsgId) (d : ConfId) → e ≡ Deliver n d → ⊥) → NoneFrom (IsLater run c s m i) p j
 none_undelivered run c s m i p j e at other = nothing_here (IsLater run c s m i) p j (λ rest h. go rest h)
   where

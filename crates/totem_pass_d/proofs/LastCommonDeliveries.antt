@@ -13,7 +13,7 @@ use Rattle.totem_evs.specs.Events.{log_of}
 use Rattle.totem_evs.specs.Following.{HasDelivered}
 use Rattle.totem_evs.specs.AgreementFaults.{IsGap}
 use Rattle.totem_evs.specs.RingFaults.{BreaksGapIn}
-use Rattle.totem_evs.proofs.LogOf.{less_or_not}
+use Rattle.totem_configuration_rules.proofs.Rowing.{before_or_at}
 use Rattle.totem_table.specs.Search.{NoneFrom}
 use Rattle.totem_pass_d.specs.declared.stay.Stay.{Stay}
 use Rattle.totem_pass_d.specs.Acts.{IsAmong, DeliversNot}
@@ -27,9 +27,6 @@ apart_undelivered run c follower p at m d there not = record {
   never = λ n (x, is, belongs) h. (let same : n ≡ m = cc in not.never (rw same at h));
 }
 
-pub apart_other : (run : List Log) (c : RingId) (p q at : ℕ) (e : Entry) → slice_get (log_of run p) at ≡ Some e → ((m : MsgId) (d : ConfId) → e ≡ Deliver m d → ⊥) → IsApart run c p q at
-apart_other run c p q at e there other = record { never = λ n (x, is, belongs) h. other n x cc }
-
 -- from j on q delivers nothing that p delivers
 pub record ApartFrom (run : List Log) (c : RingId) (p q n : ℕ) : Type 0 where
   pub each : (j : ℕ) → n ≤ j → IsApart run c p q j
@@ -41,14 +38,11 @@ apart_at_end run c stays leader q facts among = record {
 
 pub apart_more : (run : List Log) (c : RingId) (p q n k : ℕ) → n ≡ k + 1 → IsApart run c p q k → ApartFrom run c p q n → ApartFrom run c p q k
 apart_more run c p q n k is here after = record {
-  each = λ j le. elim (less_or_not k j) [
+  each = λ j le. elim (before_or_at k j (omega arith)) [
     | inl under ↦ after.each j (omega arith)
-    | inr more ↦ elim more [ inl over ↦ absurd (omega arith) | inr same ↦ rw (← same) here ]
+    | inr same ↦ rw (← same) here
   ];
 }
-
-pub beyond_from : (run : List Log) (c : RingId) (p q n i : ℕ) → n ≤ i + 1 → ApartFrom run c p q n → IsBeyond run c p q i
-beyond_from run c p q n i le apart = record { each = λ j lt. apart.each j (omega arith) }
 
 pub beyond_later : (run : List Log) (c : RingId) (p q i j : ℕ) → i ≤ j → IsBeyond run c p q i → IsBeyond run c p q j
 beyond_later run c p q i j le beyond = record { each = λ k lt. beyond.each k (omega arith) }
@@ -58,16 +52,13 @@ pub record LastsTo (run : List Log) (c : RingId) (stays : List Stay) (p : ℕ) (
   pub long : length lasts ≡ n
   pub each : (k : ℕ) (stay : Stay) → k < n → slice_get stays k ≡ Some stay → IsBeyond run c p stay.proc (get_or lasts k 0)
 
-pub lasts_yet : (run : List Log) (c : RingId) (stays : List Stay) (p : ℕ) → LastsTo run c stays p [] 0
-lasts_yet run c stays p = record { long = refl; each = λ k stay lt at. absurd (omega arith) }
-
 pub lasts_more : (run : List Log) (c : RingId) (stays : List Stay) (p : ℕ) (lasts more : List ℕ) (n last : ℕ) (stay : Stay) → slice_get stays n ≡ Some stay → IsBeyond run c p stay.proc last → more ≡ lasts ++ last ∷ [] → LastsTo run c stays p lasts n
     → LastsTo run c stays p more (n + 1)
 lasts_more run c stays p lasts more n last stay at here is before = record {
   long = (let l : length more ≡ length lasts + 1 = rw is (length-append lasts (last ∷ [])) in let b = before.long in omega arith);
-  each = λ k s lt at_k. elim (less_or_not k n) [
+  each = λ k s lt at_k. elim (before_or_at k n lt) [
     | inl under ↦ (let keep : get_or more k 0 ≡ get_or lasts k 0 = rw is (get_or-append lasts (last ∷ []) 0 k (let b = before.long in omega arith)) in rw keep (before.each k s under at_k))
-    | inr rest ↦ elim rest [ inl over ↦ absurd (omega arith) | inr same ↦ at_n k s same at_k ]
+    | inr same ↦ at_n k s same at_k
   ];
 }
   where
@@ -84,15 +75,12 @@ lasts_whole run c stays p lasts n end to = record { long = end ∙ sym to.long; 
 pub record SettledTo (run : List Log) (c : RingId) (stays : List Stay) (p : ℕ) (m : MsgId) (i n : ℕ) : Type 0 where
   pub each : (k : ℕ) (stay : Stay) → k < n → slice_get stays k ≡ Some stay → IsBeyond run c p stay.proc i ⊎ HasDelivered (log_of run stay.proc) c m
 
-pub settled_yet : (run : List Log) (c : RingId) (stays : List Stay) (p : ℕ) (m : MsgId) (i : ℕ) → SettledTo run c stays p m i 0
-settled_yet run c stays p m i = record { each = λ k stay lt at. absurd (omega arith) }
-
 pub settled_more : (run : List Log) (c : RingId) (stays : List Stay) (p : ℕ) (m : MsgId) (i n : ℕ) (lasts : List ℕ) (stay : Stay) → AreLasts run c stays p lasts → slice_get stays n ≡ Some stay → (get_or lasts n 0 ≤ i) ⊎ HasDelivered (log_of run stay.proc) c m
     → SettledTo run c stays p m i n → SettledTo run c stays p m i (n + 1)
 settled_more run c stays p m i n lasts stay known at up before = record {
-  each = λ k s lt at_k. elim (less_or_not k n) [
+  each = λ k s lt at_k. elim (before_or_at k n lt) [
     | inl under ↦ before.each k s under at_k
-    | inr rest ↦ elim rest [ inl over ↦ absurd (omega arith) | inr same ↦ at_n k s same at_k ]
+    | inr same ↦ at_n k s same at_k
   ];
 }
   where

@@ -15,12 +15,6 @@ pub event_at : (Fact : ℕ → ℕ → Type 0) (p i : ℕ) (rest : List Place) �
 event_at Fact p i [] at = let same : at.0 ≡ i = omega (arith, at.1) in rw same at at.2
 event_at Fact p i (f ∷ more) h = absurd h
 
-pub none_here : (Fact : ℕ → ℕ → Type 0) (p i : ℕ) → (Fact p i → ⊥) → NoneFrom (IsOneEvent Fact) p i
-none_here Fact p i never = record { none = λ rest h. never (event_at Fact p i rest h) }
-
-pub is_here : (Fact : ℕ → ℕ → Type 0) (p i : ℕ) → Fact p i → IsLeastFrom (IsOneEvent Fact) p i []
-is_here Fact p i fact = record { least = record { holds = (i, refl, fact); first = λ others h. tt } }
-
 place_is : (e : Place) (p i : ℕ) → p ≡ e.proc → e.at ≡ i + 1 → e ≡ place p i
 place_is e p i proc at = rw (proc, ← at) refl
 

@@ -118,9 +118,6 @@ all_missing stays p rest old now known still_open none h =
     from x m None is = absurd ((known.sent.none x.msg is).never m.is.sent)
     from x m (Some s) is = record { listed = (btree_map_contains_key_iff total-law exact_message stays.sends x.msg).0 (rw is refl); missing = rw m.proc at m.is.missing; proc = m.proc }
 
-pub not_open : (run : List Log) (c : RingId) (p : ℕ) (s : List Pending) → (OpenIn run p c → ⊥) → Adds (IsPendingFor run c p) s s
-not_open run c p s closed = adds_nothing (IsPendingFor run c p) s (λ x m. closed (rw m.proc at m.is.still_open))
-
 -- ---- stay by stay
 
 -- a log that stays in c has changed to it
