@@ -17,7 +17,7 @@ use Rattle.totem_evs.specs.RingAgreement.{IsHop, CausalityIn}
 use Rattle.totem_evs.specs.RingFaults.{BreaksCausalityIn}
 use Rattle.totem_evs.specs.Answers.{IsLeast}
 use Rattle.totem_table.specs.Search.{place, NoneFrom, IsLeastFrom, HoldsOfNone}
-use Rattle.totem_pass_d.proofs.OneEvent.{event_at, begins_inside}
+use Rattle.totem_pass_d.proofs.OneEvent.{no_event, only_event, begins_inside}
 use Rattle.totem_pass_d.specs.declared.stay.Stay.{Stay}
 use Rattle.totem_pass_d.specs.Acts.{IsAmong, DeliversNot}
 use Rattle.totem_pass_d.specs.Search.{IsInside, EachBeginsWithin, NoneWithin, IsLeastWithin, BeginsWithin, IsOneEvent}
@@ -25,27 +25,24 @@ use Rattle.totem_pass_d.specs.Causality.{IsSurprise, IsEffect}
 use Rattle.totem_pass_d.proofs.Deciding.{both_or_not, below_or_not, delivery_or_not}
 use Rattle.totem_run_rules.proofs.SentOrNot.{in_or_not}
 use Rattle.totem_pass_d.proofs.Facts.{Facts}
-use Rattle.totem_pass_d.proofs.Rests.{none_rest, least_rest, nothing_here, only_here, sends_there, there_sends, index_of, begins_at}
+use Rattle.totem_pass_d.proofs.Rests.{none_rest, least_rest, nothing_here, sends_there, there_sends, index_of, begins_at}
 
 -- one delivery of a message in c and in what follows it
 pub one_delivery_in : (run : List Log) (c : RingId) (stays : List Stay) (p i j : ℕ) (m : MsgId) → Facts run c stays → DeliversIn (log_of run p) c m i → DeliversIn (log_of run p) c m j → i ≡ j
 one_delivery_in run c stays p i j m facts (x, at_i, _) (y, at_j, _) = facts.meets.once.one_delivery p i j m x y at_i at_j
 
 pub none_undelivered : (run : List Log) (c : RingId) (stay : Stay) (m n : MsgId) → DeliversNot (log_of run stay.proc) c n → NoneWithin IsInside (IsOneEvent (IsSurprise run c m n)) stay
-none_undelivered run c stay m n never = record { none = λ i rest inside h. never.never (i, (event_at (IsSurprise run c m n) stay.proc i rest h).0) }
+none_undelivered run c stay m n never = no_event IsInside (IsSurprise run c m n) stay (λ i (delivers, none). never.never (i, delivers))
 
 pub none_caused : (run : List Log) (c : RingId) (stays : List Stay) (stay : Stay) (m n : MsgId) (k l : ℕ) → Facts run c stays → DeliversIn (log_of run stay.proc) c n k → DeliversIn (log_of run stay.proc) c m l → l < k
     → NoneWithin IsInside (IsOneEvent (IsSurprise run c m n)) stay
-none_caused run c stays stay m n k l facts effect cause lt = record { none = λ i rest inside h. never i (event_at (IsSurprise run c m n) stay.proc i rest h) }
-  where
-    never : (i : ℕ) → IsSurprise run c m n stay.proc i → ⊥
-    never i (delivers, none) = none l (rw (one_delivery_in run c stays stay.proc i k n facts delivers effect) lt) cause
+none_caused run c stays stay m n k l facts effect cause lt =
+    no_event IsInside (IsSurprise run c m n) stay (λ i (delivers, none). none l (rw (one_delivery_in run c stays stay.proc i k n facts delivers effect) lt) cause)
 
 pub surprise_here : (run : List Log) (c : RingId) (stays : List Stay) (stay : Stay) (m n : MsgId) (k : ℕ) (places : List Place) → Facts run c stays → DeliversIn (log_of run stay.proc) c n k
     → ((l : ℕ) → l < k → DeliversIn (log_of run stay.proc) c m l → ⊥) → places ≡ place stay.proc k ∷ [] → IsLeastWithin IsInside (IsOneEvent (IsSurprise run c m n)) stay places
 surprise_here run c stays stay m n k places facts delivers none is =
-    only_here IsInside (IsOneEvent (IsSurprise run c m n)) stay k places (k, refl, (delivers, none))
-    (λ i rest h. one_delivery_in run c stays stay.proc i k n facts (event_at (IsSurprise run c m n) stay.proc i rest h).0 delivers) is
+    only_event IsInside (IsSurprise run c m n) stay k places (delivers, none) (λ i h. one_delivery_in run c stays stay.proc i k n facts h.0 delivers) is
 
 pub not_before : (run : List Log) (c : RingId) (stays : List Stay) (stay : Stay) (m : MsgId) (k l : ℕ) → Facts run c stays → DeliversIn (log_of run stay.proc) c m l → k ≤ l
     → (i : ℕ) → i < k → DeliversIn (log_of run stay.proc) c m i → ⊥

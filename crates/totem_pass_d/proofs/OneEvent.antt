@@ -9,11 +9,26 @@ use Rattle.totem_evs.specs.Answers.{IsLeast, FindsIn}
 use Rattle.totem_evs.specs.RingFaults.{BreaksIn, MeetsIn}
 use Rattle.totem_table.specs.Search.{place, NoneFrom, IsLeastFrom, HoldsOfNone}
 use Rattle.totem_pass_d.specs.declared.stay.Stay.{Stay}
-use Rattle.totem_pass_d.specs.Search.{IsOneEvent, EachStandsInside, IsInside, BeginsWithin, EachBeginsWithin}
+use Rattle.totem_pass_d.specs.Search.{IsOneEvent, EachStandsInside, IsInside, BeginsWithin, EachBeginsWithin, NoneWithin, IsLeastWithin}
 
 pub event_at : (Fact : ℕ → ℕ → Type 0) (p i : ℕ) (rest : List Place) → IsOneEvent Fact (place p i ∷ rest) → Fact p i
 event_at Fact p i [] at = let same : at.0 ≡ i = omega (arith, at.1) in rw same at at.2
 event_at Fact p i (f ∷ more) h = absurd h
+
+-- no event of the stay has the property
+pub no_event : (Reaches : Stay → ℕ → Type 0) (Fact : ℕ → ℕ → Type 0) (stay : Stay) → ((i : ℕ) → Fact stay.proc i → ⊥) → NoneWithin Reaches (IsOneEvent Fact) stay
+no_event Reaches Fact stay never = record { none = λ i rest reached h. never i (event_at Fact stay.proc i rest h) }
+
+-- one event of the stay has it
+pub only_event : (Reaches : Stay → ℕ → Type 0) (Fact : ℕ → ℕ → Type 0) (stay : Stay) (k : ℕ) (places : List Place) → Fact stay.proc k → ((i : ℕ) → Fact stay.proc i → i ≡ k) → places ≡ place stay.proc k ∷ []
+    → IsLeastWithin Reaches (IsOneEvent Fact) stay places
+only_event Reaches Fact stay k places fact one is = record {
+  at = k;
+  rest = [];
+  is = is;
+  least = record { least = record { holds = (k, refl, fact); first = λ others h. tt } };
+  none_before = record { none = λ i rest lt reached h. let same = one i (event_at Fact stay.proc i rest h) in omega arith };
+}
 
 place_is : (e : Place) (p i : ℕ) → p ≡ e.proc → e.at ≡ i + 1 → e ≡ place p i
 place_is e p i proc at = rw (proc, ← at) refl

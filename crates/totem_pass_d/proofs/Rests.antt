@@ -29,17 +29,6 @@ least_rest A B p i rest to from least = record { least = record { holds = to res
 pub nothing_here : (B : List Place → Type 0) (p i : ℕ) → ((rest : List Place) → B (place p i ∷ rest) → ⊥) → NoneFrom B p i
 nothing_here B p i never = record { none = never }
 
--- the one index of a stay at which a list can start
-pub only_here : (Reaches : Stay → ℕ → Type 0) (H : List Place → Type 0) (stay : Stay) (k : ℕ) (places : List Place) → H (place stay.proc k ∷ []) → ((i : ℕ) (rest : List Place) → H (place stay.proc i ∷ rest) → i ≡ k)
-    → places ≡ place stay.proc k ∷ [] → IsLeastWithin Reaches H stay places
-only_here Reaches H stay k places holds one is = record {
-  at = k;
-  rest = [];
-  is = is;
-  least = record { least = record { holds = holds; first = λ others h. tt } };
-  none_before = record { none = λ i rest lt reached h. let same = one i rest h in omega arith };
-}
-
 -- what the result of a search says about a specification
 pub answered : (r : Result (Option (List Place)) AllocError) (run : List Log) (c : RingId) (k : SpecNo) → (HoldsOfNone (BreaksIn run c k) → MeetsIn run c k)
     → IfOk r (λ found. MatchOption found (HoldsOfNone (BreaksIn run c k)) (IsLeast (BreaksIn run c k))) → IfOk r (FindsIn run c k)
