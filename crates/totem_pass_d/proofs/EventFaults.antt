@@ -18,19 +18,17 @@ use Rattle.totem_evs.specs.Events.{ChangesTo, Delivers, log_of}
 use Rattle.totem_evs.specs.Changes.{Names}
 use Rattle.totem_evs.specs.Following.{Com, DeliversIn, DeliversOrEnds}
 use Rattle.totem_evs.specs.AgreementFaults.{IsNotOwned, IsNotReached, IsNotInstalled}
-use Rattle.totem_evs.specs.RingAgreement.{OwnDeliveryIn, SafetyIn, InstalledIn}
-use Rattle.totem_evs.specs.RingFaults.{BreaksOwnDeliveryIn, BreaksSafetyIn, BreaksInstalledIn}
+use Rattle.totem_evs.specs.declared.spec.SpecNo.TheVariants as spec
 use Rattle.totem_evs.specs.Answers.{MeetsPasses}
 use Rattle.totem_configuration_rules.proofs.Rowing.{before_or_at}
 use Rattle.totem_pass_d.specs.declared.stay.Stay.{Stay}
 use Rattle.totem_pass_d.specs.Stays.{IsExcused, IsStayOf}
 use Rattle.totem_pass_d.specs.Acts.{HasCome, NeverComes, DeliversNot}
-use Rattle.totem_pass_d.specs.Search.{IsInside, EachStandsInside}
+use Rattle.totem_pass_d.specs.Search.{IsInside, IsBrokenAlone}
 use Rattle.totem_pass_d.specs.Reached.{IsSafeIn, AreMembersAt, HoldsNotOfAll}
 use Rattle.totem_pass_d.proofs.Deciding.{both_or_not, changes_or_not, has_delivered_or_not}
 use Rattle.totem_pass_d.proofs.Excusing.{excused, not_excused}
 use Rattle.totem_pass_d.proofs.Facts.{Facts, StayFacts, at_turn_no_name}
-use Rattle.totem_pass_d.proofs.OneEvent.{IsOfOne}
 use Rattle.totem_pass_d.proofs.Reaching.{is_among_members, is_member, safe_in}
 
 -- a process that has changed to c, is not excused and has not delivered m has missed it
@@ -97,15 +95,13 @@ same_delivery : (log : List Entry) (i : ℕ) (m n : MsgId) (x y : ConfId) → sl
 same_delivery log i m n x y at here = let entries : Some (Deliver n y) ≡ Some (Deliver m x) = cc in (cc, cc)
 
 -- 3
-pub owned_of_one : (run : List Log) (c : RingId) → IsOfOne (BreaksOwnDeliveryIn run c) (IsNotOwned run c)
-owned_of_one run c = record { empty = λ h. h; one = λ e h. h; is = λ e h. h; many = λ e f more h. h }
-
-pub owned_inside : (run : List Log) (c : RingId) (stays : List Stay) → Facts run c stays → EachStandsInside stays (IsNotOwned run c)
-owned_inside run c stays facts = record { each = λ p i (m, (v, at), never). facts.inside p i (Regular c) (Send m (Regular c) v, at, refl) (inl refl) }
-
-pub owned : (run : List Log) (c : RingId) (stays : List Stay) → Facts run c stays → ((p i : ℕ) → IsNotOwned run c p i → ⊥) → OwnDeliveryIn run c
-owned run c stays facts none = record {
-  each = λ p i m sends. elim (delivers_or_ends_or_not run c stays facts p m) [ inl ends ↦ ends | inr never ↦ absurd (none p i (m, sends, never)) ];
+pub owned_alone : (run : List Log) (c : RingId) (stays : List Stay) → Facts run c stays → IsBrokenAlone run c stays spec.OwnDelivery (IsNotOwned run c)
+owned_alone run c stays facts = record {
+  of = record { empty = λ h. h; one = λ e h. h; is = λ e h. h; many = λ e f more h. h };
+  inside = record { each = λ p i (m, (v, at), never). facts.inside p i (Regular c) (Send m (Regular c) v, at, refl) (inl refl) };
+  met = λ none. record {
+    each = λ p i m sends. elim (delivers_or_ends_or_not run c stays facts p m) [ inl ends ↦ ends | inr never ↦ absurd (none p i (m, sends, never)) ];
+  };
 }
 
 pub owned_no_send : (run : List Log) (c : RingId) (p i : ℕ) (e : Entry) → slice_get (log_of run p) i ≡ Some e → ((m : MsgId) (x : ConfId) (v : Service) → e ≡ Send m x v → ⊥) → IsNotOwned run c p i → ⊥
@@ -126,15 +122,13 @@ owned_never run c stay i m x v is inside at other not =
     (m, (v, rw regular at at), missed run c stay m is.of other not)
 
 -- 7.2
-pub installed_of_one : (run : List Log) (c : RingId) → IsOfOne (BreaksInstalledIn run c) (IsNotInstalled run c)
-installed_of_one run c = record { empty = λ h. h; one = λ e h. h; is = λ e h. h; many = λ e f more h. h }
-
-pub installed_inside : (run : List Log) (c : RingId) (stays : List Stay) → Facts run c stays → EachStandsInside stays (IsNotInstalled run c)
-installed_inside run c stays facts = record { each = λ p i (m, q, safe, at, member, never). facts.inside p i (Regular c) (Deliver m (Regular c), at, refl) (inl refl) }
-
-pub installed : (run : List Log) (c : RingId) → ((p i : ℕ) → IsNotInstalled run c p i → ⊥) → InstalledIn run c
-installed run c none = record {
-  each = λ m p i q safe at member. elim (changes_or_not (log_of run q) (Regular c)) [ inl there ↦ there | inr never ↦ absurd (none p i (m, q, safe, at, member, never)) ];
+pub installed_alone : (run : List Log) (c : RingId) (stays : List Stay) → Facts run c stays → IsBrokenAlone run c stays spec.Installed (IsNotInstalled run c)
+installed_alone run c stays facts = record {
+  of = record { empty = λ h. h; one = λ e h. h; is = λ e h. h; many = λ e f more h. h };
+  inside = record { each = λ p i (m, q, safe, at, member, never). facts.inside p i (Regular c) (Deliver m (Regular c), at, refl) (inl refl) };
+  met = λ none. record {
+    each = λ m p i q safe at member. elim (changes_or_not (log_of run q) (Regular c)) [ inl there ↦ there | inr never ↦ absurd (none p i (m, q, safe, at, member, never)) ];
+  };
 }
 
 pub installed_no_delivery : (run : List Log) (c : RingId) (p i : ℕ) (e : Entry) → slice_get (log_of run p) i ≡ Some e → ((m : MsgId) (x : ConfId) → e ≡ Deliver m x → ⊥) → IsNotInstalled run c p i → ⊥
@@ -164,15 +158,13 @@ installed_not run c stay i m x members is lt below at safe are not_all =
     (m, not_all.member, (safe.proc, safe.index, Regular c, safe.sends), delivers, is_member run stay.proc i members (Regular c) not_all.member are (Deliver m (Regular c), delivers, refl) not_all.among, λ j change. not_all.never (j, change))
 
 -- 7.1
-pub safety_of_one : (run : List Log) (c : RingId) → IsOfOne (BreaksSafetyIn run c) (IsNotReached run c)
-safety_of_one run c = record { empty = λ h. h; one = λ e h. h; is = λ e h. h; many = λ e f more h. h }
-
-pub safety_inside : (run : List Log) (c : RingId) (stays : List Stay) → Facts run c stays → EachStandsInside stays (IsNotReached run c)
-safety_inside run c stays facts = record { each = λ p i (m, d, q, safe, at, inside, member, never). facts.inside p i d (Deliver m d, at, refl) inside }
-
-pub safety : (run : List Log) (c : RingId) (stays : List Stay) → Facts run c stays → ((p i : ℕ) → IsNotReached run c p i → ⊥) → SafetyIn run c
-safety run c stays facts none = record {
-  each = λ m p i d q safe at inside member. elim (delivers_or_ends_or_not run c stays facts q m) [ inl ends ↦ ends | inr never ↦ absurd (none p i (m, d, q, safe, at, inside, member, never)) ];
+pub safety_alone : (run : List Log) (c : RingId) (stays : List Stay) → Facts run c stays → IsBrokenAlone run c stays spec.Safety (IsNotReached run c)
+safety_alone run c stays facts = record {
+  of = record { empty = λ h. h; one = λ e h. h; is = λ e h. h; many = λ e f more h. h };
+  inside = record { each = λ p i (m, d, q, safe, at, inside, member, never). facts.inside p i d (Deliver m d, at, refl) inside };
+  met = λ none. record {
+    each = λ m p i d q safe at inside member. elim (delivers_or_ends_or_not run c stays facts q m) [ inl ends ↦ ends | inr never ↦ absurd (none p i (m, d, q, safe, at, inside, member, never)) ];
+  };
 }
 
 pub safety_no_delivery : (run : List Log) (c : RingId) (p i : ℕ) (e : Entry) → slice_get (log_of run p) i ≡ Some e → ((m : MsgId) (x : ConfId) → e ≡ Deliver m x → ⊥) → IsNotReached run c p i → ⊥
