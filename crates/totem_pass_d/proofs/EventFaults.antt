@@ -1,5 +1,5 @@
 -- What breaks 3, 7.1 and 7.2 in one regular configuration, event by event.
-use Rattle.std.proofs.Common.{◌≡◌, ℕ, ◌<◌, ◌≤◌, ◌⊎◌, inl, inr, List, length, get_or, slice_get, Some, Bool, true, false, not, refl, sym, arith}
+use Rattle.std.proofs.Common.{◌≡◌, ℕ, ◌<◌, ◌≤◌, ◌⊎◌, inl, inr, List, length, get_or, slice_get, Some, Bool, true, false, not, IsTrue, ◌↔◌, refl, sym, arith}
 use Rattle.std.specs.Prelude.{All}
 use Rattle.std.specs.Bool.{MatchBool, OnTrue, OnFalse}
 use Rattle.std.specs.List.{AllWithin, HoldsAt}
@@ -16,7 +16,7 @@ use Rattle.totem_evs.specs.declared.entry.Entry.TheVariants.{Send, Deliver, Fail
 use Rattle.totem_evs.specs.declared.log.Log.{Log}
 use Rattle.totem_evs.specs.Events.{ChangesTo, Delivers, log_of}
 use Rattle.totem_evs.specs.Changes.{Names}
-use Rattle.totem_evs.specs.Following.{Com, DeliversIn, DeliversOrEnds}
+use Rattle.totem_evs.specs.Following.{Com, DeliversIn, HasDelivered, DeliversOrEnds}
 use Rattle.totem_evs.specs.AgreementFaults.{IsNotOwned, IsNotReached, IsNotInstalled}
 use Rattle.totem_evs.specs.declared.spec.SpecNo.TheVariants as spec
 use Rattle.totem_evs.specs.Answers.{MeetsPasses}
@@ -35,6 +35,12 @@ use Rattle.totem_pass_d.proofs.Reaching.{is_among_members, is_member, safe_in}
 pub missed : (run : List Log) (c : RingId) (stay : Stay) (m : MsgId) → IsStayOf run c stay → (IsExcused stay → ⊥) → DeliversNot (log_of run stay.proc) c m → DeliversOrEnds run stay.proc c m → ⊥
 missed run c stay m is other not (inl delivered) = not.never delivered
 missed run c stay m is other not (inr ends) = not_excused run c stay is other ends
+
+-- one that is not excused delivers m or has missed it
+pub reached : (run : List Log) (c : RingId) (stay : Stay) (m : MsgId) (b : Bool) → IsStayOf run c stay → (IsExcused stay → ⊥) → OnTrue b (HasDelivered (log_of run stay.proc) c m) → OnFalse b (DeliversNot (log_of run stay.proc) c m)
+    → IsTrue b ↔ DeliversOrEnds run stay.proc c m
+reached run c stay m true is other there never = (λ t. inl there, λ h. refl)
+reached run c stay m false is other there never = (λ t. absurd cc, λ h. absurd (missed run c stay m is other never h))
 
 -- so has a process that never changed to c
 pub absent : (run : List Log) (c : RingId) (q : ℕ) (m : MsgId) → MeetsPasses run → NeverComes run c q → DeliversOrEnds run q c m → ⊥

@@ -46,15 +46,6 @@ no_delivery run c stay m None facts is = record {
   never = λ (i, (x, at, inside)). (let here = facts.is.here i x (Deliver m x, at, refl) inside in is.never i (record { after = here.0; until = here.1; does = rw (facts.log, at) refl }));
 }
 
--- the result of a look-up
-pub found_there : (o : Option ℕ) (P : ℕ → Type 0) → is_some o ≡ true → IfSome o P → (k : ℕ) × P k
-found_there None P is h = absurd cc
-found_there (Some k) P is h = (k, h)
-
-pub not_found : (o : Option ℕ) (Q : Type 0) → is_some o ≡ false → IfNone o Q → Q
-not_found None Q is h = h
-not_found (Some k) Q is h = absurd cc
-
 -- ---- what the indices say
 
 told_more : (kept : MsgId → Option ℕ) (log : List Entry) (from end n : ℕ) → ((m : MsgId) → IsDelivery log from end m n → IsTold kept log from end m) → Tells kept log from end n → Tells kept log from end (n + 1)

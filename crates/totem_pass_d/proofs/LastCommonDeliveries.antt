@@ -1,5 +1,6 @@
 -- The last delivery of a process that another process makes too.
-use Rattle.std.proofs.Common.{◌≡◌, ℕ, ◌+◌, ◌<◌, ◌≤◌, ◌⊎◌, inl, inr, List, [], ◌∷◌, ◌++◌, length, get_or, slice_get, Some, refl, sym, ◌∙◌, arith, length-append}
+use Rattle.std.proofs.Common.{◌≡◌, ℕ, ◌+◌, ◌<◌, ◌≤◌, ◌⊎◌, inl, inr, List, [], ◌∷◌, ◌++◌, length, get_or, slice_get, Some, Bool, true, false, refl, sym, ◌∙◌, arith, length-append}
+use Rattle.std.specs.Bool.{OnFalse}
 use Rattle.std.proofs.Math.ListN.{get_or-append}
 use Rattle.std.proofs.lemmas.List.{get_or_push}
 use Rattle.std.proofs.lemmas.Option.{slice_get_within}
@@ -22,8 +23,10 @@ use Rattle.totem_pass_d.proofs.Facts.{Facts, delivery_inside}
 use Rattle.totem_pass_d.proofs.Rests.{nothing_here}
 use Rattle.totem_pass_d.proofs.GapFaults.{gap_at}
 
-pub apart_undelivered : (run : List Log) (c : RingId) (follower : Stay) (p at : ℕ) (m : MsgId) (d : ConfId) → slice_get (log_of run p) at ≡ Some (Deliver m d) → DeliversNot (log_of run follower.proc) c m → IsApart run c p follower.proc at
-apart_undelivered run c follower p at m d there not = record {
+pub apart_undelivered : (run : List Log) (c : RingId) (follower : Stay) (p at : ℕ) (m : MsgId) (d : ConfId) (b : Bool) → slice_get (log_of run p) at ≡ Some (Deliver m d) → OnFalse b (DeliversNot (log_of run follower.proc) c m)
+    → OnFalse b (IsApart run c p follower.proc at)
+apart_undelivered run c follower p at m d true there not = tt
+apart_undelivered run c follower p at m d false there not = record {
   never = λ n (x, is, belongs) h. (let same : n ≡ m = cc in not.never (rw same at h));
 }
 

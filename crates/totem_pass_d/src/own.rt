@@ -30,9 +30,6 @@ impl EventTest for Undelivered<'_, '_> {
         if stay.is_excused() {
             return false;
         }
-        match self.stays.delivery_of(stay, message) {
-            Some(_) => false,
-            None => true,
-        }
+        !self.stays.delivers(stay, message)
     }
 }

@@ -29,13 +29,7 @@ impl Unreached<'_, '_> {
         let Some(stay) = self.stays.stay_of(proc) else {
             return false;
         };
-        if stay.is_excused() {
-            return true;
-        }
-        match self.stays.delivery_of(stay, message) {
-            Some(_) => true,
-            None => false,
-        }
+        stay.is_excused() || self.stays.delivers(stay, message)
     }
 
     /// Returns whether each of these members delivers the message, or is excused from delivering it.
