@@ -25,24 +25,6 @@ use Rattle.totem_run_rules.proofs.SentOrNot.{sent_or_not}
 use Rattle.totem_pass_ab.proofs.Starting.{Begins, EachBegins, begins_at, one_begins, none_of_all}
 use Rattle.totem_pass_ab.proofs.Turning.{one_succession}
 
--- the log has no change to x before n
-pub record NoneYet (log : List Entry) (x : ConfId) (n : ℕ) : Type 0 where
-  pub none : (k : ℕ) → k < n → ChangesTo log k x → ⊥
-
-changes_here : (log : List Entry) (i : ℕ) (x : ConfId) (e : Entry) → slice_get log i ≡ Some e → ChangesTo log i x → IsChangeTo e x
-changes_here log i x e at (ms, h) = let same : Conf x ms ≡ e = cc in let P : Entry → Type 0 = λ z. IsChangeTo z x in subst P same refl
-
-pub none_more : (log : List Entry) (x : ConfId) (n : ℕ) (e : Entry) → slice_get log n ≡ Some e → (IsChangeTo e x → ⊥) → NoneYet log x n → NoneYet log x (n + 1)
-none_more log x n e at other before = record {
-  none = λ k lt h. elim (less_or_not k n) [
-    | inl under ↦ before.none k under h
-    | inr more ↦ elim more [ inl over ↦ omega arith | inr same ↦ other (changes_here log n x e at (rw same at h)) ]
-  ];
-}
-
-pub never_changes : (log : List Entry) (x : ConfId) (n : ℕ) → length log ≤ n → NoneYet log x n → NeverChangesTo log x
-never_changes log x n end before = record { none = λ i (ms, h). before.none i (omega (arith, slice_get_within log i (Conf x ms) h)) (ms, h) }
-
 -- what follows c is the next change after the first change to c
 pub not_without_change : (log : List Entry) (c : RingId) (d : ConfId) → NeverChangesTo log (Regular c) → IsTrue false ↔ Follows log c d
 not_without_change log c d never = (λ t. absurd cc, λ f. absurd (never.none f.from f.first.change))

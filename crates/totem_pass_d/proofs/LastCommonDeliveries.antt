@@ -3,7 +3,7 @@ use Rattle.std.proofs.Common.{◌≡◌, ℕ, ◌+◌, ◌<◌, ◌≤◌, ◌�
 use Rattle.std.specs.Bool.{OnFalse}
 use Rattle.std.proofs.Math.ListN.{get_or-append}
 use Rattle.std.proofs.lemmas.List.{get_or_push}
-use Rattle.std.proofs.lemmas.Option.{slice_get_within}
+use Rattle.std.proofs.lemmas.Option.{slice_get_within, slice_get-get_or}
 use Rattle.totem_ids.specs.declared.ring.RingId.{RingId}
 use Rattle.totem_ids.specs.declared.conf.ConfId.{ConfId}
 use Rattle.totem_ids.specs.declared.message.MsgId.{MsgId}
@@ -14,6 +14,7 @@ use Rattle.totem_evs.specs.Events.{log_of}
 use Rattle.totem_evs.specs.Following.{HasDelivered}
 use Rattle.totem_evs.specs.AgreementFaults.{IsGap}
 use Rattle.totem_evs.specs.RingFaults.{BreaksGapIn}
+use Rattle.totem_evs.proofs.Pushing.{Along}
 use Rattle.totem_configuration_rules.proofs.Rowing.{before_or_at}
 use Rattle.totem_table.specs.Search.{NoneFrom}
 use Rattle.totem_pass_d.specs.declared.stay.Stay.{Stay}
@@ -50,29 +51,15 @@ apart_more run c p q n k is here after = record {
 pub beyond_later : (run : List Log) (c : RingId) (p q i j : ℕ) → i ≤ j → IsBeyond run c p q i → IsBeyond run c p q j
 beyond_later run c p q i j le beyond = record { each = λ k lt. beyond.each k (omega arith) }
 
--- the last common deliveries of the first n stays
-pub record LastsTo (run : List Log) (c : RingId) (stays : List Stay) (p : ℕ) (lasts : List ℕ) (n : ℕ) : Type 0 where
-  pub long : length lasts ≡ n
-  pub each : (k : ℕ) (stay : Stay) → k < n → slice_get stays k ≡ Some stay → IsBeyond run c p stay.proc (get_or lasts k 0)
+-- the last common delivery with each stay
+abbrev pub IsLast : List Log → RingId → ℕ → Stay → ℕ → Type 0
+IsLast run c p stay last = IsBeyond run c p stay.proc last
 
-pub lasts_more : (run : List Log) (c : RingId) (stays : List Stay) (p : ℕ) (lasts more : List ℕ) (n last : ℕ) (stay : Stay) → slice_get stays n ≡ Some stay → IsBeyond run c p stay.proc last → more ≡ lasts ++ last ∷ [] → LastsTo run c stays p lasts n
-    → LastsTo run c stays p more (n + 1)
-lasts_more run c stays p lasts more n last stay at here is before = record {
-  long = (let l : length more ≡ length lasts + 1 = rw is (length-append lasts (last ∷ [])) in let b = before.long in omega arith);
-  each = λ k s lt at_k. elim (before_or_at k n lt) [
-    | inl under ↦ (let keep : get_or more k 0 ≡ get_or lasts k 0 = rw is (get_or-append lasts (last ∷ []) 0 k (let b = before.long in omega arith)) in rw keep (before.each k s under at_k))
-    | inr same ↦ at_n k s same at_k
-  ];
+pub lasts_whole : (run : List Log) (c : RingId) (stays : List Stay) (p : ℕ) (lasts : List ℕ) (n : ℕ) → length stays ≡ n → Along (IsLast run c p) stays lasts n → AreLasts run c stays p lasts
+lasts_whole run c stays p lasts n end along = record {
+  long = end ∙ sym along.long;
+  each = λ k stay at. along.each k stay (get_or lasts k 0) at (slice_get-get_or lasts k 0 (omega (arith, end, along.long, slice_get_within stays k stay at)));
 }
-  where
-    at_n : (k : ℕ) (s : Stay) → k ≡ n → slice_get stays k ≡ Some s → IsBeyond run c p s.proc (get_or more k 0)
-    at_n k s same at_k =
-        let is_stay : s ≡ stay = (let there : slice_get stays n ≡ Some s = rw same at at_k in cc) in
-        let value : get_or more k 0 ≡ last = rw is (get_or_push lasts last 0 k (before.long ∙ sym same)) in
-        rw (value, is_stay) here
-
-pub lasts_whole : (run : List Log) (c : RingId) (stays : List Stay) (p : ℕ) (lasts : List ℕ) (n : ℕ) → length stays ≡ n → LastsTo run c stays p lasts n → AreLasts run c stays p lasts
-lasts_whole run c stays p lasts n end to = record { long = end ∙ sym to.long; each = λ k stay at. to.each k stay (omega (arith, end, slice_get_within stays k stay at)) at }
 
 -- the first n stays are settled
 pub record SettledTo (run : List Log) (c : RingId) (stays : List Stay) (p : ℕ) (m : MsgId) (i n : ℕ) : Type 0 where
