@@ -1,5 +1,5 @@
 -- What is found for 2.4 is the least list that breaks it.
-use Rattle.std.proofs.Common.{◌≡◌, ℕ, ◌+◌, ◌<◌, inl, inr, List, [], ◌∷◌, ◌↔◌, refl, sym, ◌∙◌, arith}
+use Rattle.std.proofs.Common.{◌≡◌, ℕ, ◌+◌, ◌<◌, inl, inr, List, [], ◌∷◌, refl, sym, ◌∙◌, arith}
 use Rattle.std.proofs.lemmas.Option.{slice_get_within}
 use Rattle.totem_ids.specs.Orders.{PlaceBelow}
 use Rattle.totem_ids.specs.declared.ring.RingId.{RingId}
@@ -9,7 +9,7 @@ use Rattle.totem_ids.specs.declared.place.Place.{Place}
 use Rattle.totem_evs.specs.declared.entry.Entry.{Entry}
 use Rattle.totem_evs.specs.declared.entry.Entry.TheVariants.{Conf}
 use Rattle.totem_evs.specs.declared.log.Log.{Log}
-use Rattle.totem_evs.specs.Events.{log_of, IsRegular, IsTransitional}
+use Rattle.totem_evs.specs.Events.{log_of, IsTransitional}
 use Rattle.totem_evs.specs.Changes.{ChangesNext, TakesTurns}
 use Rattle.totem_evs.specs.ChangeFaults.{AreWrongNeighbours, BreaksTurns}
 use Rattle.totem_evs.specs.Answers.{ComesFirst, IsLeast, TakeTurns}

@@ -15,7 +15,7 @@ use Rattle.totem_evs.specs.ChangeFaults.{BeginsTransitional, AreWrongNeighbours}
 use Rattle.totem_evs.specs.Answers.{ComesFirst, IsLeast}
 use Rattle.totem_table.specs.Search.{place, NoneFrom, IsLeastFrom, HoldsOfNone}
 use Rattle.totem_evs.specs.Following.{IsNextOrEnd}
-use Rattle.totem_evs.proofs.NextChanges.{NoneBetween, no_change}
+use Rattle.totem_evs.proofs.NextChanges.{no_change}
 use Rattle.totem_run_rules.specs.Succession.{IsWrongSuccession}
 use Rattle.totem_pass_ab.specs.Turns.{HasNoSuccession, IsOfOtherRing, ComesFromElsewhere, IsOtherOrigin, IsTurnRest, IsTurnFault}
 use Rattle.totem_evs.proofs.LogOf.{less_or_not}

@@ -1,6 +1,6 @@
 -- The list found for 4 is the least that breaks it: a delivery, its process's next change, and that of a process that
 -- goes along without the message.
-use Rattle.std.proofs.Common.{◌≡◌, ℕ, ◌+◌, ◌<◌, inl, inr, List, [], ◌∷◌, length, slice_get, Some, Bool, true, false, IsTrue, ◌↔◌, refl, arith}
+use Rattle.std.proofs.Common.{◌≡◌, ℕ, ◌+◌, ◌<◌, inl, inr, List, [], ◌∷◌, length, slice_get, Some, Bool, true, false, IsTrue, ◌↔◌, refl, sym, arith}
 use Rattle.std.specs.Bool.{OnTrue, OnFalse}
 use Rattle.totem_ids.specs.declared.ring.RingId.{RingId}
 use Rattle.totem_ids.specs.declared.conf.ConfId.{ConfId}
@@ -10,7 +10,7 @@ use Rattle.totem_ids.specs.declared.place.Place.{Place}
 use Rattle.totem_evs.specs.declared.entry.Entry.{Entry}
 use Rattle.totem_evs.specs.declared.entry.Entry.TheVariants.{Deliver}
 use Rattle.totem_evs.specs.declared.log.Log.{Log}
-use Rattle.totem_evs.specs.Events.{log_of, ChangesTo, Delivers}
+use Rattle.totem_evs.specs.Events.{log_of, ChangesTo, IsChange, Delivers}
 use Rattle.totem_evs.specs.Following.{IsNextChange, Follows, Com, DeliversIn}
 use Rattle.totem_evs.specs.RingAgreement.{AtomicityIn}
 use Rattle.totem_evs.specs.RingFaults.{BreaksAtomicityIn}
@@ -28,42 +28,23 @@ use Rattle.totem_pass_d.specs.Search.{IsInside, EachBeginsWithin, BeginsWithin, 
 use Rattle.totem_pass_d.specs.Partings.{IsAnywhere, IsSpan, IsNoChange, NeverDelivers, IsPartner}
 use Rattle.totem_configuration_rules.proofs.Together.{follows_too}
 use Rattle.totem_run_rules.proofs.SentOrNot.{same_conf_or_not}
-use Rattle.totem_pass_d.proofs.Deciding.{below_or_not, delivery_or_not}
+use Rattle.totem_pass_d.proofs.Deciding.{delivery_or_not}
 use Rattle.totem_pass_d.proofs.Facts.{Facts}
 use Rattle.totem_pass_d.proofs.Rests.{nothing_here, begins_at}
 
--- the next change after the one to c, and after the one to what follows it
-pub next_of_from : (log : List Entry) (c : RingId) (from turn end k : ℕ) → IsStay log c from turn end → IsNextChange log from k → k ≡ turn
-next_of_from log c from turn end k is next = elim (below_or_not turn (length log)) [
-  | inl lt ↦ one_next log from k turn next (is.next lt).1
-  | inr past ↦ (
-      let change = next.change in
-      let within = change_within log k change.0 change.1 in
-      let later = next.later in
-      let until = is.until in
-      elim (less_or_not k turn) [
-        | inl before ↦ is.changes k later (omega arith) change
-        | inr more ↦ elim more [ inl after ↦ absurd (past (omega arith)) | inr same ↦ same ]
-      ]
-      )
+-- the next change after i, if there is none between i and j, and the one at j comes next
+next_at : (log : List Entry) (i j k : ℕ) → (j < length log → IsNextChange log i j) → ((m : ℕ) → i < m → m < j → IsChange log m → ⊥) → IsNextChange log i k → k ≡ j
+next_at log i j k next none is = elim (less_or_not j k) [
+  | inl lt ↦ one_next log i k j is (next (omega (arith, change_within log k is.change.0 is.change.1)))
+  | inr rest ↦ elim rest [ inl before ↦ absurd (none k is.later before is.change) | inr same ↦ sym same ]
 ]
 
-pub next_of_turn : (log : List Entry) (c : RingId) (from turn end k : ℕ) → IsStay log c from turn end → turn < end → IsNextChange log turn k → k ≡ end
-next_of_turn log c from turn end k is lt next =
-    let change = next.change in
-    let within = change_within log k change.0 change.1 in
-    let later = next.later in
-    let before = is.before in
-    elim (below_or_not k end) [
-      | inl inside ↦ (let same = is.changes k (omega arith) inside change in absurd (omega arith))
-      | inr past ↦ elim (below_or_not end (length log)) [
-        | inl goes_on ↦ one_next log turn k end next (is.last lt goes_on)
-        | inr stops ↦ elim (less_or_not k end) [
-          | inl inside ↦ absurd (past inside)
-          | inr more ↦ absurd (stops (elim more [ inl over ↦ omega arith | inr same ↦ omega arith ]))
-        ]
-      ]
-    ]
+-- the next change after the one to c, and after the one to what follows it
+next_of_from : (log : List Entry) (c : RingId) (from turn end k : ℕ) → IsStay log c from turn end → IsNextChange log from k → k ≡ turn
+next_of_from log c from turn end k is next = next_at log from turn k (λ lt. (is.next lt).1) (λ m after until change. let same = is.changes m after (omega (arith, is.until)) change in omega arith) next
+
+next_of_turn : (log : List Entry) (c : RingId) (from turn end k : ℕ) → IsStay log c from turn end → turn < end → IsNextChange log turn k → k ≡ end
+next_of_turn log c from turn end k is lt next = next_at log turn end k (is.last lt) (λ m after until change. let same = is.changes m (omega (arith, is.before)) until change in omega arith) next
 
 -- the change to what follows c is at the turn
 pub turn_of : (run : List Log) (c : RingId) (stays : List Stay) (stay : Stay) (x : ConfId) → Facts run c stays → IsAmong stays stay → Follows (log_of run stay.proc) c x → ChangesTo (log_of run stay.proc) stay.turn x × (stay.turn < stay.end)

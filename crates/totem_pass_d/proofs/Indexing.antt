@@ -1,7 +1,6 @@
 -- The indices of the deliveries of a part of a log, found entry by entry.
-use Rattle.std.proofs.Common.{◌≡◌, ℕ, ◌+◌, ◌<◌, ◌≤◌, inl, inr, List, slice_get, Option, Some, None, true, false, ◌∙◌, refl, arith}
+use Rattle.std.proofs.Common.{◌≡◌, ℕ, ◌+◌, ◌<◌, inl, inr, List, slice_get, Option, Some, None, ◌∙◌, refl}
 use Rattle.std.specs.Prelude.{IfSome, IfNone}
-use Rattle.std.specs.Option.{is_some}
 use Rattle.std.specs.BTreeMap.{BTreeMap}
 use Rattle.std.specs.BTreeMap as tree
 use Rattle.totem_ids.specs.declared.ring.RingId.{RingId}

@@ -1,13 +1,9 @@
 -- What the traffic of a configuration shows of it.
-use Rattle.std.proofs.Common.{◌≡◌, List, [], slice_get, Some}
+use Rattle.std.proofs.Common.{List}
 use Rattle.totem_ids.specs.declared.ring.RingId.{RingId}
 use Rattle.totem_evs.specs.declared.log.Log.{Log}
-use Rattle.totem_evs.specs.Answers.{MeetsPasses}
 use Rattle.totem_configuration_rules.specs.declared.agreed.Shown.{Shown}
-use Rattle.totem_configuration_rules.specs.declared.observed.Observed.{Observed}
-use Rattle.totem_configuration_rules.specs.declared.traffic.Traffic.{Traffic}
-use Rattle.totem_configuration_rules.specs.Clean.{AreShown, IsAllShown, IsNoneShown}
-use Rattle.totem_configuration_rules.specs.Traffics.{IsTrafficOf, AreTraffic}
+use Rattle.totem_configuration_rules.specs.Clean.{IsAllShown, IsNoneShown}
 use Rattle.totem_pass_d.specs.declared.findings.Findings.{Findings}
 use Rattle.totem_pass_d.specs.Findings.{AreMet, AreNone, AreFindings}
 

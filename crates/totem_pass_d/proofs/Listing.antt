@@ -1,9 +1,8 @@
 -- From the findings of each job to the faults of the pass.
-use Rattle.std.proofs.Common.{◌≡◌, ◌<◌, ◌+◌, ℕ, inl, inr, List, [], ◌∷◌, ◌++◌, length, take, slice_get, Option, Some, None, refl, ap, arith}
+use Rattle.std.proofs.Common.{◌≡◌, ◌<◌, ◌+◌, ℕ, inl, inr, List, [], ◌∷◌, ◌++◌, length, take, Option, Some, None, refl, ap, arith}
 use Rattle.std.proofs.Common.{◌≤◌, Result, Ok, Err, IfOk}
-use Rattle.std.specs.Prelude.{slice_index_or}
 use Rattle.std.proofs.lemmas.List.{take_more, take_all}
-use Rattle.std.proofs.lemmas.Option.{slice_get_cases, slice_get_read}
+use Rattle.std.proofs.lemmas.Option.{slice_get_cases}
 use Rattle.totem_ids.specs.declared.ring.RingId.{RingId}
 use Rattle.totem_ids.specs.declared.place.Place.{Place}
 use Rattle.totem_evs.specs.declared.log.Log.{Log}
@@ -14,7 +13,7 @@ use Rattle.totem_evs.specs.Answers.{FindsIn, ListsRings, ListsEach, ListsConfigu
 use Rattle.totem_table.specs.Search.{listed}
 use Rattle.totem_pass_d.specs.declared.findings.Findings.{Findings}
 use Rattle.totem_pass_d.specs.declared.pass.Found.{Found}
-use Rattle.totem_pass_d.specs.Findings.{AreFindings, IsNothing, GrowsBy, AreFound, all_found}
+use Rattle.totem_pass_d.specs.Findings.{AreFindings, GrowsBy, AreFound, all_found}
 use Rattle.totem_pass_d.specs.Jobs.{AreFindingsAt}
 
 one_more : (run : List Log) (k : SpecNo) (cs : List RingId) (c : RingId) (fs : List Fault) (found : Option (List Place)) → ListsRings run k cs fs → FindsIn run c k found → ListsRings run k (cs ++ c ∷ []) (fs ++ listed k found)

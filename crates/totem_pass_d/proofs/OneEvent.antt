@@ -4,10 +4,9 @@ use Rattle.totem_ids.specs.declared.ring.RingId.{RingId}
 use Rattle.totem_ids.specs.declared.place.Place.{Place}
 use Rattle.totem_evs.specs.declared.log.Log.{Log}
 use Rattle.totem_evs.specs.declared.spec.SpecNo.{SpecNo}
-use Rattle.totem_evs.specs.Places.{At}
 use Rattle.totem_evs.specs.Answers.{IsLeast, FindsIn}
 use Rattle.totem_evs.specs.RingFaults.{BreaksIn}
-use Rattle.totem_table.specs.Search.{place, NoneFrom, IsLeastFrom, HoldsOfNone}
+use Rattle.totem_table.specs.Search.{place, HoldsOfNone}
 use Rattle.totem_pass_d.specs.declared.stay.Stay.{Stay}
 use Rattle.totem_pass_d.specs.Search.{IsOneEvent, IsOfOne, IsBrokenAlone, EachStandsInside, IsInside, BeginsWithin, EachBeginsWithin, NoneWithin, IsLeastWithin}
 

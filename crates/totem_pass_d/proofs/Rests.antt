@@ -1,5 +1,5 @@
 -- How lists of places continue.
-use Rattle.std.proofs.Common.{◌≡◌, ℕ, zero, suc, ◌+◌, List, [], ◌∷◌, slice_get, Option, Some, None, Result, Ok, Err, IfOk, MatchOption, refl, ap, add-one, arith}
+use Rattle.std.proofs.Common.{◌≡◌, ℕ, zero, suc, ◌+◌, List, ◌∷◌, slice_get, Option, Some, None, Result, Ok, Err, IfOk, MatchOption, refl, ap, add-one}
 use Rattle.std.specs.declared.alloc.AllocError.{AllocError}
 use Rattle.totem_ids.specs.declared.ring.RingId.{RingId}
 use Rattle.totem_ids.specs.declared.conf.ConfId.{ConfId}
@@ -16,7 +16,7 @@ use Rattle.totem_evs.specs.RingFaults.{BreaksIn, MeetsIn}
 use Rattle.totem_evs.specs.Answers.{IsLeast, FindsIn}
 use Rattle.totem_table.specs.Search.{place, NoneFrom, IsLeastFrom, HoldsOfNone}
 use Rattle.totem_pass_d.specs.declared.stay.Stay.{Stay}
-use Rattle.totem_pass_d.specs.Search.{IsLeastWithin, IsInside, BeginsWithin}
+use Rattle.totem_pass_d.specs.Search.{IsInside, BeginsWithin}
 use Rattle.totem_pass_d.proofs.Facts.{Facts}
 
 -- what holds of a list, in terms of the rest after a place

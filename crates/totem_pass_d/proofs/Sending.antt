@@ -1,6 +1,5 @@
 -- The sends of the stays, noted entry by entry and stay by stay.
-use Rattle.std.proofs.Common.{◌≡◌, ℕ, ◌+◌, ◌<◌, ◌≤◌, inl, inr, List, length, slice_get, Some, None, true, refl, sym, ◌∙◌, ap, arith}
-use Rattle.std.specs.Prelude.{All}
+use Rattle.std.proofs.Common.{◌≡◌, ℕ, ◌+◌, ◌<◌, inl, inr, List, length, slice_get, Some, None, true, refl, sym, ◌∙◌, ap, arith}
 use Rattle.std.specs.BTreeMap.{BTreeMap}
 use Rattle.std.specs.BTreeMap as tree
 use Rattle.std.proofs.lemmas.Option.{slice_get_within}
@@ -22,7 +21,7 @@ use Rattle.totem_run_rules.specs.Stays.{IsStay}
 use Rattle.totem_run_rules.proofs.Staying.{names_no_change}
 use Rattle.totem_pass_d.specs.declared.stay.Stay.{Stay}
 use Rattle.totem_pass_d.specs.declared.stays.Sending.{Sending}
-use Rattle.totem_pass_d.specs.Stays.{IsShortStay, HasStay, AreStays}
+use Rattle.totem_pass_d.specs.Stays.{HasStay, AreStays}
 use Rattle.totem_pass_d.specs.Acts.{IsSendingOf}
 use Rattle.totem_pass_d.specs.Sends.{IsSendOf, NotesSends, IsSendOfOne, HasSends, AreSends}
 use Rattle.totem_pass_d.proofs.Searching.{stay_of}

@@ -1,11 +1,10 @@
 -- From walks back along the logs to the messages for which 5 may be broken.
-use Rattle.std.proofs.Common.{◌≡◌, ◌⊎◌, ℕ, zero, suc, ◌+◌, ◌<◌, ◌≤◌, inl, inr, List, [], ◌∷◌, length, slice_get, Some, Bool, true, false, IsTrue, nat_lt, refl, sym, ◌∙◌, subst, arith}
+use Rattle.std.proofs.Common.{◌≡◌, ◌⊎◌, ℕ, zero, suc, ◌+◌, ◌<◌, ◌≤◌, inl, inr, List, [], ◌∷◌, length, slice_get, Some, Bool, true, false, nat_lt, refl, sym, ◌∙◌, arith}
 use Rattle.std.specs.Bool.{OnTrue}
 use Rattle.std.specs.declared.cmp.Ordering.{Ordering}
 use Rattle.std.specs.BTreeSet.{BTreeSet}
 use Rattle.std.specs.BTreeSet as sorted
 use Rattle.std.proofs.lemmas.Grind.{not_there}
-use Rattle.std.proofs.lemmas.Map.Lookups.{CmpEqualImpliesEq}
 use Rattle.std.proofs.lemmas.Option.{slice_get_within}
 use Rattle.totem_ids.specs.declared.ring.RingId.{RingId}
 use Rattle.totem_ids.specs.declared.conf.ConfId.{ConfId}
@@ -22,10 +21,9 @@ use Rattle.totem_evs.specs.Following.{DeliversIn}
 use Rattle.totem_evs.specs.RingFaults.{BreaksCausalityIn}
 use Rattle.totem_configuration_rules.proofs.Rowing.{before_or_at}
 use Rattle.totem_table.specs.Search.{place, NoneFrom}
-use Rattle.totem_ids.proofs.Exact.{equal_at, apart_or_at}
 use Rattle.totem_pass_d.specs.declared.stay.Stay.{Stay}
 use Rattle.totem_pass_d.specs.Acts.{IsAmong, DeliversNot}
-use Rattle.totem_pass_d.specs.Suspects.{Handles, HandlesNothing, ComesBefore, ComesNotBefore, IsEarlier, IsSuspect, HasAllOf, IsNoted, AreNotedFrom, AreNoted, AreSuspects}
+use Rattle.totem_pass_d.specs.Suspects.{Handles, ComesBefore, ComesNotBefore, IsEarlier, IsSuspect, HasAllOf, IsNoted, AreNotedFrom, AreNoted, AreSuspects}
 use Rattle.totem_pass_d.proofs.Facts.{Facts, delivery_inside}
 use Rattle.totem_pass_d.proofs.Rests.{nothing_here, sends_there}
 use Rattle.totem_pass_d.proofs.CausalityFaults.{one_delivery_in}
@@ -181,24 +179,20 @@ module _ (cmp : MsgId → MsgId → Ordering) (s : BTreeSet MsgId) (run : List L
       let never_there : ComesNotBefore run c receiver.stay.proc m k = rw receiver.proc never in
       (noted.from i above).each i j k e m n (Regular c) v (omega arith) lt sent.until (rw (← sent.proc) at at_i) handles (rw (← sent.proc) at at_j) (d, rw (← receiver.proc) at delivers, rw (← receiver.proc) at belongs) never_there
 
-  from_send : (p i j r k : ℕ) (m n : MsgId) (u v : Service) → i < j → slice_get (log_of run p) i ≡ Some (Send m (Regular c) u) → slice_get (log_of run p) j ≡ Some (Send n (Regular c) v) → DeliversIn (log_of run r) c n k → ComesNotBefore run c r m k
-      → IsSuspect cmp s m
-  from_send p i j r k m n u v lt at_i at_j d never = by_walk p i j r k (Send m (Regular c) u) m n v lt at_i (Send m (Regular c) u, at_i, refl) refl at_j d never
-
-  from_delivery : (p i j r k : ℕ) (m n : MsgId) (v : Service) → i < j → Delivers (log_of run p) i m (Regular c) → slice_get (log_of run p) j ≡ Some (Send n (Regular c) v) → DeliversIn (log_of run r) c n k → ComesNotBefore run c r m k → IsSuspect cmp s m
-  from_delivery p i j r k m n v lt at_i at_j d never = by_walk p i j r k (Deliver m (Regular c)) m n v lt at_i (Deliver m (Regular c), at_i, refl) refl at_j d never
-
   -- the send of the earlier message is in the later one's log
   in_one_log : (p q a j r k : ℕ) (m n : MsgId) (u v : Service) → at_place (log_of run q) a ≡ Some (Send m (Regular c) u) → q ≡ p → a < suc j → slice_get (log_of run p) j ≡ Some (Send n (Regular c) v) → DeliversIn (log_of run r) c n k
       → ComesNotBefore run c r m k → IsSuspect cmp s m
   in_one_log p q zero j r k m n u v at_e same lt at_j d never = absurd cc
-  in_one_log p q (suc i) j r k m n u v at_e same lt at_j d never = from_send p i j r k m n u v (omega arith) (rw same at at_e) at_j d never
+  in_one_log p q (suc i) j r k m n u v at_e same lt at_j d never =
+      let here : slice_get (log_of run p) i ≡ Some (Send m (Regular c) u) = rw same at at_e in
+      by_walk p i j r k (Send m (Regular c) u) m n v (omega arith) here (Send m (Regular c) u, here, refl) refl at_j d never
 
   suspected : (m n : MsgId) (e : Place) (p a : ℕ) (u v : Service) → entry_at run e ≡ Some (Send m (Regular c) u) → at_place (log_of run p) a ≡ Some (Send n (Regular c) v)
       → ((e.proc ≡ p) × (e.at < a)) ⊎ ((j : ℕ) × (a ≡ j + 1) × ((i : ℕ) × (i < j) × Delivers (log_of run p) i m (Regular c))) → (r k : ℕ) → DeliversIn (log_of run r) c n k → ComesNotBefore run c r m k → IsSuspect cmp s m
   suspected m n e p zero u v at_e at_f hop r k d never = absurd cc
   suspected m n e p (suc j) u v at_e at_f (inl (same, lt)) r k d never = in_one_log p e.proc e.at j r k m n u v at_e same lt at_f d never
-  suspected m n e p (suc j) u v at_e at_f (inr (b, is, (i, lt, delivers))) r k d never = from_delivery p i j r k m n v (omega arith) delivers at_f d never
+  suspected m n e p (suc j) u v at_e at_f (inr (b, is, (i, lt, delivers))) r k d never =
+      by_walk p i j r k (Deliver m (Regular c)) m n v (omega arith) delivers (Deliver m (Regular c), delivers, refl) refl at_f d never
 
   broken : (m : MsgId) (x : ConfId) (v : Service) (p i : ℕ) (rest : List Place) → slice_get (log_of run p) i ≡ Some (Send m x v) → BreaksCausalityIn run c (place p i ∷ rest) → IsSuspect cmp s m
   broken m x v p i [] at h = absurd h

@@ -29,7 +29,7 @@ use Rattle.totem_pass_d.specs.Stays.{IsExcused, IsStayOf, HasStay, AreStays}
 use Rattle.totem_pass_d.specs.KnownStays.{AreKnown}
 use Rattle.totem_pass_d.specs.Pendings.{Adds, IsPendingIn, IsPendingFor}
 use Rattle.totem_pass_d.proofs.Excusing.{excused, not_excused}
-use Rattle.totem_pass_d.proofs.Adding.{AtSome, adds_nothing, adds_alike, Leaves, leaves_nothing, leaves_same, leaves_pushed}
+use Rattle.totem_pass_d.proofs.Adding.{AtSome, adds_alike, Leaves, leaves_nothing, leaves_same, leaves_pushed}
 
 -- ---- whether a process is open
 

@@ -28,7 +28,7 @@ pub trait EventTest {
     ghost breaks: { Self → ℕ → ℕ → Type 0 };
 
     /// Does nothing. Its contract says that the specification is broken by such events and by nothing else.
-    fn is_alone(&self)
+    fn breaks_alone(&self)
         requires { AreKnown (among self.now) }
         ensures { IsBrokenAlone (among self.now).run.now.logs (among self.now).ring (among self.now).list.items spec (breaks self.now) };
 
@@ -81,7 +81,7 @@ pub fn least_event<T: EventTest>(
     if is_met {
         return Ok(None);
     }
-    test.is_alone();
+    test.breaks_alone();
     let relation = OneEvent { test };
     let finder = EachIndex {
         relation: &relation,

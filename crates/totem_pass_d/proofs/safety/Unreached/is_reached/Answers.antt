@@ -1,4 +1,4 @@
-use Rattle.std.proofs.Common.{refl, inr}
+use Rattle.std.proofs.Common.{inr}
 use Rattle.totem_pass_d.proofs.Facts.{facts_of}
 use Rattle.totem_pass_d.proofs.Excusing.{excused}
 use Rattle.totem_pass_d.proofs.EventFaults.{reached, absent}
