@@ -54,18 +54,6 @@ module _ (by_change : Change → Change → Ordering) (by_conf : ConfId → Conf
       go (g ∷ []) (j, js, (Fail y, at, h)) = h
       go (g ∷ e ∷ more) h = h
 
-  -- an entry that is no change is not one of two forms
-  pub no_form : (run : List Log) (p i : ℕ) (e : Entry) → ((x : ConfId) (ms : List ℕ) → e ≡ Conf x ms → ⊥) → HoldsOfNone (IsOne run (AreTwoForms p i e))
-  no_form run p i e no_change = record { none = λ places h. go e refl places h }
-    where
-      go : (z : Entry) → e ≡ z → (places : List Place) → IsOne run (AreTwoForms p i z) places → ⊥
-      go z is [] h = h
-      go (Conf x ms) is (f ∷ []) h = no_change x ms is
-      go (Send m x v) is (f ∷ []) (j, js, (y, at, h)) = h
-      go (Deliver m x) is (f ∷ []) (j, js, (y, at, h)) = h
-      go (Fail x) is (f ∷ []) (j, js, (y, at, h)) = h
-      go z is (f ∷ g ∷ more) h = h
-
 -- an entry that is no change is bad neither alone nor with another
 pub no_bad_form : (run : List Log) (p i : ℕ) → (IsChange (log_of run p) i → ⊥) → NoneFrom (IsOneOrTwo run IsForeignChange AreTwoForms) p i
 no_bad_form run p i never = record { none = λ rest h. go rest h }

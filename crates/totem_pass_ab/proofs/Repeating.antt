@@ -164,15 +164,3 @@ module _ (by_message : MsgId → MsgId → Ordering) (by_delivery : Delivery →
       go (f ∷ []) (j, js, (Send n y t, at, h)) = h
       go (f ∷ []) (j, js, (Fail y, at, h)) = h
       go (f ∷ g ∷ more) h = h
-
-  -- a change or a failure is not one of two sends or deliveries
-  pub never_twice : (run : List Log) (p i : ℕ) (e : Entry) → ((m : MsgId) (x : ConfId) (v : Service) → e ≡ Send m x v → ⊥) → ((m : MsgId) (x : ConfId) → e ≡ Deliver m x → ⊥) → HoldsOfNone (IsOne run (AreTwice p i e))
-  never_twice run p i e no_send no_delivery = record { none = λ places h. go e refl places h }
-    where
-      go : (z : Entry) → e ≡ z → (places : List Place) → IsOne run (AreTwice p i z) places → ⊥
-      go z is [] h = h
-      go (Send m x v) is (f ∷ []) h = no_send m x v is
-      go (Deliver m x) is (f ∷ []) h = no_delivery m x is
-      go (Conf x ms) is (f ∷ []) (j, js, (y, at, h)) = h
-      go (Fail x) is (f ∷ []) (j, js, (y, at, h)) = h
-      go z is (f ∷ g ∷ more) h = h

@@ -1,5 +1,5 @@
 -- Searching for the sends of what is delivered.
-use Rattle.std.proofs.Common.{◌≡◌, ℕ, ◌+◌, ◌<◌, ◌≤◌, inl, inr, List, [], ◌∷◌, length, slice_get, Some, Bool, true, false, IsTrue, ◌↔◌, refl, subst, ap, arith}
+use Rattle.std.proofs.Common.{◌≡◌, ℕ, inl, inr, List, [], ◌∷◌, slice_get, Some, Bool, true, false, IsTrue, ◌↔◌, refl, arith}
 use Rattle.std.proofs.lemmas.Option.{slice_get_within}
 use Rattle.totem_ids.specs.declared.ring.RingId.{RingId}
 use Rattle.totem_ids.specs.declared.conf.ConfId.{ConfId}
@@ -9,55 +9,24 @@ use Rattle.totem_ids.specs.declared.place.Place.{Place}
 use Rattle.totem_evs.specs.declared.entry.Entry.{Entry}
 use Rattle.totem_evs.specs.declared.entry.Entry.TheVariants.{Conf, Send, Deliver, Fail}
 use Rattle.totem_evs.specs.declared.log.Log.{Log}
-use Rattle.totem_evs.specs.Events.{log_of, ChangesTo, IsTransitional}
-use Rattle.totem_evs.specs.Following.{IsFirstChange, Follows, Com}
+use Rattle.totem_evs.specs.Events.{log_of, IsTransitional}
+use Rattle.totem_evs.specs.Following.{IsFirstChange, Follows}
 use Rattle.totem_evs.specs.Changes.{ChangesNext}
 use Rattle.totem_evs.specs.Delivery.{DeliversWhatWasSent}
 use Rattle.totem_evs.specs.DeliveryFaults.{IsUnsent, BreaksUnsent}
 use Rattle.totem_table.specs.Search.{place, NoneFrom, IsLeastFrom, NoneOf, IsLeastOf, HoldsOfNone}
 use Rattle.totem_pass_ab.specs.Pairs.{IsOne}
 use Rattle.totem_pass_ab.specs.Turns.{HasNoSuccession}
-use Rattle.totem_run_rules.specs.Ends.{IsChangeTo, NeverChangesTo}
+use Rattle.totem_run_rules.specs.Ends.{NeverChangesTo}
 use Rattle.totem_run_rules.specs.Sent.{WasSentTo, IsSendTo}
-use Rattle.totem_evs.proofs.LogOf.{less_or_not}
 use Rattle.totem_evs.proofs.NextChanges.{same_first}
 use Rattle.totem_run_rules.proofs.SentOrNot.{sent_or_not}
 use Rattle.totem_pass_ab.proofs.Starting.{Begins, EachBegins, begins_at, one_begins, none_of_all}
 use Rattle.totem_pass_ab.proofs.Turning.{one_succession}
 
--- the log has no change to x before n
-pub record NoneYet (log : List Entry) (x : ConfId) (n : ℕ) : Type 0 where
-  pub none : (k : ℕ) → k < n → ChangesTo log k x → ⊥
-
-pub none_yet : (log : List Entry) (x : ConfId) → NoneYet log x 0
-none_yet log x = record { none = λ k lt h. omega arith }
-
-changes_here : (log : List Entry) (i : ℕ) (x : ConfId) (e : Entry) → slice_get log i ≡ Some e → ChangesTo log i x → IsChangeTo e x
-changes_here log i x e at (ms, h) = let same : Conf x ms ≡ e = cc in let P : Entry → Type 0 = λ z. IsChangeTo z x in subst P same refl
-
-pub none_more : (log : List Entry) (x : ConfId) (n : ℕ) (e : Entry) → slice_get log n ≡ Some e → (IsChangeTo e x → ⊥) → NoneYet log x n → NoneYet log x (n + 1)
-none_more log x n e at other before = record {
-  none = λ k lt h. elim (less_or_not k n) [
-    | inl under ↦ before.none k under h
-    | inr more ↦ elim more [ inl over ↦ omega arith | inr same ↦ other (changes_here log n x e at (rw same at h)) ]
-  ];
-}
-
-pub first_here : (log : List Entry) (x : ConfId) (i : ℕ) (e : Entry) → slice_get log i ≡ Some e → IsChangeTo e x → NoneYet log x i → IsFirstChange log x i
-first_here log x i (Conf y ms) at same before = record { change = (ms, rw same at at); none_before = before.none }
-first_here log x i (Send m y s) at h before = absurd h
-first_here log x i (Deliver m y) at h before = absurd h
-first_here log x i (Fail y) at h before = absurd h
-
-pub never_changes : (log : List Entry) (x : ConfId) (n : ℕ) → length log ≤ n → NoneYet log x n → NeverChangesTo log x
-never_changes log x n end before = record { none = λ i (ms, h). before.none i (omega (arith, slice_get_within log i (Conf x ms) h)) (ms, h) }
-
 -- what follows c is the next change after the first change to c
 pub not_without_change : (log : List Entry) (c : RingId) (d : ConfId) → NeverChangesTo log (Regular c) → IsTrue false ↔ Follows log c d
 not_without_change log c d never = (λ t. absurd cc, λ f. absurd (never.none f.from f.first.change))
-
-pub not_regular : (log : List Entry) (c : RingId) (d : ConfId) (b : Bool) → b ≡ false → IsTrue b ↔ IsTransitional d → IsTrue false ↔ Follows log c d
-not_regular log c d b e decides = (λ t. absurd cc, λ f. absurd (let t : b ≡ true = decides.1 f.transitional in cc))
 
 succession_of : (log : List Entry) (c : RingId) (d : ConfId) (i : ℕ) (f : Follows log c d) → IsFirstChange log (Regular c) i → (ms ns : List ℕ) × ChangesNext log i f.to (Regular c) d ms ns
 succession_of log c d i f first = let same = same_first log (Regular c) f.from i f.first first in
@@ -72,12 +41,6 @@ follows_decided log c d i j x y ms ns b first succession moves decides = (
   λ t. (let same = decides.0 t in record { from = i; to = j; first = first; next = succession.next; change = (ns, rw same at succession.second); transitional = moves }),
   λ f. decides.1 (let t = succession_of log c d i f first in (one_succession log i j f.to x (Regular c) y d ms t.0 ns t.1 succession t.2).next),
 )
-
-pub in_regular : (log : List Entry) (c e : RingId) (b : Bool) → IsTrue b ↔ (e ≡ c) → IsTrue b ↔ Com log c (Regular e)
-in_regular log c e b decides = (λ t. inl (ap Regular (decides.0 t)), λ h. elim h [ inl same ↦ decides.1 cc | inr f ↦ absurd f.transitional ])
-
-pub in_following : (log : List Entry) (c : RingId) (x next : ConfId) (n : RingId) (l : ℕ) (b : Bool) → x ≡ Transitional n l → IsTrue b ↔ Follows log c x → IsTrue b ↔ Com log c x
-in_following log c x next n l b is decides = (λ t. inr (decides.0 t), λ h. elim h [ inl same ↦ absurd cc | inr f ↦ decides.1 f ])
 
 -- what a search for sends shows
 pub was_sent : (run : List Log) (log : List Entry) (m : MsgId) (d : ConfId) (ps : List Place) → IsOne run (IsSendTo log m d) ps → WasSentTo run log m d

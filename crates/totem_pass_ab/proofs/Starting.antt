@@ -1,5 +1,5 @@
 -- Lists that begin with an event of the run, and what follows from a search among them.
-use Rattle.std.proofs.Common.{◌≡◌, ℕ, ◌+◌, ◌<◌, List, [], ◌∷◌, length, slice_get, Option, Some, None, MatchOption, Bool, true, false, IsTrue, ◌↔◌, refl, ap, arith}
+use Rattle.std.proofs.Common.{◌≡◌, ℕ, ◌+◌, ◌<◌, List, [], ◌∷◌, length, slice_get, Option, Some, None, MatchOption, refl, ap, arith}
 use Rattle.std.proofs.lemmas.Option.{slice_get_within}
 use Rattle.totem_ids.specs.declared.place.Place.{Place}
 use Rattle.totem_evs.specs.declared.entry.Entry.{Entry}
@@ -55,24 +55,8 @@ one_or_two_begins run A P = record { each = λ places h. go places h }
     go (e ∷ []) (i, is, h) = begins_at run e i [] is (has_within run A e.proc i h)
     go (e ∷ f ∷ rest) (i, is, h) = begins_at run e i (f ∷ rest) is (has_within run (λ p i x. IsOne run (P p i x) (f ∷ rest)) e.proc i h)
 
--- the empty rest is the least
-pub ends_here : (H : List Place → Type 0) (p i : ℕ) → H (place p i ∷ []) → IsLeastFrom H p i []
-ends_here H p i h = record { least = record { holds = h; first = λ others _. tt } }
-
 same_entry : (log : List Entry) (i : ℕ) (x y : Entry) → slice_get log i ≡ Some x → slice_get log i ≡ Some y → x ≡ y
 same_entry log i x y h k = cc
-
-pub has_here : (run : List Log) (P : ℕ → ℕ → Entry → Type 0) (p i : ℕ) (x : Entry) (b : Bool) → slice_get (log_of run p) i ≡ Some x → IsTrue b ↔ P p i x → b ≡ true → IsLeastFrom (IsOne run P) p i []
-has_here run P p i x b at decides e = ends_here (IsOne run P) p i (i, refl, (x, at, decides.0 e))
-
-pub has_not : (run : List Log) (P : ℕ → ℕ → Entry → Type 0) (p i : ℕ) (x : Entry) (b : Bool) → slice_get (log_of run p) i ≡ Some x → IsTrue b ↔ P p i x → b ≡ false → NoneFrom (IsOne run P) p i
-has_not run P p i x b at decides e = record { none = λ rest h. go rest h }
-  where
-    go : (rest : List Place) → IsOne run P (place p i ∷ rest) → ⊥
-    go [] (j, is, (y, at_j, h)) = let same : j ≡ i = omega arith in
-        let one : y ≡ x = same_entry (log_of run p) i y x (rw same at at_j) at in
-        let t : b ≡ true = decides.1 (rw (same, one) at h) in cc
-    go (f ∷ more) h = h
 
 -- what a search found, as places
 pub told_as_places : {V : Type 0} (items : V → List Place) (found : Option V) (places : Option (List Place)) (Told : Option (List Place) → Type 0) (A : Type 0) (P : V → Type 0)

@@ -1,6 +1,5 @@
 -- What is found for 2.4 is the least list that breaks it.
-use Rattle.std.proofs.Common.{◌≡◌, ℕ, ◌+◌, ◌<◌, inl, inr, List, [], ◌∷◌, ◌↔◌, refl, sym, ◌∙◌, arith}
-use Rattle.std.specs.Prelude.{All, Contains}
+use Rattle.std.proofs.Common.{◌≡◌, ℕ, ◌+◌, ◌<◌, inl, inr, List, [], ◌∷◌, refl, sym, ◌∙◌, arith}
 use Rattle.std.proofs.lemmas.Option.{slice_get_within}
 use Rattle.totem_ids.specs.Orders.{PlaceBelow}
 use Rattle.totem_ids.specs.declared.ring.RingId.{RingId}
@@ -10,14 +9,15 @@ use Rattle.totem_ids.specs.declared.place.Place.{Place}
 use Rattle.totem_evs.specs.declared.entry.Entry.{Entry}
 use Rattle.totem_evs.specs.declared.entry.Entry.TheVariants.{Conf}
 use Rattle.totem_evs.specs.declared.log.Log.{Log}
-use Rattle.totem_evs.specs.Events.{log_of, IsRegular, IsTransitional}
+use Rattle.totem_evs.specs.Events.{log_of, IsTransitional}
 use Rattle.totem_evs.specs.Changes.{ChangesNext, TakesTurns}
 use Rattle.totem_evs.specs.ChangeFaults.{AreWrongNeighbours, BreaksTurns}
 use Rattle.totem_evs.specs.Answers.{ComesFirst, IsLeast, TakeTurns}
 use Rattle.totem_table.specs.Search.{place, HoldsOfNone}
 use Rattle.totem_run_rules.specs.Succession.{IsWrongSuccession}
 use Rattle.totem_pass_ab.specs.Turns.{IsTurnFault}
-use Rattle.totem_run_rules.proofs.Decisions.{all_or_not, same_ring_or_not, regular_or_transitional}
+use Rattle.totem_run_rules.proofs.Behind.{right_kinds, right_from, right_to, right_name}
+use Rattle.totem_run_rules.proofs.Decisions.{same_ring_or_not, regular_or_transitional}
 use Rattle.totem_pass_ab.proofs.Starting.{Begins, EachBegins, begins_at}
 use Rattle.totem_pass_ab.proofs.Turning.{wrong_neighbours, succession_of_rest, succession_within}
 
@@ -79,20 +79,6 @@ turn_faults_begin run = record { each = λ places h. go places h }
     go (e ∷ f ∷ rest) (i, is, (j, js, (procs, h))) = let found = succession_of_rest run e.proc i j rest h in
         begins_at run e i (f ∷ rest) is (succession_within (log_of run e.proc) i j found.0 found.1 found.2 found.3 found.4)
 
-alternate : (x y : ConfId) (ms ns : List ℕ) → (IsWrongSuccession x ms y ns → ⊥) → IsRegular x ↔ IsTransitional y
-alternate (Regular c) (Regular d) ms ns right = absurd (right tt)
-alternate (Regular c) (Transitional n l) ms ns right = (λ _. tt, λ _. tt)
-alternate (Transitional n l) (Regular c) ms ns right = (λ h. h, λ h. h)
-alternate (Transitional n l) (Transitional m k) ms ns right = absurd (right tt)
-
-members_from : (c : RingId) (y : ConfId) (ms ns : List ℕ) → IsTransitional y → (IsWrongSuccession (Regular c) ms y ns → ⊥) → All (Contains ms) ns
-members_from c (Regular d) ms ns moves right = absurd moves
-members_from c (Transitional n l) ms ns moves right = elim (all_or_not ms ns) [ inl all ↦ all | inr never ↦ absurd (right never) ]
-
-members_to : (x : ConfId) (c : RingId) (ms ns : List ℕ) → IsTransitional x → (IsWrongSuccession x ms (Regular c) ns → ⊥) → All (Contains ns) ms
-members_to (Regular d) c ms ns moves right = absurd moves
-members_to (Transitional n l) c ms ns moves right = elim (all_or_not ns ms) [ inl all ↦ all | inr never ↦ absurd (right (inl never)) ]
-
 pub no_turn_faults : (run : List Log) → HoldsOfNone (IsTurnFault run) → TakeTurns run
 no_turn_faults run never = record { each = λ p. each p; origin = λ p i j q k l c d t ms ns ks ls lt moves first second. origin p i j q k l c d t ms ns ks ls lt moves first second }
   where
@@ -105,13 +91,10 @@ no_turn_faults run never = record { each = λ p. each p; origin = λ p i j q k l
         | inl regular ↦ regular
         | inr moves ↦ absurd (never.none (place p i ∷ []) (i, refl, (x, change, moves, none)))
       ];
-      turns = λ i j x y ms ns succession. alternate x y ms ns (right p i j x y ms ns succession);
-      from = λ i j c y ms ns moves succession. members_from c y ms ns moves (right p i j (Regular c) y ms ns succession);
-      to = λ i j x c ms ns moves succession. members_to x c ms ns moves (right p i j x (Regular c) ms ns succession);
-      named = λ i j next c least ms ns succession. elim (same_ring_or_not c next) [
-        | inl same ↦ same
-        | inr other ↦ absurd (right p i j (Transitional next least) (Regular c) ms ns succession (inr other))
-      ];
+      turns = λ i j x y ms ns succession. right_kinds x y ms ns (right p i j x y ms ns succession);
+      from = λ i j c y ms ns moves succession. right_from c y ms ns moves (right p i j (Regular c) y ms ns succession);
+      to = λ i j x c ms ns moves succession. right_to x c ms ns moves (right p i j x (Regular c) ms ns succession);
+      named = λ i j next c least ms ns succession. right_name next c least ms ns (right p i j (Transitional next least) (Regular c) ms ns succession);
     }
 
     origin : (p i j q k l : ℕ) (c d : RingId) (t : ConfId) (ms ns ks ls : List ℕ) → p < q → IsTransitional t

@@ -15,27 +15,18 @@ use Rattle.totem_evs.specs.ChangeFaults.{BeginsTransitional, AreWrongNeighbours}
 use Rattle.totem_evs.specs.Answers.{ComesFirst, IsLeast}
 use Rattle.totem_table.specs.Search.{place, NoneFrom, IsLeastFrom, HoldsOfNone}
 use Rattle.totem_evs.specs.Following.{IsNextOrEnd}
-use Rattle.totem_evs.proofs.NextChanges.{NoneBetween, no_change}
+use Rattle.totem_evs.proofs.NextChanges.{no_change}
 use Rattle.totem_run_rules.specs.Succession.{IsWrongSuccession}
 use Rattle.totem_pass_ab.specs.Turns.{HasNoSuccession, IsOfOtherRing, ComesFromElsewhere, IsOtherOrigin, IsTurnRest, IsTurnFault}
 use Rattle.totem_evs.proofs.LogOf.{less_or_not}
 use Rattle.totem_pass_ab.proofs.Starting.{Begins, EachBegins, begins_at}
-
-pub succession_here : (log : List Entry) (i j : ℕ) (x y : ConfId) (ms ns : List ℕ) → slice_get log i ≡ Some (Conf x ms) → slice_get log j ≡ Some (Conf y ns) → i < j → NoneBetween log i j → ChangesNext log i j x y ms ns
-succession_here log i j x y ms ns at_i at_j lt before = record { first = at_i; second = at_j; next = record { change = (y, (ns, at_j)); later = lt; none_between = before.none } }
-
-pub no_succession_without_change : (log : List Entry) (i : ℕ) (e : Entry) → slice_get log i ≡ Some e → ((x : ConfId) (ms : List ℕ) → e ≡ Conf x ms → ⊥) → HasNoSuccession log i
-no_succession_without_change log i e at other = record { none = λ j x y ms ns succession. no_change log i e at other (x, (ms, succession.first)) }
-
-pub no_succession_at_end : (log : List Entry) (i n : ℕ) → length log ≤ n → NoneBetween log i n → HasNoSuccession log i
-no_succession_at_end log i n end before = record { none = λ j x y ms ns succession. before.none j succession.next.later (omega (arith, slice_get_within log j (Conf y ns) succession.second)) succession.next.change }
 
 -- the next change at an index makes a succession
 pub succession_to_next : (log : List Entry) (i j : ℕ) (x y : ConfId) (ms ns : List ℕ) → slice_get log i ≡ Some (Conf x ms) → slice_get log j ≡ Some (Conf y ns) → IsNextOrEnd log i j → ChangesNext log i j x y ms ns
 succession_to_next log i j x y ms ns at_i at_j next = record { first = at_i; second = at_j; next = record { change = (y, (ns, at_j)); later = next.later; none_between = next.none_between } }
 
 pub no_succession_to_end : (log : List Entry) (i j : ℕ) → IsNextOrEnd log i j → length log ≤ j → HasNoSuccession log i
-no_succession_to_end log i j next end = no_succession_at_end log i j end (record { none = next.none_between })
+no_succession_to_end log i j next end = record { none = λ k x y ms ns succession. next.none_between k succession.next.later (omega (arith, slice_get_within log k (Conf y ns) succession.second)) succession.next.change }
 
 pub next_is_change : (log : List Entry) (i j : ℕ) (e : Entry) → IsNextOrEnd log i j → j < length log → slice_get log j ≡ Some e → ((x : ConfId) (ms : List ℕ) → e ≡ Conf x ms → ⊥) → ⊥
 next_is_change log i j e next lt at other = no_change log j e at other (next.change lt)
@@ -230,17 +221,6 @@ no_other run p c t q k never = record { none = λ rest h. go rest h }
     go [] h = h
     go (f ∷ []) (m, is, (l, ls, (procs, h))) = at_index m l (omega arith) h
     go (f ∷ g ∷ more) h = h
-
-pub no_other_below : (run : List Log) (p : ℕ) (c : RingId) (t : ConfId) (q k : ℕ) → q ≤ p → NoneFrom (IsOtherOrigin run p c t) q k
-no_other_below run p c t q k le = no_other run p c t q k (λ l h. let lt = h.0 in omega arith)
-
-pub no_other_without_succession : (run : List Log) (p : ℕ) (c : RingId) (t : ConfId) (q k : ℕ) → HasNoSuccession (log_of run q) k → NoneFrom (IsOtherOrigin run p c t) q k
-no_other_without_succession run p c t q k none = no_other run p c t q k (λ l (lt, d, ks, ls, never, succession). none.none l (Regular d) t ks ls succession)
-
-pub no_other_from_here : (run : List Log) (p : ℕ) (c : RingId) (t : ConfId) (q k j : ℕ) (x y : ConfId) (ms ns : List ℕ) → ChangesNext (log_of run q) k j x y ms ns → (IsOfOtherRing c x → ⊥) → NoneFrom (IsOtherOrigin run p c t) q k
-no_other_from_here run p c t q k j x y ms ns succession never = no_other run p c t q k (λ l (lt, d, ks, ls, other, succession').
-    let one = one_succession (log_of run q) k l j (Regular d) x t y ks ms ls ns succession' succession in
-    let P : ConfId → Type 0 = λ z. IsOfOtherRing c z in never (subst P one.conf other))
 
 pub no_other_to_there : (run : List Log) (p : ℕ) (c : RingId) (t : ConfId) (q k j : ℕ) (x y : ConfId) (ms ns : List ℕ) → ChangesNext (log_of run q) k j x y ms ns → (y ≡ t → ⊥) → NoneFrom (IsOtherOrigin run p c t) q k
 no_other_to_there run p c t q k j x y ms ns succession never = no_other run p c t q k (λ l (lt, d, ks, ls, other, succession').

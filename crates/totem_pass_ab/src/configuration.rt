@@ -1,10 +1,9 @@
 //! 2.3: each configuration has one form (docs/SPECIFICATIONS.md, "2 Changes of configuration").
 ghost use Rattle.std.specs.Prelude.{◌≡◌, ◌↔◌, ◌<◌, IsTrue, IfOk, MatchOption};
-ghost use Rattle.totem_evs.specs.Answers.{Finds, IsLeast};
+ghost use Rattle.totem_evs.specs.Answers.{Finds};
 ghost use Rattle.totem_table.specs.Changes.{AreChanges};
 ghost use Rattle.totem_pass_ab.specs.Bad.{IsForeignChange, AreTwoForms};
 ghost use Rattle.totem_pass_ab.specs.Pairs.{IsOneOrTwo};
-ghost use Rattle.totem_table.specs.Search.{HoldsOfNone};
 ghost use Rattle.totem_table.specs.Registers.{KnowsRun};
 ghost use Rattle.totem_pass_ab.specs.Forms.{KnowsChange};
 
@@ -87,19 +86,6 @@ impl ChangeRelation for TwoForms<'_> {
     }
 }
 
-/// Finds the least list of one change that is bad alone or of two that are bad together.
-fn least_form(
-    two_forms: &TwoForms,
-    alloc: Global,
-    changes: &Changes,
-) -> Result<Option<Places>, AllocError>
-    requires { AreChanges two_forms.now.run.now.logs changes.now.rows.items }
-    ensures { IfOk result (λ found. MatchOption found (HoldsOfNone (IsOneOrTwo two_forms.now.run.now.logs IsForeignChange AreTwoForms))
-        (IsLeast (IsOneOrTwo two_forms.now.run.now.logs IsForeignChange AreTwoForms))) }
-{
-    Ok(places_of(least_change(two_forms, alloc, two_forms.run, changes)?))
-}
-
 /// Finds the least events that break 2.3.
 pub fn find(alloc: Global, run: &Run, changes: &Changes) -> Result<Option<Places>, AllocError>
     requires { AreChanges run.now.logs changes.now.rows.items }
@@ -108,5 +94,5 @@ pub fn find(alloc: Global, run: &Run, changes: &Changes) -> Result<Option<Places
     let mut forms = Forms::new(alloc);
     enter_changes(&mut forms, alloc, run, changes)?;
     let two_forms = TwoForms { run, forms };
-    least_form(&two_forms, alloc, changes)
+    Ok(places_of(least_change(&two_forms, alloc, run, changes)?))
 }

@@ -7,6 +7,7 @@ ghost use Rattle.totem_pass_ab.specs.Turns.{HasNoSuccession};
 
 use totem_evs::{Entry, Members};
 use totem_ids::ConfId;
+use totem_run_rules::walk_to_change;
 
 /// A change, and the next change of the same log.
 #[derive(Clone, Copy)]
@@ -25,21 +26,10 @@ pub fn succession_at(log: &[Entry], at: usize) -> Option<Succession<'_>>
     ensures within { IfSome result (λ succession. succession.next_at < length log.now) }
     ensures none { IfNone result (HasNoSuccession log.now at) }
 {
-    let Entry::Conf(conf, members) = &log[at] else {
-        return None;
-    };
-    for next_at in at + 1..log.len() {
-        if let Entry::Conf(next, next_members) = &log[next_at] {
-            return Some(Succession {
-                conf,
-                members,
-                next_at,
-                next,
-                next_members,
-            });
-        }
+    match &log[at] {
+        Entry::Conf(_, _) => succession_between(log, at, walk_to_change(log, at)),
+        _ => None,
     }
-    None
 }
 
 /// Returns the change at this index and the one at `next_at`, or `None` unless both exist. No change may be between them.

@@ -3,7 +3,7 @@ use Rattle.std.proofs.Common.{◌≡◌, ◌⊎◌, ◌↔◌, ℕ, ◌+◌, ◌
 use Rattle.std.specs.Prelude.{Contains}
 use Rattle.std.proofs.lemmas.List.Elements.{Contains-push, Contains-append_left, Contains-push_cases}
 use Rattle.totem_evs.specs.declared.pending.Pending.{Pending}
-use Rattle.totem_evs.proofs.LogOf.{less_or_not}
+use Rattle.totem_configuration_rules.proofs.Rowing.{before_or_at}
 use Rattle.totem_pass_d.specs.Pendings.{Adds}
 
 -- the property holds at one of the first n elements
@@ -22,9 +22,6 @@ adds_alike P Q s t to from h = record {
   each = λ x. (λ has. elim ((h.each x).0 has) [ inl old ↦ inl old | inr new ↦ inr (to x new) ], λ k. (h.each x).1 (elim k [ inl old ↦ inl old | inr new ↦ inr (from x new) ]));
 }
 
-pub some_yet : {X : Type 0} (P : X → Pending → Type 0) (xs : List X) (s : List Pending) → Adds (AtSome P xs 0) s s
-some_yet P xs s = adds_nothing (AtSome P xs 0) s (λ x h. let below = h.below in omega arith)
-
 pub some_more : {X : Type 0} (P : X → Pending → Type 0) (xs : List X) (n : ℕ) (item : X) (s t u : List Pending) → slice_get xs n ≡ Some item → Adds (P item) t u → Adds (AtSome P xs n) s t → Adds (AtSome P xs (n + 1)) s u
 some_more P xs n item s t u at second first = record { each = λ x. (λ has. to x has, λ given. from x given) }
   where
@@ -42,20 +39,14 @@ some_more P xs n item s t u at second first = record { each = λ x. (λ has. to 
 
     from : (x : Pending) → Contains s x ⊎ AtSome P xs (n + 1) x → Contains u x
     from x (inl old) = (second.each x).1 (inl ((first.each x).1 (inl old)))
-    from x (inr b) = elim (less_or_not b.at n) [
+    from x (inr b) = elim (before_or_at b.at n b.below) [
       | inl under ↦ (second.each x).1 (inl ((first.each x).1 (inr (record { at = b.at; item = b.item; below = under; stands = b.stands; holds = b.holds }))))
-      | inr rest ↦ elim rest [
-        | inl over ↦ absurd (let lt = b.below in omega arith)
-        | inr same ↦ (second.each x).1 (inr (here x b same))
-      ]
+      | inr same ↦ (second.each x).1 (inr (here x b same))
     ]
 
 -- what is in the new list, and what Q still adds to it, are what is in the old one and what P adds to it
 pub record Leaves (P Q : Pending → Type 0) (old now : List Pending) : Type 0 where
   pub each : (x : Pending) → (Contains now x ⊎ Q x) ↔ (Contains old x ⊎ P x)
-
-pub leaves_all : (P : Pending → Type 0) (s : List Pending) → Leaves P P s s
-leaves_all P s = record { each = λ x. (λ h. h, λ h. h) }
 
 pub leaves_nothing : (P Q : Pending → Type 0) (old now : List Pending) → ((x : Pending) → Q x → ⊥) → Leaves P Q old now → Adds P old now
 leaves_nothing P Q old now never h = record { each = λ x. (λ has. (h.each x).0 (inl has), λ given. elim ((h.each x).1 given) [ inl has ↦ has | inr left ↦ absurd (never x left) ]) }

@@ -1,6 +1,6 @@
 -- The list found for 4 is the least that breaks it: a delivery, its process's next change, and that of a process that
 -- goes along without the message.
-use Rattle.std.proofs.Common.{◌≡◌, ℕ, ◌+◌, ◌<◌, inl, inr, List, [], ◌∷◌, length, slice_get, Some, Bool, true, false, IsTrue, ◌↔◌, refl, arith}
+use Rattle.std.proofs.Common.{◌≡◌, ℕ, ◌+◌, ◌<◌, inl, inr, List, [], ◌∷◌, length, slice_get, Some, Bool, true, false, IsTrue, ◌↔◌, refl, sym, arith}
 use Rattle.std.specs.Bool.{OnTrue, OnFalse}
 use Rattle.totem_ids.specs.declared.ring.RingId.{RingId}
 use Rattle.totem_ids.specs.declared.conf.ConfId.{ConfId}
@@ -10,7 +10,7 @@ use Rattle.totem_ids.specs.declared.place.Place.{Place}
 use Rattle.totem_evs.specs.declared.entry.Entry.{Entry}
 use Rattle.totem_evs.specs.declared.entry.Entry.TheVariants.{Deliver}
 use Rattle.totem_evs.specs.declared.log.Log.{Log}
-use Rattle.totem_evs.specs.Events.{log_of, ChangesTo, Delivers}
+use Rattle.totem_evs.specs.Events.{log_of, ChangesTo, IsChange, Delivers}
 use Rattle.totem_evs.specs.Following.{IsNextChange, Follows, Com, DeliversIn}
 use Rattle.totem_evs.specs.RingAgreement.{AtomicityIn}
 use Rattle.totem_evs.specs.RingFaults.{BreaksAtomicityIn}
@@ -20,7 +20,7 @@ use Rattle.totem_evs.proofs.LogOf.{less_or_not}
 use Rattle.totem_table.specs.Search.{place, NoneFrom, IsLeastFrom, HoldsOfNone}
 use Rattle.totem_run_rules.proofs.Staying.{same_change, change_within}
 use Rattle.totem_evs.proofs.NextChanges.{one_next}
-use Rattle.totem_pass_d.proofs.OneEvent.{event_at}
+use Rattle.totem_pass_d.proofs.OneEvent.{no_event, only_event}
 use Rattle.totem_pass_d.specs.declared.stay.Stay.{Stay}
 use Rattle.totem_run_rules.specs.Stays.{IsStay}
 use Rattle.totem_pass_d.specs.Acts.{IsAmong, DeliversNot}
@@ -28,42 +28,23 @@ use Rattle.totem_pass_d.specs.Search.{IsInside, EachBeginsWithin, BeginsWithin, 
 use Rattle.totem_pass_d.specs.Partings.{IsAnywhere, IsSpan, IsNoChange, NeverDelivers, IsPartner}
 use Rattle.totem_configuration_rules.proofs.Together.{follows_too}
 use Rattle.totem_run_rules.proofs.SentOrNot.{same_conf_or_not}
-use Rattle.totem_pass_d.proofs.Deciding.{below_or_not, delivery_or_not}
+use Rattle.totem_pass_d.proofs.Deciding.{delivery_or_not}
 use Rattle.totem_pass_d.proofs.Facts.{Facts}
-use Rattle.totem_pass_d.proofs.Rests.{nothing_here, only_here, begins_at}
+use Rattle.totem_pass_d.proofs.Rests.{nothing_here, begins_at}
 
--- the next change after the one to c, and after the one to what follows it
-pub next_of_from : (log : List Entry) (c : RingId) (from turn end k : ℕ) → IsStay log c from turn end → IsNextChange log from k → k ≡ turn
-next_of_from log c from turn end k is next = elim (below_or_not turn (length log)) [
-  | inl lt ↦ one_next log from k turn next (is.next lt).1
-  | inr past ↦ (
-      let change = next.change in
-      let within = change_within log k change.0 change.1 in
-      let later = next.later in
-      let until = is.until in
-      elim (less_or_not k turn) [
-        | inl before ↦ is.changes k later (omega arith) change
-        | inr more ↦ elim more [ inl after ↦ absurd (past (omega arith)) | inr same ↦ same ]
-      ]
-      )
+-- the next change after i, if there is none between i and j, and the one at j comes next
+next_at : (log : List Entry) (i j k : ℕ) → (j < length log → IsNextChange log i j) → ((m : ℕ) → i < m → m < j → IsChange log m → ⊥) → IsNextChange log i k → k ≡ j
+next_at log i j k next none is = elim (less_or_not j k) [
+  | inl lt ↦ one_next log i k j is (next (omega (arith, change_within log k is.change.0 is.change.1)))
+  | inr rest ↦ elim rest [ inl before ↦ absurd (none k is.later before is.change) | inr same ↦ sym same ]
 ]
 
-pub next_of_turn : (log : List Entry) (c : RingId) (from turn end k : ℕ) → IsStay log c from turn end → turn < end → IsNextChange log turn k → k ≡ end
-next_of_turn log c from turn end k is lt next =
-    let change = next.change in
-    let within = change_within log k change.0 change.1 in
-    let later = next.later in
-    let before = is.before in
-    elim (below_or_not k end) [
-      | inl inside ↦ (let same = is.changes k (omega arith) inside change in absurd (omega arith))
-      | inr past ↦ elim (below_or_not end (length log)) [
-        | inl goes_on ↦ one_next log turn k end next (is.last lt goes_on)
-        | inr stops ↦ elim (less_or_not k end) [
-          | inl inside ↦ absurd (past inside)
-          | inr more ↦ absurd (stops (elim more [ inl over ↦ omega arith | inr same ↦ omega arith ]))
-        ]
-      ]
-    ]
+-- the next change after the one to c, and after the one to what follows it
+next_of_from : (log : List Entry) (c : RingId) (from turn end k : ℕ) → IsStay log c from turn end → IsNextChange log from k → k ≡ turn
+next_of_from log c from turn end k is next = next_at log from turn k (λ lt. (is.next lt).1) (λ m after until change. let same = is.changes m after (omega (arith, is.until)) change in omega arith) next
+
+next_of_turn : (log : List Entry) (c : RingId) (from turn end k : ℕ) → IsStay log c from turn end → turn < end → IsNextChange log turn k → k ≡ end
+next_of_turn log c from turn end k is lt next = next_at log turn end k (is.last lt) (λ m after until change. let same = is.changes m (omega (arith, is.before)) until change in omega arith) next
 
 -- the change to what follows c is at the turn
 pub turn_of : (run : List Log) (c : RingId) (stays : List Stay) (stay : Stay) (x : ConfId) → Facts run c stays → IsAmong stays stay → Follows (log_of run stay.proc) c x → ChangesTo (log_of run stay.proc) stay.turn x × (stay.turn < stay.end)
@@ -122,27 +103,22 @@ belongs run c stays stay (Transitional n l) ch nx facts among (is_ch, is_nx) cha
 -- a process that goes along without the message
 pub none_elsewhere : (run : List Log) (c : RingId) (stays : List Stay) (stay : Stay) (m : MsgId) (x d : ConfId) (ch nx : ℕ) → Facts run c stays → IsAmong stays stay → IsSpan x stay ch nx → (ChangesTo stay.log.now ch x → ⊥)
     → NoneWithin IsAnywhere (IsOneEvent (IsPartner run c m x d)) stay
-none_elsewhere run c stays stay m x d ch nx facts among span never = record {
-  none = λ i rest reached h. never (rw (facts.each stay among).log (changes_there run c stays stay x ch nx facts among span (event_at (IsPartner run c m x d) stay.proc i rest h).0));
-}
+none_elsewhere run c stays stay m x d ch nx facts among span never =
+    no_event IsAnywhere (IsPartner run c m x d) stay (λ i h. never (rw (facts.each stay among).log (changes_there run c stays stay x ch nx facts among span h.0)))
 
 pub none_next : (run : List Log) (c : RingId) (stays : List Stay) (stay : Stay) (m : MsgId) (x d : ConfId) (ch nx : ℕ) → Facts run c stays → IsAmong stays stay → IsSpan x stay ch nx → (ChangesTo stay.log.now nx d → ⊥)
     → NoneWithin IsAnywhere (IsOneEvent (IsPartner run c m x d)) stay
-none_next run c stays stay m x d ch nx facts among span never = record { none = λ i rest reached h. go i (event_at (IsPartner run c m x d) stay.proc i rest h) }
-  where
-    go : (i : ℕ) → IsPartner run c m x d stay.proc i → ⊥
-    go i (com', goes, lacks) =
-        let same = goes_next run c stays stay x d ch nx i facts among span com' goes in
-        never (rw ((facts.each stay among).log, ← same) goes.3)
+none_next run c stays stay m x d ch nx facts among span never = no_event IsAnywhere (IsPartner run c m x d) stay (λ i (inside, goes, lacks).
+    let same = goes_next run c stays stay x d ch nx i facts among span inside goes in
+    never (rw ((facts.each stay among).log, ← same) goes.3))
 
 pub partner_here : (run : List Log) (c : RingId) (stays : List Stay) (stay : Stay) (m : MsgId) (x d : ConfId) (ch nx : ℕ) (places : List Place) → Facts run c stays → IsAmong stays stay → IsSpan x stay ch nx
     → ChangesTo stay.log.now ch x → ChangesTo stay.log.now nx d → NeverDelivers (log_of run stay.proc) c m x → places ≡ place stay.proc nx ∷ [] → IsLeastWithin IsAnywhere (IsOneEvent (IsPartner run c m x d)) stay places
 partner_here run c stays stay m x d ch nx places facts among span at to lacks is =
     let log = (facts.each stay among).log in
     let inside = belongs run c stays stay x ch nx facts among span (rw log at at) in
-    only_here IsAnywhere (IsOneEvent (IsPartner run c m x d)) stay nx places
-    (nx, refl, (inside, goes_here run c stays stay x d ch nx facts among span inside (rw log at to), lacks.never inside))
-    (λ i rest h. goes_next run c stays stay x d ch nx i facts among span inside (event_at (IsPartner run c m x d) stay.proc i rest h).1) is
+    only_event IsAnywhere (IsPartner run c m x d) stay nx places (inside, goes_here run c stays stay x d ch nx facts among span inside (rw log at to), lacks.never inside)
+    (λ i h. goes_next run c stays stay x d ch nx i facts among span inside h.1) is
 
 pub next_is_short : (run : List Log) (c : RingId) (stays : List Stay) (stay : Stay) (d : ConfId) (nx : ℕ) → Facts run c stays → IsAmong stays stay → ChangesTo stay.log.now nx d → nx < 1000000
 next_is_short run c stays stay d nx facts among to =
@@ -195,72 +171,40 @@ partings_begin run c stays m x d facts = record { each = λ places h. go places 
     go (g ∷ []) (k, is, (inr f, goes, lacks)) = of_change g k f.from is f.first.change
     go (g ∷ h ∷ rest) b = absurd b
 
--- the whole list
-record IsPartedFrom (run : List Log) (c : RingId) (p i : ℕ) (rest : List Place) : Type 0 where
-  pub next : ℕ
-  pub other : ℕ
-  pub along : ℕ
-  pub is : rest ≡ place p next ∷ place other along ∷ []
-  pub conf : ConfId
-  pub inside : Com (log_of run p) c conf
-  pub message : MsgId
-  pub to : ConfId
-  pub delivers : Delivers (log_of run p) i message conf
-  pub goes : GoesAt (log_of run p) conf to next
-  pub partner : GoesAt (log_of run other) conf to along
-  pub lacks : (l : ℕ) → Delivers (log_of run other) l message conf → ⊥
-
-parted_at : (run : List Log) (c : RingId) (p i : ℕ) (rest : List Place) → BreaksAtomicityIn run c (place p i ∷ rest) → IsPartedFrom run c p i rest
-parted_at run c p i [] h = absurd h
-parted_at run c p i (f ∷ []) h = absurd h
-parted_at run c p i (f ∷ g ∷ []) (a, is, (j, is_f, (k, is_g, (same, (x, inside, (m, d, delivers, goes, partner, lacks)))))) = record {
-  next = j;
-  other = g.proc;
-  along = k;
-  is = rw (same, ← is_f, ← is_g) refl;
-  conf = x;
-  inside = inside;
-  message = m;
-  to = d;
-  delivers = (let at : a ≡ i = omega arith in rw at at delivers);
-  goes = goes;
-  partner = partner;
-  lacks = lacks;
-}
-parted_at run c p i (f ∷ g ∷ h ∷ rest) b = absurd b
-
--- the message, the configuration and the next change belong to the delivery
-record IsPartedBy (run : List Log) (c : RingId) (m : MsgId) (x : ConfId) (p nx : ℕ) (rest : List Place) : Type 0 where
+-- what starts with this delivery and breaks 4 goes on with its process's next change, and with that of a partner
+record IsParted (run : List Log) (c : RingId) (m : MsgId) (x : ConfId) (p nx : ℕ) (rest : List Place) : Type 0 where
   pub to : ConfId
   pub change : ChangesTo (log_of run p) nx to
-  pub other : ℕ
-  pub along : ℕ
-  pub is : rest ≡ place p nx ∷ place other along ∷ []
-  pub partner : IsPartner run c m x to other along
+  pub last : Place
+  pub is : rest ≡ place p nx ∷ last ∷ []
+  pub partner : IsOneEvent (IsPartner run c m x to) (last ∷ [])
 
-parted_by : (run : List Log) (c : RingId) (stays : List Stay) (stay : Stay) (m : MsgId) (x : ConfId) (ch nx i : ℕ) (rest : List Place) → Facts run c stays → IsAmong stays stay → IsSpan x stay ch nx → slice_get (log_of run stay.proc) i ≡ Some (Deliver m x)
-    → IsPartedFrom run c stay.proc i rest → IsPartedBy run c m x stay.proc nx rest
-parted_by run c stays stay m x ch nx i rest facts among span at parted =
-    let delivers : slice_get (log_of run stay.proc) i ≡ Some (Deliver parted.message parted.conf) = parted.delivers in
-    let message : parted.message ≡ m = cc in
-    let conf : parted.conf ≡ x = cc in
-    let inside : Com (log_of run stay.proc) c x = rw conf at parted.inside in
-    let goes : GoesAt (log_of run stay.proc) x parted.to parted.next = rw conf at parted.goes in
-    let partner : GoesAt (log_of run parted.other) x parted.to parted.along = rw conf at parted.partner in
-    let same = goes_next run c stays stay x parted.to ch nx parted.next facts among span inside goes in
+parted : (run : List Log) (c : RingId) (stays : List Stay) (stay : Stay) (m : MsgId) (x : ConfId) (ch nx i : ℕ) (rest : List Place) → Facts run c stays → IsAmong stays stay → IsSpan x stay ch nx → slice_get (log_of run stay.proc) i ≡ Some (Deliver m x)
+    → BreaksAtomicityIn run c (place stay.proc i ∷ rest) → IsParted run c m x stay.proc nx rest
+parted run c stays stay m x ch nx i [] facts among span at h = absurd h
+parted run c stays stay m x ch nx i (f ∷ []) facts among span at h = absurd h
+parted run c stays stay m x ch nx i (f ∷ g ∷ []) facts among span at (a, is, (j, is_f, (k, is_g, (same, (y, inside_y, (o, d, delivers, goes_y, partner_y, lacks)))))) =
+    let start : a ≡ i = omega arith in
+    let there : slice_get (log_of run stay.proc) i ≡ Some (Deliver o y) = rw start at delivers in
+    let message : o ≡ m = cc in
+    let conf : y ≡ x = cc in
+    let inside : Com (log_of run stay.proc) c x = rw conf at inside_y in
+    let goes : GoesAt (log_of run stay.proc) x d j = rw conf at goes_y in
+    let partner : GoesAt (log_of run g.proc) x d k = rw conf at partner_y in
+    let next = goes_next run c stays stay x d ch nx j facts among span inside goes in
     record {
-      to = parted.to;
-      change = rw same at goes.3;
-      other = parted.other;
-      along = parted.along;
-      is = rw (← same) parted.is;
-      partner = (goes_along run c stays stay.proc parted.other parted.along x parted.to facts inside partner, partner, rw (message, conf) at parted.lacks);
+      to = d;
+      change = rw next at goes.3;
+      last = g;
+      is = rw (same, ← next, ← is_f) refl;
+      partner = (k, is_g, (goes_along run c stays stay.proc g.proc k x d facts inside partner, partner, rw (message, conf) at lacks));
     }
+parted run c stays stay m x ch nx i (f ∷ g ∷ h ∷ rest) facts among span at b = absurd b
 
 pub none_at_end : (run : List Log) (c : RingId) (stays : List Stay) (stay : Stay) (m : MsgId) (x : ConfId) (ch nx i : ℕ) → Facts run c stays → IsAmong stays stay → IsSpan x stay ch nx → slice_get (log_of run stay.proc) i ≡ Some (Deliver m x)
     → IsNoChange stay.log.now nx → NoneFrom (BreaksAtomicityIn run c) stay.proc i
 none_at_end run c stays stay m x ch nx i facts among span at no_change = nothing_here (BreaksAtomicityIn run c) stay.proc i (λ rest h.
-    let by = parted_by run c stays stay m x ch nx i rest facts among span at (parted_at run c stay.proc i rest h) in
+    let by = parted run c stays stay m x ch nx i rest facts among span at h in
     no_change.none (by.to, read by.to by.change))
   where
     read : (d : ConfId) → ChangesTo (log_of run stay.proc) nx d → ChangesTo stay.log.now nx d
@@ -269,16 +213,16 @@ none_at_end run c stays stay m x ch nx i facts among span at no_change = nothing
 pub none_along : (run : List Log) (c : RingId) (stays : List Stay) (stay : Stay) (m : MsgId) (x d : ConfId) (ch nx i : ℕ) → Facts run c stays → IsAmong stays stay → IsSpan x stay ch nx → slice_get (log_of run stay.proc) i ≡ Some (Deliver m x)
     → ChangesTo stay.log.now nx d → HoldsOfNone (IsOneEvent (IsPartner run c m x d)) → NoneFrom (BreaksAtomicityIn run c) stay.proc i
 none_along run c stays stay m x d ch nx i facts among span at to none = nothing_here (BreaksAtomicityIn run c) stay.proc i (λ rest h.
-    let by = parted_by run c stays stay m x ch nx i rest facts among span at (parted_at run c stay.proc i rest h) in
+    let by = parted run c stays stay m x ch nx i rest facts among span at h in
     let same = same_change (log_of run stay.proc) nx nx by.to d refl by.change (rw (facts.each stay among).log at to) in
-    none.none (place by.other by.along ∷ []) (by.along, refl, rw same at by.partner))
+    none.none (by.last ∷ []) (rw same at by.partner))
 
 pub least_along : (run : List Log) (c : RingId) (stays : List Stay) (stay : Stay) (m : MsgId) (x d : ConfId) (ch nx i : ℕ) (list : List Place) → Facts run c stays → IsAmong stays stay → IsSpan x stay ch nx → IsInside stay i
     → slice_get (log_of run stay.proc) i ≡ Some (Deliver m x) → ChangesTo stay.log.now nx d → IsLeast (IsOneEvent (IsPartner run c m x d)) list → IsLeastFrom (BreaksAtomicityIn run c) stay.proc i (place stay.proc nx ∷ list)
 least_along run c stays stay m x d ch nx i list facts among span inside at to least = record {
   least = record {
     holds = holds list least.holds;
-    first = λ others h. first others (parted_by run c stays stay m x ch nx i others facts among span at (parted_at run c stay.proc i others h));
+    first = λ others h. first others (parted run c stays stay m x ch nx i others facts among span at h);
   };
 }
   where
@@ -294,10 +238,10 @@ least_along run c stays stay m x d ch nx i list facts among span inside at to le
         (i, refl, (nx, refl, (k, is, (refl, (x, stands, (m, d, at, goes_here run c stays stay x d ch nx facts among span stands there, goes, lacks))))))
     holds (g ∷ h ∷ rest) b = absurd b
 
-    first : (others : List Place) → IsPartedBy run c m x stay.proc nx others → ComesFirst (place stay.proc nx ∷ list) others
+    first : (others : List Place) → IsParted run c m x stay.proc nx others → ComesFirst (place stay.proc nx ∷ list) others
     first others by =
         let same = same_change (log_of run stay.proc) nx nx by.to d refl by.change there in
-        rw by.is (inr (refl, least.first (place by.other by.along ∷ []) (by.along, refl, rw same at by.partner)))
+        rw by.is (inr (refl, least.first (by.last ∷ []) (rw same at by.partner)))
 
 pub deliveries_begin : (run : List Log) (c : RingId) (stays : List Stay) → Facts run c stays → EachBeginsWithin stays IsInside (BreaksAtomicityIn run c)
 deliveries_begin run c stays facts = record { each = λ places h. go places h }

@@ -12,7 +12,8 @@ use Rattle.totem_evs.specs.Runs.{IsRun, IsLog}
 use Rattle.totem_evs.specs.Events.{ChangesTo, IsQuiet, log_of, ending_of}
 use Rattle.totem_evs.specs.Following.{NeverFails}
 use Rattle.totem_evs.specs.Answers.{MeetsPasses}
-use Rattle.totem_evs.proofs.LogOf.{log_of_at, log_of_cases, in_order, less_or_not}
+use Rattle.totem_evs.proofs.LogOf.{log_of_at, log_of_cases, in_order}
+use Rattle.totem_configuration_rules.proofs.Rowing.{before_or_at}
 use Rattle.totem_table.specs.declared.keys.Change.{Change}
 use Rattle.totem_table.proofs.Exact.{change_by}
 use Rattle.totem_pass_d.specs.declared.stay.Stay.{Stay}
@@ -38,13 +39,6 @@ pub record AreOfFirst (run : List Log) (c : RingId) (n : ℕ) (stays : List Stay
   pub rising : (j k : ℕ) (s t : Stay) → slice_get stays j ≡ Some s → slice_get stays k ≡ Some t → j < k → s.proc < t.proc
   pub whole : (k i : ℕ) (log : Log) → k < n → slice_get run k ≡ Some log → ChangesTo log.entries i (Regular c) → HasStay stays log.proc
 
-pub none_yet : (run : List Log) (c : RingId) → AreOfFirst run c 0 []
-none_yet run c = record {
-  each = λ k stay at. absurd (nothing k stay at);
-  rising = λ j k s t at_j at_k lt. absurd (nothing j s at_j);
-  whole = λ k i log lt at change. absurd (omega arith);
-}
-
 -- the next log
 module _ (run : List Log) (c : RingId) (n : ℕ) (log : Log) (is_run : IsRun run) (at_n : slice_get run n ≡ Some log) where
   own : log_of run log.proc ≡ log.entries
@@ -67,9 +61,9 @@ module _ (run : List Log) (c : RingId) (n : ℕ) (log : Log) (is_run : IsRun run
   no_more by_ring by_change rings indices stays holds none before = record {
     each = λ k s at. wider (before.each k s at);
     rising = before.rising;
-    whole = λ k i other lt at change. elim (less_or_not k n) [
+    whole = λ k i other lt at change. elim (before_or_at k n lt) [
       | inl under ↦ before.whole k i other under at change
-      | inr rest ↦ elim rest [ inl over ↦ absurd (omega arith) | inr same ↦ absurd (never i (rw (same_log k other same at) at change)) ]
+      | inr same ↦ absurd (never i (rw (same_log k other same at) at change))
     ];
   }
     where
@@ -94,12 +88,9 @@ module _ (run : List Log) (c : RingId) (n : ℕ) (log : Log) (is_run : IsRun run
         | inr (also, _) ↦ absurd (omega arith)
       ]
     ];
-    whole = λ k i other lt at change. elim (less_or_not k n) [
+    whole = λ k i other lt at change. elim (before_or_at k n lt) [
       | inl under ↦ (let h = before.whole k i other under at change in record { at = h.at; stay = h.stay; stands = stands_before stays s h.at h.stay h.stands; proc = h.proc })
-      | inr rest ↦ elim rest [
-        | inl over ↦ absurd (omega arith)
-        | inr same ↦ record { at = length stays; stay = s; stands = stands_last stays s; proc = proc ∙ ap (λ (l : Log). l.proc) (sym (same_log k other same at)) }
-      ]
+      | inr same ↦ record { at = length stays; stay = s; stands = stands_last stays s; proc = proc ∙ ap (λ (l : Log). l.proc) (sym (same_log k other same at)) }
     ];
   }
     where

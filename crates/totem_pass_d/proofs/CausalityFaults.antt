@@ -1,6 +1,6 @@
 -- The list found for 5 is the least that breaks it: a cause, its effect, and a delivery of the effect without the cause
 -- before it.
-use Rattle.std.proofs.Common.{◌≡◌, ℕ, ◌<◌, ◌≤◌, inl, inr, List, [], ◌∷◌, slice_get, Some, Bool, true, false, IsTrue, ◌↔◌, refl, sym, arith, rules, nat_lt}
+use Rattle.std.proofs.Common.{◌≡◌, ℕ, ◌<◌, ◌≤◌, inl, inr, List, [], ◌∷◌, slice_get, Some, Bool, false, IsTrue, ◌↔◌, refl, sym, arith, rules, nat_lt}
 use Rattle.totem_ids.specs.declared.ring.RingId.{RingId}
 use Rattle.totem_ids.specs.declared.conf.ConfId.{ConfId}
 use Rattle.totem_ids.specs.declared.conf.ConfId.TheVariants.{Regular}
@@ -17,7 +17,7 @@ use Rattle.totem_evs.specs.RingAgreement.{IsHop, CausalityIn}
 use Rattle.totem_evs.specs.RingFaults.{BreaksCausalityIn}
 use Rattle.totem_evs.specs.Answers.{IsLeast}
 use Rattle.totem_table.specs.Search.{place, NoneFrom, IsLeastFrom, HoldsOfNone}
-use Rattle.totem_pass_d.proofs.OneEvent.{event_at, begins_inside}
+use Rattle.totem_pass_d.proofs.OneEvent.{no_event, only_event, begins_inside}
 use Rattle.totem_pass_d.specs.declared.stay.Stay.{Stay}
 use Rattle.totem_pass_d.specs.Acts.{IsAmong, DeliversNot}
 use Rattle.totem_pass_d.specs.Search.{IsInside, EachBeginsWithin, NoneWithin, IsLeastWithin, BeginsWithin, IsOneEvent}
@@ -25,27 +25,24 @@ use Rattle.totem_pass_d.specs.Causality.{IsSurprise, IsEffect}
 use Rattle.totem_pass_d.proofs.Deciding.{both_or_not, below_or_not, delivery_or_not}
 use Rattle.totem_run_rules.proofs.SentOrNot.{in_or_not}
 use Rattle.totem_pass_d.proofs.Facts.{Facts}
-use Rattle.totem_pass_d.proofs.Rests.{none_rest, least_rest, nothing_here, only_here, sends_there, there_sends, index_of, begins_at}
+use Rattle.totem_pass_d.proofs.Rests.{none_rest, least_rest, nothing_here, sends_there, there_sends, index_of, begins_at}
 
 -- one delivery of a message in c and in what follows it
 pub one_delivery_in : (run : List Log) (c : RingId) (stays : List Stay) (p i j : ℕ) (m : MsgId) → Facts run c stays → DeliversIn (log_of run p) c m i → DeliversIn (log_of run p) c m j → i ≡ j
 one_delivery_in run c stays p i j m facts (x, at_i, _) (y, at_j, _) = facts.meets.once.one_delivery p i j m x y at_i at_j
 
 pub none_undelivered : (run : List Log) (c : RingId) (stay : Stay) (m n : MsgId) → DeliversNot (log_of run stay.proc) c n → NoneWithin IsInside (IsOneEvent (IsSurprise run c m n)) stay
-none_undelivered run c stay m n never = record { none = λ i rest inside h. never.never (i, (event_at (IsSurprise run c m n) stay.proc i rest h).0) }
+none_undelivered run c stay m n never = no_event IsInside (IsSurprise run c m n) stay (λ i (delivers, none). never.never (i, delivers))
 
 pub none_caused : (run : List Log) (c : RingId) (stays : List Stay) (stay : Stay) (m n : MsgId) (k l : ℕ) → Facts run c stays → DeliversIn (log_of run stay.proc) c n k → DeliversIn (log_of run stay.proc) c m l → l < k
     → NoneWithin IsInside (IsOneEvent (IsSurprise run c m n)) stay
-none_caused run c stays stay m n k l facts effect cause lt = record { none = λ i rest inside h. never i (event_at (IsSurprise run c m n) stay.proc i rest h) }
-  where
-    never : (i : ℕ) → IsSurprise run c m n stay.proc i → ⊥
-    never i (delivers, none) = none l (rw (one_delivery_in run c stays stay.proc i k n facts delivers effect) lt) cause
+none_caused run c stays stay m n k l facts effect cause lt =
+    no_event IsInside (IsSurprise run c m n) stay (λ i (delivers, none). none l (rw (one_delivery_in run c stays stay.proc i k n facts delivers effect) lt) cause)
 
 pub surprise_here : (run : List Log) (c : RingId) (stays : List Stay) (stay : Stay) (m n : MsgId) (k : ℕ) (places : List Place) → Facts run c stays → DeliversIn (log_of run stay.proc) c n k
     → ((l : ℕ) → l < k → DeliversIn (log_of run stay.proc) c m l → ⊥) → places ≡ place stay.proc k ∷ [] → IsLeastWithin IsInside (IsOneEvent (IsSurprise run c m n)) stay places
 surprise_here run c stays stay m n k places facts delivers none is =
-    only_here IsInside (IsOneEvent (IsSurprise run c m n)) stay k places (k, refl, (delivers, none))
-    (λ i rest h. one_delivery_in run c stays stay.proc i k n facts (event_at (IsSurprise run c m n) stay.proc i rest h).0 delivers) is
+    only_event IsInside (IsSurprise run c m n) stay k places (delivers, none) (λ i h. one_delivery_in run c stays stay.proc i k n facts h.0 delivers) is
 
 pub not_before : (run : List Log) (c : RingId) (stays : List Stay) (stay : Stay) (m : MsgId) (k l : ℕ) → Facts run c stays → DeliversIn (log_of run stay.proc) c m l → k ≤ l
     → (i : ℕ) → i < k → DeliversIn (log_of run stay.proc) c m i → ⊥
@@ -53,13 +50,6 @@ not_before run c stays stay m k l facts cause le i lt delivers = let same = one_
 
 pub surprises_begin : (run : List Log) (c : RingId) (stays : List Stay) (m n : MsgId) → Facts run c stays → EachBeginsWithin stays IsInside (IsOneEvent (IsSurprise run c m n))
 surprises_begin run c stays m n facts = begins_inside (IsSurprise run c m n) stays (record { each = λ p k ((x, at, belongs), none). facts.inside p k x (Deliver n x, at, refl) belongs })
-
--- one hop from a cause to its effect
-same_proc : (run : List Log) (c : RingId) (m : MsgId) (p i q j : ℕ) → (q ≡ p) → i < j → IsHop run c m (place p i) (place q j)
-same_proc run c m p i q j same lt = inl (sym same, omega arith)
-
-pub hop_in_log : (run : List Log) (c : RingId) (m : MsgId) (p i q j : ℕ) → (q ≡ p) → i < j → IsTrue true ↔ IsHop run c m (place p i) (place q j)
-hop_in_log run c m p i q j same lt = (λ t. same_proc run c m p i q j same lt, λ h. refl)
 
 pub no_hop : (run : List Log) (c : RingId) (stay : Stay) (m : MsgId) (p i j : ℕ) → ((stay.proc ≡ p) × (i < j) → ⊥) → DeliversNot (log_of run stay.proc) c m → IsTrue false ↔ IsHop run c m (place p i) (place stay.proc j)
 no_hop run c stay m p i j apart never = (λ t. absurd cc, λ h. absurd (go h))
@@ -101,9 +91,6 @@ pub none_unsent : (run : List Log) (c : RingId) (m : MsgId) (e : Place) (q j : �
 none_unsent run c m e q j entry at other = nothing_here (IsEffect run c m e) q j (λ rest (n, send, hop, one). let sends = sends_there run q j n (Regular c) send in
     let there : slice_get (log_of run q) j ≡ Some (Send n (Regular c) sends.0) = sends.1 in other n (Regular c) sends.0 cc)
 
-pub none_apart : (run : List Log) (c : RingId) (m n : MsgId) (x : ConfId) (s : Service) (e : Place) (q j : ℕ) → slice_get (log_of run q) j ≡ Some (Send n x s) → (IsHop run c m e (place q j) → ⊥) → NoneFrom (IsEffect run c m e) q j
-none_apart run c m n x s e q j at never = nothing_here (IsEffect run c m e) q j (λ rest h. never (effect_at run c m n x s e q j rest at h).0)
-
 pub none_surprised : (run : List Log) (c : RingId) (m n : MsgId) (x : ConfId) (s : Service) (e : Place) (q j : ℕ) → slice_get (log_of run q) j ≡ Some (Send n x s) → HoldsOfNone (IsOneEvent (IsSurprise run c m n)) → NoneFrom (IsEffect run c m e) q j
 none_surprised run c m n x s e q j at none = none_rest (IsOneEvent (IsSurprise run c m n)) (IsEffect run c m e) q j (λ rest h. (effect_at run c m n x s e q j rest at h).1) none
 
@@ -143,11 +130,6 @@ sent_first run c e [] h = absurd h
 sent_first run c e (f ∷ []) h = absurd h
 sent_first run c e (f ∷ g ∷ []) (k, is, (m, n, send, effect, hop, delivers, none)) = (m, send)
 sent_first run c e (f ∷ g ∷ h ∷ more) b = absurd b
-
-pub none_without_cause : (run : List Log) (c : RingId) (p i : ℕ) (entry : Entry) → slice_get (log_of run p) i ≡ Some entry → ((m : MsgId) (x : ConfId) (s : Service) → entry ≡ Send m x s → ⊥) → NoneFrom (BreaksCausalityIn run c) p i
-none_without_cause run c p i entry at other = nothing_here (BreaksCausalityIn run c) p i (λ rest h. let first = sent_first run c (place p i) rest h in
-    let sends = sends_there run p i first.0 (Regular c) first.1 in
-    let there : slice_get (log_of run p) i ≡ Some (Send first.0 (Regular c) sends.0) = sends.1 in other first.0 (Regular c) sends.0 cc)
 
 pub none_without_effect : (run : List Log) (c : RingId) (m : MsgId) (x : ConfId) (s : Service) (p i : ℕ) → slice_get (log_of run p) i ≡ Some (Send m x s) → HoldsOfNone (IsEffect run c m (place p i)) → NoneFrom (BreaksCausalityIn run c) p i
 none_without_effect run c m x s p i at none = none_rest (IsEffect run c m (place p i)) (BreaksCausalityIn run c) p i (λ rest h. cause_at run c m x s p i rest at h) none

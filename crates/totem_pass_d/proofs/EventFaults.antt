@@ -1,5 +1,5 @@
 -- What breaks 3, 7.1 and 7.2 in one regular configuration, event by event.
-use Rattle.std.proofs.Common.{◌≡◌, ℕ, ◌<◌, ◌≤◌, ◌⊎◌, inl, inr, List, length, get_or, slice_get, Some, Bool, true, false, not, refl, sym, arith}
+use Rattle.std.proofs.Common.{◌≡◌, ℕ, ◌<◌, ◌≤◌, ◌⊎◌, inl, inr, List, length, get_or, slice_get, Some, Bool, true, false, not, IsTrue, ◌↔◌, refl, sym, arith}
 use Rattle.std.specs.Prelude.{All}
 use Rattle.std.specs.Bool.{MatchBool, OnTrue, OnFalse}
 use Rattle.std.specs.List.{AllWithin, HoldsAt}
@@ -16,27 +16,31 @@ use Rattle.totem_evs.specs.declared.entry.Entry.TheVariants.{Send, Deliver, Fail
 use Rattle.totem_evs.specs.declared.log.Log.{Log}
 use Rattle.totem_evs.specs.Events.{ChangesTo, Delivers, log_of}
 use Rattle.totem_evs.specs.Changes.{Names}
-use Rattle.totem_evs.specs.Following.{Com, DeliversIn, DeliversOrEnds}
+use Rattle.totem_evs.specs.Following.{Com, DeliversIn, HasDelivered, DeliversOrEnds}
 use Rattle.totem_evs.specs.AgreementFaults.{IsNotOwned, IsNotReached, IsNotInstalled}
-use Rattle.totem_evs.specs.RingAgreement.{OwnDeliveryIn, SafetyIn, InstalledIn}
-use Rattle.totem_evs.specs.RingFaults.{BreaksOwnDeliveryIn, BreaksSafetyIn, BreaksInstalledIn}
+use Rattle.totem_evs.specs.declared.spec.SpecNo.TheVariants as spec
 use Rattle.totem_evs.specs.Answers.{MeetsPasses}
-use Rattle.totem_evs.proofs.LogOf.{less_or_not}
+use Rattle.totem_configuration_rules.proofs.Rowing.{before_or_at}
 use Rattle.totem_pass_d.specs.declared.stay.Stay.{Stay}
 use Rattle.totem_pass_d.specs.Stays.{IsExcused, IsStayOf}
 use Rattle.totem_pass_d.specs.Acts.{HasCome, NeverComes, DeliversNot}
-use Rattle.totem_pass_d.specs.Search.{IsInside, EachStandsInside}
+use Rattle.totem_pass_d.specs.Search.{IsInside, IsBrokenAlone}
 use Rattle.totem_pass_d.specs.Reached.{IsSafeIn, AreMembersAt, HoldsNotOfAll}
 use Rattle.totem_pass_d.proofs.Deciding.{both_or_not, changes_or_not, has_delivered_or_not}
 use Rattle.totem_pass_d.proofs.Excusing.{excused, not_excused}
 use Rattle.totem_pass_d.proofs.Facts.{Facts, StayFacts, at_turn_no_name}
-use Rattle.totem_pass_d.proofs.OneEvent.{IsOfOne}
 use Rattle.totem_pass_d.proofs.Reaching.{is_among_members, is_member, safe_in}
 
 -- a process that has changed to c, is not excused and has not delivered m has missed it
 pub missed : (run : List Log) (c : RingId) (stay : Stay) (m : MsgId) → IsStayOf run c stay → (IsExcused stay → ⊥) → DeliversNot (log_of run stay.proc) c m → DeliversOrEnds run stay.proc c m → ⊥
 missed run c stay m is other not (inl delivered) = not.never delivered
 missed run c stay m is other not (inr ends) = not_excused run c stay is other ends
+
+-- one that is not excused delivers m or has missed it
+pub reached : (run : List Log) (c : RingId) (stay : Stay) (m : MsgId) (b : Bool) → IsStayOf run c stay → (IsExcused stay → ⊥) → OnTrue b (HasDelivered (log_of run stay.proc) c m) → OnFalse b (DeliversNot (log_of run stay.proc) c m)
+    → IsTrue b ↔ DeliversOrEnds run stay.proc c m
+reached run c stay m true is other there never = (λ t. inl there, λ h. refl)
+reached run c stay m false is other there never = (λ t. absurd cc, λ h. absurd (missed run c stay m is other never h))
 
 -- so has a process that never changed to c
 pub absent : (run : List Log) (c : RingId) (q : ℕ) (m : MsgId) → MeetsPasses run → NeverComes run c q → DeliversOrEnds run q c m → ⊥
@@ -97,15 +101,13 @@ same_delivery : (log : List Entry) (i : ℕ) (m n : MsgId) (x y : ConfId) → sl
 same_delivery log i m n x y at here = let entries : Some (Deliver n y) ≡ Some (Deliver m x) = cc in (cc, cc)
 
 -- 3
-pub owned_of_one : (run : List Log) (c : RingId) → IsOfOne (BreaksOwnDeliveryIn run c) (IsNotOwned run c)
-owned_of_one run c = record { empty = λ h. h; one = λ e h. h; is = λ e h. h; many = λ e f more h. h }
-
-pub owned_inside : (run : List Log) (c : RingId) (stays : List Stay) → Facts run c stays → EachStandsInside stays (IsNotOwned run c)
-owned_inside run c stays facts = record { each = λ p i (m, (v, at), never). facts.inside p i (Regular c) (Send m (Regular c) v, at, refl) (inl refl) }
-
-pub owned : (run : List Log) (c : RingId) (stays : List Stay) → Facts run c stays → ((p i : ℕ) → IsNotOwned run c p i → ⊥) → OwnDeliveryIn run c
-owned run c stays facts none = record {
-  each = λ p i m sends. elim (delivers_or_ends_or_not run c stays facts p m) [ inl ends ↦ ends | inr never ↦ absurd (none p i (m, sends, never)) ];
+pub owned_alone : (run : List Log) (c : RingId) (stays : List Stay) → Facts run c stays → IsBrokenAlone run c stays spec.OwnDelivery (IsNotOwned run c)
+owned_alone run c stays facts = record {
+  of = record { empty = λ h. h; one = λ e h. h; is = λ e h. h; many = λ e f more h. h };
+  inside = record { each = λ p i (m, (v, at), never). facts.inside p i (Regular c) (Send m (Regular c) v, at, refl) (inl refl) };
+  met = λ none. record {
+    each = λ p i m sends. elim (delivers_or_ends_or_not run c stays facts p m) [ inl ends ↦ ends | inr never ↦ absurd (none p i (m, sends, never)) ];
+  };
 }
 
 pub owned_no_send : (run : List Log) (c : RingId) (p i : ℕ) (e : Entry) → slice_get (log_of run p) i ≡ Some e → ((m : MsgId) (x : ConfId) (v : Service) → e ≡ Send m x v → ⊥) → IsNotOwned run c p i → ⊥
@@ -126,27 +128,22 @@ owned_never run c stay i m x v is inside at other not =
     (m, (v, rw regular at at), missed run c stay m is.of other not)
 
 -- 7.2
-pub installed_of_one : (run : List Log) (c : RingId) → IsOfOne (BreaksInstalledIn run c) (IsNotInstalled run c)
-installed_of_one run c = record { empty = λ h. h; one = λ e h. h; is = λ e h. h; many = λ e f more h. h }
-
-pub installed_inside : (run : List Log) (c : RingId) (stays : List Stay) → Facts run c stays → EachStandsInside stays (IsNotInstalled run c)
-installed_inside run c stays facts = record { each = λ p i (m, q, safe, at, member, never). facts.inside p i (Regular c) (Deliver m (Regular c), at, refl) (inl refl) }
-
-pub installed : (run : List Log) (c : RingId) → ((p i : ℕ) → IsNotInstalled run c p i → ⊥) → InstalledIn run c
-installed run c none = record {
-  each = λ m p i q safe at member. elim (changes_or_not (log_of run q) (Regular c)) [ inl there ↦ there | inr never ↦ absurd (none p i (m, q, safe, at, member, never)) ];
+pub installed_alone : (run : List Log) (c : RingId) (stays : List Stay) → Facts run c stays → IsBrokenAlone run c stays spec.Installed (IsNotInstalled run c)
+installed_alone run c stays facts = record {
+  of = record { empty = λ h. h; one = λ e h. h; is = λ e h. h; many = λ e f more h. h };
+  inside = record { each = λ p i (m, q, safe, at, member, never). facts.inside p i (Regular c) (Deliver m (Regular c), at, refl) (inl refl) };
+  met = λ none. record {
+    each = λ m p i q safe at member. elim (changes_or_not (log_of run q) (Regular c)) [ inl there ↦ there | inr never ↦ absurd (none p i (m, q, safe, at, member, never)) ];
+  };
 }
 
 pub installed_no_delivery : (run : List Log) (c : RingId) (p i : ℕ) (e : Entry) → slice_get (log_of run p) i ≡ Some e → ((m : MsgId) (x : ConfId) → e ≡ Deliver m x → ⊥) → IsNotInstalled run c p i → ⊥
 installed_no_delivery run c p i e at other (m, q, safe, delivers, member, never) = other m (Regular c) cc
 
 pub installed_late : (run : List Log) (c : RingId) (stay : Stay) (i : ℕ) → StayFacts run c stay → stay.turn ≤ i → i < stay.end → IsNotInstalled run c stay.proc i → ⊥
-installed_late run c stay i is late below (m, q, safe, delivers, member, never) = elim (less_or_not stay.turn i) [
+installed_late run c stay i is late below (m, q, safe, delivers, member, never) = elim (before_or_at stay.turn i (omega arith)) [
   | inl over ↦ (is.is.following i (Regular c) over below (Deliver m (Regular c), delivers, refl)).transitional
-  | inr rest ↦ elim rest [
-    | inl under ↦ omega arith
-    | inr same ↦ at_turn_no_name (log_of run stay.proc) c stay.from stay.turn stay.end i (Regular c) is.is (omega arith) (sym same) (Deliver m (Regular c), delivers, refl)
-  ]
+  | inr same ↦ at_turn_no_name (log_of run stay.proc) c stay.from stay.turn stay.end i (Regular c) is.is (omega arith) (sym same) (Deliver m (Regular c), delivers, refl)
 ]
 
 pub installed_unsafe : (run : List Log) (c : RingId) (p i : ℕ) (m : MsgId) (x : ConfId) → MeetsPasses run → slice_get (log_of run p) i ≡ Some (Deliver m x) → (IsSafeIn run c m → ⊥) → IsNotInstalled run c p i → ⊥
@@ -167,15 +164,13 @@ installed_not run c stay i m x members is lt below at safe are not_all =
     (m, not_all.member, (safe.proc, safe.index, Regular c, safe.sends), delivers, is_member run stay.proc i members (Regular c) not_all.member are (Deliver m (Regular c), delivers, refl) not_all.among, λ j change. not_all.never (j, change))
 
 -- 7.1
-pub safety_of_one : (run : List Log) (c : RingId) → IsOfOne (BreaksSafetyIn run c) (IsNotReached run c)
-safety_of_one run c = record { empty = λ h. h; one = λ e h. h; is = λ e h. h; many = λ e f more h. h }
-
-pub safety_inside : (run : List Log) (c : RingId) (stays : List Stay) → Facts run c stays → EachStandsInside stays (IsNotReached run c)
-safety_inside run c stays facts = record { each = λ p i (m, d, q, safe, at, inside, member, never). facts.inside p i d (Deliver m d, at, refl) inside }
-
-pub safety : (run : List Log) (c : RingId) (stays : List Stay) → Facts run c stays → ((p i : ℕ) → IsNotReached run c p i → ⊥) → SafetyIn run c
-safety run c stays facts none = record {
-  each = λ m p i d q safe at inside member. elim (delivers_or_ends_or_not run c stays facts q m) [ inl ends ↦ ends | inr never ↦ absurd (none p i (m, d, q, safe, at, inside, member, never)) ];
+pub safety_alone : (run : List Log) (c : RingId) (stays : List Stay) → Facts run c stays → IsBrokenAlone run c stays spec.Safety (IsNotReached run c)
+safety_alone run c stays facts = record {
+  of = record { empty = λ h. h; one = λ e h. h; is = λ e h. h; many = λ e f more h. h };
+  inside = record { each = λ p i (m, d, q, safe, at, inside, member, never). facts.inside p i d (Deliver m d, at, refl) inside };
+  met = λ none. record {
+    each = λ m p i d q safe at inside member. elim (delivers_or_ends_or_not run c stays facts q m) [ inl ends ↦ ends | inr never ↦ absurd (none p i (m, d, q, safe, at, inside, member, never)) ];
+  };
 }
 
 pub safety_no_delivery : (run : List Log) (c : RingId) (p i : ℕ) (e : Entry) → slice_get (log_of run p) i ≡ Some e → ((m : MsgId) (x : ConfId) → e ≡ Deliver m x → ⊥) → IsNotReached run c p i → ⊥

@@ -4,7 +4,7 @@ use Rattle.totem_ids.specs.declared.ring.RingId.{RingId}
 use Rattle.totem_evs.specs.declared.log.Log.{Log}
 use Rattle.totem_evs.specs.Events.{IsQuiet, log_of}
 use Rattle.totem_evs.specs.Following.{FailedIn, StaysIn, OpenIn}
-use Rattle.totem_evs.proofs.LogOf.{less_or_not}
+use Rattle.totem_configuration_rules.proofs.Rowing.{before_or_at}
 use Rattle.totem_pass_d.specs.declared.stay.Stay.{Stay}
 use Rattle.totem_pass_d.specs.Stays.{IsExcused, IsStayOf}
 
@@ -19,9 +19,9 @@ excused run c stay is e = go (rw is.log at (is.is.ends e.0))
     go (inr stays) = inr (loud, stays)
 
 pub not_excused : (run : List Log) (c : RingId) (stay : Stay) → IsStayOf run c stay → (IsExcused stay → ⊥) → FailedIn (log_of run stay.proc) c ⊎ OpenIn run stay.proc c → ⊥
-not_excused run c stay is never ends = elim (less_or_not stay.end (length stay.log.now)) [
+not_excused run c stay is never ends = elim (before_or_at stay.end (length stay.log.now) (omega (arith, is.is.within))) [
   | inl lt ↦ is.is.goes_on lt (rw is.log (here ends))
-  | inr rest ↦ elim rest [ inl gt ↦ omega (arith, is.is.within) | inr last ↦ at_end last stay.quiet refl ends ]
+  | inr last ↦ at_end last stay.quiet refl ends
 ]
   where
     here : FailedIn (log_of run stay.proc) c ⊎ OpenIn run stay.proc c → FailedIn (log_of run stay.proc) c ⊎ StaysIn (log_of run stay.proc) c

@@ -3,7 +3,7 @@ use Rattle.std.proofs.Common.{◌≡◌, ℕ, ◌+◌, ◌<◌, ◌≤◌, inl, 
 use Rattle.std.proofs.lemmas.Option.{slice_get_within}
 use Rattle.totem_ids.specs.declared.ring.RingId.{RingId}
 use Rattle.totem_evs.specs.declared.log.Log.{Log}
-use Rattle.totem_evs.proofs.LogOf.{less_or_not}
+use Rattle.totem_configuration_rules.proofs.Rowing.{before_or_at}
 use Rattle.totem_pass_d.specs.declared.stay.Stay.{Stay}
 use Rattle.totem_pass_d.specs.Stays.{AreStays}
 use Rattle.totem_pass_d.specs.Acts.{NeverComes}
@@ -14,9 +14,9 @@ pub record NotBefore (stays : List Stay) (p n : ℕ) : Type 0 where
 
 pub not_one_more : (stays : List Stay) (p n : ℕ) (s : Stay) → slice_get stays n ≡ Some s → (s.proc ≡ p → ⊥) → NotBefore stays p n → NotBefore stays p (n + 1)
 not_one_more stays p n s at other before = record {
-  none = λ k t lt at_k same. elim (less_or_not k n) [
+  none = λ k t lt at_k same. elim (before_or_at k n lt) [
     | inl under ↦ before.none k t under at_k same
-    | inr rest ↦ elim rest [ inl over ↦ omega arith | inr here ↦ (let one : s ≡ t = (let h : slice_get stays n ≡ Some t = rw here at at_k in cc) in other (rw one same)) ]
+    | inr here ↦ (let one : s ≡ t = (let h : slice_get stays n ≡ Some t = rw here at at_k in cc) in other (rw one same))
   ];
 }
 

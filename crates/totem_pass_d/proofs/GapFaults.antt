@@ -1,6 +1,6 @@
 -- The list found for 6.3 is the least that breaks it: an earlier message, a later one, and a process that delivers only
 -- the later one.
-use Rattle.std.proofs.Common.{◌≡◌, ℕ, ◌<◌, ◌≤◌, inl, inr, List, [], ◌∷◌, slice_get, Some, Bool, true, false, IsTrue, ◌↔◌, refl, arith}
+use Rattle.std.proofs.Common.{◌≡◌, ℕ, ◌<◌, inl, inr, List, [], ◌∷◌, slice_get, Some, Bool, true, false, IsTrue, ◌↔◌, refl, arith}
 use Rattle.std.specs.Prelude.{Contains}
 use Rattle.totem_ids.specs.declared.ring.RingId.{RingId}
 use Rattle.totem_ids.specs.declared.conf.ConfId.{ConfId}
@@ -18,7 +18,7 @@ use Rattle.totem_evs.specs.AgreementFaults.{IsGap}
 use Rattle.totem_evs.specs.Answers.{ComesFirst, IsLeast, MeetsPasses}
 use Rattle.totem_evs.proofs.LogOf.{less_or_not}
 use Rattle.totem_table.specs.Search.{place, NoneFrom, IsLeastFrom, HoldsOfNone}
-use Rattle.totem_pass_d.proofs.OneEvent.{event_at, begins_inside}
+use Rattle.totem_pass_d.proofs.OneEvent.{no_event, only_event, begins_inside}
 use Rattle.totem_pass_d.specs.declared.stay.Stay.{Stay}
 use Rattle.totem_pass_d.specs.declared.stays.Sending.{Sending}
 use Rattle.totem_pass_d.specs.Acts.{IsAmong, DeliversNot, IsSendingOf, NobodySent}
@@ -28,7 +28,7 @@ use Rattle.totem_pass_d.specs.Gaps.{IsLack, IsLater, TellsMember}
 use Rattle.totem_pass_d.proofs.Deciding.{has_delivered_or_not}
 use Rattle.totem_pass_d.proofs.Reaching.{is_among_members, is_member, one_origin}
 use Rattle.totem_pass_d.proofs.Facts.{Facts, delivery_inside}
-use Rattle.totem_pass_d.proofs.Rests.{none_rest, least_rest, nothing_here, only_here, begins_at}
+use Rattle.totem_pass_d.proofs.Rests.{none_rest, least_rest, nothing_here, begins_at}
 use Rattle.totem_pass_d.proofs.CausalityFaults.{one_delivery_in}
 
 -- members
@@ -42,37 +42,22 @@ tells_member run p i q members b meets are decides = record {
 
 -- a process that lacks the earlier message
 pub none_later : (run : List Log) (c : RingId) (stay : Stay) (s : ℕ) (m n : MsgId) → DeliversNot (log_of run stay.proc) c n → NoneWithin IsInside (IsOneEvent (IsLack run c s m n)) stay
-none_later run c stay s m n never = record { none = λ i rest inside h. go i (event_at (IsLack run c s m n) stay.proc i rest h) }
-  where
-    go : (i : ℕ) → IsLack run c s m n stay.proc i → ⊥
-    go i (d, at, belongs, member, lacks) = never.never (i, (d, at, belongs))
+none_later run c stay s m n never = no_event IsInside (IsLack run c s m n) stay (λ i (d, at, belongs, member, lacks). never.never (i, (d, at, belongs)))
 
 pub none_lacks : (run : List Log) (c : RingId) (stay : Stay) (s k : ℕ) (m n : MsgId) → DeliversIn (log_of run stay.proc) c m k → NoneWithin IsInside (IsOneEvent (IsLack run c s m n)) stay
-none_lacks run c stay s k m n here = record { none = λ i rest inside h. go i (event_at (IsLack run c s m n) stay.proc i rest h) }
-  where
-    go : (i : ℕ) → IsLack run c s m n stay.proc i → ⊥
-    go i (d, at, belongs, member, lacks) = lacks (k, here)
+none_lacks run c stay s k m n here = no_event IsInside (IsLack run c s m n) stay (λ i (d, at, belongs, member, lacks). lacks (k, here))
 
 pub none_member : (run : List Log) (c : RingId) (stays : List Stay) (stay : Stay) (s k : ℕ) (m n : MsgId) (b : Bool) → Facts run c stays → DeliversIn (log_of run stay.proc) c n k → TellsMember run (log_of run stay.proc) k s b → b ≡ false
     → NoneWithin IsInside (IsOneEvent (IsLack run c s m n)) stay
-none_member run c stays stay s k m n b facts here tells no_member = record { none = λ i rest inside h. go i (event_at (IsLack run c s m n) stay.proc i rest h) }
-  where
-    go : (i : ℕ) → IsLack run c s m n stay.proc i → ⊥
-    go i (d, at, belongs, member, lacks) =
-        let same = one_delivery_in run c stays stay.proc i k n facts (d, at, belongs) here in
-        let t : b ≡ true = (tells.each d (Deliver n d, rw same at at, refl)).1 member in cc
+none_member run c stays stay s k m n b facts here tells no_member = no_event IsInside (IsLack run c s m n) stay (λ i (d, at, belongs, member, lacks).
+    let same = one_delivery_in run c stays stay.proc i k n facts (d, at, belongs) here in
+    let t : b ≡ true = (tells.each d (Deliver n d, rw same at at, refl)).1 member in cc)
 
 pub lack_here : (run : List Log) (c : RingId) (stays : List Stay) (stay : Stay) (s k : ℕ) (m n : MsgId) (b : Bool) (places : List Place) → Facts run c stays → DeliversIn (log_of run stay.proc) c n k → DeliversNot (log_of run stay.proc) c m
     → TellsMember run (log_of run stay.proc) k s b → b ≡ true → places ≡ place stay.proc k ∷ [] → IsLeastWithin IsInside (IsOneEvent (IsLack run c s m n)) stay places
-lack_here run c stays stay s k m n b places facts here never tells is_member is = go here
-  where
-    one : DeliversIn (log_of run stay.proc) c n k → (i : ℕ) → IsLack run c s m n stay.proc i → i ≡ k
-    one there i (d, at, belongs, member, lacks) = one_delivery_in run c stays stay.proc i k n facts (d, at, belongs) there
-
-    go : DeliversIn (log_of run stay.proc) c n k → IsLeastWithin IsInside (IsOneEvent (IsLack run c s m n)) stay places
-    go (d, at, belongs) = only_here IsInside (IsOneEvent (IsLack run c s m n)) stay k places
-        (k, refl, (d, at, belongs, (tells.each d (Deliver n d, at, refl)).0 is_member, never.never))
-        (λ i rest h. one (d, at, belongs) i (event_at (IsLack run c s m n) stay.proc i rest h)) is
+lack_here run c stays stay s k m n b places facts (d, at, belongs) never tells is_member is =
+    only_event IsInside (IsLack run c s m n) stay k places (d, at, belongs, (tells.each d (Deliver n d, at, refl)).0 is_member, never.never)
+    (λ i (x, at_i, inside, member, lacks). one_delivery_in run c stays stay.proc i k n facts (x, at_i, inside) (d, at, belongs)) is
 
 pub lacks_begin : (run : List Log) (c : RingId) (stays : List Stay) (s : ℕ) (m n : MsgId) → Facts run c stays → EachBeginsWithin stays IsInside (IsOneEvent (IsLack run c s m n))
 lacks_begin run c stays s m n facts = begins_inside (IsLack run c s m n) stays (record { each = λ p k (d, at, belongs, member, lacks). facts.inside p k d (Deliver n d, at, refl) belongs })
@@ -82,9 +67,6 @@ later_at : (run : List Log) (c : RingId) (s : ℕ) (m n : MsgId) (i p j : ℕ) (
 later_at run c s m n i p j d rest at (k, is, (lt, (o, (y, at', belongs), one))) =
     let there : slice_get (log_of run p) j ≡ Some (Deliver o y) = (let same : k ≡ j = omega arith in rw same at at') in
     let same : o ≡ n = (let h : slice_get (log_of run p) j ≡ Some (Deliver n d) = at in cc) in rw same at one
-
-pub none_earlier : (run : List Log) (c : RingId) (s : ℕ) (m : MsgId) (i p j : ℕ) → j ≤ i → NoneFrom (IsLater run c s m i) p j
-none_earlier run c s m i p j le = nothing_here (IsLater run c s m i) p j (λ rest (k, is, (lt, later)). omega arith)
 
 pub none_undelivered : (run : List Log) (c : RingId) (s : ℕ) (m : MsgId) (i p j : ℕ) (e : Entry) → slice_get (log_of run p) j ≡ Some e → ((n : MsgId) (d : ConfId) → e ≡ Deliver n d → ⊥) → NoneFrom (IsLater run c s m i) p j
 none_undelivered run c s m i p j e at other = nothing_here (IsLater run c s m i) p j (λ rest h. go rest h)

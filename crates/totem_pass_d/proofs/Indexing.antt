@@ -1,7 +1,6 @@
 -- The indices of the deliveries of a part of a log, found entry by entry.
-use Rattle.std.proofs.Common.{◌≡◌, ℕ, ◌+◌, ◌<◌, ◌≤◌, inl, inr, List, slice_get, Option, Some, None, true, false, ◌∙◌, refl, arith}
+use Rattle.std.proofs.Common.{◌≡◌, ℕ, ◌+◌, ◌<◌, inl, inr, List, slice_get, Option, Some, None, ◌∙◌, refl}
 use Rattle.std.specs.Prelude.{IfSome, IfNone}
-use Rattle.std.specs.Option.{is_some}
 use Rattle.std.specs.BTreeMap.{BTreeMap}
 use Rattle.std.specs.BTreeMap as tree
 use Rattle.totem_ids.specs.declared.ring.RingId.{RingId}
@@ -13,7 +12,7 @@ use Rattle.totem_evs.specs.declared.entry.Entry.TheVariants.{Conf, Send, Deliver
 use Rattle.totem_evs.specs.declared.log.Log.{Log}
 use Rattle.totem_evs.specs.Events.{Delivers, log_of}
 use Rattle.totem_evs.specs.Following.{DeliversIn}
-use Rattle.totem_evs.proofs.LogOf.{less_or_not}
+use Rattle.totem_configuration_rules.proofs.Rowing.{before_or_at}
 use Rattle.totem_ids.proofs.Exact.{equal_at, apart_or_at, exact_message}
 use Rattle.totem_pass_d.specs.declared.stay.Stay.{Stay}
 use Rattle.totem_pass_d.specs.Acts.{DeliversNot}
@@ -46,38 +45,19 @@ no_delivery run c stay m None facts is = record {
   never = λ (i, (x, at, inside)). (let here = facts.is.here i x (Deliver m x, at, refl) inside in is.never i (record { after = here.0; until = here.1; does = rw (facts.log, at) refl }));
 }
 
--- the result of a look-up
-pub found_there : (o : Option ℕ) (P : ℕ → Type 0) → is_some o ≡ true → IfSome o P → (k : ℕ) × P k
-found_there None P is h = absurd cc
-found_there (Some k) P is h = (k, h)
-
-pub not_found : (o : Option ℕ) (Q : Type 0) → is_some o ≡ false → IfNone o Q → Q
-not_found None Q is h = h
-not_found (Some k) Q is h = absurd cc
-
 -- ---- what the indices say
-
-pub told_yet : (kept : MsgId → Option ℕ) (log : List Entry) (from end : ℕ) → Tells kept log from end (from + 1)
-told_yet kept log from end = record { each = λ i m lt h. absurd (let a = h.after in omega arith) }
 
 told_more : (kept : MsgId → Option ℕ) (log : List Entry) (from end n : ℕ) → ((m : MsgId) → IsDelivery log from end m n → IsTold kept log from end m) → Tells kept log from end n → Tells kept log from end (n + 1)
 told_more kept log from end n here before = record {
-  each = λ i m lt h. elim (less_or_not i n) [
+  each = λ i m lt h. elim (before_or_at i n lt) [
     | inl under ↦ before.each i m under h
-    | inr rest ↦ elim rest [ inl over ↦ absurd (omega arith) | inr same ↦ here m (rw same at h) ]
+    | inr same ↦ here m (rw same at h)
   ];
 }
-
-pub told_whole : (kept : MsgId → Option ℕ) (log : List Entry) (from end n : ℕ) → end ≤ n → Tells kept log from end n → Tells kept log from end end
-told_whole kept log from end n past before = record { each = λ i m lt h. before.each i m (omega arith) h }
 
 -- nothing is delivered at this index
 pub nothing_told : (kept : MsgId → Option ℕ) (log : List Entry) (from end n : ℕ) → delivered_at log n ≡ None → Tells kept log from end n → Tells kept log from end (n + 1)
 nothing_told kept log from end n none before = told_more kept log from end n (λ m h. absurd (let does = h.does in cc)) before
-
--- this index is kept for the message that is delivered at it
-pub one_told : (kept : MsgId → Option ℕ) (log : List Entry) (from end n : ℕ) (m : MsgId) → delivered_at log n ≡ Some m → kept m ≡ Some n → Tells kept log from end n → Tells kept log from end (n + 1)
-one_told kept log from end n m does at before = told_more kept log from end n (λ k h. (let other = h.does in let same : m ≡ k = cc in record { at = n; told_of = rw same at at; does = h })) before
 
 -- this index is entered for the message that is delivered at it
 pub one_entered : (map new : BTreeMap MsgId ℕ) (log : List Entry) (from end n : ℕ) (m : MsgId) → from < n → n < end → delivered_at log n ≡ Some m → tree.Updates message.cmp-value.it map new m (Some n)
@@ -91,17 +71,6 @@ one_entered map new log from end n m after until does h before = told_more (tree
   where
     here : IsTold (tree.get message.cmp-value.it new) log from end m
     here = record { at = n; told_of = h.1; does = record { after = after; until = until; does = does } }
-
--- if an index is kept for a message, it is delivered at the index or nowhere
-pub told_or_never : (kept : MsgId → Option ℕ) (log : List Entry) (from end : ℕ) (m : MsgId) (i : ℕ) → Tells kept log from end end → kept m ≡ Some i → (IsDelivery log from end m i → ⊥) → IsNoDelivery log from end m
-told_or_never kept log from end m i tells at not = record {
-  never = λ k h. (
-      let found = tells.each k m h.until h in
-      let other = found.told_of in
-      let same : found.at ≡ i = cc in
-      not (rw same at found.does)
-      );
-}
 
 pub untold_never : (kept : MsgId → Option ℕ) (log : List Entry) (from end : ℕ) (m : MsgId) → Tells kept log from end end → kept m ≡ None → IsNoDelivery log from end m
 untold_never kept log from end m tells none = record { never = λ k h. (let found = tells.each k m h.until h in let at = found.told_of in cc) }

@@ -1,30 +1,11 @@
 -- What the traffic of a configuration shows of it.
-use Rattle.std.proofs.Common.{◌≡◌, List, [], slice_get, Some}
+use Rattle.std.proofs.Common.{List}
 use Rattle.totem_ids.specs.declared.ring.RingId.{RingId}
 use Rattle.totem_evs.specs.declared.log.Log.{Log}
-use Rattle.totem_evs.specs.Answers.{MeetsPasses}
 use Rattle.totem_configuration_rules.specs.declared.agreed.Shown.{Shown}
-use Rattle.totem_configuration_rules.specs.declared.observed.Observed.{Observed}
-use Rattle.totem_configuration_rules.specs.declared.traffic.Traffic.{Traffic}
-use Rattle.totem_configuration_rules.specs.Clean.{AreShown, IsAllShown, IsNoneShown}
-use Rattle.totem_configuration_rules.specs.Traffics.{IsTrafficOf, AreTraffic}
+use Rattle.totem_configuration_rules.specs.Clean.{IsAllShown, IsNoneShown}
 use Rattle.totem_pass_d.specs.declared.findings.Findings.{Findings}
 use Rattle.totem_pass_d.specs.Findings.{AreMet, AreNone, AreFindings}
-
--- nothing was observed
-pub no_traffic : (run : List Log) (list : List Observed) → list ≡ [] → AreTraffic run list
-no_traffic run list none = record { each = λ k one at. absurd (let h : slice_get {X = Observed} [] k ≡ Some one = rw none at at in cc) }
-
--- what the traffic shows, the run meets
-pub shown_met : (run : List Log) (c : RingId) (traffic : Traffic) (shown : Shown) → MeetsPasses run → IsTrafficOf run c traffic → AreShown traffic shown → AreMet run c shown
-shown_met run c traffic shown meets is are = record {
-  own = λ t. (are.own t).met run c meets is;
-  atomicity = λ t. (are.atomicity t).met run c meets is;
-  causality = λ t. (are.causality t).met run c meets is;
-  gap = λ t. (are.gap t).met run c meets is;
-  safety = λ t. (are.safety t).met run c meets is;
-  installed = λ t. (are.installed t).met run c meets is;
-}
 
 -- where nothing is shown, nothing is claimed
 pub nothing_met : (run : List Log) (c : RingId) (shown : Shown) → IsNoneShown shown → AreMet run c shown

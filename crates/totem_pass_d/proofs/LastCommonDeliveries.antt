@@ -1,19 +1,18 @@
 -- The last delivery of a process that another process makes too.
-use Rattle.std.proofs.Common.{◌≡◌, ℕ, ◌+◌, ◌<◌, ◌≤◌, ◌⊎◌, inl, inr, List, [], ◌∷◌, ◌++◌, length, get_or, slice_get, Some, refl, sym, ◌∙◌, arith, length-append}
-use Rattle.std.proofs.Math.ListN.{get_or-append}
-use Rattle.std.proofs.lemmas.List.{get_or_push}
-use Rattle.std.proofs.lemmas.Option.{slice_get_within}
+use Rattle.std.proofs.Common.{◌≡◌, ℕ, ◌+◌, ◌<◌, ◌≤◌, ◌⊎◌, inl, inr, List, length, get_or, slice_get, Some, Bool, true, false, refl, sym, ◌∙◌, arith}
+use Rattle.std.specs.Bool.{OnFalse}
+use Rattle.std.proofs.lemmas.Option.{slice_get_within, slice_get-get_or}
 use Rattle.totem_ids.specs.declared.ring.RingId.{RingId}
 use Rattle.totem_ids.specs.declared.conf.ConfId.{ConfId}
 use Rattle.totem_ids.specs.declared.message.MsgId.{MsgId}
-use Rattle.totem_evs.specs.declared.entry.Entry.{Entry}
 use Rattle.totem_evs.specs.declared.entry.Entry.TheVariants.{Deliver}
 use Rattle.totem_evs.specs.declared.log.Log.{Log}
 use Rattle.totem_evs.specs.Events.{log_of}
 use Rattle.totem_evs.specs.Following.{HasDelivered}
 use Rattle.totem_evs.specs.AgreementFaults.{IsGap}
 use Rattle.totem_evs.specs.RingFaults.{BreaksGapIn}
-use Rattle.totem_evs.proofs.LogOf.{less_or_not}
+use Rattle.totem_evs.proofs.Pushing.{Along}
+use Rattle.totem_configuration_rules.proofs.Rowing.{before_or_at}
 use Rattle.totem_table.specs.Search.{NoneFrom}
 use Rattle.totem_pass_d.specs.declared.stay.Stay.{Stay}
 use Rattle.totem_pass_d.specs.Acts.{IsAmong, DeliversNot}
@@ -22,13 +21,12 @@ use Rattle.totem_pass_d.proofs.Facts.{Facts, delivery_inside}
 use Rattle.totem_pass_d.proofs.Rests.{nothing_here}
 use Rattle.totem_pass_d.proofs.GapFaults.{gap_at}
 
-pub apart_undelivered : (run : List Log) (c : RingId) (follower : Stay) (p at : ℕ) (m : MsgId) (d : ConfId) → slice_get (log_of run p) at ≡ Some (Deliver m d) → DeliversNot (log_of run follower.proc) c m → IsApart run c p follower.proc at
-apart_undelivered run c follower p at m d there not = record {
+pub apart_undelivered : (run : List Log) (c : RingId) (follower : Stay) (p at : ℕ) (m : MsgId) (d : ConfId) (b : Bool) → slice_get (log_of run p) at ≡ Some (Deliver m d) → OnFalse b (DeliversNot (log_of run follower.proc) c m)
+    → OnFalse b (IsApart run c p follower.proc at)
+apart_undelivered run c follower p at m d true there not = tt
+apart_undelivered run c follower p at m d false there not = record {
   never = λ n (x, is, belongs) h. (let same : n ≡ m = cc in not.never (rw same at h));
 }
-
-pub apart_other : (run : List Log) (c : RingId) (p q at : ℕ) (e : Entry) → slice_get (log_of run p) at ≡ Some e → ((m : MsgId) (d : ConfId) → e ≡ Deliver m d → ⊥) → IsApart run c p q at
-apart_other run c p q at e there other = record { never = λ n (x, is, belongs) h. other n x cc }
 
 -- from j on q delivers nothing that p delivers
 pub record ApartFrom (run : List Log) (c : RingId) (p q n : ℕ) : Type 0 where
@@ -41,58 +39,35 @@ apart_at_end run c stays leader q facts among = record {
 
 pub apart_more : (run : List Log) (c : RingId) (p q n k : ℕ) → n ≡ k + 1 → IsApart run c p q k → ApartFrom run c p q n → ApartFrom run c p q k
 apart_more run c p q n k is here after = record {
-  each = λ j le. elim (less_or_not k j) [
+  each = λ j le. elim (before_or_at k j (omega arith)) [
     | inl under ↦ after.each j (omega arith)
-    | inr more ↦ elim more [ inl over ↦ absurd (omega arith) | inr same ↦ rw (← same) here ]
+    | inr same ↦ rw (← same) here
   ];
 }
-
-pub beyond_from : (run : List Log) (c : RingId) (p q n i : ℕ) → n ≤ i + 1 → ApartFrom run c p q n → IsBeyond run c p q i
-beyond_from run c p q n i le apart = record { each = λ j lt. apart.each j (omega arith) }
 
 pub beyond_later : (run : List Log) (c : RingId) (p q i j : ℕ) → i ≤ j → IsBeyond run c p q i → IsBeyond run c p q j
 beyond_later run c p q i j le beyond = record { each = λ k lt. beyond.each k (omega arith) }
 
--- the last common deliveries of the first n stays
-pub record LastsTo (run : List Log) (c : RingId) (stays : List Stay) (p : ℕ) (lasts : List ℕ) (n : ℕ) : Type 0 where
-  pub long : length lasts ≡ n
-  pub each : (k : ℕ) (stay : Stay) → k < n → slice_get stays k ≡ Some stay → IsBeyond run c p stay.proc (get_or lasts k 0)
+-- the last common delivery with each stay
+abbrev pub IsLast : List Log → RingId → ℕ → Stay → ℕ → Type 0
+IsLast run c p stay last = IsBeyond run c p stay.proc last
 
-pub lasts_yet : (run : List Log) (c : RingId) (stays : List Stay) (p : ℕ) → LastsTo run c stays p [] 0
-lasts_yet run c stays p = record { long = refl; each = λ k stay lt at. absurd (omega arith) }
-
-pub lasts_more : (run : List Log) (c : RingId) (stays : List Stay) (p : ℕ) (lasts more : List ℕ) (n last : ℕ) (stay : Stay) → slice_get stays n ≡ Some stay → IsBeyond run c p stay.proc last → more ≡ lasts ++ last ∷ [] → LastsTo run c stays p lasts n
-    → LastsTo run c stays p more (n + 1)
-lasts_more run c stays p lasts more n last stay at here is before = record {
-  long = (let l : length more ≡ length lasts + 1 = rw is (length-append lasts (last ∷ [])) in let b = before.long in omega arith);
-  each = λ k s lt at_k. elim (less_or_not k n) [
-    | inl under ↦ (let keep : get_or more k 0 ≡ get_or lasts k 0 = rw is (get_or-append lasts (last ∷ []) 0 k (let b = before.long in omega arith)) in rw keep (before.each k s under at_k))
-    | inr rest ↦ elim rest [ inl over ↦ absurd (omega arith) | inr same ↦ at_n k s same at_k ]
-  ];
+pub lasts_whole : (run : List Log) (c : RingId) (stays : List Stay) (p : ℕ) (lasts : List ℕ) (n : ℕ) → length stays ≡ n → Along (IsLast run c p) stays lasts n → AreLasts run c stays p lasts
+lasts_whole run c stays p lasts n end along = record {
+  long = end ∙ sym along.long;
+  each = λ k stay at. along.each k stay (get_or lasts k 0) at (slice_get-get_or lasts k 0 (omega (arith, end, along.long, slice_get_within stays k stay at)));
 }
-  where
-    at_n : (k : ℕ) (s : Stay) → k ≡ n → slice_get stays k ≡ Some s → IsBeyond run c p s.proc (get_or more k 0)
-    at_n k s same at_k =
-        let is_stay : s ≡ stay = (let there : slice_get stays n ≡ Some s = rw same at at_k in cc) in
-        let value : get_or more k 0 ≡ last = rw is (get_or_push lasts last 0 k (before.long ∙ sym same)) in
-        rw (value, is_stay) here
-
-pub lasts_whole : (run : List Log) (c : RingId) (stays : List Stay) (p : ℕ) (lasts : List ℕ) (n : ℕ) → length stays ≡ n → LastsTo run c stays p lasts n → AreLasts run c stays p lasts
-lasts_whole run c stays p lasts n end to = record { long = end ∙ sym to.long; each = λ k stay at. to.each k stay (omega (arith, end, slice_get_within stays k stay at)) at }
 
 -- the first n stays are settled
 pub record SettledTo (run : List Log) (c : RingId) (stays : List Stay) (p : ℕ) (m : MsgId) (i n : ℕ) : Type 0 where
   pub each : (k : ℕ) (stay : Stay) → k < n → slice_get stays k ≡ Some stay → IsBeyond run c p stay.proc i ⊎ HasDelivered (log_of run stay.proc) c m
 
-pub settled_yet : (run : List Log) (c : RingId) (stays : List Stay) (p : ℕ) (m : MsgId) (i : ℕ) → SettledTo run c stays p m i 0
-settled_yet run c stays p m i = record { each = λ k stay lt at. absurd (omega arith) }
-
 pub settled_more : (run : List Log) (c : RingId) (stays : List Stay) (p : ℕ) (m : MsgId) (i n : ℕ) (lasts : List ℕ) (stay : Stay) → AreLasts run c stays p lasts → slice_get stays n ≡ Some stay → (get_or lasts n 0 ≤ i) ⊎ HasDelivered (log_of run stay.proc) c m
     → SettledTo run c stays p m i n → SettledTo run c stays p m i (n + 1)
 settled_more run c stays p m i n lasts stay known at up before = record {
-  each = λ k s lt at_k. elim (less_or_not k n) [
+  each = λ k s lt at_k. elim (before_or_at k n lt) [
     | inl under ↦ before.each k s under at_k
-    | inr rest ↦ elim rest [ inl over ↦ absurd (omega arith) | inr same ↦ at_n k s same at_k ]
+    | inr same ↦ at_n k s same at_k
   ];
 }
   where

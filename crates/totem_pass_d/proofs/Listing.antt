@@ -1,9 +1,8 @@
 -- From the findings of each job to the faults of the pass.
-use Rattle.std.proofs.Common.{◌≡◌, ◌<◌, ◌+◌, ℕ, inl, inr, List, [], ◌∷◌, ◌++◌, length, take, slice_get, Option, Some, None, refl, ap, arith}
+use Rattle.std.proofs.Common.{◌≡◌, ◌<◌, ◌+◌, ℕ, inl, inr, List, [], ◌∷◌, ◌++◌, length, take, Option, Some, None, refl, ap, arith}
 use Rattle.std.proofs.Common.{◌≤◌, Result, Ok, Err, IfOk}
-use Rattle.std.specs.Prelude.{slice_index_or}
 use Rattle.std.proofs.lemmas.List.{take_more, take_all}
-use Rattle.std.proofs.lemmas.Option.{slice_get_cases, slice_get_read}
+use Rattle.std.proofs.lemmas.Option.{slice_get_cases}
 use Rattle.totem_ids.specs.declared.ring.RingId.{RingId}
 use Rattle.totem_ids.specs.declared.place.Place.{Place}
 use Rattle.totem_evs.specs.declared.log.Log.{Log}
@@ -14,7 +13,7 @@ use Rattle.totem_evs.specs.Answers.{FindsIn, ListsRings, ListsEach, ListsConfigu
 use Rattle.totem_table.specs.Search.{listed}
 use Rattle.totem_pass_d.specs.declared.findings.Findings.{Findings}
 use Rattle.totem_pass_d.specs.declared.pass.Found.{Found}
-use Rattle.totem_pass_d.specs.Findings.{AreFindings, IsNothing, GrowsBy, AreFound, all_found}
+use Rattle.totem_pass_d.specs.Findings.{AreFindings, GrowsBy, AreFound, all_found}
 use Rattle.totem_pass_d.specs.Jobs.{AreFindingsAt}
 
 one_more : (run : List Log) (k : SpecNo) (cs : List RingId) (c : RingId) (fs : List Fault) (found : Option (List Place)) → ListsRings run k cs fs → FindsIn run c k found → ListsRings run k (cs ++ c ∷ []) (fs ++ listed k found)
@@ -22,16 +21,6 @@ one_more run k [] c fs None is meets = rw is (inl (meets, refl))
 one_more run k [] c fs (Some places) is least = rw is (inr (places, [], refl, least, refl))
 one_more run k (b ∷ cs) c fs found (inl (meets, more)) h = inl (meets, one_more run k cs c fs found more h)
 one_more run k (b ∷ cs) c fs found (inr (places, rest, is, least, more)) h = inr (places, rest ++ listed k found, rw is refl, least, one_more run k cs c rest found more h)
-
-pub nothing_found : (run : List Log) (found : Found) → IsNothing found → AreFound run [] found
-nothing_found run found h = record {
-  own = h.own;
-  atomicity = h.atomicity;
-  causality = h.causality;
-  gap = h.gap;
-  safety = h.safety;
-  installed = h.installed;
-}
 
 pub found_more : (run : List Log) (cs : List RingId) (c : RingId) (old new : Found) (findings : Findings) → AreFindings run c findings → GrowsBy old findings new → AreFound run cs old → AreFound run (cs ++ c ∷ []) new
 found_more run cs c old new findings h grows before = record {
@@ -70,13 +59,6 @@ each_found run rings found h = (
 
 pub all_listed : (run : List Log) (rings : List RingId) (found : Found) (faults : List Fault) → AreRings run rings → AreFound run rings found → faults ≡ all_found found → ListsConfigurations run faults
 all_listed run rings found faults are h is = record { rings = rings; are = are; lists = rw is (each_found run rings found h) }
-
--- the findings of the job at an index, given those of its configuration
-pub findings_at : (run : List Log) (rings : List RingId) (i : ℕ) (c of : RingId) (logs : List Log) (findings : Findings) → i < length rings → c ≡ slice_index_or rings i c → logs ≡ run → of ≡ c
-    → AreFindings logs of findings → AreFindingsAt run rings i findings
-findings_at run rings i c of logs findings lt read same ring h = record {
-  at = λ b is. let here : slice_get rings i ≡ Some c = slice_get_read rings (length rings) i c refl lt read in let b_is : b ≡ c = cc in rw b_is (rw (same, ring) at h);
-}
 
 pub found_next : (run : List Log) (rings : List RingId) (i : ℕ) (old new : Found) (findings : Findings) → i < length rings → AreFindingsAt run rings i findings → GrowsBy old findings new → AreFound run (take i rings) old
     → AreFound run (take (i + 1) rings) new

@@ -16,6 +16,7 @@ use Rattle.totem_evs.specs.Delivery.{WasSentFor}
 use Rattle.totem_evs.specs.Following.{Follows, Com}
 use Rattle.totem_evs.specs.Answers.{MeetsPasses}
 use Rattle.totem_evs.proofs.LogOf.{less_or_not}
+use Rattle.totem_configuration_rules.proofs.Rowing.{before_or_at}
 use Rattle.totem_evs.proofs.NextChanges.{same_first, one_next}
 use Rattle.totem_run_rules.proofs.Staying.{names_no_change, same_change}
 use Rattle.totem_pass_d.specs.declared.stays.Sending.{Sending}
@@ -62,12 +63,9 @@ members_after log c from turn end i k e is le below first at =
     record { change = turn; conf = t.conf; with = rw same t.change.1; named = λ d names. named t.conf t.change t.follows d names }
   where
     named : (x : ConfId) → ChangesTo log turn x → Follows log c x → (d : ConfId) → Names log i d → d ≡ x
-    named x change f d names = elim (less_or_not turn i) [
+    named x change f d names = elim (before_or_at turn i (omega arith)) [
       | inl over ↦ one_follows log c d x (is.following i d over below names) f
-      | inr rest ↦ elim rest [
-        | inl under ↦ absurd (omega arith)
-        | inr same ↦ absurd (names_no_change log i d names (x, rw same at change))
-      ]
+      | inr same ↦ absurd (names_no_change log i d names (x, rw same at change))
     ]
 
 -- members of the configuration that an entry names are those of the change before it

@@ -1,5 +1,5 @@
 -- How lists of places continue.
-use Rattle.std.proofs.Common.{◌≡◌, ℕ, zero, suc, ◌+◌, List, [], ◌∷◌, slice_get, Option, Some, None, Result, Ok, Err, IfOk, MatchOption, refl, ap, add-one, arith}
+use Rattle.std.proofs.Common.{◌≡◌, ℕ, zero, suc, ◌+◌, List, ◌∷◌, slice_get, Option, Some, None, Result, Ok, Err, IfOk, MatchOption, refl, ap, add-one}
 use Rattle.std.specs.declared.alloc.AllocError.{AllocError}
 use Rattle.totem_ids.specs.declared.ring.RingId.{RingId}
 use Rattle.totem_ids.specs.declared.conf.ConfId.{ConfId}
@@ -16,7 +16,7 @@ use Rattle.totem_evs.specs.RingFaults.{BreaksIn, MeetsIn}
 use Rattle.totem_evs.specs.Answers.{IsLeast, FindsIn}
 use Rattle.totem_table.specs.Search.{place, NoneFrom, IsLeastFrom, HoldsOfNone}
 use Rattle.totem_pass_d.specs.declared.stay.Stay.{Stay}
-use Rattle.totem_pass_d.specs.Search.{IsLeastWithin, IsInside, BeginsWithin}
+use Rattle.totem_pass_d.specs.Search.{IsInside, BeginsWithin}
 use Rattle.totem_pass_d.proofs.Facts.{Facts}
 
 -- what holds of a list, in terms of the rest after a place
@@ -28,17 +28,6 @@ least_rest A B p i rest to from least = record { least = record { holds = to res
 
 pub nothing_here : (B : List Place → Type 0) (p i : ℕ) → ((rest : List Place) → B (place p i ∷ rest) → ⊥) → NoneFrom B p i
 nothing_here B p i never = record { none = never }
-
--- the one index of a stay at which a list can start
-pub only_here : (Reaches : Stay → ℕ → Type 0) (H : List Place → Type 0) (stay : Stay) (k : ℕ) (places : List Place) → H (place stay.proc k ∷ []) → ((i : ℕ) (rest : List Place) → H (place stay.proc i ∷ rest) → i ≡ k)
-    → places ≡ place stay.proc k ∷ [] → IsLeastWithin Reaches H stay places
-only_here Reaches H stay k places holds one is = record {
-  at = k;
-  rest = [];
-  is = is;
-  least = record { least = record { holds = holds; first = λ others h. tt } };
-  none_before = record { none = λ i rest lt reached h. let same = one i rest h in omega arith };
-}
 
 -- what the result of a search says about a specification
 pub answered : (r : Result (Option (List Place)) AllocError) (run : List Log) (c : RingId) (k : SpecNo) → (HoldsOfNone (BreaksIn run c k) → MeetsIn run c k)

@@ -5,49 +5,34 @@ use Rattle.totem_ids.specs.declared.ring.RingId.{RingId}
 use Rattle.totem_ids.specs.declared.place.Place.{Place}
 use Rattle.totem_evs.specs.declared.log.Log.{Log}
 use Rattle.totem_evs.specs.Answers.{ComesFirst, IsLeast}
-use Rattle.totem_table.specs.Search.{place, NoneFrom, IsLeastFrom, HoldsOfNone}
+use Rattle.totem_table.specs.Search.{place, NoneFrom, HoldsOfNone}
 use Rattle.totem_evs.proofs.LogOf.{less_or_not}
+use Rattle.totem_configuration_rules.proofs.Rowing.{before_or_at}
 use Rattle.totem_pass_d.specs.declared.stay.Stay.{Stay}
 use Rattle.totem_pass_d.specs.Stays.{AreStays, IsStayOf}
 use Rattle.totem_pass_d.specs.Acts.{IsAmong}
 use Rattle.totem_pass_d.specs.Search.{IsInside, EachBeginsWithin, NoneBelow, NoneWithin, IsLeastWithin}
 
--- index by index
-pub none_inside_yet : (H : List Place → Type 0) (stay : Stay) → NoneBelow IsInside H stay (stay.from + 1)
-none_inside_yet H stay = record { none = λ i rest lt inside h. let after = inside.after in omega arith }
-
 pub none_inside_more : (H : List Place → Type 0) (stay : Stay) (n : ℕ) → NoneFrom H stay.proc n → NoneBelow IsInside H stay n → NoneBelow IsInside H stay (n + 1)
 none_inside_more H stay n here before = record {
-  none = λ i rest lt inside h. elim (less_or_not i n) [
+  none = λ i rest lt inside h. elim (before_or_at i n lt) [
     | inl under ↦ before.none i rest under inside h
-    | inr more ↦ elim more [ inl over ↦ omega arith | inr same ↦ here.none rest (rw same at h) ]
+    | inr same ↦ here.none rest (rw same at h)
   ];
 }
-
-pub none_inside : (H : List Place → Type 0) (stay : Stay) (n : ℕ) → stay.end ≤ n → NoneBelow IsInside H stay n → NoneWithin IsInside H stay
-none_inside H stay n end before = record { none = λ i rest inside h. let until = inside.until in before.none i rest (omega arith) inside h }
-
-pub least_inside : (H : List Place → Type 0) (stay : Stay) (n : ℕ) (rest places : List Place) → places ≡ place stay.proc n ∷ rest → IsLeastFrom H stay.proc n rest → NoneBelow IsInside H stay n → IsLeastWithin IsInside H stay places
-least_inside H stay n rest places is least before = record { at = n; rest = rest; is = is; least = least; none_before = before }
 
 -- stay by stay: no list that starts in a stay before the k-th is in the relation
 pub record NoneBefore (stays : List Stay) (Reaches : Stay → ℕ → Type 0) (H : List Place → Type 0) (k : ℕ) : Type 0 where
   pub none : (j i : ℕ) (stay : Stay) (rest : List Place) → j < k → slice_get stays j ≡ Some stay → Reaches stay i → H (place stay.proc i ∷ rest) → ⊥
-
-pub none_before_yet : (stays : List Stay) (Reaches : Stay → ℕ → Type 0) (H : List Place → Type 0) → NoneBefore stays Reaches H 0
-none_before_yet stays Reaches H = record { none = λ j i stay rest lt at reached h. omega arith }
 
 same_stay : (stays : List Stay) (j k : ℕ) (a b : Stay) → slice_get stays j ≡ Some a → slice_get stays k ≡ Some b → j ≡ k → a ≡ b
 same_stay stays j k a b at_j at_k same = let at : slice_get stays k ≡ Some a = rw same at at_j in cc
 
 pub none_before_more : (stays : List Stay) (Reaches : Stay → ℕ → Type 0) (H : List Place → Type 0) (k : ℕ) (stay : Stay) → slice_get stays k ≡ Some stay → NoneWithin Reaches H stay → NoneBefore stays Reaches H k → NoneBefore stays Reaches H (k + 1)
 none_before_more stays Reaches H k stay at here before = record {
-  none = λ j i other rest lt at_j reached h. elim (less_or_not j k) [
+  none = λ j i other rest lt at_j reached h. elim (before_or_at j k lt) [
     | inl under ↦ before.none j i other rest under at_j reached h
-    | inr more ↦ elim more [
-      | inl over ↦ omega arith
-      | inr same ↦ let one = same_stay stays j k other stay at_j at same in here.none i rest (rw one at reached) (rw one at h)
-    ]
+    | inr same ↦ let one = same_stay stays j k other stay at_j at same in here.none i rest (rw one at reached) (rw one at h)
   ];
 }
 

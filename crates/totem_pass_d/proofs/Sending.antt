@@ -1,6 +1,5 @@
 -- The sends of the stays, noted entry by entry and stay by stay.
-use Rattle.std.proofs.Common.{◌≡◌, ℕ, ◌+◌, ◌<◌, ◌≤◌, inl, inr, List, length, slice_get, Some, None, true, refl, sym, ◌∙◌, ap, arith}
-use Rattle.std.specs.Prelude.{All}
+use Rattle.std.proofs.Common.{◌≡◌, ℕ, ◌+◌, ◌<◌, inl, inr, List, length, slice_get, Some, None, true, refl, sym, ◌∙◌, ap, arith}
 use Rattle.std.specs.BTreeMap.{BTreeMap}
 use Rattle.std.specs.BTreeMap as tree
 use Rattle.std.proofs.lemmas.Option.{slice_get_within}
@@ -16,28 +15,18 @@ use Rattle.totem_evs.specs.declared.log.Log.{Log}
 use Rattle.totem_evs.specs.Events.{Sends, log_of}
 use Rattle.totem_evs.specs.Answers.{MeetsPasses}
 use Rattle.totem_evs.proofs.LogOf.{less_or_not}
+use Rattle.totem_configuration_rules.proofs.Rowing.{before_or_at}
 use Rattle.totem_ids.proofs.Exact.{equal_at, apart_or_at, exact_message}
 use Rattle.totem_run_rules.specs.Stays.{IsStay}
 use Rattle.totem_run_rules.proofs.Staying.{names_no_change}
 use Rattle.totem_pass_d.specs.declared.stay.Stay.{Stay}
 use Rattle.totem_pass_d.specs.declared.stays.Sending.{Sending}
-use Rattle.totem_pass_d.specs.Stays.{IsShortStay, HasStay, AreStays}
+use Rattle.totem_pass_d.specs.Stays.{HasStay, AreStays}
 use Rattle.totem_pass_d.specs.Acts.{IsSendingOf}
 use Rattle.totem_pass_d.specs.Sends.{IsSendOf, NotesSends, IsSendOfOne, HasSends, AreSends}
 use Rattle.totem_pass_d.proofs.Searching.{stay_of}
 
--- the stays of a run are short
-pub are_short : (run : List Log) (c : RingId) (stays : List Stay) → AreStays run c stays → All IsShortStay stays
-are_short run c stays are = λ k d lt. (let is = are.each k d lt in record { before = is.is.before; within = omega (arith, is.is.until, is.is.within); few = is.few })
-
 -- ---- entry by entry
-
-pub notes_yet : (stay : Stay) (sends : BTreeMap MsgId Sending) → NotesSends stay (stay.from + 1) sends sends
-notes_yet stay sends = record {
-  only = λ m sending at. inl at;
-  kept = λ m none. none;
-  whole = record { each = λ i m x v after until at none. omega arith };
-}
 
 -- the entry at n is no send
 pub notes_nothing : (stay : Stay) (n : ℕ) (old now : BTreeMap MsgId Sending) (e : Entry) → slice_get stay.log.now n ≡ Some e → ((m : MsgId) (x : ConfId) (v : Service) → e ≡ Send m x v → ⊥) → NotesSends stay n old now → NotesSends stay (n + 1) old now
@@ -45,9 +34,9 @@ notes_nothing stay n old now e at_n other before = record {
   only = before.only;
   kept = before.kept;
   whole = record {
-    each = λ i m x v after until at none. elim (less_or_not i n) [
+    each = λ i m x v after until at none. elim (before_or_at i n until) [
       | inl under ↦ before.whole.each i m x v after under at none
-      | inr rest ↦ elim rest [ inl over ↦ omega arith | inr same ↦ (let there : slice_get stay.log.now n ≡ Some (Send m x v) = rw same at at in other m x v cc) ]
+      | inr same ↦ (let there : slice_get stay.log.now n ≡ Some (Send m x v) = rw same at at in other m x v cc)
     ];
   };
 }
@@ -67,9 +56,9 @@ notes_one stay n old now new e m x v sending at_e sends after until proc index s
   whole = record {
     each = λ i k y w over below at none. elim (apart_or_at message.cmp-value.it m k) [
       | inl here ↦ not_none k here none
-      | inr apart ↦ elim (less_or_not i n) [
+      | inr apart ↦ elim (before_or_at i n below) [
         | inl under ↦ before.whole.each i k y w over under at (sym (h.2 k apart) ∙ none)
-        | inr rest ↦ elim rest [ inl past ↦ omega arith | inr same ↦ not_none_here i k y w same at none ]
+        | inr same ↦ not_none_here i k y w same at none
       ]
     ];
   };
@@ -91,35 +80,16 @@ notes_one stay n old now new e m x v sending at_e sends after until proc index s
         let found : tree.get message.cmp-value.it new m ≡ None = rw one at none in
         let noted = h.1 in cc
 
-pub notes_whole : (stay : Stay) (n : ℕ) (old now : BTreeMap MsgId Sending) → stay.turn ≤ n → NotesSends stay n old now → NotesSends stay stay.turn old now
-notes_whole stay n old now end before = record {
-  only = before.only;
-  kept = before.kept;
-  whole = record { each = λ i m x v after until at none. before.whole.each i m x v after (omega arith) at none };
-}
-
 -- ---- stay by stay
-
-pub sends_yet : (stays : List Stay) (sends : BTreeMap MsgId Sending) → tree.IsEmpty sends → HasSends stays 0 sends
-sends_yet stays sends empty = record {
-  only = λ m sending at. absurd (let none : tree.get message.cmp-value.it sends m ≡ None = rw empty refl in cc);
-  whole = λ k stay lt at. absurd (omega arith);
-}
 
 pub sends_more : (stays : List Stay) (n : ℕ) (old new : BTreeMap MsgId Sending) (stay : Stay) → slice_get stays n ≡ Some stay → NotesSends stay stay.turn old new → HasSends stays n old → HasSends stays (n + 1) new
 sends_more stays n old new stay at_n notes before = record {
   only = λ m sending at. elim (notes.only m sending at) [ inl known ↦ before.only m sending known | inr is ↦ record { at = n; stay = stay; stands = at_n; is = is } ];
-  whole = λ k other lt at. elim (less_or_not k n) [
+  whole = λ k other lt at. elim (before_or_at k n lt) [
     | inl under ↦ (let has = before.whole k other under at in record { each = λ i m x v after until sent none. has.each i m x v after until sent (notes.kept m none) })
-    | inr rest ↦ elim rest [
-      | inl over ↦ absurd (omega arith)
-      | inr same ↦ (let one : stay ≡ other = (let there : slice_get stays n ≡ Some other = rw same at at in cc) in rw one at notes.whole)
-    ]
+    | inr same ↦ (let one : stay ≡ other = (let there : slice_get stays n ≡ Some other = rw same at at in cc) in rw one at notes.whole)
   ];
 }
-
-pub sends_whole : (stays : List Stay) (n : ℕ) (sends : BTreeMap MsgId Sending) → length stays ≤ n → HasSends stays n sends → HasSends stays (length stays) sends
-sends_whole stays n sends end before = record { only = before.only; whole = λ k stay lt at. before.whole k stay (omega arith) at }
 
 -- a send in c is before the turn
 send_before_turn : (log : List Entry) (c : RingId) (from turn end i : ℕ) (m : MsgId) → IsStay log c from turn end → Sends log i m (Regular c) → (from < i) × (i < turn)

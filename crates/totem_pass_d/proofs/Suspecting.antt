@@ -1,11 +1,10 @@
 -- From walks back along the logs to the messages for which 5 may be broken.
-use Rattle.std.proofs.Common.{◌≡◌, ◌⊎◌, ℕ, zero, suc, ◌+◌, ◌<◌, ◌≤◌, inl, inr, List, [], ◌∷◌, length, slice_get, Some, Bool, true, false, IsTrue, nat_lt, refl, sym, ◌∙◌, subst, arith}
+use Rattle.std.proofs.Common.{◌≡◌, ◌⊎◌, ℕ, zero, suc, ◌+◌, ◌<◌, ◌≤◌, inl, inr, List, [], ◌∷◌, length, slice_get, Some, Bool, true, false, nat_lt, refl, sym, ◌∙◌, arith}
 use Rattle.std.specs.Bool.{OnTrue}
 use Rattle.std.specs.declared.cmp.Ordering.{Ordering}
 use Rattle.std.specs.BTreeSet.{BTreeSet}
 use Rattle.std.specs.BTreeSet as sorted
 use Rattle.std.proofs.lemmas.Grind.{not_there}
-use Rattle.std.proofs.lemmas.Map.Lookups.{CmpEqualImpliesEq}
 use Rattle.std.proofs.lemmas.Option.{slice_get_within}
 use Rattle.totem_ids.specs.declared.ring.RingId.{RingId}
 use Rattle.totem_ids.specs.declared.conf.ConfId.{ConfId}
@@ -20,12 +19,11 @@ use Rattle.totem_evs.specs.Events.{log_of, entry_at, at_place, Delivers}
 use Rattle.totem_evs.specs.Changes.{Names}
 use Rattle.totem_evs.specs.Following.{DeliversIn}
 use Rattle.totem_evs.specs.RingFaults.{BreaksCausalityIn}
-use Rattle.totem_evs.proofs.LogOf.{less_or_not}
+use Rattle.totem_configuration_rules.proofs.Rowing.{before_or_at}
 use Rattle.totem_table.specs.Search.{place, NoneFrom}
-use Rattle.totem_ids.proofs.Exact.{equal_at, apart_or_at}
 use Rattle.totem_pass_d.specs.declared.stay.Stay.{Stay}
 use Rattle.totem_pass_d.specs.Acts.{IsAmong, DeliversNot}
-use Rattle.totem_pass_d.specs.Suspects.{Handles, HandlesNothing, ComesBefore, ComesNotBefore, IsEarlier, IsSuspect, HasAllOf, IsNoted, AreNotedFrom, AreNoted, AreSuspects}
+use Rattle.totem_pass_d.specs.Suspects.{Handles, ComesBefore, ComesNotBefore, IsEarlier, IsSuspect, HasAllOf, IsNoted, AreNotedFrom, AreNoted, AreSuspects}
 use Rattle.totem_pass_d.proofs.Facts.{Facts, delivery_inside}
 use Rattle.totem_pass_d.proofs.Rests.{nothing_here, sends_there}
 use Rattle.totem_pass_d.proofs.CausalityFaults.{one_delivery_in}
@@ -37,9 +35,6 @@ handles_one (Conf x ms) m n a b = absurd a
 handles_one (Send k x s) m n a b = sym a ∙ b
 handles_one (Deliver k x) m n a b = sym a ∙ b
 handles_one (Fail x) m n a b = absurd a
-
-pub sends_nothing : (run : List Log) (c : RingId) (q : ℕ) (e : Entry) (early : ℕ) → ((m : MsgId) (x : ConfId) (s : Service) → e ≡ Send m x s → ⊥) → IsEarlier run c q e early early
-sends_nothing run c q e early other = record { no_later = omega arith; each = λ n x s k is h. absurd (other n x s is) }
 
 pub undelivered : (run : List Log) (c : RingId) (stay : Stay) (e : Entry) (m : MsgId) (y : ConfId) (v : Service) (early : ℕ) → e ≡ Send m y v → DeliversNot (log_of run stay.proc) c m → IsEarlier run c stay.proc e early early
 undelivered run c stay e m y v early sends not = record {
@@ -63,34 +58,12 @@ comes_if_before run c stay m at k here = go (nat_lt at k) refl
     go false e = tt
 
 module _ (cmp : MsgId → MsgId → Ordering) where
-  pub has_itself : (s : BTreeSet MsgId) → HasAllOf cmp s s
-  has_itself s = record { each = λ m has. has }
-
   pub has_through : (r s t : BTreeSet MsgId) → HasAllOf cmp s r → HasAllOf cmp t s → HasAllOf cmp t r
   has_through r s t first second = record { each = λ m has. second.each m (first.each m has) }
-
-  pub has_inserted : CmpEqualImpliesEq cmp → (s t : BTreeSet MsgId) (k : MsgId) → sorted.Updates cmp s t k true → HasAllOf cmp t s
-  has_inserted exact s t k h = record {
-    each = λ m has. elim (apart_or_at cmp k m) [
-      | inr apart ↦ h.2 m apart ∙ has
-      | inl here ↦ subst (λ (z : MsgId). IsTrue (sorted.contains cmp t z)) (exact k m (equal_at (cmp k m) here)) h.1
-    ];
-  }
-
-  pub noted_at_end : (s : BTreeSet MsgId) (run : List Log) (c : RingId) (receiver : Stay) (e : Entry) (early : ℕ) → receiver.end ≤ early → IsNoted cmp s run c receiver e early
-  noted_at_end s run c receiver e early end = record { each = λ m lt h never. absurd (omega arith) }
-
-  pub noted_nothing : (s : BTreeSet MsgId) (run : List Log) (c : RingId) (receiver : Stay) (e : Entry) (early : ℕ) → HandlesNothing e → IsNoted cmp s run c receiver e early
-  noted_nothing s run c receiver e early nothing = record { each = λ m lt h never. absurd (nothing.never m h) }
 
   pub noted_before : (s : BTreeSet MsgId) (run : List Log) (c : RingId) (receiver : Stay) (e : Entry) (m : MsgId) (early : ℕ) → Handles e m → ComesBefore run c receiver.proc m early → IsNoted cmp s run c receiver e early
   noted_before s run c receiver e m early handles before = record {
     each = λ n lt h never. (let same : m ≡ n = handles_one e m n handles h in absurd (never before.index before.before (rw same at before.delivers)));
-  }
-
-  pub noted_here : (s t : BTreeSet MsgId) (run : List Log) (c : RingId) (receiver : Stay) (e : Entry) (m : MsgId) (early : ℕ) → Handles e m → sorted.Updates cmp s t m true → IsNoted cmp t run c receiver e early
-  noted_here s t run c receiver e m early handles h = record {
-    each = λ n lt other never. subst (λ (z : MsgId). IsTrue (sorted.contains cmp t z)) (handles_one e m n handles other) h.1;
   }
 
 -- ---- one walk
@@ -106,34 +79,20 @@ pub record SoFar (cmp : MsgId → MsgId → Ordering) (old now : BTreeSet MsgId)
   pub kept : HasAllOf cmp now old
   pub until : next ≤ sender.turn
 
-pub so_far_nothing : (cmp : MsgId → MsgId → Ordering) (s : BTreeSet MsgId) (run : List Log) (c : RingId) (sender receiver : Stay) → SoFar cmp s s run c sender receiver sender.turn receiver.end
-so_far_nothing cmp s run c sender receiver = record {
-  noted = record { each = λ h j k e m n x v from lt until at_h handles at_j d never. absurd (omega arith) };
-  earliest = record { each = λ j k n x v from until at d. absurd (omega arith) };
-  kept = has_itself cmp s;
-  until = omega arith;
-}
-
 pub so_far_more : (cmp : MsgId → MsgId → Ordering) (old now then : BTreeSet MsgId) (run : List Log) (c : RingId) (stays : List Stay) (sender receiver : Stay) (next at early new : ℕ) (entry : Entry) → Facts run c stays → IsAmong stays receiver → next ≡ at + 1
     → slice_get (log_of run sender.proc) at ≡ Some entry → IsNoted cmp then run c receiver entry early → HasAllOf cmp then now → IsEarlier run c receiver.proc entry early new → SoFar cmp old now run c sender receiver next early
     → SoFar cmp old then run c sender receiver at new
 so_far_more cmp old now then run c stays sender receiver next at early new entry of among is stands noted has grows before = record {
   noted = record {
-    each = λ h j k e m n x v from lt until at_h handles at_j d never. elim (less_or_not at h) [
+    each = λ h j k e m n x v from lt until at_h handles at_j d never. elim (before_or_at at h (omega arith)) [
       | inl under ↦ has.each m (before.noted.each h j k e m n x v (omega arith) lt until at_h handles at_j d never)
-      | inr more ↦ elim more [
-        | inl over ↦ absurd (omega arith)
-        | inr same ↦ here h j k e m n x v (sym same) lt until at_h handles at_j d never
-      ]
+      | inr same ↦ here h j k e m n x v (sym same) lt until at_h handles at_j d never
     ];
   };
   earliest = record {
-    each = λ j k n x v from until at_j d. elim (less_or_not at j) [
+    each = λ j k n x v from until at_j d. elim (before_or_at at j (omega arith)) [
       | inl under ↦ (let le = before.earliest.each j k n x v (omega arith) until at_j d in let no_later = grows.no_later in omega arith)
-      | inr more ↦ elim more [
-        | inl over ↦ absurd (omega arith)
-        | inr same ↦ (let there : slice_get (log_of run sender.proc) at ≡ Some (Send n x v) = rw (← same) at at_j in let is_send : entry ≡ Send n x v = cc in grows.each n x v k is_send d)
-      ]
+      | inr same ↦ (let there : slice_get (log_of run sender.proc) at ≡ Some (Send n x v) = rw (← same) at at_j in let is_send : entry ≡ Send n x v = cc in grows.each n x v k is_send d)
     ];
   };
   kept = has_through cmp old now then before.kept has;
@@ -162,17 +121,14 @@ noted_still cmp now then run c sender receiver has noted = record {
   from = λ i above. record { each = λ h j k e m n x v from lt until at_h handles at_j d never. has.each m ((noted.from i above).each h j k e m n x v from lt until at_h handles at_j d never) };
 }
 
-pub pairs_yet : (cmp : MsgId → MsgId → Ordering) (s : BTreeSet MsgId) (run : List Log) (c : RingId) (stays : List Stay) → AreSuspects cmp s run c stays 0 0
-pairs_yet cmp s run c stays = record { each = λ i sender j receiver before at_i at_j. elim before [ inl lt ↦ absurd (omega arith) | inr (same, lt) ↦ absurd (omega arith) ] }
-
 pub pairs_more : (cmp : MsgId → MsgId → Ordering) (now then : BTreeSet MsgId) (run : List Log) (c : RingId) (stays : List Stay) (n k : ℕ) (sender receiver : Stay) → slice_get stays n ≡ Some sender → slice_get stays k ≡ Some receiver
     → AreNoted cmp then run c sender receiver → HasAllOf cmp then now → AreSuspects cmp now run c stays n k → AreSuspects cmp then run c stays n (k + 1)
 pairs_more cmp now then run c stays n k sender receiver at_n at_k here has are = record {
   each = λ i s j r before at_i at_j. elim before [
     | inl lt ↦ noted_still cmp now then run c s r has (are.each i s j r (inl lt) at_i at_j)
-    | inr (same, lt) ↦ elim (less_or_not j k) [
+    | inr (same, lt) ↦ elim (before_or_at j k lt) [
       | inl under ↦ noted_still cmp now then run c s r has (are.each i s j r (inr (same, under)) at_i at_j)
-      | inr rest ↦ elim rest [ inl over ↦ absurd (omega arith) | inr at ↦ this i s j r same at at_i at_j ]
+      | inr at ↦ this i s j r same at at_i at_j
     ]
   ];
 }
@@ -188,16 +144,11 @@ pub pairs_next : (cmp : MsgId → MsgId → Ordering) (s : BTreeSet MsgId) (run 
 pairs_next cmp s run c stays n k end are = record {
   each = λ i sender j receiver before at_i at_j. elim before [
     | inr (same, lt) ↦ absurd (omega arith)
-    | inl lt ↦ elim (less_or_not i n) [
+    | inl lt ↦ elim (before_or_at i n lt) [
       | inl under ↦ are.each i sender j receiver (inl under) at_i at_j
-      | inr rest ↦ elim rest [ inl over ↦ absurd (omega arith) | inr same ↦ are.each i sender j receiver (inr (same, omega (arith, slice_get_within stays j receiver at_j))) at_i at_j ]
+      | inr same ↦ are.each i sender j receiver (inr (same, omega (arith, slice_get_within stays j receiver at_j))) at_i at_j
     ]
   ];
-}
-
-pub pairs_all : (cmp : MsgId → MsgId → Ordering) (s : BTreeSet MsgId) (run : List Log) (c : RingId) (stays : List Stay) (n : ℕ) → length stays ≤ n → AreSuspects cmp s run c stays n 0 → AreSuspects cmp s run c stays (length stays) 0
-pairs_all cmp s run c stays n end are = record {
-  each = λ i sender j receiver before at_i at_j. are.each i sender j receiver (inl (omega (arith, slice_get_within stays i sender at_i))) at_i at_j;
 }
 
 -- ---- what breaks 5 starts with a suspect
@@ -228,24 +179,20 @@ module _ (cmp : MsgId → MsgId → Ordering) (s : BTreeSet MsgId) (run : List L
       let never_there : ComesNotBefore run c receiver.stay.proc m k = rw receiver.proc never in
       (noted.from i above).each i j k e m n (Regular c) v (omega arith) lt sent.until (rw (← sent.proc) at at_i) handles (rw (← sent.proc) at at_j) (d, rw (← receiver.proc) at delivers, rw (← receiver.proc) at belongs) never_there
 
-  from_send : (p i j r k : ℕ) (m n : MsgId) (u v : Service) → i < j → slice_get (log_of run p) i ≡ Some (Send m (Regular c) u) → slice_get (log_of run p) j ≡ Some (Send n (Regular c) v) → DeliversIn (log_of run r) c n k → ComesNotBefore run c r m k
-      → IsSuspect cmp s m
-  from_send p i j r k m n u v lt at_i at_j d never = by_walk p i j r k (Send m (Regular c) u) m n v lt at_i (Send m (Regular c) u, at_i, refl) refl at_j d never
-
-  from_delivery : (p i j r k : ℕ) (m n : MsgId) (v : Service) → i < j → Delivers (log_of run p) i m (Regular c) → slice_get (log_of run p) j ≡ Some (Send n (Regular c) v) → DeliversIn (log_of run r) c n k → ComesNotBefore run c r m k → IsSuspect cmp s m
-  from_delivery p i j r k m n v lt at_i at_j d never = by_walk p i j r k (Deliver m (Regular c)) m n v lt at_i (Deliver m (Regular c), at_i, refl) refl at_j d never
-
   -- the send of the earlier message is in the later one's log
   in_one_log : (p q a j r k : ℕ) (m n : MsgId) (u v : Service) → at_place (log_of run q) a ≡ Some (Send m (Regular c) u) → q ≡ p → a < suc j → slice_get (log_of run p) j ≡ Some (Send n (Regular c) v) → DeliversIn (log_of run r) c n k
       → ComesNotBefore run c r m k → IsSuspect cmp s m
   in_one_log p q zero j r k m n u v at_e same lt at_j d never = absurd cc
-  in_one_log p q (suc i) j r k m n u v at_e same lt at_j d never = from_send p i j r k m n u v (omega arith) (rw same at at_e) at_j d never
+  in_one_log p q (suc i) j r k m n u v at_e same lt at_j d never =
+      let here : slice_get (log_of run p) i ≡ Some (Send m (Regular c) u) = rw same at at_e in
+      by_walk p i j r k (Send m (Regular c) u) m n v (omega arith) here (Send m (Regular c) u, here, refl) refl at_j d never
 
   suspected : (m n : MsgId) (e : Place) (p a : ℕ) (u v : Service) → entry_at run e ≡ Some (Send m (Regular c) u) → at_place (log_of run p) a ≡ Some (Send n (Regular c) v)
       → ((e.proc ≡ p) × (e.at < a)) ⊎ ((j : ℕ) × (a ≡ j + 1) × ((i : ℕ) × (i < j) × Delivers (log_of run p) i m (Regular c))) → (r k : ℕ) → DeliversIn (log_of run r) c n k → ComesNotBefore run c r m k → IsSuspect cmp s m
   suspected m n e p zero u v at_e at_f hop r k d never = absurd cc
   suspected m n e p (suc j) u v at_e at_f (inl (same, lt)) r k d never = in_one_log p e.proc e.at j r k m n u v at_e same lt at_f d never
-  suspected m n e p (suc j) u v at_e at_f (inr (b, is, (i, lt, delivers))) r k d never = from_delivery p i j r k m n v (omega arith) delivers at_f d never
+  suspected m n e p (suc j) u v at_e at_f (inr (b, is, (i, lt, delivers))) r k d never =
+      by_walk p i j r k (Deliver m (Regular c)) m n v (omega arith) delivers (Deliver m (Regular c), delivers, refl) refl at_f d never
 
   broken : (m : MsgId) (x : ConfId) (v : Service) (p i : ℕ) (rest : List Place) → slice_get (log_of run p) i ≡ Some (Send m x v) → BreaksCausalityIn run c (place p i ∷ rest) → IsSuspect cmp s m
   broken m x v p i [] at h = absurd h

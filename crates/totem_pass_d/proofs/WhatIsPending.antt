@@ -29,7 +29,7 @@ use Rattle.totem_pass_d.specs.Stays.{IsExcused, IsStayOf, HasStay, AreStays}
 use Rattle.totem_pass_d.specs.KnownStays.{AreKnown}
 use Rattle.totem_pass_d.specs.Pendings.{Adds, IsPendingIn, IsPendingFor}
 use Rattle.totem_pass_d.proofs.Excusing.{excused, not_excused}
-use Rattle.totem_pass_d.proofs.Adding.{AtSome, adds_nothing, adds_alike, Leaves, leaves_nothing, leaves_same, leaves_pushed}
+use Rattle.totem_pass_d.proofs.Adding.{AtSome, adds_alike, Leaves, leaves_nothing, leaves_same, leaves_pushed}
 
 -- ---- whether a process is open
 
@@ -117,9 +117,6 @@ all_missing stays p rest old now known still_open none h =
     from : (x : Pending) → IsPendingFor run c p x → (o : Option Sending) → tree.get message.cmp-value.it stays.sends x.msg ≡ o → Misses run c p (tree.keys stays.sends) x
     from x m None is = absurd ((known.sent.none x.msg is).never m.is.sent)
     from x m (Some s) is = record { listed = (btree_map_contains_key_iff total-law exact_message stays.sends x.msg).0 (rw is refl); missing = rw m.proc at m.is.missing; proc = m.proc }
-
-pub not_open : (run : List Log) (c : RingId) (p : ℕ) (s : List Pending) → (OpenIn run p c → ⊥) → Adds (IsPendingFor run c p) s s
-not_open run c p s closed = adds_nothing (IsPendingFor run c p) s (λ x m. closed (rw m.proc at m.is.still_open))
 
 -- ---- stay by stay
 

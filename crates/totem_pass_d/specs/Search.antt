@@ -1,6 +1,10 @@
 -- Lists of events that start in the stay of a process (docs/SPECIFICATIONS.md, "Faults").
 use Rattle.std.specs.Prelude.{◌≡◌, ℕ, ◌<◌, List, [], ◌∷◌}
 use Rattle.totem_ids.specs.declared.place.Place.{Place}
+use Rattle.totem_ids.specs.declared.ring.RingId.{RingId}
+use Rattle.totem_evs.specs.declared.log.Log.{Log}
+use Rattle.totem_evs.specs.declared.spec.SpecNo.{SpecNo}
+use Rattle.totem_evs.specs.RingFaults.{BreaksIn, MeetsIn}
 use Rattle.totem_evs.specs.Places.{At}
 use Rattle.totem_table.specs.Search.{place, IsLeastFrom}
 use Rattle.totem_pass_d.specs.declared.stay.Stay.{Stay}
@@ -26,6 +30,19 @@ pub record EachStandsInside (stays : List Stay) (Fact : ℕ → ℕ → Type 0) 
 abbrev pub IsOneEvent : (ℕ → ℕ → Type 0) → List Place → Type 0
 IsOneEvent Fact (e ∷ []) = At e Fact
 IsOneEvent Fact _ = ⊥
+
+-- the relation holds exactly for lists of one event with the property
+pub record IsOfOne (Holds : List Place → Type 0) (Fact : ℕ → ℕ → Type 0) : Type 0 where
+  pub empty : Holds [] → ⊥
+  pub one : (e : Place) → Holds (e ∷ []) → At e Fact
+  pub is : (e : Place) → At e Fact → Holds (e ∷ [])
+  pub many : (e f : Place) (more : List Place) → Holds (e ∷ f ∷ more) → ⊥
+
+-- what breaks the specification in c is one event with the property, each in one of the stays
+pub record IsBrokenAlone (run : List Log) (c : RingId) (stays : List Stay) (k : SpecNo) (Fact : ℕ → ℕ → Type 0) : Type 0 where
+  pub of : IsOfOne (BreaksIn run c k) Fact
+  pub inside : EachStandsInside stays Fact
+  pub met : ((p i : ℕ) → Fact p i → ⊥) → MeetsIn run c k
 
 -- the list starts in one of the stays, at an index that is reached
 pub record BeginsWithin (stays : List Stay) (Reaches : Stay → ℕ → Type 0) (places : List Place) : Type 0 where

@@ -1,12 +1,13 @@
-//! The least single event of a run that breaks a specification.
-ghost use Rattle.std.specs.Prelude.{◌≡◌, ℕ, IfOk, MatchOption};
+//! The least single event of a run that breaks a specification in a regular configuration.
+ghost use Rattle.std.specs.Prelude.{◌≡◌, ℕ, IfOk};
 ghost use Rattle.std.specs.Bool.{OnTrue, OnFalse};
-ghost use Rattle.totem_evs.specs.Answers.{IsLeast};
-ghost use Rattle.totem_table.specs.Search.{HoldsOfNone};
+ghost use Rattle.totem_evs.specs.Answers.{FindsIn};
+ghost use Rattle.totem_evs.specs.RingFaults.{MeetsIn};
+ghost use Rattle.totem_evs.specs.declared.spec.SpecNo.{SpecNo};
 ghost use Rattle.totem_pass_d.specs.declared.stays.Stays.{Stays};
 ghost use Rattle.totem_pass_d.specs.KnownStays.{AreKnown};
 ghost use Rattle.totem_pass_d.specs.Acts.{IsAmong};
-ghost use Rattle.totem_pass_d.specs.Search.{IsInside, EachStandsInside, IsOneEvent};
+ghost use Rattle.totem_pass_d.specs.Search.{IsInside, IsOneEvent, IsBrokenAlone};
 
 use crate::search::{EachIndex, Relation, least_found};
 use crate::stay::Stay;
@@ -20,8 +21,16 @@ pub trait EventTest {
     /// The stays.
     ghost among: { Self → Stays };
 
+    /// The specification.
+    ghost spec: { SpecNo };
+
     /// What it means that the event at an index of a process's log breaks the specification.
     ghost breaks: { Self → ℕ → ℕ → Type 0 };
+
+    /// Does nothing. Its contract says that the specification is broken by such events and by nothing else.
+    fn breaks_alone(&self)
+        requires { AreKnown (among self.now) }
+        ensures { IsBrokenAlone (among self.now).run.now.logs (among self.now).ring (among self.now).list.items spec (breaks self.now) };
 
     /// Returns whether the event at this index of a stay breaks the specification.
     fn breaks_at(&self, stay: &Stay, at: usize) -> bool
@@ -57,17 +66,22 @@ impl<T: EventTest> Relation for OneEvent<'_, T> {
     }
 }
 
-/// Returns the least event that a test finds.
+/// Returns the least event that breaks the specification of a test. None is searched for where it is known to be met.
 pub fn least_event<T: EventTest>(
     test: &T,
     alloc: Global,
     stays: &Stays,
+    is_met: bool,
 ) -> Result<Option<Places>, AllocError>
     requires known { AreKnown stays.now }
     requires among { T.among test.now ≡ stays.now }
-    requires inside { EachStandsInside stays.now.list.items (T.breaks test.now) }
-    ensures { IfOk result (λ found. MatchOption found (HoldsOfNone (IsOneEvent (T.breaks test.now))) (IsLeast (IsOneEvent (T.breaks test.now)))) }
+    requires met { OnTrue is_met (MeetsIn stays.now.run.now.logs stays.now.ring T.spec) }
+    ensures { IfOk result (FindsIn stays.now.run.now.logs stays.now.ring T.spec) }
 {
+    if is_met {
+        return Ok(None);
+    }
+    test.breaks_alone();
     let relation = OneEvent { test };
     let finder = EachIndex {
         relation: &relation,

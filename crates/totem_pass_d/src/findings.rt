@@ -2,8 +2,12 @@ ghost use Rattle.std.specs.Prelude.{IfOk};
 ghost use Rattle.totem_pass_d.specs.Findings.{AreFindings, AreMet};
 ghost use Rattle.totem_pass_d.specs.KnownStays.{AreKnown};
 
+use crate::events::least_event;
+use crate::installed::Uninstalled;
+use crate::own::Undelivered;
+use crate::safety::Unreached;
 use crate::stays::Stays;
-use crate::{atomicity, causality, gap, installed, own, safety};
+use crate::{atomicity, causality, gap};
 use std::alloc::{AllocError, Global};
 use totem_configuration_rules::Shown;
 use totem_evs::Places;
@@ -51,11 +55,11 @@ pub fn findings_in(alloc: Global, stays: &Stays, shown: &Shown) -> Result<Findin
     ensures { IfOk result (AreFindings stays.now.run.now.logs stays.now.ring) }
 {
     Ok(Findings {
-        own: own::find(alloc, stays, shown.own)?,
+        own: least_event(&Undelivered { stays }, alloc, stays, shown.own)?,
         atomicity: atomicity::find(alloc, stays, shown.atomicity)?,
         causality: causality::find(alloc, stays, shown.causality)?,
         gap: gap::find(alloc, stays, shown.gap)?,
-        safety: safety::find(alloc, stays, shown.safety)?,
-        installed: installed::find(alloc, stays, shown.installed)?,
+        safety: least_event(&Unreached { stays }, alloc, stays, shown.safety)?,
+        installed: least_event(&Uninstalled { stays }, alloc, stays, shown.installed)?,
     })
 }

@@ -58,7 +58,7 @@ impl Finder for Lacks<'_, '_, '_> {
         let Some(at) = self.stays.delivery_of(stay, self.later) else {
             return Ok(None);
         };
-        if self.stays.delivery_of(stay, self.earlier).is_some() {
+        if self.stays.delivers(stay, self.earlier) {
             return Ok(None);
         }
         if !self.has_sender(stay, at) {
@@ -112,12 +112,9 @@ fn is_common(stays: &Stays, leader: &Stay, follower: &Stay, at: usize) -> bool
     requires inside { IsInside leader.now at }
     ensures { OnFalse result (IsApart stays.now.run.now.logs stays.now.ring leader.now.proc follower.now.proc at) }
 {
-    let Entry::Deliver(message, _) = stays.entry_in(leader, at) else {
-        return false;
-    };
-    match stays.delivery_of(follower, message) {
-        Some(_) => true,
-        None => false,
+    match stays.entry_in(leader, at) {
+        Entry::Deliver(message, _) => stays.delivers(follower, message),
+        _ => false,
     }
 }
 
@@ -158,13 +155,7 @@ fn keeps_up(stays: &Stays, follower: &Stay, last: usize, message: &MsgId, at: us
     requires among { IsAmong stays.now.list.items follower.now }
     ensures { OnTrue result ((last ≤ at) ⊎ HasDelivered (log_of stays.now.run.now.logs follower.now.proc) stays.now.ring message.now) }
 {
-    if last <= at {
-        return true;
-    }
-    match stays.delivery_of(follower, message) {
-        Some(_) => true,
-        None => false,
-    }
+    last <= at || stays.delivers(follower, message)
 }
 
 /// Returns whether each follower delivers the leader's message, or delivers nothing that the leader delivers after it.

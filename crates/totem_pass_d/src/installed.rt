@@ -1,25 +1,23 @@
 //! 7.2: if a safe message is delivered in the regular configuration, each of its members changes to it
 //! (docs/SPECIFICATIONS.md, "7 Safe delivery").
-ghost use Rattle.std.specs.Prelude.{◌↔◌, IsTrue, IfOk, All};
+ghost use Rattle.std.specs.Prelude.{◌↔◌, IsTrue, All};
 ghost use Rattle.std.specs.Bool.{OnTrue, OnFalse};
-ghost use Rattle.totem_evs.specs.RingFaults.{MeetsIn};
-ghost use Rattle.totem_evs.specs.Answers.{FindsIn};
+ghost use Rattle.totem_evs.specs.declared.spec.SpecNo.TheVariants.{Installed};
 ghost use Rattle.totem_evs.specs.AgreementFaults.{IsNotInstalled};
 ghost use Rattle.totem_pass_d.specs.Acts.{HasCome};
 ghost use Rattle.totem_pass_d.specs.Reached.{HoldsNotOfAll};
 ghost use Rattle.totem_pass_d.specs.KnownStays.{AreKnown};
 
-use crate::events::{EventTest, least_event};
+use crate::events::EventTest;
 use crate::stay::Stay;
 use crate::stays::Stays;
-use std::alloc::{AllocError, Global};
-use totem_evs::{Entry, Places, SpecNo};
+use totem_evs::Entry;
 use totem_ids::Proc;
 
 /// The deliveries of safe messages in the regular configuration if a member never changes to it.
 #[derive(Clone, Copy)]
-struct Uninstalled<'s, 'r> {
-    stays: &'s Stays<'r>,
+pub struct Uninstalled<'s, 'r> {
+    pub stays: &'s Stays<'r>,
 }
 
 impl Uninstalled<'_, '_> {
@@ -47,7 +45,11 @@ impl Uninstalled<'_, '_> {
 impl EventTest for Uninstalled<'_, '_> {
     ghost among = { λ s. s.stays.now };
 
+    ghost spec = { Installed };
+
     ghost breaks = { λ s. IsNotInstalled s.stays.now.run.now.logs s.stays.now.ring };
+
+    fn breaks_alone(&self) {}
 
     fn breaks_at(&self, stay: &Stay, at: usize) -> bool {
         let Entry::Deliver(message, _) = self.stays.entry_in(stay, at) else {
@@ -61,16 +63,4 @@ impl EventTest for Uninstalled<'_, '_> {
         }
         !self.have_come(self.stays.members_at(stay, at))
     }
-}
-
-/// Returns the least event that breaks 7.2 in this configuration. None is searched for where it is known to be met.
-pub fn find(alloc: Global, stays: &Stays, is_met: bool) -> Result<Option<Places>, AllocError>
-    requires known { AreKnown stays.now }
-    requires met { OnTrue is_met (MeetsIn stays.now.run.now.logs stays.now.ring SpecNo.Installed) }
-    ensures { IfOk result (FindsIn stays.now.run.now.logs stays.now.ring SpecNo.Installed) }
-{
-    if is_met {
-        return Ok(None);
-    }
-    least_event(&Uninstalled { stays }, alloc, stays)
 }

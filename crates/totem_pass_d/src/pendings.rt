@@ -36,7 +36,7 @@ fn add_missing(list: &mut Vec<Pending>, stays: &Stays, stay: &Stay) -> Result<()
     }
     let proc = stay.proc;
     for message in stays.sends.keys() {
-        if stays.delivery_of(stay, message).is_none() {
+        if !stays.delivers(stay, message) {
             let msg = *message;
             list.push(Pending { proc, msg })?;
         }

@@ -1,25 +1,23 @@
 //! 7.1: a safe message that is delivered reaches each member of the configuration in which it is delivered
 //! (docs/SPECIFICATIONS.md, "7 Safe delivery").
-ghost use Rattle.std.specs.Prelude.{◌↔◌, IsTrue, IfOk, All};
+ghost use Rattle.std.specs.Prelude.{◌↔◌, IsTrue, All};
 ghost use Rattle.std.specs.Bool.{OnTrue, OnFalse};
-ghost use Rattle.totem_evs.specs.RingFaults.{MeetsIn};
-ghost use Rattle.totem_evs.specs.Answers.{FindsIn};
+ghost use Rattle.totem_evs.specs.declared.spec.SpecNo.TheVariants.{Safety};
 ghost use Rattle.totem_evs.specs.AgreementFaults.{IsNotReached};
 ghost use Rattle.totem_evs.specs.Following.{DeliversOrEnds};
 ghost use Rattle.totem_pass_d.specs.Reached.{HoldsNotOfAll};
 ghost use Rattle.totem_pass_d.specs.KnownStays.{AreKnown};
 
-use crate::events::{EventTest, least_event};
+use crate::events::EventTest;
 use crate::stay::Stay;
 use crate::stays::Stays;
-use std::alloc::{AllocError, Global};
-use totem_evs::{Entry, Places, SpecNo};
+use totem_evs::Entry;
 use totem_ids::{MsgId, Proc};
 
 /// The deliveries of safe messages that some member neither delivers nor is excused from delivering.
 #[derive(Clone, Copy)]
-struct Unreached<'s, 'r> {
-    stays: &'s Stays<'r>,
+pub struct Unreached<'s, 'r> {
+    pub stays: &'s Stays<'r>,
 }
 
 impl Unreached<'_, '_> {
@@ -31,13 +29,7 @@ impl Unreached<'_, '_> {
         let Some(stay) = self.stays.stay_of(proc) else {
             return false;
         };
-        if stay.is_excused() {
-            return true;
-        }
-        match self.stays.delivery_of(stay, message) {
-            Some(_) => true,
-            None => false,
-        }
+        stay.is_excused() || self.stays.delivers(stay, message)
     }
 
     /// Returns whether each of these members delivers the message, or is excused from delivering it.
@@ -55,7 +47,11 @@ impl Unreached<'_, '_> {
 impl EventTest for Unreached<'_, '_> {
     ghost among = { λ s. s.stays.now };
 
+    ghost spec = { Safety };
+
     ghost breaks = { λ s. IsNotReached s.stays.now.run.now.logs s.stays.now.ring };
+
+    fn breaks_alone(&self) {}
 
     fn breaks_at(&self, stay: &Stay, at: usize) -> bool {
         let Entry::Deliver(message, _) = self.stays.entry_in(stay, at) else {
@@ -66,16 +62,4 @@ impl EventTest for Unreached<'_, '_> {
         }
         !self.are_reached(self.stays.members_at(stay, at), message)
     }
-}
-
-/// Returns the least event that breaks 7.1 in this configuration. None is searched for where it is known to be met.
-pub fn find(alloc: Global, stays: &Stays, is_met: bool) -> Result<Option<Places>, AllocError>
-    requires known { AreKnown stays.now }
-    requires met { OnTrue is_met (MeetsIn stays.now.run.now.logs stays.now.ring SpecNo.Safety) }
-    ensures { IfOk result (FindsIn stays.now.run.now.logs stays.now.ring SpecNo.Safety) }
-{
-    if is_met {
-        return Ok(None);
-    }
-    least_event(&Unreached { stays }, alloc, stays)
 }

@@ -1,7 +1,8 @@
 //! The stays of all processes in one regular configuration, and what they sent and delivered there.
 ghost use Rattle.std.specs.Prelude.{◌≡◌, ◌↔◌, IsTrue, IfSome, IfNone, IfOk, OnOk, Some, All, length, slice_get};
 ghost use Rattle.totem_evs.specs.Events.{log_of};
-ghost use Rattle.totem_evs.specs.Following.{DeliversIn};
+ghost use Rattle.std.specs.Bool.{OnTrue, OnFalse};
+ghost use Rattle.totem_evs.specs.Following.{DeliversIn, HasDelivered};
 ghost use Rattle.totem_evs.specs.Answers.{MeetsPasses};
 ghost use Rattle.totem_evs.specs.Missing.{members_of};
 ghost use Rattle.totem_pass_d.specs.Stays.{IsShortStay, AreStays};
@@ -123,6 +124,19 @@ impl<'r> Stays<'r> {
     {
         stay.deliveries
             .index_of(stay.log, stay.from, stay.end, message)
+    }
+
+    /// Returns whether the process of this stay delivers the message there.
+    pub fn delivers(&self, stay: &Stay, message: &MsgId) -> bool
+        requires known { AreKnown self.now }
+        requires among { IsAmong self.now.list.items stay.now }
+        ensures there { OnTrue result (HasDelivered (log_of self.now.run.now.logs stay.now.proc) self.now.ring message.now) }
+        ensures never { OnFalse result (DeliversNot (log_of self.now.run.now.logs stay.now.proc) self.now.ring message.now) }
+    {
+        match self.delivery_of(stay, message) {
+            Some(_) => true,
+            None => false,
+        }
     }
 
     /// Returns the send of the message in the regular configuration, if it was sent there.

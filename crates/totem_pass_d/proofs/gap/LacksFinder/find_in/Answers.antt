@@ -1,17 +1,15 @@
-use Rattle.std.proofs.Common.{sym}
 use Rattle.totem_pass_d.proofs.Facts.{facts_of, delivery_inside, delivery_short}
 use Rattle.totem_pass_d.proofs.GapFaults.{none_later, none_lacks, none_member, lack_here}
-use Rattle.totem_pass_d.proofs.Indexing.{found_there, not_found}
 use Rattle.totem_pass_d.proofs.gap.LacksFinder.find_in.Goals as goal
 
 pub returns-in_default : goal.returns-in_default
 returns-in_default c =
     none_later _ _ c.args.stay.now _ _ _ c.in_default.ensures.none
 
-pub returns-then-is_some : goal.returns-then-is_some
-returns-then-is_some c =
-    let found = found_there c.delivery_of-2.result _ (sym c.if-is_some.ensures) c.delivery_of-2.ensures.found in
-    none_lacks _ _ c.args.stay.now _ found.0 _ _ found.1
+pub returns-then-delivers : goal.returns-then-delivers
+returns-then-delivers c =
+    let has = c.if-delivers.ensures.there in
+    none_lacks _ _ c.args.stay.now _ has.0 _ _ has.1
 
 pub returns-then-not-has_sender : goal.returns-then-not-has_sender
 returns-then-not-has_sender c =
@@ -21,7 +19,7 @@ returns-then-not-has_sender c =
 pub returns : goal.returns
 returns c =
     let of = facts_of c.args.self.now.stays.now c.requires.known in
-    lack_here _ _ _ c.args.stay.now _ _ _ _ _ _ of c.in-Some.ensures.found (not_found c.delivery_of-2.result _ (sym c.if-is_some.ensures) c.delivery_of-2.ensures.none)
+    lack_here _ _ _ c.args.stay.now _ _ _ _ _ _ of c.in-Some.ensures.found c.if-delivers.ensures.never
     c.has_sender.ensures c.if-not-has_sender.false c.in_ok-only.ensures
 
 pub has_sender-requires-clause-inside : goal.has_sender-requires-clause-inside

@@ -1,7 +1,7 @@
-use Rattle.std.proofs.Common.{refl, inl, inr}
+use Rattle.std.proofs.Common.{inr}
 use Rattle.totem_pass_d.proofs.Facts.{facts_of}
 use Rattle.totem_pass_d.proofs.Excusing.{excused}
-use Rattle.totem_pass_d.proofs.EventFaults.{missed, absent}
+use Rattle.totem_pass_d.proofs.EventFaults.{reached, absent}
 use Rattle.totem_pass_d.proofs.safety.Unreached.is_reached.Goals as goal
 
 pub returns-in_default : goal.returns-in_default
@@ -15,16 +15,11 @@ returns-then-is_excused c =
     let s = c.args.self.now.stays.now in
     let f = facts_of s c.requires in
     let is = f.each c.in-Some.stay.now c.in-Some.ensures.found in
-    (λ t. rw (← c.in-Some.ensures.proc) (inr (excused s.run.now.logs s.ring c.in-Some.stay.now is.of (c.if-is_excused.ensures.0 refl))), λ h. refl)
+    (λ t. rw (← c.in-Some.ensures.proc) (inr (excused s.run.now.logs s.ring c.in-Some.stay.now is.of (c.is_excused.ensures.0 c.if-is_excused.true))), λ h. c.if-is_excused.true)
 
-pub returns-in-Some-delivery_of : goal.returns-in-Some-delivery_of
-returns-in-Some-delivery_of c =
+pub returns-else-is_excused : goal.returns-else-is_excused
+returns-else-is_excused c =
     let s = c.args.self.now.stays.now in
-    (λ t. rw (← c.in-Some.ensures.proc) (inl (c.in-Some-delivery_of.field-0, c.in-Some-delivery_of.ensures.found)), λ h. refl)
-
-pub returns-in-None : goal.returns-in-None
-returns-in-None c =
-    let s = c.args.self.now.stays.now in
-    let f = facts_of s c.requires in
-    let is = f.each c.in-Some.stay.now c.in-Some.ensures.found in
-    (λ t. absurd cc, λ h. absurd (missed s.run.now.logs s.ring c.in-Some.stay.now c.args.message.now is.of (λ e. let t = c.if-is_excused.ensures.1 e in cc) c.in-None.ensures.none (rw c.in-Some.ensures.proc h)))
+    let is = (facts_of s c.requires).each c.in-Some.stay.now c.in-Some.ensures.found in
+    rw c.in-Some.ensures.proc at
+    (reached s.run.now.logs s.ring c.in-Some.stay.now c.args.message.now c.delivers.result is.of (λ e. let t = c.is_excused.ensures.1 e in let f = c.if-is_excused.false in cc) c.delivers.ensures.there c.delivers.ensures.never)
