@@ -3,7 +3,7 @@ ghost use Rattle.std.specs.Prelude.{IfOk};
 ghost use Rattle.totem_evs.specs.Answers.{HasCertificate};
 ghost use Rattle.totem_evs.specs.Certificates.{Certified};
 ghost use Rattle.totem_table.specs.Changes.{AreChanges};
-ghost use Rattle.totem_configuration_rules.specs.Traffics.{AreTraffic};
+ghost use Rattle.totem_traffic_rules.specs.Traffics.{AreTraffic};
 ghost use Rattle.totem_judge.specs.Judged.{IsView};
 ghost use Rattle.totem_check.specs.Checks.{HasPassed, IsEarlyFault, Judges, Checks, RefusesRightly, BeginsWith};
 
@@ -12,7 +12,7 @@ use crate::check_fault::CheckFault;
 use std::alloc::{AllocError, Global};
 use totem_certificate::Certificate;
 use totem_certificate_check::certified;
-use totem_configuration_rules::Observed;
+use totem_traffic_rules::Observed;
 use totem_evs::{Fault, Run};
 use totem_judge::{View, observe};
 use totem_pass_ab::pass_a_and_b;

@@ -4,8 +4,8 @@
 //! pending and who waits (`Checks`, specs/Checks); a refusal is right (`RefusesRightly`), and `Broken` names the first fault that the
 //! audit would list (`IsFirstFault`). Out of memory says nothing.
 //!
-//! Where totem_certificate_check and totem_judge say yes, so does `check`. Otherwise the passes are asked what is broken; if they found
-//! nothing, the answer would be yes all the same, but no such run is known.
+//! Where totem_certificate_check and totem_judge say yes, so does `check`. If the judge does not, the passes (totem_pass_ab, totem_pass_d)
+//! are asked what is broken; if they found nothing, the answer would be yes all the same, but no such run is known.
 #![tactic(auto)]
 
 mod accepted;

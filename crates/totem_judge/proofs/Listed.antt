@@ -14,13 +14,13 @@ use Rattle.totem_evs.specs.Changes.{Names}
 use Rattle.totem_evs.specs.Following.{Follows, Com, DeliversIn}
 use Rattle.totem_evs.specs.Certificates.{Numbering, Certified}
 use Rattle.totem_evs.proofs.LogOf.{less_or_not}
-use Rattle.totem_configuration_rules.specs.declared.traffic.Sent.{Sent}
-use Rattle.totem_configuration_rules.specs.declared.traffic.Got.{Got}
-use Rattle.totem_configuration_rules.specs.declared.traffic.Traffic.{Traffic}
-use Rattle.totem_configuration_rules.specs.Clean.{IsBy}
-use Rattle.totem_configuration_rules.specs.Traffics.{IsLogAt}
+use Rattle.totem_traffic_rules.specs.declared.traffic.Sent.{Sent}
+use Rattle.totem_traffic_rules.specs.declared.traffic.Got.{Got}
+use Rattle.totem_traffic_rules.specs.declared.traffic.Traffic.{Traffic}
+use Rattle.totem_traffic_rules.specs.Clean.{IsBy}
+use Rattle.totem_traffic_rules.specs.Traffics.{IsLogAt}
 use Rattle.totem_run_rules.specs.Stays.{IsStay, Bounds}
-use Rattle.totem_configuration_rules.proofs.Facts.{one_log}
+use Rattle.totem_traffic_rules.proofs.Facts.{one_log}
 use Rattle.totem_run_rules.proofs.Staying.{names_no_change, is_stay}
 use Rattle.totem_judge.specs.declared.gathered.Origin.{Origin}
 use Rattle.totem_judge.specs.declared.gathered.Gathered.{Gathered}

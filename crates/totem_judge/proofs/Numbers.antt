@@ -15,7 +15,7 @@ use Rattle.totem_certificate_check.specs.Rising.{RisesBefore}
 use Rattle.totem_certificate_check.proofs.Matching.{line_at, matches_at}
 use Rattle.totem_certificate_check.proofs.Walking.{at_index}
 use Rattle.totem_certificate_check.proofs.Standing.{stands_at}
-use Rattle.totem_configuration_rules.specs.Traffics.{IsLogAt}
+use Rattle.totem_traffic_rules.specs.Traffics.{IsLogAt}
 use Rattle.totem_judge.specs.Events.{IsEventAt}
 
 pub below_or_not : (a b : ℕ) → (a < b) ⊎ (b ≤ a)

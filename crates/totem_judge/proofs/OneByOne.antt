@@ -10,12 +10,12 @@ use Rattle.totem_evs.specs.Events.{log_of}
 use Rattle.totem_evs.specs.Following.{StaysIn}
 use Rattle.totem_evs.specs.declared.pending.Pending.{Pending}
 use Rattle.totem_evs.specs.Certificates.{Numbering}
-use Rattle.totem_configuration_rules.specs.declared.observed.Observed.{Observed}
-use Rattle.totem_configuration_rules.proofs.Facts.{has_log}
+use Rattle.totem_traffic_rules.specs.declared.observed.Observed.{Observed}
+use Rattle.totem_traffic_rules.proofs.Facts.{has_log}
 use Rattle.totem_judge.specs.declared.gathered.Gathered.{Gathered}
 use Rattle.totem_judge.specs.Pending.{IsPendingFrom, IsPendingTo}
 use Rattle.totem_judge.specs.Judged.{IsObserved, IsVerified, AllAreTraffic, AreObserved}
-use Rattle.totem_configuration_rules.specs.Pending.{IsPendingIn}
+use Rattle.totem_traffic_rules.specs.Pending.{IsPendingIn}
 use Rattle.totem_judge.proofs.Steps.{append_get, push_cases, at_end}
 
 pub nothing_left : {X : Type 0} (l : List X) → length l ≡ 0 → l ≡ []

@@ -15,14 +15,14 @@ use Rattle.totem_evs.specs.Agreement.{Goes}
 use Rattle.totem_evs.specs.Answers.{MeetsPasses}
 use Rattle.totem_evs.specs.Certificates.{Numbering}
 use Rattle.totem_evs.proofs.LogOf.{Rising}
-use Rattle.totem_configuration_rules.specs.declared.traffic.MemberLogs.{MemberLogs}
-use Rattle.totem_configuration_rules.specs.declared.traffic.Traffic.{Traffic}
-use Rattle.totem_configuration_rules.specs.LogSets.{Has}
-use Rattle.totem_configuration_rules.specs.Traffics.{IsLogAt, AreLogsOf, AreMembers, IsFollowingAs, HasFollowing}
-use Rattle.totem_configuration_rules.proofs.Facts.{all_at, has_log}
+use Rattle.totem_traffic_rules.specs.declared.traffic.MemberLogs.{MemberLogs}
+use Rattle.totem_traffic_rules.specs.declared.traffic.Traffic.{Traffic}
+use Rattle.totem_traffic_rules.specs.LogSets.{Has}
+use Rattle.totem_traffic_rules.specs.Traffics.{IsLogAt, AreLogsOf, AreMembers, IsFollowingAs, HasFollowing}
+use Rattle.totem_traffic_rules.proofs.Facts.{all_at, has_log}
 use Rattle.totem_run_rules.proofs.Staying.{same_change, change_within}
 use Rattle.totem_evs.proofs.NextChanges.{one_next}
-use Rattle.totem_configuration_rules.proofs.Together.{one_following, follows_too}
+use Rattle.totem_traffic_rules.proofs.Together.{one_following, follows_too}
 use Rattle.totem_judge.specs.declared.gathered.Gathered.{Gathered}
 use Rattle.totem_judge.specs.declared.gathered.Stay.{Stay}
 use Rattle.totem_judge.specs.Ends.{HasSuch, IsAny, IsExcusedIn, IsOpenAt}

@@ -16,11 +16,11 @@ use Rattle.totem_evs.specs.Synchrony.{IsVirtuallySynchronous}
 use Rattle.totem_evs.proofs.Synchronous.{MeetsConfigurations, synchronous}
 use Rattle.totem_evs.proofs.Originating.{ring_of_send}
 use Rattle.totem_certificate_check.proofs.Walking.{at_index}
-use Rattle.totem_configuration_rules.specs.declared.observed.Observed.{Observed}
-use Rattle.totem_configuration_rules.specs.Clean.{AgreesIn}
-use Rattle.totem_configuration_rules.specs.Pending.{IsPendingIn}
-use Rattle.totem_configuration_rules.specs.Traffics.{IsTrafficOf, AreTraffic, IsGotIn, HasSent}
-use Rattle.totem_configuration_rules.proofs.Facts.{has_log}
+use Rattle.totem_traffic_rules.specs.declared.observed.Observed.{Observed}
+use Rattle.totem_traffic_rules.specs.Clean.{AgreesIn}
+use Rattle.totem_traffic_rules.specs.Pending.{IsPendingIn}
+use Rattle.totem_traffic_rules.specs.Traffics.{IsTrafficOf, AreTraffic, IsGotIn, HasSent}
+use Rattle.totem_traffic_rules.proofs.Facts.{has_log}
 use Rattle.totem_judge.specs.declared.gathered.Gathered.{Gathered}
 use Rattle.totem_judge.specs.Covered.{AreCovered, AreRisingTo}
 use Rattle.totem_judge.specs.Pending.{IsPendingFrom}
@@ -30,9 +30,9 @@ use Rattle.totem_judge.specs.Judged.{IsVerified, AllAreTraffic, AreObserved, Cov
 use Rattle.totem_judge.proofs.Whole.{AllSeen, Gathers, gathers, verified}
 use Rattle.totem_judge.proofs.Unsent.{unsent_met}
 use Rattle.totem_run_rules.proofs.PendingOrder.{are_pending}
-use Rattle.totem_configuration_rules.specs.declared.traffic.Sent.{Sent}
-use Rattle.totem_configuration_rules.specs.declared.traffic.Got.{Got}
-use Rattle.totem_configuration_rules.specs.declared.traffic.Traffic.{Traffic}
+use Rattle.totem_traffic_rules.specs.declared.traffic.Sent.{Sent}
+use Rattle.totem_traffic_rules.specs.declared.traffic.Got.{Got}
+use Rattle.totem_traffic_rules.specs.declared.traffic.Traffic.{Traffic}
 use Rattle.totem_judge.proofs.Listed.{Verified}
 use Rattle.totem_judge.proofs.Told.{sent_in, got_in, all_sent, all_got, sent_order, got_order, heard, behind}
 use Rattle.totem_judge.proofs.Placed.{logs_are, members_are, ended_are, open_are, following_are}

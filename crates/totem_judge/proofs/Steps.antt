@@ -6,13 +6,13 @@ use Rattle.totem_ids.specs.declared.ring.RingId.{RingId}
 use Rattle.totem_ids.specs.declared.conf.ConfId.{ConfId}
 use Rattle.totem_evs.specs.declared.log.Log.{Log}
 use Rattle.totem_evs.specs.declared.pending.Pending.{Pending}
-use Rattle.totem_configuration_rules.specs.declared.log_set.LogSet.{LogSet}
-use Rattle.totem_configuration_rules.specs.declared.traffic.Following.{Following}
-use Rattle.totem_configuration_rules.specs.declared.traffic.Traffic.{Traffic}
-use Rattle.totem_configuration_rules.specs.LogSets.{Has, IsEmpty}
-use Rattle.totem_configuration_rules.specs.Traffics.{IsLogAt, IsTrafficOf}
-use Rattle.totem_configuration_rules.specs.Pending.{AddsPending}
-use Rattle.totem_configuration_rules.proofs.Rowing.{before_or_at, one_at}
+use Rattle.totem_traffic_rules.specs.declared.log_set.LogSet.{LogSet}
+use Rattle.totem_traffic_rules.specs.declared.traffic.Following.{Following}
+use Rattle.totem_traffic_rules.specs.declared.traffic.Traffic.{Traffic}
+use Rattle.totem_traffic_rules.specs.LogSets.{Has, IsEmpty}
+use Rattle.totem_traffic_rules.specs.Traffics.{IsLogAt, IsTrafficOf}
+use Rattle.totem_traffic_rules.specs.Pending.{AddsPending}
+use Rattle.totem_traffic_rules.proofs.Rowing.{before_or_at, one_at}
 use Rattle.totem_judge.specs.declared.gathered.Gathered.{Gathered}
 use Rattle.totem_judge.proofs.Numbers.{below_or_not}
 use Rattle.totem_judge.specs.declared.gathered.Stay.{Stay}
@@ -24,8 +24,8 @@ use Rattle.totem_judge.specs.Pending.{IsPendingTo, AddsAll}
 use Rattle.totem_ids.specs.declared.message.MsgId.{MsgId}
 use Rattle.totem_evs.specs.declared.entry.Entry.{Entry}
 use Rattle.totem_evs.specs.declared.entry.Entry.TheVariants.{Deliver}
-use Rattle.totem_configuration_rules.specs.declared.traffic.Got.{Got}
-use Rattle.totem_configuration_rules.specs.Clean.{IsBy}
+use Rattle.totem_traffic_rules.specs.declared.traffic.Got.{Got}
+use Rattle.totem_traffic_rules.specs.Clean.{IsBy}
 use Rattle.totem_judge.specs.Lists.{EachBelow, AreSkipped, IsDeliveryOf, IsListed, AreAsListed}
 
 same_or_not : (a b : ℕ) → (a ≡ b) ⊎ (a ≢ b)

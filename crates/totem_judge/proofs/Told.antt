@@ -11,13 +11,13 @@ use Rattle.totem_evs.specs.declared.log.Log.{Log}
 use Rattle.totem_evs.specs.Events.{Sends, Delivers, IsSafe, log_of}
 use Rattle.totem_evs.specs.Following.{DeliversIn, HasDelivered}
 use Rattle.totem_evs.specs.Certificates.{Numbering}
-use Rattle.totem_configuration_rules.specs.declared.traffic.Sent.{Sent}
-use Rattle.totem_configuration_rules.specs.declared.traffic.Got.{Got}
-use Rattle.totem_configuration_rules.specs.declared.traffic.Traffic.{Traffic}
-use Rattle.totem_configuration_rules.specs.LogSets.{Has}
-use Rattle.totem_configuration_rules.specs.Clean.{IsBy}
-use Rattle.totem_configuration_rules.specs.Traffics.{IsLogAt, AreLogsOf, DeliversBehind, IsSentIn, IsOf, IsGotIn, HasSent, HasGot, SentInOrder, GotInOrder, HeardBefore, GotBehind}
-use Rattle.totem_configuration_rules.proofs.Facts.{has_log}
+use Rattle.totem_traffic_rules.specs.declared.traffic.Sent.{Sent}
+use Rattle.totem_traffic_rules.specs.declared.traffic.Got.{Got}
+use Rattle.totem_traffic_rules.specs.declared.traffic.Traffic.{Traffic}
+use Rattle.totem_traffic_rules.specs.LogSets.{Has}
+use Rattle.totem_traffic_rules.specs.Clean.{IsBy}
+use Rattle.totem_traffic_rules.specs.Traffics.{IsLogAt, AreLogsOf, DeliversBehind, IsSentIn, IsOf, IsGotIn, HasSent, HasGot, SentInOrder, GotInOrder, HeardBefore, GotBehind}
+use Rattle.totem_traffic_rules.proofs.Facts.{has_log}
 use Rattle.totem_judge.specs.declared.gathered.Origin.{Origin}
 use Rattle.totem_judge.specs.declared.gathered.Gathered.{Gathered}
 use Rattle.totem_judge.specs.Events.{IsEventAt}

@@ -11,7 +11,7 @@ use Rattle.totem_evs.specs.Following.{IsNextChange, Follows, Com}
 use Rattle.totem_evs.specs.Delivery.{WasSentFor, DeliversWhatWasSent}
 use Rattle.totem_evs.specs.Certificates.{Numbering}
 use Rattle.totem_evs.proofs.Originating.{LastBefore, last_before}
-use Rattle.totem_configuration_rules.proofs.Facts.{has_log}
+use Rattle.totem_traffic_rules.proofs.Facts.{has_log}
 use Rattle.totem_judge.specs.declared.gathered.Gathered.{Gathered}
 use Rattle.totem_judge.proofs.Listed.{listed, sent_at}
 use Rattle.totem_judge.proofs.Whole.{AllSeen, gathers, verified}

@@ -11,8 +11,8 @@ use Rattle.totem_evs.specs.Events.{ChangesTo, log_of}
 use Rattle.totem_evs.specs.Following.{Follows}
 use Rattle.totem_evs.specs.Certificates.{Numbering, Certified}
 use Rattle.totem_evs.proofs.LogOf.{less_or_not}
-use Rattle.totem_configuration_rules.specs.declared.traffic.Traffic.{Traffic}
-use Rattle.totem_configuration_rules.specs.Traffics.{IsLogAt}
+use Rattle.totem_traffic_rules.specs.declared.traffic.Traffic.{Traffic}
+use Rattle.totem_traffic_rules.specs.Traffics.{IsLogAt}
 use Rattle.totem_run_rules.specs.Stays.{IsStay}
 use Rattle.totem_run_rules.specs.Orderly.{IsOrderly}
 use Rattle.totem_run_rules.proofs.Staying.{same_change, change_within}

@@ -2,8 +2,8 @@
 use Rattle.std.specs.Prelude.{◌≡◌, ◌↔◌, ℕ, ◌<◌, List, length, slice_get, Some}
 use Rattle.totem_evs.specs.declared.log.Log.{Log}
 use Rattle.totem_evs.specs.declared.ending.Ending.TheVariants.{Failed, Quiet}
-use Rattle.totem_configuration_rules.specs.declared.log_set.LogSet.{LogSet}
-use Rattle.totem_configuration_rules.specs.LogSets.{Has}
+use Rattle.totem_traffic_rules.specs.declared.log_set.LogSet.{LogSet}
+use Rattle.totem_traffic_rules.specs.LogSets.{Has}
 use Rattle.totem_judge.specs.declared.gathered.Stay.{Stay}
 
 -- one of the first n stays is of this log and keeps the condition

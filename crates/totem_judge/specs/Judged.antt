@@ -6,10 +6,10 @@ use Rattle.totem_evs.specs.declared.pending.Pending.{Pending}
 use Rattle.totem_evs.specs.Answers.{MeetsPasses, IsRing}
 use Rattle.totem_evs.specs.Certificates.{Numbering}
 use Rattle.totem_evs.specs.Unsettled.{ArePending}
-use Rattle.totem_configuration_rules.specs.declared.observed.Observed.{Observed}
-use Rattle.totem_configuration_rules.specs.declared.traffic.Traffic.{Traffic}
-use Rattle.totem_configuration_rules.specs.Clean.{ShowsAgreement}
-use Rattle.totem_configuration_rules.specs.Traffics.{IsTrafficOf, AreTraffic}
+use Rattle.totem_traffic_rules.specs.declared.observed.Observed.{Observed}
+use Rattle.totem_traffic_rules.specs.declared.traffic.Traffic.{Traffic}
+use Rattle.totem_traffic_rules.specs.Clean.{ShowsAgreement}
+use Rattle.totem_traffic_rules.specs.Traffics.{IsTrafficOf, AreTraffic}
 use Rattle.totem_judge.specs.declared.gathered.Gathered.{Gathered}
 use Rattle.totem_judge.specs.Seen.{IsSeen}
 use Rattle.totem_judge.specs.Lists.{EachBelow}

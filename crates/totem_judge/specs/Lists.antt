@@ -10,11 +10,11 @@ use Rattle.totem_evs.specs.declared.entry.Entry.{Entry}
 use Rattle.totem_evs.specs.declared.entry.Entry.TheVariants.{Conf, Send, Deliver, Fail}
 use Rattle.totem_evs.specs.declared.log.Log.{Log}
 use Rattle.totem_evs.specs.Certificates.{Numbering}
-use Rattle.totem_configuration_rules.specs.declared.log_set.LogSet.{LogSet}
-use Rattle.totem_configuration_rules.specs.declared.traffic.Sent.{Sent}
-use Rattle.totem_configuration_rules.specs.declared.traffic.Got.{Got}
-use Rattle.totem_configuration_rules.specs.LogSets.{Has}
-use Rattle.totem_configuration_rules.specs.Clean.{IsBy}
+use Rattle.totem_traffic_rules.specs.declared.log_set.LogSet.{LogSet}
+use Rattle.totem_traffic_rules.specs.declared.traffic.Sent.{Sent}
+use Rattle.totem_traffic_rules.specs.declared.traffic.Got.{Got}
+use Rattle.totem_traffic_rules.specs.LogSets.{Has}
+use Rattle.totem_traffic_rules.specs.Clean.{IsBy}
 use Rattle.totem_judge.specs.declared.gathered.Origin.{Origin}
 use Rattle.totem_judge.specs.declared.gathered.Gathered.{Gathered}
 use Rattle.totem_judge.specs.declared.gathered.Stay.{Stay}

@@ -1,10 +1,10 @@
 -- The members of a configuration, as logs.
 use Rattle.std.specs.Prelude.{◌≡◌, ◌↔◌, ℕ, ◌<◌, IsTrue, List, length, slice_get, Some, Contains}
 use Rattle.totem_evs.specs.declared.log.Log.{Log}
-use Rattle.totem_configuration_rules.specs.declared.log_set.LogSet.{LogSet}
-use Rattle.totem_configuration_rules.specs.declared.traffic.MemberLogs.{MemberLogs}
-use Rattle.totem_configuration_rules.specs.LogSets.{Has}
-use Rattle.totem_configuration_rules.specs.Traffics.{IsLogAt}
+use Rattle.totem_traffic_rules.specs.declared.log_set.LogSet.{LogSet}
+use Rattle.totem_traffic_rules.specs.declared.traffic.MemberLogs.{MemberLogs}
+use Rattle.totem_traffic_rules.specs.LogSets.{Has}
+use Rattle.totem_traffic_rules.specs.Traffics.{IsLogAt}
 
 -- q has a log
 pub record HasLog (run : List Log) (q : ℕ) : Type 0 where

@@ -3,9 +3,9 @@ use Rattle.std.specs.Prelude.{◌≡◌, ◌⊎◌, ◌↔◌, ℕ, ◌<◌, Lis
 use Rattle.totem_ids.specs.declared.ring.RingId.{RingId}
 use Rattle.totem_evs.specs.declared.log.Log.{Log}
 use Rattle.totem_evs.specs.declared.pending.Pending.{Pending}
-use Rattle.totem_configuration_rules.specs.declared.traffic.Traffic.{Traffic}
-use Rattle.totem_configuration_rules.specs.Traffics.{IsLogAt, IsTrafficOf}
-use Rattle.totem_configuration_rules.specs.Pending.{IsPendingIn}
+use Rattle.totem_traffic_rules.specs.declared.traffic.Traffic.{Traffic}
+use Rattle.totem_traffic_rules.specs.Traffics.{IsLogAt, IsTrafficOf}
+use Rattle.totem_traffic_rules.specs.Pending.{IsPendingIn}
 use Rattle.totem_judge.specs.declared.gathered.Gathered.{Gathered}
 
 -- x is pending in c, for the process of one of the first n logs

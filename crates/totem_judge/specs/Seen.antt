@@ -5,9 +5,9 @@ use Rattle.totem_evs.specs.declared.log.Log.{Log}
 use Rattle.totem_evs.specs.Events.{ChangesWith}
 use Rattle.totem_evs.specs.Certificates.{Numbering}
 use Rattle.totem_certificate_check.specs.Rising.{RisesBefore}
-use Rattle.totem_configuration_rules.specs.declared.log_set.LogSet.{LogSet}
-use Rattle.totem_configuration_rules.specs.declared.traffic.MemberLogs.{MemberLogs}
-use Rattle.totem_configuration_rules.specs.declared.traffic.Traffic.{Traffic}
+use Rattle.totem_traffic_rules.specs.declared.log_set.LogSet.{LogSet}
+use Rattle.totem_traffic_rules.specs.declared.traffic.MemberLogs.{MemberLogs}
+use Rattle.totem_traffic_rules.specs.declared.traffic.Traffic.{Traffic}
 use Rattle.totem_judge.specs.declared.gathered.Gathered.{Gathered}
 use Rattle.totem_judge.specs.declared.gathered.Stay.{Stay}
 use Rattle.totem_judge.specs.StaysIn.{IsBounded}

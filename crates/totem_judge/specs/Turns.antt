@@ -3,8 +3,8 @@ use Rattle.std.specs.Prelude.{◌≡◌, ℕ, ◌<◌, List, length, slice_get, 
 use Rattle.totem_ids.specs.declared.conf.ConfId.{ConfId}
 use Rattle.totem_evs.specs.declared.log.Log.{Log}
 use Rattle.totem_evs.specs.Events.{ChangesWith}
-use Rattle.totem_configuration_rules.specs.declared.traffic.Following.{Following}
-use Rattle.totem_configuration_rules.specs.LogSets.{Has}
+use Rattle.totem_traffic_rules.specs.declared.traffic.Following.{Following}
+use Rattle.totem_traffic_rules.specs.LogSets.{Has}
 use Rattle.totem_judge.specs.declared.gathered.Stay.{Stay}
 use Rattle.totem_judge.specs.Ends.{Selects}
 use Rattle.totem_judge.specs.Members.{AreMemberLogs}

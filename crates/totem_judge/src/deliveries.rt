@@ -7,7 +7,7 @@ ghost use Rattle.totem_judge.specs.Seen.{IsReplayed};
 use crate::gathered::{Gathered, Stay};
 use crate::stay::is_bounded;
 use totem_certificate::Line;
-use totem_configuration_rules::{Got, Sent};
+use totem_traffic_rules::{Got, Sent};
 use totem_evs::{Entry, Log};
 use totem_ids::MsgId;
 

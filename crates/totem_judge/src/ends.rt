@@ -3,7 +3,7 @@ ghost use Rattle.std.specs.Prelude.{◌≡◌, ◌↔◌, IsTrue, length};
 ghost use Rattle.totem_judge.specs.Ends.{IsExcusedIn, GoesOnAt, AreEnds};
 
 use crate::gathered::Stay;
-use totem_configuration_rules::LogSet;
+use totem_traffic_rules::LogSet;
 use totem_evs::{Ending, Log};
 
 /// The logs that stay in a configuration, those of them that fail or are open there, and those that are open.

@@ -5,7 +5,7 @@ ghost use Rattle.totem_judge.specs.Turns.{TurnsTo, TurnsNowhere, TurnsToConf, Go
 use crate::gathered::Stay;
 use crate::members::member_logs;
 use std::alloc::{AllocError, Global};
-use totem_configuration_rules::{Following, LogSet};
+use totem_traffic_rules::{Following, LogSet};
 use totem_evs::{Entry, Log, Members};
 use totem_ids::ConfId;
 

@@ -7,7 +7,7 @@ use crate::gathered::{Gathered, Origin, Stay};
 use std::alloc::{AllocError, Global};
 use std::collections::BTreeMap;
 use totem_certificate::Line;
-use totem_configuration_rules::{Got, LogSet, Sent};
+use totem_traffic_rules::{Got, LogSet, Sent};
 use totem_evs::{Entry, Log};
 use totem_ids::{ConfId, MsgId, RingId, Service};
 

@@ -2,7 +2,7 @@
 ghost use Rattle.std.specs.Prelude.{◌<◌};
 
 use std::alloc::Global;
-use totem_configuration_rules::{Got, Sent};
+use totem_traffic_rules::{Got, Sent};
 use totem_ids::{RingId, Service};
 
 /// A stay: the log changes to the regular configuration at `from` and to what follows that at `turn`, and its entries up to

@@ -13,7 +13,7 @@ use crate::pending::add_pending;
 use crate::traffic::traffic_of;
 use std::alloc::{AllocError, Global};
 use totem_certificate::{Certificate, Line};
-use totem_configuration_rules::{Observed, is_agreed};
+use totem_traffic_rules::{Observed, is_agreed};
 use totem_evs::{Log, Pending, Run};
 use totem_run_rules::{end_together, in_order, is_orderly};
 

@@ -3,7 +3,7 @@ ghost use Rattle.std.specs.Prelude.{◌↔◌, ◌≤◌, IsTrue, length};
 ghost use Rattle.std.specs.Bool.{OnTrue};
 ghost use Rattle.totem_judge.specs.Members.{HasLog, AllHaveLogs, AreLogsOfMembers, AreMemberLogs};
 
-use totem_configuration_rules::{LogSet, MemberLogs};
+use totem_traffic_rules::{LogSet, MemberLogs};
 use totem_evs::{Log, Members};
 use totem_ids::Proc;
 

@@ -3,7 +3,7 @@ ghost use Rattle.std.specs.Prelude.{◌≤◌, OnOk, length};
 ghost use Rattle.totem_judge.specs.Pending.{AddsAll};
 
 use std::alloc::AllocError;
-use totem_configuration_rules::{Traffic, push_pending};
+use totem_traffic_rules::{Traffic, push_pending};
 use totem_evs::{Log, Pending};
 
 /// Appends what is pending in one configuration.

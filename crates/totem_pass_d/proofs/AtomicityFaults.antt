@@ -26,7 +26,7 @@ use Rattle.totem_run_rules.specs.Stays.{IsStay}
 use Rattle.totem_pass_d.specs.Acts.{IsAmong, DeliversNot}
 use Rattle.totem_pass_d.specs.Search.{IsInside, EachBeginsWithin, BeginsWithin, NoneWithin, IsLeastWithin, IsOneEvent}
 use Rattle.totem_pass_d.specs.Partings.{IsAnywhere, IsSpan, IsNoChange, NeverDelivers, IsPartner}
-use Rattle.totem_configuration_rules.proofs.Together.{follows_too}
+use Rattle.totem_traffic_rules.proofs.Together.{follows_too}
 use Rattle.totem_run_rules.proofs.SentOrNot.{same_conf_or_not}
 use Rattle.totem_pass_d.proofs.Deciding.{delivery_or_not}
 use Rattle.totem_pass_d.proofs.Facts.{Facts}

@@ -13,7 +13,7 @@ use Rattle.totem_evs.specs.Events.{ChangesTo, IsQuiet, log_of, ending_of}
 use Rattle.totem_evs.specs.Following.{NeverFails}
 use Rattle.totem_evs.specs.Answers.{MeetsPasses}
 use Rattle.totem_evs.proofs.LogOf.{log_of_at, log_of_cases, in_order}
-use Rattle.totem_configuration_rules.proofs.Rowing.{before_or_at}
+use Rattle.totem_traffic_rules.proofs.Rowing.{before_or_at}
 use Rattle.totem_table.specs.declared.keys.Change.{Change}
 use Rattle.totem_table.proofs.Exact.{change_by}
 use Rattle.totem_pass_d.specs.declared.stay.Stay.{Stay}

@@ -20,7 +20,7 @@ use Rattle.totem_evs.specs.Following.{Com, DeliversIn, HasDelivered, DeliversOrE
 use Rattle.totem_evs.specs.AgreementFaults.{IsNotOwned, IsNotReached, IsNotInstalled}
 use Rattle.totem_evs.specs.declared.spec.SpecNo.TheVariants as spec
 use Rattle.totem_evs.specs.Answers.{MeetsPasses}
-use Rattle.totem_configuration_rules.proofs.Rowing.{before_or_at}
+use Rattle.totem_traffic_rules.proofs.Rowing.{before_or_at}
 use Rattle.totem_pass_d.specs.declared.stay.Stay.{Stay}
 use Rattle.totem_pass_d.specs.Stays.{IsExcused, IsStayOf}
 use Rattle.totem_pass_d.specs.Acts.{HasCome, NeverComes, DeliversNot}

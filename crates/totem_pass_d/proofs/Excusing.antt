@@ -4,7 +4,7 @@ use Rattle.totem_ids.specs.declared.ring.RingId.{RingId}
 use Rattle.totem_evs.specs.declared.log.Log.{Log}
 use Rattle.totem_evs.specs.Events.{IsQuiet, log_of}
 use Rattle.totem_evs.specs.Following.{FailedIn, StaysIn, OpenIn}
-use Rattle.totem_configuration_rules.proofs.Rowing.{before_or_at}
+use Rattle.totem_traffic_rules.proofs.Rowing.{before_or_at}
 use Rattle.totem_pass_d.specs.declared.stay.Stay.{Stay}
 use Rattle.totem_pass_d.specs.Stays.{IsExcused, IsStayOf}
 

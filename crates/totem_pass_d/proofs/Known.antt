@@ -2,8 +2,8 @@
 use Rattle.std.proofs.Common.{List}
 use Rattle.totem_ids.specs.declared.ring.RingId.{RingId}
 use Rattle.totem_evs.specs.declared.log.Log.{Log}
-use Rattle.totem_configuration_rules.specs.declared.agreed.Shown.{Shown}
-use Rattle.totem_configuration_rules.specs.Clean.{IsAllShown, IsNoneShown}
+use Rattle.totem_traffic_rules.specs.declared.agreed.Shown.{Shown}
+use Rattle.totem_traffic_rules.specs.Clean.{IsAllShown, IsNoneShown}
 use Rattle.totem_pass_d.specs.declared.findings.Findings.{Findings}
 use Rattle.totem_pass_d.specs.Findings.{AreMet, AreNone, AreFindings}
 

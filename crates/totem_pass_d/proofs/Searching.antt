@@ -7,7 +7,7 @@ use Rattle.totem_evs.specs.declared.log.Log.{Log}
 use Rattle.totem_evs.specs.Answers.{ComesFirst, IsLeast}
 use Rattle.totem_table.specs.Search.{place, NoneFrom, HoldsOfNone}
 use Rattle.totem_evs.proofs.LogOf.{less_or_not}
-use Rattle.totem_configuration_rules.proofs.Rowing.{before_or_at}
+use Rattle.totem_traffic_rules.proofs.Rowing.{before_or_at}
 use Rattle.totem_pass_d.specs.declared.stay.Stay.{Stay}
 use Rattle.totem_pass_d.specs.Stays.{AreStays, IsStayOf}
 use Rattle.totem_pass_d.specs.Acts.{IsAmong}

@@ -15,7 +15,7 @@ use Rattle.totem_evs.specs.declared.log.Log.{Log}
 use Rattle.totem_evs.specs.Events.{Sends, log_of}
 use Rattle.totem_evs.specs.Answers.{MeetsPasses}
 use Rattle.totem_evs.proofs.LogOf.{less_or_not}
-use Rattle.totem_configuration_rules.proofs.Rowing.{before_or_at}
+use Rattle.totem_traffic_rules.proofs.Rowing.{before_or_at}
 use Rattle.totem_ids.proofs.Exact.{equal_at, apart_or_at, exact_message}
 use Rattle.totem_run_rules.specs.Stays.{IsStay}
 use Rattle.totem_run_rules.proofs.Staying.{names_no_change}

@@ -19,7 +19,7 @@ use Rattle.totem_evs.specs.Events.{log_of, entry_at, at_place, Delivers}
 use Rattle.totem_evs.specs.Changes.{Names}
 use Rattle.totem_evs.specs.Following.{DeliversIn}
 use Rattle.totem_evs.specs.RingFaults.{BreaksCausalityIn}
-use Rattle.totem_configuration_rules.proofs.Rowing.{before_or_at}
+use Rattle.totem_traffic_rules.proofs.Rowing.{before_or_at}
 use Rattle.totem_table.specs.Search.{place, NoneFrom}
 use Rattle.totem_pass_d.specs.declared.stay.Stay.{Stay}
 use Rattle.totem_pass_d.specs.Acts.{IsAmong, DeliversNot}

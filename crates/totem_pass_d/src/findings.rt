@@ -9,7 +9,7 @@ use crate::safety::Unreached;
 use crate::stays::Stays;
 use crate::{atomicity, causality, gap};
 use std::alloc::{AllocError, Global};
-use totem_configuration_rules::Shown;
+use totem_traffic_rules::Shown;
 use totem_evs::Places;
 
 /// The findings of one job: for each specification of the last pass the least events that break it in one regular

@@ -3,7 +3,7 @@ ghost use Rattle.std.specs.Prelude.{◌≡◌, ◌<◌, IfOk, IfSome, vec_len};
 ghost use Rattle.std.specs.Bool.{OnTrue};
 ghost use Rattle.totem_evs.specs.Answers.{MeetsPasses};
 ghost use Rattle.totem_table.specs.Changes.{AreChanges};
-ghost use Rattle.totem_configuration_rules.specs.Traffics.{AreTraffic, IsTrafficOf};
+ghost use Rattle.totem_traffic_rules.specs.Traffics.{AreTraffic, IsTrafficOf};
 ghost use Rattle.totem_pass_d.specs.Findings.{AreMet};
 ghost use Rattle.totem_pass_d.specs.Jobs.{AreJobs, AreFindingsAt};
 
@@ -12,7 +12,7 @@ use crate::findings::{Findings, findings_in};
 use crate::stays::Stays;
 use std::alloc::{AllocError, Global};
 use std::collections::BTreeMap;
-use totem_configuration_rules::{Observed, Shown, Traffic};
+use totem_traffic_rules::{Observed, Shown, Traffic};
 use totem_evs::Run;
 use totem_ids::RingId;
 use totem_table::Changes;

@@ -1,7 +1,7 @@
 //! The last pass of the audit: which messages processes have to deliver, for themselves and for each other, in each regular configuration
 //! and in what follows it; and what a run leaves open (docs/SPECIFICATIONS.md, "Passes", "Pending and waiting").
 //!
-//! There is one job for each regular configuration. It asks the rules of totem_configuration_rules, if it is given the traffic, and
+//! There is one job for each regular configuration. It asks the rules of totem_traffic_rules, if it is given the traffic, and
 //! searches for what they don't show to be met. What may be relied on, in a run that has passed A and B:
 //! - `pass_d` and `pass_d_of` list the faults: for each specification and configuration the least events that break it there, and
 //!   none where the run meets it (`ListsConfigurations` of totem_evs).

@@ -7,8 +7,8 @@
 //! - `next_bodies`, `on_ring`, `last_mark` and `is_done` are the functions of the same names in specs/Exchange.
 //! - `finish` returns exactly the entries of `finish` (specs/Finish).
 //! - Members of one transitional set that hold the same messages leave the old ring alike: the law `members_leave_alike`
-//!   (`LeavesAlike`, specs/Together). What is held and owed is delivered when it is left, one's own messages among it:
-//!   `owed_are_delivered`, `a_member_owes_itself` (specs/Owed).
+//!   (`LeavesAlike`, specs/Together). A member that leaves its old ring delivers what it holds and owes, its own messages
+//!   among it: `owed_are_delivered`, `a_member_owes_itself` (specs/Owed).
 //!
 //! It is not claimed that a recovery ends. The auditor uses nothing of this: it sees only the entries.
 #![tactic(auto)]

@@ -15,7 +15,7 @@ pub enum RingFault {
     Repeat,
     #[error("a value is out of range")]
     Range,
-    #[error("16 bodies are already waiting")]
+    #[error("16 messages are already waiting")]
     Full,
     #[error("out of memory")]
     Memory,

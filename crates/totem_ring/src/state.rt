@@ -1,4 +1,4 @@
-//! A member's state on its ring, and all its steps except the visit of the token.
+//! A member's state on its ring, and all its steps except the visit of the token. `refusal` says why a message or a token is refused.
 ghost use Rattle.std.specs.Prelude.{◌≡◌, ◌==◌, ◌+◌, ◌<◌, ◌++◌, length, position, take, IfOk, IfSome, OnOk, MatchResult, Ok};
 ghost use Rattle.totem_ring.specs.Rings.{same_ring};
 ghost use Rattle.totem_ring.specs.Steps.{kept_after};
@@ -12,9 +12,10 @@ use std::alloc::{AllocError, Global};
 use std::collections::BTreeMap;
 use std::marker::Model;
 use totem_ids::{ProcId, RingId};
-use totem_packets::{Body, Message, Number, Packet, Token, is_among};
+use totem_packets::{Body, Message, Number, Packet, Token};
 
 mod act;
+mod refusal;
 mod visit;
 
 /// How many bodies may wait at most.
@@ -100,7 +101,6 @@ fn put_all(waiting: &mut Vec<Body>, bodies: &[Body]) -> Result<(), AllocError>
 impl RingState {
     ghost use Rattle.totem_ring.specs.Rings.{new_ring, next_of, aru_of};
     ghost use Rattle.totem_ring.specs.Steps.{given, submit, adopt, on_message, on_resend};
-    ghost use Rattle.totem_ring.specs.Refusals.{message_refusal};
     ghost use Rattle.totem_ring.specs.Answers.{Answers, AnswersNothing};
     ghost use Rattle.totem_ring.specs.Undoing.{AnswersUndoably, taken_back, visit_taken_back};
     ghost use Rattle.totem_ring.specs.Invariant.{RisesFrom};
@@ -199,22 +199,6 @@ impl RingState {
             self.waiting.truncate(waited);
         }
         put
-    }
-
-    /// Returns why this message would be refused on receipt or when adopted, or `None` if it would be taken.
-    pub fn message_refusal(&self, message: &Message) -> Option<RingFault>
-        ensures { result ≡ message_refusal self.now message.now }
-    {
-        if !is_same_ring(message.ring, self.ring) {
-            return Some(RingFault::OtherRing);
-        }
-        if self.held.contains(message.number.get()) {
-            return Some(RingFault::Repeat);
-        }
-        if !is_among(&self.members, message.sender) {
-            return Some(RingFault::Range);
-        }
-        None
     }
 
     /// Holds a message of this ring that was not received on the ring itself (docs/PROTOCOL.md, "The ring", "Adopt").

@@ -1,13 +1,13 @@
-//! 2.3 and 2.4: each configuration has one list of members, in which each process that changes to it is, and regular and
-//! transitional ones alternate (docs/SPECIFICATIONS.md, "2 Changes of configuration").
+//! 2.3: each configuration has one list of members, in which each process that changes to it is; and 2.4, by `succession`, on the same
+//! walk along the changes (docs/SPECIFICATIONS.md, "2 Changes of configuration").
 ghost use Rattle.std.specs.Prelude.{◌≡◌, ◌+◌, ◌<◌, IfOk, IfSome, length};
 ghost use Rattle.std.specs.Bool.{OnTrue};
 ghost use Rattle.std.specs.Result.{OnOk};
 ghost use Rattle.std.specs.BTreeMap.{Updates};
 ghost use Rattle.totem_run_rules.specs.Orderly.{ChangesAgree};
-ghost use Rattle.totem_run_rules.specs.FirstChanges.{conf_order, first_to, IsOrigin, IsLastBefore, ComesFrom, IsThere, HasMembers, StandsThere, AreFirst, Meets, IsBehind, Enters, KnowsChanges};
+ghost use Rattle.totem_run_rules.specs.FirstChanges.{conf_order, first_to, IsLastBefore, IsThere, HasMembers, StandsThere, AreFirst, Meets, IsBehind, Enters, KnowsChanges};
 
-use crate::succession::is_wrong;
+use crate::succession::came_from;
 use std::alloc::{AllocError, Global};
 use std::collections::BTreeMap;
 use totem_evs::{Entry, Log, Members};
@@ -22,43 +22,6 @@ pub struct FirstChange {
     pub at: usize,
     /// The ring from which the log comes to the configuration; for a regular configuration, its own ring.
     pub from: RingId,
-}
-
-/// Returns the ring from which a log comes to the second configuration, right after the first.
-fn origin(before: &ConfId, conf: &ConfId) -> Option<RingId>
-    ensures { IfSome result (IsOrigin before.now conf.now) }
-{
-    match (before, conf) {
-        (_, ConfId::Regular(ring)) => Some(*ring),
-        (ConfId::Regular(ring), ConfId::Transitional { .. }) => Some(*ring),
-        (ConfId::Transitional { .. }, ConfId::Transitional { .. }) => None,
-    }
-}
-
-/// Returns the ring from which a log comes to this configuration after the change at `before`, or as its first one. Returns
-/// `None` if it may not come there in this way.
-fn came_from(
-    log: &[Entry],
-    before: Option<usize>,
-    conf: &ConfId,
-    members: &Members,
-) -> Option<RingId>
-    requires { IfSome before (λ i. i < length log.now) }
-    ensures { IfSome result (ComesFrom log.now before conf.now members.now) }
-{
-    let Some(at) = before else {
-        return match conf {
-            ConfId::Regular(ring) => Some(*ring),
-            ConfId::Transitional { .. } => None,
-        };
-    };
-    let Entry::Conf(before, before_members) = &log[at] else {
-        return None;
-    };
-    if is_wrong(before, before_members, conf, members) {
-        return None;
-    }
-    origin(before, conf)
 }
 
 /// Returns whether the change has these members.

@@ -1,10 +1,12 @@
-//! Which change follows, and which may (docs/SPECIFICATIONS.md, "2 Changes of configuration").
-ghost use Rattle.std.specs.Prelude.{◌↔◌, ◌<◌, All, Contains, IsTrue, length};
+//! 2.4: regular and transitional configurations alternate, the first is regular, and each follows from one ring
+//! (docs/SPECIFICATIONS.md, "2 Changes of configuration").
+ghost use Rattle.std.specs.Prelude.{◌↔◌, ◌<◌, All, Contains, IfSome, IsTrue, length};
 ghost use Rattle.totem_evs.specs.Following.{IsNextOrEnd};
+ghost use Rattle.totem_run_rules.specs.FirstChanges.{IsOrigin, ComesFrom};
 ghost use Rattle.totem_run_rules.specs.Succession.{IsWrongSuccession};
 
 use totem_evs::{Entry, Members};
-use totem_ids::ConfId;
+use totem_ids::{ConfId, RingId};
 
 fn contains_all(members: &Members, others: &Members) -> bool
     ensures { IsTrue result ↔ All (Contains members.now) others.now }
@@ -31,6 +33,43 @@ pub fn is_wrong(conf: &ConfId, members: &Members, next: &ConfId, next_members: &
         }
         _ => true,
     }
+}
+
+/// Returns the ring from which a log comes to the second configuration, right after the first.
+fn origin(before: &ConfId, conf: &ConfId) -> Option<RingId>
+    ensures { IfSome result (IsOrigin before.now conf.now) }
+{
+    match (before, conf) {
+        (_, ConfId::Regular(ring)) => Some(*ring),
+        (ConfId::Regular(ring), ConfId::Transitional { .. }) => Some(*ring),
+        (ConfId::Transitional { .. }, ConfId::Transitional { .. }) => None,
+    }
+}
+
+/// Returns the ring from which a log comes to this configuration after the change at `before`, or as its first one. Returns
+/// `None` if it may not come there in this way.
+pub fn came_from(
+    log: &[Entry],
+    before: Option<usize>,
+    conf: &ConfId,
+    members: &Members,
+) -> Option<RingId>
+    requires { IfSome before (λ i. i < length log.now) }
+    ensures { IfSome result (ComesFrom log.now before conf.now members.now) }
+{
+    let Some(at) = before else {
+        return match conf {
+            ConfId::Regular(ring) => Some(*ring),
+            ConfId::Transitional { .. } => None,
+        };
+    };
+    let Entry::Conf(before, before_members) = &log[at] else {
+        return None;
+    };
+    if is_wrong(before, before_members, conf, members) {
+        return None;
+    }
+    origin(before, conf)
 }
 
 /// Returns the index of the next change, or the length of the log if none follows. Looks at entry after entry.

@@ -15,7 +15,7 @@ use totem_ids::{Sink, Source};
 
 /// What is printed if the auditor is asked for a run.
 const LACKING: &str = "\
-totem: this is the auditor alone: sim, run and explain --script need the whole program
+totem: this is the auditor alone: sim, run and explain --script need the whole program (./totem prove builds it)
 ";
 
 /// The auditor over any three streams. It answers as the whole program does if the arguments ask for a verdict, help or the version. The

@@ -40,7 +40,7 @@ const OPTIONS: [NumberOption; 6] = [
         least: 1,
         most: 1_000_000,
         default: "4000",
-        help: "Length of the run in ticks, from 1 to 1000000. At every eighth tick the timer of one node, each in turn, expires and its client sends. Needs 4 KB of memory for each tick and node",
+        help: "Length of the run in ticks, from 1 to 1000000. At every eighth tick one node's timer expires and its client sends; the nodes take turns. Needs 4 KB of memory for each tick and node",
     },
     NumberOption {
         name: "seed",
@@ -72,7 +72,7 @@ const OPTIONS: [NumberOption; 6] = [
         least: 0,
         most: 255,
         default: "0",
-        help: "How many later packets may overtake a packet, from 0 to 255. With 2 or more, tokens are held up so long that nodes mostly form new rings",
+        help: "How many later packets may overtake a packet, from 0 to 255. With 2 or more, tokens are delayed so long that nodes form new rings again and again, and deliver next to nothing",
     },
 ];
 

@@ -37,15 +37,17 @@ Status: 0 yes, or a run was made or a ring woven; 1 no, or (run --weave) a call 
 (run) a book is full; 3 out of memory; 4 a stream failed; 64 usage error.";
 
 const AUDIT_EXAMPLE: &str = "\
-A log ends with the line `failed` if its last entry is a failure, and otherwise with `open`; or, from version 3 of the run text on,
-with `quiet`, if nothing more was to come.
+A log ends with the line `failed` if its last entry is a failure. Other logs end with `open` or, in version 3 of the run text, with
+`quiet` if nothing more was to come. docs/OWN-LOGS.md and docs/SPECIFICATIONS.md describe the text.
 Example: totem audit < examples/first-yes.run";
 
 const EXPLAIN_EXAMPLE: &str = "Example: totem explain < examples/first-no.run";
 
 const SIM_EXAMPLE: &str = "Example: totem sim < examples/partition-that-heals.script | totem audit";
 
-const CHECK_EXAMPLE: &str = "Example: totem check < examples/first-yes.checked";
+const CHECK_EXAMPLE: &str = "\
+The certificate is what the report of `totem audit` has from the line `totem-cert` to the line `end`.
+Example: totem check < examples/first-yes.checked";
 
 fn workers_option<'a>(alloc: Global) -> Arg<'a> {
     Arg::new(alloc, "workers")
@@ -54,7 +56,7 @@ fn workers_option<'a>(alloc: Global) -> Arg<'a> {
         .value_parser(ValueParser::Unsigned(1, 64))
         .default_value("1")
         .help(
-            "Number of threads that judge the run, from 1 to 64; the output does not depend on it",
+            "Number of threads, from 1 to 64, that share the last pass; the output does not depend on it",
         )
 }
 
@@ -77,7 +79,7 @@ fn script_option<'a>(alloc: Global) -> Arg<'a> {
         .long("script")
         .action(ArgAction::SetTrue)
         .help(
-            "Take a script in place of a run: do what sim does, or show the line at which the script is refused",
+            "Take a script: write the run that it makes, as sim does, or show the line at which it is refused",
         )
 }
 

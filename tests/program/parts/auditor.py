@@ -12,7 +12,7 @@ BUILT = os.path.join(REPOSITORY, 'crates', 'totem_auditor', 'out', 'totem_audito
 ROOM = tempfile.TemporaryDirectory()
 AUDITOR = os.path.join(ROOM.name, 'totem')
 os.symlink(BUILT, AUDITOR)
-LACKING = process.Answer(64, b'', b'totem: this is the auditor alone: sim, run and explain --script need the whole program\n')
+LACKING = process.Answer(64, b'', b'totem: this is the auditor alone: sim, run and explain --script need the whole program (./totem prove builds it)\n')
 
 
 def asks_for_run(words):

@@ -1,107 +1,23 @@
-//! The visit of the token.
+//! The visit of a token that is not refused.
 ghost use Rattle.std.specs.Prelude.{◌≡◌, ◌+◌, ◌^◌, ◌<◌, length, IfOk};
-ghost use Rattle.totem_ring.specs.Refusals.{is_none_or_member, is_above};
 
 use crate::departure::{Departure, sendings, set_aru};
 use crate::fault::RingFault;
 use crate::outcome::RingOut;
 use crate::requests::{Answered, answer, ask_missing};
-use crate::state::{RingState, is_same_ring};
+use crate::state::RingState;
 use crate::undo::{RingUndo, VisitUndo};
 use std::alloc::{AllocError, Global};
 use std::mem;
-use totem_ids::ProcId;
-use totem_packets::{Body, Message, Number, Requests, Token, TokenSeq, is_among};
-
-pub fn is_none_or_member(members: &[ProcId], proc: Option<ProcId>) -> bool
-    ensures { result ≡ is_none_or_member members.now proc }
-{
-    match proc {
-        None => true,
-        Some(proc) => is_among(members, proc),
-    }
-}
-
-pub fn is_above(seq: u32, numbers: &[Number]) -> bool
-    ensures { result ≡ is_above seq numbers.now }
-{
-    numbers.iter().any(|n| n.get() > seq)
-}
+use totem_packets::{Body, Message, Number, Requests, Token, TokenSeq};
 
 impl RingState {
-    ghost use Rattle.totem_ring.specs.Rings.{taker_of};
     ghost use Rattle.totem_ring.specs.Steps.{on_token, given};
-    ghost use Rattle.totem_ring.specs.Refusals.{refusal_at_once, token_refusal, is_sound, has_room, is_token_in_range};
     ghost use Rattle.totem_packets.specs.Rising.{IsRequests};
     ghost use Rattle.totem_ring.specs.Visits.{numbered};
     ghost use Rattle.totem_ring.specs.Departures.{IsDeparture, token_left};
     ghost use Rattle.totem_ring.specs.Answers.{Answers};
     ghost use Rattle.totem_ring.specs.Undoing.{AnswersUndoably, AnswersGiven};
-
-    /// Returns why a token is refused whatever is waiting here: it is of another ring, or was taken before.
-    pub fn token_refusal_at_once(&self, token: &Token) -> Option<RingFault>
-        ensures { result ≡ refusal_at_once self.now token.now }
-    {
-        if !is_same_ring(token.ring, self.ring) {
-            return Some(RingFault::OtherRing);
-        }
-        if token.token_seq.get() <= self.last {
-            return Some(RingFault::Repeat);
-        }
-        None
-    }
-
-    /// Returns why this token would be refused if these bodies were given to the ring, or `None` if it would be taken.
-    #[tactic(auto, using(crate::proofs::AtOnce::refused_at_once, crate::proofs::AtOnce::refused_later))]
-    pub fn token_refusal_with(&self, bodies: &[Body], token: &Token) -> Option<RingFault>
-        ensures { result ≡ token_refusal (given self.now bodies.now) token.now }
-    {
-        if let Some(fault) = self.token_refusal_at_once(token) {
-            return Some(fault);
-        }
-        if !self.is_token_in_range_with(bodies, token) {
-            return Some(RingFault::Range);
-        }
-        None
-    }
-
-    #[tactic(auto, using(crate::proofs::AtOnce::given_nothing))]
-    fn token_refusal(&self, token: &Token) -> Option<RingFault>
-        ensures { result ≡ token_refusal self.now token.now }
-    {
-        self.token_refusal_with(&[], token)
-    }
-
-    fn taker(&self, token_seq: TokenSeq) -> ProcId
-        ensures { result ≡ taker_of self.now.members token_seq }
-    {
-        let count = self.members.len() as u64;
-        self.members[((token_seq.get() - 1) % count) as usize]
-    }
-
-    fn is_sound(&self, token: &Token) -> bool
-        ensures { result ≡ is_sound self.now token.now }
-    {
-        token.aru <= token.seq
-            && is_none_or_member(&self.members, token.aru_id)
-            && !is_above(token.seq, token.rtr.as_slice())
-            && !self.held.holds_above(token.seq)
-    }
-
-    fn has_room_with(&self, bodies: &[Body], token: &Token) -> bool
-        ensures { result ≡ has_room (given self.now bodies.now) token.now }
-    {
-        let waiting = self.waiting.len() as u64 + bodies.len() as u64;
-        token.token_seq.get() < u64::MAX && waiting < (1 << 32) - token.seq as u64
-    }
-
-    fn is_token_in_range_with(&self, bodies: &[Body], token: &Token) -> bool
-        ensures { result ≡ is_token_in_range (given self.now bodies.now) token.now }
-    {
-        self.taker(token.token_seq).number() == self.me.number()
-            && self.is_sound(token)
-            && self.has_room_with(bodies, token)
-    }
 
     /// Makes messages of the waiting bodies, numbered from `seq` + 1.
     fn numbered(&self, alloc: Global, seq: u32) -> Result<Vec<Message>, AllocError>

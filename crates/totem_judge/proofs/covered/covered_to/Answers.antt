@@ -1,5 +1,5 @@
 use Rattle.std.proofs.Common.{◌≡◌, slice_get, Some, arith}
-use Rattle.totem_configuration_rules.proofs.Rowing.{read_at}
+use Rattle.totem_traffic_rules.proofs.Rowing.{read_at}
 use Rattle.totem_judge.proofs.Steps.{covered_more}
 use Rattle.totem_judge.proofs.covered.covered_to.Goals.{then-stay-log+else-stay-end, else-stay-log}
 use Rattle.totem_judge.proofs.covered.covered_to.Goals as goal

@@ -1,5 +1,5 @@
 use Rattle.std.proofs.Common.{◌≡◌, slice_get, Some}
-use Rattle.totem_configuration_rules.proofs.Rowing.{read_at}
+use Rattle.totem_traffic_rules.proofs.Rowing.{read_at}
 use Rattle.totem_judge.specs.Turns.{TurnsToConf, LeavesFrom}
 use Rattle.totem_judge.proofs.Steps.{select_more, select_skip}
 use Rattle.totem_judge.proofs.following.following_as.Goals.{then-turns_to+then-goes_further, then-turns_to+else-goes_further, else-turns_to}

@@ -1,7 +1,7 @@
 use Rattle.std.proofs.Common.{◌≡◌, slice_get, Some, subst}
-use Rattle.totem_configuration_rules.specs.declared.observed.Observed.{Observed}
-use Rattle.totem_configuration_rules.specs.Clean.{ShowsAgreement}
-use Rattle.totem_configuration_rules.proofs.Rowing.{read_at}
+use Rattle.totem_traffic_rules.specs.declared.observed.Observed.{Observed}
+use Rattle.totem_traffic_rules.specs.Clean.{ShowsAgreement}
+use Rattle.totem_traffic_rules.proofs.Rowing.{read_at}
 use Rattle.totem_judge.specs.Judged.{AgreesAt}
 use Rattle.totem_judge.proofs.Steps.{each_more}
 use Rattle.totem_judge.proofs.judging.all_agree.Goals as goal

@@ -1,0 +1,25 @@
+-- Sets of logs.
+use Rattle.std.specs.Prelude.{◌≡◌, ℕ, ◌<◌}
+use Rattle.std.specs.Int.{bit_at}
+use Rattle.totem_traffic_rules.specs.declared.log_set.LogSet.{LogSet}
+
+-- the set has the log at this index
+unfoldable pub Has : LogSet → ℕ → Type 0
+Has set log = bit_at set.bits log ≡ 1
+
+pub record IsEmpty (set : LogSet) : Type 0 where
+  pub none : (log : ℕ) → Has set log → ⊥
+
+-- the other set has each log of the first
+pub record IsWithin (set other : LogSet) : Type 0 where
+  pub each : (log : ℕ) → Has set log → Has other log
+
+-- the sets have no log in common
+pub record AreApart (set other : LogSet) : Type 0 where
+  pub none : (log : ℕ) → Has set log → Has other log → ⊥
+
+-- the set has this log, and none before it
+pub record IsLeast (set : LogSet) (log : ℕ) : Type 0 where
+  pub within : log < 32
+  pub has : Has set log
+  pub first : (other : ℕ) → other < log → Has set other → ⊥
