@@ -12,13 +12,13 @@ use crate::check_fault::CheckFault;
 use std::alloc::{AllocError, Global};
 use totem_certificate::Certificate;
 use totem_certificate_check::certified;
-use totem_traffic_rules::Observed;
 use totem_evs::{Fault, Run};
 use totem_judge::{View, observe};
 use totem_pass_ab::pass_a_and_b;
 use totem_pass_d::{Jobs, pass_d_of, pending_of};
 use totem_run_rules::waiting;
 use totem_table::Changes;
+use totem_traffic_rules::Observed;
 
 fn first_of(mut faults: Vec<Fault>) -> Option<Fault>
     ensures { BeginsWith faults.items result }

@@ -7,9 +7,9 @@ ghost use Rattle.totem_judge.specs.Seen.{IsReplayed};
 use crate::gathered::{Gathered, Stay};
 use crate::stay::is_bounded;
 use totem_certificate::Line;
-use totem_traffic_rules::{Got, Sent};
 use totem_evs::{Entry, Log};
 use totem_ids::MsgId;
+use totem_traffic_rules::{Got, Sent};
 
 /// Returns the index of the next message that this log sent, in the list of what was sent. It is a guess, to be tested.
 fn next_sent(list: &[Sent], from: usize, log: u32) -> usize {

@@ -3,8 +3,8 @@ ghost use Rattle.std.specs.Prelude.{◌≡◌, ◌↔◌, IsTrue, length};
 ghost use Rattle.totem_judge.specs.Ends.{IsExcusedIn, GoesOnAt, AreEnds};
 
 use crate::gathered::Stay;
-use totem_traffic_rules::LogSet;
 use totem_evs::{Ending, Log};
+use totem_traffic_rules::LogSet;
 
 /// The logs that stay in a configuration, those of them that fail or are open there, and those that are open.
 #[derive(Clone, Copy)]

@@ -5,9 +5,9 @@ ghost use Rattle.totem_judge.specs.Turns.{TurnsTo, TurnsNowhere, TurnsToConf, Go
 use crate::gathered::Stay;
 use crate::members::member_logs;
 use std::alloc::{AllocError, Global};
-use totem_traffic_rules::{Following, LogSet};
 use totem_evs::{Entry, Log, Members};
 use totem_ids::ConfId;
+use totem_traffic_rules::{Following, LogSet};
 
 /// The change by which a log moves on from a regular configuration.
 #[derive(Clone, Copy)]

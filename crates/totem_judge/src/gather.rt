@@ -7,9 +7,9 @@ use crate::gathered::{Gathered, Origin, Stay};
 use std::alloc::{AllocError, Global};
 use std::collections::BTreeMap;
 use totem_certificate::Line;
-use totem_traffic_rules::{Got, LogSet, Sent};
 use totem_evs::{Entry, Log};
 use totem_ids::{ConfId, MsgId, RingId, Service};
+use totem_traffic_rules::{Got, LogSet, Sent};
 
 /// Where a sent message is listed: in which configuration, and at which index.
 #[derive(Clone, Copy)]

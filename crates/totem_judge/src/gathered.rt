@@ -2,8 +2,8 @@
 ghost use Rattle.std.specs.Prelude.{◌<◌};
 
 use std::alloc::Global;
-use totem_traffic_rules::{Got, Sent};
 use totem_ids::{RingId, Service};
+use totem_traffic_rules::{Got, Sent};
 
 /// A stay: the log changes to the regular configuration at `from` and to what follows that at `turn`, and its entries up to
 /// `end` are those in these two. If nothing follows, `turn` is `end`.

@@ -13,9 +13,9 @@ use crate::pending::add_pending;
 use crate::traffic::traffic_of;
 use std::alloc::{AllocError, Global};
 use totem_certificate::{Certificate, Line};
-use totem_traffic_rules::{Observed, is_agreed};
 use totem_evs::{Log, Pending, Run};
 use totem_run_rules::{end_together, in_order, is_orderly};
+use totem_traffic_rules::{Observed, is_agreed};
 
 /// What is seen of a run that meets the specifications of the first two passes, along its certificate.
 #[derive(Drop)]

@@ -3,9 +3,9 @@ ghost use Rattle.std.specs.Prelude.{◌↔◌, ◌≤◌, IsTrue, length};
 ghost use Rattle.std.specs.Bool.{OnTrue};
 ghost use Rattle.totem_judge.specs.Members.{HasLog, AllHaveLogs, AreLogsOfMembers, AreMemberLogs};
 
-use totem_traffic_rules::{LogSet, MemberLogs};
 use totem_evs::{Log, Members};
 use totem_ids::Proc;
+use totem_traffic_rules::{LogSet, MemberLogs};
 
 fn has_log(logs: &[Log], proc: Proc) -> bool
     ensures { OnTrue result (HasLog logs.now proc) }

@@ -3,8 +3,8 @@ ghost use Rattle.std.specs.Prelude.{◌≤◌, OnOk, length};
 ghost use Rattle.totem_judge.specs.Pending.{AddsAll};
 
 use std::alloc::AllocError;
-use totem_traffic_rules::{Traffic, push_pending};
 use totem_evs::{Log, Pending};
+use totem_traffic_rules::{Traffic, push_pending};
 
 /// Appends what is pending in one configuration.
 pub fn add_pending(

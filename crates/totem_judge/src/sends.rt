@@ -6,9 +6,9 @@ ghost use Rattle.totem_judge.specs.Lists.{EachBelow, IsSendOf, ComesBefore, IsLi
 
 use crate::gathered::Gathered;
 use totem_certificate::Line;
-use totem_traffic_rules::{LogSet, Sent};
 use totem_evs::{Entry, Log};
 use totem_ids::{ConfId, MsgId, RingId, Service};
+use totem_traffic_rules::{LogSet, Sent};
 
 /// An entry and its number.
 #[derive(Clone, Copy)]

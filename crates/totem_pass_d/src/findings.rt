@@ -9,8 +9,8 @@ use crate::safety::Unreached;
 use crate::stays::Stays;
 use crate::{atomicity, causality, gap};
 use std::alloc::{AllocError, Global};
-use totem_traffic_rules::Shown;
 use totem_evs::Places;
+use totem_traffic_rules::Shown;
 
 /// The findings of one job: for each specification of the last pass the least events that break it in one regular
 /// configuration, or none if the run meets it there.

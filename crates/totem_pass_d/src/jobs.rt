@@ -12,10 +12,10 @@ use crate::findings::{Findings, findings_in};
 use crate::stays::Stays;
 use std::alloc::{AllocError, Global};
 use std::collections::BTreeMap;
-use totem_traffic_rules::{Observed, Shown, Traffic};
 use totem_evs::Run;
 use totem_ids::RingId;
 use totem_table::Changes;
+use totem_traffic_rules::{Observed, Shown, Traffic};
 
 /// The jobs of a run that has passed the passes before, in the order of their configurations. Each depends on no other part of the run
 /// than its configuration and what follows it, so they can be done in any order and by any thread.
