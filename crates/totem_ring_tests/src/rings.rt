@@ -61,7 +61,7 @@ pub(crate) fn told(alloc: Global, words: &str) -> Result<String, AllocError> {
 pub(crate) const RINGS: [Case; 16] = [
     (
         "faults",
-        "16 bodies are already waiting; Memory; 1 OtherRing; 2 Repeat; 3 Range; 4 Full; 5 Memory; ",
+        "16 messages are already waiting; Memory; 1 OtherRing; 2 Repeat; 3 Range; 4 Full; 5 Memory; ",
     ),
     ("move", "true"),
     // a new member knows its ring, and the first token has no numbers
