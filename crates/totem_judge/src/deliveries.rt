@@ -44,13 +44,7 @@ fn is_origin_at(gathered: &Gathered, log: u32, index: usize, at: usize) -> bool
     let Some(origin) = gathered.origin_at(index) else {
         return false;
     };
-    if sent.sender != log {
-        return false;
-    }
-    if origin.at as usize != at {
-        return false;
-    }
-    true
+    sent.sender == log && origin.at as usize == at
 }
 
 /// Returns whether the log of the stay is listed as delivering the message in the configuration that it is in at `at`, and only there.

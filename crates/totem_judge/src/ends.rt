@@ -18,24 +18,20 @@ pub struct Ends {
 fn is_excused(logs: &[Log], stay: &Stay) -> bool
     ensures { IsTrue result ↔ IsExcusedIn logs.now stay.now }
 {
-    let index = stay.log as usize;
-    if index >= logs.len() {
-        return false;
+    match logs.get(stay.log as usize) {
+        Some(log) => stay.end == log.entries.as_slice().len() && log.ending != Ending::Quiet,
+        None => false,
     }
-    let log = &logs[index];
-    stay.end == log.entries.as_slice().len() && log.ending != Ending::Quiet
 }
 
 /// Returns whether the log of the stay does not end as failed.
 fn goes_on(logs: &[Log], stay: &Stay) -> bool
     ensures { IsTrue result ↔ GoesOnAt logs.now stay.now }
 {
-    let index = stay.log as usize;
-    if index >= logs.len() {
-        return false;
+    match logs.get(stay.log as usize) {
+        Some(log) => log.ending != Ending::Failed,
+        None => false,
     }
-    let log = &logs[index];
-    log.ending != Ending::Failed
 }
 
 /// Returns how the stays end.

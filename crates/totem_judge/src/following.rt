@@ -21,16 +21,11 @@ fn turn_of<'a>(logs: &'a [Log], stay: &Stay) -> Option<Turn<'a>>
     ensures some { IfSome result (λ turn. TurnsTo logs.now stay.now turn.conf.now turn.members.now) }
     ensures none { IfNone result (TurnsNowhere logs.now stay.now) }
 {
-    let index = stay.log as usize;
-    if index >= logs.len() {
+    if stay.turn >= stay.end {
         return None;
     }
-    let log = &logs[index];
-    let entries = log.entries.as_slice();
-    if stay.turn >= stay.end || stay.turn >= entries.len() {
-        return None;
-    }
-    match &entries[stay.turn] {
+    let log = logs.get(stay.log as usize)?;
+    match log.entries.as_slice().get(stay.turn)? {
         Entry::Conf(conf, members) => Some(Turn { conf, members }),
         _ => None,
     }
@@ -50,12 +45,10 @@ fn turns_to(logs: &[Log], stay: &Stay, conf: &ConfId) -> bool
 fn goes_further(logs: &[Log], stay: &Stay) -> bool
     ensures { IsTrue result ↔ GoesFurther logs.now stay.now }
 {
-    let index = stay.log as usize;
-    if index >= logs.len() {
-        return false;
+    match logs.get(stay.log as usize) {
+        Some(log) => stay.end < log.entries.as_slice().len(),
+        None => false,
     }
-    let log = &logs[index];
-    stay.end < log.entries.as_slice().len()
 }
 
 /// Returns the configuration of this change, with the logs of the stays in which it follows.

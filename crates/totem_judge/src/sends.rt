@@ -21,20 +21,11 @@ struct Event<'a> {
 fn event_at<'a>(logs: &'a [Log], lines: &[Line], log: usize, at: usize) -> Option<Event<'a>>
     ensures { IfSome result (λ event. IsEventAt logs.now lines.now log at event.entry.now event.number) }
 {
-    if log >= logs.len() || log >= lines.len() {
-        return None;
-    }
-    let line = &lines[log];
-    let log = &logs[log];
-    let entries = log.entries.as_slice();
-    let numbers = line.numbers.as_slice();
-    if at >= entries.len() || at >= numbers.len() {
-        return None;
-    }
-    Some(Event {
-        entry: &entries[at],
-        number: numbers[at],
-    })
+    let line = lines.get(log)?;
+    let log = logs.get(log)?;
+    let entry = log.entries.as_slice().get(at)?;
+    let number = line.numbers.as_slice().get(at).copied()?;
+    Some(Event { entry, number })
 }
 
 /// Returns whether the entry sends the message in the ring's regular configuration, by this service.
@@ -53,11 +44,9 @@ fn is_send_of(entry: &Entry, ring: &RingId, message: &MsgId, service: Service) -
 fn comes_before(numbers: &[u32], before: u32, number: u32) -> bool
     ensures { OnTrue result (ComesBefore numbers.now before number) }
 {
-    let before = before as usize;
-    if before < numbers.len() {
-        number < numbers[before]
-    } else {
-        before == numbers.len()
+    match numbers.get(before as usize) {
+        Some(delivered) => number < *delivered,
+        None => before as usize == numbers.len(),
     }
 }
 
@@ -71,13 +60,7 @@ fn is_linked(sent: &Sent, index: usize, place: Option<u32>, gathered: &Gathered)
     let Some(got) = gathered.got_at(at as usize) else {
         return false;
     };
-    if got.sent as usize != index {
-        return false;
-    }
-    if !sent.by.is_within(got.by()) {
-        return false;
-    }
-    true
+    got.sent as usize == index && sent.by.is_within(got.by())
 }
 
 /// Returns whether the message at this index of the list was sent as the lists say.

@@ -10,7 +10,7 @@ use Rattle.totem_traffic_rules.specs.declared.traffic.Got.{Got}
 use Rattle.totem_traffic_rules.specs.declared.traffic.Following.{Following}
 use Rattle.totem_traffic_rules.specs.LogSets.{Has, IsWithin}
 use Rattle.totem_traffic_rules.specs.Lacking.{RowHas, RowIsApart, RowsAreApart, KeepsRows, AddsToRows}
-use Rattle.totem_traffic_rules.specs.Clean.{IsBy, IsLacking, LacksTo, IsBehindWith, HasAllBehind, LacksBehindTo, NoGapsTo, IsCausal, AreCausalTo, AllBefore}
+use Rattle.totem_traffic_rules.specs.Clean.{IsBy, IsLacking, LacksTo, IsBehindWith, HasAllBehind, LacksBehindTo, NoGapsTo, IsCausal, AreCausalTo}
 
 -- ---- places of a list
 
@@ -53,6 +53,8 @@ adds_no_row by lacking n rows never adds = record {
     | inr same ↦ absurd (never (rw same at a))
   ];
 }
+
+pub ruleset rows_added = (keeps_all, keeps_on, adds_none, adds_row, adds_no_row)
 
 pub apart_none : (rows : Rows) (by others : LogSet) → RowsAreApart rows by others 0
 apart_none rows by others = record { none = λ log other lt a b h. omega arith }
@@ -178,16 +180,3 @@ causal_more logs gots sents n taken sent rows at few lacks until apart clean = r
     causal = record {
       each = λ k got other lt here by missing has. apart.none other (lacks.each k got (taken_too k got lt here until) here sent.sender other few by missing) has;
     }
-
--- ---- 7.1
-
-pub before_none : (P : Got → Type 0) (gots : List Got) → AllBefore P gots 0
-before_none P gots = record { each = λ k got lt at. absurd (omega arith) }
-
-pub before_more : (P : Got → Type 0) (gots : List Got) (n : ℕ) (got : Got) → slice_get gots n ≡ Some got → P got → AllBefore P gots n → AllBefore P gots (n + 1)
-before_more P gots n got at here all = record {
-  each = λ k other lt at_k. elim (before_or_at k n lt) [
-    | inl under ↦ all.each k other under at_k
-    | inr same ↦ (let e : other ≡ got = one_at gots n other got (rw same at at_k) at in rw e here)
-  ];
-}

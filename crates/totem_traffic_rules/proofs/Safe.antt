@@ -1,6 +1,6 @@
 -- 7.1 over the traffic of a configuration.
-use Rattle.std.proofs.Common.{◌⊎◌, inl, inr, ℕ, List, length, refl}
-use Rattle.std.proofs.lemmas.Option.{slice_get_within}
+use Rattle.std.proofs.Common.{◌⊎◌, inl, inr, ℕ, List, refl}
+use Rattle.std.specs.Prelude.{All}
 use Rattle.totem_ids.specs.declared.ring.RingId.{RingId}
 use Rattle.totem_ids.specs.declared.conf.ConfId.{ConfId}
 use Rattle.totem_ids.specs.declared.conf.ConfId.TheVariants.{Regular}
@@ -15,7 +15,7 @@ use Rattle.totem_traffic_rules.specs.declared.traffic.MemberLogs.{MemberLogs}
 use Rattle.totem_traffic_rules.specs.declared.traffic.Traffic.{Traffic}
 use Rattle.totem_traffic_rules.specs.Traffics.{IsLogAt, AreMembers, IsTrafficOf}
 use Rattle.totem_traffic_rules.specs.LogSets.{Has}
-use Rattle.totem_traffic_rules.specs.Clean.{AreAllAmong, IsSafeBehind, ReachesAll, AllBefore, Shows}
+use Rattle.totem_traffic_rules.specs.Clean.{AreAllAmong, IsSafeBehind, ReachesAll, Shows}
 use Rattle.totem_traffic_rules.proofs.Facts.{all_at, has_log, IsGotOf, got_of}
 
 module _ (run : List Log) (c : RingId) (traffic : Traffic) (is : IsTrafficOf run c traffic) where
@@ -51,11 +51,11 @@ module _ (run : List Log) (c : RingId) (traffic : Traffic) (is : IsTrafficOf run
         | inr among ↦ of_member m got known r d f.following.members f.is.members among q member
       ]
 
-pub safety_met : (traffic : Traffic) → AllBefore (ReachesAll traffic) traffic.got.items (length traffic.got.items) → Shows spec.Safety traffic
+pub safety_met : (traffic : Traffic) → All (ReachesAll traffic) traffic.got.items → Shows spec.Safety traffic
 safety_met traffic clean = record {
   met = λ run c meets is. record {
     each = λ m p i d q safe delivers stays member.
         let has = is.all_got p i m (d, delivers, stays) in
-        reached run c traffic is m has.got (got_of run c traffic is m has) (clean.each has.at has.got (slice_get_within traffic.got.items has.at has.got has.stands) has.stands) p i d q safe delivers stays member;
+        reached run c traffic is m has.got (got_of run c traffic is m has) (all_at (ReachesAll traffic) traffic.got.items has.at has.got clean has.stands) p i d q safe delivers stays member;
   };
 }

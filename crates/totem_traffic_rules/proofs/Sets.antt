@@ -130,3 +130,5 @@ unfolding Has
 least_of set fits some =
     let known = bit_at-trailing_zeros w32 set.bits (omega arith) fits in
     record { within = known.0; has = known.1; first = λ other lt h. let none = known.2 other lt in omega arith }
+
+pub ruleset operations = (none_is_empty, empty_is_none, all_have, with_same, with_others, without_same, without_others, union_of, intersection_of, minus_of, within_of, apart_of, least_of)

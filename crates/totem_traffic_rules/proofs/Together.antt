@@ -1,6 +1,6 @@
 -- 4 over the traffic of a configuration.
-use Rattle.std.proofs.Common.{◌≡◌, ◌⊎◌, inl, inr, ℕ, ◌<◌, List, length, refl, sym, subst, arith}
-use Rattle.std.proofs.lemmas.Option.{slice_get_within}
+use Rattle.std.proofs.Common.{◌≡◌, ◌⊎◌, inl, inr, ℕ, ◌<◌, List, refl, sym, subst, arith}
+use Rattle.std.specs.Prelude.{All}
 use Rattle.totem_ids.specs.declared.ring.RingId.{RingId}
 use Rattle.totem_ids.specs.declared.conf.ConfId.{ConfId}
 use Rattle.totem_ids.specs.declared.conf.ConfId.TheVariants.{Regular}
@@ -19,7 +19,7 @@ use Rattle.totem_traffic_rules.specs.declared.log_set.LogSet.{LogSet}
 use Rattle.totem_traffic_rules.specs.declared.traffic.Traffic.{Traffic}
 use Rattle.totem_traffic_rules.specs.Traffics.{IsLogAt, IsTrafficOf}
 use Rattle.totem_traffic_rules.specs.LogSets.{Has}
-use Rattle.totem_traffic_rules.specs.Clean.{AllBefore, IsWhole, IsTogether, IsAtomic, Shows}
+use Rattle.totem_traffic_rules.specs.Clean.{IsWhole, IsTogether, IsAtomic, Shows}
 use Rattle.totem_traffic_rules.proofs.Facts.{all_at, has_log, got_of}
 use Rattle.totem_evs.proofs.NextChanges.{one_next}
 
@@ -81,7 +81,7 @@ each_of : (group set : LogSet) (j k : ℕ) → IsWhole group set → Has group j
 each_of group set j k (inl apart) at_j at_k has = absurd (apart.none j at_j has)
 each_of group set j k (inr within) at_j at_k has = within.each k at_k
 
-module _ (run : List Log) (c : RingId) (traffic : Traffic) (meets : MeetsPasses run) (is : IsTrafficOf run c traffic) (clean : AllBefore (IsAtomic traffic.following.items) traffic.got.items (length traffic.got.items)) where
+module _ (run : List Log) (c : RingId) (traffic : Traffic) (meets : MeetsPasses run) (is : IsTrafficOf run c traffic) (clean : All (IsAtomic traffic.following.items) traffic.got.items) where
   -- a process that changes has a log
   log_of_change : (p : ℕ) (x d : ConfId) → Goes (log_of run p) x d → (index : ℕ) × IsLogAt run index p
   log_of_change p x d (i, j, (ms, at), next, to) = has_log run p i (Conf x ms) at
@@ -94,7 +94,7 @@ module _ (run : List Log) (c : RingId) (traffic : Traffic) (meets : MeetsPasses 
       let known = got_of run c traffic is m has in
       let follows = next_follows run c meets p d goes in
       let f = is.following p d follows in
-      let together = all_at (IsTogether has.got) traffic.following.items f.at f.following (clean.each has.at has.got (slice_get_within traffic.got.items has.at has.got has.stands) has.stands) f.stands in
+      let together = all_at (IsTogether has.got) traffic.following.items f.at f.following (all_at (IsAtomic traffic.following.items) traffic.got.items has.at has.got clean has.stands) f.stands in
       let one = log_of_change p (Regular c) d goes in
       let other = log_of_change q (Regular c) d too in
       (known.regular.exact other.0 q other.1).0 (each_of f.following.logs has.got.regular one.0 other.0 together.0 ((f.is.logs.exact one.0 p one.1).1 follows)
@@ -107,7 +107,7 @@ module _ (run : List Log) (c : RingId) (traffic : Traffic) (meets : MeetsPasses 
       let has = is.all_got p i m (x, delivers, inr follows) in
       let known = got_of run c traffic is m has in
       let f = is.following p x follows in
-      let together = all_at (IsTogether has.got) traffic.following.items f.at f.following (clean.each has.at has.got (slice_get_within traffic.got.items has.at has.got has.stands) has.stands) f.stands in
+      let together = all_at (IsTogether has.got) traffic.following.items f.at f.following (all_at (IsAtomic traffic.following.items) traffic.got.items has.at has.got clean has.stands) f.stands in
       let one = log_of_change p x d goes in
       let other = log_of_change q x d too in
       let at = (known.transitional.exact other.0 q other.1).0 (each_of f.following.left has.got.transitional one.0 other.0 together.1 ((f.is.left.exact one.0 p one.1).1 (d, goes))
@@ -122,7 +122,7 @@ module _ (run : List Log) (c : RingId) (traffic : Traffic) (meets : MeetsPasses 
       (λ a b del. there p q d a b i m del) goes too delivers
   atomic p q x d (inr follows) goes too i m delivers = behind p q x d follows goes too i m delivers
 
-pub atomicity_met : (traffic : Traffic) → AllBefore (IsAtomic traffic.following.items) traffic.got.items (length traffic.got.items) → Shows spec.Atomicity traffic
+pub atomicity_met : (traffic : Traffic) → All (IsAtomic traffic.following.items) traffic.got.items → Shows spec.Atomicity traffic
 atomicity_met traffic clean = record {
   met = λ run c meets is. record { each = λ p q x d stays goes too i m delivers. atomic run c traffic meets is clean p q x d stays goes too i m delivers };
 }

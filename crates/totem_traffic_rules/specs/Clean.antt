@@ -89,10 +89,6 @@ pub record ReachesAll (traffic : Traffic) (got : Got) : Type 0 where
   pub there : got.safe ≡ true → IsEmpty got.regular ⊎ AreAllAmong reached traffic.members
   pub behind : got.safe ≡ true → All (IsSafeBehind got.transitional reached) traffic.following.items
 
--- this holds for each of the first messages
-pub record AllBefore (Holds : Got → Type 0) (gots : List Got) (end : ℕ) : Type 0 where
-  pub each : (k : ℕ) (got : Got) → k < end → slice_get gots k ≡ Some got → Holds got
-
 -- 4: all of the group are in the set, or none
 abbrev pub IsWhole : LogSet → LogSet → Type 0
 IsWhole group set = AreApart group set ⊎ IsWithin group set

@@ -1,9 +1,9 @@
 //! 4: processes that go together from one configuration to the next deliver the same messages there
 //! (docs/SPECIFICATIONS.md, "4 Failure atomicity").
-ghost use Rattle.std.specs.Prelude.{◌⊎◌, ◌↔◌, IsTrue, All, length};
+ghost use Rattle.std.specs.Prelude.{◌⊎◌, ◌↔◌, IsTrue, All};
 ghost use Rattle.std.specs.Bool.{OnTrue};
 ghost use Rattle.totem_traffic_rules.specs.LogSets.{AreApart, IsWithin};
-ghost use Rattle.totem_traffic_rules.specs.Clean.{AllBefore, IsWhole, IsTogether, IsAtomic, Shows};
+ghost use Rattle.totem_traffic_rules.specs.Clean.{IsWhole, IsTogether, IsAtomic, Shows};
 
 use crate::log_set::LogSet;
 use crate::traffic::{Following, Got, Traffic};
@@ -31,14 +31,9 @@ fn is_atomic(got: &Got, list: &[Following]) -> bool
 }
 
 fn all_are_atomic(got: &[Got], list: &[Following]) -> bool
-    ensures { OnTrue result (AllBefore (IsAtomic list.now) got.now (length got.now)) }
+    ensures { OnTrue result (All (IsAtomic list.now) got.now) }
 {
-    for message in got {
-        if !is_atomic(message, list) {
-            return false;
-        }
-    }
-    true
+    got.iter().all(|message| is_atomic(message, list))
 }
 
 /// Returns `true` only if the run meets the specification in the configuration.

@@ -10,6 +10,7 @@ use crate::traffic::{Got, Sent, Traffic};
 use totem_evs::SpecNo;
 
 /// Returns whether each log that delivers a message delivers all that its sender sent before.
+#[tactic(auto, using(crate::proofs::InSequence::fewer_none))]
 fn are_fewer(sent: &[Sent]) -> bool
     ensures { OnTrue result (AreFewerTo sent.now (length sent.now)) }
 {
@@ -26,6 +27,7 @@ fn are_fewer(sent: &[Sent]) -> bool
 }
 
 /// Returns whether the messages of each sender are delivered in the order in which they were sent.
+#[tactic(auto, using(crate::proofs::InSequence::order_none))]
 fn are_in_order(got: &[Got]) -> bool
     ensures { OnTrue result (AreInOrderTo got.now (length got.now)) }
 {
@@ -63,6 +65,7 @@ fn add_to(rows: &mut Rows, got: &[Got], logs: LogSet, from: usize, end: usize) -
 }
 
 /// Returns whether no log that lacks what a sender delivers before it sends a message delivers that message.
+#[tactic(auto, using(crate::proofs::Rowing::lacks_none, crate::proofs::Rowing::causal_none))]
 fn are_causal(sent: &[Sent], got: &[Got], logs: LogSet) -> bool
     ensures { OnTrue result (AreCausalTo logs got.now sent.now (length sent.now)) }
 {

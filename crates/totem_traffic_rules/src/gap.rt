@@ -24,6 +24,7 @@ fn with_following(logs: LogSet, following: &Following, sender: u32) -> LogSet
 }
 
 /// Returns the logs in which a configuration follows that has the sender as a member.
+#[tactic(auto, using(crate::proofs::Rowing::behind_none, crate::proofs::Rowing::behind_next))]
 fn behind_with(list: &[Following], sender: u32) -> LogSet
     requires { sender < 32 }
     ensures { HasAllBehind list.now sender (length list.now) result }
@@ -36,6 +37,7 @@ fn behind_with(list: &[Following], sender: u32) -> LogSet
 }
 
 /// Returns whether no log that lacks a message delivers a later one where the sender is still a member.
+#[tactic(auto, using(crate::proofs::Rowing::no_gaps_none, crate::proofs::Rowing::lacks_none, crate::proofs::Rowing::lacks_behind_none))]
 fn has_no_gaps(got: &[Got], logs: LogSet, following: &[Following]) -> bool
     ensures { OnTrue result (NoGapsTo logs following.now got.now (length got.now)) }
 {

@@ -11,6 +11,7 @@ pub struct LogSet {
     bits: u32,
 }
 
+#[tactic(auto, using(crate::proofs::Sets::operations))]
 impl LogSet {
     ghost use Rattle.totem_traffic_rules.specs.LogSets.{Has, IsWithin, AreApart, IsEmpty, IsLeast};
 

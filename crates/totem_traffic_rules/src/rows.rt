@@ -32,6 +32,7 @@ impl Rows {
     }
 
     /// Notes that the logs in `by` have something that those in `lacking` lack.
+    #[tactic(auto, using(crate::proofs::Rowing::rows_added))]
     pub fn add(&mut self, by: LogSet, lacking: LogSet)
         ensures kept { KeepsRows self.old self.new }
         ensures added { AddsToRows by lacking 32 self.new }
@@ -55,6 +56,7 @@ impl Rows {
     }
 
     /// Returns whether one of the others may lack something that a log in `by` has. If it returns `false`, none does.
+    #[tactic(auto, using(crate::proofs::Rowing::apart_none, crate::proofs::Rowing::apart_row))]
     pub fn meet(&self, by: LogSet, others: LogSet) -> bool
         ensures { OnFalse result (RowsAreApart self.now by others 32) }
     {

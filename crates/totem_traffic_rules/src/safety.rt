@@ -1,9 +1,9 @@
 //! 7.1: a safe message that is delivered reaches each member of the configuration in which it is delivered
 //! (docs/SPECIFICATIONS.md, "7 Safe delivery").
-ghost use Rattle.std.specs.Prelude.{◌≡◌, ◌⊎◌, ◌↔◌, IsTrue, All, length};
+ghost use Rattle.std.specs.Prelude.{◌≡◌, ◌⊎◌, ◌↔◌, IsTrue, All};
 ghost use Rattle.std.specs.Bool.{OnTrue};
 ghost use Rattle.totem_traffic_rules.specs.LogSets.{IsEmpty, AreApart};
-ghost use Rattle.totem_traffic_rules.specs.Clean.{AllBefore, AreAllAmong, ReachesAll, IsSafeBehind, Shows};
+ghost use Rattle.totem_traffic_rules.specs.Clean.{AreAllAmong, ReachesAll, IsSafeBehind, Shows};
 
 use crate::log_set::LogSet;
 use crate::traffic::{Following, Got, MemberLogs, Traffic};
@@ -44,14 +44,9 @@ fn reaches_all(got: &Got, traffic: &Traffic) -> bool
 }
 
 fn all_reach(got: &[Got], traffic: &Traffic) -> bool
-    ensures { OnTrue result (AllBefore (ReachesAll traffic.now) got.now (length got.now)) }
+    ensures { OnTrue result (All (ReachesAll traffic.now) got.now) }
 {
-    for message in got {
-        if !reaches_all(message, traffic) {
-            return false;
-        }
-    }
-    true
+    got.iter().all(|message| reaches_all(message, traffic))
 }
 
 /// Returns `true` only if the run meets the specification in the configuration.

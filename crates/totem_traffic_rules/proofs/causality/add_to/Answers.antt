@@ -2,12 +2,6 @@ use Rattle.std.proofs.Common.{◌≡◌, length, slice_get, Some, arith}
 use Rattle.totem_traffic_rules.proofs.Rowing.{read_at, lacks_more}
 use Rattle.totem_traffic_rules.proofs.causality.add_to.Goals as goal
 
-pub loop-index-init : goal.loop-index-init
-loop-index-init c = c.requires.before
-
-pub returns-then-end-index-clause-lacking : goal.returns-then-end-index-clause-lacking
-returns-then-end-index-clause-lacking c = c.loop-index.invariant
-
 pub loop-index-preserved : goal.loop-index-preserved
 loop-index-preserved c =
     let at : slice_get c.args.got.now c.loop-index.index ≡ Some c.index-got-index.result = read_at c.args.got.now c.loop-index.index c.index-got-index.result c.loop-index-test.true c.index-got-index.is in

@@ -1,13 +1,10 @@
-use Rattle.std.proofs.Common.{◌≡◌, ◌⊎◌, ◌<◌, inl, inr, length, slice_get, Some, refl, arith}
+use Rattle.std.proofs.Common.{◌≡◌, ◌⊎◌, ◌<◌, inl, inr, slice_get, Some}
 use Rattle.std.specs.Prelude.{slice_index}
 use Rattle.totem_traffic_rules.specs.LogSets.{Has}
 use Rattle.totem_traffic_rules.proofs.Rowing.{read_at}
-use Rattle.totem_traffic_rules.proofs.InSequence.{order_none, order_more}
+use Rattle.totem_traffic_rules.proofs.InSequence.{order_more}
 use Rattle.totem_traffic_rules.proofs.causality.are_in_order.Goals.{else-contains-via-then-contains+else-message-last, else-contains-via-else-contains}
 use Rattle.totem_traffic_rules.proofs.causality.are_in_order.Goals as goal
-
-pub loop-message-init : goal.loop-message-init
-loop-message-init c = order_none c.args.got.now c.none-begun.result _ refl
 
 pub loop-message-preserved : goal.loop-message-preserved
 loop-message-preserved c =
@@ -18,8 +15,3 @@ loop-message-preserved c =
     ] in
     order_more c.args.got.now c.loop-message.message-index c.loop-message.begun c.with-begun.result c.loop-message.last c.message-item.result at c.message-item.result.in_range
     fresh c.with-begun.ensures.same c.with-begun.ensures.others c.loop-message.invariant
-
-pub returns : goal.returns
-returns c =
-    let end : c.loop-message.message-index ≡ length c.args.got.now = omega arith in
-    rw end at c.loop-message.invariant.clean

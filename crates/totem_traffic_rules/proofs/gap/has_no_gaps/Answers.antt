@@ -1,13 +1,6 @@
-use Rattle.std.proofs.Common.{◌≡◌, length, slice_get, Some, arith}
-use Rattle.totem_traffic_rules.proofs.Rowing.{read_at, no_gaps_none, lacks_none, lacks_behind_none, no_gaps_more, lacks_more, lacks_behind_more}
+use Rattle.std.proofs.Common.{◌≡◌, slice_get, Some}
+use Rattle.totem_traffic_rules.proofs.Rowing.{read_at, no_gaps_more, lacks_more, lacks_behind_more}
 use Rattle.totem_traffic_rules.proofs.gap.has_no_gaps.Goals as goal
-
-pub loop-message-init : goal.loop-message-init
-loop-message-init c = (
-  no_gaps_none c.args.logs c.args.following.now c.args.got.now,
-  lacks_none c.args.logs c.args.got.now c.new-lacking.result,
-  lacks_behind_none c.args.logs c.args.following.now c.args.got.now c.new-lacking_behind.result,
-)
 
 pub loop-message-preserved : goal.loop-message-preserved
 loop-message-preserved c =
@@ -21,8 +14,3 @@ loop-message-preserved c =
           c.args.following.now c.behind_with.result c.behind_with.ensures c.intersection-behind.result c.intersection-behind.ensures
           c.loop-message.lacking_behind c.add-in-loop-message.new.self c.add-in-loop-message.ensures.kept c.add-in-loop-message.ensures.added c.loop-message.invariant.2,
     )
-
-pub returns : goal.returns
-returns c =
-    let end : c.loop-message.message-index ≡ length c.args.got.now = omega arith in
-    rw end at c.loop-message.invariant.0

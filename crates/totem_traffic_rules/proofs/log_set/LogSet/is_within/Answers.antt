@@ -1,7 +1,0 @@
-use Rattle.totem_traffic_rules.proofs.Sets.{within_of}
-use Rattle.totem_traffic_rules.proofs.log_set.LogSet.is_within.Goals as goal
-
-pub returns : goal.returns
-returns c =
-    let same = within_of c.args.self c.args.other c.minus.result c.minus.ensures in
-    (λ h. same.0 (c.is_empty.ensures.0 h), λ h. c.is_empty.ensures.1 (same.1 h))
