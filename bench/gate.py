@@ -6,7 +6,8 @@
     bench/gate.py rt ci totem_ids     # the same for another command
     bench/gate.py --watch             # only watches a run that somebody else began; ends with Ctrl-C
 
-It looks at /proc every second, so it needs Linux, and it misses a check that begins and ends between two looks. The columns are
+It looks at /proc every second, so it needs Linux, and it misses a check that begins and ends between two looks. It counts the checks that
+its command runs; --watch counts all on the machine. The columns are
 processor minutes: of a crate's own proof, which builds it too; of the proof of its tests; of the checks with which its must-fail edits
 begin and end; and of the edits themselves. On a loaded machine the same work takes up to twice the time, so let nothing else run."""
 
@@ -48,6 +49,13 @@ def prover_above(found, number):
     return number
 
 
+def is_below(found, number, root):
+    """Whether a process is a descendant of another one."""
+    while number in found and number != root:
+        number = found[number].parent
+    return number == root
+
+
 def edit_in(crate, folder):
     """The must-fail edit that was made in a copy of a crate, or None if the copy is unchanged."""
     for path in sorted(glob.glob("crates/%s/must-fail/*.edit" % crate)):
@@ -78,9 +86,10 @@ def work_of(number):
 
 
 class Watch:
-    """The time that each check has taken so far."""
+    """The time that each check has taken so far: of the checks below one process, or of all on this machine."""
 
-    def __init__(self):
+    def __init__(self, root=None):
+        self.root = root
         self.works = {}
         self.seconds = collections.Counter()
 
@@ -89,7 +98,7 @@ class Watch:
         found = processes()
         now = collections.Counter()
         for number, process in found.items():
-            if process.name == PROVER:
+            if process.name == PROVER and (self.root is None or is_below(found, number, self.root)):
                 above = prover_above(found, number)
                 now[above, found[above].started] += process.seconds
         for key, seconds in now.items():
@@ -137,8 +146,8 @@ def main():
     parser.add_argument("command", nargs="*")
     asked = parser.parse_args()
     signal.signal(signal.SIGTERM, signal.default_int_handler)
-    watch, begun = Watch(), time.monotonic()
     running = None if asked.watch else subprocess.Popen(asked.command or gate())
+    watch, begun = Watch(running.pid if running else None), time.monotonic()
     try:
         while not running or running.poll() is None:
             watch.look()
