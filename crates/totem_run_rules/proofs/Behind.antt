@@ -54,7 +54,7 @@ pub regular_first : (log : List Entry) (at : ℕ) (before : Option ℕ) (x : Con
 regular_first log at None x ms c last from none = (let is : x ≡ Regular c = from in rw is tt)
 regular_first log at (Some i) x ms c last from none = absurd (none.none i last.earlier last.change)
 
-same_entry : (log : List Entry) (i j : ℕ) (w v : ConfId) (ls ns : List ℕ) → i ≡ j → ChangesWith log i v ns → ChangesWith log j w ls → (v ≡ w) × (ns ≡ ls)
+pub same_entry : (log : List Entry) (i j : ℕ) (w v : ConfId) (ls ns : List ℕ) → i ≡ j → ChangesWith log i v ns → ChangesWith log j w ls → (v ≡ w) × (ns ≡ ls)
 same_entry log i j w v ls ns same first second =
     let there : slice_get log j ≡ Some (Conf v ns) = rw same at first in
     let here : slice_get log j ≡ Some (Conf w ls) = second in

@@ -1,5 +1,5 @@
 -- In which configuration a log ends: that of its last change.
-use Rattle.std.proofs.Common.{◌≡◌, ◌↔◌, ◌-◌, ◌+◌, ◌<◌, ℕ, inl, inr, List, [], ◌∷◌, ◌++◌, length, slice_get, Option, None, Some, Bool, false, IsTrue, refl, ◌∙◌, arith}
+use Rattle.std.proofs.Common.{◌≡◌, ◌↔◌, ◌-◌, ◌+◌, ◌<◌, ℕ, inl, inr, List, [], ◌∷◌, ◌++◌, length, slice_get, Option, None, Some, Bool, false, IsTrue, refl, arith}
 use Rattle.std.proofs.lemmas.Option.{slice_get_within}
 use Rattle.totem_ids.specs.declared.conf.ConfId.{ConfId}
 use Rattle.totem_evs.specs.declared.entry.Entry.{Entry}
@@ -9,9 +9,9 @@ use Rattle.totem_evs.specs.Changes.{StaysInPlace}
 use Rattle.totem_evs.specs.Following.{LastChange}
 use Rattle.totem_evs.specs.Unsettled.{EndsIn}
 use Rattle.totem_evs.proofs.LogOf.{less_or_not}
-use Rattle.totem_evs.proofs.Pushing.{Along, along_none, along_more}
+use Rattle.totem_evs.proofs.Pushing.{Along, along_more}
 use Rattle.totem_run_rules.specs.Ends.{GoesOn, IsLast}
-use Rattle.totem_run_rules.specs.Endings.{StandsAtEnd, EndsNowhere, IsEnd, AreEnds}
+use Rattle.totem_run_rules.specs.Endings.{StandsAtEnd, EndsNowhere, IsEnd}
 
 -- a log that fails has the failure at its end
 pub goes_on : (log : List Entry) (e : Entry) → StaysInPlace log → 0 < length log → slice_get log (length log - 1) ≡ Some e → ((x : ConfId) → e ≡ Fail x → ⊥) → GoesOn log
@@ -20,23 +20,15 @@ goes_on log e stays some at not_fail = record {
       let within = slice_get_within log i (Fail x) fails in
       elim (less_or_not i (length log - 1)) [
         | inl under ↦ stays.final i (length log - 1) x fails under (omega arith)
-        | inr rest ↦ elim rest [
-          | inl over ↦ omega arith
-          | inr same ↦ (let here : slice_get log (length log - 1) ≡ Some (Fail x) = rw same at fails in not_fail x cc)
-        ]
+        | inr (inl over) ↦ omega arith
+        | inr (inr same) ↦ (let here : slice_get log (length log - 1) ≡ Some (Fail x) = rw same at fails in not_fail x cc)
       ];
 }
-
-pub nothing_fails : (log : List Entry) → length log ≡ 0 → GoesOn log
-nothing_fails log empty = record { never = λ i x fails. (let within = slice_get_within log i (Fail x) fails in omega arith) }
 
 -- a log without a failure ends where its last change is
 pub is_end : (log : List Entry) (last : Option ℕ) → GoesOn log → IsLast log last → IsEnd log last
 is_end log None on none = record { never = λ x ends. none.none ends.last.index (x, ends.last.change) }
 is_end log (Some i) on stands = record { goes_on = on.never; change = stands.change; last = stands.none_after }
-
-pub failed_ends : (log : List Entry) (i : ℕ) (x : ConfId) → slice_get log i ≡ Some (Fail x) → EndsNowhere log
-failed_ends log i x fails = record { never = λ y ends. ends.goes_on i x fails }
 
 -- ---- whether a log ends in a configuration
 
@@ -65,11 +57,5 @@ end_nowhere_but log (Some i) end not = absurd (not i refl)
 abbrev pub EndsBefore : List Log → ℕ → List (Option ℕ) → Type 0
 EndsBefore run n ends = Along (λ (l : Log) (last : Option ℕ). IsEnd l.entries last) run ends n
 
-pub no_ends : (run : List Log) → EndsBefore run 0 []
-no_ends run = along_none (λ (l : Log) (last : Option ℕ). IsEnd l.entries last) run
-
 pub ends_more : (run : List Log) (n : ℕ) (log : Log) (last : Option ℕ) (ends : List (Option ℕ)) → slice_get run n ≡ Some log → IsEnd log.entries last → EndsBefore run n ends → EndsBefore run (n + 1) (ends ++ last ∷ [])
 ends_more run n log last ends at end before = along_more (λ (l : Log) (e : Option ℕ). IsEnd l.entries e) run ends n log last at end before
-
-pub all_ends : (run : List Log) (n : ℕ) (ends : List (Option ℕ)) → n ≡ length run → EndsBefore run n ends → AreEnds run ends
-all_ends run n ends all before = record { many = before.long ∙ all; each = before.each }

@@ -1,5 +1,5 @@
 -- Whether the members of a quiet log's last configuration end there too.
-use Rattle.std.proofs.Common.{◌≡◌, ◌↔◌, ◌+◌, ◌<◌, ◌≤◌, ℕ, inl, inr, List, [], ◌∷◌, ◌++◌, length, get_or, slice_get, Some, Bool, false, IsTrue, refl, sym, ◌∙◌, ap, arith}
+use Rattle.std.proofs.Common.{◌≡◌, ◌↔◌, ◌+◌, ◌<◌, ◌≤◌, ℕ, inl, inr, List, [], ◌∷◌, ◌++◌, length, get_or, slice_get, Some, Bool, IsTrue, refl, sym, ◌∙◌, ap, arith}
 use Rattle.std.proofs.lemmas.Option.{slice_get_read, slice_get_within, get_or_from_slice_get, slice_get-get_or}
 use Rattle.totem_ids.specs.declared.conf.ConfId.{ConfId}
 use Rattle.totem_ids.specs.declared.place.Place.{Place}
@@ -15,8 +15,8 @@ use Rattle.totem_evs.specs.ChangeFaults.{EndsAlone, BreaksEnd}
 use Rattle.totem_evs.specs.Answers.{ComesFirst, IsLeastBreak}
 use Rattle.totem_evs.proofs.LogOf.{Rising, log_of_cases, log_of_at, in_order, less_or_not}
 use Rattle.totem_run_rules.specs.declared.ends.LogEnd.{LogEnd}
-use Rattle.totem_run_rules.specs.Ends.{GoesOn, HasNoChange, StandsLast, IsLast, IsLogEnd, AreLogEnds, LogShares, IsLogOf, HasNoLog, AllShare, SomeStrays, StraysAt, EndsWithAll}
-use Rattle.totem_evs.proofs.Pushing.{Along, along_none, along_more}
+use Rattle.totem_run_rules.specs.Ends.{GoesOn, HasNoChange, StandsLast, IsLast, IsLogEnd, LogShares, IsLogOf, HasNoLog, AllShare, SomeStrays, StraysAt, EndsWithAll}
+use Rattle.totem_evs.proofs.Pushing.{Along, along_more}
 use Rattle.totem_run_rules.proofs.Placed.{same_place}
 use Rattle.totem_run_rules.proofs.LogEnds.{ending_of_at}
 
@@ -26,14 +26,8 @@ use Rattle.totem_run_rules.proofs.LogEnds.{ending_of_at}
 abbrev pub EndsBefore : List Log → ℕ → List LogEnd → Type 0
 EndsBefore run n ends = Along (λ (l : Log) (end : LogEnd). IsLogEnd l.entries end) run ends n
 
-pub no_ends : (run : List Log) → EndsBefore run 0 []
-no_ends run = along_none (λ (l : Log) (end : LogEnd). IsLogEnd l.entries end) run
-
 pub ends_more : (run : List Log) (n : ℕ) (log : Log) (end : LogEnd) (ends : List LogEnd) → slice_get run n ≡ Some log → IsTrue end.goes_on ↔ GoesOn log.entries → IsLast log.entries end.last → EndsBefore run n ends → EndsBefore run (n + 1) (ends ++ end ∷ [])
 ends_more run n log end ends at goes last before = along_more (λ (l : Log) (e : LogEnd). IsLogEnd l.entries e) run ends n log end at (record { goes_on = goes; last = last }) before
-
-pub all_ends : (run : List Log) (n : ℕ) (ends : List LogEnd) → n ≡ length run → EndsBefore run n ends → AreLogEnds run ends
-all_ends run n ends all before = record { many = before.long ∙ all; each = before.each }
 
 -- ---- finding the log of a process
 
@@ -41,25 +35,17 @@ all_ends run n ends all before = record { many = before.long ∙ all; each = bef
 pub record NoLogBefore (run : List Log) (p n : ℕ) : Type 0 where
   pub none : (j : ℕ) (log : Log) → j < n → slice_get run j ≡ Some log → log.proc ≡ p → ⊥
 
-pub no_log_yet : (run : List Log) (p : ℕ) → NoLogBefore run p 0
-no_log_yet run p = record { none = λ j log lt at same. omega arith }
-
 pub no_log_more : (run : List Log) (p n : ℕ) (log : Log) → slice_get run n ≡ Some log → (log.proc ≡ p → ⊥) → NoLogBefore run p n → NoLogBefore run p (n + 1)
 no_log_more run p n log at other before = record {
   none = λ j l lt at_j same. elim (less_or_not j n) [
     | inl under ↦ before.none j l under at_j same
-    | inr rest ↦ elim rest [
-      | inl over ↦ omega arith
-      | inr here ↦ (let there : slice_get run n ≡ Some l = rw here at at_j in let one : l ≡ log = cc in other (rw one at same))
-    ]
+    | inr (inl over) ↦ omega arith
+    | inr (inr here) ↦ (let there : slice_get run n ≡ Some l = rw here at at_j in let one : l ≡ log = cc in other (rw one at same))
   ];
 }
 
 pub no_log : (run : List Log) (p n : ℕ) → length run ≤ n → NoLogBefore run p n → HasNoLog run p
 no_log run p n end before = record { none = λ (j, log, lt, at, same). before.none j log (omega arith) (rw at at (slice_get-get_or run j log lt)) same }
-
-pub is_log_of : (run : List Log) (p k : ℕ) (log : Log) → slice_get run k ≡ Some log → log.proc ≡ p → IsLogOf run p k
-is_log_of run p k log at same = record { log = log; at = at; proc = same }
 
 -- what is read at the index of p's log is p's log
 pub read_there : (run logs : List Log) (p k : ℕ) (log : Log) → logs ≡ run → IsLogOf run p k → log ≡ get_or logs k log → (slice_get run k ≡ Some log) × (log.proc ≡ p)
@@ -100,44 +86,31 @@ shared run k log x p b rising at proc decides = (λ t. to (decides.0 t), λ h. d
       ];
     }
 
-pub shares_not : (run : List Log) (x : ConfId) (p : ℕ) → HasNoLog run p → IsTrue false ↔ SharesEnd run x p
-shares_not run x p none = (λ t. absurd cc, λ h. absurd (none.none h.has_log))
-
 -- ---- whether all members do
 
 -- the first n members share the end
 pub record ShareBefore (run : List Log) (x : ConfId) (ms : List ℕ) (n : ℕ) : Type 0 where
   pub each : (j q : ℕ) → j < n → slice_get ms j ≡ Some q → SharesEnd run x q
 
-pub share_yet : (run : List Log) (x : ConfId) (ms : List ℕ) → ShareBefore run x ms 0
-share_yet run x ms = record { each = λ j q lt at. absurd (omega arith) }
-
 pub share_more : (run : List Log) (x : ConfId) (ms : List ℕ) (n r : ℕ) → slice_get ms n ≡ Some r → SharesEnd run x r → ShareBefore run x ms n → ShareBefore run x ms (n + 1)
 share_more run x ms n r at shares before = record {
   each = λ j q lt at_j. elim (less_or_not j n) [
     | inl under ↦ before.each j q under at_j
-    | inr rest ↦ elim rest [
-      | inl over ↦ absurd (omega arith)
-      | inr same ↦ (let there : slice_get ms n ≡ Some q = rw same at at_j in let one : r ≡ q = cc in rw one at shares)
-    ]
+    | inr (inl over) ↦ absurd (omega arith)
+    | inr (inr same) ↦ (let there : slice_get ms n ≡ Some q = rw same at at_j in let one : r ≡ q = cc in rw one at shares)
   ];
 }
 
 pub all_share : (run : List Log) (x : ConfId) (ms : List ℕ) (n : ℕ) → length ms ≤ n → ShareBefore run x ms n → AllShare run x ms
 all_share run x ms n end before = record { each = λ q (j, lt, is). before.each j q (omega arith) (rw (← is) (slice_get-get_or ms j q lt)) }
 
-pub some_strays : (run : List Log) (x : ConfId) (ms : List ℕ) (n q : ℕ) → slice_get ms n ≡ Some q → (SharesEnd run x q → ⊥) → SomeStrays run x ms
-some_strays run x ms n q at never = record { member = q; among = (n, slice_get_within ms n q at, get_or_from_slice_get ms n q q at); strays = never }
-
 -- ---- whether the members of a log's last change do
 
 last_same : (log : List Entry) (i j : ℕ) (x : ConfId) (ms : List ℕ) → StandsLast log i → IsLastChange log j x ms → i ≡ j
 last_same log i j x ms stands last = elim (less_or_not i j) [
   | inl under ↦ absurd (stands.none_after j under (x, (ms, last.change)))
-  | inr rest ↦ elim rest [
-    | inl over ↦ absurd (last.none_after i over stands.change)
-    | inr same ↦ same
-  ]
+  | inr (inl over) ↦ absurd (last.none_after i over stands.change)
+  | inr (inr same) ↦ same
 ]
 
 pub strays_here : (run : List Log) (log : List Entry) (i : ℕ) (e : Entry) (x : ConfId) (ms : List ℕ) → StandsLast log i → slice_get log i ≡ Some e → e ≡ Conf x ms → SomeStrays run x ms → StraysAt run log i
@@ -163,17 +136,12 @@ with_none run log none = record { each = λ i x ms q last among. absurd (none.no
 pub record TogetherBefore (run : List Log) (k : ℕ) : Type 0 where
   pub each : (j : ℕ) (log : Log) → j < k → slice_get run j ≡ Some log → log.ending ≡ Quiet → EndsWithAll run log.entries
 
-pub together_yet : (run : List Log) → TogetherBefore run 0
-together_yet run = record { each = λ j log lt at quiet. absurd (omega arith) }
-
 pub together_more : (run : List Log) (k : ℕ) (log : Log) → slice_get run k ≡ Some log → (log.ending ≡ Quiet → EndsWithAll run log.entries) → TogetherBefore run k → TogetherBefore run (k + 1)
 together_more run k log at here before = record {
   each = λ j l lt at_j. elim (less_or_not j k) [
     | inl under ↦ before.each j l under at_j
-    | inr rest ↦ elim rest [
-      | inl over ↦ absurd (omega arith)
-      | inr same ↦ (let there : slice_get run k ≡ Some l = rw same at at_j in let one : log ≡ l = cc in rw one at here)
-    ]
+    | inr (inl over) ↦ absurd (omega arith)
+    | inr (inr same) ↦ (let there : slice_get run k ≡ Some l = rw same at at_j in let one : log ≡ l = cc in rw one at here)
   ];
 }
 
@@ -195,20 +163,6 @@ all_together run k rising end before = λ p i x ms q quiet last among. elim (log
 -- none of the first k logs is quiet
 pub record NoneQuietBefore (run : List Log) (k : ℕ) : Type 0 where
   pub none : (j : ℕ) (log : Log) → j < k → slice_get run j ≡ Some log → log.ending ≡ Quiet → ⊥
-
-pub none_quiet_yet : (run : List Log) → NoneQuietBefore run 0
-none_quiet_yet run = record { none = λ j log lt at quiet. omega arith }
-
-pub none_quiet_more : (run : List Log) (k : ℕ) (log : Log) → slice_get run k ≡ Some log → (log.ending ≡ Quiet → ⊥) → NoneQuietBefore run k → NoneQuietBefore run (k + 1)
-none_quiet_more run k log at never before = record {
-  none = λ j l lt at_j quiet. elim (less_or_not j k) [
-    | inl under ↦ before.none j l under at_j quiet
-    | inr rest ↦ elim rest [
-      | inl over ↦ omega arith
-      | inr same ↦ (let there : slice_get run k ≡ Some l = rw same at at_j in let one : l ≡ log = cc in never (rw one at quiet))
-    ]
-  ];
-}
 
 pub none_alone : (run : List Log) (k : ℕ) → Rising run → length run ≤ k → NoneQuietBefore run k → EndsTogether run
 none_alone run k rising end before = all_together run k rising end (record { each = λ j log lt at quiet. absurd (before.none j log lt at quiet) })
@@ -238,10 +192,8 @@ least_end run k i n log rising at quiet strays before e = record {
       | inr found ↦ elim (less_or_not found.0 k) [
         | inl under ↦
             absurd (never ((before.each found.0 found.1 under found.2 (quiet_at run found.0 f.proc found.1 rising found.2 found.3 hushed)).each j x ms q (rw found.4 at last) member))
-        | inr rest ↦ elim rest [
-          | inl over ↦ inl (inl (let lt = in_order run k found.0 log found.1 rising at found.2 over in omega (arith, found.3)))
-          | inr same ↦ in_this f j found.0 found.1 x ms at_f last same found.2 found.3 found.4
-        ]
+        | inr (inl over) ↦ inl (inl (let lt = in_order run k found.0 log found.1 rising at found.2 over in omega (arith, found.3)))
+        | inr (inr same) ↦ in_this f j found.0 found.1 x ms at_f last same found.2 found.3 found.4
       ]
     ]
 

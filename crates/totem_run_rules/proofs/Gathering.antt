@@ -47,10 +47,8 @@ module _ {X : Type 0} (proc : X → ℕ) (Below : X → X → Type 0) (by_proc :
     in_more : (p : ℕ) → HasLogBefore run (k + 1) p → HasLogBefore run k p ⊎ (p ≡ log.proc)
     in_more p h = elim (less_or_not h.index k) [
       | inl under ↦ inl (record { index = h.index; log = h.log; before = under; stands = h.stands; proc = h.proc })
-      | inr rest ↦ elim rest [
-        | inl over ↦ absurd (let b = h.before in omega arith)
-        | inr same ↦ inr (let at : slice_get run k ≡ Some h.log = rw same at h.stands in let logs : h.log ≡ log = cc in sym h.proc ∙ rw logs refl)
-      ]
+      | inr (inl over) ↦ absurd (let b = h.before in omega arith)
+      | inr (inr same) ↦ inr (let at : slice_get run k ≡ Some h.log = rw same at h.stands in let logs : h.log ≡ log = cc in sym h.proc ∙ rw logs refl)
     ]
 
     kept : (p : ℕ) → HasLogBefore run k p → HasLogBefore run (k + 1) p

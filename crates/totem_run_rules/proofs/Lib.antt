@@ -1,8 +1,6 @@
 pub mod Staying
-pub mod Passing
 pub mod Distinct
 pub mod Decisions
-pub mod Exact
 pub mod Behind
 pub mod ChangesMet
 pub mod Walk

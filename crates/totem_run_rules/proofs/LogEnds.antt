@@ -8,12 +8,12 @@ use Rattle.totem_evs.specs.declared.entry.Entry.TheVariants.{Conf, Send, Deliver
 use Rattle.totem_evs.specs.declared.ending.Ending.{Ending}
 use Rattle.totem_evs.specs.declared.ending.Ending.TheVariants.{Failed, Quiet}
 use Rattle.totem_evs.specs.declared.log.Log.{Log}
-use Rattle.totem_evs.specs.Runs.{IsFailure, IsClosedBy}
+use Rattle.totem_evs.specs.Runs.{IsClosedBy}
 use Rattle.totem_evs.specs.Changes.{StaysInPlace}
 use Rattle.totem_evs.specs.Events.{ChangesTo, IsChange, Fails, ending_of}
 use Rattle.totem_evs.specs.Following.{LastChange, NeverFails}
 use Rattle.totem_evs.proofs.LogOf.{Rising, Rising-tail, in_order, less_or_not}
-use Rattle.totem_run_rules.specs.Ends.{IsChangeTo, NeverChangesTo, GoesOn, HasNoChange, StandsLast, IsLast}
+use Rattle.totem_run_rules.specs.Ends.{IsChangeTo, NeverChangesTo, HasNoChange, StandsLast, IsLast}
 
 -- ---- how the log of a process ends
 
@@ -34,35 +34,11 @@ ending_of_at (x ∷ xs) (suc k) log rising at =
 pub record NoFailureBefore (log : List Entry) (n : ℕ) : Type 0 where
   pub none : (k : ℕ) → k < n → (x : ConfId) → Fails log k x → ⊥
 
-pub no_failure_yet : (log : List Entry) → NoFailureBefore log 0
-no_failure_yet log = record { none = λ k lt x fails. omega arith }
-
-is_fail : (e : Entry) → IsFailure e → (x : ConfId) × (e ≡ Fail x)
-is_fail (Conf x ms) is = absurd is
-is_fail (Send m x service) is = absurd is
-is_fail (Deliver m x) is = absurd is
-is_fail (Fail x) is = (x, refl)
-
-fail_is : (e : Entry) (x : ConfId) → e ≡ Fail x → IsFailure e
-fail_is e x is = rw is tt
-
-pub no_failure_more : (log : List Entry) (n : ℕ) (e : Entry) → slice_get log n ≡ Some e → (IsFailure e → ⊥) → NoFailureBefore log n → NoFailureBefore log (n + 1)
-no_failure_more log n e at not before = record { none = below_more _ _ before.none (λ x fails. not (fail_is e x cc)) }
-
-pub fails_here : (log : List Entry) (n : ℕ) (e : Entry) → slice_get log n ≡ Some e → IsFailure e → GoesOn log → ⊥
-fails_here log n e at is on = let h = is_fail e is in on.never n h.0 (rw h.1 at at)
-
-pub no_failure : (log : List Entry) (n : ℕ) → length log ≤ n → NoFailureBefore log n → GoesOn log
-no_failure log n end before = record { never = λ i x fails. before.none i (let within = slice_get_within log i (Fail x) fails in omega arith) x fails }
-
 -- ---- where a log's last change is
 
 -- no change is at n or later
 pub record NoneFrom (log : List Entry) (n : ℕ) : Type 0 where
   pub none : (k : ℕ) → n ≤ k → IsChange log k → ⊥
-
-pub none_behind : (log : List Entry) → NoneFrom log (length log - 0)
-none_behind log = record { none = λ k le (x, (ms, at)). (let within = slice_get_within log k (Conf x ms) at in omega arith) }
 
 changes_not : (log : List Entry) (k : ℕ) (e : Entry) → slice_get log k ≡ Some e → ((x : ConfId) (ms : List ℕ) → e ≡ Conf x ms → ⊥) → IsChange log k → ⊥
 changes_not log k e at not_conf (x, (ms, at_k)) = not_conf x ms cc
@@ -111,9 +87,6 @@ is_change e x ms is = rw is refl
 pub record NoChangeBefore (log : List Entry) (x : ConfId) (n : ℕ) : Type 0 where
   pub none : (k : ℕ) → k < n → ChangesTo log k x → ⊥
 
-pub no_change_yet : (log : List Entry) (x : ConfId) → NoChangeBefore log x 0
-no_change_yet log x = record { none = λ k lt change. omega arith }
-
 not_to : (log : List Entry) (n : ℕ) (e : Entry) (x : ConfId) → slice_get log n ≡ Some e → (IsChangeTo e x → ⊥) → ChangesTo log n x → ⊥
 not_to log n e x at not (ms, at_n) = not (is_change e x ms cc)
 
@@ -140,10 +113,8 @@ ends_decided log i e x b stands at decides = (λ t. ends (change_is e x (decides
     change_of : LastChange log x → IsChangeTo e x
     change_of h = elim (less_or_not i h.index) [
       | inl under ↦ absurd (stands.none_after h.index under (x, h.change))
-      | inr rest ↦ elim rest [
-        | inl over ↦ absurd (h.none_after i over stands.change)
-        | inr same ↦ at_one h.index same h.change
-      ]
+      | inr (inl over) ↦ absurd (h.none_after i over stands.change)
+      | inr (inr same) ↦ at_one h.index same h.change
     ]
 
 pub ends_nowhere : (log : List Entry) (x : ConfId) → HasNoChange log → IsTrue false ↔ LastChange log x
@@ -156,5 +127,6 @@ quiet_never_fails entries ending placed closed quiet i x fails = (let failed : e
     whole : length entries ≡ i + 1
     whole = elim (less_or_not (i + 1) (length entries)) [
       | inl lt ↦ absurd (placed.final i (i + 1) x fails (omega arith) lt)
-      | inr rest ↦ elim rest [ inl gt ↦ omega (arith, slice_get_within entries i (Fail x) fails) | inr same ↦ omega arith ]
+      | inr (inl gt) ↦ omega (arith, slice_get_within entries i (Fail x) fails)
+      | inr (inr same) ↦ omega arith
     ]

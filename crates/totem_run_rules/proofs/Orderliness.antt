@@ -8,8 +8,6 @@ use Rattle.totem_evs.specs.declared.log.Log.{Log}
 use Rattle.totem_evs.specs.Events.{IsEvent, ChangesTo, Delivers, log_of}
 use Rattle.totem_evs.specs.Steps.{SameClass}
 use Rattle.totem_evs.specs.Certificates.{Numbering, IsBelow, number_at, Certified}
-use Rattle.totem_evs.specs.Delivery.{DeliversWhatWasSent}
-use Rattle.totem_evs.specs.Changes.{EndsTogether}
 use Rattle.totem_evs.specs.Answers.{HasCertificate, MeetsPasses}
 use Rattle.totem_evs.proofs.LogOf.{less_or_not}
 use Rattle.totem_run_rules.specs.Orderly.{SendsAreOnce, AllStayInPlace, ChangesAgree, IsOrderly}
@@ -54,6 +52,3 @@ orderly run (lines, certified) = orderly_by run lines certified
 
 pub passed_is_orderly : (run : List Log) → MeetsPasses run → IsOrderly run
 passed_is_orderly run meets = record { once = meets.once; placed = meets.placed; one = meets.one; turns = meets.turns }
-
-pub orderly_has_passed : (run : List Log) → IsOrderly run → EndsTogether run → DeliversWhatWasSent run → MeetsPasses run
-orderly_has_passed run is together sent = record { sent = sent; once = is.once; together = together; placed = is.placed; one = is.one; turns = is.turns }

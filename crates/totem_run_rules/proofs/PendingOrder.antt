@@ -41,10 +41,8 @@ less_first Greater b e = absurd cc
 pub compared : (a b : ℕ) (r : Ordering) → r ≡ nat_cmp a b → MatchOrdering r (a < b) (a ≡ b) (b < a)
 compared a b r e = elim (less_or_not a b) [
   | inl lt ↦ rw (e ∙ sym (nat_cmp_is a b Less lt)) lt
-  | inr rest ↦ elim rest [
-    | inl gt ↦ rw (e ∙ sym (nat_cmp_is a b Greater gt)) gt
-    | inr same ↦ rw (e ∙ sym (nat_cmp_is a b Equal same)) same
-  ]
+  | inr (inl gt) ↦ rw (e ∙ sym (nat_cmp_is a b Greater gt)) gt
+  | inr (inr same) ↦ rw (e ∙ sym (nat_cmp_is a b Equal same)) same
 ]
 
 pub below_from_less : (c d : RingId) → ring.cmp-value.it c d ≡ Less → RingBelow c d

@@ -18,10 +18,8 @@ module _ (P : List Entry → Type 0) where
   one_more run k log at here before = record {
     each = λ j l lt at_j. elim (less_or_not j k) [
       | inl under ↦ before.each j l under at_j
-      | inr rest ↦ elim rest [
-        | inl over ↦ absurd (omega arith)
-        | inr same ↦ let same_log : log ≡ l = (let h : slice_get run k ≡ Some l = rw same at at_j in cc) in rw same_log at here
-      ]
+      | inr (inl over) ↦ absurd (omega arith)
+      | inr (inr same) ↦ let same_log : log ≡ l = (let h : slice_get run k ≡ Some l = rw same at at_j in cc) in rw same_log at here
     ];
   }
 

@@ -60,7 +60,8 @@ first_before log P decide (suc n) = elim (first_before log P decide n) [ inl fou
     more none here = record {
       none = λ i e lt at h. elim (less_or_not i n) [
         | inl under ↦ none.none i e under at h
-        | inr rest ↦ elim rest [ inl over ↦ omega arith | inr same ↦ here e (rw same at at) (rw same at h) ]
+        | inr (inl over) ↦ omega arith
+        | inr (inr same) ↦ here e (rw same at at) (rw same at h)
       ];
     }
 

@@ -42,20 +42,16 @@ same_change log i j x y e (ms, h) (ns, k) = let at : slice_get log j ≡ Some (C
 before_next : (log : List Entry) (a b i : ℕ) (x : ConfId) → IsNextOrEnd log a b → Names log i x → (s : StandsIn log i x) → s.from ≡ a → i < b
 before_next log a b i x next names s same = elim (less_or_not i b) [
   | inl lt ↦ lt
-  | inr rest ↦ elim rest [
-    | inl gt ↦ absurd (s.none_between b (omega (arith, next.later)) gt (next.change (omega (arith, names_within log i x names))))
-    | inr at ↦ absurd (names_no_change log i x names (rw at (next.change (rw (← at) (names_within log i x names)))))
-  ]
+  | inr (inl gt) ↦ absurd (s.none_between b (omega (arith, next.later)) gt (next.change (omega (arith, names_within log i x names))))
+  | inr (inr at) ↦ absurd (names_no_change log i x names (rw at (next.change (rw (← at) (names_within log i x names)))))
 ]
 
 -- an entry between two neighbouring changes names the configuration of the first
 between_names : (log : List Entry) (a b i : ℕ) (x y : ConfId) → ChangesTo log a x → IsNextOrEnd log a b → a < i → i < b → StandsIn log i y → y ≡ x
 between_names log a b i x y change next lt below s = elim (less_or_not s.from a) [
   | inl under ↦ absurd (s.none_between a under lt (x, change))
-  | inr rest ↦ elim rest [
-    | inl over ↦ absurd (next.none_between s.from over (omega (arith, s.before)) (y, s.change))
-    | inr same ↦ same_change log s.from a y x same s.change change
-  ]
+  | inr (inl over) ↦ absurd (next.none_between s.from over (omega (arith, s.before)) (y, s.change))
+  | inr (inr same) ↦ same_change log s.from a y x same s.change change
 ]
 
 is_next : (log : List Entry) (i j : ℕ) → IsNextOrEnd log i j → j < length log → IsNextChange log i j
@@ -139,10 +135,8 @@ is_here log c from turn end rules bounds i d names inside = let s = rules.placed
 is_changed : (log : List Entry) (c : RingId) (from turn end : ℕ) → Bounds log c from turn end → (i : ℕ) → from < i → i < end → IsChange log i → i ≡ turn
 is_changed log c from turn end bounds i lt below change = elim (less_or_not i turn) [
   | inl under ↦ absurd (bounds.two.first.none_between i lt under change)
-  | inr rest ↦ elim rest [
-    | inl over ↦ absurd ((bounds.two.second (has_turn log c from turn end bounds (omega arith))).none_between i over below change)
-    | inr same ↦ same
-  ]
+  | inr (inl over) ↦ absurd ((bounds.two.second (has_turn log c from turn end bounds (omega arith))).none_between i over below change)
+  | inr (inr same) ↦ same
 ]
 
 -- each entry inside names c or what follows it
@@ -159,10 +153,8 @@ following_here log c from turn end rules bounds i d lt below names =
 names_in : (log : List Entry) (c : RingId) (from turn end : ℕ) → KeepsRules log → Bounds log c from turn end → (i : ℕ) (d : ConfId) → from < i → i < end → Names log i d → Com log c d
 names_in log c from turn end rules bounds i d lt below names = elim (less_or_not i turn) [
   | inl under ↦ inl (regular_here log c from turn end rules bounds i d lt under names)
-  | inr rest ↦ elim rest [
-    | inl over ↦ inr (following_here log c from turn end rules bounds i d over below names)
-    | inr same ↦ absurd (names_no_change log i d names (rw same (bounds.two.first.change (has_turn log c from turn end bounds (omega arith)))))
-  ]
+  | inr (inl over) ↦ inr (following_here log c from turn end rules bounds i d over below names)
+  | inr (inr same) ↦ absurd (names_no_change log i d names (rw same (bounds.two.first.change (has_turn log c from turn end bounds (omega arith)))))
 ]
 
 -- the last change of a stay that goes up to the end of its log
@@ -195,10 +187,8 @@ ends_here log c from turn end rules bounds is_end = go (get_or log (end - 1) (Fa
         never : NeverFails log
         never i x fails = elim (less_or_not i (end - 1)) [
           | inl under ↦ rules.placed.final i (end - 1) x fails under (omega (arith, is_end, later))
-          | inr rest ↦ elim rest [
-            | inl over ↦ absurd (omega (arith, is_end, later, slice_get_within log i (Fail x) fails))
-            | inr same ↦ (let there : slice_get log (end - 1) ≡ Some (Fail x) = rw same at fails in other x cc)
-          ]
+          | inr (inl over) ↦ absurd (omega (arith, is_end, later, slice_get_within log i (Fail x) fails))
+          | inr (inr same) ↦ (let there : slice_get log (end - 1) ≡ Some (Fail x) = rw same at fails in other x cc)
         ]
 
     go : (e : Entry) → slice_get log (end - 1) ≡ Some e → FailedIn log c ⊎ StaysIn log c
@@ -207,10 +197,8 @@ ends_here log c from turn end rules bounds is_end = go (get_or log (end - 1) (Fa
         after : slice_get log (end - 1) ≡ Some (Fail x) → from < end - 1
         after at = elim (less_or_not from (end - 1)) [
           | inl lt ↦ lt
-          | inr rest ↦ elim rest [
-            | inl over ↦ absurd (omega (arith, later))
-            | inr same ↦ absurd (names_no_change log (end - 1) x (Fail x, at, refl) (Regular c, rw same at bounds.change))
-          ]
+          | inr (inl over) ↦ absurd (omega (arith, later))
+          | inr (inr same) ↦ absurd (names_no_change log (end - 1) x (Fail x, at, refl) (Regular c, rw same at bounds.change))
         ]
     go (Conf x ms) at = opens (Conf x ms) at (λ y e. cc)
     go (Send m x s) at = opens (Send m x s) at (λ y e. cc)

@@ -17,7 +17,7 @@ use Rattle.totem_run_rules.specs.Orderly.{IsOrderly}
 use Rattle.totem_evs.proofs.LogOf.{Rising, log_of_cases, less_or_not}
 use Rattle.totem_run_rules.specs.Ends.{HasNoLog}
 use Rattle.totem_run_rules.specs.Endings.{StandsAtEnd, EndsNowhere, AreWaitingAt}
-use Rattle.totem_run_rules.proofs.Gathering.{HasLogBefore, Gathered, none_gathered, gathered_more, all_gathered}
+use Rattle.totem_run_rules.proofs.Gathering.{HasLogBefore, Gathered, gathered_more, all_gathered}
 
 -- ---- whether a process ends in a configuration
 
@@ -46,9 +46,6 @@ pub record WaitsAmong (run : List Log) (p : ℕ) (x : ConfId) (ms : List ℕ) (n
   pub sound : (w : Waiting) → Contains list w → (w.proc ≡ p) × (w.conf ≡ x) × (EndsIn (log_of run w.other) x → ⊥) × ((j : ℕ) × (j < n) × (slice_get ms j ≡ Some w.other))
   pub complete : (j q : ℕ) → j < n → slice_get ms j ≡ Some q → (EndsIn (log_of run q) x → ⊥) → Contains list (record { proc = p; conf = x; other = q })
 
-pub waits_yet : (run : List Log) (p : ℕ) (x : ConfId) (ms : List ℕ) → WaitsAmong run p x ms 0 []
-waits_yet run p x ms = record { rising = λ i j d lt within. absurd (omega arith); sound = λ w (k, lt, is). absurd (omega arith); complete = λ j q lt at never. absurd (omega arith) }
-
 wider : (ms : List ℕ) (n q : ℕ) → ((j : ℕ) × (j < n) × (slice_get ms j ≡ Some q)) → (j : ℕ) × (j < n + 1) × (slice_get ms j ≡ Some q)
 wider ms n q (j, lt, at) = (j, omega arith, at)
 
@@ -61,7 +58,8 @@ waits_not run p x ms n r list at there before = record {
   sound = λ w has. (let h = before.sound w has in (h.0, h.1, h.2, wider ms n w.other h.3));
   complete = λ j q lt at_j never. elim (less_or_not j n) [
     | inl under ↦ before.complete j q under at_j never
-    | inr rest ↦ elim rest [ inl over ↦ absurd (omega arith) | inr same ↦ absurd (never (let one : q ≡ r = one_member ms j n q r same at_j at in rw one there)) ]
+    | inr (inl over) ↦ absurd (omega arith)
+    | inr (inr same) ↦ absurd (never (let one : q ≡ r = one_member ms j n q r same at_j at in rw one there))
   ];
 }
 
@@ -75,10 +73,8 @@ waits_more run p x ms n r list rises at never before = record {
   ];
   complete = λ j q lt at_j absent. elim (less_or_not j n) [
     | inl under ↦ Contains-append_left list (new ∷ []) _ (before.complete j q under at_j absent)
-    | inr rest ↦ elim rest [
-      | inl over ↦ absurd (omega arith)
-      | inr same ↦ (let one : q ≡ r = one_member ms j n q r same at_j at in rw one (Contains-push list new))
-    ]
+    | inr (inl over) ↦ absurd (omega arith)
+    | inr (inr same) ↦ (let one : q ≡ r = one_member ms j n q r same at_j at in rw one (Contains-push list new))
   ];
 }
   where
@@ -113,10 +109,8 @@ waits_all run p i x ms n list orderly end stands at h = record {
     one_conf : (y : ConfId) → EndsIn (log_of run p) y → y ≡ x
     one_conf y ends = elim (less_or_not i ends.last.index) [
       | inl under ↦ absurd (stands.last ends.last.index under (y, ends.last.change))
-      | inr rest ↦ elim rest [
-        | inl over ↦ absurd (ends.last.none_after i over stands.change)
-        | inr same ↦ (let there : slice_get (log_of run p) i ≡ Some (Conf y ends.last.change.0) = rw (sym same) at ends.last.change.1 in cc)
-      ]
+      | inr (inl over) ↦ absurd (ends.last.none_after i over stands.change)
+      | inr (inr same) ↦ (let there : slice_get (log_of run p) i ≡ Some (Conf y ends.last.change.0) = rw (sym same) at ends.last.change.1 in cc)
     ]
 
     member_here : (q : ℕ) → IsMember run x q → Contains ms q
@@ -149,9 +143,6 @@ by_proc a b lt = inl lt
 
 pub record WaitsOf (run : List Log) (k : ℕ) (list : List Waiting) : Type 0 where
   pub gathered : Gathered (λ w. w.proc) WaitingBelow by_proc (Waits run) run k list
-
-pub waits_none : (run : List Log) → WaitsOf run 0 []
-waits_none run = record { gathered = none_gathered (λ w. w.proc) WaitingBelow by_proc (Waits run) run }
 
 pub waits_next : (run : List Log) (k : ℕ) (log : Log) (list more : List Waiting) → Rising run → slice_get run k ≡ Some log → AreWaitingAt run log.proc more → WaitsOf run k list → WaitsOf run (k + 1) (list ++ more)
 waits_next run k log list more rising at now before = record {

@@ -1,26 +1,24 @@
 -- The first change to each configuration so far (docs/SPECIFICATIONS.md, "2 Changes of configuration").
-use Rattle.std.specs.Prelude.{◌≡◌, ℕ, ◌<◌, List, length, slice_get, Option, None, Some, Contains}
+use Rattle.std.specs.Prelude.{◌≡◌, ℕ, ◌<◌, List, length, slice_get, Option, None, Some, option_and_then, Contains}
 use Rattle.std.specs.declared.cmp.Ordering.{Ordering}
-use Rattle.std.specs.BTreeMap.{BTreeMap}
 use Rattle.std.specs.BTreeMap as tree
 use Rattle.totem_ids.specs.declared.ring.RingId.{RingId}
 use Rattle.totem_ids.specs.declared.conf.ConfId.{ConfId}
 use Rattle.totem_ids.specs.declared.conf.ConfId.TheVariants.{Regular, Transitional}
 use Rattle.totem_evs.specs.declared.entry.Entry.{Entry}
-use Rattle.totem_evs.specs.declared.entry.Entry.TheVariants.{Conf}
 use Rattle.totem_evs.specs.declared.log.Log.{Log}
 use Rattle.totem_evs.specs.Events.{ChangesWith, IsChange, IsRegular, IsTransitional}
 use Rattle.totem_evs.specs.Changes.{ChangesNext}
 use Rattle.totem_run_rules.specs.declared.changes.FirstChange.{FirstChange}
-use Rattle.totem_run_rules.specs.Past.{EachPast}
+use Rattle.totem_run_rules.specs.declared.changes.FirstChanges.{FirstChanges}
 use Rattle.totem_run_rules.specs.Succession.{IsWrongSuccession}
 
 -- the order of configurations
 abbrev pub conf_order : ConfId → ConfId → Ordering
 conf_order = (Rattle.totem_ids.specs.contracts.conf.ConfIdOrd.TheImpl.cmp-value).it
 
-abbrev pub first_to : BTreeMap ConfId FirstChange → ConfId → Option FirstChange
-first_to firsts x = tree.get conf_order firsts x
+abbrev pub first_to : FirstChanges → ConfId → Option FirstChange
+first_to firsts x = option_and_then (slice_get firsts.list.items) (tree.get conf_order firsts.index x)
 
 -- ---- the change before another one
 
@@ -60,69 +58,46 @@ ComesFrom log (Some i) x ms c = ComesBehind log i x ms c
 
 -- ---- the first changes
 
--- the run has the change at its place, to x with these members
-pub record StandsThere (run : List Log) (change : FirstChange) (x : ConfId) (ms : List ℕ) : Type 0 where
-  pub log : Log
-  pub log_is : slice_get run change.log ≡ Some log
-  pub entry_is : ChangesWith log.entries change.at x ms
-
--- the run has a change to some configuration at its place
-pub record IsThere (run : List Log) (change : FirstChange) : Type 0 where
-  pub conf : ConfId
-  pub members : List ℕ
-  pub stands : StandsThere run change conf members
-
--- the change has these members
-pub record HasMembers (run : List Log) (change : FirstChange) (ms : List ℕ) : Type 0 where
-  pub same : (x : ConfId) (ns : List ℕ) → StandsThere run change x ns → ns ≡ ms
-
--- the run has each of the first changes at its place
-pub record AreFirst (run : List Log) (firsts : BTreeMap ConfId FirstChange) : Type 0 where
-  pub each : (x : ConfId) (change : FirstChange) → first_to firsts x ≡ Some change → (ms : List ℕ) × StandsThere run change x ms
-
 -- the first change to x has these members and this origin
-pub record IsMet (run : List Log) (firsts : BTreeMap ConfId FirstChange) (x : ConfId) (ms : List ℕ) (c : RingId) : Type 0 where
+pub record IsMet (firsts : FirstChanges) (x : ConfId) (ms : List ℕ) (c : RingId) : Type 0 where
   pub change : FirstChange
   pub is : first_to firsts x ≡ Some change
-  pub stands : StandsThere run change x ms
-  pub from : change.from ≡ c
+  pub members : change.members.now ≡ ms
+  pub from : change.from.now ≡ c
 
 -- no first change was lost
-pub record Keeps (old new : BTreeMap ConfId FirstChange) : Type 0 where
+pub record Keeps (old new : FirstChanges) : Type 0 where
   pub each : (x : ConfId) (change : FirstChange) → first_to old x ≡ Some change → first_to new x ≡ Some change
 
 -- the first change to x is known and has these members and this origin, and no first change was lost
-pub record Meets (run : List Log) (old new : BTreeMap ConfId FirstChange) (x : ConfId) (ms : List ℕ) (c : RingId) : Type 0 where
-  pub first : AreFirst run new
+pub record Meets (old new : FirstChanges) (x : ConfId) (ms : List ℕ) (c : RingId) : Type 0 where
   pub kept : Keeps old new
-  pub met : IsMet run new x ms c
+  pub met : IsMet new x ms c
 
 -- ---- all changes
 
 -- the change at an index of the log, to x with these members, meets the requirements
-pub record IsRight (run : List Log) (firsts : BTreeMap ConfId FirstChange) (log : Log) (at : ℕ) (x : ConfId) (ms : List ℕ) : Type 0 where
+pub record IsRight (firsts : FirstChanges) (log : Log) (at : ℕ) (x : ConfId) (ms : List ℕ) : Type 0 where
   pub own : Contains ms log.proc
   pub regular : NoneBefore log.entries at → IsRegular x
   pub turns : (i : ℕ) (w : ConfId) (ls : List ℕ) → ChangesNext log.entries i at w x ls ms → IsWrongSuccession w ls x ms → ⊥
-  pub members : (c : RingId) × IsMet run firsts x ms c
-  pub origin : (i : ℕ) (c : RingId) (ls : List ℕ) → IsTransitional x → ChangesNext log.entries i at (Regular c) x ls ms → IsMet run firsts x ms c
+  pub from : RingId
+  pub met : IsMet firsts x ms from
+  pub origin : (i : ℕ) (c : RingId) (ls : List ℕ) → IsTransitional x → ChangesNext log.entries i at (Regular c) x ls ms → from ≡ c
 
--- this entry of the log is no change, or meets the requirements
-pub record IsRightAt (run : List Log) (firsts : BTreeMap ConfId FirstChange) (log : Log) (at : ℕ) (e : Entry) : Type 0 where
-  pub change : (x : ConfId) (ms : List ℕ) → e ≡ Conf x ms → IsRight run firsts log at x ms
-
--- the change at an index of the log at `index` was entered, and meets the requirements
-pub record Enters (run : List Log) (old new : BTreeMap ConfId FirstChange) (index at : ℕ) : Type 0 where
-  pub first : AreFirst run new
+-- the change at an index of the log was entered, and meets the requirements
+pub record Enters (old new : FirstChanges) (log : Log) (at : ℕ) : Type 0 where
+  pub conf : ConfId
+  pub members : List ℕ
+  pub change : ChangesWith log.entries at conf members
+  pub right : IsRight new log at conf members
   pub kept : Keeps old new
-  pub right : (log : Log) (e : Entry) → slice_get run index ≡ Some log → slice_get log.entries at ≡ Some e → IsRightAt run new log at e
 
--- the changes up to an entry were entered, and each meets the requirements
-pub record KnowsChanges (run : List Log) (firsts : BTreeMap ConfId FirstChange) (k j : ℕ) : Type 0 where
-  pub first : AreFirst run firsts
-  pub right : EachPast (λ _ at log e. IsRightAt run firsts log at e) run k j
+-- each change before an index of the log meets the requirements
+pub record AreRight (firsts : FirstChanges) (log : Log) (at : ℕ) : Type 0 where
+  pub each : (i : ℕ) → i < at → (x : ConfId) (ms : List ℕ) → ChangesWith log.entries i x ms → IsRight firsts log i x ms
 
--- what has to be known about the change before the entry at an index of the log at `index`
-pub record IsBehind (run : List Log) (index at : ℕ) (before : Option ℕ) : Type 0 where
-  pub within : (log : Log) → slice_get run index ≡ Some log → at < length log.entries
-  pub last : (log : Log) → slice_get run index ≡ Some log → IsLastBefore log.entries at before
+-- the changes of the log were entered, and each meets the requirements
+pub record EntersLog (old new : FirstChanges) (log : Log) : Type 0 where
+  pub right : AreRight new log (length log.entries)
+  pub kept : Keeps old new

@@ -1,4 +1,3 @@
-pub mod Past
 pub mod Orderly
 pub mod Once
 pub mod Misplaced

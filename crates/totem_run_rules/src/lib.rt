@@ -7,8 +7,8 @@
 //! - A `true` of `is_orderly` means that a run with a certificate meets 1.4 and 2.2 to 2.4 (`IsOrderly`).
 //! - `first_misplaced` returns the first entry of a log that breaks 2.2, and `first_end_alone` the first of a run that breaks 2.1;
 //!   or `None`, exactly if there is none (`IsMisplaced`, `IsLeastBreak`).
-//! - `waiting` lists exactly who waits in a run that meets 1.4 and 2.2 to 2.4, in ascending order (`AreWaiting`), and `in_order` puts what is pending in
-//!   order.
+//! - `waiting` lists exactly who waits in a run that meets 1.4 and 2.2 to 2.4, in ascending order (`AreWaiting`), and `in_order` puts
+//!   what is pending in order.
 //!
 //! The passes of the audit use some of these rules, too: totem_pass_ab and totem_pass_d share this crate with totem_judge.
 #![tactic(auto)]

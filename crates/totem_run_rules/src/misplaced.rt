@@ -12,10 +12,7 @@ use totem_ids::ConfId;
 fn is_in(standing: &Option<ConfId>, conf: &ConfId) -> bool
     ensures { IsTrue result ↔ (standing.now ≡ Some conf.now) }
 {
-    match standing {
-        None => false,
-        Some(here) => here.is(conf),
-    }
+    matches!(standing, Some(here) if here.is(conf))
 }
 
 fn fits(standing: &Option<ConfId>, entry: &Entry) -> bool

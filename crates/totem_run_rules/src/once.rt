@@ -106,19 +106,13 @@ pub fn sends_are_once(alloc: Global, logs: &[Log]) -> Result<bool, AllocError>
     are_distinct(sent)
 }
 
-/// Returns whether no message is delivered twice by these entries of one log.
-fn delivers_once(alloc: Global, entries: &[Entry]) -> Result<bool, AllocError>
-    ensures { IfOk result (λ ok. OnTrue ok (AllPairs (λ x y. x ≢ y) (messages_in Once.Deliver entries.now))) }
-{
-    are_distinct(deliveries_in(alloc, entries)?)
-}
-
 /// Returns `true` only if each log delivers each message once.
 pub fn deliveries_are_once(alloc: Global, logs: &[Log]) -> Result<bool, AllocError>
     ensures { IfOk result (λ ok. OnTrue ok (DeliveriesAreOnce logs.now)) }
 {
     for log in logs {
-        if !delivers_once(alloc, log.entries.as_slice())? {
+        let delivered = deliveries_in(alloc, log.entries.as_slice())?;
+        if !are_distinct(delivered)? {
             return Ok(false);
         }
     }

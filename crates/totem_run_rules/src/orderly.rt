@@ -17,11 +17,5 @@ pub fn is_orderly(alloc: Global, run: &Run) -> Result<bool, AllocError>
     ensures { IfOk result (λ ok. OnTrue ok (IsOrderly run.now.logs)) }
 {
     let logs = run.logs.as_slice();
-    if !all_stay_in_place(logs) {
-        return Ok(false);
-    }
-    if !sends_are_once(alloc, logs)? {
-        return Ok(false);
-    }
-    changes_agree(alloc, logs)
+    Ok(all_stay_in_place(logs) && sends_are_once(alloc, logs)? && changes_agree(alloc, logs)?)
 }

@@ -1,8 +1,9 @@
-//! 2.4: regular and transitional configurations alternate, the first is regular, and each follows from one ring
-//! (docs/SPECIFICATIONS.md, "2 Changes of configuration").
-ghost use Rattle.std.specs.Prelude.{◌↔◌, ◌<◌, All, Contains, IfSome, IsTrue, length};
+//! 2.4: regular and transitional configurations alternate, the first is regular, and from which ring a log comes to each. That all
+//! logs come to it from one ring is for `changes` to test (docs/SPECIFICATIONS.md, "2 Changes of configuration").
+ghost use Rattle.std.specs.Prelude.{◌≡◌, ◌↔◌, ◌<◌, All, Contains, IfSome, IsTrue, length};
+ghost use Rattle.totem_ids.specs.declared.conf.ConfId.TheVariants.{Regular};
 ghost use Rattle.totem_evs.specs.Following.{IsNextOrEnd};
-ghost use Rattle.totem_run_rules.specs.FirstChanges.{IsOrigin, ComesFrom};
+ghost use Rattle.totem_run_rules.specs.FirstChanges.{ComesFrom};
 ghost use Rattle.totem_run_rules.specs.Succession.{IsWrongSuccession};
 
 use totem_evs::{Entry, Members};
@@ -22,7 +23,7 @@ fn contains_all(members: &Members, others: &Members) -> bool
     true
 }
 
-/// Returns whether the second change may not be the next after the first.
+/// Returns whether the succession is wrong: the second change may not be the next after the first.
 pub fn is_wrong(conf: &ConfId, members: &Members, next: &ConfId, next_members: &Members) -> bool
     ensures { IsTrue result ↔ IsWrongSuccession conf.now members.now next.now next_members.now }
 {
@@ -35,33 +36,29 @@ pub fn is_wrong(conf: &ConfId, members: &Members, next: &ConfId, next_members: &
     }
 }
 
-/// Returns the ring from which a log comes to the second configuration, right after the first.
-fn origin(before: &ConfId, conf: &ConfId) -> Option<RingId>
-    ensures { IfSome result (IsOrigin before.now conf.now) }
+/// Returns the ring of a regular configuration.
+fn ring_of(conf: &ConfId) -> Option<&RingId>
+    ensures { IfSome result (λ ring. conf.now ≡ Regular ring.now) }
 {
-    match (before, conf) {
-        (_, ConfId::Regular(ring)) => Some(*ring),
-        (ConfId::Regular(ring), ConfId::Transitional { .. }) => Some(*ring),
-        (ConfId::Transitional { .. }, ConfId::Transitional { .. }) => None,
+    match conf {
+        ConfId::Regular(ring) => Some(ring),
+        ConfId::Transitional { .. } => None,
     }
 }
 
 /// Returns the ring from which a log comes to this configuration after the change at `before`, or as its first one. Returns
 /// `None` if it may not come there in this way.
-pub fn came_from(
-    log: &[Entry],
+pub fn came_from<'a>(
+    log: &'a [Entry],
     before: Option<usize>,
-    conf: &ConfId,
+    conf: &'a ConfId,
     members: &Members,
-) -> Option<RingId>
+) -> Option<&'a RingId>
     requires { IfSome before (λ i. i < length log.now) }
-    ensures { IfSome result (ComesFrom log.now before conf.now members.now) }
+    ensures { IfSome result (λ ring. ComesFrom log.now before conf.now members.now ring.now) }
 {
     let Some(at) = before else {
-        return match conf {
-            ConfId::Regular(ring) => Some(*ring),
-            ConfId::Transitional { .. } => None,
-        };
+        return ring_of(conf);
     };
     let Entry::Conf(before, before_members) = &log[at] else {
         return None;
@@ -69,10 +66,14 @@ pub fn came_from(
     if is_wrong(before, before_members, conf, members) {
         return None;
     }
-    origin(before, conf)
+    match conf {
+        ConfId::Regular(ring) => Some(ring),
+        ConfId::Transitional { .. } => ring_of(before),
+    }
 }
 
-/// Returns the index of the next change, or the length of the log if none follows. Looks at entry after entry.
+/// Returns the index of the next change, or the length of the log if none follows. Looks at entry after entry. Only the
+/// passes use it.
 pub fn walk_to_change(log: &[Entry], at: usize) -> usize
     requires { at < length log.now }
     ensures { IsNextOrEnd log.now at result }

@@ -1,5 +1,5 @@
-use Rattle.totem_run_rules.specs.FirstChanges.{KnowsChanges}
+use Rattle.totem_run_rules.proofs.ChangesMet.{LogsAreRight}
 use Rattle.totem_run_rules.proofs.changes.changes_agree.Given as goal
 
-abbrev pub invariant-loop-index : goal.invariant-loop-index
-invariant-loop-index l = KnowsChanges l.logs l.firsts l.index 0
+abbrev pub invariant-loop-log : goal.invariant-loop-log
+invariant-loop-log l = LogsAreRight l.logs l.firsts l.log-index

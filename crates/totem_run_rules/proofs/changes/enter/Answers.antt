@@ -6,11 +6,9 @@ use Rattle.totem_run_rules.proofs.changes.enter.Goals as goal
 
 pub returns : goal.returns
 returns c =
-    let at_log = slice_get_read c.args.logs.now _ c.args.index c.index-logs-index.result refl c.requires.log c.index-logs-index.is in
     let entries = c.as_slice-entries.ensures.value ∙ ap (λ (l : LogRecord). l.entries) c.log.view_is in
     let procs = ap (λ (l : LogRecord). l.proc) c.log.view_is in
-    let within = c.requires.behind.within _ at_log in
-    let at_entry = slice_get_read c.as_slice-entries.result.now _ c.args.at c.index-entries-at.result refl (omega (arith, within, ap length entries)) c.index-entries-at.is in
+    let at_entry = slice_get_read c.as_slice-entries.result.now _ c.args.at c.index-entries-at.result refl (omega (arith, c.requires.within, ap length entries)) c.index-entries-at.is in
     where_met c.meet.result _ _
-    (entered _ _ _ _ _ _ _ _ _ _ _ at_log (rw entries at at_entry) c.in-Conf.is (rw procs at (c.if-not-contains.ensures.0 refl)) (c.requires.behind.last _ at_log) (rw entries at c.in-Some.ensures))
+    (entered _ _ c.args.at c.args.before c.args.log.now _ _ _ _ (rw entries at at_entry) c.in-Conf.is (rw procs at (c.if-not-contains.ensures.0 refl)) c.requires.last (rw entries at c.in-Some.ensures))
     c.meet.ensures

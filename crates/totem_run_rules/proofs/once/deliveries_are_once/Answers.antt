@@ -9,7 +9,8 @@ pub loop-log-preserved : goal.loop-log-preserved
 loop-log-preserved c =
     let at = slice_get_read c.args.logs.now _ c.loop-log.log-index c.log-item.result refl c.loop-log-test.true c.log-item.is in
     let entries = c.as_slice.ensures.value ∙ ap (λ (l : LogRecord). l.entries) c.log.view_is in
-    one_more _ _ _ _ at (rw entries at (rw c.if-not-branch.false at c.in_ok-delivers_once.ensures)) c.loop-log.invariant
+    let distinct = rw c.in_ok-delivered.ensures at (rw c.if-not-branch.false at c.in_ok-are_distinct.ensures) in
+    one_more _ _ _ _ at (rw entries at distinct) c.loop-log.invariant
 
 pub returns : goal.returns
 returns c = deliveries_once _ (each_process _ _ _ none_twice c.loop-log-test.false c.loop-log.invariant)
