@@ -16,7 +16,7 @@ use Rattle.totem_certificate_check.specs.Kinds.{SendIsBelow, SendIsNotBelow, Cla
 use Rattle.totem_certificate_check.specs.Rising.{LinesRise, LineFalls}
 use Rattle.totem_certificate_check.specs.Certifying.{Rise, DoesNotRise, SendsAreBelow, SendIsLate, ClassesAreOne, TwinsAreApart, OthersAreApart, OthersShare}
 use Rattle.totem_evs.proofs.LogOf.{Rising}
-use Rattle.totem_certificate_check.proofs.Matching.{log_at, matches_at}
+use Rattle.totem_certificate_check.proofs.Matching.{log_at, matches_at, numbers_of_at}
 use Rattle.totem_certificate_check.proofs.Standing.{stands_at, locate, has_number}
 use Rattle.totem_certificate_check.proofs.Walking.{at_index}
 
@@ -39,10 +39,11 @@ all_rise run lines rising matches h e f (x, at_e) (y, at_f) (same, lt) =
     let m = has_number run lines f y rising matches at_f in
     let a = locate run lines e x n.0 rising matches n.1 in
     let b = locate run lines f y m.0 rising matches m.1 in
-    let same_numbers : b.line.numbers ≡ a.line.numbers = sym b.numbers_is ∙ ap (λ (p : ℕ). numbers_of lines p) (sym same) ∙ a.numbers_is in
-    let here : slice_get a.line.numbers b.at ≡ Some m.0 = ap (λ (ns : List ℕ). slice_get ns b.at) (sym same_numbers) ∙ b.number_is in
-    let under : a.at < b.at = omega (arith, a.at_is, b.at_is) in
-    below_is run lines e f x y n.0 m.0 n.1 m.1 (h.each a.index a.line a.at b.at n.0 m.0 (slice_get_within lines a.index a.line a.line_is) a.line_is under a.number_is here)
+    let procs : b.is.log.proc ≡ a.is.log.proc = ap (λ (g : Place). g.proc) b.is.place_is ∙ sym same ∙ sym (ap (λ (g : Place). g.proc) a.is.place_is) in
+    let numbers : b.is.line.numbers ≡ a.is.line.numbers = sym (numbers_of_at run lines b.index b.is.log b.is.line rising matches b.is.log_is b.is.line_is) ∙ ap (λ (p : ℕ). numbers_of lines p) procs ∙ numbers_of_at run lines a.index a.is.log a.is.line rising matches a.is.log_is a.is.line_is in
+    let here : slice_get a.is.line.numbers b.at ≡ Some m.0 = ap (λ (ns : List ℕ). slice_get ns b.at) (sym numbers) ∙ b.is.number_is in
+    let under : a.at < b.at = omega (arith, lt, ap (λ (g : Place). g.at) a.is.place_is, ap (λ (g : Place). g.at) b.is.place_is) in
+    below_is run lines e f x y n.0 m.0 n.1 m.1 (h.each a.index a.is.line a.at b.at n.0 m.0 (slice_get_within lines a.index a.is.line a.is.line_is) a.is.line_is under a.is.number_is here)
 
 pub one_falls : (run : List Log) (lines : List Numbering) → Rising run → Matches run lines → LineFalls lines → DoesNotRise run lines
 one_falls run lines rising matches h =

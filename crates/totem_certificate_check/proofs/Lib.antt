@@ -1,7 +1,6 @@
 pub mod Matching
 pub mod Standing
-pub mod Asking
-pub mod Climbing
+pub mod Entering
 pub mod Certain
 pub mod Exactly
 pub mod Naming

@@ -1,5 +1,5 @@
 -- Logs and the lines that match them.
-use Rattle.std.proofs.Common.{below_more, ◌≡◌, ◌≢◌, ℕ, true, false, zero, suc, ◌+◌, ◌<◌, ◌≤◌, List, [], ◌∷◌, length, slice_get, Some, refl, sym, ◌∙◌, ap, arith, rules}
+use Rattle.std.proofs.Common.{below_more, ◌≡◌, ℕ, true, false, zero, suc, ◌+◌, ◌<◌, ◌≤◌, List, [], ◌∷◌, length, slice_get, Some, refl, sym, ◌∙◌, ap, arith, rules}
 use Rattle.std.specs.Prelude.{◌==◌}
 use Rattle.totem_evs.specs.declared.log.Log.{Log}
 use Rattle.totem_evs.specs.Certificates.{Numbering, numbers_of, Matches}
@@ -62,9 +62,6 @@ numbers_of_at (g ∷ gs) (l ∷ ls) (suc k) log line rising h at_log at_line =
 pub record LinesBefore (run : List Log) (lines : List Numbering) (end : ℕ) : Type 0 where
   pub each : (k : ℕ) → k < end → (log : Log) (line : Numbering) → slice_get run k ≡ Some log → slice_get lines k ≡ Some line → IsLineOf log line
 
-pub none_before : (run : List Log) (lines : List Numbering) → LinesBefore run lines 0
-none_before run lines = record { each = λ k lt log line at_log at_line. absurd (omega arith) }
-
 pub one_more : (run : List Log) (lines : List Numbering) (k : ℕ) (log : Log) (line : Numbering) → slice_get run k ≡ Some log → slice_get lines k ≡ Some line → IsLineOf log line → LinesBefore run lines k → LinesBefore run lines (k + 1)
 one_more run lines k log line at_log at_line is so_far = record {
   each = below_more (λ j. (g : Log) (l : Numbering) → slice_get run j ≡ Some g → slice_get lines j ≡ Some l → IsLineOf g l) k so_far.each
@@ -83,9 +80,6 @@ all_match (g ∷ gs) (l ∷ ls) e h =
     let rest : Matches gs ls = all_match gs ls (omega arith) (record { each = λ k lt log line at_log at_line. h.each (suc k) (omega arith) log line at_log at_line }) in
     let pair : ◌≡◌ {A = ℕ × ℕ} (g.proc, length g.entries) (l.proc, length l.numbers) = rw (first.0, first.1) refl in
     cc
-
-pub not_as_many : (run : List Log) (lines : List Numbering) → length run ≢ length lines → Matches run lines → ⊥
-not_as_many run lines differ h = differ (as_many run lines h)
 
 pub not_of_one : (run : List Log) (lines : List Numbering) (k : ℕ) (log : Log) (line : Numbering) → slice_get run k ≡ Some log → slice_get lines k ≡ Some line → (IsLineOf log line → ⊥) → Matches run lines → ⊥
 not_of_one run lines k log line at_log at_line never h = never (matches_at run lines k log line h at_log at_line)

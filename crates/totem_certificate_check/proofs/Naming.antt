@@ -1,18 +1,16 @@
 -- Classes by name: which entries are in one, and that names which compare as equal are the same.
-use Rattle.std.proofs.Common.{◌≡◌, ◌⊎◌, inl, inr, Some, true, refl, sym, ap, ◌∙◌}
+use Rattle.std.proofs.Common.{◌≡◌, Some, true, refl, sym, ap, ◌∙◌}
 use Rattle.std.specs.BTreeMap.{is_at}
-use Rattle.std.specs.BTreeSet.{BTreeSet}
-use Rattle.std.specs.BTreeSet as sorted
 use Rattle.std.proofs.lemmas.Map.Lookups.{CmpEqualImpliesEq}
 use Rattle.totem_ids.specs.declared.conf.ConfId.{ConfId}
 use Rattle.totem_ids.specs.declared.message.MsgId.{MsgId}
-use Rattle.totem_ids.proofs.Exact.{exact_conf, exact_message, equal_at, apart_or_at}
+use Rattle.totem_ids.proofs.Exact.{exact_conf, exact_message, equal_at}
 use Rattle.totem_evs.specs.declared.entry.Entry.{Entry}
 use Rattle.totem_evs.specs.declared.entry.Entry.TheVariants.{Conf, Deliver}
 use Rattle.totem_evs.specs.Classes.{AreOfOneClass}
 use Rattle.totem_certificate_check.specs.declared.class.Class.{Class}
 use Rattle.totem_certificate_check.specs.declared.class.Class.TheVariants.{Change, Delivery}
-use Rattle.totem_certificate_check.specs.ClassOf.{class_of, class_order, has}
+use Rattle.totem_certificate_check.specs.ClassOf.{class_of, class_order}
 use Rattle.totem_certificate_check.specs.Walks.{class_barred_by}
 
 -- ---- names that compare as equal
@@ -26,23 +24,6 @@ exact_class (Delivery m) (Delivery n) e = ap (λ (z : MsgId). Delivery z) (exact
 -- a class that is at a class is that one
 pub same_class : (c d : Class) → is_at (class_order c) d ≡ true → c ≡ d
 same_class c d at = exact_class c d (equal_at (class_order c d) at)
-
--- ---- sets of classes
-
-pub inserted_has : (old new : BTreeSet Class) (c : Class) → sorted.Updates class_order old new c true → has new c ≡ true
-inserted_has old new c h = h.1
-
-pub inserted_keeps : (old new : BTreeSet Class) (c d : Class) → sorted.Updates class_order old new c true → has old d ≡ true → has new d ≡ true
-inserted_keeps old new c d h had = elim (apart_or_at class_order c d) [
-  | inl at ↦ h.0 d ∙ rw at refl
-  | inr apart ↦ h.2 d apart ∙ had
-]
-
-pub inserted_only : (old new : BTreeSet Class) (c d : Class) → sorted.Updates class_order old new c true → has new d ≡ true → (has old d ≡ true) ⊎ (c ≡ d)
-inserted_only old new c d h has_it = elim (apart_or_at class_order c d) [
-  | inl at ↦ inr (same_class c d at)
-  | inr apart ↦ inl (sym (h.2 d apart) ∙ has_it)
-]
 
 -- ---- entries of one class
 

@@ -18,10 +18,10 @@ use Rattle.totem_certificate_check.specs.ClassOf.{class_of, has}
 use Rattle.totem_certificate_check.specs.Numbered.{Stands}
 use Rattle.totem_certificate_check.specs.Each.{SomeEvent}
 use Rattle.totem_certificate_check.specs.Rising.{LinesRise}
-use Rattle.totem_certificate_check.specs.Walks.{AreOne, IsLeastHead, IsPassed, AreClasses, class_barred_by, IsNew, IsOld, Adds, IsCleanTo, IsClean, IsUnclean}
+use Rattle.totem_certificate_check.specs.Walks.{IsAhead, AreOne, IsLeastHead, IsPassed, AreClasses, class_barred_by, IsNew, IsOld, Adds, IsCleanTo, IsClean, IsUnclean}
 use Rattle.totem_certificate_check.proofs.Certain.{sends_below, send_late, classes_one, class_split, others_apart}
 use Rattle.totem_certificate_check.proofs.Naming.{through, back, class_shared, shares_class, own_class_bars}
-use Rattle.totem_certificate_check.proofs.Walking.{positive_number, head_is_above, passed_or_next}
+use Rattle.totem_certificate_check.proofs.Walking.{ahead_stands, positive_number, head_is_above, passed_or_next, one_ahead}
 
 module _ (run : List Log) (lines : List Numbering) (last k : ℕ) (e : Place) (x : Entry) where
   -- e is the next event, with the number k: what has at most this number has been passed, or is one event with e
@@ -31,15 +31,19 @@ module _ (run : List Log) (lines : List Numbering) (last k : ℕ) (e : Place) (x
     pub each : (f : Place) (y : Entry) (n : ℕ) → Stands run lines f y n → n ≤ k → (n ≤ last) ⊎ ((n ≡ k) × ((f ≡ e) ⊎ AreOfOneClass y x))
 
 pub is_next : (run : List Log) (lines : List Numbering) (passed : List ℕ) (last : ℕ) (head : Head) (e : Place) (x : Entry) → Rising run → Matches run lines → LinesRise lines (length lines) → length passed ≡ length lines → IsPassed lines passed last
-    → IsLeastHead lines passed (length lines) head → Stands run lines e x head.number → AreOne run lines passed e x head.number → IsNext run lines last head.number e x
-is_next run lines passed last head e x rising matches rise many h least stands one = record {
-  stands = stands;
+    → IsLeastHead lines passed (length lines) head → IsAhead run lines passed head.log e x head.number → AreOne run lines passed head.log x head.number → IsNext run lines last head.number e x
+is_next run lines passed last head e x rising matches rise many h least ahead one = record {
+  stands = ahead_stands run lines passed head.log e x head.number rising matches ahead;
   above = head_is_above lines passed last rise h head least;
   each = λ f y n at le. elim (passed_or_next lines passed last rise h head least run rising matches many f y n at le) [
     | inl before ↦ inl before
-    | inr (same, i, within, ahead) ↦ inr (same, one.each i within n f y ahead same)
+    | inr (same, i, within, next) ↦ (let there : IsAhead run lines passed i f y head.number = rw same at next in inr (same, of_one i f y there (one.each i within f y there)))
   ];
 }
+  where
+    of_one : (i : ℕ) (f : Place) (y : Entry) → IsAhead run lines passed i f y head.number → (i ≡ head.log) ⊎ AreOfOneClass y x → (f ≡ e) ⊎ AreOfOneClass y x
+    of_one i f y next (inl same) = inl ((one_ahead run lines passed head.log f e y x head.number head.number (rw same at next) ahead).0)
+    of_one i f y next (inr class) = inr class
 
 -- the entry at a place is one
 one_entry : (run : List Log) (lines : List Numbering) (e f : Place) (x y : Entry) (n m : ℕ) → Stands run lines e x n → Stands run lines f y m → f ≡ e → y ≡ x

@@ -1,14 +1,8 @@
 -- Entering the numbers of classes, event by event.
-use Rattle.std.proofs.Common.{◌≡◌, ◌≢◌, ℕ, ◌+◌, ◌<◌, ◌≤◌, ◌⊎◌, inl, inr, List, length, slice_get, Option, Some, None, Bool, true, false, nat_lt, refl, sym, ◌∙◌, subst, arith}
-use Rattle.std.proofs.lemmas.Option.{slice_get_within}
-use Rattle.std.specs.Bool.{MatchBool}
-use Rattle.std.proofs.lemmas.Bool.{ltb-true, lt-ltb}
-use Rattle.std.specs.BTreeMap.{BTreeMap}
-use Rattle.std.specs.BTreeMap as tree
+use Rattle.std.proofs.Common.{◌≡◌, ◌≢◌, ℕ, ◌+◌, ◌<◌, ◌≤◌, inl, inr, List, length, slice_get, Option, Some, None, IfSome, Bool, true, false, refl, sym, ◌∙◌, subst, arith}
 use Rattle.totem_ids.specs.declared.place.Place.{Place}
-use Rattle.totem_ids.proofs.Exact.{apart_or_at}
 use Rattle.totem_evs.specs.declared.entry.Entry.{Entry}
-use Rattle.totem_evs.specs.declared.entry.Entry.TheVariants.{Send, Deliver}
+use Rattle.totem_evs.specs.declared.entry.Entry.TheVariants.{Conf, Send, Deliver, Fail}
 use Rattle.totem_evs.specs.declared.log.Log.{Log}
 use Rattle.totem_evs.specs.Classes.{AreSendAndDelivery}
 use Rattle.totem_evs.specs.Certificates.{Numbering, Matches}
@@ -16,34 +10,17 @@ use Rattle.totem_evs.proofs.LogOf.{Rising, less_or_not}
 use Rattle.totem_certificate_check.specs.declared.class.Class.{Class}
 use Rattle.totem_certificate_check.specs.declared.class.Class.TheVariants.{Delivery}
 use Rattle.totem_certificate_check.specs.declared.spread.Spread.{Spread}
-use Rattle.totem_certificate_check.specs.ClassOf.{class_of, class_order}
-use Rattle.totem_certificate_check.specs.Numbered.{Stands, place}
-use Rattle.totem_certificate_check.specs.Each.{EachEvent, SomeEvent}
+use Rattle.totem_certificate_check.specs.ClassOf.{class_of}
+use Rattle.totem_certificate_check.specs.Numbered.{Stands}
+use Rattle.totem_certificate_check.specs.Each.{EachEvent, SomeEvent, EachPair, SomePair, IsIn}
 use Rattle.totem_certificate_check.specs.Kinds.{SendIsBelow, SendIsNotBelow}
 use Rattle.totem_certificate_check.specs.Certifying.{ClassesAreOne, TwinsAreApart}
-use Rattle.totem_certificate_check.specs.Spreads.{least_of, Differs, IsLeastOf, IsEntered, IsKnown, IsIn, IsTrueOf, KnowsTo, Knows}
+use Rattle.totem_certificate_check.specs.Spreads.{least_of, Differs, IsLeastOf, IsEntered, IsKnown, IsNoted, IsTrueOf, KnowsTo, Knows, IsEarly, AreEarlyTo}
 use Rattle.totem_certificate_check.proofs.Certain.{class_split, classes_one}
-use Rattle.totem_certificate_check.proofs.Naming.{same_class, class_shared, shares_class}
-use Rattle.totem_certificate_check.proofs.Standing.{stands_at, locate, place_is}
+use Rattle.totem_certificate_check.proofs.Naming.{class_shared, shares_class}
+use Rattle.totem_certificate_check.proofs.Entering.{weaker_past, more_past, next_log, all_past}
 
 -- ---- one number
-
--- the map with the least number of c, and the flag
-pub entered : (old : Spread) (least : BTreeMap Class ℕ) (flag : Bool) (c : Class) (n l : ℕ) → tree.Updates class_order old.least least c (Some l) → IsLeastOf (least_of old c) n l
-    → (old.is_apart ≡ true → flag ≡ true) → (Differs (least_of old c) n → flag ≡ true) → (flag ≡ true → (old.is_apart ≡ true) ⊎ Differs (least_of old c) n)
-    → IsEntered old (record { least = least; is_apart = flag }) c n
-entered old least flag c n l updates of stays apart only = record {
-  least = l;
-  is = updates.1;
-  of = of;
-  others = λ d. elim (apart_or_at class_order c d) [
-    | inl at ↦ inl (same_class c d at)
-    | inr off ↦ inr (updates.2 d off)
-  ];
-  stays = stays;
-  apart = apart;
-  only = only;
-}
 
 -- the new least number is at most the number
 at_most : (o : Option ℕ) (n l : ℕ) → IsLeastOf o n l → l ≤ n
@@ -55,10 +32,8 @@ alone : (o : Option ℕ) (n l : ℕ) → IsLeastOf o n l → (Differs o n → �
 alone None n l h one = h
 alone (Some known) n l h one = elim (less_or_not known n) [
   | inl under ↦ absurd (one (λ same. omega arith))
-  | inr rest ↦ elim rest [
-    | inl over ↦ absurd (one (λ same. omega arith))
-    | inr same ↦ elim h.2 [ inl is ↦ is ∙ same | inr is ↦ is ]
-  ]
+  | inr (inl over) ↦ absurd (one (λ same. omega arith))
+  | inr (inr same) ↦ elim h.2 [ inl is ↦ is ∙ same | inr is ↦ is ]
 ]
 
 no_difference : (flag : Bool) (P : Type 0) → flag ≡ false → (P → flag ≡ true) → P → ⊥
@@ -85,10 +60,8 @@ module _ (run : List Log) (lines : List Numbering) (old new : Spread) (k j : ℕ
               let apart : known.least ≢ n → new.is_apart ≡ true = λ ne. h.apart (rw old_is ne) in
               elim (less_or_not known.least n) [
                 | inl under ↦ absurd (no_difference new.is_apart (known.least ≢ n) flag apart (λ e. omega arith))
-                | inr rest ↦ elim rest [
-                  | inl over ↦ absurd (no_difference new.is_apart (known.least ≢ n) flag apart (λ e. omega arith))
-                  | inr one ↦ elim of.2 [ inl a ↦ a ∙ was | inr b ↦ b ∙ sym one ∙ was ]
-                ]
+                | inr (inl over) ↦ absurd (no_difference new.is_apart (known.least ≢ n) flag apart (λ e. omega arith))
+                | inr (inr one) ↦ elim of.2 [ inl a ↦ a ∙ was | inr b ↦ b ∙ sym one ∙ was ]
               ];
         }
   ]
@@ -138,138 +111,72 @@ module _ (run : List Log) (lines : List Numbering) (old new : Spread) (k j : ℕ
   pub one_more : KnowsTo run lines old k j → KnowsTo run lines new k (j + 1)
   one_more so = record {
     true_of = still_true so.true_of;
-    known = λ i at m d f y past inside class. elim past [
-      | inl before ↦ still d m (so.known i at m d f y (inl before) inside class)
-      | inr (same, lt) ↦ elim (less_or_not at j) [
-        | inl under ↦ still d m (so.known i at m d f y (inr (same, under)) inside class)
-        | inr rest ↦ elim rest [
-          | inl over ↦ absurd (omega arith)
-          | inr one ↦
-              let log : inside.log ≡ here.log = (let a : slice_get run k ≡ Some inside.log = rw (← same) inside.log_is in let b = here.log_is in cc) in
-              let line : inside.line ≡ here.line = (let a : slice_get lines k ≡ Some inside.line = rw (← same) inside.line_is in let b = here.line_is in cc) in
-              let entry : y ≡ x = (let a : slice_get here.log.entries j ≡ Some y = rw (← log, ← one) inside.is.entry_is in let b = here.is.entry_is in cc) in
-              let number : m ≡ n = (let a : slice_get here.line.numbers j ≡ Some m = rw (← line, ← one) inside.is.number_is in let b = here.is.number_is in cc) in
-              let name : c ≡ d = (let a : class_of x ≡ Some d = rw (← entry) class in cc) in
-              subst (λ (z : ℕ). IsKnown new d z) (sym number) (subst (λ (z : Class). IsKnown new z n) name itself)
-        ]
-      ]
-    ];
+    known = more_past (IsNoted new) run lines k j e x n here
+        (λ d class. (let name : c ≡ d = (let both : Some c ≡ Some d = sym is ∙ class in cc) in subst (λ (z : Class). IsKnown new z n) name itself))
+        (weaker_past (IsNoted old) (IsNoted new) run lines k j (λ f y m known d class. still d m (known d class)) so.known);
   }
 
 -- an entry of no class adds nothing
-pub none_more : (run : List Log) (lines : List Numbering) (spread : Spread) (k j : ℕ) (log : Log) (x : Entry) → slice_get run k ≡ Some log → slice_get log.entries j ≡ Some x → class_of x ≡ None → KnowsTo run lines spread k j → KnowsTo run lines spread k (j + 1)
-none_more run lines spread k j log x at_log at_entry none so = record {
-  true_of = so.true_of;
-  known = λ i at m d f y past inside class. elim past [
-    | inl before ↦ so.known i at m d f y (inl before) inside class
-    | inr (same, lt) ↦ elim (less_or_not at j) [
-      | inl under ↦ so.known i at m d f y (inr (same, under)) inside class
-      | inr rest ↦ elim rest [
-        | inl over ↦ absurd (omega arith)
-        | inr one ↦
-            let logs : inside.log ≡ log = (let a : slice_get run k ≡ Some inside.log = rw (← same) inside.log_is in cc) in
-            let entry : y ≡ x = (let a : slice_get log.entries j ≡ Some y = rw (← logs, ← one) inside.is.entry_is in cc) in
-            absurd (let a : class_of x ≡ Some d = rw (← entry) class in cc)
-      ]
-    ]
-  ];
-}
+pub none_more : (run : List Log) (lines : List Numbering) (spread : Spread) (k j : ℕ) (e : Place) (x : Entry) (n : ℕ) → IsIn run lines k j e x n → class_of x ≡ None → KnowsTo run lines spread k j → KnowsTo run lines spread k (j + 1)
+none_more run lines spread k j e x n here none so = record { true_of = so.true_of; known = more_past (IsNoted spread) run lines k j e x n here (λ d class. absurd cc) so.known }
 
 -- ---- logs
 
-pub none_known : (run : List Log) (lines : List Numbering) (least : BTreeMap Class ℕ) → tree.IsEmpty least → KnowsTo run lines (record { least = least; is_apart = false }) 0 0
-none_known run lines least empty = record {
-  true_of = record {
-    there = λ c m at. absurd (let none : tree.get class_order least c ≡ None = rw empty refl in cc);
-    apart = λ flag. absurd cc;
-  };
-  known = λ i at m d f y past inside class. elim past [ inl before ↦ absurd (omega arith) | inr both ↦ absurd (omega (arith, both.1)) ];
-}
-
 pub log_known : (run : List Log) (lines : List Numbering) (spread : Spread) (k j : ℕ) (log : Log) → slice_get run k ≡ Some log → length log.entries ≤ j → KnowsTo run lines spread k j → KnowsTo run lines spread (k + 1) 0
-log_known run lines spread k j log at_log end so = record {
-  true_of = so.true_of;
-  known = λ i at m d f y past inside class. elim past [
-    | inr both ↦ absurd (omega (arith, both.1))
-    | inl lt ↦ elim (less_or_not i k) [
-      | inl before ↦ so.known i at m d f y (inl before) inside class
-      | inr rest ↦ elim rest [
-        | inl over ↦ absurd (omega arith)
-        | inr same ↦
-            let logs : inside.log ≡ log = (let a : slice_get run k ≡ Some inside.log = rw (← same) inside.log_is in cc) in
-            let within : at < length log.entries = rw (← logs) (slice_get_within inside.log.entries at y inside.is.entry_is) in
-            so.known i at m d f y (inr (same, omega arith)) inside class
-      ]
-    ]
-  ];
-}
+log_known run lines spread k j log at_log end so = record { true_of = so.true_of; known = next_log (IsNoted spread) run lines k j log at_log end so.known }
 
 pub all_known : (run : List Log) (lines : List Numbering) (spread : Spread) (k : ℕ) → Rising run → Matches run lines → length run ≤ k → KnowsTo run lines spread k 0 → Knows run lines spread
-all_known run lines spread k rising matches end so = record {
-  true_of = so.true_of;
-  known = λ c e x n stands is.
-      let l = locate run lines e x n rising matches stands in
-      let within = slice_get_within run l.index l.log l.log_is in
-      so.known l.index l.at n c e x (inl (omega arith)) (record {
-        log = l.log;
-        line = l.line;
-        log_is = l.log_is;
-        line_is = l.line_is;
-        is = record { entry_is = l.entry_is; number_is = l.number_is; place_is = place_is run lines e x n l };
-      }) is;
-}
-
-pub in_stands : (run : List Log) (lines : List Numbering) (k j : ℕ) (e : Place) (x : Entry) (n : ℕ) → Rising run → Matches run lines → IsIn run lines k j e x n → Stands run lines e x n
-in_stands run lines k j e x n rising matches h =
-    subst (λ (f : Place). Stands run lines f x n) h.is.place_is (stands_at run lines k j h.log h.line x n rising matches h.log_is h.line_is h.is.entry_is h.is.number_is)
+all_known run lines spread k rising matches end so = record { true_of = so.true_of; known = all_past (IsNoted spread) run lines k rising matches end so.known }
 
 -- ---- what is known at the end
-
--- a send whose message no process delivers, or whose number is below the least one of the deliveries
-pub is_below : (run : List Log) (lines : List Numbering) (spread : Spread) → Knows run lines spread → (e : Place) (x : Entry) (n : ℕ) (m : _) (c : _) (s : _) → x ≡ Send m c s → ((l : ℕ) → least_of spread (Delivery m) ≡ Some l → n < l) → EachEvent (SendIsBelow e x n) run lines
-is_below run lines spread so e x n m c s is below = record { each = λ f y k stands pair. go f y k stands (rw is at pair) }
-  where
-    go : (f : Place) (y : Entry) (k : ℕ) → Stands run lines f y k → AreSendAndDelivery (Send m c s) y → n < k
-    go f (Deliver o d) k stands pair =
-        let known = so.known (Delivery m) f (Deliver o d) k stands (rw pair refl) in
-        let lt = below known.least known.is in
-        let le = known.at_most in
-        omega arith
-    go f y k stands pair = absurd pair
-
-pub no_send : (run : List Log) (lines : List Numbering) (e : Place) (x : Entry) (n : ℕ) → ((y : Entry) → AreSendAndDelivery x y → ⊥) → EachEvent (SendIsBelow e x n) run lines
-no_send run lines e x n never = record { each = λ f y k stands pair. absurd (never y pair) }
-
-pub is_not_below : (run : List Log) (lines : List Numbering) (spread : Spread) → Knows run lines spread → (e : Place) (x : Entry) (n l : ℕ) (m : _) (c : _) (s : _) → x ≡ Send m c s → least_of spread (Delivery m) ≡ Some l → (n < l → ⊥) → SomeEvent (SendIsNotBelow e x n) run lines
-is_not_below run lines spread so e x n l m c s is at never = go (so.true_of.there (Delivery m) l at)
-  where
-    pair : (y : Entry) → class_of y ≡ Some (Delivery m) → AreSendAndDelivery x y
-    pair (Deliver o d) of = rw is (let h : Delivery o ≡ Delivery m = (let both : Some (Delivery o) ≡ Some (Delivery m) = of in cc) in cc)
-    pair y of = absurd cc
-
-    go : SomeEvent (λ f y k. (k ≡ l) × (class_of y ≡ Some (Delivery m))) run lines → SomeEvent (SendIsNotBelow e x n) run lines
-    go h = record { event = h.event; entry = h.entry; number = h.number; stands = h.stands; holds = (pair h.entry h.holds.1, λ lt. never (rw h.holds.0 at lt)) }
 
 pub classes_known : (run : List Log) (lines : List Numbering) (spread : Spread) → Rising run → Matches run lines → Knows run lines spread → spread.is_apart ≡ false → ClassesAreOne run lines
 classes_known run lines spread rising matches so one = classes_one run lines rising matches (record {
   each = λ e x n at. record {
     each = λ f y m there class.
         let both = class_shared x y class in
-        let first = so.known both.0 e x n at both.1 in
-        let second = so.known both.0 f y m there both.2 in
+        let first = so.known.each e x n at both.0 both.1 in
+        let second = so.known.each f y m there both.0 both.2 in
         let same : first.least ≡ second.least = (let a = first.is in let b = second.is in cc) in
         sym (first.one one) ∙ same ∙ second.one one;
   };
 })
 
--- a send compared with the least number of the deliveries of its message
-pub below_or_not : (run : List Log) (lines : List Numbering) (spread : Spread) → Knows run lines spread → (e : Place) (x : Entry) (n l : ℕ) (m : _) (c : _) (s : _) → x ≡ Send m c s → least_of spread (Delivery m) ≡ Some l
-    → MatchBool (nat_lt n l) (EachEvent (SendIsBelow e x n) run lines) (SomeEvent (SendIsNotBelow e x n) run lines)
-below_or_not run lines spread so e x n l m c s is at = go (nat_lt n l) refl
-  where
-    go : (b : Bool) → nat_lt n l ≡ b → MatchBool b (EachEvent (SendIsBelow e x n) run lines) (SomeEvent (SendIsNotBelow e x n) run lines)
-    go true lt = is_below run lines spread so e x n m c s is (λ k other. (let same : l ≡ k = cc in let under = ltb-true n l lt in omega arith))
-    go false ge = is_not_below run lines spread so e x n l m c s is at (λ lt. (let yes = lt-ltb n l lt in cc))
+-- ---- sends
 
-pub is_in : (run : List Log) (lines : List Numbering) (k j : ℕ) (log : Log) (line : Numbering) (x : Entry) (n : ℕ) → slice_get run k ≡ Some log → slice_get lines k ≡ Some line → slice_get log.entries j ≡ Some x → slice_get line.numbers j ≡ Some n → IsIn run lines k j (place log.proc j) x n
-is_in run lines k j log line x n at_log at_line at_entry at_number = record { log = log; line = line; log_is = at_log; line_is = at_line; is = record { entry_is = at_entry; number_is = at_number; place_is = refl } }
+module _ (run : List Log) (lines : List Numbering) (spread : Spread) (so : Knows run lines spread) where
+  -- a send below the least number of the deliveries of its message is below each of them
+  is_below : (e : Place) (x : Entry) (n : ℕ) → IsEarly spread x n → EachEvent (SendIsBelow e x n) run lines
+  is_below e x n early = record { each = λ f y k stands pair. below x y early f k stands pair }
+    where
+      below : (x y : Entry) → IsEarly spread x n → (f : Place) (k : ℕ) → Stands run lines f y k → AreSendAndDelivery x y → n < k
+      below (Send m c s) (Deliver o d) early f k stands pair =
+          let known = so.known.each f (Deliver o d) k stands (Delivery m) (rw pair refl) in
+          let lt : n < known.least = rw known.is at early in
+          let le = known.at_most in
+          omega arith
+      below x y early f k stands pair = absurd pair
+
+  pub all_below : (k : ℕ) → Rising run → Matches run lines → length run ≤ k → AreEarlyTo run lines spread k 0 → EachPair SendIsBelow run lines
+  all_below k rising matches end early = record {
+    each = λ e x n stands. is_below e x n ((all_past (λ e x n. IsEarly spread x n) run lines k rising matches end early).each e x n stands);
+  }
+
+  pub one_late : (e : Place) (x : Entry) (n : ℕ) → Stands run lines e x n → (IsEarly spread x n → ⊥) → SomePair SendIsNotBelow run lines
+  one_late e x n stands late = record { event = e; entry = x; number = n; stands = stands; holds = go x late }
+    where
+      pair : (m : _) (c : _) (s : _) (y : Entry) → class_of y ≡ Some (Delivery m) → AreSendAndDelivery (Send m c s) y
+      pair m c s (Deliver o d) of = (let h : Delivery o ≡ Delivery m = (let both : Some (Delivery o) ≡ Some (Delivery m) = of in cc) in cc)
+      pair m c s y of = absurd cc
+
+      least : (m : _) (c : _) (s : _) (o : Option ℕ) → least_of spread (Delivery m) ≡ o → (IfSome o (λ l. n < l) → ⊥) → SomeEvent (SendIsNotBelow e (Send m c s) n) run lines
+      least m c s None at late = absurd (late tt)
+      least m c s (Some l) at late =
+          let h = so.true_of.there (Delivery m) l at in
+          record { event = h.event; entry = h.entry; number = h.number; stands = h.stands; holds = (pair m c s h.entry h.holds.1, λ lt. late (rw h.holds.0 at lt)) }
+
+      go : (x : Entry) → (IsEarly spread x n → ⊥) → SomeEvent (SendIsNotBelow e x n) run lines
+      go (Send m c s) late = least m c s (least_of spread (Delivery m)) refl late
+      go (Conf c ms) late = absurd (late tt)
+      go (Deliver m c) late = absurd (late tt)
+      go (Fail c) late = absurd (late tt)

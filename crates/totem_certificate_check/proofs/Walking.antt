@@ -1,24 +1,22 @@
 -- Where a walk is, and what a step of it passes.
-use Rattle.std.proofs.Common.{below_more, ◌≡◌, ◌≢◌, ℕ, zero, suc, ◌+◌, ◌^◌, ◌<◌, ◌≤◌, ◌⊎◌, inl, inr, List, [], ◌∷◌, length, get_or, slice_get, slice_set, replicate, true, false, nat_eq, eq-eqb, Option, Some, None, refl, sym, ◌∙◌, ap, subst, arith}
+use Rattle.std.proofs.Common.{below_more, ◌≡◌, ◌≢◌, ℕ, zero, suc, ◌+◌, ◌<◌, ◌≤◌, ◌⊎◌, inl, inr, List, [], ◌∷◌, length, get_or, slice_get, slice_set, Option, Some, None, refl, sym, ◌∙◌, ap, subst, arith}
 use Rattle.std.proofs.lemmas.Option.{slice_get_within, slice_get_read, slice_get-get_or, get_or_from_slice_get}
 use Rattle.std.proofs.lemmas.List.{length-set}
-use Rattle.std.proofs.lemmas.Bool.{eqb-true}
-use Rattle.std.specs.Option.{option_eq, IfSome}
 use Rattle.totem_ids.specs.declared.place.Place.{Place}
 use Rattle.totem_evs.specs.declared.entry.Entry.{Entry}
 use Rattle.totem_evs.specs.declared.log.Log.{Log}
-use Rattle.totem_evs.specs.Runs.{IsLog, IsRun}
+use Rattle.totem_evs.specs.Classes.{AreOfOneClass}
 use Rattle.totem_evs.specs.Certificates.{Numbering, Matches}
-use Rattle.totem_evs.proofs.LogOf.{Rising, less_or_not}
+use Rattle.totem_evs.proofs.LogOf.{Rising, in_order, less_or_not}
 use Rattle.totem_certificate.specs.Keeping.{IsLine, IsCertificate}
 use Rattle.totem_certificate_check.specs.declared.walk.Head.{Head}
 use Rattle.totem_certificate_check.specs.Numbered.{Stands, place}
-use Rattle.totem_certificate_check.specs.Each.{SomePair}
-use Rattle.totem_certificate_check.specs.Kinds.{NumberIsOwn, NumberIsShared}
+use Rattle.totem_certificate_check.specs.Each.{SomePair, IsIn}
+use Rattle.totem_certificate_check.specs.Kinds.{NumberIsShared}
 use Rattle.totem_certificate_check.specs.Rising.{LinesRise}
-use Rattle.totem_certificate_check.specs.Walks.{IsEntryOf, IsAhead, IsHead, IsPassed, NoneLeftTo, IsLeastHead, IsLeastTo, IsLesser, IsStepOf, IsStepped, AreOneBefore}
-use Rattle.totem_certificate_check.proofs.Matching.{as_many, log_at, matches_at}
-use Rattle.totem_certificate_check.proofs.Standing.{stands_at, locate, place_is}
+use Rattle.totem_certificate_check.specs.Walks.{IsAhead, IsHead, IsPassed, NoneLeftTo, IsLeastHead, IsLeastTo, IsLesser, IsStepOf, IsStepped, AreOneBefore}
+use Rattle.totem_certificate_check.proofs.Matching.{as_many, matches_at}
+use Rattle.totem_certificate_check.proofs.Standing.{in_stands, one_in, locate}
 
 -- what is at an index of a list
 pub at_index : {A : Type 0} → (xs : List A) (i : ℕ) → i < length xs → (x : A) × (slice_get xs i ≡ Some x)
@@ -26,54 +24,20 @@ at_index [] i lt = absurd (omega arith)
 at_index (x ∷ xs) zero lt = (x, refl)
 at_index (x ∷ xs) (suc i) lt = at_index xs i (omega arith)
 
--- ---- the next events of the logs
-
 pub ahead_stands : (run : List Log) (lines : List Numbering) (passed : List ℕ) (i : ℕ) (e : Place) (x : Entry) (n : ℕ) → Rising run → Matches run lines → IsAhead run lines passed i e x n → Stands run lines e x n
-ahead_stands run lines passed i e x n rising matches h =
-    subst (λ (f : Place). Stands run lines f x n) h.is.place_is (stands_at run lines i h.at h.log h.line x n rising matches h.log_is h.line_is h.is.entry_is h.is.number_is)
-
--- if a log has a number left, it has an event left
-pub number_ahead : (run : List Log) (lines : List Numbering) (passed : List ℕ) (i at n : ℕ) (line : Numbering) → Matches run lines → slice_get lines i ≡ Some line → slice_get passed i ≡ Some at → slice_get line.numbers at ≡ Some n
-    → (e : Place) × (x : Entry) × IsAhead run lines passed i e x n
-number_ahead run lines passed i at n line matches at_line at_passed at_number =
-    let found = log_at run lines i line matches at_line in
-    let both = matches_at run lines i found.0 line matches found.1 at_line in
-    let within = slice_get_within line.numbers at n at_number in
-    let entry = at_index found.0.entries at (omega (arith, both.1)) in (
-      place found.0.proc at,
-      entry.0,
-      record {
-        log = found.0;
-        line = line;
-        at = at;
-        log_is = found.1;
-        line_is = at_line;
-        at_is = at_passed;
-        is = record { entry_is = entry.1; number_is = at_number; place_is = refl };
-      },
-    )
+ahead_stands run lines passed i e x n rising matches h = in_stands run lines i h.at e x n rising matches h.is
 
 -- ---- what has been passed
 
-zeros : (n i at : ℕ) → slice_get (replicate n 0) i ≡ Some at → at ≡ 0
-zeros zero i at is = absurd cc
-zeros (suc n) zero at is = cc
-zeros (suc n) (suc i) at is = zeros n i at is
+positive : (lines : List Numbering) (i j k : ℕ) (line : Numbering) → IsCertificate lines → slice_get lines i ≡ Some line → slice_get line.numbers j ≡ Some k → 0 < k
+positive lines i j k line is at_line at_number =
+    let good : IsLine line = subst (λ (z : Numbering). IsLine z) (get_or_from_slice_get lines i line line at_line) (is.each i line (slice_get_within lines i line at_line)) in
+    let number = good.numbers.each j k (slice_get_within line.numbers j k at_number) in
+    subst (λ (z : ℕ). 0 < z) (get_or_from_slice_get line.numbers j k k at_number) number.positive
 
-pub none_passed : (lines : List Numbering) (n : ℕ) → IsCertificate lines → IsPassed lines (replicate n 0) 0
-none_passed lines n is = record {
-  before = λ i at j k line at_line at_passed at_number lt. absurd (let none = zeros n i at at_passed in omega arith);
-  after = λ i at j k line at_line at_passed at_number le.
-      let within = slice_get_within lines i line at_line in
-      let inside = slice_get_within line.numbers j k at_number in
-      positive i j k line within inside at_line at_number;
-}
-  where
-    positive : (i j k : ℕ) (line : Numbering) → i < length lines → j < length line.numbers → slice_get lines i ≡ Some line → slice_get line.numbers j ≡ Some k → 0 < k
-    positive i j k line within inside at_line at_number =
-        let good : IsLine line = subst (λ (z : Numbering). IsLine z) (get_or_from_slice_get lines i line line at_line) (is.each i line within) in
-        let number = good.numbers.each j k inside in
-        subst (λ (z : ℕ). 0 < z) (get_or_from_slice_get line.numbers j k k at_number) number.positive
+-- each event has a positive number
+pub positive_number : (run : List Log) (lines : List Numbering) (e : Place) (x : Entry) (n : ℕ) → Rising run → Matches run lines → IsCertificate lines → Stands run lines e x n → 0 < n
+positive_number run lines e x n rising matches is stands = (let l = locate run lines e x n rising matches stands in positive lines l.index l.at n l.is.line is l.is.line_is l.is.number_is)
 
 module _ (lines : List Numbering) (passed : List ℕ) (last : ℕ) (rise : LinesRise lines (length lines)) (h : IsPassed lines passed last) (head : Head) (least : IsLeastHead lines passed (length lines) head) where
   -- the least head was not passed
@@ -96,23 +60,19 @@ module _ (lines : List Numbering) (passed : List ℕ) (last : ℕ) (rise : Lines
   place_of_number : (i at j n : ℕ) (line : Numbering) → slice_get lines i ≡ Some line → slice_get passed i ≡ Some at → slice_get line.numbers j ≡ Some n → n ≤ head.number → (n ≤ last) ⊎ ((n ≡ head.number) × (j ≡ at))
   place_of_number i at j n line at_line at_passed at_number le = elim (less_or_not j at) [
     | inl under ↦ inl (h.before i at j n line at_line at_passed at_number under)
-    | inr rest ↦ elim rest [
-      | inl over ↦ absurd (let more = later_number i at j n line at_line at_passed at_number over in omega arith)
-      | inr same ↦
-          let here : slice_get line.numbers at ≡ Some n = rw same at at_number in
-          let more = next_number i at n line at_line at_passed here in
-          inr (omega arith, same)
-    ]
+    | inr (inl over) ↦ absurd (let more = later_number i at j n line at_line at_passed at_number over in omega arith)
+    | inr (inr same) ↦
+        let here : slice_get line.numbers at ≡ Some n = rw same at at_number in
+        let more = next_number i at n line at_line at_passed here in
+        inr (omega arith, same)
   ]
 
   step_of : (i a b j n : ℕ) (line : Numbering) → slice_get lines i ≡ Some line → slice_get passed i ≡ Some a → slice_get line.numbers j ≡ Some n → IsStepOf line head.number a b → ((j < b → n ≤ head.number) × (b ≤ j → head.number < n))
   step_of i a b j n line at_line at_passed at_number (inl (is, more)) = (
     λ lt. elim (less_or_not j a) [
       | inl under ↦ let before = h.before i a j n line at_line at_passed at_number under in let above = head_is_above in omega arith
-      | inr rest ↦ elim rest [
-        | inl over ↦ absurd (omega arith)
-        | inr same ↦ let one : n ≡ head.number = (let here : slice_get line.numbers a ≡ Some n = rw same at at_number in cc) in omega arith
-      ]
+      | inr (inl over) ↦ absurd (omega arith)
+      | inr (inr same) ↦ let one : n ≡ head.number = (let here : slice_get line.numbers a ≡ Some n = rw same at at_number in cc) in omega arith
     ],
     λ le. later_number i a j n line at_line at_passed at_number (omega arith),
   )
@@ -120,19 +80,15 @@ module _ (lines : List Numbering) (passed : List ℕ) (last : ℕ) (rise : Lines
     λ lt. let before = h.before i a j n line at_line at_passed at_number (omega arith) in let above = head_is_above in omega arith,
     λ le. elim (less_or_not a j) [
       | inl under ↦ later_number i a j n line at_line at_passed at_number under
-      | inr rest ↦ elim rest [
-        | inl over ↦ absurd (omega arith)
-        | inr one ↦
-            let here : slice_get line.numbers a ≡ Some n = rw (← one) at at_number in
-            let more = next_number i a n line at_line at_passed here in
-            elim (less_or_not head.number n) [
-              | inl above ↦ above
-              | inr others ↦ elim others [
-                | inl below ↦ absurd (omega arith)
-                | inr equal ↦ absurd (never (rw (← equal) at here))
-              ]
-            ]
-      ]
+      | inr (inl over) ↦ absurd (omega arith)
+      | inr (inr one) ↦
+          let here : slice_get line.numbers a ≡ Some n = rw (← one) at at_number in
+          let more = next_number i a n line at_line at_passed here in
+          elim (less_or_not head.number n) [
+            | inl above ↦ above
+            | inr (inl below) ↦ absurd (omega arith)
+            | inr (inr equal) ↦ absurd (never (rw (← equal) at here))
+          ]
     ],
   )
 
@@ -156,39 +112,26 @@ module _ (lines : List Numbering) (passed : List ℕ) (last : ℕ) (rise : Lines
       → (n ≤ last) ⊎ ((n ≡ head.number) × (i : ℕ) × (i < length lines) × IsAhead run lines passed i f y n)
   passed_or_next run rising matches many f y n stands le =
       let l = locate run lines f y n rising matches stands in
-      let within = slice_get_within lines l.index l.line l.line_is in
+      let within = slice_get_within lines l.index l.is.line l.is.line_is in
       let at = at_index passed l.index (omega arith) in
-      elim (place_of_number l.index at.0 l.at n l.line l.line_is at.1 l.number_is le) [
+      elim (place_of_number l.index at.0 l.at n l.is.line l.is.line_is at.1 l.is.number_is le) [
         | inl before ↦ inl before
-        | inr (same, here) ↦ inr (
-          same,
-          l.index,
-          within,
-          record {
-            log = l.log;
-            line = l.line;
-            at = at.0;
-            log_is = l.log_is;
-            line_is = l.line_is;
-            at_is = at.1;
-            is = record { entry_is = rw here at l.entry_is; number_is = rw here at l.number_is; place_is = rw (← here) (place_is run lines f y n l) };
-          },
-        )
+        | inr (same, here) ↦ inr (same, l.index, within, record { at = at.0; at_is = at.1; is = subst (λ (j : ℕ). IsIn run lines l.index j f y n) here l.is })
       ]
 
 -- if no line has a number left, all were passed
 pub all_passed : (run : List Log) (lines : List Numbering) (passed : List ℕ) (last : ℕ) → Rising run → Matches run lines → IsPassed lines passed last → length passed ≡ length lines → NoneLeftTo lines passed (length lines) → (f : Place) (y : Entry) (n : ℕ) → Stands run lines f y n → n ≤ last
 all_passed run lines passed last rising matches h many none f y n stands =
     let l = locate run lines f y n rising matches stands in
-    let within = slice_get_within lines l.index l.line l.line_is in
-    let inside = slice_get_within l.line.numbers l.at n l.number_is in
+    let within = slice_get_within lines l.index l.is.line l.is.line_is in
+    let inside = slice_get_within l.is.line.numbers l.at n l.is.number_is in
     let at = at_index passed l.index (omega arith) in
     elim (less_or_not l.at at.0) [
-      | inl under ↦ h.before l.index at.0 l.at n l.line l.line_is at.1 l.number_is under
+      | inl under ↦ h.before l.index at.0 l.at n l.is.line l.is.line_is at.1 l.is.number_is under
       | inr rest ↦
           let le : at.0 ≤ l.at = elim rest [ inl over ↦ omega arith | inr same ↦ omega arith ] in
-          let first = at_index l.line.numbers at.0 (omega arith) in
-          absurd (none.never l.index first.0 within (record { line = l.line; at = at.0; line_is = l.line_is; at_is = at.1; number_is = first.1 }))
+          let first = at_index l.is.line.numbers at.0 (omega arith) in
+          absurd (none.never l.index first.0 within (record { line = l.is.line; at = at.0; line_is = l.is.line_is; at_is = at.1; number_is = first.1 }))
     ]
 
 -- ---- the loop over the heads
@@ -210,21 +153,20 @@ no_head lines passed i at line at_line at_passed none m a =
     let ats : a.at ≡ at = (let h = a.at_is in cc) in
     (let number : slice_get line.numbers at ≡ Some m = rw (← ones, ← ats) a.number_is in cc)
 
-pub no_least : (lines : List Numbering) (passed : List ℕ) → IsLeastTo lines passed 0 None
-no_least lines passed = record { never = λ j m lt a. omega arith }
-
 pub skips_line : (lines : List Numbering) (passed : List ℕ) (k : ℕ) (least : Option Head) → ((m : ℕ) → IsHead lines passed k m → ⊥) → IsLeastTo lines passed k least → IsLeastTo lines passed (k + 1) least
 skips_line lines passed k None never h = record {
   never = λ j m lt a. elim (less_or_not j k) [
     | inl under ↦ h.never j m under a
-    | inr rest ↦ elim rest [ inl over ↦ absurd (omega arith) | inr same ↦ never m (rw same at a) ]
+    | inr (inl over) ↦ absurd (omega arith)
+    | inr (inr same) ↦ never m (rw same at a)
   ];
 }
 skips_line lines passed k (Some head) never h = record {
   is = h.is;
   least = λ j m lt a. elim (less_or_not j k) [
     | inl under ↦ h.least j m under a
-    | inr rest ↦ elim rest [ inl over ↦ absurd (omega arith) | inr same ↦ absurd (never m (rw same at a)) ]
+    | inr (inl over) ↦ absurd (omega arith)
+    | inr (inr same) ↦ absurd (never m (rw same at a))
   ];
 }
 
@@ -234,10 +176,8 @@ smallest lines passed k n head here is le others = record {
   is = is;
   least = λ j m lt a. elim (less_or_not j k) [
     | inl under ↦ others j m under a
-    | inr rest ↦ elim rest [
-      | inl over ↦ absurd (omega arith)
-      | inr same ↦ (let one : n ≡ m = one_head lines passed k n m here (rw same at a) in omega arith)
-    ]
+    | inr (inl over) ↦ absurd (omega arith)
+    | inr (inr same) ↦ (let one : n ≡ m = one_head lines passed k n m here (rw same at a) in omega arith)
   ];
 }
 
@@ -253,28 +193,22 @@ pub least_of_all : (lines : List Numbering) (passed : List ℕ) (k : ℕ) (least
 least_of_all lines passed k None end h = record { never = λ j m lt a. h.never j m (omega arith) a }
 least_of_all lines passed k (Some head) end h = record { is = h.is; least = λ j m lt a. h.least j m (omega arith) a }
 
--- ---- the loops over the logs
-
--- the event at an index is the next one of its log
-pub is_ahead : (run : List Log) (lines : List Numbering) (passed : List ℕ) (k at : ℕ) (log : Log) (line : Numbering) (e : Place) (x : Entry) (n : ℕ) → slice_get run k ≡ Some log → slice_get lines k ≡ Some line → slice_get passed k ≡ Some at → IsEntryOf log line at e x n
-    → IsAhead run lines passed k e x n
-is_ahead run lines passed k at log line e x n at_log at_line at_passed is = record { log = log; line = line; at = at; log_is = at_log; line_is = at_line; at_is = at_passed; is = is }
+-- ---- the next events of the logs
 
 -- two next events of one log are one
 pub one_ahead : (run : List Log) (lines : List Numbering) (passed : List ℕ) (k : ℕ) (e f : Place) (x y : Entry) (n m : ℕ) → IsAhead run lines passed k e x n → IsAhead run lines passed k f y m → (e ≡ f) × (x ≡ y) × (n ≡ m)
 one_ahead run lines passed k e f x y n m a b =
-    let logs : a.log ≡ b.log = (let h = a.log_is in let i = b.log_is in cc) in
-    let ones : a.line ≡ b.line = (let h = a.line_is in let i = b.line_is in cc) in
     let ats : a.at ≡ b.at = (let h = a.at_is in let i = b.at_is in cc) in
-    let entry : slice_get b.log.entries b.at ≡ Some x = rw (← logs, ← ats) a.is.entry_is in
-    let number : slice_get b.line.numbers b.at ≡ Some n = rw (← ones, ← ats) a.is.number_is in
-    let at : place b.log.proc b.at ≡ e = rw (← logs, ← ats) a.is.place_is in
-    (sym at ∙ b.is.place_is, (let h = b.is.entry_is in cc), (let h = b.is.number_is in cc))
+    one_in run lines k b.at e f x y n m (subst (λ (j : ℕ). IsIn run lines k j e x n) ats a.is) b.is
+
+-- the number at the head of a line
+pub ahead_number : (run : List Log) (lines : List Numbering) (passed : List ℕ) (i at n : ℕ) (line : Numbering) (f : Place) (y : Entry) → slice_get lines i ≡ Some line → slice_get passed i ≡ Some at → IsAhead run lines passed i f y n → slice_get line.numbers at ≡ Some n
+ahead_number run lines passed i at n line f y at_line at_passed a =
+    let ones : a.is.line ≡ line = (let h = a.is.line_is in cc) in
+    let ats : a.at ≡ at = (let h = a.at_is in cc) in
+    rw (← ones, ← ats) a.is.number_is
 
 -- ---- a step
-
-pub no_step : (lines : List Numbering) (k : ℕ) (old : List ℕ) → IsStepped lines k old old 0
-no_step lines k old = record { as_many = refl; made = λ i a b line lt at_line at_old at_new. absurd (omega arith); left = λ i a le at. at }
 
 pub one_step : (lines : List Numbering) (k : ℕ) (old now new : List ℕ) (at a b : ℕ) (line : Numbering) → slice_get lines at ≡ Some line → slice_get now at ≡ Some a → slice_get new at ≡ Some b → IsStepOf line k a b → length new ≡ length now → ((i : ℕ) → i ≢ at → slice_get new i ≡ slice_get now i)
     → IsStepped lines k old now at → IsStepped lines k old new (at + 1)
@@ -282,69 +216,43 @@ one_step lines k old now new at a b line at_line at_now at_new is many others h 
   as_many = many ∙ h.as_many;
   made = λ i c d g lt at_g at_c at_d. elim (less_or_not i at) [
     | inl under ↦ h.made i c d g under at_g at_c (sym (others i (λ e. omega arith)) ∙ at_d)
-    | inr rest ↦ elim rest [
-      | inl over ↦ absurd (omega arith)
-      | inr same ↦
-          let first : a ≡ c = (let here = h.left i c (omega arith) at_c in let there : slice_get now i ≡ Some a = rw same at_now in cc) in
-          let second : b ≡ d = (let there : slice_get new i ≡ Some b = rw same at_new in cc) in
-          let third : line ≡ g = (let there : slice_get lines i ≡ Some line = rw same at_line in cc) in
-          rw (← first, ← second, ← third) is
-    ]
+    | inr (inl over) ↦ absurd (omega arith)
+    | inr (inr same) ↦
+        let first : a ≡ c = (let here = h.left i c (omega arith) at_c in let there : slice_get now i ≡ Some a = rw same at_now in cc) in
+        let second : b ≡ d = (let there : slice_get new i ≡ Some b = rw same at_new in cc) in
+        let third : line ≡ g = (let there : slice_get lines i ≡ Some line = rw same at_line in cc) in
+        rw (← first, ← second, ← third) is
   ];
   left = λ i c le at_c. others i (λ e. omega arith) ∙ h.left i c (omega arith) at_c;
 }
 
 -- ---- what shares a number
 
-pub one_yet : (run : List Log) (lines : List Numbering) (passed : List ℕ) (e : Place) (x : Entry) (n : ℕ) → AreOneBefore run lines passed 0 e x n
-one_yet run lines passed e x n = record { each = λ i lt m f y a. absurd (omega arith) }
+pub ones_more : (run : List Log) (lines : List Numbering) (passed : List ℕ) (i k : ℕ) (x : Entry) (n : ℕ) → ((f : Place) (y : Entry) → IsAhead run lines passed i f y n → (i ≡ k) ⊎ AreOfOneClass y x) → AreOneBefore run lines passed i k x n → AreOneBefore run lines passed (i + 1) k x n
+ones_more run lines passed i k x n own h = record { each = below_more (λ j. (f : Place) (y : Entry) → IsAhead run lines passed j f y n → (j ≡ k) ⊎ AreOfOneClass y x) i h.each own }
 
-pub ones_more : (run : List Log) (lines : List Numbering) (passed : List ℕ) (k : ℕ) (e : Place) (x : Entry) (n : ℕ) → ((f : Place) (y : Entry) (m : ℕ) → IsAhead run lines passed k f y m → NumberIsOwn f y m e x n) → AreOneBefore run lines passed k e x n → AreOneBefore run lines passed (k + 1) e x n
-ones_more run lines passed k e x n own h = record { each = below_more (λ i. (m : ℕ) (f : Place) (y : Entry) → IsAhead run lines passed i f y m → NumberIsOwn f y m e x n) k h.each (λ m f y a. own f y m a) }
+-- if the next entry of a log is of one class with x, each is
+pub own_ahead : (run : List Log) (lines : List Numbering) (passed : List ℕ) (i k : ℕ) (x z : Entry) (n : ℕ) → ((g : Place) × IsAhead run lines passed i g z n) → AreOfOneClass z x → (f : Place) (y : Entry) → IsAhead run lines passed i f y n → (i ≡ k) ⊎ AreOfOneClass y x
+own_ahead run lines passed i k x z n (g, a) own f y b = inr (subst (λ (w : Entry). AreOfOneClass w x) (one_ahead run lines passed i g f z y n n a b).1 own)
 
-pub ones_all : (run : List Log) (lines : List Numbering) (passed : List ℕ) (k : ℕ) (e : Place) (x : Entry) (n : ℕ) → length lines ≤ k → AreOneBefore run lines passed k e x n → AreOneBefore run lines passed (length lines) e x n
-ones_all run lines passed k e x n end h = record { each = λ i lt m f y a. h.each i (omega arith) m f y a }
-
--- the next event of a log shares e's number only if the two are one event
-pub own_ahead : (run : List Log) (lines : List Numbering) (passed : List ℕ) (k : ℕ) (e g : Place) (x z : Entry) (n o : ℕ) → IsAhead run lines passed k g z o → NumberIsOwn g z o e x n → (f : Place) (y : Entry) (m : ℕ) → IsAhead run lines passed k f y m → NumberIsOwn f y m e x n
-own_ahead run lines passed k e g x z n o a own f y m b =
-    let one = one_ahead run lines passed k g f z y o m a b in
-    subst (λ (p : Place). NumberIsOwn p y m e x n) one.0 (subst (λ (w : Entry). NumberIsOwn g w m e x n) one.1 (subst (λ (i : ℕ). NumberIsOwn g z i e x n) one.2 own))
-
-pub sharing : (run : List Log) (lines : List Numbering) (passed : List ℕ) (k : ℕ) (e g : Place) (x z : Entry) (n o : ℕ) → Rising run → Matches run lines → IsAhead run lines passed k g z o → Stands run lines e x n → NumberIsShared g z o e x n → SomePair NumberIsShared run lines
-sharing run lines passed k e g x z n o rising matches a at shared = record {
+-- the next events of two logs are different
+pub sharing : (run : List Log) (lines : List Numbering) (passed : List ℕ) (i k : ℕ) (x z : Entry) (n : ℕ) → Rising run → Matches run lines → i ≢ k → ((g : Place) × IsAhead run lines passed i g z n) → ((e : Place) × IsAhead run lines passed k e x n) → (AreOfOneClass z x → ⊥) → SomePair NumberIsShared run lines
+sharing run lines passed i k x z n rising matches differ (g, a) (e, b) apart = record {
   event = g;
   entry = z;
-  number = o;
-  stands = ahead_stands run lines passed k g z o rising matches a;
-  holds = record { event = e; entry = x; number = n; stands = at; holds = shared };
+  number = n;
+  stands = ahead_stands run lines passed i g z n rising matches a;
+  holds = record { event = e; entry = x; number = n; stands = ahead_stands run lines passed k e x n rising matches b; holds = (refl, other, apart) };
 }
-
--- ---- what the loops read
-
-pub told : (o : Option ℕ) (n : ℕ) → option_eq nat_eq o (Some n) ≡ true → o ≡ Some n
-told None n e = absurd cc
-told (Some m) n e = ap (λ (k : ℕ). Some k) (eqb-true m n e)
-
-pub not_told : (o : Option ℕ) (n : ℕ) → option_eq nat_eq o (Some n) ≡ false → o ≡ Some n → ⊥
-not_told o n e is = not_same (subst (λ (p : Option ℕ). option_eq nat_eq p (Some n) ≡ false) is e)
   where
-    not_same : nat_eq n n ≡ false → ⊥
-    not_same h = (let yes = eq-eqb n n refl in cc)
-
-pub room_of : (o : Option ℕ) (n at : ℕ) → IfSome o (λ k. at + 1 < 2 ^ 64) → o ≡ Some n → at + 1 < 2 ^ 64
-room_of None n at h is = absurd cc
-room_of (Some m) n at h is = h
-
--- the number at the head of a line
-pub head_number : (lines : List Numbering) (passed : List ℕ) (i at m : ℕ) (line : Numbering) → slice_get lines i ≡ Some line → slice_get passed i ≡ Some at → IsHead lines passed i m → slice_get line.numbers at ≡ Some m
-head_number lines passed i at m line at_line at_passed a =
-    let ones : a.line ≡ line = (let h = a.line_is in cc) in
-    let ats : a.at ≡ at = (let h = a.at_is in cc) in
-    rw (← ones, ← ats) a.number_is
-
-pub ahead_head : (run : List Log) (lines : List Numbering) (passed : List ℕ) (i m : ℕ) (f : Place) (y : Entry) → IsAhead run lines passed i f y m → IsHead lines passed i m
-ahead_head run lines passed i m f y a = record { line = a.line; at = a.at; line_is = a.line_is; at_is = a.at_is; number_is = a.is.number_is }
+    other : g ≡ e → ⊥
+    other same =
+        let procs : a.is.log.proc ≡ b.is.log.proc = ap (λ (p : Place). p.proc) (a.is.place_is ∙ same ∙ sym b.is.place_is) in
+        elim (less_or_not i k) [
+          | inl lt ↦ (let under = in_order run i k a.is.log b.is.log rising a.is.log_is b.is.log_is lt in omega arith)
+          | inr (inl gt) ↦ (let under = in_order run k i b.is.log a.is.log rising b.is.log_is a.is.log_is gt in omega arith)
+          | inr (inr one) ↦ differ one
+        ]
 
 -- ---- a list that was written to
 
@@ -368,28 +276,24 @@ steps lines k old now at a line at_line at_now at_number h =
 pub stays : (lines : List Numbering) (k : ℕ) (old now : List ℕ) (at a : ℕ) (line : Numbering) → slice_get lines at ≡ Some line → slice_get now at ≡ Some a → (slice_get line.numbers a ≡ Some k → ⊥) → IsStepped lines k old now at → IsStepped lines k old now (at + 1)
 stays lines k old now at a line at_line at_now never h = one_step lines k old now now at a a line at_line at_now at_now (inr (never, refl)) refl (λ i ne. refl) h
 
--- ---- the event at a head
-
-pub few_entries : (run : List Log) (k : ℕ) (log : Log) → IsRun run → slice_get run k ≡ Some log → length log.entries ≤ 1000000
-few_entries run k log is at = let good : IsLog log = subst (λ (z : Log). IsLog z) (get_or_from_slice_get run k log log at) (is.each k log (slice_get_within run k log at)) in good.entries.few
+-- ---- the entry at a head
 
 -- the index at a head
-pub head_at : (lines : List Numbering) (passed : List ℕ) (i n at : ℕ) → (h : IsHead lines passed i n) → slice_get passed i ≡ Some at → h.at ≡ at
+head_at : (lines : List Numbering) (passed : List ℕ) (i n at : ℕ) → (h : IsHead lines passed i n) → slice_get passed i ≡ Some at → h.at ≡ at
 head_at lines passed i n at h is = (let k = h.at_is in cc)
 
-pub ahead_of : (run : List Log) (lines : List Numbering) (passed : List ℕ) (i n at : ℕ) (log : Log) (x : Entry) → IsHead lines passed i n → slice_get run i ≡ Some log → slice_get passed i ≡ Some at → slice_get log.entries at ≡ Some x → IsAhead run lines passed i (place log.proc at) x n
-ahead_of run lines passed i n at log x h at_log at_passed at_entry = record {
-  log = log;
-  line = h.line;
-  at = at;
-  log_is = at_log;
-  line_is = h.line_is;
-  at_is = at_passed;
-  is = record { entry_is = at_entry; number_is = rw (head_at lines passed i n at h at_passed) at h.number_is; place_is = refl };
-}
+pub ahead_of : (run : List Log) (lines : List Numbering) (passed : List ℕ) (i n at : ℕ) (log : Log) (x : Entry) → IsHead lines passed i n → slice_get run i ≡ Some log → slice_get passed i ≡ Some at → slice_get log.entries at ≡ Some x → (e : Place) × IsAhead run lines passed i e x n
+ahead_of run lines passed i n at log x h at_log at_passed at_entry = (
+  place log.proc at,
+  record {
+    at = at;
+    at_is = at_passed;
+    is = record { log = log; line = h.line; log_is = at_log; line_is = h.line_is; entry_is = at_entry; number_is = rw (head_at lines passed i n at h at_passed) at h.number_is; place_is = refl };
+  },
+)
 
 -- the index at a head is one of its log
-pub head_within : (run : List Log) (lines : List Numbering) (passed : List ℕ) (i n at : ℕ) (log : Log) → Matches run lines → IsHead lines passed i n → slice_get run i ≡ Some log → slice_get passed i ≡ Some at → at < length log.entries
+head_within : (run : List Log) (lines : List Numbering) (passed : List ℕ) (i n at : ℕ) (log : Log) → Matches run lines → IsHead lines passed i n → slice_get run i ≡ Some log → slice_get passed i ≡ Some at → at < length log.entries
 head_within run lines passed i n at log matches h at_log at_passed =
     let both = matches_at run lines i log h.line matches at_log h.line_is in
     let here = head_at lines passed i n at h at_passed in
@@ -401,21 +305,9 @@ pub record HeadRead (run : List Log) (passed : List ℕ) (i : ℕ) (log : Log) :
   pub log_is : slice_get run i ≡ Some log
   pub at_is : slice_get passed i ≡ Some (get_or passed i 0)
   pub within : get_or passed i 0 < length log.entries
-  pub few : length log.entries ≤ 1000000
 
-pub head_read : (run : List Log) (lines : List Numbering) (passed : List ℕ) (i n : ℕ) (log : Log) → IsRun run → Matches run lines → IsHead lines passed i n → log ≡ get_or run i log → HeadRead run passed i log
-head_read run lines passed i n log is matches head read =
+pub head_read : (run : List Log) (lines : List Numbering) (passed : List ℕ) (i n : ℕ) (log : Log) → Matches run lines → IsHead lines passed i n → log ≡ get_or run i log → HeadRead run passed i log
+head_read run lines passed i n log matches head read =
     let at_log = slice_get_read run _ i log refl (let lt = slice_get_within lines i head.line head.line_is in let many = as_many run lines matches in omega arith) read in
     let at_passed = slice_get-get_or passed i 0 (slice_get_within passed i head.at head.at_is) in
-    record { log_is = at_log; at_is = at_passed; within = head_within run lines passed i n (get_or passed i 0) log matches head at_log at_passed; few = few_entries run i log is at_log }
-
--- each event has a positive number
-pub positive_number : (run : List Log) (lines : List Numbering) (e : Place) (x : Entry) (n : ℕ) → Rising run → Matches run lines → IsCertificate lines → Stands run lines e x n → 0 < n
-positive_number run lines e x n rising matches is stands =
-    let l = locate run lines e x n rising matches stands in
-    (none_passed lines (length lines) is).after l.index 0 l.at n l.line l.line_is (at_zero (length lines) l.index (slice_get_within lines l.index l.line l.line_is)) l.number_is (omega arith)
-  where
-    at_zero : (n i : ℕ) → i < n → slice_get {X = ℕ} (replicate n 0) i ≡ Some 0
-    at_zero zero i lt = absurd (omega arith)
-    at_zero (suc n) zero lt = refl
-    at_zero (suc n) (suc i) lt = at_zero n i (omega arith)
+    record { log_is = at_log; at_is = at_passed; within = head_within run lines passed i n (get_or passed i 0) log matches head at_log at_passed }

@@ -1,16 +1,16 @@
 -- The numbers of each class: the least one, and whether there is more than one (docs/SPECIFICATIONS.md, "The checker").
-use Rattle.std.specs.Prelude.{◌≡◌, ◌≢◌, ◌⊎◌, ℕ, ◌<◌, ◌≤◌, List, slice_get, Option, Some, None, true, false}
+use Rattle.std.specs.Prelude.{◌≡◌, ◌≢◌, ◌⊎◌, ℕ, ◌<◌, ◌≤◌, List, Option, Some, None, IfSome, true, false}
 use Rattle.std.specs.BTreeMap as tree
 use Rattle.totem_ids.specs.declared.place.Place.{Place}
 use Rattle.totem_evs.specs.declared.entry.Entry.{Entry}
+use Rattle.totem_evs.specs.declared.entry.Entry.TheVariants.{Conf, Send, Deliver, Fail}
 use Rattle.totem_evs.specs.declared.log.Log.{Log}
 use Rattle.totem_evs.specs.Certificates.{Numbering}
 use Rattle.totem_certificate_check.specs.declared.class.Class.{Class}
+use Rattle.totem_certificate_check.specs.declared.class.Class.TheVariants.{Delivery}
 use Rattle.totem_certificate_check.specs.declared.spread.Spread.{Spread}
 use Rattle.totem_certificate_check.specs.ClassOf.{class_of, class_order}
-use Rattle.totem_certificate_check.specs.Numbered.{Stands}
-use Rattle.totem_certificate_check.specs.Each.{SomeEvent}
-use Rattle.totem_certificate_check.specs.Walks.{IsEntryOf}
+use Rattle.totem_certificate_check.specs.Each.{EachEvent, SomeEvent, EachPast}
 use Rattle.totem_certificate_check.specs.Certifying.{TwinsAreApart}
 
 -- the least number of a class, if it has any
@@ -48,17 +48,9 @@ pub record IsKnown (spread : Spread) (c : Class) (n : ℕ) : Type 0 where
   pub at_most : least ≤ n
   pub one : spread.is_apart ≡ false → least ≡ n
 
--- the event at an index of the log at i
-pub record IsIn (run : List Log) (lines : List Numbering) (i at : ℕ) (e : Place) (x : Entry) (n : ℕ) : Type 0 where
-  pub log : Log
-  pub line : Numbering
-  pub log_is : slice_get run i ≡ Some log
-  pub line_is : slice_get lines i ≡ Some line
-  pub is : IsEntryOf log line at e x n
-
--- an entry of a log at an index below k, or one of the first j of the log at k
-abbrev pub IsPast : ℕ → ℕ → ℕ → ℕ → Type 0
-IsPast k j i at = (i < k) ⊎ ((i ≡ k) × (at < j))
+-- an event is known, if it is of a class
+abbrev pub IsNoted : Spread → Place → Entry → ℕ → Type 0
+IsNoted spread e x n = (c : Class) → class_of x ≡ Some c → IsKnown spread c n
 
 -- what is known is true
 pub record IsTrueOf (run : List Log) (lines : List Numbering) (spread : Spread) : Type 0 where
@@ -68,9 +60,22 @@ pub record IsTrueOf (run : List Log) (lines : List Numbering) (spread : Spread) 
 -- all events of the logs at indices below k are known, and the first j of the log at k
 pub record KnowsTo (run : List Log) (lines : List Numbering) (spread : Spread) (k j : ℕ) : Type 0 where
   pub true_of : IsTrueOf run lines spread
-  pub known : (i at n : ℕ) (c : Class) (e : Place) (x : Entry) → IsPast k j i at → IsIn run lines i at e x n → class_of x ≡ Some c → IsKnown spread c n
+  pub known : EachPast (IsNoted spread) run lines k j
 
 -- all events are known
 pub record Knows (run : List Log) (lines : List Numbering) (spread : Spread) : Type 0 where
   pub true_of : IsTrueOf run lines spread
-  pub known : (c : Class) (e : Place) (x : Entry) (n : ℕ) → Stands run lines e x n → class_of x ≡ Some c → IsKnown spread c n
+  pub known : EachEvent (IsNoted spread) run lines
+
+-- ---- sends
+
+-- the entry is no send, or its number is below the least one of the deliveries of its message
+abbrev pub IsEarly : Spread → Entry → ℕ → Type 0
+IsEarly spread (Conf x members) n = Unit {0}
+IsEarly spread (Send m x service) n = IfSome (least_of spread (Delivery m)) (λ least. n < least)
+IsEarly spread (Deliver m x) n = Unit {0}
+IsEarly spread (Fail x) n = Unit {0}
+
+-- this holds for all events of the logs at indices below k, and for the first j of the log at k
+abbrev pub AreEarlyTo : List Log → List Numbering → Spread → ℕ → ℕ → Type 0
+AreEarlyTo run lines spread k j = EachPast (λ e x n. IsEarly spread x n) run lines k j

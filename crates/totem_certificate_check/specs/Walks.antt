@@ -13,28 +13,17 @@ use Rattle.totem_certificate_check.specs.declared.class.Class.TheVariants.{Chang
 use Rattle.totem_certificate_check.specs.declared.certificate_fault.CertificateFault.{CertificateFault}
 use Rattle.totem_certificate_check.specs.declared.certificate_fault.CertificateFault.TheVariants as faults
 use Rattle.totem_certificate_check.specs.ClassOf.{class_of, has}
-use Rattle.totem_certificate_check.specs.Numbered.{Stands, place}
-use Rattle.totem_certificate_check.specs.Each.{SomeEvent}
-use Rattle.totem_certificate_check.specs.Kinds.{NumberIsOwn}
+use Rattle.totem_certificate_check.specs.Numbered.{Stands}
+use Rattle.totem_certificate_check.specs.Each.{SomeEvent, IsIn}
 use Rattle.totem_certificate_check.specs.Certifying.{SendsAreBelow, SendIsLate, ClassesAreOne, TwinsAreApart, OthersAreApart, OthersShare}
 
 -- ---- where the walk is
 
--- this event is at this index of a log and its line
-pub record IsEntryOf (log : Log) (line : Numbering) (at : ℕ) (e : Place) (x : Entry) (n : ℕ) : Type 0 where
-  pub entry_is : slice_get log.entries at ≡ Some x
-  pub number_is : slice_get line.numbers at ≡ Some n
-  pub place_is : place log.proc at ≡ e
-
 -- `passed` says how many entries of each log have been passed; this event is the next one of the log at i
 pub record IsAhead (run : List Log) (lines : List Numbering) (passed : List ℕ) (i : ℕ) (e : Place) (x : Entry) (n : ℕ) : Type 0 where
-  pub log : Log
-  pub line : Numbering
   pub at : ℕ
-  pub log_is : slice_get run i ≡ Some log
-  pub line_is : slice_get lines i ≡ Some line
   pub at_is : slice_get passed i ≡ Some at
-  pub is : IsEntryOf log line at e x n
+  pub is : IsIn run lines i at e x n
 
 -- in each line, the numbers that were passed, as many as `passed` says, are at most `last`, and the others are above it
 pub record IsPassed (lines : List Numbering) (passed : List ℕ) (last : ℕ) : Type 0 where
@@ -80,11 +69,11 @@ pub record IsStepped (lines : List Numbering) (k : ℕ) (old new : List ℕ) (en
   pub made : (i a b : ℕ) (line : Numbering) → i < end → slice_get lines i ≡ Some line → slice_get old i ≡ Some a → slice_get new i ≡ Some b → IsStepOf line k a b
   pub left : (i a : ℕ) → end ≤ i → slice_get old i ≡ Some a → slice_get new i ≡ Some a
 
--- in the logs at indices below `end`, a next event shares e's number only if the two are one event
-pub record AreOneBefore (run : List Log) (lines : List Numbering) (passed : List ℕ) (end : ℕ) (e : Place) (x : Entry) (n : ℕ) : Type 0 where
-  pub each : (i : ℕ) → i < end → (m : ℕ) (f : Place) (y : Entry) → IsAhead run lines passed i f y m → NumberIsOwn f y m e x n
+-- in the logs at indices below `end`, a next entry has the number n only if it is that of the log at k, or of one class with x
+pub record AreOneBefore (run : List Log) (lines : List Numbering) (passed : List ℕ) (end k : ℕ) (x : Entry) (n : ℕ) : Type 0 where
+  pub each : (i : ℕ) → i < end → (f : Place) (y : Entry) → IsAhead run lines passed i f y n → (i ≡ k) ⊎ AreOfOneClass y x
 
-abbrev pub AreOne : List Log → List Numbering → List ℕ → Place → Entry → ℕ → Type 0
+abbrev pub AreOne : List Log → List Numbering → List ℕ → ℕ → Entry → ℕ → Type 0
 AreOne run lines passed = AreOneBefore run lines passed (length lines)
 
 -- ---- what is kept about the classes that were passed

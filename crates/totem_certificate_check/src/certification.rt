@@ -8,9 +8,8 @@ ghost use Rattle.totem_certificate_check.specs.Walks.{IsUnclean, NamesFault};
 
 use crate::certificate_fault::CertificateFault;
 use crate::counts::matches_logs;
-use crate::each::every;
 use crate::rising::all_rise;
-use crate::sends::Sends;
+use crate::sends::sends_are_below;
 use crate::spread::Spread;
 use crate::walk::is_ordered;
 use std::alloc::{AllocError, Global};
@@ -25,12 +24,7 @@ fn first_fault(spread: &Spread, logs: &[Log], lines: &[Line]) -> CertificateFaul
     requires unclean { IsUnclean logs.now lines.now }
     ensures { NamesFault logs.now lines.now result }
 {
-    let sends = Sends {
-        spread,
-        logs,
-        lines,
-    };
-    if !every(&sends, logs, lines) {
+    if !sends_are_below(spread, logs, lines) {
         CertificateFault::SendNotBefore
     } else if spread.is_apart {
         CertificateFault::TwinsDiffer

@@ -6,15 +6,13 @@
 //!   (`Answers`, specs/Certifying);
 //! - it is refused memory only if the lines match the logs and are ascending.
 //!
-//! `rises`, `Head` and `least_head` (specs/Rising, specs/Walks) are the steps of that walk; totem_judge goes along a certificate
-//! with them. This crate uses no table, pass or search of the audit.
+//! `rises` (specs/Rising) tests a list of numbers; totem_judge uses it, too. This crate uses no table, pass or search of the audit.
 #![tactic(auto)]
 
 mod certificate_fault;
 mod certification;
 mod class;
 mod counts;
-mod each;
 mod rising;
 mod sends;
 mod spread;
@@ -23,4 +21,3 @@ mod walk;
 pub use certificate_fault::CertificateFault;
 pub use certification::certified;
 pub use rising::rises;
-pub use walk::{Head, least_head};

@@ -1,27 +1,26 @@
 //! A walk over a run in the order of its numbers, from class to class. It ends early if the numbers do not order the run.
-ghost use Rattle.std.specs.Prelude.{◌≡◌, ◌+◌, ◌^◌, ◌<◌, ◌≤◌, MatchBool, IfSome, IfOk, OnOk, length, slice_get};
+ghost use Rattle.std.specs.Prelude.{◌≡◌, ◌↔◌, ◌+◌, ◌^◌, ◌<◌, Some, IsTrue, MatchBool, IfSome, IfOk, OnOk, length, slice_get};
+ghost use Rattle.std.specs.Bool.{OnTrue};
+ghost use Rattle.totem_ids.specs.declared.place.Place.{Place};
 ghost use Rattle.totem_evs.specs.Certificates.{Matches};
 ghost use Rattle.totem_evs.specs.Runs.{IsRun};
 ghost use Rattle.totem_certificate.specs.Keeping.{IsCertificate};
 ghost use Rattle.totem_certificate_check.specs.Each.{SomePair};
-ghost use Rattle.totem_certificate_check.specs.Kinds.{NumberIsOwn, NumberIsShared};
-ghost use Rattle.totem_certificate_check.specs.Numbered.{Stands};
+ghost use Rattle.totem_certificate_check.specs.Kinds.{NumberIsShared};
 ghost use Rattle.totem_certificate_check.specs.Rising.{LinesRise};
 ghost use Rattle.totem_certificate_check.specs.Walks.{IsHead, IsAhead, IsLesser, IsLeastTo, IsStepped, AreOne, IsPassed, AreClasses, IsNew, IsOld, Adds, IsCleanTo, IsClean, IsUnclean};
 
 use crate::class::Class;
-use crate::each::Numbered;
 use std::alloc::{AllocError, Global};
 use std::collections::BTreeSet;
 use totem_certificate::Line;
 use totem_evs::{Entry, Log};
-use totem_ids::Place;
 
 /// The next number of a log, at this index of the logs.
 #[derive(Clone, Copy)]
-pub struct Head {
-    pub log: usize,
-    pub number: u32,
+struct Head {
+    log: usize,
+    number: u32,
 }
 
 fn number_at(line: &Line, at: usize) -> Option<u32>
@@ -29,6 +28,14 @@ fn number_at(line: &Line, at: usize) -> Option<u32>
     ensures room { IfSome result (λ _. at + 1 < 2 ^ 64) }
 {
     line.numbers.as_slice().get(at).copied()
+}
+
+/// Returns whether the line has this number at the index.
+fn is_number_at(line: &Line, at: usize, number: u32) -> bool
+    ensures number { IsTrue result ↔ (slice_get line.now.numbers at ≡ Some number) }
+    ensures room { OnTrue result (at + 1 < 2 ^ 64) }
+{
+    matches!(number_at(line, at), Some(other) if other == number)
 }
 
 /// Returns the head with the lesser number, or the first one if they share it.
@@ -43,7 +50,7 @@ fn lesser(first: Option<Head>, second: Head) -> Head
 
 /// Returns the first of the heads with the least number, or `None` if all entries have been passed. `passed` has the number of
 /// entries passed in each log.
-pub fn least_head(lines: &[Line], passed: &[usize]) -> Option<Head>
+fn least_head(lines: &[Line], passed: &[usize]) -> Option<Head>
     requires { length passed.now ≡ length lines.now }
     ensures { IsLeastTo lines.now passed.now (length lines.now) result }
 {
@@ -56,52 +63,32 @@ pub fn least_head(lines: &[Line], passed: &[usize]) -> Option<Head>
     least
 }
 
-/// Returns the event at this head.
-fn event_at<'a>(logs: &'a [Log], lines: &[Line], passed: &[usize], head: Head) -> Numbered<'a>
+/// Returns the entry at this head.
+fn entry_at<'a>(logs: &'a [Log], lines: &[Line], passed: &[usize], head: Head) -> &'a Entry
     requires matches { Matches logs.now lines.now }
-    requires run { IsRun logs.now }
     requires head { IsHead lines.now passed.now head.log head.number }
-    ensures ahead { IsAhead logs.now lines.now passed.now head.log result.place result.entry.now head.number }
-    ensures number { result.number ≡ head.number }
+    ensures { (place : Place) × IsAhead logs.now lines.now passed.now head.log place result.now head.number }
 {
     let log = &logs[head.log];
     let at = passed[head.log];
     let entries = log.entries.as_slice();
-    let place = Place {
-        proc: log.proc,
-        at: (at + 1) as u32,
-    };
-    Numbered {
-        place,
-        entry: &entries[at],
-        number: head.number,
-    }
+    &entries[at]
 }
 
-/// Returns whether two events with one number are one event: they are at one place, or of one class.
-fn is_one_with(event: &Numbered, other: &Numbered) -> bool
-    requires { event.now.number ≡ other.now.number }
-    ensures { MatchBool result
-        (NumberIsOwn event.now.place event.now.entry.now event.now.number other.now.place other.now.entry.now other.now.number)
-        (NumberIsShared event.now.place event.now.entry.now event.now.number other.now.place other.now.entry.now other.now.number) }
-{
-    event.place == other.place || event.entry.is_of_class_of(other.entry)
-}
-
-/// Returns whether the next events that have the number of this one are one event with it.
-fn are_one(logs: &[Log], lines: &[Line], passed: &[usize], first: &Numbered) -> bool
+/// Returns whether the next entries that have the number of this head are its own, `first`, or of one class with it.
+fn are_one(logs: &[Log], lines: &[Line], passed: &[usize], head: Head, first: &Entry) -> bool
     requires matches { Matches logs.now lines.now }
     requires run { IsRun logs.now }
     requires as_many { length passed.now ≡ length lines.now }
-    requires first { Stands logs.now lines.now first.now.place first.now.entry.now first.now.number }
-    ensures { MatchBool result (AreOne logs.now lines.now passed.now first.now.place first.now.entry.now first.now.number)
+    requires first { (place : Place) × IsAhead logs.now lines.now passed.now head.log place first.now head.number }
+    ensures { MatchBool result (AreOne logs.now lines.now passed.now head.log first.now head.number)
         (SomePair NumberIsShared logs.now lines.now) }
 {
     for log in 0..lines.len() {
-        let number = first.number;
-        if number_at(&lines[log], passed[log]) == Some(number) {
-            let event = event_at(logs, lines, passed, Head { log, number });
-            if !is_one_with(&event, first) {
+        let number = head.number;
+        if log != head.log && is_number_at(&lines[log], passed[log], number) {
+            let entry = entry_at(logs, lines, passed, Head { log, number });
+            if !entry.is_of_class_of(first) {
                 return false;
             }
         }
@@ -115,7 +102,7 @@ fn pass(lines: &[Line], passed: &mut [usize], number: u32)
     ensures { IsStepped lines.now number passed.old passed.new (length lines.now) }
 {
     for log in 0..lines.len() {
-        if number_at(&lines[log], passed[log]) == Some(number) {
+        if is_number_at(&lines[log], passed[log], number) {
             passed[log] += 1;
         }
     }
@@ -154,8 +141,8 @@ fn walk(
     let mut last = 0;
     while let Some(head) = least_head(lines, passed) {
         prove!(last < head.number);
-        let first = event_at(logs, lines, passed, head);
-        if !note(classes, first.entry)? || !are_one(logs, lines, passed, &first) {
+        let first = entry_at(logs, lines, passed, head);
+        if !note(classes, first)? || !are_one(logs, lines, passed, head, first) {
             return Ok(false);
         }
         pass(lines, passed, head.number);

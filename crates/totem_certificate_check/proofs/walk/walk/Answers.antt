@@ -5,22 +5,18 @@ use Rattle.totem_certificate_check.proofs.Passing.{is_next, too_late, clean_more
 use Rattle.totem_certificate_check.proofs.walk.walk.Goals as goal
 use Rattle.totem_certificate_check.proofs.walk.walk.Goals.{then-not-branch-via-then-not-branch, then-not-branch-via-else-not-branch+then-not-are_one}
 
-pub are_one-requires-clause-first : goal.are_one-requires-clause-first
-are_one-requires-clause-first c = rw c.event_at-first.ensures.number (ahead_stands _ _ _ _ _ _ _ c.requires.run.rising c.requires.matches c.event_at-first.ensures.ahead)
-
 pub returns-then-not-branch : goal.returns-then-not-branch
 returns-then-not-branch c = elim c.then-not-branch.branch [
   | then-not-branch-via-then-not-branch w ↦
-      too_late _ _ _ _ _ _ _ (ahead_stands _ _ _ _ _ _ _ c.requires.run.rising c.requires.matches c.event_at-first.ensures.ahead) (head_is_above _ _ _ c.requires.rise c.loop-head.invariant.passed _ c.in-Some.ensures) c.loop-head.invariant.classes
+      too_late _ _ _ _ _ _ _ (ahead_stands _ _ _ _ _ _ _ c.requires.run.rising c.requires.matches c.entry_at-first.ensures.1) (head_is_above _ _ _ c.requires.rise c.loop-head.invariant.passed _ c.in-Some.ensures) c.loop-head.invariant.classes
       (rw w.if-not-branch.true at c.in_ok-note.ensures.new)
   | then-not-branch-via-else-not-branch+then-not-are_one w ↦ inr (inr (others_share _ _ w.if-not-are_one.ensures))
 ]
 
 pub loop-head-preserved : goal.loop-head-preserved
 loop-head-preserved c =
-    let stands = ahead_stands _ _ _ _ _ _ _ c.requires.run.rising c.requires.matches c.event_at-first.ensures.ahead in
     let new = rw c.if-not-branch.false at c.in_ok-note.ensures.new in
-    let next = is_next _ _ _ _ _ _ _ c.requires.run.rising c.requires.matches c.requires.rise c.loop-head.invariant.as_many c.loop-head.invariant.passed c.in-Some.ensures stands (rw c.event_at-first.ensures.number at c.if-not-are_one.ensures) in
+    let next = is_next _ _ _ _ _ _ _ c.requires.run.rising c.requires.matches c.requires.rise c.loop-head.invariant.as_many c.loop-head.invariant.passed c.in-Some.ensures c.entry_at-first.ensures.1 c.if-not-are_one.ensures in
     record {
       as_many = omega arith;
       passed = step_passed _ _ _ c.requires.rise c.loop-head.invariant.passed _ c.in-Some.ensures _ c.pass.ensures;

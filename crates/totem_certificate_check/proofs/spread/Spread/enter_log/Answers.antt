@@ -1,9 +1,11 @@
-use Rattle.std.proofs.Common.{ℕ, List, slice_get, refl, sym, ◌∙◌, ap, length, arith}
-use Rattle.std.proofs.lemmas.Option.{slice_get_read, slice_get-get_or}
+use Rattle.std.proofs.Common.{refl, sym, ◌∙◌, ap, length, arith}
+use Rattle.std.proofs.lemmas.Option.{slice_get_read}
 use Rattle.totem_evs.specs.LogRecord.{LogRecord}
 use Rattle.totem_evs.specs.Certificates.{Numbering}
-use Rattle.totem_certificate_check.proofs.Matching.{as_many, matches_at}
-use Rattle.totem_certificate_check.proofs.Spreading.{is_in, in_stands, one_more, none_more, log_known}
+use Rattle.totem_certificate_check.proofs.Matching.{as_many}
+use Rattle.totem_certificate_check.proofs.Standing.{in_stands}
+use Rattle.totem_certificate_check.proofs.Entering.{number_within, read_in}
+use Rattle.totem_certificate_check.proofs.Spreading.{one_more, none_more, log_known}
 use Rattle.totem_certificate_check.proofs.spread.Spread.enter_log.Goals as goal
 use Rattle.totem_certificate_check.proofs.spread.Spread.enter_log.Goals.{in-Some+in_ok-enter, in_default}
 
@@ -13,8 +15,7 @@ bounds-numbers-at c =
     let at_line = slice_get_read c.args.lines.now _ c.args.index c.index-lines-index.result refl (omega (arith, as_many _ _ c.requires.matches, c.requires.within)) c.index-lines-index.is in
     let entries = c.as_slice-entries.ensures.value ∙ ap (λ (l : LogRecord). l.entries) c.log.view_is in
     let numbers = c.as_slice-numbers.ensures.value ∙ ap (λ (l : Numbering). l.numbers) c.line.view_is in
-    let same = ap length entries ∙ (matches_at _ _ _ _ _ c.requires.matches at_log at_line).1 ∙ ap length (sym numbers) in
-    omega (arith, same, c.loop-at-test.true)
+    number_within _ _ _ _ _ _ _ _ c.requires.matches at_log at_line entries numbers c.loop-at-test.true
 
 pub loop-at-preserved : goal.loop-at-preserved
 loop-at-preserved c =
@@ -22,14 +23,11 @@ loop-at-preserved c =
     let at_line = slice_get_read c.args.lines.now _ c.args.index c.index-lines-index.result refl (omega (arith, as_many _ _ c.requires.matches, c.requires.within)) c.index-lines-index.is in
     let entries = c.as_slice-entries.ensures.value ∙ ap (λ (l : LogRecord). l.entries) c.log.view_is in
     let numbers = c.as_slice-numbers.ensures.value ∙ ap (λ (l : Numbering). l.numbers) c.line.view_is in
-    let same = ap length entries ∙ (matches_at _ _ _ _ _ c.requires.matches at_log at_line).1 ∙ ap length (sym numbers) in
-    let at_entry = slice_get_read c.as_slice-entries.result.now _ c.loop-at.at c.index-entries-at.result refl c.loop-at-test.true c.index-entries-at.is in
-    let at_number = slice_get-get_or c.as_slice-numbers.result.now c.loop-at.at 0 (omega (arith, same, c.loop-at-test.true)) in
+    let inside = read_in _ _ _ _ _ _ _ _ _ c.requires.matches at_log at_line entries numbers c.loop-at-test.true c.index-entries-at.is in
     elim c.match-of.branch [
       | in-Some+in_ok-enter w ↦
-          let inside = is_in _ _ _ _ _ _ _ _ at_log at_line (rw entries at at_entry) (ap (λ (ns : List ℕ). slice_get ns c.loop-at.at) (sym numbers) ∙ at_number) in
           rw w.self-is (one_more _ _ _ _ _ _ _ _ _ _ inside (sym c.of.ensures ∙ w.in-Some.is) (in_stands _ _ _ _ _ _ _ c.requires.run.rising c.requires.matches inside) w.in_ok-enter.ensures c.loop-at.invariant)
-      | in_default w ↦ rw w.self-is (none_more _ _ _ _ _ _ _ at_log (rw entries at at_entry) (sym c.of.ensures ∙ w.in_default.is) c.loop-at.invariant)
+      | in_default w ↦ rw w.self-is (none_more _ _ _ _ _ _ _ _ inside (sym c.of.ensures ∙ w.in_default.is) c.loop-at.invariant)
     ]
 
 pub returns : goal.returns
