@@ -1,64 +1,59 @@
 -- Facts that hold or do not.
-use Rattle.std.proofs.Common.{◌≡◌, ℕ, zero, suc, ◌+◌, ◌<◌, ◌≤◌, ◌⊎◌, inl, inr, List, [], ◌∷◌, length, get_or, take, false, IsTrue, ◌↔◌, refl, ap, arith}
+use Rattle.std.proofs.Common.{◌≡◌, ℕ, suc, ◌+◌, ◌<◌, ◌≤◌, ◌⊎◌, inl, inr, List, [], ◌∷◌, length, get_or, take, false, IsTrue, ◌↔◌, refl, ap, arith}
 use Rattle.std.specs.Prelude.{All, Contains}
 use Rattle.std.proofs.lemmas.Bool.{cases_eq}
 use Rattle.std.proofs.lemmas.List.Elements.{All-nil, All-cons, All-head, All-tail, All-push}
 use Rattle.std.proofs.lemmas.List.{take_more, take_all}
+use Rattle.std.proofs.lemmas.Map.Made.{Contains-tail}
 use Rattle.std.proofs.lemmas.Option.{get_or_from_slice_get, slice_get-get_or}
 use Rattle.totem_ids.specs.declared.ring.RingId.{RingId}
 use Rattle.totem_ids.specs.declared.conf.ConfId.{ConfId}
 use Rattle.totem_ids.specs.declared.conf.ConfId.TheVariants.{Regular, Transitional}
 use Rattle.totem_evs.specs.Events.{IsRegular, IsTransitional}
+use Rattle.totem_evs.proofs.LogOf.{less_or_not}
+
+-- both facts hold, or not both
+pub both_or_not : {P Q : Type 0} → P ⊎ (P → ⊥) → Q ⊎ (Q → ⊥) → (P × Q) ⊎ (P × Q → ⊥)
+both_or_not (inl p) (inl q) = inl (p, q)
+both_or_not (inl p) (inr never) = inr (λ h. never h.1)
+both_or_not (inr never) other = inr (λ h. never h.0)
+
+-- a fact that holds exactly where another does
+pub same_or_not : {P Q : Type 0} → P ⊎ (P → ⊥) → (P → Q) → (Q → P) → Q ⊎ (Q → ⊥)
+same_or_not (inl p) to from = inl (to p)
+same_or_not (inr never) to from = inr (λ q. never (from q))
+
+pub below_or_not : (a b : ℕ) → (a < b) ⊎ (a < b → ⊥)
+below_or_not a b = elim (less_or_not a b) [
+  | inl lt ↦ inl lt
+  | inr (inl gt) ↦ inr (λ lt. omega arith)
+  | inr (inr same) ↦ inr (λ lt. omega arith)
+]
 
 pub contains_or_not : (xs : List ℕ) (p : ℕ) → Contains xs p ⊎ (Contains xs p → ⊥)
 contains_or_not [] p = inr (λ (k, lt, h). omega arith)
 contains_or_not (x ∷ xs) p = elim (cases_eq x p) [
   | inl same ↦ inl (0, omega arith, same)
-  | inr never ↦ elim (contains_or_not xs p) [
-    | inl (k, lt, h) ↦ inl (suc k, omega arith, h)
-    | inr none ↦ inr (λ found. beyond found.0 found.1 found.2 never none)
-  ]
+  | inr never ↦ same_or_not (contains_or_not xs p) (λ (k, lt, h). (suc k, omega arith, h)) (Contains-tail x xs p never)
 ]
-  where
-    beyond : (k : ℕ) → k < length (x ∷ xs) → get_or (x ∷ xs) k p ≡ p → (x ≡ p → ⊥) → (Contains xs p → ⊥) → ⊥
-    beyond zero lt h never none = never h
-    beyond (suc k) lt h never none = none (k, omega arith, h)
 
 pub all_or_not : (ms ns : List ℕ) → All (Contains ms) ns ⊎ (All (Contains ms) ns → ⊥)
 all_or_not ms [] = inl (All-nil (Contains ms))
-all_or_not ms (n ∷ ns) = elim (contains_or_not ms n) [
-  | inr never ↦ inr (λ h. never (All-head (Contains ms) n ns h))
-  | inl here ↦ elim (all_or_not ms ns) [
-    | inl rest ↦ inl (All-cons (Contains ms) n ns here rest)
-    | inr never ↦ inr (λ h. never (All-tail (Contains ms) n ns h))
-  ]
-]
+all_or_not ms (n ∷ ns) = same_or_not (both_or_not (contains_or_not ms n) (all_or_not ms ns)) (λ h. All-cons (Contains ms) n ns h.0 h.1) (λ h. (All-head (Contains ms) n ns h, All-tail (Contains ms) n ns h))
 
 pub same_list_or_not : (xs ys : List ℕ) → (xs ≡ ys) ⊎ (xs ≡ ys → ⊥)
 same_list_or_not [] [] = inl refl
 same_list_or_not [] (y ∷ ys) = inr (λ e. cc)
 same_list_or_not (x ∷ xs) [] = inr (λ e. cc)
-same_list_or_not (x ∷ xs) (y ∷ ys) = elim (cases_eq x y) [
-  | inr never ↦ inr (λ e. never (let same : x ≡ y = cc in same))
-  | inl head ↦ elim (same_list_or_not xs ys) [
-    | inl tail ↦ inl (let h = head in let t = tail in cc)
-    | inr never ↦ inr (λ e. never (let same : xs ≡ ys = cc in same))
-  ]
-]
+same_list_or_not (x ∷ xs) (y ∷ ys) = same_or_not (both_or_not (cases_eq x y) (same_list_or_not xs ys)) (λ h. let a = h.0 in let b = h.1 in cc) (λ e. (cc, cc))
 
 same_ring : (c d : RingId) → c.seq ≡ d.seq → c.rep ≡ d.rep → c ≡ d
-same_ring c d seq rep = let P : RingId → Type 0 = λ r. c ≡ r in
+same_ring c d seq rep =
     let R : ℕ → ℕ → RingId = λ s r. record { seq = s; rep = r } in
     let same : R c.seq c.rep ≡ R d.seq d.rep = cc in same
 
 pub same_ring_or_not : (c d : RingId) → (c ≡ d) ⊎ (c ≡ d → ⊥)
-same_ring_or_not c d = elim (cases_eq c.seq d.seq) [
-  | inr never ↦ inr (λ e. never (ap (λ (r : RingId). r.seq) e))
-  | inl seq ↦ elim (cases_eq c.rep d.rep) [
-    | inl rep ↦ inl (same_ring c d seq rep)
-    | inr never ↦ inr (λ e. never (ap (λ (r : RingId). r.rep) e))
-  ]
-]
+same_ring_or_not c d = same_or_not (both_or_not (cases_eq c.seq d.seq) (cases_eq c.rep d.rep)) (λ h. same_ring c d h.0 h.1) (λ e. (ap (λ (r : RingId). r.seq) e, ap (λ (r : RingId). r.rep) e))
 
 pub regular_or_transitional : (x : ConfId) → IsRegular x ⊎ IsTransitional x
 regular_or_transitional (Regular c) = inl tt

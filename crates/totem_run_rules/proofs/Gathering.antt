@@ -40,9 +40,6 @@ module _ {X : Type 0} (proc : X → ℕ) (Below : X → X → Type 0) (by_proc :
     pub rising : AllPairs Below list
     pub exact : (x : X) → Contains list x ↔ (P x × (proc x ≡ p))
 
-  pub none_gathered : (run : List Log) → Gathered run 0 []
-  none_gathered run = record { rising = λ i j d lt within. absurd (omega arith); exact = λ x. (λ (k, lt, is). absurd (omega arith), λ h. absurd (let b = h.1.before in omega arith)) }
-
   module _ (run : List Log) (k : ℕ) (log : Log) (at_k : slice_get run k ≡ Some log) where
     in_more : (p : ℕ) → HasLogBefore run (k + 1) p → HasLogBefore run k p ⊎ (p ≡ log.proc)
     in_more p h = elim (less_or_not h.index k) [

@@ -1,12 +1,12 @@
 -- What holds of each log of a run, log after log; and that they stay in place.
-use Rattle.std.proofs.Common.{◌≡◌, ℕ, ◌+◌, ◌<◌, ◌≤◌, inl, inr, List, [], length, slice_get, Some, refl, arith}
+use Rattle.std.proofs.Common.{below_more, ◌≡◌, ℕ, ◌+◌, ◌<◌, ◌≤◌, inl, inr, List, [], length, slice_get, Some, refl, arith}
 use Rattle.std.proofs.lemmas.Option.{slice_get_within}
 use Rattle.totem_ids.specs.declared.place.Place.{Place}
 use Rattle.totem_evs.specs.declared.entry.Entry.{Entry}
 use Rattle.totem_evs.specs.declared.log.Log.{Log}
 use Rattle.totem_evs.specs.Changes.{StaysInPlace}
 use Rattle.totem_evs.specs.Events.{log_of}
-use Rattle.totem_evs.proofs.LogOf.{log_of_cases, less_or_not}
+use Rattle.totem_evs.proofs.LogOf.{log_of_cases}
 use Rattle.totem_run_rules.specs.Orderly.{AllStayInPlace}
 
 module _ (P : List Entry → Type 0) where
@@ -16,11 +16,7 @@ module _ (P : List Entry → Type 0) where
 
   pub one_more : (run : List Log) (k : ℕ) (log : Log) → slice_get run k ≡ Some log → P log.entries → EachBefore run k → EachBefore run (k + 1)
   one_more run k log at here before = record {
-    each = λ j l lt at_j. elim (less_or_not j k) [
-      | inl under ↦ before.each j l under at_j
-      | inr (inl over) ↦ absurd (omega arith)
-      | inr (inr same) ↦ let same_log : log ≡ l = (let h : slice_get run k ≡ Some l = rw same at at_j in cc) in rw same_log at here
-    ];
+    each = λ j l lt at_j. below_more (λ i. (g : Log) → slice_get run i ≡ Some g → P g.entries) k (λ i under g at_g. before.each i g under at_g) (λ g at_g. (let same : log ≡ g = cc in rw same at here)) j lt l at_j;
   }
 
   pub each_process : (run : List Log) (k : ℕ) → P [] → length run ≤ k → EachBefore run k → (p : ℕ) → P (log_of run p)

@@ -1,5 +1,5 @@
 -- A message was sent for a delivery, or it was not.
-use Rattle.std.proofs.Common.{◌≡◌, ℕ, zero, suc, ◌<◌, ◌⊎◌, inl, inr, List, [], ◌∷◌, length, slice_get, Option, Some, None, refl, ap, arith}
+use Rattle.std.proofs.Common.{below_more, ◌≡◌, ℕ, zero, suc, ◌<◌, ◌⊎◌, inl, inr, List, [], ◌∷◌, length, slice_get, Option, Some, None, refl, ap, arith}
 use Rattle.std.proofs.lemmas.Bool.{cases_eq}
 use Rattle.std.proofs.lemmas.Option.{slice_get_within}
 use Rattle.totem_ids.specs.declared.ring.RingId.{RingId}
@@ -13,18 +13,15 @@ use Rattle.totem_evs.specs.Events.{log_of, ChangesTo, IsChange, IsTransitional}
 use Rattle.totem_evs.specs.Following.{IsFirstChange, IsNextChange, Follows, Com}
 use Rattle.totem_run_rules.specs.Ends.{IsChangeTo}
 use Rattle.totem_run_rules.specs.Sent.{WasSentTo, IsSendTo}
-use Rattle.totem_evs.proofs.LogOf.{less_or_not, log_of_cases}
+use Rattle.totem_evs.proofs.LogOf.{log_of_cases}
 use Rattle.totem_evs.proofs.NextChanges.{one_next, same_first}
-use Rattle.totem_run_rules.proofs.Decisions.{same_ring_or_not}
+use Rattle.totem_run_rules.proofs.Decisions.{both_or_not, same_or_not, below_or_not, same_ring_or_not}
 
 pub same_conf_or_not : (x y : ConfId) → (x ≡ y) ⊎ (x ≡ y → ⊥)
-same_conf_or_not (Regular c) (Regular d) = elim (same_ring_or_not c d) [ inl same ↦ inl (ap Regular same) | inr other ↦ inr (λ e. other cc) ]
+same_conf_or_not (Regular c) (Regular d) = same_or_not (same_ring_or_not c d) (λ same. ap Regular same) (λ e. cc)
 same_conf_or_not (Regular c) (Transitional n l) = inr (λ e. cc)
 same_conf_or_not (Transitional n l) (Regular c) = inr (λ e. cc)
-same_conf_or_not (Transitional n l) (Transitional m k) = elim (same_ring_or_not n m) [
-  | inr other ↦ inr (λ e. other cc)
-  | inl same ↦ elim (cases_eq l k) [ inl least ↦ inl (let a = same in let b = least in cc) | inr other ↦ inr (λ e. other cc) ]
-]
+same_conf_or_not (Transitional n l) (Transitional m k) = same_or_not (both_or_not (same_ring_or_not n m) (cases_eq l k)) (λ h. let a = h.0 in let b = h.1 in cc) (λ e. (cc, cc))
 
 same_message : (m n : MsgId) → m.ring ≡ n.ring → m.number ≡ n.number → m ≡ n
 same_message m n ring number =
@@ -32,17 +29,11 @@ same_message m n ring number =
     let same : M m.ring m.number ≡ M n.ring n.number = cc in same
 
 pub same_message_or_not : (m n : MsgId) → (m ≡ n) ⊎ (m ≡ n → ⊥)
-same_message_or_not m n = elim (same_ring_or_not m.ring n.ring) [
-  | inr other ↦ inr (λ e. other (ap (λ (x : MsgId). x.ring) e))
-  | inl ring ↦ elim (cases_eq m.number n.number) [
-    | inl number ↦ inl (same_message m n ring number)
-    | inr other ↦ inr (λ e. other (ap (λ (x : MsgId). x.number) e))
-  ]
-]
+same_message_or_not m n = same_or_not (both_or_not (same_ring_or_not m.ring n.ring) (cases_eq m.number n.number)) (λ h. same_message m n h.0 h.1) (λ e. (ap (λ (x : MsgId). x.ring) e, ap (λ (x : MsgId). x.number) e))
 
 -- one of the entries before n has the fact, or none has
 pub record NoneHas (log : List Entry) (P : ℕ → Entry → Type 0) (n : ℕ) : Type 0 where
-  pub none : (i : ℕ) (e : Entry) → i < n → slice_get log i ≡ Some e → P i e → ⊥
+  pub none : (i : ℕ) → i < n → (e : Entry) → slice_get log i ≡ Some e → P i e → ⊥
 
 -- the first entry that has it
 pub record FirstWith (log : List Entry) (P : ℕ → Entry → Type 0) : Type 0 where
@@ -53,17 +44,11 @@ pub record FirstWith (log : List Entry) (P : ℕ → Entry → Type 0) : Type 0 
   pub before : NoneHas log P index
 
 first_before : (log : List Entry) (P : ℕ → Entry → Type 0) → ((i : ℕ) (e : Entry) → P i e ⊎ (P i e → ⊥)) → (n : ℕ) → FirstWith log P ⊎ NoneHas log P n
-first_before log P decide zero = inr (record { none = λ i e lt at h. omega arith })
+first_before log P decide zero = inr (record { none = λ i lt e at h. omega arith })
 first_before log P decide (suc n) = elim (first_before log P decide n) [ inl found ↦ inl found | inr none ↦ look (slice_get log n) refl none ]
   where
     more : NoneHas log P n → ((e : Entry) → slice_get log n ≡ Some e → P n e → ⊥) → NoneHas log P (suc n)
-    more none here = record {
-      none = λ i e lt at h. elim (less_or_not i n) [
-        | inl under ↦ none.none i e under at h
-        | inr (inl over) ↦ omega arith
-        | inr (inr same) ↦ here e (rw same at at) (rw same at h)
-      ];
-    }
+    more none here = record { none = λ i lt. below_more (λ k. (e : Entry) → slice_get log k ≡ Some e → P k e → ⊥) n none.none here i (omega arith) }
 
     only : (e f : Entry) → slice_get log n ≡ Some e → slice_get log n ≡ Some f → (P n e → ⊥) → P n f → ⊥
     only e f at at' never h = let same : f ≡ e = cc in never (rw same at h)
@@ -78,7 +63,7 @@ first_before log P decide (suc n) = elim (first_before log P decide n) [ inl fou
 pub first_or_none : (log : List Entry) (P : ℕ → Entry → Type 0) → ((i : ℕ) (e : Entry) → P i e ⊎ (P i e → ⊥)) → FirstWith log P ⊎ ((i : ℕ) (e : Entry) → slice_get log i ≡ Some e → P i e → ⊥)
 first_or_none log P decide = elim (first_before log P decide (length log)) [
   | inl found ↦ inl found
-  | inr none ↦ inr (λ i e at h. none.none i e (slice_get_within log i e at) at h)
+  | inr none ↦ inr (λ i e at h. none.none i (slice_get_within log i e at) e at h)
 ]
 
 -- the first change to x, and the next change after an index
@@ -96,7 +81,7 @@ change_of log i x (Fail y) at h = absurd h
 
 pub first_change_or_not : (log : List Entry) (x : ConfId) → ((i : ℕ) × IsFirstChange log x i) ⊎ ((i : ℕ) → ChangesTo log i x → ⊥)
 first_change_or_not log x = elim (first_or_none log (λ i e. IsChangeTo e x) (λ i e. change_to_or_not x e)) [
-  | inl found ↦ inl (found.index, record { change = change_of log found.index x found.entry found.at found.has; none_before = λ k lt (ms, h). found.before.none k (Conf x ms) lt h refl })
+  | inl found ↦ inl (found.index, record { change = change_of log found.index x found.entry found.at found.has; none_before = λ k lt (ms, h). found.before.none k lt (Conf x ms) h refl })
   | inr none ↦ inr (λ i (ms, h). none i (Conf x ms) h refl)
 ]
 
@@ -118,20 +103,14 @@ any_change_of log i (Send m y s) at h = absurd h
 any_change_of log i (Deliver m y) at h = absurd h
 any_change_of log i (Fail y) at h = absurd h
 
-later_change_or_not : (i j : ℕ) (e : Entry) → ((i < j) × IsAnyChange e) ⊎ ((i < j) × IsAnyChange e → ⊥)
-later_change_or_not i j e = elim (less_or_not i j) [
-  | inl lt ↦ elim (any_change_or_not e) [ inl change ↦ inl (lt, change) | inr never ↦ inr (λ h. never h.1) ]
-  | inr rest ↦ inr (λ h. let lt = h.0 in elim rest [ inl gt ↦ omega arith | inr same ↦ omega arith ])
-]
-
 pub next_change_or_not : (log : List Entry) (i : ℕ) → ((j : ℕ) × IsNextChange log i j) ⊎ ((j : ℕ) → IsNextChange log i j → ⊥)
-next_change_or_not log i = elim (first_or_none log (λ j e. (i < j) × IsAnyChange e) (λ j e. later_change_or_not i j e)) [
+next_change_or_not log i = elim (first_or_none log (λ j e. (i < j) × IsAnyChange e) (λ j e. both_or_not (below_or_not i j) (any_change_or_not e))) [
   | inl found ↦ inl (
     found.index,
     record {
       change = any_change_of log found.index found.entry found.at found.has.1;
       later = found.has.0;
-      none_between = λ k lt below (x, (ms, h)). found.before.none k (Conf x ms) below h (lt, tt);
+      none_between = λ k lt below (x, (ms, h)). found.before.none k below (Conf x ms) h (lt, tt);
     },
   )
   | inr none ↦ inr (λ j next. let c = next.change in none j (Conf c.0 c.1.0) c.1.1 (next.later, tt))
@@ -175,10 +154,7 @@ in_or_not log c d = elim (same_conf_or_not d (Regular c)) [
 
 send_or_not : (log : List Entry) (m : MsgId) (d : ConfId) (q j : ℕ) (e : Entry) → IsSendTo log m d q j e ⊎ (IsSendTo log m d q j e → ⊥)
 send_or_not log m d q j (Conf x ms) = inr (λ h. h)
-send_or_not log m d q j (Send n (Regular c) s) = elim (same_message_or_not n m) [
-  | inr other ↦ inr (λ h. other h.0)
-  | inl same ↦ elim (in_or_not log c d) [ inl inside ↦ inl (same, inside) | inr never ↦ inr (λ h. never h.1) ]
-]
+send_or_not log m d q j (Send n (Regular c) s) = both_or_not (same_message_or_not n m) (in_or_not log c d)
 send_or_not log m d q j (Send n (Transitional x l) s) = inr (λ h. h)
 send_or_not log m d q j (Deliver n x) = inr (λ h. h)
 send_or_not log m d q j (Fail x) = inr (λ h. h)

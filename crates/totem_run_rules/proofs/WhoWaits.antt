@@ -1,5 +1,5 @@
 -- Which processes wait, log by log.
-use Rattle.std.proofs.Common.{◌≡◌, ◌⊎◌, ◌↔◌, ◌+◌, ◌<◌, ◌≤◌, ℕ, inl, inr, List, [], ◌∷◌, ◌++◌, length, slice_get, Some, false, IsTrue, refl, sym, arith}
+use Rattle.std.proofs.Common.{below_more, ◌≡◌, ◌⊎◌, ◌↔◌, ◌+◌, ◌<◌, ◌≤◌, ℕ, inl, inr, List, [], ◌∷◌, ◌++◌, length, slice_get, Some, false, IsTrue, refl, sym, arith}
 use Rattle.std.specs.Prelude.{AllPairs, Contains}
 use Rattle.std.proofs.lemmas.Option.{slice_get_within, slice_get_read, get_or_from_slice_get}
 use Rattle.std.proofs.lemmas.List.Quantifiers.{all_pairs_push}
@@ -44,23 +44,17 @@ contains_at ms j q at = (j, slice_get_within ms j q at, get_or_from_slice_get ms
 pub record WaitsAmong (run : List Log) (p : ℕ) (x : ConfId) (ms : List ℕ) (n : ℕ) (list : List Waiting) : Type 0 where
   pub rising : AllPairs WaitingBelow list
   pub sound : (w : Waiting) → Contains list w → (w.proc ≡ p) × (w.conf ≡ x) × (EndsIn (log_of run w.other) x → ⊥) × ((j : ℕ) × (j < n) × (slice_get ms j ≡ Some w.other))
-  pub complete : (j q : ℕ) → j < n → slice_get ms j ≡ Some q → (EndsIn (log_of run q) x → ⊥) → Contains list (record { proc = p; conf = x; other = q })
+  pub complete : (j : ℕ) → j < n → (q : ℕ) → slice_get ms j ≡ Some q → (EndsIn (log_of run q) x → ⊥) → Contains list (record { proc = p; conf = x; other = q })
 
 wider : (ms : List ℕ) (n q : ℕ) → ((j : ℕ) × (j < n) × (slice_get ms j ≡ Some q)) → (j : ℕ) × (j < n + 1) × (slice_get ms j ≡ Some q)
 wider ms n q (j, lt, at) = (j, omega arith, at)
-
-one_member : (ms : List ℕ) (j n q r : ℕ) → j ≡ n → slice_get ms j ≡ Some q → slice_get ms n ≡ Some r → q ≡ r
-one_member ms j n q r same at_j at_n = let there : slice_get ms n ≡ Some q = rw same at at_j in cc
 
 pub waits_not : (run : List Log) (p : ℕ) (x : ConfId) (ms : List ℕ) (n r : ℕ) (list : List Waiting) → slice_get ms n ≡ Some r → EndsIn (log_of run r) x → WaitsAmong run p x ms n list → WaitsAmong run p x ms (n + 1) list
 waits_not run p x ms n r list at there before = record {
   rising = before.rising;
   sound = λ w has. (let h = before.sound w has in (h.0, h.1, h.2, wider ms n w.other h.3));
-  complete = λ j q lt at_j never. elim (less_or_not j n) [
-    | inl under ↦ before.complete j q under at_j never
-    | inr (inl over) ↦ absurd (omega arith)
-    | inr (inr same) ↦ absurd (never (let one : q ≡ r = one_member ms j n q r same at_j at in rw one there))
-  ];
+  complete = below_more (λ j. (q : ℕ) → slice_get ms j ≡ Some q → (EndsIn (log_of run q) x → ⊥) → Contains list (record { proc = p; conf = x; other = q })) n before.complete
+      (λ q at_n never. absurd (never (let one : q ≡ r = cc in rw one there)));
 }
 
 pub waits_more : (run : List Log) (p : ℕ) (x : ConfId) (ms : List ℕ) (n r : ℕ) (list : List Waiting) → AllPairs (λ a b. a < b) ms → slice_get ms n ≡ Some r → (EndsIn (log_of run r) x → ⊥) → WaitsAmong run p x ms n list
@@ -71,11 +65,9 @@ waits_more run p x ms n r list rises at never before = record {
     | inl old ↦ (let h = before.sound w old in (h.0, h.1, h.2, wider ms n w.other h.3))
     | inr is ↦ rw (← is) (refl, refl, never, (n, omega arith, at))
   ];
-  complete = λ j q lt at_j absent. elim (less_or_not j n) [
-    | inl under ↦ Contains-append_left list (new ∷ []) _ (before.complete j q under at_j absent)
-    | inr (inl over) ↦ absurd (omega arith)
-    | inr (inr same) ↦ (let one : q ≡ r = one_member ms j n q r same at_j at in rw one (Contains-push list new))
-  ];
+  complete = below_more (λ j. (q : ℕ) → slice_get ms j ≡ Some q → (EndsIn (log_of run q) x → ⊥) → Contains (list ++ new ∷ []) (record { proc = p; conf = x; other = q })) n
+      (λ j lt q at_j absent. Contains-append_left list (new ∷ []) _ (before.complete j lt q at_j absent))
+      (λ q at_n absent. (let one : q ≡ r = cc in rw one (Contains-push list new)));
 }
   where
     new : Waiting
@@ -124,7 +116,7 @@ waits_all run p i x ms n list orderly end stands at h = record {
         let ends : EndsIn (log_of run p) w.conf = rw procs at is.stands in
         let confs = one_conf w.conf ends in
         let (k, lt, is_k) = member_here w.other (rw confs at is.member) in
-        let found = h.complete k w.other (omega arith) (slice_get_read ms _ k w.other refl lt (sym is_k)) (rw confs at is.other) in
+        let found = h.complete k (omega arith) w.other (slice_get_read ms _ k w.other refl lt (sym is_k)) (rw confs at is.other) in
         rw_waiting w p x procs confs found
 
 pub waits_nowhere : (run : List Log) (p : ℕ) → EndsNowhere (log_of run p) → AreWaitingAt run p []
