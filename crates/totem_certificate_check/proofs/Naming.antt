@@ -15,16 +15,6 @@ use Rattle.totem_certificate_check.specs.Walks.{class_barred_by}
 
 -- ---- names that compare as equal
 
-exact_class : CmpEqualImpliesEq class_order
-exact_class (Change x) (Change y) e = ap (λ (z : ConfId). Change z) (exact_conf x y e)
-exact_class (Change x) (Delivery m) e = absurd cc
-exact_class (Delivery m) (Change x) e = absurd cc
-exact_class (Delivery m) (Delivery n) e = ap (λ (z : MsgId). Delivery z) (exact_message m n e)
-
--- a class that is at a class is that one
-pub same_class : (c d : Class) → is_at (class_order c) d ≡ true → c ≡ d
-same_class c d at = exact_class c d (equal_at (class_order c d) at)
-
 -- ---- entries of one class
 
 -- entries of one class have one name for it
