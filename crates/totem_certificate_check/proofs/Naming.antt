@@ -1,16 +1,11 @@
 -- Classes by name: which entries are in one, and that names which compare as equal are the same.
-use Rattle.std.proofs.Common.{◌≡◌, Some, true, refl, sym, ap, ◌∙◌}
-use Rattle.std.specs.BTreeMap.{is_at}
-use Rattle.std.proofs.lemmas.Map.Lookups.{CmpEqualImpliesEq}
-use Rattle.totem_ids.specs.declared.conf.ConfId.{ConfId}
-use Rattle.totem_ids.specs.declared.message.MsgId.{MsgId}
-use Rattle.totem_ids.proofs.Exact.{exact_conf, exact_message, equal_at}
+use Rattle.std.proofs.Common.{◌≡◌, Some, refl, sym, ap, ◌∙◌}
 use Rattle.totem_evs.specs.declared.entry.Entry.{Entry}
 use Rattle.totem_evs.specs.declared.entry.Entry.TheVariants.{Conf, Deliver}
 use Rattle.totem_evs.specs.Classes.{AreOfOneClass}
 use Rattle.totem_certificate_check.specs.declared.class.Class.{Class}
 use Rattle.totem_certificate_check.specs.declared.class.Class.TheVariants.{Change, Delivery}
-use Rattle.totem_certificate_check.specs.ClassOf.{class_of, class_order}
+use Rattle.totem_certificate_check.specs.ClassOf.{class_of}
 use Rattle.totem_certificate_check.specs.Walks.{class_barred_by}
 
 -- ---- names that compare as equal

@@ -46,7 +46,7 @@ module _ (lines : List Numbering) (passed : List ℕ) (last : ℕ) (rise : Lines
 
   next_number : (i at n : ℕ) (line : Numbering) → slice_get lines i ≡ Some line → slice_get passed i ≡ Some at → slice_get line.numbers at ≡ Some n → head.number ≤ n
   next_number i at n line at_line at_passed at_number =
-      least.least i n (slice_get_within lines i line at_line) (record { line = line; at = at; line_is = at_line; at_is = at_passed; number_is = at_number })
+      least.least i (slice_get_within lines i line at_line) n (record { line = line; at = at; line_is = at_line; at_is = at_passed; number_is = at_number })
 
   later_number : (i at j n : ℕ) (line : Numbering) → slice_get lines i ≡ Some line → slice_get passed i ≡ Some at → slice_get line.numbers j ≡ Some n → at < j → head.number < n
   later_number i at j n line at_line at_passed at_number lt =
@@ -99,12 +99,12 @@ module _ (lines : List Numbering) (passed : List ℕ) (last : ℕ) (rise : Lines
         let within = slice_get_within new i b at_new in
         let many = stepped.as_many in
         let old = at_index passed i (omega arith) in
-        (step_of i old.0 b j n line at_line old.1 at_number (stepped.made i old.0 b line (slice_get_within lines i line at_line) at_line old.1 at_new)).0 lt;
+        (step_of i old.0 b j n line at_line old.1 at_number (stepped.made i (slice_get_within lines i line at_line) old.0 b line at_line old.1 at_new)).0 lt;
     after = λ i b j n line at_line at_new at_number le.
         let within = slice_get_within new i b at_new in
         let many = stepped.as_many in
         let old = at_index passed i (omega arith) in
-        (step_of i old.0 b j n line at_line old.1 at_number (stepped.made i old.0 b line (slice_get_within lines i line at_line) at_line old.1 at_new)).1 le;
+        (step_of i old.0 b j n line at_line old.1 at_number (stepped.made i (slice_get_within lines i line at_line) old.0 b line at_line old.1 at_new)).1 le;
   }
 
   -- an event up to the number of the head has been passed, or is the next one of its log and has this number
@@ -131,7 +131,7 @@ all_passed run lines passed last rising matches h many none f y n stands =
       | inr rest ↦
           let le : at.0 ≤ l.at = elim rest [ inl over ↦ omega arith | inr same ↦ omega arith ] in
           let first = at_index l.is.line.numbers at.0 (omega arith) in
-          absurd (none.never l.index first.0 within (record { line = l.is.line; at = at.0; line_is = l.is.line_is; at_is = at.1; number_is = first.1 }))
+          absurd (none.never l.index within first.0 (record { line = l.is.line; at = at.0; line_is = l.is.line_is; at_is = at.1; number_is = first.1 }))
     ]
 
 -- ---- the loop over the heads
@@ -154,44 +154,27 @@ no_head lines passed i at line at_line at_passed none m a =
     (let number : slice_get line.numbers at ≡ Some m = rw (← ones, ← ats) a.number_is in cc)
 
 pub skips_line : (lines : List Numbering) (passed : List ℕ) (k : ℕ) (least : Option Head) → ((m : ℕ) → IsHead lines passed k m → ⊥) → IsLeastTo lines passed k least → IsLeastTo lines passed (k + 1) least
-skips_line lines passed k None never h = record {
-  never = λ j m lt a. elim (less_or_not j k) [
-    | inl under ↦ h.never j m under a
-    | inr (inl over) ↦ absurd (omega arith)
-    | inr (inr same) ↦ never m (rw same at a)
-  ];
-}
-skips_line lines passed k (Some head) never h = record {
-  is = h.is;
-  least = λ j m lt a. elim (less_or_not j k) [
-    | inl under ↦ h.least j m under a
-    | inr (inl over) ↦ absurd (omega arith)
-    | inr (inr same) ↦ absurd (never m (rw same at a))
-  ];
-}
+skips_line lines passed k None never h = record { never = below_more (λ j. (m : ℕ) → IsHead lines passed j m → ⊥) k h.never never }
+skips_line lines passed k (Some head) never h = record { is = h.is; least = below_more (λ j. (m : ℕ) → IsHead lines passed j m → head.number ≤ m) k h.least (λ m a. absurd (never m a)) }
 
 -- a head that is as small as those before it and as this one
-smallest : (lines : List Numbering) (passed : List ℕ) (k n : ℕ) (head : Head) → IsHead lines passed k n → IsHead lines passed head.log head.number → head.number ≤ n → ((j m : ℕ) → j < k → IsHead lines passed j m → head.number ≤ m) → IsLeastHead lines passed (k + 1) head
+smallest : (lines : List Numbering) (passed : List ℕ) (k n : ℕ) (head : Head) → IsHead lines passed k n → IsHead lines passed head.log head.number → head.number ≤ n → ((j : ℕ) → j < k → (m : ℕ) → IsHead lines passed j m → head.number ≤ m) → IsLeastHead lines passed (k + 1) head
 smallest lines passed k n head here is le others = record {
   is = is;
-  least = λ j m lt a. elim (less_or_not j k) [
-    | inl under ↦ others j m under a
-    | inr (inl over) ↦ absurd (omega arith)
-    | inr (inr same) ↦ (let one : n ≡ m = one_head lines passed k n m here (rw same at a) in omega arith)
-  ];
+  least = below_more (λ j. (m : ℕ) → IsHead lines passed j m → head.number ≤ m) k others (λ m a. (let one : n ≡ m = one_head lines passed k n m here a in omega arith));
 }
 
 pub takes_line : (lines : List Numbering) (passed : List ℕ) (k n : ℕ) (least : Option Head) (head : Head) → IsHead lines passed k n → IsLesser least (record { log = k; number = n }) head → IsLeastTo lines passed k least → IsLeastTo lines passed (k + 1) (Some head)
 takes_line lines passed k n None head here is h =
-    subst (λ (z : Head). IsLeastHead lines passed (k + 1) z) (sym is) (smallest lines passed k n (record { log = k; number = n }) here here (omega arith) (λ j m lt a. absurd (h.never j m lt a)))
+    subst (λ (z : Head). IsLeastHead lines passed (k + 1) z) (sym is) (smallest lines passed k n (record { log = k; number = n }) here here (omega arith) (λ j lt m a. absurd (h.never j lt m a)))
 takes_line lines passed k n (Some old) head here (inl (le, is)) h =
     subst (λ (z : Head). IsLeastHead lines passed (k + 1) z) (sym is) (smallest lines passed k n old here h.is le h.least)
 takes_line lines passed k n (Some old) head here (inr (under, is)) h =
-    subst (λ (z : Head). IsLeastHead lines passed (k + 1) z) (sym is) (smallest lines passed k n (record { log = k; number = n }) here here (omega arith) (λ j m lt a. (let more = h.least j m lt a in omega arith)))
+    subst (λ (z : Head). IsLeastHead lines passed (k + 1) z) (sym is) (smallest lines passed k n (record { log = k; number = n }) here here (omega arith) (λ j lt m a. (let more = h.least j lt m a in omega arith)))
 
 pub least_of_all : (lines : List Numbering) (passed : List ℕ) (k : ℕ) (least : Option Head) → length lines ≤ k → IsLeastTo lines passed k least → IsLeastTo lines passed (length lines) least
-least_of_all lines passed k None end h = record { never = λ j m lt a. h.never j m (omega arith) a }
-least_of_all lines passed k (Some head) end h = record { is = h.is; least = λ j m lt a. h.least j m (omega arith) a }
+least_of_all lines passed k None end h = record { never = λ j lt m a. h.never j (omega arith) m a }
+least_of_all lines passed k (Some head) end h = record { is = h.is; least = λ j lt m a. h.least j (omega arith) m a }
 
 -- ---- the next events of the logs
 
@@ -214,15 +197,13 @@ pub one_step : (lines : List Numbering) (k : ℕ) (old now new : List ℕ) (at a
     → IsStepped lines k old now at → IsStepped lines k old new (at + 1)
 one_step lines k old now new at a b line at_line at_now at_new is many others h = record {
   as_many = many ∙ h.as_many;
-  made = λ i c d g lt at_g at_c at_d. elim (less_or_not i at) [
-    | inl under ↦ h.made i c d g under at_g at_c (sym (others i (λ e. omega arith)) ∙ at_d)
-    | inr (inl over) ↦ absurd (omega arith)
-    | inr (inr same) ↦
-        let first : a ≡ c = (let here = h.left i c (omega arith) at_c in let there : slice_get now i ≡ Some a = rw same at_now in cc) in
-        let second : b ≡ d = (let there : slice_get new i ≡ Some b = rw same at_new in cc) in
-        let third : line ≡ g = (let there : slice_get lines i ≡ Some line = rw same at_line in cc) in
-        rw (← first, ← second, ← third) is
-  ];
+  made = below_more (λ i. (c d : ℕ) (g : Numbering) → slice_get lines i ≡ Some g → slice_get old i ≡ Some c → slice_get new i ≡ Some d → IsStepOf g k c d) at
+      (λ i under c d g at_g at_c at_d. h.made i under c d g at_g at_c (sym (others i (λ e. omega arith)) ∙ at_d))
+      (λ c d g at_g at_c at_d.
+      let first : a ≡ c = (let here = h.left at c (omega arith) at_c in cc) in
+      let second : b ≡ d = cc in
+      let third : line ≡ g = cc in
+      rw (← first, ← second, ← third) is);
   left = λ i c le at_c. others i (λ e. omega arith) ∙ h.left i c (omega arith) at_c;
 }
 

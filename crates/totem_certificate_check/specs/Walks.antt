@@ -40,12 +40,12 @@ pub record IsHead (lines : List Numbering) (passed : List ℕ) (i n : ℕ) : Typ
 
 -- no line at an index below `end` has a number left
 pub record NoneLeftTo (lines : List Numbering) (passed : List ℕ) (end : ℕ) : Type 0 where
-  pub never : (j m : ℕ) → j < end → IsHead lines passed j m → ⊥
+  pub never : (j : ℕ) → j < end → (m : ℕ) → IsHead lines passed j m → ⊥
 
 -- this head has the least number of the heads of the lines at indices below `end`
 pub record IsLeastHead (lines : List Numbering) (passed : List ℕ) (end : ℕ) (head : Head) : Type 0 where
   pub is : IsHead lines passed head.log head.number
-  pub least : (j m : ℕ) → j < end → IsHead lines passed j m → head.number ≤ m
+  pub least : (j : ℕ) → j < end → (m : ℕ) → IsHead lines passed j m → head.number ≤ m
 
 -- the least head of the lines at indices below `end`, if one has a number left
 abbrev pub IsLeastTo : List Numbering → List ℕ → ℕ → Option Head → Type 0
@@ -66,7 +66,7 @@ IsStepOf line k old new = ((slice_get line.numbers old ≡ Some k) × (new ≡ o
 -- the step was made in the logs at indices below `end`, and not in the others
 pub record IsStepped (lines : List Numbering) (k : ℕ) (old new : List ℕ) (end : ℕ) : Type 0 where
   pub as_many : length new ≡ length old
-  pub made : (i a b : ℕ) (line : Numbering) → i < end → slice_get lines i ≡ Some line → slice_get old i ≡ Some a → slice_get new i ≡ Some b → IsStepOf line k a b
+  pub made : (i : ℕ) → i < end → (a b : ℕ) (line : Numbering) → slice_get lines i ≡ Some line → slice_get old i ≡ Some a → slice_get new i ≡ Some b → IsStepOf line k a b
   pub left : (i a : ℕ) → end ≤ i → slice_get old i ≡ Some a → slice_get new i ≡ Some a
 
 -- in the logs at indices below `end`, a next entry has the number n only if it is that of the log at k, or of one class with x

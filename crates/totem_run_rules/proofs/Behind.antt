@@ -11,7 +11,7 @@ use Rattle.totem_evs.specs.Changes.{ChangesNext}
 use Rattle.totem_evs.proofs.LogOf.{less_or_not}
 use Rattle.totem_run_rules.specs.Succession.{IsWrongSuccession}
 use Rattle.totem_run_rules.specs.FirstChanges.{NoneBefore, StandsBefore, IsLastBefore, ComesFrom}
-use Rattle.totem_run_rules.proofs.Decisions.{all_or_not, same_ring_or_not}
+use Rattle.totem_run_rules.proofs.Decisions.{neither_below, all_or_not, same_ring_or_not}
 
 -- ---- along a log
 
@@ -44,11 +44,7 @@ now_before log at e x ms here is = record { change = (x, (ms, rw is at here)); e
 
 -- the change before a change is the one that it follows
 pub one_before : (log : List Entry) (at i j : ℕ) (w x : ConfId) (ls ms : List ℕ) → StandsBefore log at i → ChangesNext log j at w x ls ms → i ≡ j
-one_before log at i j w x ls ms last next = elim (less_or_not i j) [
-  | inl under ↦ absurd (last.none_between j under next.next.later (w, (ls, next.first)))
-  | inr (inl over) ↦ absurd (next.next.none_between i over last.earlier last.change)
-  | inr (inr same) ↦ same
-]
+one_before log at i j w x ls ms last next = neither_below i j (λ under. last.none_between j under next.next.later (w, (ls, next.first))) (λ over. next.next.none_between i over last.earlier last.change)
 
 pub regular_first : (log : List Entry) (at : ℕ) (before : Option ℕ) (x : ConfId) (ms : List ℕ) (c : RingId) → IsLastBefore log at before → ComesFrom log before x ms c → NoneBefore log at → IsRegular x
 regular_first log at None x ms c last from none = (let is : x ≡ Regular c = from in rw is tt)

@@ -30,6 +30,14 @@ below_or_not a b = elim (less_or_not a b) [
   | inr (inr same) ↦ inr (λ lt. omega arith)
 ]
 
+-- two numbers of which neither is below the other
+pub neither_below : (a b : ℕ) → (a < b → ⊥) → (b < a → ⊥) → a ≡ b
+neither_below a b under over = elim (less_or_not a b) [
+  | inl lt ↦ absurd (under lt)
+  | inr (inl gt) ↦ absurd (over gt)
+  | inr (inr same) ↦ same
+]
+
 pub contains_or_not : (xs : List ℕ) (p : ℕ) → Contains xs p ⊎ (Contains xs p → ⊥)
 contains_or_not [] p = inr (λ (k, lt, h). omega arith)
 contains_or_not (x ∷ xs) p = elim (cases_eq x p) [

@@ -18,11 +18,12 @@ use Rattle.totem_evs.specs.declared.entry.Entry.{Entry}
 use Rattle.totem_evs.specs.declared.entry.Entry.TheVariants.{Send, Deliver}
 use Rattle.totem_evs.specs.declared.log.Log.{Log}
 use Rattle.totem_evs.specs.Events.{log_of}
-use Rattle.totem_evs.proofs.LogOf.{log_of_cases, less_or_not}
+use Rattle.totem_evs.proofs.LogOf.{log_of_cases}
 use Rattle.totem_run_rules.specs.declared.once.Once.{Once}
 use Rattle.totem_run_rules.specs.declared.once.Once.TheVariants as once
 use Rattle.totem_run_rules.specs.Once.{IsNoSendBetween, RisesByOrder, message_in, message_order, messages_in, sent_in}
 use Rattle.totem_run_rules.specs.Orderly.{DeliveriesAreOnce, SendsAreOnce}
+use Rattle.totem_run_rules.proofs.Decisions.{neither_below}
 
 abbrev pub AreDistinct : List MsgId → Type 0
 AreDistinct list = AllPairs (λ x y. x ≢ y) list
@@ -98,11 +99,7 @@ module _ (act : Once) (m : MsgId) where
 
   -- if m is not in the list twice, one entry sends or delivers it
   one_index : (entries : List Entry) (i j : ℕ) → (Twice (messages_in act entries) m → ⊥) → IsIn entries i → IsIn entries j → i ≡ j
-  one_index entries i j once here there = elim (less_or_not i j) [
-    | inl lt ↦ absurd (once (twice_in entries i j lt here there))
-    | inr (inl gt) ↦ absurd (once (twice_in entries j i gt there here))
-    | inr (inr same) ↦ same
-  ]
+  one_index entries i j once here there = neither_below i j (λ lt. once (twice_in entries i j lt here there)) (λ gt. once (twice_in entries j i gt there here))
 
 -- ---- the sends of all logs
 
@@ -127,11 +124,8 @@ sent_apart (l ∷ logs) (suc a) (suc b) first second m lt at_a at_b here there =
 
 module _ (run : List Log) (distinct : AreDistinct (sent_in run)) where
   one_log : (a b : ℕ) (first second : Log) (m : MsgId) → slice_get run a ≡ Some first → slice_get run b ≡ Some second → Has (messages_in once.Send first.entries) m → Has (messages_in once.Send second.entries) m → a ≡ b
-  one_log a b first second m at_a at_b here there = elim (less_or_not a b) [
-    | inl lt ↦ absurd (never_twice (sent_in run) m distinct (sent_apart run a b first second m lt at_a at_b here there))
-    | inr (inl gt) ↦ absurd (never_twice (sent_in run) m distinct (sent_apart run b a second first m gt at_b at_a there here))
-    | inr (inr same) ↦ same
-  ]
+  one_log a b first second m at_a at_b here there =
+      neither_below a b (λ lt. never_twice (sent_in run) m distinct (sent_apart run a b first second m lt at_a at_b here there)) (λ gt. never_twice (sent_in run) m distinct (sent_apart run b a second first m gt at_b at_a there here))
 
   abbrev place_of : ℕ → ℕ → MsgId → Type 0
   place_of p i m = IsIn once.Send m (log_of run p) i

@@ -1,5 +1,5 @@
 -- Whether the members of a quiet log's last configuration end there too.
-use Rattle.std.proofs.Common.{◌≡◌, ◌↔◌, ◌+◌, ◌<◌, ◌≤◌, ℕ, inl, inr, List, [], ◌∷◌, ◌++◌, length, get_or, slice_get, Some, Bool, IsTrue, refl, sym, ◌∙◌, ap, arith}
+use Rattle.std.proofs.Common.{below_more, ◌≡◌, ◌↔◌, ◌+◌, ◌<◌, ◌≤◌, ℕ, inl, inr, List, [], ◌∷◌, ◌++◌, length, get_or, slice_get, Some, Bool, IsTrue, refl, sym, ◌∙◌, ap, arith}
 use Rattle.std.proofs.lemmas.Option.{slice_get_read, slice_get_within, get_or_from_slice_get, slice_get-get_or}
 use Rattle.totem_ids.specs.declared.conf.ConfId.{ConfId}
 use Rattle.totem_ids.specs.declared.place.Place.{Place}
@@ -18,6 +18,7 @@ use Rattle.totem_run_rules.specs.declared.ends.LogEnd.{LogEnd}
 use Rattle.totem_run_rules.specs.Ends.{GoesOn, HasNoChange, StandsLast, IsLast, IsLogEnd, LogShares, IsLogOf, HasNoLog, AllShare, SomeStrays, StraysAt, EndsWithAll}
 use Rattle.totem_evs.proofs.Pushing.{Along, along_more}
 use Rattle.totem_run_rules.proofs.Placed.{same_place}
+use Rattle.totem_run_rules.proofs.Decisions.{neither_below}
 use Rattle.totem_run_rules.proofs.LogEnds.{ending_of_at}
 
 -- ---- the ends of all logs
@@ -33,19 +34,15 @@ ends_more run n log end ends at goes last before = along_more (λ (l : Log) (e :
 
 -- none of the first n logs is p's
 pub record NoLogBefore (run : List Log) (p n : ℕ) : Type 0 where
-  pub none : (j : ℕ) (log : Log) → j < n → slice_get run j ≡ Some log → log.proc ≡ p → ⊥
+  pub none : (j : ℕ) → j < n → (log : Log) → slice_get run j ≡ Some log → log.proc ≡ p → ⊥
 
 pub no_log_more : (run : List Log) (p n : ℕ) (log : Log) → slice_get run n ≡ Some log → (log.proc ≡ p → ⊥) → NoLogBefore run p n → NoLogBefore run p (n + 1)
 no_log_more run p n log at other before = record {
-  none = λ j l lt at_j same. elim (less_or_not j n) [
-    | inl under ↦ before.none j l under at_j same
-    | inr (inl over) ↦ omega arith
-    | inr (inr here) ↦ (let there : slice_get run n ≡ Some l = rw here at at_j in let one : l ≡ log = cc in other (rw one at same))
-  ];
+  none = below_more (λ j. (l : Log) → slice_get run j ≡ Some l → l.proc ≡ p → ⊥) n before.none (λ l at_n same. (let one : l ≡ log = cc in other (rw one at same)));
 }
 
 pub no_log : (run : List Log) (p n : ℕ) → length run ≤ n → NoLogBefore run p n → HasNoLog run p
-no_log run p n end before = record { none = λ (j, log, lt, at, same). before.none j log (omega arith) (rw at at (slice_get-get_or run j log lt)) same }
+no_log run p n end before = record { none = λ (j, log, lt, at, same). before.none j (omega arith) log (rw at at (slice_get-get_or run j log lt)) same }
 
 -- what is read at the index of p's log is p's log
 pub read_there : (run logs : List Log) (p k : ℕ) (log : Log) → logs ≡ run → IsLogOf run p k → log ≡ get_or logs k log → (slice_get run k ≡ Some log) × (log.proc ≡ p)
@@ -90,28 +87,20 @@ shared run k log x p b rising at proc decides = (λ t. to (decides.0 t), λ h. d
 
 -- the first n members share the end
 pub record ShareBefore (run : List Log) (x : ConfId) (ms : List ℕ) (n : ℕ) : Type 0 where
-  pub each : (j q : ℕ) → j < n → slice_get ms j ≡ Some q → SharesEnd run x q
+  pub each : (j : ℕ) → j < n → (q : ℕ) → slice_get ms j ≡ Some q → SharesEnd run x q
 
 pub share_more : (run : List Log) (x : ConfId) (ms : List ℕ) (n r : ℕ) → slice_get ms n ≡ Some r → SharesEnd run x r → ShareBefore run x ms n → ShareBefore run x ms (n + 1)
 share_more run x ms n r at shares before = record {
-  each = λ j q lt at_j. elim (less_or_not j n) [
-    | inl under ↦ before.each j q under at_j
-    | inr (inl over) ↦ absurd (omega arith)
-    | inr (inr same) ↦ (let there : slice_get ms n ≡ Some q = rw same at at_j in let one : r ≡ q = cc in rw one at shares)
-  ];
+  each = below_more (λ j. (q : ℕ) → slice_get ms j ≡ Some q → SharesEnd run x q) n before.each (λ q at_n. (let one : r ≡ q = cc in rw one at shares));
 }
 
 pub all_share : (run : List Log) (x : ConfId) (ms : List ℕ) (n : ℕ) → length ms ≤ n → ShareBefore run x ms n → AllShare run x ms
-all_share run x ms n end before = record { each = λ q (j, lt, is). before.each j q (omega arith) (rw (← is) (slice_get-get_or ms j q lt)) }
+all_share run x ms n end before = record { each = λ q (j, lt, is). before.each j (omega arith) q (rw (← is) (slice_get-get_or ms j q lt)) }
 
 -- ---- whether the members of a log's last change do
 
 last_same : (log : List Entry) (i j : ℕ) (x : ConfId) (ms : List ℕ) → StandsLast log i → IsLastChange log j x ms → i ≡ j
-last_same log i j x ms stands last = elim (less_or_not i j) [
-  | inl under ↦ absurd (stands.none_after j under (x, (ms, last.change)))
-  | inr (inl over) ↦ absurd (last.none_after i over stands.change)
-  | inr (inr same) ↦ same
-]
+last_same log i j x ms stands last = neither_below i j (λ under. stands.none_after j under (x, (ms, last.change))) (λ over. last.none_after i over stands.change)
 
 pub strays_here : (run : List Log) (log : List Entry) (i : ℕ) (e : Entry) (x : ConfId) (ms : List ℕ) → StandsLast log i → slice_get log i ≡ Some e → e ≡ Conf x ms → SomeStrays run x ms → StraysAt run log i
 strays_here run log i e x ms stands at is strays = record { conf = x; members = ms; last = record { change = rw is at at; none_after = stands.none_after }; strays = strays }
@@ -134,15 +123,11 @@ with_none run log none = record { each = λ i x ms q last among. absurd (none.no
 
 -- the quiet ones of the first k logs end with all their members
 pub record TogetherBefore (run : List Log) (k : ℕ) : Type 0 where
-  pub each : (j : ℕ) (log : Log) → j < k → slice_get run j ≡ Some log → log.ending ≡ Quiet → EndsWithAll run log.entries
+  pub each : (j : ℕ) → j < k → (log : Log) → slice_get run j ≡ Some log → log.ending ≡ Quiet → EndsWithAll run log.entries
 
 pub together_more : (run : List Log) (k : ℕ) (log : Log) → slice_get run k ≡ Some log → (log.ending ≡ Quiet → EndsWithAll run log.entries) → TogetherBefore run k → TogetherBefore run (k + 1)
 together_more run k log at here before = record {
-  each = λ j l lt at_j. elim (less_or_not j k) [
-    | inl under ↦ before.each j l under at_j
-    | inr (inl over) ↦ absurd (omega arith)
-    | inr (inr same) ↦ (let there : slice_get run k ≡ Some l = rw same at at_j in let one : log ≡ l = cc in rw one at here)
-  ];
+  each = below_more (λ j. (l : Log) → slice_get run j ≡ Some l → l.ending ≡ Quiet → EndsWithAll run l.entries) k before.each (λ l at_k. (let one : log ≡ l = cc in rw one at here));
 }
 
 -- if p, whose log is at k, is quiet, so is that log
@@ -156,7 +141,7 @@ pub all_together : (run : List Log) (k : ℕ) → Rising run → length run ≤ 
 all_together run k rising end before = λ p i x ms q quiet last among. elim (log_of_cases run p) [
   | inl none ↦ absurd (no_last i x ms (rw none at last))
   | inr found ↦
-      (before.each found.0 found.1 (omega (arith, slice_get_within run found.0 found.1 found.2)) found.2 (quiet_at run found.0 p found.1 rising found.2 found.3 quiet)).each
+      (before.each found.0 (omega (arith, slice_get_within run found.0 found.1 found.2)) found.1 found.2 (quiet_at run found.0 p found.1 rising found.2 found.3 quiet)).each
       i x ms q (rw found.4 at last) among
 ]
 
@@ -165,7 +150,7 @@ pub record NoneQuietBefore (run : List Log) (k : ℕ) : Type 0 where
   pub none : (j : ℕ) (log : Log) → j < k → slice_get run j ≡ Some log → log.ending ≡ Quiet → ⊥
 
 pub none_alone : (run : List Log) (k : ℕ) → Rising run → length run ≤ k → NoneQuietBefore run k → EndsTogether run
-none_alone run k rising end before = all_together run k rising end (record { each = λ j log lt at quiet. absurd (before.none j log lt at quiet) })
+none_alone run k rising end before = all_together run k rising end (record { each = λ j lt log at quiet. absurd (before.none j log lt at quiet) })
 
 -- the first quiet log that ends without a member, after those that end with all, is the first event
 pub least_end : (run : List Log) (k i n : ℕ) (log : Log) → Rising run → slice_get run k ≡ Some log → log.ending ≡ Quiet → StraysAt run log.entries i → TogetherBefore run k → n ≡ i + 1
@@ -191,7 +176,7 @@ least_end run k i n log rising at quiet strays before e = record {
       | inl none ↦ absurd (no_last j x ms (rw none at last))
       | inr found ↦ elim (less_or_not found.0 k) [
         | inl under ↦
-            absurd (never ((before.each found.0 found.1 under found.2 (quiet_at run found.0 f.proc found.1 rising found.2 found.3 hushed)).each j x ms q (rw found.4 at last) member))
+            absurd (never ((before.each found.0 under found.1 found.2 (quiet_at run found.0 f.proc found.1 rising found.2 found.3 hushed)).each j x ms q (rw found.4 at last) member))
         | inr (inl over) ↦ inl (inl (let lt = in_order run k found.0 log found.1 rising at found.2 over in omega (arith, found.3)))
         | inr (inr same) ↦ in_this f j found.0 found.1 x ms at_f last same found.2 found.3 found.4
       ]

@@ -14,6 +14,7 @@ use Rattle.totem_evs.specs.Events.{ChangesTo, IsChange, Fails, ending_of}
 use Rattle.totem_evs.specs.Following.{LastChange, NeverFails}
 use Rattle.totem_evs.proofs.LogOf.{Rising, Rising-tail, in_order, less_or_not}
 use Rattle.totem_run_rules.specs.Ends.{IsChangeTo, NeverChangesTo, HasNoChange, StandsLast, IsLast}
+use Rattle.totem_run_rules.proofs.Decisions.{neither_below}
 
 -- ---- how the log of a process ends
 
@@ -111,11 +112,7 @@ ends_decided log i e x b stands at decides = (λ t. ends (change_is e x (decides
     at_one j same (ms, at_j) = let there : slice_get log j ≡ Some e = rw same at at in is_change e x ms cc
 
     change_of : LastChange log x → IsChangeTo e x
-    change_of h = elim (less_or_not i h.index) [
-      | inl under ↦ absurd (stands.none_after h.index under (x, h.change))
-      | inr (inl over) ↦ absurd (h.none_after i over stands.change)
-      | inr (inr same) ↦ at_one h.index same h.change
-    ]
+    change_of h = at_one h.index (neither_below i h.index (λ under. stands.none_after h.index under (x, h.change)) (λ over. h.none_after i over stands.change)) h.change
 
 pub ends_nowhere : (log : List Entry) (x : ConfId) → HasNoChange log → IsTrue false ↔ LastChange log x
 ends_nowhere log x nowhere = (λ t. absurd cc, λ h. absurd (nowhere.none h.index (x, h.change)))

@@ -9,8 +9,8 @@ use Rattle.totem_evs.specs.Events.{IsEvent, ChangesTo, Delivers, log_of}
 use Rattle.totem_evs.specs.Steps.{SameClass}
 use Rattle.totem_evs.specs.Certificates.{Numbering, IsBelow, number_at, Certified}
 use Rattle.totem_evs.specs.Answers.{HasCertificate, MeetsPasses}
-use Rattle.totem_evs.proofs.LogOf.{less_or_not}
 use Rattle.totem_run_rules.specs.Orderly.{SendsAreOnce, AllStayInPlace, ChangesAgree, IsOrderly}
+use Rattle.totem_run_rules.proofs.Decisions.{neither_below}
 
 abbrev place : ℕ → ℕ → Place
 place p i = record { proc = p; at = suc i }
@@ -23,11 +23,7 @@ module _ (run : List Log) (lines : List Numbering) (certified : Certified run li
   not_before p i j e f class lt = below_itself (place p i) (place p j) (certified.shared (place p i) (place p j) class) (certified.rises (place p i) (place p j) e f (refl, omega arith))
 
   pub one_event : (p i j : ℕ) → IsEvent run (place p i) → IsEvent run (place p j) → SameClass run (place p i) (place p j) → SameClass run (place p j) (place p i) → i ≡ j
-  one_event p i j e f class back = elim (less_or_not i j) [
-    | inl lt ↦ absurd (not_before p i j e f class lt)
-    | inr (inl gt) ↦ absurd (not_before p j i f e back gt)
-    | inr (inr same) ↦ same
-  ]
+  one_event p i j e f class back = neither_below i j (not_before p i j e f class) (not_before p j i f e back)
 
   -- a log delivers a message once
   one_delivery : (p i j : ℕ) (m : MsgId) (x y : ConfId) → Delivers (log_of run p) i m x → Delivers (log_of run p) j m y → i ≡ j

@@ -12,6 +12,7 @@ use Rattle.totem_evs.specs.Changes.{Names, NamesOnly, StandsIn, StaysInPlace, Ta
 use Rattle.totem_evs.proofs.LogOf.{less_or_not}
 use Rattle.totem_evs.proofs.NextChanges.{one_next, NoneBetween}
 use Rattle.totem_run_rules.specs.Stays.{Bounds, TurnsAt, IsStay}
+use Rattle.totem_run_rules.proofs.Decisions.{neither_below}
 
 -- what a log keeps of the specifications of the first two passes
 pub record KeepsRules (log : List Entry) : Type 0 where
@@ -48,11 +49,9 @@ before_next log a b i x next names s same = elim (less_or_not i b) [
 
 -- an entry between two neighbouring changes names the configuration of the first
 between_names : (log : List Entry) (a b i : ℕ) (x y : ConfId) → ChangesTo log a x → IsNextOrEnd log a b → a < i → i < b → StandsIn log i y → y ≡ x
-between_names log a b i x y change next lt below s = elim (less_or_not s.from a) [
-  | inl under ↦ absurd (s.none_between a under lt (x, change))
-  | inr (inl over) ↦ absurd (next.none_between s.from over (omega (arith, s.before)) (y, s.change))
-  | inr (inr same) ↦ same_change log s.from a y x same s.change change
-]
+between_names log a b i x y change next lt below s =
+    let same = neither_below s.from a (λ under. s.none_between a under lt (x, change)) (λ over. next.none_between s.from over (omega (arith, s.before)) (y, s.change)) in
+    same_change log s.from a y x same s.change change
 
 is_next : (log : List Entry) (i j : ℕ) → IsNextOrEnd log i j → j < length log → IsNextChange log i j
 is_next log i j next lt = record { change = next.change lt; later = next.later; none_between = next.none_between }
@@ -133,11 +132,8 @@ is_here log c from turn end rules bounds i d names inside = let s = rules.placed
         (omega (arith, s.before, bounds.two.first.later), before_next log turn end i d (bounds.two.second t.0) names s at)
 
 is_changed : (log : List Entry) (c : RingId) (from turn end : ℕ) → Bounds log c from turn end → (i : ℕ) → from < i → i < end → IsChange log i → i ≡ turn
-is_changed log c from turn end bounds i lt below change = elim (less_or_not i turn) [
-  | inl under ↦ absurd (bounds.two.first.none_between i lt under change)
-  | inr (inl over) ↦ absurd ((bounds.two.second (has_turn log c from turn end bounds (omega arith))).none_between i over below change)
-  | inr (inr same) ↦ same
-]
+is_changed log c from turn end bounds i lt below change =
+    neither_below i turn (λ under. bounds.two.first.none_between i lt under change) (λ over. (bounds.two.second (has_turn log c from turn end bounds (omega arith))).none_between i over below change)
 
 -- each entry inside names c or what follows it
 regular_here : (log : List Entry) (c : RingId) (from turn end : ℕ) → KeepsRules log → Bounds log c from turn end → (i : ℕ) (d : ConfId) → from < i → i < turn → Names log i d → d ≡ Regular c

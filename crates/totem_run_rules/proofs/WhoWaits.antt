@@ -14,10 +14,11 @@ use Rattle.totem_evs.specs.declared.pending.Waiting.{Waiting}
 use Rattle.totem_evs.specs.Events.{log_of, IsChange, IsMember}
 use Rattle.totem_evs.specs.Unsettled.{EndsIn, IsWaiting, WaitingBelow, AreWaiting}
 use Rattle.totem_run_rules.specs.Orderly.{IsOrderly}
-use Rattle.totem_evs.proofs.LogOf.{Rising, log_of_cases, less_or_not}
+use Rattle.totem_evs.proofs.LogOf.{Rising, log_of_cases}
 use Rattle.totem_run_rules.specs.Ends.{HasNoLog}
 use Rattle.totem_run_rules.specs.Endings.{StandsAtEnd, EndsNowhere, AreWaitingAt}
 use Rattle.totem_run_rules.proofs.Gathering.{HasLogBefore, Gathered, gathered_more, all_gathered}
+use Rattle.totem_run_rules.proofs.Decisions.{neither_below}
 
 -- ---- whether a process ends in a configuration
 
@@ -99,11 +100,9 @@ waits_all run p i x ms n list orderly end stands at h = record {
     )
 
     one_conf : (y : ConfId) → EndsIn (log_of run p) y → y ≡ x
-    one_conf y ends = elim (less_or_not i ends.last.index) [
-      | inl under ↦ absurd (stands.last ends.last.index under (y, ends.last.change))
-      | inr (inl over) ↦ absurd (ends.last.none_after i over stands.change)
-      | inr (inr same) ↦ (let there : slice_get (log_of run p) i ≡ Some (Conf y ends.last.change.0) = rw (sym same) at ends.last.change.1 in cc)
-    ]
+    one_conf y ends =
+        let same = neither_below i ends.last.index (λ under. stands.last ends.last.index under (y, ends.last.change)) (λ over. ends.last.none_after i over stands.change) in
+        (let there : slice_get (log_of run p) i ≡ Some (Conf y ends.last.change.0) = rw (sym same) at ends.last.change.1 in cc)
 
     member_here : (q : ℕ) → IsMember run x q → Contains ms q
     member_here q (r, j, ns, changes, has) = let same = orderly.one.members r j p i x ns ms changes at in rw (← same) has
