@@ -5,27 +5,15 @@ use Rattle.totem_evs.specs.declared.log.Log.{Log}
 use Rattle.totem_evs.specs.Certificates.{Numbering, Certified}
 use Rattle.totem_certificate_check.specs.declared.certificate_fault.CertificateFault.{CertificateFault}
 use Rattle.totem_certificate_check.specs.declared.certificate_fault.CertificateFault.TheVariants as faults
-use Rattle.totem_certificate_check.specs.Certifying.{Answers, DoesNotRise, SendIsLate, TwinsAreApart, OthersShare}
-
-falls : (run : List Log) (lines : List Numbering) → DoesNotRise run lines → Certified run lines → ⊥
-falls run lines h c = h.not_below (c.rises h.first h.later h.is_first h.is_later h.before)
-
-late : (run : List Log) (lines : List Numbering) → SendIsLate run lines → Certified run lines → ⊥
-late run lines h c = h.not_below (c.sent h.send h.delivery h.message h.conf h.sends h.delivers)
-
-apart : (run : List Log) (lines : List Numbering) → TwinsAreApart run lines → Certified run lines → ⊥
-apart run lines h c = h.differ (c.shared h.one h.other h.class)
-
-share : (run : List Log) (lines : List Numbering) → OthersShare run lines → Certified run lines → ⊥
-share run lines h c = elim (c.apart h.one h.other h.is_one h.is_other h.shared) [ inl same ↦ h.different same | inr class ↦ h.apart class ]
+use Rattle.totem_certificate_check.specs.Certifying.{Answers}
 
 -- lines that are refused are no certificate
 pub not_certified : (run : List Log) (lines : List Numbering) (f : CertificateFault) → Answers run lines (Err f) → Certified run lines → ⊥
 not_certified run lines faults.Count h c = h c.matches
-not_certified run lines faults.NotRising h c = falls run lines h.1 c
-not_certified run lines faults.SendNotBefore h c = late run lines h.2 c
-not_certified run lines faults.TwinsDiffer h c = apart run lines h.3 c
-not_certified run lines faults.SharedPosition h c = share run lines h.4 c
+not_certified run lines faults.NotRising h c = (let falls = h.1 in falls.not_below (c.rises falls.first falls.later falls.is_first falls.is_later falls.before))
+not_certified run lines faults.SendNotBefore h c = (let late = h.2 in late.not_below (c.sent late.send late.delivery late.message late.conf late.sends late.delivers))
+not_certified run lines faults.TwinsDiffer h c = (let twins = h.3 in twins.differ (c.shared twins.one twins.other twins.class))
+not_certified run lines faults.SharedPosition h c = (let share = h.4 in elim (c.apart share.one share.other share.is_one share.is_other share.shared) [ inl same ↦ share.different same | inr class ↦ share.apart class ])
 
 -- the run is certified if and only if no fault is found
 pub exactly : (run : List Log) (lines : List Numbering) (r : Result (Unit {0}) CertificateFault) → Answers run lines r → IsOk r ↔ Certified run lines

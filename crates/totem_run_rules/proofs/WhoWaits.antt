@@ -118,12 +118,6 @@ waits_all run p i x ms n list orderly end stands at h = record {
         let found = h.complete k (omega arith) w.other (slice_get_read ms _ k w.other refl lt (sym is_k)) (rw confs at is.other) in
         rw_waiting w p x procs confs found
 
-pub waits_nowhere : (run : List Log) (p : ℕ) → EndsNowhere (log_of run p) → AreWaitingAt run p []
-waits_nowhere run p nowhere = record {
-  rising = λ i j d lt within. absurd (omega arith);
-  exact = λ w. (λ (k, lt, is). absurd (omega arith), λ (is, same). absurd (nowhere.never w.conf (rw same at is.stands)));
-}
-
 -- ---- all logs
 
 abbrev pub Waits : List Log → Waiting → Type 0
@@ -154,7 +148,10 @@ waits_end run k list end h = record {
     has w is = from w.proc w.conf is.stands (log_of_cases run w.proc)
 
 pub waits_nowhere_in : (run : List Log) (p : ℕ) (entries : List Entry) (list : List Waiting) → entries ≡ log_of run p → list ≡ [] → EndsNowhere entries → AreWaitingAt run p list
-waits_nowhere_in run p entries list is none nowhere = rw none (waits_nowhere run p (rw is at nowhere))
+waits_nowhere_in run p entries list is none nowhere = rw none (record {
+  rising = λ i j d lt within. absurd (omega arith);
+  exact = λ w. (λ (k, lt, has). absurd (omega arith), λ (waits, same). absurd (nowhere.never w.conf (rw (is, ← same) waits.stands)));
+})
 
 pub waits_all_in : (run : List Log) (p i : ℕ) (x : ConfId) (ms : List ℕ) (n : ℕ) (e : Entry) (entries : List Entry) (list : List Waiting) → IsOrderly run → entries ≡ log_of run p → StandsAtEnd entries i → slice_get entries i ≡ Some e → e ≡ Conf x ms
     → length ms ≤ n → WaitsAmong run p x ms n list → AreWaitingAt run p list
