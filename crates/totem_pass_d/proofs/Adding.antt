@@ -14,9 +14,6 @@ pub record AtSome {X : Type 0} (P : X → Pending → Type 0) (xs : List X) (n :
   pub stands : slice_get xs at ≡ Some item
   pub holds : P item x
 
-pub adds_nothing : (P : Pending → Type 0) (s : List Pending) → ((x : Pending) → P x → ⊥) → Adds P s s
-adds_nothing P s never = record { each = λ x. (λ has. inl has, λ h. elim h [ inl old ↦ old | inr new ↦ absurd (never x new) ]) }
-
 pub adds_alike : (P Q : Pending → Type 0) (s t : List Pending) → ((x : Pending) → P x → Q x) → ((x : Pending) → Q x → P x) → Adds P s t → Adds Q s t
 adds_alike P Q s t to from h = record {
   each = λ x. (λ has. elim ((h.each x).0 has) [ inl old ↦ inl old | inr new ↦ inr (to x new) ], λ k. (h.each x).1 (elim k [ inl old ↦ inl old | inr new ↦ inr (from x new) ]));

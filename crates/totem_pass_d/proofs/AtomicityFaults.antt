@@ -30,7 +30,7 @@ use Rattle.totem_traffic_rules.proofs.Together.{follows_too}
 use Rattle.totem_run_rules.proofs.SentOrNot.{same_conf_or_not}
 use Rattle.totem_pass_d.proofs.Deciding.{delivery_or_not}
 use Rattle.totem_pass_d.proofs.Facts.{Facts}
-use Rattle.totem_pass_d.proofs.Rests.{nothing_here, begins_at}
+use Rattle.totem_pass_d.proofs.Rests.{begins_at}
 
 -- the next change after i, if there is none between i and j, and the one at j comes next
 next_at : (log : List Entry) (i j k : ℕ) → (j < length log → IsNextChange log i j) → ((m : ℕ) → i < m → m < j → IsChange log m → ⊥) → IsNextChange log i k → k ≡ j
@@ -47,7 +47,7 @@ next_of_turn : (log : List Entry) (c : RingId) (from turn end k : ℕ) → IsSta
 next_of_turn log c from turn end k is lt next = next_at log turn end k (is.last lt) (λ m after until change. let same = is.changes m (omega (arith, is.before)) until change in omega arith) next
 
 -- the change to what follows c is at the turn
-pub turn_of : (run : List Log) (c : RingId) (stays : List Stay) (stay : Stay) (x : ConfId) → Facts run c stays → IsAmong stays stay → Follows (log_of run stay.proc) c x → ChangesTo (log_of run stay.proc) stay.turn x × (stay.turn < stay.end)
+turn_of : (run : List Log) (c : RingId) (stays : List Stay) (stay : Stay) (x : ConfId) → Facts run c stays → IsAmong stays stay → Follows (log_of run stay.proc) c x → ChangesTo (log_of run stay.proc) stay.turn x × (stay.turn < stay.end)
 turn_of run c stays stay x facts among f =
     let of = facts.each stay among in
     let from = facts.meets.one.once stay.proc f.from stay.from (Regular c) f.first.change of.is.change in
@@ -56,40 +56,42 @@ turn_of run c stays stay x facts among f =
     (change, (of.is.next (change_within (log_of run stay.proc) stay.turn x change)).0)
 
 -- a process changes to x where its span starts, and goes on where it ends
-pub changes_there : (run : List Log) (c : RingId) (stays : List Stay) (stay : Stay) (x : ConfId) (ch nx : ℕ) → Facts run c stays → IsAmong stays stay → IsSpan x stay ch nx → Com (log_of run stay.proc) c x → ChangesTo (log_of run stay.proc) ch x
-changes_there run c stays stay (Regular r) ch nx facts among (is_ch, is_nx) (inl same) = rw (is_ch, same) (facts.each stay among).is.change
-changes_there run c stays stay (Regular r) ch nx facts among (is_ch, is_nx) (inr f) = absurd f.transitional
-changes_there run c stays stay (Transitional n l) ch nx facts among (is_ch, is_nx) (inl same) = absurd cc
-changes_there run c stays stay (Transitional n l) ch nx facts among (is_ch, is_nx) (inr f) = rw is_ch (turn_of run c stays stay (Transitional n l) facts among f).0
+record Spans (log : List Entry) (x : ConfId) (ch nx : ℕ) : Type 0 where
+  change : ChangesTo log ch x
+  next : nx < length log → IsNextChange log ch nx
+  one : (k : ℕ) → IsNextChange log ch k → k ≡ nx
 
-pub goes_next : (run : List Log) (c : RingId) (stays : List Stay) (stay : Stay) (x d : ConfId) (ch nx k : ℕ) → Facts run c stays → IsAmong stays stay → IsSpan x stay ch nx → Com (log_of run stay.proc) c x → GoesAt (log_of run stay.proc) x d k → k ≡ nx
-goes_next run c stays stay (Regular r) d ch nx k facts among (is_ch, is_nx) (inr f) goes = absurd f.transitional
-goes_next run c stays stay (Transitional n l) d ch nx k facts among (is_ch, is_nx) (inl same) goes = absurd cc
-goes_next run c stays stay (Regular r) d ch nx k facts among (is_ch, is_nx) (inl same) (i, change, next, to) =
+spans : (run : List Log) (c : RingId) (stays : List Stay) (stay : Stay) (x : ConfId) (ch nx : ℕ) → Facts run c stays → IsAmong stays stay → IsSpan x stay ch nx → Com (log_of run stay.proc) c x → Spans (log_of run stay.proc) x ch nx
+spans run c stays stay (Regular r) ch nx facts among (is_ch, is_nx) (inr f) = absurd f.transitional
+spans run c stays stay (Transitional n l) ch nx facts among (is_ch, is_nx) (inl same) = absurd cc
+spans run c stays stay (Regular r) ch nx facts among (is_ch, is_nx) (inl same) =
     let of = facts.each stay among in
-    let from = facts.meets.one.once stay.proc i stay.from (Regular c) (rw same at change) of.is.change in
-    rw is_nx (next_of_from (log_of run stay.proc) c stay.from stay.turn stay.end k of.is (rw from at next))
-goes_next run c stays stay (Transitional n l) d ch nx k facts among (is_ch, is_nx) (inr f) (i, change, next, to) =
+    record {
+      change = rw (is_ch, same) of.is.change;
+      next = λ lt. rw (is_ch, is_nx) (of.is.next (rw is_nx at lt)).1;
+      one = λ k next. rw is_nx (next_of_from (log_of run stay.proc) c stay.from stay.turn stay.end k of.is (rw is_ch at next));
+    }
+spans run c stays stay (Transitional n l) ch nx facts among (is_ch, is_nx) (inr f) =
     let of = facts.each stay among in
     let turn = turn_of run c stays stay (Transitional n l) facts among f in
-    let at = facts.meets.one.once stay.proc i stay.turn (Transitional n l) change turn.0 in
-    rw is_nx (next_of_turn (log_of run stay.proc) c stay.from stay.turn stay.end k of.is turn.1 (rw at at next))
+    record {
+      change = rw is_ch turn.0;
+      next = λ lt. rw (is_ch, is_nx) (of.is.last turn.1 (rw is_nx at lt));
+      one = λ k next. rw is_nx (next_of_turn (log_of run stay.proc) c stay.from stay.turn stay.end k of.is turn.1 (rw is_ch at next));
+    }
 
-pub goes_here : (run : List Log) (c : RingId) (stays : List Stay) (stay : Stay) (x d : ConfId) (ch nx : ℕ) → Facts run c stays → IsAmong stays stay → IsSpan x stay ch nx → Com (log_of run stay.proc) c x → ChangesTo (log_of run stay.proc) nx d
+goes_next : (run : List Log) (c : RingId) (stays : List Stay) (stay : Stay) (x d : ConfId) (ch nx k : ℕ) → Facts run c stays → IsAmong stays stay → IsSpan x stay ch nx → Com (log_of run stay.proc) c x → GoesAt (log_of run stay.proc) x d k → k ≡ nx
+goes_next run c stays stay x d ch nx k facts among span inside (i, change, next, to) =
+    let s = spans run c stays stay x ch nx facts among span inside in
+    let same = facts.meets.one.once stay.proc i ch x change s.change in s.one k (rw same at next)
+
+goes_here : (run : List Log) (c : RingId) (stays : List Stay) (stay : Stay) (x d : ConfId) (ch nx : ℕ) → Facts run c stays → IsAmong stays stay → IsSpan x stay ch nx → Com (log_of run stay.proc) c x → ChangesTo (log_of run stay.proc) nx d
     → GoesAt (log_of run stay.proc) x d nx
-goes_here run c stays stay (Regular r) d ch nx facts among (is_ch, is_nx) (inr f) to = absurd f.transitional
-goes_here run c stays stay (Transitional n l) d ch nx facts among (is_ch, is_nx) (inl same) to = absurd cc
-goes_here run c stays stay (Regular r) d ch nx facts among (is_ch, is_nx) (inl same) to =
-    let of = facts.each stay among in
-    let lt = change_within (log_of run stay.proc) nx d to in
-    (stay.from, rw same of.is.change, rw is_nx (of.is.next (rw is_nx at lt)).1, to)
-goes_here run c stays stay (Transitional n l) d ch nx facts among (is_ch, is_nx) (inr f) to =
-    let of = facts.each stay among in
-    let turn = turn_of run c stays stay (Transitional n l) facts among f in
-    let lt = change_within (log_of run stay.proc) nx d to in
-    (stay.turn, turn.0, rw is_nx (of.is.last turn.1 (rw is_nx at lt)), to)
+goes_here run c stays stay x d ch nx facts among span inside to =
+    let s = spans run c stays stay x ch nx facts among span inside in
+    (ch, s.change, s.next (change_within (log_of run stay.proc) nx d to), to)
 
-pub belongs : (run : List Log) (c : RingId) (stays : List Stay) (stay : Stay) (x : ConfId) (ch nx : ℕ) → Facts run c stays → IsAmong stays stay → IsSpan x stay ch nx → ChangesTo (log_of run stay.proc) ch x → Com (log_of run stay.proc) c x
+belongs : (run : List Log) (c : RingId) (stays : List Stay) (stay : Stay) (x : ConfId) (ch nx : ℕ) → Facts run c stays → IsAmong stays stay → IsSpan x stay ch nx → ChangesTo (log_of run stay.proc) ch x → Com (log_of run stay.proc) c x
 belongs run c stays stay (Regular r) ch nx facts among (is_ch, is_nx) change =
     inl (same_change (log_of run stay.proc) ch stay.from (Regular r) (Regular c) is_ch change (facts.each stay among).is.change)
 belongs run c stays stay (Transitional n l) ch nx facts among (is_ch, is_nx) change =
@@ -104,7 +106,7 @@ belongs run c stays stay (Transitional n l) ch nx facts among (is_ch, is_nx) cha
 pub none_elsewhere : (run : List Log) (c : RingId) (stays : List Stay) (stay : Stay) (m : MsgId) (x d : ConfId) (ch nx : ℕ) → Facts run c stays → IsAmong stays stay → IsSpan x stay ch nx → (ChangesTo stay.log.now ch x → ⊥)
     → NoneWithin IsAnywhere (IsOneEvent (IsPartner run c m x d)) stay
 none_elsewhere run c stays stay m x d ch nx facts among span never =
-    no_event IsAnywhere (IsPartner run c m x d) stay (λ i h. never (rw (facts.each stay among).log (changes_there run c stays stay x ch nx facts among span h.0)))
+    no_event IsAnywhere (IsPartner run c m x d) stay (λ i h. never (rw (facts.each stay among).log (spans run c stays stay x ch nx facts among span h.0).change))
 
 pub none_next : (run : List Log) (c : RingId) (stays : List Stay) (stay : Stay) (m : MsgId) (x d : ConfId) (ch nx : ℕ) → Facts run c stays → IsAmong stays stay → IsSpan x stay ch nx → (ChangesTo stay.log.now nx d → ⊥)
     → NoneWithin IsAnywhere (IsOneEvent (IsPartner run c m x d)) stay
@@ -166,10 +168,9 @@ partings_begin run c stays m x d facts = record { each = λ places h. go places 
         record { stay = has.stay; among = record { at = has.at; stands = has.stands }; index = k; reached = tt; rest = []; is = rw (has.proc, ← is) refl }
 
     go : (places : List Place) → IsOneEvent (IsPartner run c m x d) places → BeginsWithin stays IsAnywhere places
-    go [] h = absurd h
     go (g ∷ []) (k, is, (inl same, (i, change, next, to), lacks)) = of_change g k i is (rw same at change)
     go (g ∷ []) (k, is, (inr f, goes, lacks)) = of_change g k f.from is f.first.change
-    go (g ∷ h ∷ rest) b = absurd b
+    go places h = absurd h
 
 -- what starts with this delivery and breaks 4 goes on with its process's next change, and with that of a partner
 record IsParted (run : List Log) (c : RingId) (m : MsgId) (x : ConfId) (p nx : ℕ) (rest : List Place) : Type 0 where
@@ -181,8 +182,6 @@ record IsParted (run : List Log) (c : RingId) (m : MsgId) (x : ConfId) (p nx : �
 
 parted : (run : List Log) (c : RingId) (stays : List Stay) (stay : Stay) (m : MsgId) (x : ConfId) (ch nx i : ℕ) (rest : List Place) → Facts run c stays → IsAmong stays stay → IsSpan x stay ch nx → slice_get (log_of run stay.proc) i ≡ Some (Deliver m x)
     → BreaksAtomicityIn run c (place stay.proc i ∷ rest) → IsParted run c m x stay.proc nx rest
-parted run c stays stay m x ch nx i [] facts among span at h = absurd h
-parted run c stays stay m x ch nx i (f ∷ []) facts among span at h = absurd h
 parted run c stays stay m x ch nx i (f ∷ g ∷ []) facts among span at (a, is, (j, is_f, (k, is_g, (same, (y, inside_y, (o, d, delivers, goes_y, partner_y, lacks)))))) =
     let start : a ≡ i = omega arith in
     let there : slice_get (log_of run stay.proc) i ≡ Some (Deliver o y) = rw start at delivers in
@@ -199,23 +198,25 @@ parted run c stays stay m x ch nx i (f ∷ g ∷ []) facts among span at (a, is,
       is = rw (same, ← next, ← is_f) refl;
       partner = (k, is_g, (goes_along run c stays stay.proc g.proc k x d facts inside partner, partner, rw (message, conf) at lacks));
     }
-parted run c stays stay m x ch nx i (f ∷ g ∷ h ∷ rest) facts among span at b = absurd b
+parted run c stays stay m x ch nx i rest facts among span at h = absurd h
 
 pub none_at_end : (run : List Log) (c : RingId) (stays : List Stay) (stay : Stay) (m : MsgId) (x : ConfId) (ch nx i : ℕ) → Facts run c stays → IsAmong stays stay → IsSpan x stay ch nx → slice_get (log_of run stay.proc) i ≡ Some (Deliver m x)
     → IsNoChange stay.log.now nx → NoneFrom (BreaksAtomicityIn run c) stay.proc i
-none_at_end run c stays stay m x ch nx i facts among span at no_change = nothing_here (BreaksAtomicityIn run c) stay.proc i (λ rest h.
-    let by = parted run c stays stay m x ch nx i rest facts among span at h in
-    no_change.none (by.to, read by.to by.change))
+none_at_end run c stays stay m x ch nx i facts among span at no_change = record {
+  none = λ rest h. let by = parted run c stays stay m x ch nx i rest facts among span at h in no_change.none (by.to, read by.to by.change);
+}
   where
     read : (d : ConfId) → ChangesTo (log_of run stay.proc) nx d → ChangesTo stay.log.now nx d
     read d change = rw (facts.each stay among).log change
 
 pub none_along : (run : List Log) (c : RingId) (stays : List Stay) (stay : Stay) (m : MsgId) (x d : ConfId) (ch nx i : ℕ) → Facts run c stays → IsAmong stays stay → IsSpan x stay ch nx → slice_get (log_of run stay.proc) i ≡ Some (Deliver m x)
     → ChangesTo stay.log.now nx d → HoldsOfNone (IsOneEvent (IsPartner run c m x d)) → NoneFrom (BreaksAtomicityIn run c) stay.proc i
-none_along run c stays stay m x d ch nx i facts among span at to none = nothing_here (BreaksAtomicityIn run c) stay.proc i (λ rest h.
-    let by = parted run c stays stay m x ch nx i rest facts among span at h in
-    let same = same_change (log_of run stay.proc) nx nx by.to d refl by.change (rw (facts.each stay among).log at to) in
-    none.none (by.last ∷ []) (rw same at by.partner))
+none_along run c stays stay m x d ch nx i facts among span at to none = record {
+  none = λ rest h.
+      let by = parted run c stays stay m x ch nx i rest facts among span at h in
+      let same = same_change (log_of run stay.proc) nx nx by.to d refl by.change (rw (facts.each stay among).log at to) in
+      none.none (by.last ∷ []) (rw same at by.partner);
+}
 
 pub least_along : (run : List Log) (c : RingId) (stays : List Stay) (stay : Stay) (m : MsgId) (x d : ConfId) (ch nx i : ℕ) (list : List Place) → Facts run c stays → IsAmong stays stay → IsSpan x stay ch nx → IsInside stay i
     → slice_get (log_of run stay.proc) i ≡ Some (Deliver m x) → ChangesTo stay.log.now nx d → IsLeast (IsOneEvent (IsPartner run c m x d)) list → IsLeastFrom (BreaksAtomicityIn run c) stay.proc i (place stay.proc nx ∷ list)
@@ -233,10 +234,9 @@ least_along run c stays stay m x d ch nx i list facts among span inside at to le
     stands = (facts.each stay among).stands i x inside (Deliver m x, at, refl)
 
     holds : (others : List Place) → IsOneEvent (IsPartner run c m x d) others → BreaksAtomicityIn run c (place stay.proc i ∷ place stay.proc nx ∷ others)
-    holds [] h = absurd h
     holds (g ∷ []) (k, is, (along, goes, lacks)) =
         (i, refl, (nx, refl, (k, is, (refl, (x, stands, (m, d, at, goes_here run c stays stay x d ch nx facts among span stands there, goes, lacks))))))
-    holds (g ∷ h ∷ rest) b = absurd b
+    holds others h = absurd h
 
     first : (others : List Place) → IsParted run c m x stay.proc nx others → ComesFirst (place stay.proc nx ∷ list) others
     first others by =
@@ -247,12 +247,9 @@ pub deliveries_begin : (run : List Log) (c : RingId) (stays : List Stay) → Fac
 deliveries_begin run c stays facts = record { each = λ places h. go places h }
   where
     go : (places : List Place) → BreaksAtomicityIn run c places → BeginsWithin stays IsInside places
-    go [] h = absurd h
-    go (e ∷ []) h = absurd h
-    go (e ∷ f ∷ []) h = absurd h
     go (e ∷ f ∷ g ∷ []) (i, is, (j, is_f, (k, is_g, (same, (x, inside, (m, d, delivers, goes, partner, lacks)))))) =
         begins_at run c stays e i x (f ∷ g ∷ []) facts (rw (← is) refl) (Deliver m x, delivers, refl) inside
-    go (e ∷ f ∷ g ∷ h ∷ rest) b = absurd b
+    go places h = absurd h
 
 -- if nothing breaks 4, it holds
 pub atomic : (run : List Log) (c : RingId) → HoldsOfNone (BreaksAtomicityIn run c) → AtomicityIn run c

@@ -1,5 +1,5 @@
 -- Building the stays, log by log.
-use Rattle.std.proofs.Common.{◌≡◌, ℕ, ◌+◌, ◌<◌, ◌≤◌, ◌⊎◌, inl, inr, List, [], ◌∷◌, ◌++◌, length, get_or, slice_get, Some, None, IsTrue, ◌↔◌, sym, ◌∙◌, ap, arith}
+use Rattle.std.proofs.Common.{◌≡◌, ℕ, ◌+◌, ◌<◌, ◌≤◌, ◌⊎◌, inl, inr, List, [], ◌∷◌, ◌++◌, length, get_or, slice_get, Some, None, IsTrue, ◌↔◌, sym, ◌∙◌, ap, arith, below_more}
 use Rattle.std.specs.declared.cmp.Ordering.{Ordering}
 use Rattle.std.specs.BTreeMap as tree
 use Rattle.std.specs.BTreeMap.{BTreeMap}
@@ -37,7 +37,7 @@ pub record IsOfFirst (run : List Log) (c : RingId) (n : ℕ) (stay : Stay) : Typ
 pub record AreOfFirst (run : List Log) (c : RingId) (n : ℕ) (stays : List Stay) : Type 0 where
   pub each : (k : ℕ) (stay : Stay) → slice_get stays k ≡ Some stay → IsOfFirst run c n stay
   pub rising : (j k : ℕ) (s t : Stay) → slice_get stays j ≡ Some s → slice_get stays k ≡ Some t → j < k → s.proc < t.proc
-  pub whole : (k i : ℕ) (log : Log) → k < n → slice_get run k ≡ Some log → ChangesTo log.entries i (Regular c) → HasStay stays log.proc
+  pub whole : (k : ℕ) → k < n → (i : ℕ) (log : Log) → slice_get run k ≡ Some log → ChangesTo log.entries i (Regular c) → HasStay stays log.proc
 
 -- the next log
 module _ (run : List Log) (c : RingId) (n : ℕ) (log : Log) (is_run : IsRun run) (at_n : slice_get run n ≡ Some log) where
@@ -61,10 +61,7 @@ module _ (run : List Log) (c : RingId) (n : ℕ) (log : Log) (is_run : IsRun run
   no_more by_ring by_change rings indices stays holds none before = record {
     each = λ k s at. wider (before.each k s at);
     rising = before.rising;
-    whole = λ k i other lt at change. elim (before_or_at k n lt) [
-      | inl under ↦ before.whole k i other under at change
-      | inr same ↦ absurd (never i (rw (same_log k other same at) at change))
-    ];
+    whole = below_more _ _ before.whole (λ i other at change. (let one : other ≡ log = cc in absurd (never i (rw one at change))));
   }
     where
       never : (i : ℕ) → ChangesTo log.entries i (Regular c) → ⊥
@@ -88,8 +85,8 @@ module _ (run : List Log) (c : RingId) (n : ℕ) (log : Log) (is_run : IsRun run
         | inr (also, _) ↦ absurd (omega arith)
       ]
     ];
-    whole = λ k i other lt at change. elim (before_or_at k n lt) [
-      | inl under ↦ (let h = before.whole k i other under at change in record { at = h.at; stay = h.stay; stands = stands_before stays s h.at h.stay h.stands; proc = h.proc })
+    whole = λ k lt i other at change. elim (before_or_at k n lt) [
+      | inl under ↦ (let h = before.whole k under i other at change in record { at = h.at; stay = h.stay; stands = stands_before stays s h.at h.stay h.stands; proc = h.proc })
       | inr same ↦ record { at = length stays; stay = s; stands = stands_last stays s; proc = proc ∙ ap (λ (l : Log). l.proc) (sym (same_log k other same at)) }
     ];
   }
@@ -141,4 +138,4 @@ all_stays run c n stays end h = record {
     comes : (p i : ℕ) → ChangesTo (log_of run p) i (Regular c)
         → (log_of run p ≡ []) ⊎ ((k : ℕ) × (log : Log) × (slice_get run k ≡ Some log) × (log.proc ≡ p) × (log_of run p ≡ log.entries)) → HasStay stays p
     comes p i change (inl empty) = absurd (nothing i _ (rw empty at change.1))
-    comes p i change (inr (k, log, at, same, is)) = rw same at (h.whole k i log (omega (arith, slice_get_within run k log at)) at (rw is at change))
+    comes p i change (inr (k, log, at, same, is)) = rw same at (h.whole k (omega (arith, slice_get_within run k log at)) i log at (rw is at change))

@@ -15,8 +15,7 @@ use Rattle.totem_evs.specs.Steps.{SendsAt}
 use Rattle.totem_evs.specs.Following.{Com, DeliversIn}
 use Rattle.totem_evs.specs.RingAgreement.{IsHop, CausalityIn}
 use Rattle.totem_evs.specs.RingFaults.{BreaksCausalityIn}
-use Rattle.totem_evs.specs.Answers.{IsLeast}
-use Rattle.totem_table.specs.Search.{place, NoneFrom, IsLeastFrom, HoldsOfNone}
+use Rattle.totem_table.specs.Search.{place, HoldsOfNone}
 use Rattle.totem_pass_d.proofs.OneEvent.{no_event, only_event, begins_inside}
 use Rattle.totem_pass_d.specs.declared.stay.Stay.{Stay}
 use Rattle.totem_pass_d.specs.Acts.{IsAmong, DeliversNot}
@@ -25,7 +24,7 @@ use Rattle.totem_pass_d.specs.Causality.{IsSurprise, IsEffect}
 use Rattle.totem_pass_d.proofs.Deciding.{both_or_not, below_or_not, delivery_or_not}
 use Rattle.totem_run_rules.proofs.SentOrNot.{in_or_not}
 use Rattle.totem_pass_d.proofs.Facts.{Facts}
-use Rattle.totem_pass_d.proofs.Rests.{none_rest, least_rest, nothing_here, sends_there, there_sends, index_of, begins_at}
+use Rattle.totem_pass_d.proofs.Rests.{Starts, sends_there, there_sends, index_of, begins_at}
 
 -- one delivery of a message in c and in what follows it
 pub one_delivery_in : (run : List Log) (c : RingId) (stays : List Stay) (p i j : ℕ) (m : MsgId) → Facts run c stays → DeliversIn (log_of run p) c m i → DeliversIn (log_of run p) c m j → i ≡ j
@@ -81,25 +80,18 @@ pub send_here : (run : List Log) (c : RingId) (stays : List Stay) (stay : Stay) 
 send_here run c stays stay i m x s facts among inside at = (facts.each stay among).sends i m x inside (s, at)
 
 -- the effects of what is sent at a place
-effect_at : (run : List Log) (c : RingId) (m n : MsgId) (x : ConfId) (s : Service) (e : Place) (q j : ℕ) (rest : List Place) → slice_get (log_of run q) j ≡ Some (Send n x s) → IsEffect run c m e (place q j ∷ rest) → IsHop run c m e (place q j) × IsOneEvent (IsSurprise run c m n) rest
+effect_at : (run : List Log) (c : RingId) (m n : MsgId) (x : ConfId) (s : Service) (e : Place) (q j : ℕ) (rest : List Place) → slice_get (log_of run q) j ≡ Some (Send n x s) → IsEffect run c m e (place q j ∷ rest) → IsOneEvent (IsSurprise run c m n) rest
 effect_at run c m n x s e q j rest at (o, send, hop, one) =
     let sends = sends_there run q j o (Regular c) send in
     let there : slice_get (log_of run q) j ≡ Some (Send o (Regular c) sends.0) = sends.1 in
-    let same : o ≡ n = cc in (hop, rw same at one)
+    let same : o ≡ n = cc in rw same at one
 
-pub none_unsent : (run : List Log) (c : RingId) (m : MsgId) (e : Place) (q j : ℕ) (entry : Entry) → slice_get (log_of run q) j ≡ Some entry → ((n : MsgId) (x : ConfId) (s : Service) → entry ≡ Send n x s → ⊥) → NoneFrom (IsEffect run c m e) q j
-none_unsent run c m e q j entry at other = nothing_here (IsEffect run c m e) q j (λ rest (n, send, hop, one). let sends = sends_there run q j n (Regular c) send in
-    let there : slice_get (log_of run q) j ≡ Some (Send n (Regular c) sends.0) = sends.1 in other n (Regular c) sends.0 cc)
-
-pub none_surprised : (run : List Log) (c : RingId) (m n : MsgId) (x : ConfId) (s : Service) (e : Place) (q j : ℕ) → slice_get (log_of run q) j ≡ Some (Send n x s) → HoldsOfNone (IsOneEvent (IsSurprise run c m n)) → NoneFrom (IsEffect run c m e) q j
-none_surprised run c m n x s e q j at none = none_rest (IsOneEvent (IsSurprise run c m n)) (IsEffect run c m e) q j (λ rest h. (effect_at run c m n x s e q j rest at h).1) none
-
-pub least_surprised : (run : List Log) (c : RingId) (m n : MsgId) (x : ConfId) (s : Service) (e : Place) (q j : ℕ) (rest : List Place) → slice_get (log_of run q) j ≡ Some (Send n x s) → x ≡ Regular c → IsHop run c m e (place q j)
-    → IsLeast (IsOneEvent (IsSurprise run c m n)) rest → IsLeastFrom (IsEffect run c m e) q j rest
-least_surprised run c m n x s e q j rest at is hop least =
-    least_rest (IsOneEvent (IsSurprise run c m n)) (IsEffect run c m e) q j rest
-    (λ others h. (n, there_sends run q j n (Regular c) (s, rw is at at), hop, h))
-    (λ others h. (effect_at run c m n x s e q j others at h).1) least
+pub effect_starts : (run : List Log) (c : RingId) (m n : MsgId) (x : ConfId) (s : Service) (e : Place) (q j : ℕ) → slice_get (log_of run q) j ≡ Some (Send n x s) → x ≡ Regular c → IsHop run c m e (place q j)
+    → Starts (IsOneEvent (IsSurprise run c m n)) (IsEffect run c m e) q j
+effect_starts run c m n x s e q j at is hop = record {
+  to = λ rest h. (n, there_sends run q j n (Regular c) (s, rw is at at), hop, h);
+  from = λ rest h. effect_at run c m n x s e q j rest at h;
+}
 
 pub effects_begin : (run : List Log) (c : RingId) (stays : List Stay) (m : MsgId) (e : Place) → Facts run c stays → EachBeginsWithin stays IsInside (IsEffect run c m e)
 effects_begin run c stays m e facts = record { each = λ places h. go places h }
@@ -110,33 +102,24 @@ effects_begin run c stays m e facts = record { each = λ places h. go places h }
 
 -- the causes
 cause_at : (run : List Log) (c : RingId) (m : MsgId) (x : ConfId) (s : Service) (p i : ℕ) (rest : List Place) → slice_get (log_of run p) i ≡ Some (Send m x s) → BreaksCausalityIn run c (place p i ∷ rest) → IsEffect run c m (place p i) rest
-cause_at run c m x s p i [] at h = absurd h
-cause_at run c m x s p i (f ∷ []) at h = absurd h
 cause_at run c m x s p i (f ∷ g ∷ []) at (k, is, (o, n, send, effect, hop, delivers, none)) =
     let sends = sends_there run p i o (Regular c) send in
     let there : slice_get (log_of run p) i ≡ Some (Send o (Regular c) sends.0) = sends.1 in
     let same : o ≡ m = cc in
     (n, effect, rw same at hop, (k, is, (delivers, rw same at none)))
-cause_at run c m x s p i (f ∷ g ∷ h ∷ more) at b = absurd b
+cause_at run c m x s p i rest at h = absurd h
 
 caused : (run : List Log) (c : RingId) (m : MsgId) (s : Service) (p i : ℕ) (rest : List Place) → slice_get (log_of run p) i ≡ Some (Send m (Regular c) s) → IsEffect run c m (place p i) rest → BreaksCausalityIn run c (place p i ∷ rest)
 caused run c m s p i [] at h = absurd h
-caused run c m s p i (f ∷ []) at (n, effect, hop, b) = absurd b
 caused run c m s p i (f ∷ g ∷ []) at (n, effect, hop, (k, is, (delivers, none))) = (k, is, (m, n, there_sends run p i m (Regular c) (s, at), effect, hop, delivers, none))
-caused run c m s p i (f ∷ g ∷ h ∷ more) at (n, effect, hop, b) = absurd b
+caused run c m s p i (f ∷ rest) at (n, effect, hop, b) = absurd b
 
 sent_first : (run : List Log) (c : RingId) (e : Place) (rest : List Place) → BreaksCausalityIn run c (e ∷ rest) → (m : MsgId) × SendsAt run e m (Regular c)
-sent_first run c e [] h = absurd h
-sent_first run c e (f ∷ []) h = absurd h
 sent_first run c e (f ∷ g ∷ []) (k, is, (m, n, send, effect, hop, delivers, none)) = (m, send)
-sent_first run c e (f ∷ g ∷ h ∷ more) b = absurd b
+sent_first run c e rest h = absurd h
 
-pub none_without_effect : (run : List Log) (c : RingId) (m : MsgId) (x : ConfId) (s : Service) (p i : ℕ) → slice_get (log_of run p) i ≡ Some (Send m x s) → HoldsOfNone (IsEffect run c m (place p i)) → NoneFrom (BreaksCausalityIn run c) p i
-none_without_effect run c m x s p i at none = none_rest (IsEffect run c m (place p i)) (BreaksCausalityIn run c) p i (λ rest h. cause_at run c m x s p i rest at h) none
-
-pub least_effect : (run : List Log) (c : RingId) (m : MsgId) (x : ConfId) (s : Service) (p i : ℕ) (rest : List Place) → slice_get (log_of run p) i ≡ Some (Send m x s) → x ≡ Regular c → IsLeast (IsEffect run c m (place p i)) rest → IsLeastFrom (BreaksCausalityIn run c) p i rest
-least_effect run c m x s p i rest at is least =
-    least_rest (IsEffect run c m (place p i)) (BreaksCausalityIn run c) p i rest (λ others h. caused run c m s p i others (rw is at at) h) (λ others h. cause_at run c m x s p i others at h) least
+pub cause_starts : (run : List Log) (c : RingId) (m : MsgId) (x : ConfId) (s : Service) (p i : ℕ) → slice_get (log_of run p) i ≡ Some (Send m x s) → x ≡ Regular c → Starts (IsEffect run c m (place p i)) (BreaksCausalityIn run c) p i
+cause_starts run c m x s p i at is = record { to = λ rest h. caused run c m s p i rest (rw is at at) h; from = λ rest h. cause_at run c m x s p i rest at h }
 
 pub causes_begin : (run : List Log) (c : RingId) (stays : List Stay) → Facts run c stays → EachBeginsWithin stays IsInside (BreaksCausalityIn run c)
 causes_begin run c stays facts = record { each = λ places h. go places h }

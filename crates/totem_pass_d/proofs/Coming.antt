@@ -3,7 +3,7 @@ use Rattle.std.proofs.Common.{◌≡◌, ℕ, inl, inr, List, slice_get, Some, N
 use Rattle.std.specs.declared.cmp.Ordering.{Ordering}
 use Rattle.std.specs.BTreeMap.{BTreeMap}
 use Rattle.std.specs.BTreeMap as tree
-use Rattle.std.specs.BTreeSet.{BTreeSet}
+use Rattle.std.specs.BTreeSet.{BTreeSet, IsOrdered}
 use Rattle.std.specs.BTreeSet as sorted
 use Rattle.std.proofs.lemmas.Map.Lookups.{CmpEqualImpliesEq}
 use Rattle.totem_ids.specs.declared.ring.RingId.{RingId}
@@ -13,12 +13,18 @@ use Rattle.totem_evs.specs.declared.entry.Entry.{Entry}
 use Rattle.totem_evs.specs.declared.entry.Entry.TheVariants.{Conf}
 use Rattle.totem_evs.specs.declared.log.Log.{Log}
 use Rattle.totem_evs.specs.Events.{log_of, ChangesTo, IsChange}
-use Rattle.totem_evs.specs.Answers.{IsRing}
+use Rattle.totem_evs.specs.Answers.{IsRing, AreRings}
 use Rattle.totem_table.specs.declared.keys.Change.{Change}
 use Rattle.totem_table.specs.Registers.{Keeps, StaysSound}
-use Rattle.totem_ids.proofs.Exact.{equal_at, apart_or_at}
+use Rattle.totem_ids.proofs.Exact.{equal_at, apart_or_at, exact_ring}
 use Rattle.totem_table.proofs.Exact.{change_by}
-use Rattle.totem_pass_d.specs.Comings.{KnowsComing, AreComings}
+use Rattle.std.proofs.lemmas.Option.{slice_get_within}
+use Rattle.std.proofs.lemmas.Map.Keys.{Less-from_sorted}
+use Rattle.std.proofs.lemmas.Map.Views.{btree_set_contains_iff}
+use Rattle.totem_ids.specs.contracts.ring.RingIdOrd.TheImpl as ring
+use Rattle.totem_ids.specs.contracts.ring.RingIdOrd.TheImpl.Laws.{total-law}
+use Rattle.totem_run_rules.proofs.PendingOrder.{below_from_less}
+use Rattle.totem_pass_d.specs.Comings.{KnowsComing, AreComings, HoldsComings}
 
 -- an entry that is not a change changes to no configuration
 pub spares_coming : (by_ring : RingId → RingId → Ordering) (by_change : Change → Change → Ordering) (rings : BTreeSet RingId) (indices : BTreeMap Change ℕ) (p : ℕ) (log : List Entry) (i : ℕ) → (IsChange log i → ⊥)
@@ -72,3 +78,14 @@ keeps_comings by_ring by_change exact_ring exact_change r s m n p i c added upda
   where
     found_here : Some i ≡ None → ⊥
     found_here e = cc
+
+-- the rings that are collected are those of the run, in order
+pub are_rings : (by_change : Change → Change → Ordering) (rings : BTreeSet RingId) (indices : BTreeMap Change ℕ) (run : List Log) → HoldsComings ring.cmp-value.it by_change rings indices run
+    → IsOrdered ring.cmp-value.it rings → AreRings run rings.keys
+are_rings by_change rings indices run holds ordered = record {
+  rising = λ i j d lt within. below_from_less _ _ (Less-from_sorted ring.cmp-value.it rings.keys i j d ordered lt within);
+  exact = λ c. (λ has. holds.only.ring c ((btree_set_contains_iff total-law exact_ring rings c).1 has), λ r. (btree_set_contains_iff total-law exact_ring rings c).0 (known c r));
+}
+  where
+    known : (c : RingId) → IsRing run c → IsTrue (sorted.contains ring.cmp-value.it rings c)
+    known c r = (holds.all r.proc r.index (slice_get_within (log_of run r.proc) r.index _ r.change.1)).ring c r.change

@@ -4,7 +4,7 @@ use Rattle.totem_ids.specs.declared.ring.RingId.{RingId}
 use Rattle.totem_ids.specs.declared.conf.ConfId.{ConfId}
 use Rattle.totem_ids.specs.declared.message.MsgId.{MsgId}
 use Rattle.totem_evs.specs.declared.entry.Entry.{Entry}
-use Rattle.totem_evs.specs.declared.entry.Entry.TheVariants.{Conf, Send, Deliver, Fail}
+use Rattle.totem_evs.specs.declared.entry.Entry.TheVariants.{Conf, Deliver}
 use Rattle.totem_evs.specs.Events.{ChangesTo, Delivers}
 use Rattle.totem_evs.specs.Following.{Com, HasDelivered}
 use Rattle.totem_evs.proofs.LogOf.{less_or_not}
@@ -31,24 +31,18 @@ changes_or_not log x = elim (first_or_none log (λ i e. _) (λ i e. change_to_or
 
 -- a delivery of m for whose index and configuration P holds
 IsDelivery : (ℕ → ConfId → Type 0) → MsgId → ℕ → Entry → Type 0
-IsDelivery P m i (Conf x ms) = ⊥
-IsDelivery P m i (Send n x s) = ⊥
 IsDelivery P m i (Deliver n x) = (n ≡ m) × P i x
-IsDelivery P m i (Fail x) = ⊥
+IsDelivery P m i _ = ⊥
 
 is_delivery_or_not : (P : ℕ → ConfId → Type 0) (m : MsgId) → ((i : ℕ) (x : ConfId) → P i x ⊎ (P i x → ⊥)) → (i : ℕ) (e : Entry) → IsDelivery P m i e ⊎ (IsDelivery P m i e → ⊥)
 unfolding IsDelivery
-is_delivery_or_not P m decide i (Conf x ms) = inr (λ h. h)
-is_delivery_or_not P m decide i (Send n x s) = inr (λ h. h)
 is_delivery_or_not P m decide i (Deliver n x) = both_or_not (same_message_or_not n m) (decide i x)
-is_delivery_or_not P m decide i (Fail x) = inr (λ h. h)
+is_delivery_or_not P m decide i other = inr (λ h. h)
 
 delivery_of : (P : ℕ → ConfId → Type 0) (log : List Entry) (m : MsgId) (i : ℕ) (e : Entry) → slice_get log i ≡ Some e → IsDelivery P m i e → (j : ℕ) × (x : ConfId) × Delivers log j m x × P j x
 unfolding IsDelivery
-delivery_of P log m i (Conf x ms) at h = absurd h
-delivery_of P log m i (Send n x s) at h = absurd h
 delivery_of P log m i (Deliver n x) at (same, holds) = (i, x, rw same at at, holds)
-delivery_of P log m i (Fail x) at h = absurd h
+delivery_of P log m i other at h = absurd h
 
 pub delivery_or_not : (P : ℕ → ConfId → Type 0) (log : List Entry) (m : MsgId) → ((i : ℕ) (x : ConfId) → P i x ⊎ (P i x → ⊥)) → ((i : ℕ) × (x : ConfId) × Delivers log i m x × P i x) ⊎ ((i : ℕ) (x : ConfId) → Delivers log i m x → P i x → ⊥)
 unfolding IsDelivery

@@ -61,7 +61,7 @@ com_of log c from turn end i x is after until names = elim (less_or_not i turn) 
   ]
 ]
 
-sends_of : (log : List Entry) (c : RingId) (from turn end i : ℕ) (m : MsgId) (x : ConfId) → IsStay log c from turn end → IsRegular x → from < i → i < end → Sends log i m x → (x ≡ Regular c) × (i < turn)
+pub sends_of : (log : List Entry) (c : RingId) (from turn end i : ℕ) (m : MsgId) (x : ConfId) → IsStay log c from turn end → IsRegular x → from < i → i < end → Sends log i m x → (x ≡ Regular c) × (i < turn)
 sends_of log c from turn end i m x is r after until (s, at) = elim (less_or_not i turn) [
   | inl lt ↦ (is.regular i x after lt (Send m x s, at, refl), lt)
   | inr more ↦ elim more [

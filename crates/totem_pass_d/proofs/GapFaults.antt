@@ -1,7 +1,9 @@
 -- The list found for 6.3 is the least that breaks it: an earlier message, a later one, and a process that delivers only
 -- the later one.
-use Rattle.std.proofs.Common.{◌≡◌, ℕ, ◌<◌, inl, inr, List, [], ◌∷◌, slice_get, Some, Bool, true, false, IsTrue, ◌↔◌, refl, arith}
+use Rattle.std.proofs.Common.{◌≡◌, ℕ, ◌+◌, ◌<◌, ◌≤◌, ◌⊎◌, inl, inr, List, [], ◌∷◌, length, get_or, slice_get, Some, Bool, true, false, IsTrue, ◌↔◌, refl, sym, ◌∙◌, arith, below_more}
 use Rattle.std.specs.Prelude.{Contains}
+use Rattle.std.specs.Bool.{OnFalse}
+use Rattle.std.proofs.lemmas.Option.{slice_get_within, slice_get-get_or}
 use Rattle.totem_ids.specs.declared.ring.RingId.{RingId}
 use Rattle.totem_ids.specs.declared.conf.ConfId.{ConfId}
 use Rattle.totem_ids.specs.declared.conf.ConfId.TheVariants.{Regular}
@@ -11,12 +13,14 @@ use Rattle.totem_evs.specs.declared.entry.Entry.{Entry}
 use Rattle.totem_evs.specs.declared.entry.Entry.TheVariants.{Deliver}
 use Rattle.totem_evs.specs.declared.log.Log.{Log}
 use Rattle.totem_evs.specs.Events.{log_of, Delivers, WasSentIn}
-use Rattle.totem_evs.specs.Following.{Com, DeliversIn}
+use Rattle.totem_evs.specs.Following.{Com, DeliversIn, HasDelivered}
 use Rattle.totem_evs.specs.RingAgreement.{NoGapsIn}
 use Rattle.totem_evs.specs.RingFaults.{BreaksGapIn}
 use Rattle.totem_evs.specs.AgreementFaults.{IsGap}
 use Rattle.totem_evs.specs.Answers.{ComesFirst, IsLeast, MeetsPasses}
 use Rattle.totem_evs.proofs.LogOf.{less_or_not}
+use Rattle.totem_evs.proofs.Pushing.{Along}
+use Rattle.totem_traffic_rules.proofs.Rowing.{before_or_at}
 use Rattle.totem_table.specs.Search.{place, NoneFrom, IsLeastFrom, HoldsOfNone}
 use Rattle.totem_pass_d.proofs.OneEvent.{no_event, only_event, begins_inside}
 use Rattle.totem_pass_d.specs.declared.stay.Stay.{Stay}
@@ -24,11 +28,11 @@ use Rattle.totem_pass_d.specs.declared.stays.Sending.{Sending}
 use Rattle.totem_pass_d.specs.Acts.{IsAmong, DeliversNot, IsSendingOf, NobodySent}
 use Rattle.totem_pass_d.specs.Search.{IsInside, EachBeginsWithin, NoneWithin, IsLeastWithin, BeginsWithin, IsOneEvent}
 use Rattle.totem_pass_d.specs.Reached.{AreMembersAt}
-use Rattle.totem_pass_d.specs.Gaps.{IsLack, IsLater, TellsMember}
+use Rattle.totem_pass_d.specs.Gaps.{IsLack, IsLater, TellsMember, IsApart, IsBeyond, AreLasts, IsSettled}
 use Rattle.totem_pass_d.proofs.Deciding.{has_delivered_or_not}
 use Rattle.totem_pass_d.proofs.Reaching.{is_among_members, is_member, one_origin}
 use Rattle.totem_pass_d.proofs.Facts.{Facts, delivery_inside}
-use Rattle.totem_pass_d.proofs.Rests.{none_rest, least_rest, nothing_here, begins_at}
+use Rattle.totem_pass_d.proofs.Rests.{Starts, begins_at}
 use Rattle.totem_pass_d.proofs.CausalityFaults.{one_delivery_in}
 
 -- members
@@ -68,31 +72,20 @@ later_at run c s m n i p j d rest at (k, is, (lt, (o, (y, at', belongs), one))) 
     let there : slice_get (log_of run p) j ≡ Some (Deliver o y) = (let same : k ≡ j = omega arith in rw same at at') in
     let same : o ≡ n = (let h : slice_get (log_of run p) j ≡ Some (Deliver n d) = at in cc) in rw same at one
 
-pub none_undelivered : (run : List Log) (c : RingId) (s : ℕ) (m : MsgId) (i p j : ℕ) (e : Entry) → slice_get (log_of run p) j ≡ Some e → ((n : MsgId) (d : ConfId) → e ≡ Deliver n d → ⊥) → NoneFrom (IsLater run c s m i) p j
-none_undelivered run c s m i p j e at other = nothing_here (IsLater run c s m i) p j (λ rest h. go rest h)
-  where
-    go : (rest : List Place) → IsLater run c s m i (place p j ∷ rest) → ⊥
-    go rest (k, is, (lt, (n, (d, at', belongs), one))) = let same : k ≡ j = omega arith in let there : slice_get (log_of run p) j ≡ Some (Deliver n d) = rw same at at' in other n d cc
-
-pub none_without_lack : (run : List Log) (c : RingId) (s : ℕ) (m n : MsgId) (i p j : ℕ) (d : ConfId) → slice_get (log_of run p) j ≡ Some (Deliver n d) → HoldsOfNone (IsOneEvent (IsLack run c s m n)) → NoneFrom (IsLater run c s m i) p j
-none_without_lack run c s m n i p j d at none = none_rest (IsOneEvent (IsLack run c s m n)) (IsLater run c s m i) p j (λ rest h. later_at run c s m n i p j d rest at h) none
-
-pub least_lack : (run : List Log) (c : RingId) (stays : List Stay) (stay : Stay) (s : ℕ) (m n : MsgId) (i j : ℕ) (d : ConfId) (rest : List Place) → Facts run c stays → IsAmong stays stay → IsInside stay j → slice_get (log_of run stay.proc) j ≡ Some (Deliver n d) → i < j
-    → IsLeast (IsOneEvent (IsLack run c s m n)) rest → IsLeastFrom (IsLater run c s m i) stay.proc j rest
-least_lack run c stays stay s m n i j d rest facts among inside at lt least =
-    least_rest (IsOneEvent (IsLack run c s m n)) (IsLater run c s m i) stay.proc j rest
-    (λ others h. (j, refl, (lt, (n, (d, at, (facts.each stay among).stands j d inside (Deliver n d, at, refl)), h))))
-    (λ others h. later_at run c s m n i stay.proc j d others at h) least
+pub lack_starts : (run : List Log) (c : RingId) (stays : List Stay) (stay : Stay) (s : ℕ) (m n : MsgId) (i j : ℕ) (d : ConfId) → Facts run c stays → IsAmong stays stay → IsInside stay j → slice_get (log_of run stay.proc) j ≡ Some (Deliver n d) → i < j
+    → Starts (IsOneEvent (IsLack run c s m n)) (IsLater run c s m i) stay.proc j
+lack_starts run c stays stay s m n i j d facts among inside at lt = record {
+  to = λ rest h. (j, refl, (lt, (n, (d, at, (facts.each stay among).stands j d inside (Deliver n d, at, refl)), h)));
+  from = λ rest h. later_at run c s m n i stay.proc j d rest at h;
+}
 
 -- gaps
 pub gap_at : (run : List Log) (c : RingId) (p i : ℕ) (rest : List Place) → BreaksGapIn run c (place p i ∷ rest) → (j q k : ℕ) × (rest ≡ place p j ∷ place q k ∷ []) × IsGap run c p i j q k
-gap_at run c p i [] h = absurd h
-gap_at run c p i (f ∷ []) h = absurd h
 gap_at run c p i (f ∷ g ∷ []) (a, is, (j, is_f, (k, is_g, (same, gap)))) = (j, g.proc, k, placed, (let at : a ≡ i = omega arith in rw at at gap))
   where
     placed : f ∷ g ∷ [] ≡ place p j ∷ place g.proc k ∷ []
     placed = rw (same, ← is_f, ← is_g) refl
-gap_at run c p i (f ∷ g ∷ h ∷ rest) b = absurd b
+gap_at run c p i rest h = absurd h
 
 -- the sender of a message that is delivered in c or in what follows it sent it in c
 pub sent_in : (run : List Log) (c : RingId) (stays : List Stay) (m : MsgId) (p i : ℕ) → Facts run c stays → DeliversIn (log_of run p) c m i → WasSentIn run m (Regular c)
@@ -103,8 +96,9 @@ sent_in run c stays m p i facts (d, at, belongs) = go (facts.meets.sent p i m d 
 
 pub none_unsent : (run : List Log) (c : RingId) (stays : List Stay) (stay : Stay) (m : MsgId) (d : ConfId) (i : ℕ) → Facts run c stays → IsAmong stays stay → IsInside stay i → slice_get (log_of run stay.proc) i ≡ Some (Deliver m d) → NobodySent run c m
     → NoneFrom (BreaksGapIn run c) stay.proc i
-none_unsent run c stays stay m d i facts among inside at nobody = nothing_here (BreaksGapIn run c) stay.proc i (λ rest h.
-    nobody.never (sent_in run c stays m stay.proc i facts (d, at, (facts.each stay among).stands i d inside (Deliver m d, at, refl))))
+none_unsent run c stays stay m d i facts among inside at nobody = record {
+  none = λ rest h. nobody.never (sent_in run c stays m stay.proc i facts (d, at, (facts.each stay among).stands i d inside (Deliver m d, at, refl)));
+}
 
 -- from the list after the earlier delivery to the whole list
 later_of : (run : List Log) (c : RingId) (stays : List Stay) (m : MsgId) (d : ConfId) (p i : ℕ) (sending : Sending) → Facts run c stays → slice_get (log_of run p) i ≡ Some (Deliver m d) → IsSendingOf run c m sending
@@ -115,14 +109,13 @@ later_of run c stays m d p i sending facts at of j q k (o, n, x, y, s, l, (z, at
     (j, refl, (lt, (n, later, (k, refl, (x, at_k, belongs, rw one.0 at member, rw same at lacks)))))
 
 gap_of : (run : List Log) (c : RingId) (m : MsgId) (p i j : ℕ) (rest : List Place) (sending : Sending) → DeliversIn (log_of run p) c m i → IsSendingOf run c m sending → IsLater run c sending.proc m i (place p j ∷ rest) → BreaksGapIn run c (place p i ∷ place p j ∷ rest)
-gap_of run c m p i j [] sending delivers of (a, is, (lt, (n, later, one))) = absurd one
 gap_of run c m p i j (g ∷ []) sending delivers of (a, is, (lt, (n, later, (k, is_g, (x, at_k, belongs, member, lacks))))) =
     (i, refl, (a, is, (k, is_g, (refl, (m, n, x, Regular c, sending.proc, sending.at, delivers, later, lt, at_k, belongs, (sending.service, of.sends), member, lacks)))))
-gap_of run c m p i j (g ∷ h ∷ rest) sending delivers of (a, is, (lt, (n, later, one))) = absurd one
+gap_of run c m p i j rest sending delivers of (a, is, (lt, (n, later, one))) = absurd one
 
 pub none_after : (run : List Log) (c : RingId) (stays : List Stay) (stay : Stay) (m : MsgId) (d : ConfId) (i : ℕ) (sending : Sending) → Facts run c stays → IsAmong stays stay → slice_get (log_of run stay.proc) i ≡ Some (Deliver m d) → IsSendingOf run c m sending
     → NoneWithin IsInside (IsLater run c sending.proc m i) stay → NoneFrom (BreaksGapIn run c) stay.proc i
-none_after run c stays stay m d i sending facts among at of none = nothing_here (BreaksGapIn run c) stay.proc i (λ rest h. let g = gap_at run c stay.proc i rest h in go g.0 g.1 g.2 g.4)
+none_after run c stays stay m d i sending facts among at of none = record { none = λ rest h. let g = gap_at run c stay.proc i rest h in go g.0 g.1 g.2 g.4 }
   where
     go : (j q k : ℕ) → IsGap run c stay.proc i j q k → ⊥
     go j q k gap = none.none j (place q k ∷ []) (inside gap) (later_of run c stays m d stay.proc i sending facts at of j q k gap)
@@ -142,7 +135,7 @@ least_after run c stays stay m d i sending list facts among inside at of least =
 
     compare : (j q k : ℕ) → IsGap run c stay.proc i j q k → ComesFirst (place stay.proc least.at ∷ least.rest) (place stay.proc j ∷ place q k ∷ [])
     compare j q k gap = let later = later_of run c stays m d stay.proc i sending facts at of j q k gap in elim (less_or_not j least.at) [
-      | inl earlier ↦ absurd (least.none_before.none j (place q k ∷ []) earlier (inside_of j q k gap) later)
+      | inl earlier ↦ absurd (least.none_before.none j earlier (place q k ∷ []) (inside_of j q k gap) later)
       | inr more ↦ elim more [
         | inl over ↦ inl (inr (refl, omega arith))
         | inr same ↦ inr (rw same refl, least.least.least.first (place q k ∷ []) (rw same at later))
@@ -156,12 +149,9 @@ pub gaps_begin : (run : List Log) (c : RingId) (stays : List Stay) → Facts run
 gaps_begin run c stays facts = record { each = λ places h. go places h }
   where
     go : (places : List Place) → BreaksGapIn run c places → BeginsWithin stays IsInside places
-    go [] h = absurd h
-    go (e ∷ []) h = absurd h
-    go (e ∷ f ∷ []) h = absurd h
     go (e ∷ f ∷ g ∷ []) (i, is, (j, is_f, (k, is_g, (same, (m, n, d, x, s, l, (y, at, belongs), later, lt, at_k, belongs', send, member, lacks))))) =
         begins_at run c stays e i y (f ∷ g ∷ []) facts (rw (← is) refl) (Deliver m y, at, refl) belongs
-    go (e ∷ f ∷ g ∷ h ∷ rest) b = absurd b
+    go places h = absurd h
 
 -- if nothing breaks 6.3, it holds
 pub no_gaps : (run : List Log) (c : RingId) → HoldsOfNone (BreaksGapIn run c) → NoGapsIn run c
@@ -171,3 +161,71 @@ no_gaps run c none = record {
     | inr lacks ↦ absurd (none.none (place p i ∷ place p j ∷ place q k ∷ []) (i, refl, (j, refl, (k, refl, (refl, (m, n, d, x, s, l, earlier, later, lt, at, belongs, send, member, lacks))))))
   ];
 }
+
+-- ---- the last delivery of a process that another process makes too
+
+pub apart_undelivered : (run : List Log) (c : RingId) (follower : Stay) (p at : ℕ) (m : MsgId) (d : ConfId) (b : Bool) → slice_get (log_of run p) at ≡ Some (Deliver m d) → OnFalse b (DeliversNot (log_of run follower.proc) c m)
+    → OnFalse b (IsApart run c p follower.proc at)
+apart_undelivered run c follower p at m d true there not = tt
+apart_undelivered run c follower p at m d false there not = record {
+  never = λ n (x, is, belongs) h. (let same : n ≡ m = cc in not.never (rw same at h));
+}
+
+-- from j on q delivers nothing that p delivers
+pub record ApartFrom (run : List Log) (c : RingId) (p q n : ℕ) : Type 0 where
+  pub each : (j : ℕ) → n ≤ j → IsApart run c p q j
+
+pub apart_at_end : (run : List Log) (c : RingId) (stays : List Stay) (leader : Stay) (q : ℕ) → Facts run c stays → IsAmong stays leader → ApartFrom run c leader.proc q leader.end
+apart_at_end run c stays leader q facts among = record {
+  each = λ j le. record { never = λ n delivers h. (let inside = delivery_inside run c stays leader n j facts among delivers in let until = inside.until in absurd (omega arith)) };
+}
+
+pub apart_more : (run : List Log) (c : RingId) (p q n k : ℕ) → n ≡ k + 1 → IsApart run c p q k → ApartFrom run c p q n → ApartFrom run c p q k
+apart_more run c p q n k is here after = record {
+  each = λ j le. elim (before_or_at k j (omega arith)) [
+    | inl under ↦ after.each j (omega arith)
+    | inr same ↦ rw (← same) here
+  ];
+}
+
+pub beyond_later : (run : List Log) (c : RingId) (p q i j : ℕ) → i ≤ j → IsBeyond run c p q i → IsBeyond run c p q j
+beyond_later run c p q i j le beyond = record { each = λ k lt. beyond.each k (omega arith) }
+
+-- the last common delivery with each stay
+abbrev pub IsLast : List Log → RingId → ℕ → Stay → ℕ → Type 0
+IsLast run c p stay last = IsBeyond run c p stay.proc last
+
+pub lasts_whole : (run : List Log) (c : RingId) (stays : List Stay) (p : ℕ) (lasts : List ℕ) (n : ℕ) → length stays ≡ n → Along (IsLast run c p) stays lasts n → AreLasts run c stays p lasts
+lasts_whole run c stays p lasts n end along = record {
+  long = end ∙ sym along.long;
+  each = λ k stay at. along.each k stay (get_or lasts k 0) at (slice_get-get_or lasts k 0 (omega (arith, end, along.long, slice_get_within stays k stay at)));
+}
+
+-- the first n stays are settled
+pub record SettledTo (run : List Log) (c : RingId) (stays : List Stay) (p : ℕ) (m : MsgId) (i n : ℕ) : Type 0 where
+  pub each : (k : ℕ) → k < n → (stay : Stay) → slice_get stays k ≡ Some stay → IsBeyond run c p stay.proc i ⊎ HasDelivered (log_of run stay.proc) c m
+
+pub settled_more : (run : List Log) (c : RingId) (stays : List Stay) (p : ℕ) (m : MsgId) (i n : ℕ) (lasts : List ℕ) (stay : Stay) → AreLasts run c stays p lasts → slice_get stays n ≡ Some stay → (get_or lasts n 0 ≤ i) ⊎ HasDelivered (log_of run stay.proc) c m
+    → SettledTo run c stays p m i n → SettledTo run c stays p m i (n + 1)
+settled_more run c stays p m i n lasts stay known at up before = record {
+  each = below_more _ _ before.each (λ s at_n. (let one : s ≡ stay = cc in rw one here));
+}
+  where
+    here : IsBeyond run c p stay.proc i ⊎ HasDelivered (log_of run stay.proc) c m
+    here = elim up [ inl le ↦ inl (beyond_later run c p stay.proc (get_or lasts n 0) i le (known.each n stay at)) | inr has ↦ inr has ]
+
+pub settled_whole : (run : List Log) (c : RingId) (stays : List Stay) (p : ℕ) (m : MsgId) (i n : ℕ) → length stays ≤ n → SettledTo run c stays p m i n → IsSettled run c stays p m i
+settled_whole run c stays p m i n end to = record { each = λ stay among. to.each among.at (omega (arith, slice_get_within stays among.at stay among.stands)) stay among.stands }
+
+-- no gap starts at a message that is settled
+pub none_settled : (run : List Log) (c : RingId) (stays : List Stay) (m : MsgId) (d : ConfId) (p i : ℕ) → Facts run c stays → slice_get (log_of run p) i ≡ Some (Deliver m d) → IsSettled run c stays p m i → NoneFrom (BreaksGapIn run c) p i
+none_settled run c stays m d p i facts at settled = record { none = λ rest h. let g = gap_at run c p i rest h in go g.0 g.1 g.2 g.4 }
+  where
+    go : (j q k : ℕ) → IsGap run c p i j q k → ⊥
+    go j q k (o, n, x, y, s, l, (z, at', b'), later, lt, at_k, belongs, send, member, lacks) =
+        let same : o ≡ m = cc in
+        let t = facts.inside q k x (Deliver n x, at_k, refl) belongs in
+        elim (settled.each t.stay t.among) [
+          | inl beyond ↦ (let there : HasDelivered (log_of run q) c n = (k, (x, at_k, belongs)) in (beyond.each j lt).never n later (rw (← t.proc) at there))
+          | inr has ↦ lacks (rw (same, ← t.proc) has)
+        ]

@@ -8,7 +8,7 @@ use Rattle.totem_ids.specs.declared.conf.ConfId.{ConfId}
 use Rattle.totem_ids.specs.declared.message.MsgId.{MsgId}
 use Rattle.totem_ids.specs.contracts.message.MsgIdOrd.TheImpl as message
 use Rattle.totem_evs.specs.declared.entry.Entry.{Entry}
-use Rattle.totem_evs.specs.declared.entry.Entry.TheVariants.{Conf, Send, Deliver, Fail}
+use Rattle.totem_evs.specs.declared.entry.Entry.TheVariants.{Deliver}
 use Rattle.totem_evs.specs.declared.log.Log.{Log}
 use Rattle.totem_evs.specs.Events.{Delivers, log_of}
 use Rattle.totem_evs.specs.Following.{DeliversIn}
@@ -24,11 +24,8 @@ delivers : (log : List Entry) (i : ℕ) (m : MsgId) → delivered_at log i ≡ S
 delivers log i m does = go (slice_get log i) refl
   where
     go : (o : Option Entry) → slice_get log i ≡ o → (x : ConfId) × Delivers log i m x
-    go None at = absurd (let h = rw at at does in cc)
-    go (Some (Conf x ms)) at = absurd (let h = rw at at does in cc)
-    go (Some (Send n x v)) at = absurd (let h = rw at at does in cc)
     go (Some (Deliver n x)) at = (x, (let h : Some n ≡ Some m = rw at at does in let same : n ≡ m = cc in rw same at at))
-    go (Some (Fail x)) at = absurd (let h = rw at at does in cc)
+    go other at = absurd (let h = rw at at does in cc)
 
 -- what is found in a stay is delivered in its configurations
 pub delivery_is : (run : List Log) (c : RingId) (stay : Stay) (m : MsgId) (found : Option ℕ) → StayFacts run c stay → IfSome found (IsDelivery stay.log.now stay.from stay.end m) → IfSome found (DeliversIn (log_of run stay.proc) c m)

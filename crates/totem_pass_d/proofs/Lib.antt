@@ -1,7 +1,6 @@
 pub mod Deciding
 pub mod Excusing
 pub mod Building
-pub mod FindingStays
 pub mod Reaching
 pub mod OneEvent
 pub mod EventFaults
@@ -14,10 +13,7 @@ pub mod GapFaults
 pub mod AtomicityFaults
 pub mod Coming
 pub mod Listing
-pub mod Rings
 pub mod Adding
 pub mod WhatIsPending
 pub mod Suspecting
-pub mod LastCommonDeliveries
-pub mod Known
 pub mod Sending

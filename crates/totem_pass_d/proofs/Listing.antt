@@ -1,6 +1,5 @@
--- From the findings of each job to the faults of the pass.
-use Rattle.std.proofs.Common.{◌≡◌, ◌<◌, ◌+◌, ℕ, inl, inr, List, [], ◌∷◌, ◌++◌, length, take, Option, Some, None, refl, ap, arith}
-use Rattle.std.proofs.Common.{◌≤◌, Result, Ok, Err, IfOk}
+-- From what is shown of a configuration to the findings of its job, and from these to the faults of the pass.
+use Rattle.std.proofs.Common.{◌≡◌, ◌<◌, ◌≤◌, ◌+◌, ℕ, inl, inr, List, [], ◌∷◌, ◌++◌, length, take, Option, Some, None, Result, Ok, Err, IfOk, refl, ap, arith}
 use Rattle.std.proofs.lemmas.List.{take_more, take_all}
 use Rattle.std.proofs.lemmas.Option.{slice_get_cases}
 use Rattle.totem_ids.specs.declared.ring.RingId.{RingId}
@@ -11,10 +10,34 @@ use Rattle.totem_evs.specs.declared.spec.SpecNo.{SpecNo}
 use Rattle.totem_evs.specs.declared.spec.SpecNo.TheVariants as spec
 use Rattle.totem_evs.specs.Answers.{FindsIn, ListsRings, ListsEach, ListsConfigurations, AreRings, specs_d}
 use Rattle.totem_table.specs.Search.{listed}
+use Rattle.totem_traffic_rules.specs.declared.agreed.Shown.{Shown}
+use Rattle.totem_traffic_rules.specs.Clean.{IsAllShown, IsNoneShown}
 use Rattle.totem_pass_d.specs.declared.findings.Findings.{Findings}
 use Rattle.totem_pass_d.specs.declared.pass.Found.{Found}
-use Rattle.totem_pass_d.specs.Findings.{AreFindings, GrowsBy, AreFound, all_found}
+use Rattle.totem_pass_d.specs.Findings.{AreFindings, AreMet, AreNone, GrowsBy, AreFound, all_found}
 use Rattle.totem_pass_d.specs.Jobs.{AreFindingsAt}
+
+-- where nothing is shown, nothing is claimed
+pub nothing_met : (run : List Log) (c : RingId) (shown : Shown) → IsNoneShown shown → AreMet run c shown
+nothing_met run c shown none = record {
+  own = λ t. absurd (none.own t);
+  atomicity = λ t. absurd (none.atomicity t);
+  causality = λ t. absurd (none.causality t);
+  gap = λ t. absurd (none.gap t);
+  safety = λ t. absurd (none.safety t);
+  installed = λ t. absurd (none.installed t);
+}
+
+-- where all is met, nothing is found
+pub none_found : (run : List Log) (c : RingId) (shown : Shown) (findings : Findings) → AreMet run c shown → IsAllShown shown → AreNone findings → AreFindings run c findings
+none_found run c shown findings met all none = record {
+  own = rw none.own (met.own all.own);
+  atomicity = rw none.atomicity (met.atomicity all.atomicity);
+  causality = rw none.causality (met.causality all.causality);
+  gap = rw none.gap (met.gap all.gap);
+  safety = rw none.safety (met.safety all.safety);
+  installed = rw none.installed (met.installed all.installed);
+}
 
 one_more : (run : List Log) (k : SpecNo) (cs : List RingId) (c : RingId) (fs : List Fault) (found : Option (List Place)) → ListsRings run k cs fs → FindsIn run c k found → ListsRings run k (cs ++ c ∷ []) (fs ++ listed k found)
 one_more run k [] c fs None is meets = rw is (inl (meets, refl))

@@ -26,7 +26,7 @@ only_event Reaches Fact stay k places fact one is = record {
   rest = [];
   is = is;
   least = record { least = record { holds = (k, refl, fact); first = λ others h. tt } };
-  none_before = record { none = λ i rest lt reached h. let same = one i (event_at Fact stay.proc i rest h) in omega arith };
+  none_before = record { none = λ i lt rest reached h. let same = one i (event_at Fact stay.proc i rest h) in omega arith };
 }
 
 place_is : (e : Place) (p i : ℕ) → p ≡ e.proc → e.at ≡ i + 1 → e ≡ place p i
@@ -36,19 +36,17 @@ pub begins_inside : (Fact : ℕ → ℕ → Type 0) (stays : List Stay) → Each
 begins_inside Fact stays stand = record { each = λ places h. go places h }
   where
     go : (places : List Place) → IsOneEvent Fact places → BeginsWithin stays IsInside places
-    go [] h = absurd h
     go (e ∷ []) at =
         let s = stand.each e.proc at.0 at.2 in
         record { stay = s.stay; among = s.among; index = at.0; reached = s.inside; rest = []; is = ap (λ (f : Place). f ∷ []) (place_is e s.stay.proc at.0 s.proc at.1) }
-    go (e ∷ f ∷ more) h = absurd h
+    go places h = absurd h
 
 least_of_one : (H : List Place → Type 0) (Fact : ℕ → ℕ → Type 0) (places : List Place) → IsOfOne H Fact → IsLeast (IsOneEvent Fact) places → IsLeast H places
 least_of_one H Fact places of least = record { holds = to places least.holds; first = λ others h. least.first others (from others h) }
   where
     to : (list : List Place) → IsOneEvent Fact list → H list
-    to [] h = absurd h
     to (e ∷ []) h = of.is e h
-    to (e ∷ f ∷ more) h = absurd h
+    to places h = absurd h
 
     from : (list : List Place) → H list → IsOneEvent Fact list
     from [] h = of.empty h

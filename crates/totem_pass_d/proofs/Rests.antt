@@ -19,15 +19,16 @@ use Rattle.totem_pass_d.specs.declared.stay.Stay.{Stay}
 use Rattle.totem_pass_d.specs.Search.{IsInside, BeginsWithin}
 use Rattle.totem_pass_d.proofs.Facts.{Facts}
 
--- what holds of a list, in terms of the rest after a place
-pub none_rest : (A B : List Place → Type 0) (p i : ℕ) → ((rest : List Place) → B (place p i ∷ rest) → A rest) → HoldsOfNone A → NoneFrom B p i
-none_rest A B p i from none = record { none = λ rest h. none.none rest (from rest h) }
+-- a list that starts at the entry is in the one relation exactly if its rest is in the other
+pub record Starts (A B : List Place → Type 0) (p i : ℕ) : Type 0 where
+  pub to : (rest : List Place) → A rest → B (place p i ∷ rest)
+  pub from : (rest : List Place) → B (place p i ∷ rest) → A rest
 
-pub least_rest : (A B : List Place → Type 0) (p i : ℕ) (rest : List Place) → ((rest : List Place) → A rest → B (place p i ∷ rest)) → ((rest : List Place) → B (place p i ∷ rest) → A rest) → IsLeast A rest → IsLeastFrom B p i rest
-least_rest A B p i rest to from least = record { least = record { holds = to rest least.holds; first = λ others h. least.first others (from others h) } }
-
-pub nothing_here : (B : List Place → Type 0) (p i : ℕ) → ((rest : List Place) → B (place p i ∷ rest) → ⊥) → NoneFrom B p i
-nothing_here B p i never = record { none = never }
+pub started : {V F : Type 0} (items : V → List Place) (r : Result (Option V) F) (A B : List Place → Type 0) (p i : ℕ) → Starts A B p i → IfOk r (λ found. MatchOption found (HoldsOfNone A) (λ v. IsLeast A (items v)))
+    → IfOk r (λ found. MatchOption found (NoneFrom B p i) (λ v. IsLeastFrom B p i (items v)))
+started items (Err e) A B p i starts h = tt
+started items (Ok None) A B p i starts h = record { none = λ rest b. h.none rest (starts.from rest b) }
+started items (Ok (Some v)) A B p i starts h = record { least = record { holds = starts.to (items v) h.holds; first = λ others b. h.first others (starts.from others b) } }
 
 -- what the result of a search says about a specification
 pub answered : (r : Result (Option (List Place)) AllocError) (run : List Log) (c : RingId) (k : SpecNo) → (HoldsOfNone (BreaksIn run c k) → MeetsIn run c k)

@@ -1,5 +1,5 @@
 -- The sends of the stays, noted entry by entry and stay by stay.
-use Rattle.std.proofs.Common.{◌≡◌, ℕ, ◌+◌, ◌<◌, inl, inr, List, length, slice_get, Some, None, true, refl, sym, ◌∙◌, ap, arith}
+use Rattle.std.proofs.Common.{◌≡◌, ℕ, ◌+◌, ◌<◌, inl, inr, List, length, slice_get, Some, None, true, refl, sym, ◌∙◌, ap, arith, below_more}
 use Rattle.std.specs.BTreeMap.{BTreeMap}
 use Rattle.std.specs.BTreeMap as tree
 use Rattle.std.proofs.lemmas.Option.{slice_get_within}
@@ -14,17 +14,16 @@ use Rattle.totem_evs.specs.declared.entry.Entry.TheVariants.{Send}
 use Rattle.totem_evs.specs.declared.log.Log.{Log}
 use Rattle.totem_evs.specs.Events.{Sends, log_of}
 use Rattle.totem_evs.specs.Answers.{MeetsPasses}
-use Rattle.totem_evs.proofs.LogOf.{less_or_not}
 use Rattle.totem_traffic_rules.proofs.Rowing.{before_or_at}
 use Rattle.totem_ids.proofs.Exact.{equal_at, apart_or_at, exact_message}
 use Rattle.totem_run_rules.specs.Stays.{IsStay}
-use Rattle.totem_run_rules.proofs.Staying.{names_no_change}
 use Rattle.totem_pass_d.specs.declared.stay.Stay.{Stay}
 use Rattle.totem_pass_d.specs.declared.stays.Sending.{Sending}
 use Rattle.totem_pass_d.specs.Stays.{HasStay, AreStays}
 use Rattle.totem_pass_d.specs.Acts.{IsSendingOf}
-use Rattle.totem_pass_d.specs.Sends.{IsSendOf, NotesSends, IsSendOfOne, HasSends, AreSends}
+use Rattle.totem_pass_d.specs.Sends.{IsSendOf, HasSendsTo, NotesSends, IsSendOfOne, HasSends, AreSends}
 use Rattle.totem_pass_d.proofs.Searching.{stay_of}
+use Rattle.totem_pass_d.proofs.Facts.{sends_of}
 
 -- ---- entry by entry
 
@@ -34,10 +33,7 @@ notes_nothing stay n old now e at_n other before = record {
   only = before.only;
   kept = before.kept;
   whole = record {
-    each = λ i m x v after until at none. elim (before_or_at i n until) [
-      | inl under ↦ before.whole.each i m x v after under at none
-      | inr same ↦ (let there : slice_get stay.log.now n ≡ Some (Send m x v) = rw same at at in other m x v cc)
-    ];
+    each = below_more _ _ before.whole.each (λ m x v after at none. other m x v cc);
   };
 }
 
@@ -54,13 +50,7 @@ notes_one stay n old now new e m x v sending at_e sends after until proc index s
     | inr apart ↦ before.kept k (sym (h.2 k apart) ∙ none)
   ];
   whole = record {
-    each = λ i k y w over below at none. elim (apart_or_at message.cmp-value.it m k) [
-      | inl here ↦ not_none k here none
-      | inr apart ↦ elim (before_or_at i n below) [
-        | inl under ↦ before.whole.each i k y w over under at (sym (h.2 k apart) ∙ none)
-        | inr same ↦ not_none_here i k y w same at none
-      ]
-    ];
+    each = below_more _ _ earlier.each (λ k y w over at none. (let one : k ≡ m = cc in let found : tree.get message.cmp-value.it new m ≡ None = rw one at none in let noted = h.1 in cc));
   };
 }
   where
@@ -73,12 +63,13 @@ notes_one stay n old now new e m x v sending at_e sends after until proc index s
     not_none : (k : MsgId) → tree.is_at (message.cmp-value.it m) k ≡ true → tree.get message.cmp-value.it new k ≡ None → ⊥
     not_none k here none = (let same = exact_message m k (equal_at (message.cmp-value.it m k) here) in let found : tree.get message.cmp-value.it new m ≡ None = rw (← same) at none in let noted = h.1 in cc)
 
-    not_none_here : (i : ℕ) (k : MsgId) (y : ConfId) (w : Service) → i ≡ n → slice_get stay.log.now i ≡ Some (Send k y w) → tree.get message.cmp-value.it new k ≡ None → ⊥
-    not_none_here i k y w same at none =
-        let there : slice_get stay.log.now n ≡ Some (Send k y w) = rw same at at in
-        let one : k ≡ m = cc in
-        let found : tree.get message.cmp-value.it new m ≡ None = rw one at none in
-        let noted = h.1 in cc
+    earlier : HasSendsTo stay n new
+    earlier = record {
+      each = λ i below k y w over at none. elim (apart_or_at message.cmp-value.it m k) [
+        | inl here ↦ not_none k here none
+        | inr apart ↦ before.whole.each i below k y w over at (sym (h.2 k apart) ∙ none)
+      ];
+    }
 
 -- ---- stay by stay
 
@@ -86,23 +77,16 @@ pub sends_more : (stays : List Stay) (n : ℕ) (old new : BTreeMap MsgId Sending
 sends_more stays n old new stay at_n notes before = record {
   only = λ m sending at. elim (notes.only m sending at) [ inl known ↦ before.only m sending known | inr is ↦ record { at = n; stay = stay; stands = at_n; is = is } ];
   whole = λ k other lt at. elim (before_or_at k n lt) [
-    | inl under ↦ (let has = before.whole k other under at in record { each = λ i m x v after until sent none. has.each i m x v after until sent (notes.kept m none) })
+    | inl under ↦ (let has = before.whole k other under at in record { each = λ i until m x v after sent none. has.each i until m x v after sent (notes.kept m none) })
     | inr same ↦ (let one : stay ≡ other = (let there : slice_get stays n ≡ Some other = rw same at at in cc) in rw one at notes.whole)
   ];
 }
 
 -- a send in c is before the turn
 send_before_turn : (log : List Entry) (c : RingId) (from turn end i : ℕ) (m : MsgId) → IsStay log c from turn end → Sends log i m (Regular c) → (from < i) × (i < turn)
-send_before_turn log c from turn end i m is (v, at) = let here = is.here i (Regular c) (Send m (Regular c) v, at, refl) (inl refl) in (here.0, go here.1)
-  where
-    go : i < end → i < turn
-    go below = elim (less_or_not i turn) [
-      | inl lt ↦ lt
-      | inr rest ↦ elim rest [
-        | inl over ↦ absurd (is.following i (Regular c) over below (Send m (Regular c) v, at, refl)).transitional
-        | inr same ↦ absurd (names_no_change log i (Regular c) (Send m (Regular c) v, at, refl) (rw same (is.next (omega (arith, is.within))).1.change))
-      ]
-    ]
+send_before_turn log c from turn end i m is (v, at) =
+    let here = is.here i (Regular c) (Send m (Regular c) v, at, refl) (inl refl) in
+    (here.0, (sends_of log c from turn end i m (Regular c) is tt here.0 here.1 (v, at)).1)
 
 -- what is noted of all stays are the sends in c
 pub are_sends : (run : List Log) (c : RingId) (stays : List Stay) (sends : BTreeMap MsgId Sending) → MeetsPasses run → AreStays run c stays → HasSends stays (length stays) sends → AreSends run c sends
@@ -123,4 +107,4 @@ are_sends run c stays sends meets are has = record {
         let log : h.stay.log.now ≡ log_of run p = of.log ∙ ap (λ q. log_of run q) h.proc in
         let here : Sends h.stay.log.now i m (Regular c) = rw log sent in
         let inside = send_before_turn h.stay.log.now c h.stay.from h.stay.turn h.stay.end i m of.is here in
-        (has.whole h.at h.stay (slice_get_within stays h.at h.stay h.stands) h.stands).each i m (Regular c) here.0 inside.0 inside.1 here.1 none
+        (has.whole h.at h.stay (slice_get_within stays h.at h.stay h.stands) h.stands).each i inside.1 m (Regular c) here.0 inside.0 here.1 none

@@ -13,7 +13,7 @@ use Rattle.totem_ids.specs.declared.message.MsgId.{MsgId}
 use Rattle.totem_ids.specs.declared.message.Service.{Service}
 use Rattle.totem_ids.specs.declared.place.Place.{Place}
 use Rattle.totem_evs.specs.declared.entry.Entry.{Entry}
-use Rattle.totem_evs.specs.declared.entry.Entry.TheVariants.{Conf, Send, Deliver, Fail}
+use Rattle.totem_evs.specs.declared.entry.Entry.TheVariants.{Send, Deliver}
 use Rattle.totem_evs.specs.declared.log.Log.{Log}
 use Rattle.totem_evs.specs.Events.{log_of, entry_at, at_place, Delivers}
 use Rattle.totem_evs.specs.Changes.{Names}
@@ -25,16 +25,15 @@ use Rattle.totem_pass_d.specs.declared.stay.Stay.{Stay}
 use Rattle.totem_pass_d.specs.Acts.{IsAmong, DeliversNot}
 use Rattle.totem_pass_d.specs.Suspects.{Handles, ComesBefore, ComesNotBefore, IsEarlier, IsSuspect, HasAllOf, IsNoted, AreNotedFrom, AreNoted, AreSuspects}
 use Rattle.totem_pass_d.proofs.Facts.{Facts, delivery_inside}
-use Rattle.totem_pass_d.proofs.Rests.{nothing_here, sends_there}
+use Rattle.totem_pass_d.proofs.Rests.{sends_there}
 use Rattle.totem_pass_d.proofs.CausalityFaults.{one_delivery_in}
 
 -- ---- one entry
 
 handles_one : (e : Entry) (m n : MsgId) → Handles e m → Handles e n → m ≡ n
-handles_one (Conf x ms) m n a b = absurd a
 handles_one (Send k x s) m n a b = sym a ∙ b
 handles_one (Deliver k x) m n a b = sym a ∙ b
-handles_one (Fail x) m n a b = absurd a
+handles_one other m n a b = absurd a
 
 pub undelivered : (run : List Log) (c : RingId) (stay : Stay) (e : Entry) (m : MsgId) (y : ConfId) (v : Service) (early : ℕ) → e ≡ Send m y v → DeliversNot (log_of run stay.proc) c m → IsEarlier run c stay.proc e early early
 undelivered run c stay e m y v early sends not = record {
@@ -195,15 +194,15 @@ module _ (cmp : MsgId → MsgId → Ordering) (s : BTreeSet MsgId) (run : List L
       by_walk p i j r k (Deliver m (Regular c)) m n v (omega arith) delivers (Deliver m (Regular c), delivers, refl) refl at_f d never
 
   broken : (m : MsgId) (x : ConfId) (v : Service) (p i : ℕ) (rest : List Place) → slice_get (log_of run p) i ≡ Some (Send m x v) → BreaksCausalityIn run c (place p i ∷ rest) → IsSuspect cmp s m
-  broken m x v p i [] at h = absurd h
-  broken m x v p i (f ∷ []) at h = absurd h
   broken m x v p i (f ∷ g ∷ []) at (k, is, (o, n, send, effect, hop, delivers, none)) =
       let sends = sends_there run p i o (Regular c) send in
       let there : slice_get (log_of run p) i ≡ Some (Send o (Regular c) sends.0) = sends.1 in
       let same : o ≡ m = cc in
       rw same at (suspected o n (place p i) f.proc f.at send.0 effect.0 send.1 effect.1 hop g.proc k delivers none)
-  broken m x v p i (f ∷ g ∷ h ∷ more) at b = absurd b
+  broken m x v p i rest at h = absurd h
 
 pub none_unsuspected : (cmp : MsgId → MsgId → Ordering) (s : BTreeSet MsgId) (run : List Log) (c : RingId) (stays : List Stay) (m : MsgId) (x : ConfId) (v : Service) (p i : ℕ) → Facts run c stays → ∥ AreSuspects cmp s run c stays (length stays) 0 ∥₁
     → sorted.contains cmp s m ≡ false → slice_get (log_of run p) i ≡ Some (Send m x v) → NoneFrom (BreaksCausalityIn run c) p i
-none_unsuspected cmp s run c stays m x v p i of are not at = nothing_here (BreaksCausalityIn run c) p i (λ rest h. not_there are (λ known. (let has = broken cmp s run c stays of known m x v p i rest at h in absurd cc)))
+none_unsuspected cmp s run c stays m x v p i of are not at = record {
+  none = λ rest h. not_there are (λ known. (let has = broken cmp s run c stays of known m x v p i rest at h in absurd cc));
+}

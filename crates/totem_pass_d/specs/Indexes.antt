@@ -4,7 +4,7 @@ use Rattle.std.specs.BTreeMap as tree
 use Rattle.totem_ids.specs.declared.message.MsgId.{MsgId}
 use Rattle.totem_ids.specs.contracts.message.MsgIdOrd.TheImpl as message
 use Rattle.totem_evs.specs.declared.entry.Entry.{Entry}
-use Rattle.totem_evs.specs.declared.entry.Entry.TheVariants.{Conf, Send, Deliver, Fail}
+use Rattle.totem_evs.specs.declared.entry.Entry.TheVariants.{Deliver}
 use Rattle.totem_pass_d.specs.declared.row.Row.{Row}
 use Rattle.totem_pass_d.specs.declared.indexes.Indexes.{Indexes}
 use Rattle.totem_pass_d.specs.declared.indexes.Indexes.TheVariants.{ByNumber, ByMessage}
@@ -17,11 +17,8 @@ pub record IsShortPart (log : List Entry) (from end : ℕ) : Type 0 where
 
 -- the message that an entry delivers
 abbrev pub delivered_by : Option Entry → Option MsgId
-delivered_by None = None
-delivered_by (Some (Conf x members)) = None
-delivered_by (Some (Send m x service)) = None
 delivered_by (Some (Deliver m x)) = Some m
-delivered_by (Some (Fail x)) = None
+delivered_by _ = None
 
 -- the message that the entry at i of the log delivers
 abbrev pub delivered_at : List Entry → ℕ → Option MsgId

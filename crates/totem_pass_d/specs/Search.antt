@@ -59,7 +59,7 @@ pub record EachBeginsWithin (stays : List Stay) (Reaches : Stay → ℕ → Type
 
 -- it holds for no list that starts in the stay at a reached index before n
 pub record NoneBelow (Reaches : Stay → ℕ → Type 0) (Holds : List Place → Type 0) (stay : Stay) (n : ℕ) : Type 0 where
-  pub none : (i : ℕ) (rest : List Place) → i < n → Reaches stay i → Holds (place stay.proc i ∷ rest) → ⊥
+  pub none : (i : ℕ) → i < n → (rest : List Place) → Reaches stay i → Holds (place stay.proc i ∷ rest) → ⊥
 
 -- it holds for no list that starts in the stay at a reached index
 pub record NoneWithin (Reaches : Stay → ℕ → Type 0) (Holds : List Place → Type 0) (stay : Stay) : Type 0 where

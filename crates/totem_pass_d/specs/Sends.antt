@@ -23,7 +23,7 @@ pub record IsSendOf (stay : Stay) (m : MsgId) (sending : Sending) : Type 0 where
 
 -- something is noted for each message that the stay sends before n
 pub record HasSendsTo (stay : Stay) (n : ℕ) (sends : BTreeMap MsgId Sending) : Type 0 where
-  pub each : (i : ℕ) (m : MsgId) (x : ConfId) (service : Service) → stay.from < i → i < n → slice_get stay.log.now i ≡ Some (Send m x service)
+  pub each : (i : ℕ) → i < n → (m : MsgId) (x : ConfId) (service : Service) → stay.from < i → slice_get stay.log.now i ≡ Some (Send m x service)
       → tree.get message.cmp-value.it sends m ≡ None → ⊥
 
 -- the sends of the stay before n are noted, and nothing else

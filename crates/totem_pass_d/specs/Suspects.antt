@@ -8,7 +8,7 @@ use Rattle.totem_ids.specs.declared.conf.ConfId.{ConfId}
 use Rattle.totem_ids.specs.declared.message.MsgId.{MsgId}
 use Rattle.totem_ids.specs.declared.message.Service.{Service}
 use Rattle.totem_evs.specs.declared.entry.Entry.{Entry}
-use Rattle.totem_evs.specs.declared.entry.Entry.TheVariants.{Conf, Send, Deliver, Fail}
+use Rattle.totem_evs.specs.declared.entry.Entry.TheVariants.{Send, Deliver}
 use Rattle.totem_evs.specs.declared.log.Log.{Log}
 use Rattle.totem_evs.specs.Events.{log_of}
 use Rattle.totem_evs.specs.Following.{DeliversIn}
@@ -16,10 +16,9 @@ use Rattle.totem_pass_d.specs.declared.stay.Stay.{Stay}
 
 -- the entry sends or delivers m
 abbrev pub Handles : Entry → MsgId → Type 0
-Handles (Conf x members) m = ⊥
 Handles (Send n x service) m = n ≡ m
 Handles (Deliver n x) m = n ≡ m
-Handles (Fail x) m = ⊥
+Handles _ m = ⊥
 
 -- the entry sends and delivers nothing
 pub record HandlesNothing (entry : Entry) : Type 0 where

@@ -21,12 +21,10 @@ pub struct Found {
 }
 
 /// Returns the first list with the second appended.
-fn joined(mut faults: Vec<Fault>, others: Vec<Fault>) -> Result<Vec<Fault>, AllocError>
+fn joined(mut faults: Vec<Fault>, mut others: Vec<Fault>) -> Result<Vec<Fault>, AllocError>
     ensures { IfOk result (λ list. list.items ≡ faults.items ++ others.items) }
 {
-    for fault in others {
-        faults.push(fault)?;
-    }
+    faults.append(&mut others)?;
     Ok(faults)
 }
 

@@ -14,47 +14,32 @@ pub struct Row {
     notes: Vec<u32>,
 }
 
-/// The least and the greatest of some message numbers, if there are any.
-#[derive(Clone, Copy)]
-struct Span {
-    least: u32,
-    greatest: u32,
-}
+impl Row {
+    ghost use Rattle.std.specs.Prelude.{◌≡◌};
+    ghost use Rattle.totem_pass_d.specs.Indexes.{noted};
 
-impl Span {
-    /// Returns the span of the numbers of the messages that are delivered in this part of the log.
-    fn of(log: &[Entry], from: usize, end: usize) -> Span {
-        let mut span = Span {
-            least: u32::MAX,
-            greatest: 0,
-        };
+    /// Returns a row for the numbers of the messages that are delivered in this part of the log. It has no places if the numbers are
+    /// too far apart.
+    fn blank(alloc: Global, log: &[Entry], from: usize, end: usize) -> Result<Row, AllocError> {
+        let mut least = u32::MAX;
+        let mut greatest = 0u32;
         for at in from..end {
             if let Some(message) = delivered_at(log, at) {
-                span.least = span.least.min(message.number);
-                span.greatest = span.greatest.max(message.number);
+                least = least.min(message.number);
+                greatest = greatest.max(message.number);
             }
         }
-        span
-    }
-
-    /// Returns a row for these message numbers, for the given number of entries. It has no places if the numbers are too far apart.
-    fn row(self, alloc: Global, entries: usize) -> Result<Row, AllocError> {
-        let width = self.greatest.saturating_sub(self.least) as usize;
-        let places = if self.least <= self.greatest && width / SPARSEST < entries {
+        let width = greatest.saturating_sub(least) as usize;
+        let places = if least <= greatest && width / SPARSEST < end.saturating_sub(from) {
             width.saturating_add(1)
         } else {
             0
         };
         Ok(Row {
-            first: self.least,
+            first: least,
             notes: vec![in alloc; 0u32; places]?,
         })
     }
-}
-
-impl Row {
-    ghost use Rattle.std.specs.Prelude.{◌≡◌};
-    ghost use Rattle.totem_pass_d.specs.Indexes.{noted};
 
     /// Notes this for the message, if the row has space for it.
     fn note(&mut self, message: &MsgId, note: u32) {
@@ -67,7 +52,7 @@ impl Row {
     /// Returns the index at which each message is delivered in this part of the log. Nothing is claimed about it: a reader has to check
     /// the entry there.
     pub fn of(alloc: Global, log: &[Entry], from: usize, end: usize) -> Result<Row, AllocError> {
-        let mut row = Span::of(log, from, end).row(alloc, end.saturating_sub(from))?;
+        let mut row = Row::blank(alloc, log, from, end)?;
         for at in from..end {
             if let Some(message) = delivered_at(log, at) {
                 row.note(&message, u32::try_from(at).unwrap_or(0));

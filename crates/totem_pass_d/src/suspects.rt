@@ -46,7 +46,7 @@ fn earlier(stays: &Stays, receiver: &Stay, entry: &Entry, early: usize) -> usize
         return early;
     };
     match stays.delivery_of(receiver, message) {
-        Some(at) => { if at < early { at } else { early } }
+        Some(at) => at.min(early),
         None => early,
     }
 }

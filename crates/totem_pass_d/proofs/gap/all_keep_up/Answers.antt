@@ -1,6 +1,6 @@
 use Rattle.std.proofs.Common.{refl}
 use Rattle.std.proofs.lemmas.Option.{slice_get_read}
-use Rattle.totem_pass_d.proofs.LastCommonDeliveries.{settled_more, settled_whole}
+use Rattle.totem_pass_d.proofs.GapFaults.{settled_more, settled_whole}
 use Rattle.totem_pass_d.proofs.gap.all_keep_up.Goals as goal
 
 pub loop-k-preserved : goal.loop-k-preserved

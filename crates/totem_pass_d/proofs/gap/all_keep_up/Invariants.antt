@@ -1,4 +1,4 @@
-use Rattle.totem_pass_d.proofs.LastCommonDeliveries.{SettledTo}
+use Rattle.totem_pass_d.proofs.GapFaults.{SettledTo}
 use Rattle.totem_pass_d.proofs.gap.all_keep_up.Given as goal
 
 abbrev pub invariant-loop-k : goal.invariant-loop-k

@@ -1,4 +1,4 @@
-use Rattle.totem_pass_d.proofs.LastCommonDeliveries.{apart_undelivered}
+use Rattle.totem_pass_d.proofs.GapFaults.{apart_undelivered}
 use Rattle.totem_pass_d.proofs.gap.is_common.Goals as goal
 
 pub returns-in-Deliver : goal.returns-in-Deliver

@@ -1,6 +1,6 @@
 use Rattle.std.proofs.Common.{arith}
 use Rattle.totem_pass_d.proofs.Facts.{facts_of}
-use Rattle.totem_pass_d.proofs.LastCommonDeliveries.{apart_at_end, apart_more}
+use Rattle.totem_pass_d.proofs.GapFaults.{apart_at_end, apart_more}
 use Rattle.totem_pass_d.proofs.gap.last_common.Goals as goal
 
 pub back-init : goal.back-init

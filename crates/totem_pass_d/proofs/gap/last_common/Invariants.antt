@@ -1,5 +1,5 @@
 use Rattle.std.proofs.Common.{◌≤◌}
-use Rattle.totem_pass_d.proofs.LastCommonDeliveries.{ApartFrom}
+use Rattle.totem_pass_d.proofs.GapFaults.{ApartFrom}
 use Rattle.totem_pass_d.proofs.gap.last_common.Given as goal
 
 abbrev pub invariant-back : goal.invariant-back

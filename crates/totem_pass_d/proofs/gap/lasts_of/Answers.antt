@@ -1,7 +1,7 @@
 use Rattle.std.proofs.Common.{refl, ◌≡◌, length, ap, arith}
 use Rattle.std.proofs.lemmas.Option.{slice_get_read}
 use Rattle.totem_evs.proofs.Pushing.{along_more}
-use Rattle.totem_pass_d.proofs.LastCommonDeliveries.{lasts_whole}
+use Rattle.totem_pass_d.proofs.GapFaults.{lasts_whole}
 use Rattle.totem_pass_d.proofs.gap.lasts_of.Goals as goal
 
 pub loop-follower-preserved : goal.loop-follower-preserved

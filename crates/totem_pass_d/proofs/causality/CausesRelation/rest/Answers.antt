@@ -1,7 +1,7 @@
 use Rattle.std.proofs.Common.{sym, ◌∙◌}
-use Rattle.totem_table.proofs.Searching.{reworded}
 use Rattle.totem_pass_d.proofs.Facts.{facts_of}
-use Rattle.totem_pass_d.proofs.CausalityFaults.{send_here, effects_begin, none_without_effect, least_effect}
+use Rattle.totem_pass_d.proofs.Rests.{started}
+use Rattle.totem_pass_d.proofs.CausalityFaults.{send_here, effects_begin, cause_starts}
 use Rattle.totem_pass_d.proofs.Suspecting.{none_unsuspected}
 use Rattle.totem_pass_d.proofs.causality.CausesRelation.rest.Goals as goal
 
@@ -17,7 +17,4 @@ pub returns : goal.returns
 returns c =
     let of = facts_of c.args.self.now.stays.now c.requires.known in
     let at = rw c.in-Send.is at c.entry_in.ensures in
-    reworded c.first_found.result _ _ _ _
-    (λ none. none_without_effect _ _ _ _ _ _ _ at none)
-    (λ list least. least_effect _ _ _ _ _ _ _ list.items at (send_here _ _ _ c.args.stay.now _ _ _ _ of c.requires.among c.requires.inside at).0 least)
-    c.first_found.ensures
+    started (λ list. list.items) c.first_found.result _ _ _ _ (cause_starts _ _ _ _ _ _ _ at (send_here _ _ _ c.args.stay.now _ _ _ _ of c.requires.among c.requires.inside at).0) c.first_found.ensures

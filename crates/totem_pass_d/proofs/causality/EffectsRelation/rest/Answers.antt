@@ -1,7 +1,7 @@
 use Rattle.std.proofs.Common.{refl}
-use Rattle.totem_table.proofs.Searching.{reworded}
 use Rattle.totem_pass_d.proofs.Facts.{facts_of}
-use Rattle.totem_pass_d.proofs.CausalityFaults.{send_here, surprises_begin, none_surprised, least_surprised}
+use Rattle.totem_pass_d.proofs.Rests.{started}
+use Rattle.totem_pass_d.proofs.CausalityFaults.{send_here, surprises_begin, effect_starts}
 use Rattle.totem_pass_d.proofs.causality.EffectsRelation.rest.Goals as goal
 
 pub is_hop-requires-clause-before : goal.is_hop-requires-clause-before
@@ -16,7 +16,6 @@ pub returns : goal.returns
 returns c =
     let of = facts_of c.args.self.now.stays.now c.requires.known in
     let at = rw c.in-Send.is at c.entry_in.ensures in
-    reworded c.first_found.result _ _ _ _
-    (λ none. none_surprised _ _ c.args.self.now.cause.now _ _ _ (_) _ _ at none)
-    (λ list least. least_surprised _ _ c.args.self.now.cause.now _ _ _ _ _ _ list.items at (send_here _ _ _ c.args.stay.now _ _ _ _ of c.requires.among c.requires.inside at).0 (c.if-not-is_hop.ensures.0 refl) least)
+    started (λ list. list.items) c.first_found.result _ _ _ _
+    (effect_starts _ _ c.args.self.now.cause.now _ _ _ _ _ _ at (send_here _ _ _ c.args.stay.now _ _ _ _ of c.requires.among c.requires.inside at).0 (c.if-not-is_hop.ensures.0 refl))
     c.first_found.ensures

@@ -1,7 +1,6 @@
 use Rattle.totem_table.proofs.Searching.{reworded}
 use Rattle.totem_pass_d.proofs.Facts.{facts_of}
-use Rattle.totem_pass_d.proofs.GapFaults.{none_unsent, none_after, least_after}
-use Rattle.totem_pass_d.proofs.LastCommonDeliveries.{none_settled}
+use Rattle.totem_pass_d.proofs.GapFaults.{none_unsent, none_after, least_after, none_settled}
 use Rattle.totem_pass_d.proofs.gap.Gaps.rest_at.Goals as goal
 
 pub returns-then-all_keep_up : goal.returns-then-all_keep_up

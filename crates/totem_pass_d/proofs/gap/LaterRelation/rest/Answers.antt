@@ -1,6 +1,6 @@
-use Rattle.totem_table.proofs.Searching.{reworded}
 use Rattle.totem_pass_d.proofs.Facts.{facts_of}
-use Rattle.totem_pass_d.proofs.GapFaults.{lacks_begin, none_without_lack, least_lack}
+use Rattle.totem_pass_d.proofs.Rests.{started}
+use Rattle.totem_pass_d.proofs.GapFaults.{lacks_begin, lack_starts}
 use Rattle.totem_pass_d.proofs.gap.LaterRelation.rest.Goals as goal
 
 pub first_found-requires-clause-begins : goal.first_found-requires-clause-begins
@@ -10,7 +10,4 @@ pub returns : goal.returns
 returns c =
     let of = facts_of c.args.self.now.stays.now c.requires.known in
     let at = rw c.in-Deliver.is at c.entry_in.ensures in
-    reworded c.first_found.result _ _ _ _
-    (λ none. none_without_lack _ _ _ _ _ _ _ _ _ at none)
-    (λ list least. least_lack _ _ _ c.args.stay.now _ _ _ _ _ _ list.items of c.requires.among c.requires.inside at c.if-at-self.false least)
-    c.first_found.ensures
+    started (λ list. list.items) c.first_found.result _ _ _ _ (lack_starts _ _ _ c.args.stay.now _ _ _ _ _ _ of c.requires.among c.requires.inside at c.if-at-self.false) c.first_found.ensures

@@ -1,7 +1,7 @@
 use Rattle.std.proofs.Common.{◌≡◌, ◌∙◌}
 use Rattle.std.proofs.lemmas.Option.{get_or_from_slice_get}
 use Rattle.totem_pass_d.specs.Findings.{AreFindings}
-use Rattle.totem_pass_d.proofs.Known.{none_found}
+use Rattle.totem_pass_d.proofs.Listing.{none_found}
 use Rattle.totem_pass_d.proofs.jobs.Jobs.findings.Goals as goal
 
 pub returns-then-is_all : goal.returns-then-is_all

@@ -1,5 +1,5 @@
 use Rattle.std.proofs.Common.{refl}
-use Rattle.totem_pass_d.proofs.Rings.{are_rings}
+use Rattle.totem_pass_d.proofs.Coming.{are_rings}
 use Rattle.totem_pass_d.proofs.jobs.Jobs.over.Goals as goal
 
 pub returns : goal.returns

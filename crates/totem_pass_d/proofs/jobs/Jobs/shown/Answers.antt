@@ -1,4 +1,4 @@
-use Rattle.totem_pass_d.proofs.Known.{nothing_met}
+use Rattle.totem_pass_d.proofs.Listing.{nothing_met}
 use Rattle.totem_pass_d.proofs.jobs.Jobs.shown.Goals as goal
 
 pub returns-in-None : goal.returns-in-None

@@ -1,4 +1,4 @@
-use Rattle.totem_pass_d.proofs.FindingStays.{NotBefore}
+use Rattle.totem_pass_d.proofs.Searching.{NotBefore}
 use Rattle.totem_pass_d.proofs.stays.Stays.stay_of.Given as goal
 
 abbrev pub invariant-loop-stay : goal.invariant-loop-stay
